@@ -158,12 +158,29 @@ keyed(Pid, Events, Start, Others) ->
                     Start, lists:enumerate(Events)),
     {lists:append(Rows), End}.
 
-%% The reported receives of a process that unreported sends may follow.
+%% The newest receives of a label and count, at most two: there may be very many that are alike.
+add_received(Key, Id, Received) ->
+    Received#{Key => [Id | lists:sublist(maps:get(Key, Received, []), 1)]}.
+
+%% The reported receives of a process that unreported sends may follow, by label and count: the receive, or `several'.
+%% For each prev, alone and with a label, the least count of a message that had it.
 all_received(Pid, Events) ->
     case lists:any(fun is_added_send/1, Events) of
-        true -> [{{Pid, At}, Event} || #{kind := 'receive', at := At} = Event <- Events, is_integer(At)];
-        false -> []
+        true -> lists:foldl(fun(Event, All) -> all_received(Event, Pid, All) end, #{}, Events);
+        false -> #{}
     end.
+
+all_received(#{kind := 'receive', at := At, label := Label, prev := Prev, this := This}, Pid, All)
+  when is_integer(At) ->
+    Least = lists:foldl(fun(Key, Known) -> Known#{Key => min(This, maps:get(Key, Known, This))} end, All,
+                        [{prev, Prev}, {prev, Label, Prev}]),
+    Least#{{count, This} => received,
+           {count, Label, This} => case All of
+                                       #{{count, Label, This} := _} -> several;
+                                       #{} -> {Pid, At}
+                                   end};
+all_received(_, _Pid, All) ->
+    All.
 
 is_added_send(#{kind := send, at := {_, _}}) -> true;
 is_added_send(_) -> false.
@@ -181,7 +198,7 @@ keyed_event(#{kind := 'receive', from := From, this := This, label := Label, at 
     {[{{Height, 1, maps:get(Pid, Ranks), Position}, Row} | Hidden],
      (had_token(Event, Id, Known))#{clock := Height, counter := max(Counter, This), left := This,
                                     newest := {This, Label, Id}, row := none,
-                                    received := add({Label, This}, [Id], Received#{This => Id})}};
+                                    received := add_received({Label, This}, Id, Received#{This => Id})}};
 keyed_event(#{this := This, prev := Prev, at := At} = Event, {Pid, Position}, #{clock := Clock} = Known,
             {Ranks, _, Unpaired}) ->
     Id = {Pid, At},
@@ -201,11 +218,18 @@ stamped({Pid, _} = Id, #{prev := Prev, this := This, label := Label} = Event,
                                                puts_back := PutsBack orelse This =< Counter orelse is_put_back(Cause)}}.
 
 %% A completion has only such prevs as a process goes on with or begins with, unless it takes tokens for put back.
-added(#{prev := Prev} = Event, #{clock := Clock, left := Left, puts_back := PutsBack} = Known) ->
-    Fitting = fitting(Event, Known),
-    IsPutBack = PutsBack orelse Prev < Clock andalso not lists:member(Prev, [Left, 16 * Left + 15])
-        orelse Fitting =/= [] andalso lists:all(fun is_put_back/1, Fitting),
-    {added_cause(Event, Fitting, Known), Known#{puts_back := IsPutBack}}.
+added(#{prev := Prev, label := Label} = Event,
+      #{clock := Clock, left := Left, all := All, puts_back := PutsBack} = Known) ->
+    Fitting = [{case Count of Prev -> received; _ -> spawned end, Id}
+               || Count <- counts_before(Prev), #{{count, Label, Count} := Id} <- [All]],
+    MayBePutBack = was_put_back({prev, Label, Prev}, Event, Known),
+    {added_cause(Event, Fitting, MayBePutBack, Known),
+     Known#{puts_back := PutsBack orelse Fitting =:= [] andalso MayBePutBack
+                orelse Prev < Clock andalso not lists:member(Prev, [Left, 16 * Left + 15])}}.
+
+%% Whether the process had a message with that prev and a lower count, whose token it may have put back.
+was_put_back(Key, #{this := This}, #{all := All}) ->
+    maps:get(Key, All, This) < This.
 
 is_put_back({How, _}) -> How =:= restored orelse How =:= perhaps;
 is_put_back(_) -> false.
@@ -290,7 +314,7 @@ without_token(#{prev := Prev, label := Label}, #{newest := {_, Had, Id}, row := 
 without_token(#{prev := 0}, #{newest := none}) ->
     start;
 without_token(#{prev := Prev, label := Label, this := This}, #{prevs := Prevs, received := Received}) ->
-    case {lists:any(fun(Count) -> is_map_key(Count, Received) end, stamped_behind(Prev)), Prevs} of
+    case {lists:any(fun(Count) -> is_map_key(Count, Received) end, counts_before(Prev)), Prevs} of
         {true, _} -> {relabelled, Label, open};
         {_, #{Prev := Count}} when Count < This -> {relabelled, Label, open};
         {_, _} -> open
@@ -299,41 +323,34 @@ without_token(#{prev := Prev, label := Label, this := This}, #{prevs := Prevs, r
 %% The receives that gave a token of this label with which this prev can be stamped. That token may be put back behind a
 %% stamp that wasn't reported.
 had_received(#{prev := Prev, label := Label}, #{received := Received}) ->
-    [Id || Count <- stamped_behind(Prev), Id <- maps:get({Label, Count}, Received, [])].
+    [Id || Count <- counts_before(Prev), Id <- maps:get({Label, Count}, Received, [])].
 
-%% The counts of the messages behind which a process stamps this prev: itself, or that of a spawn's answer.
-stamped_behind(Prev) ->
-    [Prev] ++ [(Prev - 15) div 16 || Prev rem 16 =:= 15].
+%% The counts of the messages behind which a process stamps this prev: itself, and that of a spawn's answer, if there
+%% can be one.
+counts_before(Prev) when Prev rem 16 =:= 15 -> [Prev, (Prev - 15) div 16];
+counts_before(Prev) -> [Prev].
 
 %% What is known of the cause of a send that nobody reported. It was sent at any time: the place that a completion gives
-%% it is only a possible one. So it follows a receive for certain only if no other one fits it, before or behind.
-added_cause(#{at := {Before, _}} = Event, Fitting, Known) ->
-    case {Fitting, [One || {_, {_, At}} = One <- lists:reverse(Fitting), At < Before]} of
-        {[{How, Id}], [{How, Id}]} when How =/= restored -> {How, Id};
-        {_, [{_, Id} | _]} -> {perhaps, Id};
-        {[_ | _], []} -> unseen;
-        {[], []} -> added_begins(Event, Known)
+%% it is only a possible one. So it follows a receive for certain only if no other one fits it, before or behind, by its
+%% count or as its token was put back.
+added_cause(Event, Fitting, MayBePutBack, Known) ->
+    Before = had_received(Event, Known) ++ [Origin || {_, Origin} <- put_back(Event, Known)],
+    case {Fitting, MayBePutBack, Before} of
+        {[], false, _} -> added_begins(Event, Known);
+        {[{How, Id}], false, [Id | _]} -> {How, Id};
+        {_, _, [Id | _]} -> {perhaps, Id};
+        {_, _, []} -> unseen
     end.
-
-%% The receives of its label that it may follow: by their count, as a spawn's answer, or as that token was put back.
-fitting(#{prev := Prev, label := Label, this := This}, #{all := All}) ->
-    [{How, Id} || {Id, #{label := Of, prev := Had, this := Count}} <- All, Of =:= Label, Count < This,
-                  How <- if
-                             Count =:= Prev -> [received];
-                             16 * Count + 15 =:= Prev -> [spawned];
-                             Had =:= Prev -> [restored];
-                             true -> []
-                         end].
 
 %% It may begin its trace, or its label, or follow a receive that wasn't reported.
 added_begins(#{prev := Prev, label := Label}, #{newest := {Prev, Label, {_, {_, _}} = Id}}) -> {received, Id};
-added_begins(#{prev := Prev, this := This, label := Label}, #{all := All}) ->
+added_begins(#{prev := Prev, label := Label} = Event, #{all := All} = Known) ->
     %% What gave it a token with another label that has its prev.
-    case [One || {_, #{prev := Had, this := Count}} = One <- All, Count < This,
-                 lists:member(Prev, [Had, Count, 16 * Count + 15])] of
-        [_ | _] -> {relabelled, Label, open};
-        [] when Prev =:= 0 -> start;
-        [] -> open
+    case lists:any(fun(Count) -> is_map_key({count, Count}, All) end, counts_before(Prev))
+        orelse was_put_back({prev, Prev}, Event, Known) of
+        true -> {relabelled, Label, open};
+        false when Prev =:= 0 -> start;
+        false -> open
     end.
 
 %% Whether a send that wasn't reported shows that the process had a token of this label and prev.

@@ -107,10 +107,9 @@ merged([], Sends) ->
 without_invented(Streams, Asked, Completed) ->
     Invented = maps:from_keys([Id || #{id := Id, invented := true} <- seqaudit_causes:rows(Completed)], invented),
     Own = own_prevs(Streams, Asked),
-    Hidden = hidden(Streams),
+    {Reported, Hidden} = {maps:from_list(Streams), hidden(Streams)},
     exchanged(Asked, maps:from_list(
-        lists:append([explained(Pid, Events, Invented, Own,
-                                had(proplists:get_value(Pid, Streams, []), maps:get(Pid, Hidden, [])))
+        lists:append([explained(Pid, Events, Invented, Own, had(maps:get(Pid, Reported, []), maps:get(Pid, Hidden, [])))
                       || {Pid, Events} <- Completed]))).
 
 %% The own prev of each stamp of the asked streams, also of those that only a receive tells of.

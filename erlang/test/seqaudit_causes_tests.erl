@@ -3,7 +3,8 @@
 -module(seqaudit_causes_tests).
 
 -export([as_the_charts_test_/0, spawned_test/0, unreported_test/0, beginnings_test/0, labels_test/0, put_back_test/0,
-         alike_test/0, resets_test/0, no_tokens_test_/0, hidden_reset_test/0, no_reset_test/0, completed_test_/0]).
+         alike_test/0, many_alike_test/0, resets_test/0, no_tokens_test_/0, hidden_reset_test/0, no_reset_test/0,
+         completed_test_/0]).
 
 streams(Text) ->
     {ok, Streams} = seqaudit_bundle:parse(iolist_to_binary(Text)),
@@ -162,6 +163,23 @@ resets_test() ->
     %% Where the clocks of the first run stayed low, the second may go on from it as well.
     Exact = length([exact || exact <- Found]),
     {true, _} = {Exact >= 290, Exact}.
+
+%% A server has 100,000 requests with one label and one count, prints something for each, and sends something of which
+%% only its receive would tell: what each follows is found without a look at all requests.
+many_alike_test() ->
+    [Server, Client] = [<<"<0.1.0>">>, <<"<0.2.0>">>],
+    Event = fun(Kind, Prev, This, At) ->
+                #{kind => Kind, label => <<"1">>, prev => Prev, this => This, value => <<"0">>, at => At,
+                  from => case Kind of 'receive' -> Client; _ -> Server end,
+                  to => case Kind of 'receive' -> Server; send -> Client; print -> none end}
+            end,
+    Events = lists:append([[Event('receive', 0, 1, 2 * N), Event(send, 1, 2 * N + 2, {2 * N + 1, 1}),
+                            Event(print, 1, 2 * N + 3, 2 * N + 1)] || N <- lists:seq(0, 99_999)]),
+    Causes = [{Kind, At, Cause} || #{hidden := false, id := {_, At}, event := #{kind := Kind}, cause := Cause}
+                                       <- seqaudit_causes:rows([{Server, Events}, {Client, []}])],
+    300_000 = length(Causes),
+    [] = [One || {print, At, Cause} = One <- Causes, Cause =/= {received, {Server, At - 1}}],
+    [] = [One || {send, {Before, 1}, Cause} = One <- Causes, Cause =/= {perhaps, {Server, Before - 1}}].
 
 %% A reset never passes for a token that was put back.
 no_tokens_test_() ->

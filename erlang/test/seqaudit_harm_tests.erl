@@ -148,14 +148,26 @@ trigger_test_() ->
         {match, _} = re:run(seqaudit_times:summary(Read), "from the first event to the last; of [0-9]+ messages half"),
         seqaudit_audits:fits(Name),
         %% Afterwards nothing is traced, and no token is left.
-        {flags, []} = erpc:call(There, erlang, trace_info, [new, flags]),
-        {traced, false} = erpc:call(There, erlang, trace_info, [{seqaudit_test_server, order, 1}, traced]),
+        {[], false} = traced(There),
         {sequential_trace_token, []} = erpc:call(There, seqaudit_test_server, shop_token, [])
     end).
 
 is_triggered(There) ->
-    {flags, [call]} =:= erpc:call(There, erlang, trace_info, [new, flags])
-        andalso {traced, local} =:= erpc:call(There, erlang, trace_info, [{seqaudit_test_server, order, 1}, traced]).
+    {[call], local} =:= traced(There).
+
+%% How new processes and the shop's function are traced there. From OTP 27 on a trigger has a session of its own.
+traced(There) ->
+    Order = {seqaudit_test_server, order, 1},
+    case code:ensure_loaded(trace) of
+        {module, trace} ->
+            [New, Function] = [lists:keymember(seqaudit, 1, erpc:call(There, trace, session_info, [What]))
+                               || What <- [new, Order]],
+            {[call || New], Function andalso local};
+        {error, _} ->
+            {flags, Flags} = erpc:call(There, erlang, trace_info, [new, flags]),
+            {traced, Traced} = erpc:call(There, erlang, trace_info, [Order, traced]),
+            {Flags, Traced}
+    end.
 
 %% A cookie comes from a file or a variable too, so that nobody sees it on the command line.
 cookies_test_() ->

@@ -13,21 +13,26 @@ check(Name, Log, #{flags := Flags, late := Late} = How) ->
                                                content := {Number, _, _}} <- Rows], had),
     Premises = lists:member('receive', Flags) andalso not Late,
     {ok, Outcome} = seqaudit_outcome:ask(Streams),
-    %% What `audit', `why' and charts show has what nobody reported too, in the run that was found.
+    %% What `audit', `why' and charts show has sends that nobody reported too, in the run that was found.
     Shown = [Row#{content => content(Row, Legend)} || Row <- seqaudit_outcome:rows(Outcome)],
+    ShownIndex = seqaudit_causes:index(Shown),
     Judged = [judged(Row, Index, Had, Premises, Name) || Row <- Rows, is_told(Row)]
-        ++ [shown(judged(Row, seqaudit_causes:index(Shown), Had, Premises, Name)) || Row <- Shown, is_told(Row)],
+        ++ [apart(Row, judged(Row, ShownIndex, Had, Premises, Name)) || Row <- Shown, is_told(Row)],
     lists:foldl(fun seqaudit_truth:sum/2, headline(Outcome, Log, How, {Name, Legend, Rows}), Judged).
 
 %% Whether the truth of an event is known.
 is_told(#{hidden := false, invented := false, content := {_, _, _}}) -> true;
 is_told(_) -> false.
 
-%% Counted apart from what is said of the trace alone.
-shown(Said) -> maps:fold(fun(What, Count, Sum) -> Sum#{shown_as(What) => Count} end, #{}, Said).
-
-shown_as(false) -> false;
-shown_as(What) -> {shown, What}.
+%% What is shown is counted apart from what is said of the trace alone.
+apart(#{id := {_, At}}, Said) ->
+    Shown = case At of
+                {_, _} -> unreported;
+                _ -> shown
+            end,
+    maps:fold(fun(false, False, Sum) -> Sum#{false => False};
+                 (What, Count, Sum) -> Sum#{{Shown, What} => Count}
+              end, #{}, Said).
 
 content(#{event := #{value := Value}}, Legend) ->
     Text = seqaudit_legend:value(Value, Legend),
