@@ -58,16 +58,27 @@ fn a_send_and_its_receive_are_paired(rt: HostRuntime) {
     assert_passed(&rt, &pairing_of(&rt, rt.alloc(), ONE_MESSAGE));
 }
 
-/// Texts of streams that pairing refuses.
+/// A print with its own count before it.
 const PREV_NOT_BEFORE: &str = "seqtrace 1\n\
+    process <0.30.0>\n\
+    {seq_trace,17,{print,{1,1},<0.30.0>,[],7}}\n";
+
+/// The same reason behind prints that fall.
+const PREV_BEFORE_NOT_RISING: &str = "seqtrace 1\n\
     process <0.30.0>\n\
     {seq_trace,17,{print,{0,2},<0.30.0>,[],7}}\n\
     {seq_trace,17,{print,{0,1},<0.30.0>,[],7}}\n\
     {seq_trace,17,{print,{3,3},<0.30.0>,[],7}}\n";
 
-const NOT_RISING: &str = "seqtrace 1\n\
+const FALLING: &str = "seqtrace 1\n\
     process <0.30.0>\n\
     {seq_trace,17,{print,{0,2},<0.30.0>,[],7}}\n\
+    {seq_trace,17,{print,{0,1},<0.30.0>,[],7}}\n";
+
+/// The same print twice, as after a reset.
+const NOT_RISING: &str = "seqtrace 1\n\
+    process <0.30.0>\n\
+    {seq_trace,17,{print,{0,1},<0.30.0>,[],7}}\n\
     {seq_trace,17,{print,{0,1},<0.30.0>,[],7}}\n";
 
 const REPEATED: &str = "seqtrace 1\n\
@@ -77,9 +88,23 @@ const REPEATED: &str = "seqtrace 1\n\
     process <0.32.0>\n\
     {seq_trace,17,{'receive',{0,2},<0.30.0>,<0.32.0>,5}}\n";
 
+/// The same by one process of another node, as after a reset of the sender's.
+const REPEATED_AWAY: &str = "seqtrace 2\n\
+    process <1.30.0>\n\
+    process <2.31.0>\n\
+    {seq_trace,17,{'receive',{0,1},<1.30.0>,<2.31.0>,5}}\n\
+    {seq_trace,17,{'receive',{0,1},<1.30.0>,<2.31.0>,5}}\n";
+
 const MISMATCH: &str = "seqtrace 1\n\
     process <0.30.0>\n\
     {seq_trace,17,{print,{0,2},<0.30.0>,[],7}}\n\
+    process <0.31.0>\n\
+    {seq_trace,17,{'receive',{0,2},<0.30.0>,<0.31.0>,5}}\n";
+
+/// The receive of [`ONE_MESSAGE`] with another prev than its send has.
+const OTHER_PREV: &str = "seqtrace 1\n\
+    process <0.30.0>\n\
+    {seq_trace,17,{send,{1,2},<0.30.0>,<0.31.0>,5}}\n\
     process <0.31.0>\n\
     {seq_trace,17,{'receive',{0,2},<0.30.0>,<0.31.0>,5}}\n";
 
@@ -90,14 +115,19 @@ fn assert_refused(rt: &impl Abort, alloc: Global, text: &str, fault: PairFault) 
 
 #[test]
 fn a_pairing_is_refused_for_its_reasons(rt: HostRuntime) {
-    let alloc = rt.alloc();
-    let fault = PairFault::PrevNotBefore(p30(), 2);
-    assert_refused(&rt, alloc, PREV_NOT_BEFORE, fault);
-    assert_refused(&rt, alloc, NOT_RISING, PairFault::NotRising(p30(), 1, 0));
-    let fault = PairFault::Repeated(p32(), 0, p31(), 0);
-    assert_refused(&rt, alloc, REPEATED, fault);
-    let fault = PairFault::Mismatch(p31(), 0, p30(), 0);
-    assert_refused(&rt, alloc, MISMATCH, fault);
+    let away = Pid::on(2, 31);
+    for (text, fault) in [
+        (PREV_NOT_BEFORE, PairFault::PrevNotBefore(p30(), 0)),
+        (PREV_BEFORE_NOT_RISING, PairFault::PrevNotBefore(p30(), 2)),
+        (FALLING, PairFault::NotRising(p30(), 1, 0)),
+        (NOT_RISING, PairFault::NotRising(p30(), 1, 0)),
+        (REPEATED, PairFault::Repeated(p32(), 0, p31(), 0)),
+        (REPEATED_AWAY, PairFault::Repeated(away, 1, away, 0)),
+        (MISMATCH, PairFault::Mismatch(p31(), 0, p30(), 0)),
+        (OTHER_PREV, PairFault::Mismatch(p31(), 0, p30(), 0)),
+    ] {
+        assert_refused(&rt, rt.alloc(), text, fault);
+    }
 }
 
 /// If memory runs out the result is Memory, and the same call succeeds afterwards.

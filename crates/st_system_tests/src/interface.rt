@@ -3,6 +3,8 @@
 
 mod collecting;
 mod machine;
+mod program;
+mod refusals;
 mod runtime;
 
 use st_core::{Draft, Event, Kind, Label, Pid, Serial, Streams};

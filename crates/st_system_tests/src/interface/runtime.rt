@@ -1,8 +1,8 @@
 //! Processes under locks; `runtime::steps` calls those that are lent.
 
 use crate::shared::same;
-use st_core::{Act, Pid, Sequence, Want};
-use st_runtime::{Gate, OpenGate, Pieces, Record, Seat, System, drive, join_pieces};
+use st_core::{Act, Pid, Reply, Sequence, Want};
+use st_runtime::{Entry, Gate, OpenGate, Pcb, Pieces, Record, Seat, System, drive, join_pieces};
 use st_samples::{p30, p31};
 use std::process::Abort;
 use std::sync::Wait;
@@ -30,6 +30,30 @@ fn play<R: Wait + Abort>(rt: &R, system: &System<9, 9>, seat: &mut Seat) {
     }
     let ends = (seat.mine().first(), seat.mine().last());
     same(rt, &ends.0, &ends.1);
+}
+
+#[test]
+fn the_log_of_a_process_is_called(rt: HostRuntime) -> Result<(), Fail> {
+    let mut process = Pcb::<9, 9>::new(rt.alloc(), p30())?;
+    let looked = process.alone(&Act::Look(p30()));
+    same(&rt, &looked, &Ok(Reply::Current(None)));
+    let wanted = Entry {
+        rank: 1,
+        act: Act::Look(p30()),
+        reply: Reply::Current(None),
+        report: None,
+        carried: None,
+    };
+    for entry in process.log() {
+        same(&rt, &entry, &wanted);
+    }
+    let ends = (process.log().first(), process.log().last());
+    same(&rt, &ends, &(Some(wanted), Some(wanted)));
+    let mut entries = process.log().iter();
+    same(&rt, &entries.next(), &Some(wanted));
+    same(&rt, &entries.next(), &None);
+    same(&rt, &(process.pid(), process.local().clock()), &(p30(), 0));
+    Ok(())
 }
 
 #[test]
