@@ -11,9 +11,10 @@ use std::alloc::Global;
 
 /// Whether the acts are a run from zero clocks in which each process reports exactly its stream.
 ///
-/// Its time grows with the acts, the events and the walks in the queues. It fails only if
-/// there is no memory for the message of a send or for the pair of a reported receive. An index of a
-/// long queue takes memory too, and is done without if there is none.
+/// Its time grows with the acts, the events and the walks in the queues. It fails only if there is
+/// no memory for its tables, some rows a process, for the message of a send or its number, or for
+/// the pair of a reported receive. An index of a long queue takes memory too, and is done without
+/// if there is none.
 pub fn check<const TOP: u64>(
     alloc: Global,
     streams: &Streams,

@@ -101,8 +101,8 @@ impl<const TOP: u64> World<TOP> {
     /// if it has one, has a value: refusals come in this order. After a refusal the world is as
     /// before. Only a send fails if memory runs out, for its message; what room there is for messages
     /// is no part of the state that a contract sees. A receive that walks far, or a send to a queue
-    /// that has an index, may ask for memory too, for that index, and does without it if there is
-    /// none.
+    /// that has an index, may ask for memory too, for that index or for the ladder of a long list, and
+    /// does without it if there is none.
     pub fn step(&mut self, act: &Act) -> Result<Outcome, StepFault>
         ensures step { IfOk result
             (λ told. step TOP self.old act.now ≡ Some (outcome_to told self.new)) }
