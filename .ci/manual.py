@@ -78,8 +78,11 @@ def synopsis_of(command):
     needed = {it.long for it in command.options if it.long in command.usage}
     given = [f"[{called(it)}]" for it in options_of(command) if it.long not in needed]
     given += [called(it) for it in command.options if it.long in needed]
-    words = re.findall(r"\[[A-Z]+\](?:\.\.\.)?", re.sub(r"\[OPTIONS\]", "", command.usage))
-    given += [f"[{italic(re.sub('[^A-Z]', '', it))}]" + (r"\|.\|.\|." if it.endswith("...") else "") for it in words]
+    # A value in angles is an argument that may not be left out, unless it belongs to an option.
+    words = re.findall(r"\[[A-Z]+\](?:\.\.\.)?|(?<![a-z] )<[A-Z]+>", re.sub(r"\[OPTIONS\]", "", command.usage))
+    for word in words:
+        name = italic(re.sub("[^A-Z]", "", word))
+        given.append((name if word.startswith("<") else f"[{name}]") + (r"\|.\|.\|." if word.endswith("...") else ""))
     return f".B seqtool {command.name}\n" + "\n".join(given) + "\n"
 
 
