@@ -1,7 +1,7 @@
 //! The command `complete`: what the streams whose text the input is lack, or why no run without a
 //! reset has them, whatever processes report nothing. The acts in the input are ignored.
 
-ghost use Rattle.std.specs.Prelude.{◌≡◌, ◌<◌, ◌↔◌, ¬◌, IsTrue, length, true};
+ghost use Rattle.std.specs.Prelude.{◌≡◌, ◌<◌, ◌↔◌, IsTrue, length, true};
 ghost use Rattle.st_core.specs.Run.{pids_of};
 ghost use Rattle.st_text.specs.Limits.{greater};
 ghost use Rattle.st_text.specs.Spelling.{ended_line};
