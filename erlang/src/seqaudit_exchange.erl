@@ -284,11 +284,17 @@ stamped(#{prev := Prev, this := This, at := At} = Event, Cause, Pid, #process{to
 
 %% The node's clock before a stamp, and the machine's counters. Behind what wasn't reported both are higher, and so
 %% they do behind the answer of a spawn, with which OTP moves both to 16 T + 15.
-before(#{this := This}, {How, _}, Origin, #process{machine = Machine, tokens = Tokens})
-  when How =:= restored; How =:= perhaps ->
+before(#{this := This}, {restored, _}, Origin, #process{machine = Machine, tokens = Tokens}) ->
     case Tokens of
         #{Origin := Count} -> {min(Count, This - 1), Machine};
         #{} -> unknown
+    end;
+%% Of several tokens that may be there the one that leaves the fewest counts out.
+before(#{prev := Prev, this := This}, {perhaps, _}, Origin,
+       #process{node = {Node, Last}, machine = Machine, tokens = Tokens}) ->
+    case [min(Count, This - 1) || #{Origin := Count} <- [Tokens]] ++ [Node || Last =:= Prev, Node < This] of
+        [] -> unknown;
+        Counts -> {lists:max(Counts), Machine}
     end;
 before(#{prev := Prev, this := This}, {relabelled, _, open}, _Origin, #process{machine = Machine, had = Had}) ->
     case gb_sets:next(gb_sets:iterator_from(1 - This, maps:get(Prev, Had, gb_sets:new()))) of

@@ -31,8 +31,12 @@ find(Rows, Streams, Legend) ->
     Index = seqaudit_causes:index(Rows),
     Received = maps:from_keys([Send || #{cause := {How, Send}} <- Rows, lists:member(How, [sent, alike, unreported])],
                               received),
-    Counted = [{Pid, counters(Pid, Events, Index, Legend)} || {Pid, Events} <- Streams],
-    #{hidden => [Row || #{hidden := true} = Row <- Rows],
+    Hidden = [Row || #{hidden := true} = Row <- Rows],
+    Counts = maps:groups_from_list(fun(#{actor := Actor}) -> Actor end, fun(#{event := #{this := This}}) -> This end,
+                                   Hidden),
+    Counted = [{Pid, counters(Pid, Events, gb_sets:from_list(maps:get(Pid, Counts, [])), Index, Legend)}
+               || {Pid, Events} <- Streams],
+    #{hidden => Hidden,
       unreceived => [{Row, maps:get(Send, Index)}
                      || #{cause := {unreported, Send}} = Row
                             <- firsts([Row || #{cause := {unreported, _}} = Row <- Rows])],
@@ -53,12 +57,13 @@ firsts(Rows) ->
 counted(What, Counted) ->
     [{Pid, Count} || {Pid, #{What := Count}} <- Counted, Count > 0].
 
-%% `received' are the counts and messages received since the last stamp, of which one may be a spawn's answer.
-counters(Pid, Events, Index, Legend) ->
+%% `received' are the counts and messages received since the last stamp, of which one may be a spawn's answer; `hidden'
+%% are the counts of sends that only their receives tell of.
+counters(Pid, Events, Hidden, Index, Legend) ->
     lists:foldl(fun(#{at := At} = Event, Known) ->
                         #{cause := Cause} = maps:get({Pid, At}, Index),
                         counter(Event, Cause, Known, Legend)
-                end, #{clock => 0, stamped => false, received => [],
+                end, #{clock => 0, stamped => false, received => [], hidden => Hidden,
                        before => 0, behind => 0, spawns => 0, silent => 0, jumps => 0}, Events).
 
 counter(#{kind := 'receive', this := This, value := Value}, _Cause, Known, _Legend) ->
@@ -81,7 +86,14 @@ gap(_Stood, _Clock, _Prev, true, #{spawns := Spawns} = Known) ->
     Known#{spawns := Spawns + 1};
 gap(Stood, Clock, _Prev, false, #{stamped := false} = Known) ->
     Known#{before := Stood, behind := case Clock of 0 -> 0; _ -> Stood end};
-gap(Stood, Clock, Prev, false, #{silent := Silent, jumps := Jumps} = Known) when Prev > Clock ->
-    Known#{silent := Silent + Stood - Prev, jumps := Jumps + 1};
-gap(Stood, Clock, _Prev, false, #{silent := Silent} = Known) ->
-    Known#{silent := Silent + Stood - Clock}.
+gap(Stood, Clock, Prev, false, #{jumps := Jumps} = Known) when Prev > Clock ->
+    silent(Prev, Stood, Known#{jumps := Jumps + 1});
+gap(Stood, Clock, _Prev, false, Known) ->
+    silent(Clock, Stood, Known).
+
+%% The counts behind one up to another that nobody reported: those of hidden sends are known.
+silent(Clock, Stood, #{silent := Silent, hidden := Hidden} = Known) ->
+    Known#{silent := Silent + Stood - Clock - up_to(Stood, gb_sets:next(gb_sets:iterator_from(Clock + 1, Hidden)))}.
+
+up_to(Stood, {Count, More}) when Count =< Stood -> 1 + up_to(Stood, gb_sets:next(More));
+up_to(_Stood, _) -> 0.

@@ -2,7 +2,7 @@
 -module(seqaudit_sentences_tests).
 
 -export([calls_under_labels_test_/0, token_put_back_test_/0, put_back_in_doubt_test_/0, unreported_put_back_test_/0,
-         unreported_send_test_/0, tokens_alike_test_/0, kept_tokens_test_/0,
+         first_token_put_back_test_/0, unreported_send_test_/0, tokens_alike_test_/0, kept_tokens_test_/0,
          second_trace_test_/0, unknown_message_test_/0, flags_test_/0, high_counter_test_/0, messages_alike_test_/0,
          split_test_/0, forged_loss_test_/0, unlisted_test_/0, slow_model_test_/0]).
 
@@ -194,6 +194,36 @@ unreported_put_back_test_() ->
         has(Command(["why", "--event", "told#0"]),
             ["keeper sends answer to told, serial {4,6}, label 1\n"
              "That send wasn't reported, so its cause isn't known.\n"])
+    end).
+
+%% A process puts back the token with which it began, so its prev is 0 again. With the send flag off that isn't taken
+%% for a reset, and the count of the unreported send isn't counted again as something that nobody reported.
+first_token_put_back_test_() ->
+    traced("first_token_put_back", fun() ->
+        Self = self(),
+        begun(told, fun() -> receive answer -> seq_trace:set_token([]) end, Self ! done end),
+        Begin = fun(Label) ->
+                    seq_trace:set_token(label, Label),
+                    [seq_trace:set_token(Flag, true) || Flag <- ['receive', print]]
+                end,
+        begun(begins, fun() ->
+            Begin(1),
+            seq_trace:print(1),
+            Token = seq_trace:set_token([]),
+            receive note -> seq_trace:set_token(Token) end,
+            told ! answer,
+            seq_trace:print(2),
+            seq_trace:set_token([])
+        end),
+        begun(notes, fun() -> Begin(2), begins ! note, seq_trace:set_token([]) end),
+        receive done -> ok end,
+        seqaudit_test_nodes:met_here(),
+        left([told, begins, notes])
+    end, fun(Command) ->
+        Audit = Command(["audit"]),
+        has(Audit, ["fits: 4 events of 3 processes, with 2 sends that nobody reported; the cause of 1 event isn't "
+                    "known\n", "Tokens may have been put back (seq_trace:set_token/1), so the audit took ", "(status 0)"]),
+        has_none(Audit, ["reset", "Counts that no event here has"])
     end).
 
 %% What an unreported send follows is certain only if one receive alone fits it. A send whose prev is 0 needn't begin
