@@ -92,6 +92,7 @@ fn draw_paired<H: Threads + Sync, W: ByteSink, N: ByteSink>(
         Form::Table => tell_tables(
             rt,
             alloc,
+            streams,
             &scene,
             pairing,
             items.as_slice(),

@@ -9,7 +9,7 @@ use crate::lanes::Lanes;
 use crate::scene::Scene;
 use st_chain::Chains;
 use st_chart::{ChartFault, chart};
-use st_core::{ByteSink, Label, WriteTo};
+use st_core::{ByteSink, Label, Streams, WriteTo};
 use st_order::Item;
 use st_say::say;
 use st_text::{Buffer, Device, flush};
@@ -21,6 +21,8 @@ use std::io::{Error, ErrorKind, Write};
 const UNLISTED: &[u8] = b"  (unlisted)";
 
 const ADDED: &[u8] = b"  (added)";
+
+const NO_MARK: &[u8] = b"";
 
 /// A writer over another one that puts a mark before the ends of some lines.
 #[derive(Drop)]
@@ -36,7 +38,7 @@ struct Marker<'a, W> {
 impl<'a, W: ByteSink> Marker<'a, W> {
     /// Ends a line.
     fn end_line(&mut self) -> Result<(), Device> {
-        let mark = self.marks.get(self.ended).copied().unwrap_or(b"");
+        let mark = self.marks.get(self.ended).copied().unwrap_or(NO_MARK);
         self.ended = self.ended.saturating_add(1);
         say(&mut *self.writer, &mut self.buffer, mark)?;
         say(&mut *self.writer, &mut self.buffer, b"\n")
@@ -76,7 +78,7 @@ impl<W: ByteSink> Write for Marker<'_, W> {
 fn mark_of(scene: &Scene<'_>, item: Item) -> &'static [u8] {
     match item {
         Item::Reported(pid, index) if scene.is_added(pid, index) => ADDED,
-        Item::Reported(..) | Item::Hidden(..) => b"",
+        Item::Reported(..) | Item::Hidden(..) => NO_MARK,
     }
 }
 
@@ -105,13 +107,13 @@ fn marks_of(
 fn lane_marks(alloc: Global, scene: &Scene<'_>) -> Result<Vec<&'static [u8]>, AllocError> {
     let lanes = Lanes::of(alloc, scene)?;
     let mut marks: Vec<&'static [u8]> = Vec::new(alloc);
-    marks.push(b"")?;
+    marks.push(NO_MARK)?;
     for (place, pid) in scene.streams.pids().iter().enumerate() {
         if lanes.at(place).is_some() {
             marks.push(if scene.is_unlisted(*pid) {
                 UNLISTED
             } else {
-                b""
+                NO_MARK
             })?;
         }
     }
@@ -121,13 +123,14 @@ fn lane_marks(alloc: Global, scene: &Scene<'_>) -> Result<Vec<&'static [u8]>, Al
 /// Writes the chart of a label's items, with its marks.
 pub(crate) fn marked_chart<W: ByteSink>(
     alloc: Global,
+    streams: &Streams,
     scene: &Scene<'_>,
     chains: &Chains,
     items: &[Item],
     label: Label,
     writer: &mut W,
 ) -> Result<(), ChartFault>
-    requires { chains.now ≡ scene.now.streams.now }
+    requires { chains.now ≡ streams.now }
 {
     let Ok(marks) = marks_of(alloc, &scene.of_label(label), items) else {
         return Err(ChartFault::Memory);
@@ -139,7 +142,7 @@ pub(crate) fn marked_chart<W: ByteSink>(
         ended: 0,
     };
     let mut sink = WriteTo::new(&mut marker);
-    chart(alloc, &mut sink, scene.streams, chains, items, label)?;
+    chart(alloc, &mut sink, streams, chains, items, label)?;
     match marker.flush() {
         Ok(()) => Ok(()),
         Err(_) => Err(ChartFault::Device),

@@ -25,9 +25,6 @@ struct Diagram<'a> {
     overtaken: &'a Sends,
 }
 
-/// What stands behind a note of an event that a completion adds.
-const ADDED: &[u8] = b" (added)";
-
 /// Whether an item is the hidden send of a receive that is drawn.
 fn is_hidden(scene: &Scene<'_>, item: Item) -> bool {
     match item {
@@ -78,7 +75,9 @@ impl<'a> Diagram<'a> {
             say(writer, buffer, b" to ")?;
             say_bare_pid(writer, buffer, to)?;
         }
-        say(writer, buffer, if is_added { ADDED } else { b"" })?;
+        if is_added {
+            say(writer, buffer, b" (added)")?;
+        }
         say(writer, buffer, b"\n")
     }
 

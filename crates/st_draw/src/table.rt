@@ -9,7 +9,7 @@ use crate::scene::Scene;
 use crate::words::send_words;
 use st_chain::Chains;
 use st_chart::{ChartFault, chart};
-use st_core::{ByteSink, Label, Sequence};
+use st_core::{ByteSink, Label, Sequence, Streams};
 use st_order::{Item, by_label};
 use st_pair::Pairing;
 use std::alloc::{AllocError, Global};
@@ -18,36 +18,46 @@ use std::thread::Threads;
 /// Writes the table of a label's items, with what a completion adds marked.
 fn write_table<W: ByteSink>(
     alloc: Global,
+    streams: &Streams,
     scene: &Scene<'_>,
     chains: &Chains,
     items: &[Item],
     label: Label,
     writer: &mut W,
 ) -> Result<(), ChartFault>
-    requires { chains.now ≡ scene.now.streams.now }
+    requires { chains.now ≡ streams.now }
 {
     if scene.is_completed() {
-        return marked_chart(alloc, scene, chains, items, label, writer);
+        return marked_chart(alloc, streams, scene, chains, items, label, writer);
     }
-    chart(alloc, writer, scene.streams, chains, items, label)
+    chart(alloc, writer, streams, chains, items, label)
 }
 
 /// Writes the table of each group of items, which have a label, with an empty line between.
 fn write_groups<W: ByteSink>(
     alloc: Global,
+    streams: &Streams,
     scene: &Scene<'_>,
     chains: &Chains,
     groups: &[(Label, Sequence<Item>)],
     writer: &mut W,
 ) -> Result<(), ChartFault>
-    requires { chains.now ≡ scene.now.streams.now }
+    requires { chains.now ≡ streams.now }
 {
     let mut between: &[u8] = b"";
     for (label, items) in groups {
         if send_words(writer, between).is_err() {
             return Err(ChartFault::Device);
         }
-        write_table(alloc, scene, chains, items.as_slice(), *label, writer)?;
+        write_table(
+            alloc,
+            streams,
+            scene,
+            chains,
+            items.as_slice(),
+            *label,
+            writer,
+        )?;
         between = b"\n";
     }
     Ok(())
@@ -71,6 +81,7 @@ fn status_of_fault<N: ByteSink>(fault: ChartFault, notes: &mut N) -> u8 {
 pub(crate) fn tell_tables<H: Threads + Sync, W: ByteSink, N: ByteSink>(
     rt: &H,
     alloc: Global,
+    streams: &Streams,
     scene: &Scene<'_>,
     pairing: &Pairing,
     items: &[Item],
@@ -78,15 +89,14 @@ pub(crate) fn tell_tables<H: Threads + Sync, W: ByteSink, N: ByteSink>(
     writer: &mut W,
     notes: &mut N,
 ) -> Result<u8, AllocError>
-    requires { IsPairing scene.now.streams.now pairing.now }
+    requires { IsPairing streams.now pairing.now }
 {
-    let streams = scene.streams;
     let chains = Chains::new(alloc, streams, pairing)?;
     let written = match label {
-        Some(label) => write_table(alloc, scene, &chains, items, label, writer),
+        Some(label) => write_table(alloc, streams, scene, &chains, items, label, writer),
         None => {
             let groups = by_label(rt, alloc, streams, items)?;
-            write_groups(alloc, scene, &chains, groups.as_slice(), writer)
+            write_groups(alloc, streams, scene, &chains, groups.as_slice(), writer)
         }
     };
     match written {

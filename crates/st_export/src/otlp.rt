@@ -82,8 +82,9 @@ fn say_name_of<W: ByteSink>(
     digest: Sha256,
     count: usize,
 ) -> Result<(), Device> {
+    let bytes = digest.finalize();
     say(writer, buffer, b"\"")?;
-    for byte in digest.finalize().iter().take(count) {
+    for byte in bytes.iter().take(count) {
         say(
             writer,
             buffer,
@@ -100,7 +101,9 @@ fn say_attribute<W: ByteSink>(
     key: &str,
     is_first: bool,
 ) -> Result<(), Device> {
-    say(writer, buffer, if is_first { b"" } else { b"," })?;
+    if !is_first {
+        say(writer, buffer, b",")?;
+    }
     say(writer, buffer, b"{\"key\":")?;
     say_word(writer, buffer, key)?;
     say(writer, buffer, b",\"value\":{")
@@ -365,7 +368,9 @@ impl<'a> Spans<'a> {
     ) -> Result<bool, Device> {
         for (index, event) in self.streams.events(pid).iter().enumerate() {
             if let Some((span, times)) = self.timed_at(pid, index as u64, event) {
-                say(writer, buffer, if is_first { b"" } else { b"," })?;
+                if !is_first {
+                    say(writer, buffer, b",")?;
+                }
                 self.say_span(writer, buffer, &span, times)?;
                 is_first = false;
             }
