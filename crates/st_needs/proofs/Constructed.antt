@@ -17,35 +17,12 @@ use Rattle.st_core.proofs.ForCallers.{all_at}
 use Rattle.st_pair.specs.Pairing.{stamp_of}
 use Rattle.st_pair.proofs.ForCallers.{at_get_or, blank, events_in, take_map}
 use Rattle.st_plan.specs.Marks.{all_streams, told_streams, Marked, Whole}
-use Rattle.st_completions.specs.Completion.{completion, count_of, place_below, place_of_need, put, receive_for}
-use Rattle.st_completions.specs.Completion.{send_among, Supply, told_wholes, with_receive_of, with_send_of}
+use Rattle.st_completions.specs.Completion.{count_of, place_below, place_of_need, put, receive_for}
+use Rattle.st_completions.specs.Completion.{send_among, Supply, with_receive_of, with_send_of}
 use Rattle.st_completions.specs.Needs.{is_need}
 use Rattle.st_needs.specs.Completions.{marked_with, wholes_with, IsCompletionOf}
-use Rattle.st_needs.proofs.Counted.{stream_here}
 use Rattle.st_needs.proofs.Ranking.{added_last}
 use Rattle.st_needs.proofs.Supplied.{has, stamp_found}
-
--- EACH EVENT, TOLD
-
-abbrev told : Event → Marked
-told e = record { event = e; told = true }
-
-abbrev told_whole : Stream → Whole
-told_whole x = record { pid = x.pid; marked = map told x.events }
-
--- one process more
-pub told_more : (streams : List Stream) (pids : List Pid) (k : ℕ) (d : Pid) (es : List Event) (now next : List Whole)
-    → IsRising (pids_of streams) → pids ≡ pids_of streams → k < length pids → es ≡ events_of streams (get_or pids k d)
-    → now ≡ told_wholes (take k streams)
-    → next ≡ now ++ record { pid = get_or pids k d; marked = map told es } ∷ []
-    → next ≡ told_wholes (take (k + 1) streams)
-told_more streams pids k d es now next rising are within is so_far step =
-    let at = stream_here streams pids k d es rising are within is in
-    let one : suc k ≡ k + 1 = omega arith in
-    step
-    ∙ ap (λ ws. ws ++ record { pid = get_or pids k d; marked = map told es } ∷ []) so_far
-    ∙ sym (take_map told_whole streams k _ at)
-    ∙ ap (λ n. told_wholes (take n streams)) one
 
 -- THE EVENTS OF A PROCESS
 
@@ -337,26 +314,24 @@ wholes_back (w ∷ ws) =
 pub item_at : (ws : List Whole) (k : ℕ) (w : Whole) → k < length ws → w ≡ get_or ws k w → slice_get ws k ≡ Some w
 item_at ws k w within is = at_get_or ws k w within ∙ ap (λ (x : Whole). Some x) (sym is)
 
--- what the definition completes the streams with, built as events and marks
+-- whole streams, built as events and marks
 pub tells_back : (streams all : List Stream) (lists : List (List Bool)) (ws : List Whole)
-    → told_streams (completion streams) ≡ streams → ws ≡ completion streams → all ≡ all_streams ws → lists ≡ marks_of ws
+    → told_streams ws ≡ streams → all ≡ all_streams ws → lists ≡ marks_of ws
     → told_streams (wholes_with all lists) ≡ streams
-tells_back streams all lists ws tells are events marks =
+tells_back streams all lists ws tells events marks =
     ap (λ xs. told_streams (wholes_with xs lists)) events
     ∙ ap (λ ls. told_streams (wholes_with (all_streams ws) ls)) marks
-    ∙ ap told_streams (wholes_back ws ∙ are)
+    ∙ ap told_streams (wholes_back ws)
     ∙ tells
 
 pub completes_back : (top : ℕ) (streams all : List Stream) (lists : List (List Bool)) (ws built : List Whole)
-    → IsCompletionOf top streams (completion streams) → ws ≡ completion streams → all
-    ≡ all_streams ws → lists ≡ marks_of ws
+    → IsCompletionOf top streams ws → all ≡ all_streams ws → lists ≡ marks_of ws
     → built ≡ wholes_with all lists → IsCompletionOf top streams built
-completes_back top streams all lists ws built completes are events marks is =
+completes_back top streams all lists ws built completes events marks is =
     subst (IsCompletionOf top streams) (sym (is
     ∙ ap (λ xs. wholes_with xs lists) events
     ∙ ap (λ ls. wholes_with (all_streams ws) ls) marks
-    ∙ wholes_back ws
-    ∙ are)) completes
+    ∙ wholes_back ws)) completes
 
 -- what is written back to a vector
 pub written_back : {A : Type 0} (xs ys : List A) (n : ℕ) → length ys ≡ length xs → n ≡ length xs

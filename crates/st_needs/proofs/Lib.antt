@@ -2,7 +2,6 @@
 pub mod Kept
 pub mod Flawed
 pub mod ToldEvents
-pub mod ToldOfBoth
 pub mod Counted
 pub mod Ranking
 pub mod Supplied
@@ -11,6 +10,7 @@ pub mod Noted
 pub mod Merging
 pub mod Needed
 pub mod Constructed
+pub mod KeptTold
 pub mod Hiding
 pub mod EarliestFound
 pub mod OthersAdded

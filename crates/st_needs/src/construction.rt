@@ -1,19 +1,21 @@
-//! `construct`: the completion of st_completions's definition, for streams in which no send is
-//! hidden and against which there is no reason.
+//! `construct`: the completion of whole streams by st_completions's definition, if no send is hidden in
+//! them and no reason holds.
 
 ghost use Rattle.std.specs.Prelude.{◌≡◌, ◌∷◌, ◌++◌, ◌≤◌, [], length, map, slice_get, take, true};
 ghost use Rattle.std.specs.Prelude.{IfOk, OnOk};
 ghost use Rattle.std.specs.List.{AllByRecursion};
 ghost use Rattle.st_core.specs.Pid.{pid_eq};
 ghost use Rattle.st_core.specs.Streams.{events_of, is_own, ComesLast, IsStreams};
-ghost use Rattle.st_plan.specs.Marks.{all_streams};
-ghost use Rattle.st_completions.specs.Completion.{completion, place_below, place_of_need};
+ghost use Rattle.st_plan.specs.Marks.{all_streams, told_streams};
+ghost use Rattle.st_completions.specs.Completion.{place_below, place_of_need};
 ghost use Rattle.st_completions.specs.Completion.{prev_between, put, receive_for, send_among};
-ghost use Rattle.st_completions.specs.Completion.{told_wholes, with_receive_of, with_receives};
+ghost use Rattle.st_completions.specs.Completion.{with_receive_of, with_receives};
 ghost use Rattle.st_completions.specs.Completion.{with_send_of, with_sends};
 ghost use Rattle.st_completions.specs.Reasons.{HasEachSend, HasNoReason};
+ghost use Rattle.st_open.specs.Silent.{with_silent};
 ghost use Rattle.st_needs.specs.Completions.{IsCompletionOf};
 ghost use Rattle.st_needs.specs.Flaws.{left_by};
+ghost use Rattle.st_needs.specs.Filled.{filled};
 
 use crate::completion::{Completion, completion_of};
 use crate::flaws::Left;
@@ -84,23 +86,6 @@ fn marks_in(alloc: Global, marked: &[Marked]) -> Result<Vec<bool>, AllocError>
 }
 
 impl Whole {
-    /// The process with these events, all of them told.
-    fn of_told(alloc: Global, pid: Pid, events: &[Event]) -> Result<Whole, AllocError>
-        ensures { IfOk result (λ whole. whole ≡ record {
-          pid = pid;
-          marked = map (λ e. record { event = e; told = true }) events.now;
-        }) }
-    {
-        let mut marked = Vec::new(alloc);
-        for event in events {
-            marked.push(Marked {
-                event: *event,
-                told: true,
-            })?;
-        }
-        Ok(Whole { pid, marked })
-    }
-
     /// Whether it is this process.
     fn is_of(&self, pid: Pid) -> bool
         ensures { result ≡ pid_eq self.now.pid pid }
@@ -147,17 +132,6 @@ impl Whole {
         self.marked.insert(place, Marked { event, told: false })?;
         Ok(())
     }
-}
-
-/// The processes of the streams with their events, all of them told.
-fn told_wholes(alloc: Global, streams: &Streams) -> Result<Vec<Whole>, AllocError>
-    ensures { IfOk result (λ wholes. wholes.items ≡ told_wholes streams.now) }
-{
-    let mut wholes = Vec::new(alloc);
-    for &pid in streams.pids() {
-        wholes.push(Whole::of_told(alloc, pid, streams.events(pid))?)?;
-    }
-    Ok(wholes)
 }
 
 /// All events of the process.
@@ -326,16 +300,15 @@ fn add_receives(
     Ok(())
 }
 
-/// The streams with all sends that their needs lack, and then with all receives. For each of these
-/// it looks at all events of the process.
-fn wholes_of(alloc: Global, streams: &Streams) -> Result<Vec<Whole>, AllocError>
-    ensures { IfOk result (λ wholes. wholes.items ≡ completion streams.now) }
+/// Adds all sends that the needs of these streams lack, and then all receives. For each of these it
+/// looks at all events of the process.
+fn fill(alloc: Global, all: &Streams, wholes: &mut Vec<Whole>) -> Result<(), AllocError>
+    ensures { OnOk result (wholes.new.items ≡ filled all.now wholes.old.items) }
 {
-    let supplies = supplies(alloc, streams)?;
-    let mut wholes = told_wholes(alloc, streams)?;
-    add_sends(alloc, &mut wholes, &supplies)?;
-    add_receives(alloc, &mut wholes, &supplies)?;
-    Ok(wholes)
+    let supplies = supplies(alloc, all)?;
+    add_sends(alloc, wholes, &supplies)?;
+    add_receives(alloc, wholes, &supplies)?;
+    Ok(())
 }
 
 /// Adds a process that comes last, with these events.
@@ -353,7 +326,7 @@ pub(crate) fn add_process(draft: &mut Draft, pid: Pid, events: &[Event]) -> Resu
 }
 
 /// All events as streams.
-pub(crate) fn streams_of(alloc: Global, wholes: &[Whole]) -> Result<Streams, AllocError>
+fn streams_of(alloc: Global, wholes: &[Whole]) -> Result<Streams, AllocError>
     requires { IsStreams (all_streams wholes.now) }
     ensures { IfOk result (λ streams. streams ≡ all_streams wholes.now) }
 {
@@ -378,25 +351,30 @@ fn marks_of(alloc: Global, wholes: &[Whole]) -> Result<Vec<Sequence<bool>>, Allo
     Ok(lists)
 }
 
-/// Builds the completion of streams in which no send is hidden and against which there is no
-/// reason.
+/// Adds what all events of these whole streams need, and returns them as the completion of what is
+/// told of them: of the streams, beside unlisted processes. No send may be hidden in all events, and
+/// no reason may hold of them.
 ///
-/// It is called only if the judge refuses a candidate, which no test has seen, and is slow: it
-/// looks at all events once for
-/// each count in the streams, and for each added event at all events of two processes. That takes a
-/// time quadratic in the events.
+/// It is slow: it looks at all events once for each count in the streams, and for each added event at
+/// all events of two processes. That takes a time quadratic in the events.
 pub(crate) fn construct<const TOP: u64>(
     alloc: Global,
     streams: &Streams,
+    wholes: &mut Vec<Whole>,
+    unlisted: Vec<Pid>,
 ) -> Result<Completion, AllocError>
-    requires sends { HasEachSend streams.now }
-    requires none { HasNoReason TOP streams.now }
-    ensures { IfOk result (λ found. IsCompletionOf TOP streams.now found.wholes) }
+    requires told { told_streams wholes.old.items ≡ with_silent streams.now unlisted.items }
+    requires sound { IsStreams (all_streams wholes.old.items) }
+    requires sends { HasEachSend (all_streams wholes.old.items) }
+    requires none { HasNoReason TOP (all_streams wholes.old.items) }
+    ensures is { IfOk result (λ found.
+        IsCompletionOf TOP (with_silent streams.now unlisted.items) found.wholes) }
+    ensures unlisted { IfOk result (λ found. found.unlisted ≡ unlisted.items) }
 {
     streams_without_a_reason_are_completed();
-    let _pids = streams.pids();
-    let wholes = wholes_of(alloc, streams)?;
-    let all = streams_of(alloc, &wholes)?;
-    let lists = marks_of(alloc, &wholes)?;
-    Ok(completion_of(streams, all, lists, Vec::new(alloc)))
+    let before = streams_of(alloc, wholes)?;
+    fill(alloc, &before, wholes)?;
+    let all = streams_of(alloc, wholes)?;
+    let lists = marks_of(alloc, wholes)?;
+    Ok(completion_of(streams, all, lists, unlisted))
 }
