@@ -103,7 +103,7 @@ def names(program):
         for command in ("audit", "list", "lint"):
             got = program.run((command, packed))
             said = got.output if command == "lint" else got.complaint
-            is_right = got.status == 2 and b"the text is packed: unpack it, as by gunzip" in said
+            is_right = got.status == 2 and b"the text is packed: unpack it by gunzip" in said
             yield Check(f"{command} of a packed file", None if is_right else str(got))
         odd = os.path.join(os.fsencode(folder), b"trace\xff.txt")
         with open(odd, "wb") as file:
