@@ -1,7 +1,7 @@
 //! The command `complete`: what the streams whose text the input is lack, or why no run without a
 //! reset has them, whatever processes report nothing. The acts in the input are ignored.
 
-ghost use Rattle.std.specs.Prelude.{◌≡◌, ◌<◌, ◌↔◌, IsTrue, length, true};
+ghost use Rattle.std.specs.Prelude.{◌≡◌, ◌<◌, ◌↔◌, IsTrue, length};
 ghost use Rattle.st_core.specs.Run.{pids_of};
 ghost use Rattle.st_text.specs.Limits.{greater};
 ghost use Rattle.st_text.specs.Spelling.{ended_line};
@@ -122,7 +122,7 @@ fn tell_acts<H: Threads + Sync, W: ByteSink, N: ByteSink>(
 
 /// Whether the completion has more processes than the reader takes.
 fn is_long(completion: &Completion) -> bool
-    ensures { result ≡ true → greater.processes < length (pids_of (all_streams completion.now.wholes)) }
+    ensures { IsTrue result ↔ (MOST_PROCESSES < length (pids_of (all_streams completion.now.wholes))) }
 {
     completion.streams().pids().len() > MOST_PROCESSES
 }

@@ -14,7 +14,7 @@ returns-then-is_long g c =
     record {
       output = long;
       owed = Finds (answer.Whole c.args.completion.now) long c.requires (IsLong c.args.completion.now
-          (HasProcesses (c.is_long.ensures c.if-is_long.true)));
+          (HasProcesses (c.is_long.ensures.0 c.if-is_long.true)));
       delivered = c.tell_line.ensures;
     }
 
