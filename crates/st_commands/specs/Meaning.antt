@@ -1,5 +1,6 @@
 -- What a yes and a no of `check`, the findings of `audit` and a record of `drive` mean, each as one
--- record of plain facts, in the words of the machine.
+-- record of plain facts, in the words of the machine. The limits are those of the reader: how many
+-- bytes, processes, events and acts a text may have.
 use Rattle.std.specs.Prelude.{◌≡◌, ℕ, List, ◌++◌, Option, Some, IsSome, All, codes, filter}
 use Rattle.std.specs.List.{flat_map}
 use Rattle.st_core.specs.declared.types.Pid.{Pid}
@@ -15,21 +16,20 @@ use Rattle.st_audit.specs.declared.finding.Finding.TheVariants as finding
 use Rattle.st_audit.specs.Findings.{IsReason}
 use Rattle.st_chart.specs.Report.{report_text}
 use Rattle.st_text.specs.declared.limits.Limits.{Limits}
-use Rattle.st_text.specs.Limits.{standard}
 use Rattle.st_text.specs.Text.{spelling}
 use Rattle.st_text.specs.Spelling.{ended_line}
 use Rattle.st_text.specs.Writing.{Writes}
 use Rattle.st_commands.specs.Output.{Output, pair_line, verdict_text}
-use Rattle.st_commands.specs.Checked.{top, Spells, SpellsWithin}
-use Rattle.st_commands.specs.Command.{ReaderCall, WriterCall, ReadsAllWithin}
+use Rattle.st_commands.specs.Checked.{top, Spells}
+use Rattle.st_commands.specs.Command.{ReaderCall, WriterCall, ReadsAll}
 
 -- a yes: status 0
-pub record MeansYes (bytes : List ℕ) (out : Output) : Type 0 where
+pub record MeansYes (limits : Limits) (bytes : List ℕ) (out : Output) : Type 0 where
   pub streams : List Stream
   pub acts : List Act
   pub outcomes : List Outcome
   -- the bytes spell streams and acts, within the reader's limits
-  pub spelled : Spells bytes streams (Some acts)
+  pub spelled : Spells limits bytes streams (Some acts)
   -- the acts are a run of the machine from zero clocks over the streams' processes
   pub runs : run top (pids_of streams) acts ≡ Some outcomes
   -- in it each process reports exactly its stream; so the acts show the streams (`Shows`)
@@ -43,12 +43,12 @@ pub record MeansYes (bytes : List ℕ) (out : Output) : Type 0 where
   pub text : out.text ≡ ended_line (codes "yes") ++ flat_map pair_line (pairs acts outcomes)
 
 -- a no: status 1
-pub record MeansNo (bytes : List ℕ) (out : Output) : Type 0 where
+pub record MeansNo (limits : Limits) (bytes : List ℕ) (out : Output) : Type 0 where
   pub streams : List Stream
   pub acts : List Act
   pub verdict : Verdict
   -- the bytes spell streams and acts, within the reader's limits
-  pub spelled : Spells bytes streams (Some acts)
+  pub spelled : Spells limits bytes streams (Some acts)
   -- the acts don't show the streams: they have no run in which each process reports exactly its
   -- stream
   pub refuted : ¬ Shows top streams acts
@@ -59,13 +59,13 @@ pub record MeansNo (bytes : List ℕ) (out : Output) : Type 0 where
   pub place : IsVerdict top streams acts verdict
 
 -- a certificate: status 0 of `audit`
-pub record MeansFits (bytes : List ℕ) (out : Output) : Type 0 where
+pub record MeansFits (limits : Limits) (bytes : List ℕ) (out : Output) : Type 0 where
   pub streams : List Stream
   pub given : Option (List Act)
   pub acts : List Act
   pub outcomes : List Outcome
   -- the bytes spell streams, and acts or none, within the reader's limits
-  pub spelled : Spells bytes streams given
+  pub spelled : Spells limits bytes streams given
   -- other acts are a run of the machine from zero clocks over the streams' processes
   pub runs : run top (pids_of streams) acts ≡ Some outcomes
   -- in it each process reports exactly its stream; so the acts show the streams (`Shows`)
@@ -74,14 +74,14 @@ pub record MeansFits (bytes : List ℕ) (out : Output) : Type 0 where
   pub text : out.text ≡ spelling (record { streams = streams; acts = Some acts })
 
 -- an event and a reason: status 1 of `audit`
-pub record MeansUnfit (bytes : List ℕ) (out : Output) : Type 0 where
+pub record MeansUnfit (limits : Limits) (bytes : List ℕ) (out : Output) : Type 0 where
   pub streams : List Stream
   pub given : Option (List Act)
   pub pid : Pid
   pub index : ℕ
   pub reason : Reason
   -- the bytes spell streams, and acts or none, within the reader's limits
-  pub spelled : Spells bytes streams given
+  pub spelled : Spells limits bytes streams given
   -- the event is there
   pub there : IsSome (event_at streams pid index)
   -- and the reason holds at it
@@ -90,14 +90,14 @@ pub record MeansUnfit (bytes : List ℕ) (out : Output) : Type 0 where
   pub text : out.text ≡ report_text streams (finding.Unfit pid index reason)
 
 -- a record of threads: status 0 of `drive`
-pub record MeansDriven (bytes : List ℕ) (out : Output) : Type 0 where
+pub record MeansDriven (limits : Limits) (bytes : List ℕ) (out : Output) : Type 0 where
   pub listed : List Stream
   pub given : List Act
   pub streams : List Stream
   pub acts : List Act
   pub outcomes : List Outcome
   -- the bytes spell acts of listed processes, within the reader's limits
-  pub spelled : Spells bytes listed (Some given)
+  pub spelled : Spells limits bytes listed (Some given)
   -- acts are a run of the machine from zero clocks over these processes
   pub runs : run top (pids_of streams) acts ≡ Some outcomes
   pub pids : pids_of streams ≡ pids_of listed
@@ -110,79 +110,10 @@ pub record MeansDriven (bytes : List ℕ) (out : Output) : Type 0 where
   pub text : out.text ≡ spelling (record { streams = streams; acts = Some acts })
 
 -- all bytes were read, and of them an output with this meaning was written whole
-pub record SaysWithin (limits : Limits) {R W : Type 0} (reader : ReaderCall R)
-    (writer : WriterCall W) (Means : List ℕ → Output → Type 0) : Type 0 where
+pub record Says (limits : Limits) {R W : Type 0} (reader : ReaderCall R) (writer : WriterCall W)
+    (Means : List ℕ → Output → Type 0) : Type 0 where
   pub bytes : List ℕ
   pub output : Output
-  pub reads : ReadsAllWithin limits reader bytes
+  pub reads : ReadsAll limits reader bytes
   pub writes : Writes writer.device.puts writer.device.failed output.text writer.old writer.new
   pub means : Means bytes output
-
--- the same within the reader's limits
-abbrev pub Says : {R W : Type 0} → ReaderCall R → WriterCall W → (List ℕ → Output → Type 0)
-    → Type 0
-Says reader writer Means = SaysWithin standard reader writer Means
-
--- ---- the same within limits that are handed in: all is as above but for the limits
-
-pub record MeansYesWithin (limits : Limits) (bytes : List ℕ) (out : Output) : Type 0 where
-  pub streams : List Stream
-  pub acts : List Act
-  pub outcomes : List Outcome
-  -- the bytes spell streams and acts, within these limits
-  pub spelled : SpellsWithin limits bytes streams (Some acts)
-  -- the acts are a run of the machine from zero clocks over the streams' processes
-  pub runs : run top (pids_of streams) acts ≡ Some outcomes
-  -- in it each process reports exactly its stream; so the acts show the streams (`Shows`)
-  pub reports : All (λ x. stream acts outcomes x.pid ≡ x.events) streams
-  -- each receive that was reported is in a pair
-  pub paired : AllPaired outcomes (pairs acts outcomes)
-  -- in each pair the receive follows its send, with the same label and serial, and no send is in
-  -- two pairs
-  pub follows : Follows acts outcomes (pairs acts outcomes)
-  -- the text is the line yes and a line for each of these pairs
-  pub text : out.text ≡ ended_line (codes "yes") ++ flat_map pair_line (pairs acts outcomes)
-
-pub record MeansNoWithin (limits : Limits) (bytes : List ℕ) (out : Output) : Type 0 where
-  pub streams : List Stream
-  pub acts : List Act
-  pub verdict : Verdict
-  -- the bytes spell streams and acts, within these limits
-  pub spelled : SpellsWithin limits bytes streams (Some acts)
-  -- the acts don't show the streams: they have no run in which each process reports exactly its
-  -- stream
-  pub refuted : ¬ Shows top streams acts
-  -- the text names a place
-  pub text : out.text ≡ verdict_text verdict
-  -- and the place shows it: all before it passes, and act n has no step or reports another event,
-  -- or p has events left
-  pub place : IsVerdict top streams acts verdict
-
-pub record MeansFitsWithin (limits : Limits) (bytes : List ℕ) (out : Output) : Type 0 where
-  pub streams : List Stream
-  pub given : Option (List Act)
-  pub acts : List Act
-  pub outcomes : List Outcome
-  -- the bytes spell streams, and acts or none, within these limits
-  pub spelled : SpellsWithin limits bytes streams given
-  -- other acts are a run of the machine from zero clocks over the streams' processes
-  pub runs : run top (pids_of streams) acts ≡ Some outcomes
-  -- in it each process reports exactly its stream; so the acts show the streams (`Shows`)
-  pub reports : All (λ x. stream acts outcomes x.pid ≡ x.events) streams
-  -- the text is that of the streams with these acts
-  pub text : out.text ≡ spelling (record { streams = streams; acts = Some acts })
-
-pub record MeansUnfitWithin (limits : Limits) (bytes : List ℕ) (out : Output) : Type 0 where
-  pub streams : List Stream
-  pub given : Option (List Act)
-  pub pid : Pid
-  pub index : ℕ
-  pub reason : Reason
-  -- the bytes spell streams, and acts or none, within these limits
-  pub spelled : SpellsWithin limits bytes streams given
-  -- the event is there
-  pub there : IsSome (event_at streams pid index)
-  -- and the reason holds at it
-  pub holds : IsReason top streams pid index reason
-  -- the text names the event and the reason, and what the reason rests on
-  pub text : out.text ≡ report_text streams (finding.Unfit pid index reason)

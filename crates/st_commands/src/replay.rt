@@ -11,7 +11,7 @@ use crate::check::TOP;
 use crate::lines::OutputLine;
 use st_check::{ReplayFault, Reports, reports};
 use st_core::{Act, ByteSink, ByteSource, Streams};
-use st_text::{Bundle, ReadFault, read};
+use st_text::{Bundle, Limits, ReadFault, read_within};
 use std::alloc::Global;
 
 /// Writes what acts report, and returns its status.
@@ -48,14 +48,19 @@ fn replay_bundle<W: ByteSink>(alloc: Global, bundle: &Bundle, writer: &mut W) ->
     }
 }
 
-/// Reads a bundle and writes the bundle of what its acts report, with status 0, or the first act
-/// without a step, with status 1. Faulty input is 2; if memory runs out, or a reader or a writer
-/// fails, it is 4.
-pub fn run_replay<R: ByteSource, W: ByteSink>(alloc: Global, reader: &mut R, writer: &mut W) -> u8
+/// Reads a bundle within these limits and writes the bundle of what its acts report, with status 0,
+/// or the first act without a step, with status 1. Faulty input is 2; if memory runs out, or a
+/// reader or a writer fails, it is 4.
+pub fn run_replay<R: ByteSource, W: ByteSink>(
+    alloc: Global,
+    reader: &mut R,
+    writer: &mut W,
+    limits: Limits,
+) -> u8
     ensures { Tells (call W.ByteSink writer.old writer.new)
-        (Owes (call R.ByteSource reader.old reader.new) IsReplayed) result }
+        (Owes limits (call R.ByteSource reader.old reader.new) (IsReplayed limits)) result }
 {
-    match read(alloc, reader) {
+    match read_within(alloc, reader, limits) {
         Ok(bundle) => replay_bundle(alloc, &bundle, writer),
         Err(fault) => tell_fault(writer, fault),
     }

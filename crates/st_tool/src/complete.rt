@@ -3,8 +3,8 @@
 
 ghost use Rattle.std.specs.Prelude.{◌≡◌};
 ghost use Rattle.st_text.specs.Limits.{greater};
-ghost use Rattle.st_commands.specs.Command.{OwesWithin, Tells, call};
-ghost use Rattle.st_commands.specs.Meaning.{SaysWithin};
+ghost use Rattle.st_commands.specs.Command.{Owes, Tells, call};
+ghost use Rattle.st_commands.specs.Meaning.{Says};
 ghost use Rattle.st_complete.specs.Answers.{IsAnswer, IsWhole};
 ghost use Rattle.st_open.specs.Silent.{with_silent};
 ghost use Rattle.st_tool.specs.Complete.{IsCompleted, MeansCompleted, MeansNever};
@@ -202,12 +202,12 @@ pub fn run_complete<H: Threads + Sync, R: ByteSource, W: ByteSink, N: ByteSink>(
     form: Form,
 ) -> u8
     ensures told { Tells (call W.ByteSink writer.old writer.new)
-        (OwesWithin greater (call R.ByteSource reader.old reader.new) (IsCompleted form)) result }
+        (Owes greater (call R.ByteSource reader.old reader.new) (IsCompleted form)) result }
 
     // What that says of a completion and of a reason, in the machine's own words.
-    ensures completed { result ≡ 0 → SaysWithin greater (call R.ByteSource reader.old reader.new)
+    ensures completed { result ≡ 0 → Says greater (call R.ByteSource reader.old reader.new)
         (call W.ByteSink writer.old writer.new) (MeansCompleted form) }
-    ensures never { result ≡ 1 → SaysWithin greater (call R.ByteSource reader.old reader.new)
+    ensures never { result ≡ 1 → Says greater (call R.ByteSource reader.old reader.new)
         (call W.ByteSink writer.old writer.new) MeansNever }
 {
     match read_within(alloc, reader, Limits::GREATER) {

@@ -2,7 +2,7 @@
 //! caused. The acts in the input are ignored.
 
 ghost use Rattle.std.specs.Prelude.{◌≡◌, IfNone, IfSome, None};
-ghost use Rattle.st_commands.specs.Command.{OwesWithin, Tells, call};
+ghost use Rattle.st_commands.specs.Command.{Owes, Tells, call};
 ghost use Rattle.st_pair.specs.Links.{IsPairing};
 ghost use Rattle.st_pair.specs.Pairing.{IsPairFault, refusal};
 ghost use Rattle.st_text.specs.Limits.{greater};
@@ -145,7 +145,7 @@ pub fn run_why<R: ByteSource, W: ByteSink>(
     question: Question,
 ) -> u8
     ensures { Tells (call W.ByteSink writer.old writer.new)
-        (OwesWithin greater (call R.ByteSource reader.old reader.new) (IsWhy question)) result }
+        (Owes greater (call R.ByteSource reader.old reader.new) (IsWhy question)) result }
 {
     match read_within(alloc, reader, Limits::GREATER) {
         Ok(bundle) => answer_streams(alloc, &bundle.streams, question, writer),

@@ -1,5 +1,4 @@
 -- The reader tells which bytes it gave, and what was delivered is what these bytes owe.
-use Rattle.st_text.specs.Limits.{standard}
 use Rattle.st_commands.specs.Command.{call}
 use Rattle.st_commands.specs.Charted.{IsCharted, Faulty}
 use Rattle.st_commands.proofs.Deliveries.{owes_chart, tells_as, tells_fault, was_read}
@@ -7,10 +6,10 @@ use Rattle.st_commands.proofs.chart.run_chart.Goals as goal
 
 pub returns-in-Ok : goal.returns-in-Ok
 returns-in-Ok g c =
-    let read = was_read standard (call g.R.ByteSource _ _) c.in-Ok.bundle c.in-Ok.ensures in
-    tells_as _ _ (owes_chart _ _ read c.args.label) c.chart_streams.ensures
+    let read = was_read c.args.limits (call g.R.ByteSource _ _) c.in-Ok.bundle c.in-Ok.ensures in
+    tells_as _ _ (owes_chart _ _ _ read c.args.label) c.chart_streams.ensures
 
 pub returns-in-Err : goal.returns-in-Err
 returns-in-Err g c =
-    tells_fault standard (call g.R.ByteSource _ _) (IsCharted c.args.label) Faulty _ _ c.in-Err.fault
+    tells_fault c.args.limits (call g.R.ByteSource _ _) (IsCharted c.args.limits c.args.label) Faulty _ _ c.in-Err.fault
     c.in-Err.ensures c.tell_fault.ensures

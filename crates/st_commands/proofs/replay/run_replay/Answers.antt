@@ -1,5 +1,4 @@
 -- The reader tells which bytes it gave, and what was delivered is what these bytes owe.
-use Rattle.st_text.specs.Limits.{standard}
 use Rattle.st_commands.specs.Command.{call}
 use Rattle.st_commands.specs.Replayed.{IsReplayed, Faulty}
 use Rattle.st_commands.proofs.Deliveries.{owes_replay, tells_as, tells_fault, was_read}
@@ -7,10 +6,11 @@ use Rattle.st_commands.proofs.replay.run_replay.Goals as goal
 
 pub returns-in-Ok : goal.returns-in-Ok
 returns-in-Ok g c =
-    let read = was_read standard (call g.R.ByteSource _ _) c.in-Ok.bundle c.in-Ok.ensures in
-    tells_as _ _ (owes_replay _ _ read) c.replay_bundle.ensures
+    let read = was_read c.args.limits (call g.R.ByteSource _ _) c.in-Ok.bundle c.in-Ok.ensures in
+    tells_as _ _ (owes_replay _ _ _ read) c.replay_bundle.ensures
 
 pub returns-in-Err : goal.returns-in-Err
 returns-in-Err g c =
-    tells_fault standard (call g.R.ByteSource _ _) IsReplayed Faulty _ _ c.in-Err.fault c.in-Err.ensures
+    tells_fault c.args.limits (call g.R.ByteSource _ _) (IsReplayed c.args.limits) Faulty _ _ c.in-Err.fault
+        c.in-Err.ensures
     c.tell_fault.ensures
