@@ -168,22 +168,22 @@ module _ (limits : Limits) (label : Label) (bytes : List ℕ) where
       ap (λ (c : Contents). c.streams) (text_one bytes (whole ss xs) (whole ts ys) s.text t.text)
 
   module _ (ss ts : List Stream) (xs ys : List Item) (h : HasOrder limits bytes ss xs) (k : HasOrder limits bytes ts ys)
-      where
-    listed : ss ≡ ts
-    listed = same_streams ss ts h.given k.given h.spelled k.spelled
+    where
+      listed : ss ≡ ts
+      listed = same_streams ss ts h.given k.given h.spelled k.spelled
 
-    ordered : xs ≡ ys
-    ordered = one_order ss xs ys h.order (subst (λ (s : List Stream). IsOrder s ys) (sym listed) k.order)
+      ordered : xs ≡ ys
+      ordered = one_order ss xs ys h.order (subst (λ (s : List Stream). IsOrder s ys) (sym listed) k.order)
 
-    one_drawn : drawn ss xs label ≡ drawn ts ys label
-    one_drawn = ap (λ s. drawn s xs label) listed ∙ ap (λ z. drawn ts z label) ordered
+      one_drawn : drawn ss xs label ≡ drawn ts ys label
+      one_drawn = ap (λ s. drawn s xs label) listed ∙ ap (λ z. drawn ts z label) ordered
 
-    label_apart : list_any (item_has_label ss label) xs ≡ true → list_any (item_has_label ts label) ys ≡ false
-        → (X : Type 0) → X
-    label_apart some none X =
-        let moved : list_any (item_has_label ss label) xs ≡ list_any (item_has_label ts label) ys =
-        ap (λ s. list_any (item_has_label s label) xs) listed ∙ ap (list_any (item_has_label ts label)) ordered in
-        absurd (cc)
+      label_apart : list_any (item_has_label ss label) xs ≡ true → list_any (item_has_label ts label) ys ≡ false
+          → (X : Type 0) → X
+      label_apart some none X =
+          let moved : list_any (item_has_label ss label) xs ≡ list_any (item_has_label ts label) ys =
+          ap (λ s. list_any (item_has_label s label) xs) listed ∙ ap (list_any (item_has_label ts label)) ordered in
+          absurd (cc)
 
   reason_apart : (ss ts : List Stream) (xs : List Item) (found : Finding) → HasOrder limits bytes ss xs
       → HasReason limits bytes ts found → (X : Type 0) → X

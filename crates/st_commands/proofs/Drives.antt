@@ -27,7 +27,7 @@ use Rattle.st_commands.specs.Output.{Output}
 use Rattle.st_commands.specs.Checked.{top, Spells}
 use Rattle.st_commands.specs.Command.{ReaderCall, Owes, OfBytes, ForMemory}
 use Rattle.st_commands.specs.Parts.{DrivesTo, Records, Refuses, NoRoomToDrive, OfBundle, drive_refused}
-use Rattle.st_commands.specs.Meaning.{MeansDriven}
+use Rattle.st_commands.specs.Meaning.{MeansDriven, MeansStray}
 use Rattle.st_commands.specs.Laws.{DrivenMeans, RecordedIsYes}
 use Rattle.st_commands.specs.Recorded.{ranks, scripts_of, HasRecord, IsRecorded, record_output}
 use Rattle.st_commands.specs.Recorded as records
@@ -168,6 +168,27 @@ driven_means limits bytes out (records.Unstarted b h) e = absurd (omega (arith, 
 driven_means limits bytes out (records.Unjoined b h) e = absurd (omega (arith, e))
 driven_means limits bytes out (records.Lacking b n) e = absurd (omega (arith, e))
 driven_means limits bytes out (records.Faulty b f is) e = let high = fault_status_high f in absurd (omega arith)
+
+stray_of : (limits : Limits) (bytes : List ℕ) (p : Pid) (n : ℕ) → records.HasStray limits bytes p n
+    → MeansStray limits bytes (records.act_fault p n)
+stray_of limits bytes p n h = record {
+  listed = h.streams;
+  given = h.acts;
+  pid = p;
+  number = n;
+  spelled = h.spelled;
+  refused = h.refused;
+  text = refl;
+}
+
+pub stray_means : (limits : Limits) (bytes : List ℕ) (out : Output) → IsRecorded limits bytes out → out.status ≡ 1
+    → MeansStray limits bytes out
+stray_means limits bytes out (records.Recorded b r h) e = absurd (omega (arith, e))
+stray_means limits bytes out (records.Strayed b p n h) e = stray_of limits b p n h
+stray_means limits bytes out (records.Unstarted b h) e = absurd (omega (arith, e))
+stray_means limits bytes out (records.Unjoined b h) e = absurd (omega (arith, e))
+stray_means limits bytes out (records.Lacking b n) e = absurd (omega (arith, e))
+stray_means limits bytes out (records.Faulty b f is) e = let high = fault_status_high f in absurd (omega arith)
 
 pub recorded_is_yes : RecordedIsYes
 recorded_is_yes limits others bytes r h spelled out is =

@@ -1,20 +1,25 @@
 -- A status belongs to one kind of output: 0 to a yes, 1 to a no. So an output with it has that verdict, which tells
 -- the rest.
-use Rattle.std.proofs.Common.{◌≡◌, ◌≢◌, ℕ, ◌+◌, ◌≤◌, List, take, refl, ap, subst, arith}
-use Rattle.std.specs.Prelude.{Option, Some, None, IsSome}
+use Rattle.std.proofs.Common.{◌≡◌, ◌≢◌, ℕ, ◌+◌, ◌≤◌, List, [], ◌∷◌, take, refl, ap, subst, ◌∙◌, arith}
+use Rattle.std.specs.Prelude.{Option, Some, None, IsSome, All}
+use Rattle.std.proofs.lemmas.List.Elements.{All-nil, All-cons}
+use Rattle.st_core.specs.declared.types.Pid.{Pid}
 use Rattle.st_core.specs.declared.types.Act.{Act}
 use Rattle.st_core.specs.State.{zero_state}
 use Rattle.st_core.specs.Step.{Outcome}
-use Rattle.st_core.specs.Run.{Stream, Shows, pids_of, run}
+use Rattle.st_core.specs.Run.{Stream, Shows, pids_of, run, stream}
 use Rattle.st_core.specs.Pairs.{Follows, AllPaired, pairs}
 use Rattle.st_core.specs.Verdict.{Verdict, Stuck, Differs, Left, Yes, IsVerdict}
 use Rattle.st_core.proofs.ForCallers.{one_verdict, run_from-take}
+use Rattle.st_check.specs.Answers.{reported_streams}
 use Rattle.st_text.specs.declared.fault.ReadFault.{ReadFault}
 use Rattle.st_text.specs.declared.fault.ReadFault.TheVariants as faults
 use Rattle.st_text.specs.declared.limits.Limits.{Limits}
 use Rattle.st_commands.specs.Output.{Output, judged, refused}
 use Rattle.st_commands.specs.Checked.{top, IsJudged, IsChecked, Judged, Lacking, Faulty}
-use Rattle.st_commands.specs.Meaning.{MeansYes, MeansNo}
+use Rattle.st_commands.specs.Replayed.{HasRun, IsReplayed, replayed}
+use Rattle.st_commands.specs.Replayed as replays
+use Rattle.st_commands.specs.Meaning.{MeansYes, MeansNo, MeansReplayed}
 use Rattle.st_commands.specs.Laws.{YesMeans, NoMeans, ShownIsYes, NeverStuck, NeverStuckInReplay}
 use Rattle.st_commands.proofs.Outputs.{one_check}
 use Rattle.st_commands.proofs.OwedOutputs.{judgement, spelled_run}
@@ -118,3 +123,49 @@ never_stuck limits few bytes n j =
 pub never_stuck_in_replay : NeverStuckInReplay
 never_stuck_in_replay limits few bytes n h =
     has_step h.streams h.acts (n + 1) (spelled_run limits few bytes h.streams h.acts h.spelled) h.sticks.none
+
+-- ---- a run
+
+-- what acts report over pids is a stream for each of these
+reported_pids : (ps : List Pid) (acts : List Act) (os : List Outcome) → pids_of (reported_streams ps acts os) ≡ ps
+reported_pids [] acts os = refl
+reported_pids (p ∷ ps) acts os = ap (λ (rest : List Pid). p ∷ rest) (reported_pids ps acts os)
+
+all_reported : (ps : List Pid) (acts : List Act) (os : List Outcome)
+    → All (λ (x : Stream). stream acts os x.pid ≡ x.events) (reported_streams ps acts os)
+all_reported [] acts os = All-nil (λ (x : Stream). stream acts os x.pid ≡ x.events)
+all_reported (p ∷ ps) acts os =
+    All-cons (λ (x : Stream). stream acts os x.pid ≡ x.events) (record { pid = p; events = stream acts os p })
+    (reported_streams ps acts os) refl (all_reported ps acts os)
+
+run_means : (limits : Limits) (bytes : List ℕ) (pids : List Pid) (acts : List Act) (os : List Outcome)
+    → HasRun limits bytes pids acts os → MeansReplayed limits bytes (replayed pids acts os)
+run_means limits bytes pids acts os h =
+    let listed = reported_pids pids acts os in
+    record {
+      listed = h.streams;
+      streams = reported_streams pids acts os;
+      acts = acts;
+      outcomes = os;
+      spelled = h.spelled;
+      runs = ap (λ (ps : List Pid). run top ps acts) listed ∙ h.runs;
+      pids = listed ∙ h.listed;
+      reports = all_reported pids acts os;
+      text = refl;
+    }
+
+pub replayed_means : (limits : Limits) (bytes : List ℕ) (out : Output) → IsReplayed limits bytes out → out.status ≡ 0
+    → MeansReplayed limits bytes out
+replayed_means limits bytes out (replays.Ran b pids acts os h) e = run_means limits b pids acts os h
+replayed_means limits bytes out (replays.Stuck b n h) e = absurd (omega (arith, e))
+replayed_means limits bytes out (replays.Lacking b n) e = absurd (omega (arith, e))
+replayed_means limits bytes out (replays.Faulty b f is) e = let high = fault_status_high f in absurd (omega arith)
+
+-- and no other status 1
+pub never_refused : (limits : Limits) → limits.acts ≤ top → (bytes : List ℕ) (out : Output)
+    → IsReplayed limits bytes out → out.status ≡ 1 → ⊥
+never_refused limits few bytes out (replays.Ran b pids acts os h) e = absurd (omega (arith, e))
+never_refused limits few bytes out (replays.Stuck b n h) e = never_stuck_in_replay limits few b n h
+never_refused limits few bytes out (replays.Lacking b n) e = absurd (omega (arith, e))
+never_refused limits few bytes out (replays.Faulty b f is) e =
+    let high = fault_status_high f in absurd (omega arith)

@@ -145,7 +145,7 @@ one_run : (limits : Limits) (bytes : List ℕ) (ps qs : List Pid) (xs ys : List 
 one_run limits bytes ps qs xs ys os us h k =
     let same = same_acts limits bytes h.streams k.streams xs ys h.spelled k.spelled in
     let outcomes : os ≡ us =
-        one_outcome (pids_of h.streams) xs os us (run_on limits bytes h.streams xs ps xs os h.spelled h)
+    one_outcome (pids_of h.streams) xs os us (run_on limits bytes h.streams xs ps xs os h.spelled h)
     (run_on limits bytes h.streams xs qs ys us h.spelled k) in
     let pids : ps ≡ qs = h.listed ∙ ap pids_of same.streams ∙ sym k.listed in
     ap (λ (p : List Pid). replayed p xs os) pids

@@ -131,7 +131,7 @@ print_verdict =
 print_is_yes : IsChecked standard print_bytes (record { text = codes "yes\n"; status = 0 })
 print_is_yes =
     Judged print_bytes (Yes []) (judgement standard print_bytes print_streams print_acts (Yes []) print_spelled
-        print_verdict)
+    print_verdict)
 
 -- ---- two receives whose sends nobody reported
 
