@@ -15,7 +15,7 @@ use st_text::{Bundle, Limits, ReadFault, read_within};
 use std::alloc::Global;
 
 /// The greatest count that a clock of the program can have.
-pub(crate) const TOP: u64 = u64::MAX;
+pub const TOP: u64 = u64::MAX;
 
 /// Writes the verdict of streams and acts, and returns its status.
 fn check_acts<W: ByteSink>(alloc: Global, streams: &Streams, acts: &[Act], writer: &mut W) -> u8

@@ -20,7 +20,7 @@ mod words;
 pub use answer::{status_of, tell_bundle, tell_fault, tell_finding, tell_line, tell_refusal};
 pub use audit::run_audit;
 pub use chart::run_chart;
-pub use check::run_check;
+pub use check::{TOP, run_check};
 pub use drive::run_drive;
 pub use program::run;
 pub use replay::run_replay;
