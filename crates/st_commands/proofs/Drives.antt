@@ -1,7 +1,7 @@
 -- What was driven is a record of the scripts, and a record says what status 0 means. An act of a text that is refused
 -- stands for a stray process alone: its actor and receiver are listed, and a text has fewer acts than clocks and ranks
 -- have counts.
-use Rattle.std.proofs.Common.{◌≡◌, ℕ, ◌*◌, ◌^◌, ◌<◌, ◌≤◌, true, List, [], ◌∷◌, length, map, refl, sym}
+use Rattle.std.proofs.Common.{◌≡◌, ℕ, ◌*◌, ◌<◌, ◌≤◌, true, List, [], ◌∷◌, length, map, refl, sym}
 use Rattle.std.proofs.Common.{subst, arith, Some, slice_get}
 use Rattle.std.specs.Prelude.{All, zip, count_by}
 use Rattle.std.specs.List.{list_all}
@@ -60,8 +60,8 @@ product m n a b h k = grind arith
 
 -- a reader's limits are numbers of 32 bits, so what it reads has fewer acts than clocks and ranks have counts
 pub record AreSmall (limits : Limits) : Type 0 where
-  pub processes : limits.processes < 2 ^ 32
-  pub acts : limits.acts < 2 ^ 32
+  pub processes : limits.processes ≤ 4294967295
+  pub acts : limits.acts ≤ 4294967295
 
 few_acts : (limits : Limits) (bytes : List ℕ) (streams : List Stream) (acts : List Act) → AreSmall limits
     → Spells limits bytes streams (Some acts) → acts_in (scripts_of (pids_of streams) acts) < top
