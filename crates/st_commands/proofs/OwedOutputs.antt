@@ -75,9 +75,9 @@ a_run limits bytes streams acts s (Some os) is some = (
       (record { streams = streams; spelled = s; listed = refl; runs = is }),
 )
 
-pub a_replay : HasOutput IsReplayed
-a_replay bytes =
-    has_output IsReplayed limits bytes (λ f is. replays.Faulty bytes f is)
+pub a_replay : (limits : Limits) → limits.acts ≤ top → HasOutput (IsReplayed limits)
+a_replay limits few bytes =
+    has_output limits (IsReplayed limits) bytes (λ f is. replays.Faulty bytes f is)
     (λ streams s. replays.Lacking bytes (record { streams = streams; spelled = s }))
     (λ streams acts s. a_run limits bytes streams acts s (run top (pids_of streams) acts) refl
     (spelled_run limits few bytes streams acts s))

@@ -28,7 +28,7 @@ use Rattle.st_runtime.specs.declared.fault.DriveFault.TheVariants as drive
 use Rattle.st_runtime.specs.Driven.{IsDriveFault}
 use Rattle.st_text.specs.declared.limits.Limits.{Limits}
 use Rattle.st_text.specs.Text.{spelling}
-use Rattle.st_text.specs.Spelling as spelled
+use Rattle.st_text.specs.Spelling as words
 use Rattle.st_text.specs.Spelling.{ended_line}
 use Rattle.st_text.specs.Writing.{Writes}
 use Rattle.st_commands.specs.Output.{Output, pair_line, verdict_text}
@@ -185,7 +185,7 @@ pub record MeansNoLabel (limits : Limits) (label : Label) (bytes : List ℕ) (ou
     -- none of them has the label
     pub unlabelled : list_any (item_has_label streams label) items ≡ false
     -- the text says so
-    pub text : out.text ≡ ended_line (codes "no label " ++ spelled.label label)
+    pub text : out.text ≡ ended_line (codes "no label " ++ words.label label)
 
 -- an event and a reason of pairing: status 1 of a command that needs pairs
 pub record MeansUnpaired (limits : Limits) (bytes : List ℕ) (out : Output) : Type 0 where
