@@ -28,8 +28,8 @@ use Rattle.st_audit.specs.declared.finding.Reason.TheVariants as reason
 use Rattle.st_audit.specs.Findings.{unfit_by}
 use Rattle.st_text.specs.declared.fault.ReadFault.{ReadFault}
 use Rattle.st_text.specs.Text.{Contents}
-use Rattle.st_text.specs.Fault.{fault}
-use Rattle.st_text.specs.Limits.{standard}
+use Rattle.st_text.specs.declared.limits.Limits.{Limits}
+use Rattle.st_text.specs.Fault.{fault_within}
 use Rattle.st_text.proofs.ForCallers.{text_one, readable}
 use Rattle.st_commands.specs.Output.{Output, refused}
 use Rattle.st_commands.specs.Audited.{report_output}
@@ -114,12 +114,12 @@ never_refusal streams =
 
 -- ---- an output
 
-module _ (label : Label) (bytes : List ℕ) (streams : List Stream) (given : Option (List Act))
-    (spelled : Spells bytes streams given) where
+module _ (limits : Limits) (label : Label) (bytes : List ℕ) (streams : List Stream) (given : Option (List Act))
+    (spelled : Spells limits bytes streams given) where
   abbrev An : Type 0
-  An = (out : Output) × IsCharted label bytes out
+  An = (out : Output) × IsCharted limits label bytes out
 
-  of_label : (items : List Item) → HasOrder bytes streams items → (some : Bool)
+  of_label : (items : List Item) → HasOrder limits bytes streams items → (some : Bool)
       → list_any (item_has_label streams label) items ≡ some → An
   of_label items h true is = (drawn streams items label, charted.Drawn bytes streams items h is)
   of_label items h false is = (no_label label, charted.Unlabelled bytes streams items h is)
@@ -149,47 +149,50 @@ module _ (label : Label) (bytes : List ℕ) (streams : List Stream) (given : Opt
   of_streams None is = of_accepted is
   of_streams (Some f) is = of_refused f is
 
-pub a_chart : (label : Label) → HasOutput (IsCharted label)
-a_chart label bytes = by (fault bytes) refl
+pub a_chart : (limits : Limits) (label : Label) → HasOutput (IsCharted limits label)
+a_chart limits label bytes = by (fault_within limits bytes) refl
   where
-    by : (o : Option ReadFault) → fault bytes ≡ o → (out : Output) × IsCharted label bytes out
+    by : (o : Option ReadFault) → fault_within limits bytes ≡ o → (out : Output) × IsCharted limits label bytes out
     by (Some f) is = (refused f, charted.Faulty bytes f is)
     by None none =
-        let read = readable standard bytes none in
-        of_streams label bytes read.0.streams read.0.acts (record { text = read.1.text; within = read.1.within })
+        let read = readable limits bytes none in
+        of_streams limits label bytes read.0.streams read.0.acts (record { text = read.1.text; within = read.1.within })
         (refusal read.0.streams) refl
 
 -- ---- one at most
 
-module _ (label : Label) (bytes : List ℕ) where
-  same_streams : (ss ts : List Stream) (xs ys : Option (List Act)) → Spells bytes ss xs → Spells bytes ts ys → ss ≡ ts
+module _ (limits : Limits) (label : Label) (bytes : List ℕ) where
+  same_streams : (ss ts : List Stream) (xs ys : Option (List Act)) → Spells limits bytes ss xs
+      → Spells limits bytes ts ys → ss ≡ ts
   same_streams ss ts xs ys s t =
       ap (λ (c : Contents). c.streams) (text_one bytes (whole ss xs) (whole ts ys) s.text t.text)
 
-  module _ (ss ts : List Stream) (xs ys : List Item) (h : HasOrder bytes ss xs) (k : HasOrder bytes ts ys) where
-    listed : ss ≡ ts
-    listed = same_streams ss ts h.given k.given h.spelled k.spelled
+  module _ (ss ts : List Stream) (xs ys : List Item) (h : HasOrder limits bytes ss xs) (k : HasOrder limits bytes ts ys)
+    where
+      listed : ss ≡ ts
+      listed = same_streams ss ts h.given k.given h.spelled k.spelled
 
-    ordered : xs ≡ ys
-    ordered = one_order ss xs ys h.order (subst (λ (s : List Stream). IsOrder s ys) (sym listed) k.order)
+      ordered : xs ≡ ys
+      ordered = one_order ss xs ys h.order (subst (λ (s : List Stream). IsOrder s ys) (sym listed) k.order)
 
-    one_drawn : drawn ss xs label ≡ drawn ts ys label
-    one_drawn = ap (λ s. drawn s xs label) listed ∙ ap (λ z. drawn ts z label) ordered
+      one_drawn : drawn ss xs label ≡ drawn ts ys label
+      one_drawn = ap (λ s. drawn s xs label) listed ∙ ap (λ z. drawn ts z label) ordered
 
-    label_apart : list_any (item_has_label ss label) xs ≡ true → list_any (item_has_label ts label) ys ≡ false
-        → (X : Type 0) → X
-    label_apart some none X =
-        let moved : list_any (item_has_label ss label) xs ≡ list_any (item_has_label ts label) ys =
-        ap (λ s. list_any (item_has_label s label) xs) listed ∙ ap (list_any (item_has_label ts label)) ordered in
-        absurd (cc)
+      label_apart : list_any (item_has_label ss label) xs ≡ true → list_any (item_has_label ts label) ys ≡ false
+          → (X : Type 0) → X
+      label_apart some none X =
+          let moved : list_any (item_has_label ss label) xs ≡ list_any (item_has_label ts label) ys =
+          ap (λ s. list_any (item_has_label s label) xs) listed ∙ ap (list_any (item_has_label ts label)) ordered in
+          absurd (cc)
 
-  reason_apart : (ss ts : List Stream) (xs : List Item) (found : Finding) → HasOrder bytes ss xs
-      → HasReason bytes ts found → (X : Type 0) → X
+  reason_apart : (ss ts : List Stream) (xs : List Item) (found : Finding) → HasOrder limits bytes ss xs
+      → HasReason limits bytes ts found → (X : Type 0) → X
   reason_apart ss ts xs found h k X =
       let moved : refusal ss ≡ refusal ts = ap refusal (same_streams ss ts h.given k.given h.spelled k.spelled) in
       absurd (none-some k.fault (sym h.accepted ∙ moved ∙ k.refused))
 
-  one_reason : (ss ts : List Stream) (one other : Finding) → HasReason bytes ss one → HasReason bytes ts other
+  one_reason : (ss ts : List Stream) (one other : Finding) → HasReason limits bytes ss one
+      → HasReason limits bytes ts other
       → report_output ss one ≡ report_output ts other
   one_reason ss ts one other h k =
       let listed : ss ≡ ts = same_streams ss ts h.given k.given h.spelled k.spelled in
@@ -197,35 +200,35 @@ module _ (label : Label) (bytes : List ℕ) where
       let found : one ≡ other = same_Some one other (sym h.found_by ∙ ap unfit_by faults ∙ k.found_by) in
       ap (λ s. report_output s one) listed ∙ ap (report_output ts) found
 
-pub one_chart : (label : Label) → HasOneOutput (IsCharted label)
-one_chart label bytes one other (charted.Drawn x ss xs h some) (charted.Drawn y ts ys k more) =
-    one_drawn label x ss ts xs ys h k
-one_chart label bytes one other (charted.Drawn x ss xs h some) (charted.Unlabelled y ts ys k none) =
-    label_apart label x ss ts xs ys h k some none _
-one_chart label bytes one other (charted.Drawn x ss xs h some) (charted.Unpaired y ts found k) =
-    reason_apart label x ss ts xs found h k _
-one_chart label bytes one other (charted.Drawn x ss xs h some) (charted.Faulty y f bad) =
-    fault_apart x ss h.given f h.spelled bad _
-one_chart label bytes one other (charted.Unlabelled x ss xs h none) (charted.Drawn y ts ys k some) =
-    label_apart label x ts ss ys xs k h some none _
-one_chart label bytes one other (charted.Unlabelled x ss xs h none) (charted.Unlabelled y ts ys k less) = refl
-one_chart label bytes one other (charted.Unlabelled x ss xs h none) (charted.Unpaired y ts found k) =
-    reason_apart label x ss ts xs found h k _
-one_chart label bytes one other (charted.Unlabelled x ss xs h none) (charted.Faulty y f bad) =
-    fault_apart x ss h.given f h.spelled bad _
-one_chart label bytes one other (charted.Unpaired x ss found h) (charted.Drawn y ts ys k some) =
-    reason_apart label x ts ss ys found k h _
-one_chart label bytes one other (charted.Unpaired x ss found h) (charted.Unlabelled y ts ys k none) =
-    reason_apart label x ts ss ys found k h _
-one_chart label bytes one other (charted.Unpaired x ss found h) (charted.Unpaired y ts more k) =
-    one_reason label x ss ts found more h k
-one_chart label bytes one other (charted.Unpaired x ss found h) (charted.Faulty y f bad) =
-    fault_apart x ss h.given f h.spelled bad _
-one_chart label bytes one other (charted.Faulty x f bad) (charted.Drawn y ts ys k some) =
-    fault_apart x ts k.given f k.spelled bad _
-one_chart label bytes one other (charted.Faulty x f bad) (charted.Unlabelled y ts ys k none) =
-    fault_apart x ts k.given f k.spelled bad _
-one_chart label bytes one other (charted.Faulty x f bad) (charted.Unpaired y ts found k) =
-    fault_apart x ts k.given f k.spelled bad _
-one_chart label bytes one other (charted.Faulty x f bad) (charted.Faulty y g also) =
-    ap refused (one_fault x f g bad also)
+pub one_chart : (limits : Limits) (label : Label) → HasOneOutput (IsCharted limits label)
+one_chart limits label bytes one other (charted.Drawn x ss xs h some) (charted.Drawn y ts ys k more) =
+    one_drawn limits label x ss ts xs ys h k
+one_chart limits label bytes one other (charted.Drawn x ss xs h some) (charted.Unlabelled y ts ys k none) =
+    label_apart limits label x ss ts xs ys h k some none _
+one_chart limits label bytes one other (charted.Drawn x ss xs h some) (charted.Unpaired y ts found k) =
+    reason_apart limits label x ss ts xs found h k _
+one_chart limits label bytes one other (charted.Drawn x ss xs h some) (charted.Faulty y f bad) =
+    fault_apart limits x ss h.given f h.spelled bad _
+one_chart limits label bytes one other (charted.Unlabelled x ss xs h none) (charted.Drawn y ts ys k some) =
+    label_apart limits label x ts ss ys xs k h some none _
+one_chart limits label bytes one other (charted.Unlabelled x ss xs h none) (charted.Unlabelled y ts ys k less) = refl
+one_chart limits label bytes one other (charted.Unlabelled x ss xs h none) (charted.Unpaired y ts found k) =
+    reason_apart limits label x ss ts xs found h k _
+one_chart limits label bytes one other (charted.Unlabelled x ss xs h none) (charted.Faulty y f bad) =
+    fault_apart limits x ss h.given f h.spelled bad _
+one_chart limits label bytes one other (charted.Unpaired x ss found h) (charted.Drawn y ts ys k some) =
+    reason_apart limits label x ts ss ys found k h _
+one_chart limits label bytes one other (charted.Unpaired x ss found h) (charted.Unlabelled y ts ys k none) =
+    reason_apart limits label x ts ss ys found k h _
+one_chart limits label bytes one other (charted.Unpaired x ss found h) (charted.Unpaired y ts more k) =
+    one_reason limits label x ss ts found more h k
+one_chart limits label bytes one other (charted.Unpaired x ss found h) (charted.Faulty y f bad) =
+    fault_apart limits x ss h.given f h.spelled bad _
+one_chart limits label bytes one other (charted.Faulty x f bad) (charted.Drawn y ts ys k some) =
+    fault_apart limits x ts k.given f k.spelled bad _
+one_chart limits label bytes one other (charted.Faulty x f bad) (charted.Unlabelled y ts ys k none) =
+    fault_apart limits x ts k.given f k.spelled bad _
+one_chart limits label bytes one other (charted.Faulty x f bad) (charted.Unpaired y ts found k) =
+    fault_apart limits x ts k.given f k.spelled bad _
+one_chart limits label bytes one other (charted.Faulty x f bad) (charted.Faulty y g also) =
+    ap refused (one_fault limits x f g bad also)

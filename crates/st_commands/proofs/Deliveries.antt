@@ -14,26 +14,25 @@ use Rattle.st_text.specs.declared.fault.ReadFault.TheVariants as faults
 use Rattle.st_text.specs.declared.bundle.Bundle.{Bundle}
 use Rattle.st_text.specs.Contents.{contents}
 use Rattle.st_text.specs.declared.limits.Limits.{Limits}
-use Rattle.st_text.specs.Limits.{standard}
 use Rattle.st_text.specs.Text.{Contents}
 use Rattle.st_text.specs.Fault.{fault_within}
 use Rattle.st_text.specs.Reads.{ReadsSourceWithin}
 use Rattle.st_text.proofs.ForCallers.{fault_too_large}
 use Rattle.st_text.specs.Writing.{WritesText}
 use Rattle.st_commands.specs.Output.{Output, judged, refused, no_acts}
-use Rattle.st_commands.specs.Checked.{Spells, SpellsWithin, IsCheckedWithin, Judged}
+use Rattle.st_commands.specs.Checked.{Spells, IsChecked, Judged}
 use Rattle.st_commands.specs.Checked as checked
 use Rattle.st_commands.specs.Replayed.{IsReplayed}
 use Rattle.st_commands.specs.Replayed as replays
-use Rattle.st_commands.specs.Audited.{IsAuditedWithin, report_output}
+use Rattle.st_commands.specs.Audited.{IsAudited, report_output}
 use Rattle.st_commands.specs.Audited as audits
 use Rattle.st_commands.specs.Charted.{IsCharted, drawn, no_label}
 use Rattle.st_commands.specs.Charted as charts
-use Rattle.st_commands.specs.Command.{ReaderCall, WriterCall, ReadsAllWithin, Owes, OwesWithin}
+use Rattle.st_commands.specs.Command.{ReaderCall, WriterCall, ReadsAll, Owes}
 use Rattle.st_commands.specs.Command.{OfBytes, ForMemory, ForReader, Delivers, Whole, Part, Tells}
 use Rattle.st_commands.specs.Parts.{ChecksTo, AuditsTo, DrawsTo, ChartsTo, ReplaysTo, OfBundle, OfSome, OfNone}
 use Rattle.st_commands.specs.Parts as parts
-use Rattle.st_commands.specs.Meaning.{SaysWithin}
+use Rattle.st_commands.specs.Meaning.{Says}
 
 -- ---- writing
 
@@ -66,7 +65,7 @@ module _ (limits : Limits) {R : Type 0} (reader : ReaderCall R) where
   -- all bytes up to the source's end
   up_to_end : (bytes : List ℕ) → InARow reader.device.gives reader.old bytes reader.new
       → reader.device.ended reader.new → reader.device.failed reader.new ≡ false
-      → ReadsAllWithin limits reader bytes
+      → ReadsAll limits reader bytes
   up_to_end bytes given end sound = record { given = given; whole = inl end; sound = sound }
 
   module _ (IsOutput : List ℕ → Output → Type 0)
@@ -76,12 +75,12 @@ module _ (limits : Limits) {R : Type 0} (reader : ReaderCall R) where
       of_fault : (bytes : List ℕ) (f : ReadFault) → InARow reader.device.gives reader.old bytes reader.new
           → reader.device.ended reader.new → reader.device.failed reader.new ≡ false
           → fault_within limits bytes ≡ Some f
-          → OwesWithin limits reader IsOutput (refused f)
+          → Owes limits reader IsOutput (refused f)
       of_fault bytes f given end sound is =
           OfBytes bytes (refused f) (up_to_end bytes given end sound) (faulty bytes f is)
 
       -- a refusal of the reader is owed, whatever the command makes of bytes
-      owes_fault : (f : ReadFault) → Reads (Err f) → OwesWithin limits reader IsOutput (refused f)
+      owes_fault : (f : ReadFault) → Reads (Err f) → Owes limits reader IsOutput (refused f)
       owes_fault faults.Memory h =
           ForMemory h.bytes (up_to_end h.bytes h.given h.answer.end h.answer.after) h.answer.small
       owes_fault faults.Device h = ForReader h.bytes h.given h.answer.small h.answer.mark
@@ -104,15 +103,15 @@ module _ (limits : Limits) {R : Type 0} (reader : ReaderCall R) where
           of_fault h.bytes faults.Truncated h.given h.answer.end h.answer.after h.answer.answer
 
       pub tells_fault : {W : Type 0} (writer : WriterCall W) (status : ℕ) (f : ReadFault) → Reads (Err f)
-          → Delivers writer (refused f) status → Tells writer (OwesWithin limits reader IsOutput) status
+          → Delivers writer (refused f) status → Tells writer (Owes limits reader IsOutput) status
       tells_fault writer status f h told = record { output = refused f; owed = owes_fault f h; delivered = told }
 
   -- the bytes of a bundle that was read
   pub record WasRead (c : Contents) : Type 0 where
     pub bytes : List ℕ
-    pub all : ReadsAllWithin limits reader bytes
+    pub all : ReadsAll limits reader bytes
     pub small : length bytes ≤ limits.bytes
-    pub spelled : SpellsWithin limits bytes c.streams c.acts
+    pub spelled : Spells limits bytes c.streams c.acts
 
   pub was_read : (b : Bundle) → Reads (Ok b) → WasRead (contents b)
   was_read b h = record {
@@ -125,20 +124,20 @@ module _ (limits : Limits) {R : Type 0} (reader : ReaderCall R) where
   -- what a command makes of a bundle's acts, it owes
   module _ (IsOutput : List ℕ → Output → Type 0) (OfActs : List Stream → List Act → Output → Type 0) (c : Contents)
       (h : WasRead c) where
-    pub owes_bundle : ((acts : List Act) (out : Output) → SpellsWithin limits h.bytes c.streams (Some acts)
-        → OfActs c.streams acts out → OwesWithin limits reader IsOutput out)
-        → (SpellsWithin limits h.bytes c.streams None → IsOutput h.bytes no_acts)
-        → (out : Output) → OfBundle OfActs c out → OwesWithin limits reader IsOutput out
+    pub owes_bundle : ((acts : List Act) (out : Output) → Spells limits h.bytes c.streams (Some acts)
+        → OfActs c.streams acts out → Owes limits reader IsOutput out)
+        → (Spells limits h.bytes c.streams None → IsOutput h.bytes no_acts)
+        → (out : Output) → OfBundle OfActs c out → Owes limits reader IsOutput out
     owes_bundle of_acts lacking out (OfSome acts o e is) =
-        of_acts acts o (subst (SpellsWithin limits h.bytes c.streams) e h.spelled) is
+        of_acts acts o (subst (Spells limits h.bytes c.streams) e h.spelled) is
     owes_bundle of_acts lacking out (OfNone e) =
-        OfBytes h.bytes no_acts h.all (lacking (subst (SpellsWithin limits h.bytes c.streams) e h.spelled))
+        OfBytes h.bytes no_acts h.all (lacking (subst (Spells limits h.bytes c.streams) e h.spelled))
 
   -- ---- check
 
   module _ (c : Contents) (h : WasRead c) where
-    owes_judged : (acts : List Act) (out : Output) → SpellsWithin limits h.bytes c.streams (Some acts)
-        → ChecksTo c.streams acts out → OwesWithin limits reader (IsCheckedWithin limits) out
+    owes_judged : (acts : List Act) (out : Output) → Spells limits h.bytes c.streams (Some acts)
+        → ChecksTo c.streams acts out → Owes limits reader (IsChecked limits) out
     owes_judged acts out spelled (parts.Judges v is follows paired) =
         OfBytes h.bytes (judged v) h.all
         (Judged h.bytes v (record {
@@ -153,28 +152,71 @@ module _ (limits : Limits) {R : Type 0} (reader : ReaderCall R) where
     owes_judged acts out spelled parts.NoRoomToCheck = ForMemory h.bytes h.all h.small
 
     pub owes_check : (out : Output) → OfBundle ChecksTo c out
-        → OwesWithin limits reader (IsCheckedWithin limits) out
+        → Owes limits reader (IsChecked limits) out
     owes_check =
-        owes_bundle (IsCheckedWithin limits) ChecksTo c h owes_judged
+        owes_bundle (IsChecked limits) ChecksTo c h owes_judged
         (λ spelled. checked.Lacking h.bytes (record { streams = c.streams; spelled = spelled }))
 
     -- ---- audit
 
     pub owes_audit : (out : Output) → AuditsTo c.streams out
-        → OwesWithin limits reader (IsAuditedWithin limits) out
+        → Owes limits reader (IsAudited limits) out
     owes_audit out (parts.Finds found is on) =
         OfBytes h.bytes (report_output c.streams found) h.all
         (audits.Found h.bytes c.streams found
         (record { given = c.acts; spelled = h.spelled; finding = is; handed_on = on }))
     owes_audit out parts.NoRoomToAudit = ForMemory h.bytes h.all h.small
 
+    -- ---- chart
+
+    owes_drawn : (label : Label) (items : List Item) (out : Output) → refusal c.streams ≡ None
+        → IsOrder c.streams items → DrawsTo c.streams label items out
+        → Owes limits reader (IsCharted limits label) out
+    owes_drawn label items out ok is (parts.Draws some) =
+        OfBytes h.bytes (drawn c.streams items label) h.all
+        (charts.Drawn h.bytes c.streams items
+        (record { given = c.acts; spelled = h.spelled; accepted = ok; order = is }) some)
+    owes_drawn label items out ok is (parts.LacksLabel none) =
+        OfBytes h.bytes (no_label label) h.all
+        (charts.Unlabelled h.bytes c.streams items
+        (record { given = c.acts; spelled = h.spelled; accepted = ok; order = is }) none)
+    owes_drawn label items out ok is parts.NoRoomToDraw = ForMemory h.bytes h.all h.small
+
+    pub owes_chart : (label : Label) (out : Output) → ChartsTo c.streams label out
+        → Owes limits reader (IsCharted limits label) out
+    owes_chart label out (parts.OfOrder items o ok is draws) = owes_drawn label items o ok is draws
+    owes_chart label out (parts.OfReason f found is by) =
+        OfBytes h.bytes (report_output c.streams found) h.all
+        (charts.Unpaired h.bytes c.streams found
+        (record { given = c.acts; spelled = h.spelled; fault = f; refused = is; found_by = by }))
+    owes_chart label out parts.NoRoomToOrder = ForMemory h.bytes h.all h.small
+
+    -- ---- replay
+
+    owes_run : (acts : List Act) (out : Output) → Spells limits h.bytes c.streams (Some acts)
+        → ReplaysTo c.streams acts out
+        → Owes limits reader (IsReplayed limits) out
+    owes_run acts out spelled (parts.Runs os is) =
+        OfBytes h.bytes (replays.replayed (pids_of c.streams) acts os) h.all
+        (replays.Ran h.bytes (pids_of c.streams) acts os
+        (record { streams = c.streams; spelled = spelled; listed = refl; runs = is }))
+    owes_run acts out spelled (parts.Sticks n is) =
+        OfBytes h.bytes (replays.stuck n) h.all
+        (replays.Stuck h.bytes n (record { streams = c.streams; acts = acts; spelled = spelled; sticks = is }))
+    owes_run acts out spelled parts.NoRoomToReplay = ForMemory h.bytes h.all h.small
+
+    pub owes_replay : (out : Output) → OfBundle ReplaysTo c out → Owes limits reader (IsReplayed limits) out
+    owes_replay =
+        owes_bundle (IsReplayed limits) ReplaysTo c h owes_run
+        (λ spelled. replays.Lacking h.bytes (record { streams = c.streams; spelled = spelled }))
+
 -- ---- what a status says
 
 module _ {limits : Limits} {R W : Type 0} {reader : ReaderCall R} {writer : WriterCall W}
     {IsOutput Means : List ℕ → Output → Type 0} (n : ℕ) (other : n ≢ 4)
     (meant : (bytes : List ℕ) (out : Output) → IsOutput bytes out → out.status ≡ n → Means bytes out) where
-  says_owed : (out : Output) (status : ℕ) → OwesWithin limits reader IsOutput out → Delivers writer out status
-      → status ≡ n → SaysWithin limits reader writer Means
+  says_owed : (out : Output) (status : ℕ) → Owes limits reader IsOutput out → Delivers writer out status
+      → status ≡ n → Says limits reader writer Means
   says_owed out status (OfBytes bytes o all is) (Whole w) e =
       record { bytes = bytes; output = o; reads = all; writes = w; means = meant bytes o is e }
   says_owed out status (OfBytes bytes o all is) (Part w) e = absurd (other (sym e))
@@ -184,51 +226,6 @@ module _ {limits : Limits} {R W : Type 0} {reader : ReaderCall R} {writer : Writ
   says_owed out status (ForReader bytes given small mark) (Part w) e = absurd (other (sym e))
 
   -- a status other than that of a failure: an output with this status was written whole
-  pub says : {status : ℕ} → Tells writer (OwesWithin limits reader IsOutput) status → status ≡ n
-      → SaysWithin limits reader writer Means
+  pub says : {status : ℕ} → Tells writer (Owes limits reader IsOutput) status → status ≡ n
+      → Says limits reader writer Means
   says told e = says_owed told.output _ told.owed told.delivered e
-
--- ---- the commands within the reader's limits
-
-module _ {R : Type 0} (reader : ReaderCall R) (c : Contents) (h : WasRead standard reader c) where
-  -- ---- chart
-
-  owes_drawn : (label : Label) (items : List Item) (out : Output) → refusal c.streams ≡ None
-      → IsOrder c.streams items → DrawsTo c.streams label items out
-      → Owes reader (IsCharted label) out
-  owes_drawn label items out ok is (parts.Draws some) =
-      OfBytes h.bytes (drawn c.streams items label) h.all
-      (charts.Drawn h.bytes c.streams items
-      (record { given = c.acts; spelled = h.spelled; accepted = ok; order = is }) some)
-  owes_drawn label items out ok is (parts.LacksLabel none) =
-      OfBytes h.bytes (no_label label) h.all
-      (charts.Unlabelled h.bytes c.streams items
-      (record { given = c.acts; spelled = h.spelled; accepted = ok; order = is }) none)
-  owes_drawn label items out ok is parts.NoRoomToDraw = ForMemory h.bytes h.all h.small
-
-  pub owes_chart : (label : Label) (out : Output) → ChartsTo c.streams label out
-      → Owes reader (IsCharted label) out
-  owes_chart label out (parts.OfOrder items o ok is draws) = owes_drawn label items o ok is draws
-  owes_chart label out (parts.OfReason f found is by) =
-      OfBytes h.bytes (report_output c.streams found) h.all
-      (charts.Unpaired h.bytes c.streams found
-      (record { given = c.acts; spelled = h.spelled; fault = f; refused = is; found_by = by }))
-  owes_chart label out parts.NoRoomToOrder = ForMemory h.bytes h.all h.small
-
-  -- ---- replay
-
-  owes_run : (acts : List Act) (out : Output) → Spells h.bytes c.streams (Some acts) → ReplaysTo c.streams acts out
-      → Owes reader IsReplayed out
-  owes_run acts out spelled (parts.Runs os is) =
-      OfBytes h.bytes (replays.replayed (pids_of c.streams) acts os) h.all
-      (replays.Ran h.bytes (pids_of c.streams) acts os
-      (record { streams = c.streams; spelled = spelled; listed = refl; runs = is }))
-  owes_run acts out spelled (parts.Sticks n is) =
-      OfBytes h.bytes (replays.stuck n) h.all
-      (replays.Stuck h.bytes n (record { streams = c.streams; acts = acts; spelled = spelled; sticks = is }))
-  owes_run acts out spelled parts.NoRoomToReplay = ForMemory h.bytes h.all h.small
-
-  pub owes_replay : (out : Output) → OfBundle ReplaysTo c out → Owes reader IsReplayed out
-  owes_replay =
-      owes_bundle standard reader IsReplayed ReplaysTo c h owes_run
-      (λ spelled. replays.Lacking h.bytes (record { streams = c.streams; spelled = spelled }))

@@ -21,13 +21,13 @@ use Rattle.st_runtime.specs.declared.fault.DriveFault.TheVariants as drive
 use Rattle.st_runtime.specs.declared.join.record.Record.{Record}
 use Rattle.st_runtime.specs.Driven.{IsDriveFault, acts_by, acts_in, stamps_in}
 use Rattle.st_runtime.specs.System.{knows, is_stamping}
-use Rattle.st_text.specs.Limits.{standard}
+use Rattle.st_text.specs.declared.limits.Limits.{Limits}
 use Rattle.st_text.specs.Text.{Contents, is_listed}
 use Rattle.st_commands.specs.Output.{Output}
 use Rattle.st_commands.specs.Checked.{top, Spells}
 use Rattle.st_commands.specs.Command.{ReaderCall, Owes, OfBytes, ForMemory}
 use Rattle.st_commands.specs.Parts.{DrivesTo, Records, Refuses, NoRoomToDrive, OfBundle, drive_refused}
-use Rattle.st_commands.specs.Meaning.{MeansDriven}
+use Rattle.st_commands.specs.Meaning.{MeansDriven, MeansStray}
 use Rattle.st_commands.specs.Laws.{DrivenMeans, RecordedIsYes}
 use Rattle.st_commands.specs.Recorded.{ranks, scripts_of, HasRecord, IsRecorded, record_output}
 use Rattle.st_commands.specs.Recorded as records
@@ -58,14 +58,19 @@ stamps_below (s ∷ ss) =
 product : (m n a b : ℕ) → m ≤ a → n ≤ b → m * n ≤ a * b
 product m n a b h k = grind arith
 
-few_acts : (bytes : List ℕ) (streams : List Stream) (acts : List Act) → Spells bytes streams (Some acts)
-    → acts_in (scripts_of (pids_of streams) acts) ≤ 4096000000
-few_acts bytes streams acts s =
-    let processes = s.within.processes in
-    let given = s.within.acts in
+-- a reader's limits are numbers of 32 bits, so what it reads has fewer acts than clocks and ranks have counts
+pub record AreSmall (limits : Limits) : Type 0 where
+  pub processes : limits.processes ≤ 4294967295
+  pub acts : limits.acts ≤ 4294967295
+
+few_acts : (limits : Limits) (bytes : List ℕ) (streams : List Stream) (acts : List Act) → AreSmall limits
+    → Spells limits bytes streams (Some acts) → acts_in (scripts_of (pids_of streams) acts) < top
+few_acts limits bytes streams acts small s =
     let below = acts_below (pids_of streams) acts in
-    let pids : length (pids_of streams) ≤ 1024 = omega (arith, length-map streams (λ (x : Stream). x.pid)) in
-    let most = product (length (pids_of streams)) (length acts) 1024 4000000 pids given in
+    let pids : length (pids_of streams) ≤ 4294967295 =
+    omega (arith, small.processes, s.within.processes, length-map streams (λ (x : Stream). x.pid)) in
+    let given : length acts ≤ 4294967295 = omega (arith, small.acts, s.within.acts) in
+    let most = product (length (pids_of streams)) (length acts) 4294967295 4294967295 pids given in
     omega arith
 
 -- ---- an act that was refused
@@ -96,23 +101,23 @@ known_act ps xs p n a listed at =
     (All-filter (λ x. pid_eq (actor x) p) (λ x. is_listed ps x ≡ true) xs
     (AllPass-from_list_all (is_listed ps) xs listed))
 
-module _ (bytes : List ℕ) (streams : List Stream) (acts : List Act) (s : Spells bytes streams (Some acts)) (p : Pid)
-    (n : ℕ) where
+module _ (limits : Limits) (small : AreSmall limits) (bytes : List ℕ) (streams : List Stream) (acts : List Act)
+    (s : Spells limits bytes streams (Some acts)) (p : Pid) (n : ℕ) where
   abbrev scripts : List (List Act)
   scripts = scripts_of (pids_of streams) acts
 
   stray : (f : ActFault) → IsDriveFault top ranks (pids_of streams) scripts (drive.Act p n f)
-      → records.HasStray bytes p n
+      → records.HasStray limits bytes p n
   stray act.Stray h = record { streams = streams; acts = acts; spelled = s; refused = h }
   stray act.Memory h = absurd h.1.possible
   stray act.ClockFull h =
       let most : top < stamps_in scripts = h.1.possible in
       let stamps = stamps_below scripts in
-      let few = few_acts bytes streams acts s in
+      let few = few_acts limits bytes streams acts small s in
       absurd (omega arith)
   stray act.RankFull h =
       let most : ranks < acts_in scripts = h.1.possible in
-      let few = few_acts bytes streams acts s in
+      let few = few_acts limits bytes streams acts small s in
       absurd (omega arith)
   stray act.NotYours h =
       let w = h.1 in
@@ -137,8 +142,9 @@ same_scripts f g (p ∷ ps) e =
     let rest : map f ps ≡ map g ps = cc in
     All-cons (λ q. f q ≡ g q) p ps here (same_scripts f g ps rest)
 
-recorded_means : (bytes : List ℕ) (r : Record) → HasRecord bytes r → MeansDriven bytes (record_output r)
-recorded_means bytes r h =
+recorded_means : (limits : Limits) (bytes : List ℕ) (r : Record) → HasRecord limits bytes r
+    → MeansDriven limits bytes (record_output r)
+recorded_means limits bytes r h =
     let d = h.driven in
     record {
       listed = h.streams;
@@ -156,27 +162,49 @@ recorded_means bytes r h =
     }
 
 pub driven_means : DrivenMeans
-driven_means bytes out (records.Recorded b r h) e = recorded_means b r h
-driven_means bytes out (records.Strayed b p n h) e = absurd (omega (arith, e))
-driven_means bytes out (records.Unstarted b h) e = absurd (omega (arith, e))
-driven_means bytes out (records.Unjoined b h) e = absurd (omega (arith, e))
-driven_means bytes out (records.Lacking b n) e = absurd (omega (arith, e))
-driven_means bytes out (records.Faulty b f is) e = let high = fault_status_high f in absurd (omega arith)
+driven_means limits bytes out (records.Recorded b r h) e = recorded_means limits b r h
+driven_means limits bytes out (records.Strayed b p n h) e = absurd (omega (arith, e))
+driven_means limits bytes out (records.Unstarted b h) e = absurd (omega (arith, e))
+driven_means limits bytes out (records.Unjoined b h) e = absurd (omega (arith, e))
+driven_means limits bytes out (records.Lacking b n) e = absurd (omega (arith, e))
+driven_means limits bytes out (records.Faulty b f is) e = let high = fault_status_high f in absurd (omega arith)
+
+stray_of : (limits : Limits) (bytes : List ℕ) (p : Pid) (n : ℕ) → records.HasStray limits bytes p n
+    → MeansStray limits bytes (records.act_fault p n)
+stray_of limits bytes p n h = record {
+  listed = h.streams;
+  given = h.acts;
+  pid = p;
+  number = n;
+  spelled = h.spelled;
+  refused = h.refused;
+  text = refl;
+}
+
+pub stray_means : (limits : Limits) (bytes : List ℕ) (out : Output) → IsRecorded limits bytes out → out.status ≡ 1
+    → MeansStray limits bytes out
+stray_means limits bytes out (records.Recorded b r h) e = absurd (omega (arith, e))
+stray_means limits bytes out (records.Strayed b p n h) e = stray_of limits b p n h
+stray_means limits bytes out (records.Unstarted b h) e = absurd (omega (arith, e))
+stray_means limits bytes out (records.Unjoined b h) e = absurd (omega (arith, e))
+stray_means limits bytes out (records.Lacking b n) e = absurd (omega (arith, e))
+stray_means limits bytes out (records.Faulty b f is) e = let high = fault_status_high f in absurd (omega arith)
 
 pub recorded_is_yes : RecordedIsYes
-recorded_is_yes bytes r h spelled out is =
-    shown_is_yes (record_output r).text r.streams r.acts out spelled h.driven.shows is
+recorded_is_yes limits others bytes r h spelled out is =
+    shown_is_yes others (record_output r).text r.streams r.acts out spelled h.driven.shows is
 
 -- ---- what is owed
 
-module _ {R : Type 0} (reader : ReaderCall R) (c : Contents) (h : WasRead standard reader c) where
-  owes_refused : (acts : List Act) → Spells h.bytes c.streams (Some acts) → (f : DriveFault)
+module _ (limits : Limits) (small : AreSmall limits) {R : Type 0} (reader : ReaderCall R) (c : Contents)
+    (h : WasRead limits reader c) where
+  owes_refused : (acts : List Act) → Spells limits h.bytes c.streams (Some acts) → (f : DriveFault)
       → IsDriveFault top ranks (pids_of c.streams) (scripts_of (pids_of c.streams) acts) f
-      → Owes reader IsRecorded (drive_refused f)
+      → Owes limits reader (IsRecorded limits) (drive_refused f)
   owes_refused acts s drive.Memory is = ForMemory h.bytes h.all h.small
   owes_refused acts s (drive.Act p n f) is =
       OfBytes h.bytes (records.act_fault p n) h.all
-      (records.Strayed h.bytes p n (stray h.bytes c.streams acts s p n f is))
+      (records.Strayed h.bytes p n (stray limits small h.bytes c.streams acts s p n f is))
   owes_refused acts s (drive.Join f) is =
       OfBytes h.bytes records.join_fault h.all
       (records.Unjoined h.bytes (record { streams = c.streams; acts = acts; spelled = s }))
@@ -185,15 +213,15 @@ module _ {R : Type 0} (reader : ReaderCall R) (c : Contents) (h : WasRead standa
       (records.Unstarted h.bytes (record { streams = c.streams; acts = acts; spelled = s }))
   owes_refused acts s drive.NotRising falls = absurd (falls s.text.bundle.streams.draft.rising)
 
-  owes_driven : (acts : List Act) (out : Output) → Spells h.bytes c.streams (Some acts)
-      → DrivesTo c.streams acts out → Owes reader IsRecorded out
+  owes_driven : (acts : List Act) (out : Output) → Spells limits h.bytes c.streams (Some acts)
+      → DrivesTo c.streams acts out → Owes limits reader (IsRecorded limits) out
   owes_driven acts out s (Records r is) =
       OfBytes h.bytes (record_output r) h.all
       (records.Recorded h.bytes r (record { streams = c.streams; acts = acts; spelled = s; driven = is }))
   owes_driven acts out s (Refuses f is) = owes_refused acts s f is
   owes_driven acts out s NoRoomToDrive = ForMemory h.bytes h.all h.small
 
-  pub owes_drive : (out : Output) → OfBundle DrivesTo c out → Owes reader IsRecorded out
+  pub owes_drive : (out : Output) → OfBundle DrivesTo c out → Owes limits reader (IsRecorded limits) out
   owes_drive =
-      owes_bundle standard reader IsRecorded DrivesTo c h owes_driven
+      owes_bundle limits reader (IsRecorded limits) DrivesTo c h owes_driven
       (λ s. records.Lacking h.bytes (record { streams = c.streams; spelled = s }))

@@ -5,12 +5,11 @@ use Rattle.st_core.specs.Verdict.{Yes}
 use Rattle.st_audit.specs.declared.finding.Finding.{Finding}
 use Rattle.st_audit.specs.declared.finding.Finding.TheVariants as finding
 use Rattle.st_text.specs.declared.limits.Limits.{Limits}
-use Rattle.st_text.specs.Limits.{standard}
 use Rattle.st_commands.specs.Output.{Output, judged}
 use Rattle.st_commands.specs.Checked.{Judged}
-use Rattle.st_commands.specs.Audited.{HasFindingWithin, IsAuditedWithin, Found, Faulty, report_output}
+use Rattle.st_commands.specs.Audited.{HasFinding, IsAudited, Found, Faulty, report_output}
 use Rattle.st_commands.specs.Audited.{finding_status}
-use Rattle.st_commands.specs.Meaning.{MeansFitsWithin, MeansUnfitWithin}
+use Rattle.st_commands.specs.Meaning.{MeansFits, MeansUnfit}
 use Rattle.st_commands.specs.Laws.{FitsMeans, UnfitMeans, CertificateIsYes, certificate}
 use Rattle.st_commands.proofs.Meanings.{fault_status_high}
 use Rattle.st_commands.proofs.Outputs.{one_check}
@@ -19,8 +18,8 @@ use Rattle.st_commands.proofs.OwedOutputs.{judgement}
 -- ---- what is found
 
 found_fits : (limits : Limits) (bytes : List ℕ) (streams : List Stream) (found : Finding)
-    → HasFindingWithin limits bytes streams found
-    → finding_status found ≡ 0 → MeansFitsWithin limits bytes (report_output streams found)
+    → HasFinding limits bytes streams found
+    → finding_status found ≡ 0 → MeansFits limits bytes (report_output streams found)
 found_fits limits bytes streams (finding.Unfit p i r) h e = absurd (omega (arith, e))
 found_fits limits bytes streams (finding.Fits acts pairs) h e =
     let yes = h.finding in
@@ -36,8 +35,8 @@ found_fits limits bytes streams (finding.Fits acts pairs) h e =
     }
 
 found_unfit : (limits : Limits) (bytes : List ℕ) (streams : List Stream) (found : Finding)
-    → HasFindingWithin limits bytes streams found
-    → finding_status found ≡ 1 → MeansUnfitWithin limits bytes (report_output streams found)
+    → HasFinding limits bytes streams found
+    → finding_status found ≡ 1 → MeansUnfit limits bytes (report_output streams found)
 found_unfit limits bytes streams (finding.Fits acts pairs) h e = absurd (omega (arith, e))
 found_unfit limits bytes streams (finding.Unfit p i r) h e =
     record {
@@ -52,49 +51,18 @@ found_unfit limits bytes streams (finding.Unfit p i r) h e =
       text = refl;
     }
 
-pub fits_means_within : (limits : Limits) (bytes : List ℕ) (out : Output) → IsAuditedWithin limits bytes out
-    → out.status ≡ 0 → MeansFitsWithin limits bytes out
-fits_means_within limits bytes out (Found b streams found h) e = found_fits limits b streams found h e
-fits_means_within limits bytes out (Faulty b f is) e = let high = fault_status_high f in absurd (omega arith)
-
 pub fits_means : FitsMeans
-fits_means bytes out is e =
-    let m = fits_means_within standard bytes out is e in
-    record {
-      streams = m.streams;
-      given = m.given;
-      acts = m.acts;
-      outcomes = m.outcomes;
-      spelled = m.spelled;
-      runs = m.runs;
-      reports = m.reports;
-      text = m.text;
-    }
-
-pub unfit_means_within : (limits : Limits) (bytes : List ℕ) (out : Output) → IsAuditedWithin limits bytes out
-    → out.status ≡ 1 → MeansUnfitWithin limits bytes out
-unfit_means_within limits bytes out (Found b streams found h) e = found_unfit limits b streams found h e
-unfit_means_within limits bytes out (Faulty b f is) e = let high = fault_status_high f in absurd (omega arith)
+fits_means limits bytes out (Found b streams found h) e = found_fits limits b streams found h e
+fits_means limits bytes out (Faulty b f is) e = let high = fault_status_high f in absurd (omega arith)
 
 pub unfit_means : UnfitMeans
-unfit_means bytes out is e =
-    let m = unfit_means_within standard bytes out is e in
-    record {
-      streams = m.streams;
-      given = m.given;
-      pid = m.pid;
-      index = m.index;
-      reason = m.reason;
-      spelled = m.spelled;
-      there = m.there;
-      holds = m.holds;
-      text = m.text;
-    }
+unfit_means limits bytes out (Found b streams found h) e = found_unfit limits b streams found h e
+unfit_means limits bytes out (Faulty b f is) e = let high = fault_status_high f in absurd (omega arith)
 
 -- ---- the check of a certificate
 
 pub certificate_is_yes : CertificateIsYes
-certificate_is_yes streams acts pairs accepted spelled out is =
+certificate_is_yes limits streams acts pairs accepted spelled out is =
     let bytes = certificate streams acts in
-    one_check bytes out (judged (Yes pairs)) is
-    (Judged bytes (Yes pairs) (judgement bytes streams acts (Yes pairs) spelled accepted))
+    one_check limits bytes out (judged (Yes pairs)) is
+    (Judged bytes (Yes pairs) (judgement limits bytes streams acts (Yes pairs) spelled accepted))

@@ -2,3 +2,4 @@
 -- source says of its bytes is what is owed of them, whatever the command makes of bytes.
 pub use Rattle.st_commands.proofs.Deliveries.{delivers, says, tells_as, tells_fault, WasRead, was_read}
 pub use Rattle.st_commands.proofs.Meanings.{fault_status_high}
+pub use Rattle.st_commands.proofs.ChartMeanings.{unfit_status, unpaired_means}

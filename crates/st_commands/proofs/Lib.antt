@@ -10,6 +10,7 @@ pub mod OwedOutputs
 pub mod Outputs
 pub mod ChartOutputs
 pub mod Meanings
+pub mod ChartMeanings
 pub mod Findings
 pub mod Scripts
 pub mod Drives

@@ -1,21 +1,25 @@
 -- A status belongs to one kind of output: 0 to a yes, 1 to a no. So an output with it has that verdict, which tells
 -- the rest.
-use Rattle.std.proofs.Common.{◌≡◌, ◌≢◌, ℕ, ◌+◌, ◌≤◌, List, take, refl, ap, subst, arith}
-use Rattle.std.specs.Prelude.{Option, Some, None, IsSome}
+use Rattle.std.proofs.Common.{◌≡◌, ◌≢◌, ℕ, ◌+◌, ◌≤◌, List, [], ◌∷◌, take, refl, ap, subst, ◌∙◌, arith}
+use Rattle.std.specs.Prelude.{Option, Some, None, IsSome, All}
+use Rattle.std.proofs.lemmas.List.Elements.{All-nil, All-cons}
+use Rattle.st_core.specs.declared.types.Pid.{Pid}
 use Rattle.st_core.specs.declared.types.Act.{Act}
 use Rattle.st_core.specs.State.{zero_state}
 use Rattle.st_core.specs.Step.{Outcome}
-use Rattle.st_core.specs.Run.{Stream, Shows, pids_of, run}
+use Rattle.st_core.specs.Run.{Stream, Shows, pids_of, run, stream}
 use Rattle.st_core.specs.Pairs.{Follows, AllPaired, pairs}
 use Rattle.st_core.specs.Verdict.{Verdict, Stuck, Differs, Left, Yes, IsVerdict}
 use Rattle.st_core.proofs.ForCallers.{one_verdict, run_from-take}
+use Rattle.st_check.specs.Answers.{reported_streams}
 use Rattle.st_text.specs.declared.fault.ReadFault.{ReadFault}
 use Rattle.st_text.specs.declared.fault.ReadFault.TheVariants as faults
 use Rattle.st_text.specs.declared.limits.Limits.{Limits}
-use Rattle.st_text.specs.Limits.{standard}
 use Rattle.st_commands.specs.Output.{Output, judged, refused}
-use Rattle.st_commands.specs.Checked.{top, IsJudgedWithin, IsCheckedWithin, Judged, Lacking, Faulty}
-use Rattle.st_commands.specs.Meaning.{MeansYesWithin, MeansNoWithin}
+use Rattle.st_commands.specs.Checked.{top, IsJudged, IsChecked, Judged, Lacking, Faulty}
+use Rattle.st_commands.specs.Replayed.{HasRun, IsReplayed, replayed}
+use Rattle.st_commands.specs.Replayed as replays
+use Rattle.st_commands.specs.Meaning.{MeansYes, MeansNo, MeansReplayed}
 use Rattle.st_commands.specs.Laws.{YesMeans, NoMeans, ShownIsYes, NeverStuck, NeverStuckInReplay}
 use Rattle.st_commands.proofs.Outputs.{one_check}
 use Rattle.st_commands.proofs.OwedOutputs.{judgement, spelled_run}
@@ -35,8 +39,8 @@ fault_status_high faults.Truncated = omega arith
 
 -- ---- a yes
 
-yes_verdict : (limits : Limits) (bytes : List ℕ) (v : Verdict) → IsJudgedWithin limits bytes v → (judged v).status ≡ 0
-    → MeansYesWithin limits bytes (judged v)
+yes_verdict : (limits : Limits) (bytes : List ℕ) (v : Verdict) → IsJudged limits bytes v → (judged v).status ≡ 0
+    → MeansYes limits bytes (judged v)
 yes_verdict limits bytes (Stuck n) j e = absurd (omega arith)
 yes_verdict limits bytes (Differs n) j e = absurd (omega arith)
 yes_verdict limits bytes (Left p) j e = absurd (omega arith)
@@ -56,26 +60,10 @@ yes_verdict limits bytes (Yes ps) j e =
       text = ap (λ x. (judged (Yes x)).text) v.3;
     }
 
-pub yes_means_within : (limits : Limits) (bytes : List ℕ) (out : Output) → IsCheckedWithin limits bytes out
-    → out.status ≡ 0 → MeansYesWithin limits bytes out
-yes_means_within limits bytes out (Judged b v j) e = yes_verdict limits b v j e
-yes_means_within limits bytes out (Lacking b n) e = absurd (omega arith)
-yes_means_within limits bytes out (Faulty b f is) e = let high = fault_status_high f in absurd (omega arith)
-
 pub yes_means : YesMeans
-yes_means bytes out is e =
-    let m = yes_means_within standard bytes out is e in
-    record {
-      streams = m.streams;
-      acts = m.acts;
-      outcomes = m.outcomes;
-      spelled = m.spelled;
-      runs = m.runs;
-      reports = m.reports;
-      paired = m.paired;
-      follows = m.follows;
-      text = m.text;
-    }
+yes_means limits bytes out (Judged b v j) e = yes_verdict limits b v j e
+yes_means limits bytes out (Lacking b n) e = absurd (omega arith)
+yes_means limits bytes out (Faulty b f is) e = let high = fault_status_high f in absurd (omega arith)
 
 -- ---- a no
 
@@ -84,8 +72,8 @@ shown_yes : (streams : List Stream) (acts : List Act) (h : Shows top streams act
     → IsVerdict top streams acts (Yes (pairs acts h.0))
 shown_yes streams acts h = (h.0, h.1, h.2, refl)
 
-no_verdict : (limits : Limits) (bytes : List ℕ) (v : Verdict) → IsJudgedWithin limits bytes v
-    → ((ps : List (ℕ × ℕ)) → v ≢ Yes ps) → MeansNoWithin limits bytes (judged v)
+no_verdict : (limits : Limits) (bytes : List ℕ) (v : Verdict) → IsJudged limits bytes v
+    → ((ps : List (ℕ × ℕ)) → v ≢ Yes ps) → MeansNo limits bytes (judged v)
 no_verdict limits bytes v j never = record {
   streams = j.streams;
   acts = j.acts;
@@ -97,40 +85,26 @@ no_verdict limits bytes v j never = record {
   place = j.verdict;
 }
 
-judged_no : (limits : Limits) (bytes : List ℕ) (v : Verdict) → IsJudgedWithin limits bytes v → (judged v).status ≡ 1
-    → MeansNoWithin limits bytes (judged v)
+judged_no : (limits : Limits) (bytes : List ℕ) (v : Verdict) → IsJudged limits bytes v → (judged v).status ≡ 1
+    → MeansNo limits bytes (judged v)
 judged_no limits bytes (Stuck n) j e = no_verdict limits bytes (Stuck n) j (λ ps same. cc)
 judged_no limits bytes (Differs n) j e = no_verdict limits bytes (Differs n) j (λ ps same. cc)
 judged_no limits bytes (Left p) j e = no_verdict limits bytes (Left p) j (λ ps same. cc)
 judged_no limits bytes (Yes ps) j e = absurd (omega arith)
 
-pub no_means_within : (limits : Limits) (bytes : List ℕ) (out : Output) → IsCheckedWithin limits bytes out
-    → out.status ≡ 1 → MeansNoWithin limits bytes out
-no_means_within limits bytes out (Judged b v j) e = judged_no limits b v j e
-no_means_within limits bytes out (Lacking b n) e = absurd (omega arith)
-no_means_within limits bytes out (Faulty b f is) e = let high = fault_status_high f in absurd (omega arith)
-
 pub no_means : NoMeans
-no_means bytes out is e =
-    let m = no_means_within standard bytes out is e in
-    record {
-      streams = m.streams;
-      acts = m.acts;
-      verdict = m.verdict;
-      spelled = m.spelled;
-      refuted = m.refuted;
-      text = m.text;
-      place = m.place;
-    }
+no_means limits bytes out (Judged b v j) e = judged_no limits b v j e
+no_means limits bytes out (Lacking b n) e = absurd (omega arith)
+no_means limits bytes out (Faulty b f is) e = let high = fault_status_high f in absurd (omega arith)
 
 -- ---- acts that show the streams
 
 pub shown_is_yes : ShownIsYes
-shown_is_yes bytes streams acts out spelled shown is =
+shown_is_yes limits bytes streams acts out spelled shown is =
     let v = shown_yes streams acts shown in
     let yes = Yes (pairs acts shown.0) in
-    ap (λ (o : Output). o.status) (one_check bytes out (judged yes) is
-    (Judged bytes yes (judgement bytes streams acts yes spelled v)))
+    ap (λ (o : Output). o.status) (one_check limits bytes out (judged yes) is
+    (Judged bytes yes (judgement limits bytes streams acts yes spelled v)))
 
 -- ---- no act is stuck
 
@@ -143,8 +117,55 @@ has_step streams acts n some none = by (run top (pids_of streams) acts) refl som
     by (Some os) e is = let before = run_from-take top n (zero_state (pids_of streams)) acts os e in absurd (cc)
 
 pub never_stuck : NeverStuck
-never_stuck bytes n j = has_step j.streams j.acts (n + 1) (spelled_run bytes j.streams j.acts j.spelled) j.verdict.2
+never_stuck limits few bytes n j =
+    has_step j.streams j.acts (n + 1) (spelled_run limits few bytes j.streams j.acts j.spelled) j.verdict.2
 
 pub never_stuck_in_replay : NeverStuckInReplay
-never_stuck_in_replay bytes n h =
-    has_step h.streams h.acts (n + 1) (spelled_run bytes h.streams h.acts h.spelled) h.sticks.none
+never_stuck_in_replay limits few bytes n h =
+    has_step h.streams h.acts (n + 1) (spelled_run limits few bytes h.streams h.acts h.spelled) h.sticks.none
+
+-- ---- a run
+
+-- what acts report over pids is a stream for each of these
+reported_pids : (ps : List Pid) (acts : List Act) (os : List Outcome) → pids_of (reported_streams ps acts os) ≡ ps
+reported_pids [] acts os = refl
+reported_pids (p ∷ ps) acts os = ap (λ (rest : List Pid). p ∷ rest) (reported_pids ps acts os)
+
+all_reported : (ps : List Pid) (acts : List Act) (os : List Outcome)
+    → All (λ (x : Stream). stream acts os x.pid ≡ x.events) (reported_streams ps acts os)
+all_reported [] acts os = All-nil (λ (x : Stream). stream acts os x.pid ≡ x.events)
+all_reported (p ∷ ps) acts os =
+    All-cons (λ (x : Stream). stream acts os x.pid ≡ x.events) (record { pid = p; events = stream acts os p })
+    (reported_streams ps acts os) refl (all_reported ps acts os)
+
+run_means : (limits : Limits) (bytes : List ℕ) (pids : List Pid) (acts : List Act) (os : List Outcome)
+    → HasRun limits bytes pids acts os → MeansReplayed limits bytes (replayed pids acts os)
+run_means limits bytes pids acts os h =
+    let listed = reported_pids pids acts os in
+    record {
+      listed = h.streams;
+      streams = reported_streams pids acts os;
+      acts = acts;
+      outcomes = os;
+      spelled = h.spelled;
+      runs = ap (λ (ps : List Pid). run top ps acts) listed ∙ h.runs;
+      pids = listed ∙ h.listed;
+      reports = all_reported pids acts os;
+      text = refl;
+    }
+
+pub replayed_means : (limits : Limits) (bytes : List ℕ) (out : Output) → IsReplayed limits bytes out → out.status ≡ 0
+    → MeansReplayed limits bytes out
+replayed_means limits bytes out (replays.Ran b pids acts os h) e = run_means limits b pids acts os h
+replayed_means limits bytes out (replays.Stuck b n h) e = absurd (omega (arith, e))
+replayed_means limits bytes out (replays.Lacking b n) e = absurd (omega (arith, e))
+replayed_means limits bytes out (replays.Faulty b f is) e = let high = fault_status_high f in absurd (omega arith)
+
+-- and no other status 1
+pub never_refused : (limits : Limits) → limits.acts ≤ top → (bytes : List ℕ) (out : Output)
+    → IsReplayed limits bytes out → out.status ≡ 1 → ⊥
+never_refused limits few bytes out (replays.Ran b pids acts os h) e = absurd (omega (arith, e))
+never_refused limits few bytes out (replays.Stuck b n h) e = never_stuck_in_replay limits few b n h
+never_refused limits few bytes out (replays.Lacking b n) e = absurd (omega (arith, e))
+never_refused limits few bytes out (replays.Faulty b f is) e =
+    let high = fault_status_high f in absurd (omega arith)

@@ -21,6 +21,7 @@ use Rattle.st_core.specs.Step.{Outcome}
 use Rattle.st_core.specs.Run.{Stream, pids_of, run, stream}
 use Rattle.st_core.specs.Verdict.{Yes, IsVerdict}
 use Rattle.st_text.specs.Range.{FitsPid, FitsEvent, FitsToken}
+use Rattle.st_text.specs.Limits.{standard}
 use Rattle.st_text.specs.Text.{spelling}
 use Rattle.st_commands.specs.Checked.{top, Spells, IsChecked, Judged}
 use Rattle.st_commands.proofs.OwedOutputs.{judgement}
@@ -87,7 +88,7 @@ printed_fits =
       value = omega arith;
     }
 
-print_spelled : Spells print_bytes print_streams (Some print_acts)
+print_spelled : Spells standard print_bytes print_streams (Some print_acts)
 unfolding digits
 print_spelled = record {
   text = record {
@@ -127,9 +128,10 @@ print_verdict =
     let Reports = λ (x : Stream). stream print_acts print_outcomes x.pid ≡ x.events in
     (print_outcomes, refl, All-cons Reports print_stream [] refl (All-nil Reports), refl)
 
-print_is_yes : IsChecked print_bytes (record { text = codes "yes\n"; status = 0 })
+print_is_yes : IsChecked standard print_bytes (record { text = codes "yes\n"; status = 0 })
 print_is_yes =
-    Judged print_bytes (Yes []) (judgement print_bytes print_streams print_acts (Yes []) print_spelled print_verdict)
+    Judged print_bytes (Yes []) (judgement standard print_bytes print_streams print_acts (Yes []) print_spelled
+    print_verdict)
 
 -- ---- two receives whose sends nobody reported
 
@@ -213,7 +215,7 @@ printed_8_fits =
       value = omega arith;
     }
 
-hidden_spelled : Spells hidden_bytes hidden_streams (Some hidden_acts)
+hidden_spelled : Spells standard hidden_bytes hidden_streams (Some hidden_acts)
 unfolding digits
 hidden_spelled = record {
   text = record {
@@ -304,8 +306,8 @@ hidden_verdict =
       refl,
     )
 
-hidden_is_yes : IsChecked hidden_bytes (record { text = codes "yes\npair 5 4\npair 10 9\n"; status = 0 })
+hidden_is_yes : IsChecked standard hidden_bytes (record { text = codes "yes\npair 5 4\npair 10 9\n"; status = 0 })
 unfolding digits
 hidden_is_yes =
     Judged hidden_bytes (Yes hidden_pairs)
-    (judgement hidden_bytes hidden_streams hidden_acts (Yes hidden_pairs) hidden_spelled hidden_verdict)
+    (judgement standard hidden_bytes hidden_streams hidden_acts (Yes hidden_pairs) hidden_spelled hidden_verdict)

@@ -9,10 +9,9 @@ use Rattle.st_audit.specs.Findings.{IsFinding, HandsOn}
 use Rattle.st_chart.specs.Report.{report_text}
 use Rattle.st_text.specs.declared.fault.ReadFault.{ReadFault}
 use Rattle.st_text.specs.declared.limits.Limits.{Limits}
-use Rattle.st_text.specs.Limits.{standard}
 use Rattle.st_text.specs.Fault.{fault_within}
 use Rattle.st_commands.specs.Output.{Output, refused}
-use Rattle.st_commands.specs.Checked.{top, SpellsWithin}
+use Rattle.st_commands.specs.Checked.{top, Spells}
 
 abbrev pub finding_status : Finding → ℕ
 finding_status (finding.Fits acts pairs) = 0
@@ -26,21 +25,17 @@ report_output streams found =
 -- The bytes spell streams, of which this is found: acts that the checker accepts, or an event that
 -- is there and a reason that holds there. If pairing refuses the streams, its reason is what is
 -- found.
-pub record HasFindingWithin (limits : Limits) (bytes : List ℕ) (streams : List Stream)
+pub record HasFinding (limits : Limits) (bytes : List ℕ) (streams : List Stream)
     (found : Finding) : Type 0 where
   pub given : Option (List Act)
-  pub spelled : SpellsWithin limits bytes streams given
+  pub spelled : Spells limits bytes streams given
   pub finding : IsFinding top streams found
   pub handed_on : HandsOn streams found
 
 -- the output of the bytes
-pub data IsAuditedWithin (limits : Limits) : List ℕ → Output → Type 0 where
+pub data IsAudited (limits : Limits) : List ℕ → Output → Type 0 where
   Found : (bytes : List ℕ) (streams : List Stream) (found : Finding)
-      → HasFindingWithin limits bytes streams found
-      → IsAuditedWithin limits bytes (report_output streams found)
+      → HasFinding limits bytes streams found
+      → IsAudited limits bytes (report_output streams found)
   Faulty : (bytes : List ℕ) (f : ReadFault) → fault_within limits bytes ≡ Some f
-      → IsAuditedWithin limits bytes (refused f)
-
--- the same within the reader's limits
-abbrev pub IsAudited : List ℕ → Output → Type 0
-IsAudited bytes out = IsAuditedWithin standard bytes out
+      → IsAudited limits bytes (refused f)

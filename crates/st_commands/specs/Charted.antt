@@ -16,7 +16,8 @@ use Rattle.st_chart.specs.Chart.{chart_text}
 use Rattle.st_text.specs.declared.fault.ReadFault.{ReadFault}
 use Rattle.st_text.specs.Spelling as spelled
 use Rattle.st_text.specs.Spelling.{ended_line}
-use Rattle.st_text.specs.Fault.{fault}
+use Rattle.st_text.specs.declared.limits.Limits.{Limits}
+use Rattle.st_text.specs.Fault.{fault_within}
 use Rattle.st_commands.specs.Output.{Output, refused}
 use Rattle.st_commands.specs.Checked.{Spells}
 use Rattle.st_commands.specs.Audited.{report_output}
@@ -30,32 +31,34 @@ abbrev pub no_label : Label → Output
 no_label label = record { text = ended_line (codes "no label " ++ spelled.label label); status = 1 }
 
 -- the bytes spell streams that pairing accepts, of which this is the order
-pub record HasOrder (bytes : List ℕ) (streams : List Stream) (items : List Item) : Type 0 where
+pub record HasOrder (limits : Limits) (bytes : List ℕ) (streams : List Stream)
+    (items : List Item) : Type 0 where
   pub given : Option (List Act)
-  pub spelled : Spells bytes streams given
+  pub spelled : Spells limits bytes streams given
   pub accepted : refusal streams ≡ None
   pub order : IsOrder streams items
 
 -- the bytes spell streams that pairing refuses, and this is its reason as a finding
-pub record HasReason (bytes : List ℕ) (streams : List Stream) (found : Finding) : Type 0 where
+pub record HasReason (limits : Limits) (bytes : List ℕ) (streams : List Stream)
+    (found : Finding) : Type 0 where
   pub given : Option (List Act)
-  pub spelled : Spells bytes streams given
+  pub spelled : Spells limits bytes streams given
   pub fault : PairFault
   pub refused : refusal streams ≡ Some fault
   pub found_by : unfit_by fault ≡ Some found
 
 -- the output of the bytes
-pub data IsCharted (label : Label) : List ℕ → Output → Type 0 where
+pub data IsCharted (limits : Limits) (label : Label) : List ℕ → Output → Type 0 where
   Drawn : (bytes : List ℕ) (streams : List Stream) (items : List Item)
-      → HasOrder bytes streams items
+      → HasOrder limits bytes streams items
       → list_any (item_has_label streams label) items ≡ true
-      → IsCharted label bytes (drawn streams items label)
+      → IsCharted limits label bytes (drawn streams items label)
   Unlabelled : (bytes : List ℕ) (streams : List Stream) (items : List Item)
-      → HasOrder bytes streams items
+      → HasOrder limits bytes streams items
       → list_any (item_has_label streams label) items ≡ false
-      → IsCharted label bytes (no_label label)
+      → IsCharted limits label bytes (no_label label)
   Unpaired : (bytes : List ℕ) (streams : List Stream) (found : Finding)
-      → HasReason bytes streams found
-      → IsCharted label bytes (report_output streams found)
-  Faulty : (bytes : List ℕ) (f : ReadFault) → fault bytes ≡ Some f
-      → IsCharted label bytes (refused f)
+      → HasReason limits bytes streams found
+      → IsCharted limits label bytes (report_output streams found)
+  Faulty : (bytes : List ℕ) (f : ReadFault) → fault_within limits bytes ≡ Some f
+      → IsCharted limits label bytes (refused f)

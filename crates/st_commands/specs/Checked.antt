@@ -1,5 +1,5 @@
 -- What `check` makes of bytes: the verdict of the streams and acts that they spell, or why they
--- spell none.
+-- spell none. The limits are those of the reader.
 use Rattle.std.specs.Prelude.{◌≡◌, ℕ, List, Option, Some, None}
 use Rattle.st_core.specs.declared.types.Act.{Act}
 use Rattle.st_core.specs.Run.{Stream}
@@ -7,7 +7,6 @@ use Rattle.st_core.specs.Verdict.{Verdict, IsVerdict}
 use Rattle.st_check.specs.Answers.{FollowsAll, PairsAll}
 use Rattle.st_text.specs.declared.fault.ReadFault.{ReadFault}
 use Rattle.st_text.specs.declared.limits.Limits.{Limits}
-use Rattle.st_text.specs.Limits.{standard}
 use Rattle.st_text.specs.Text.{IsText, IsWithinLimits}
 use Rattle.st_text.specs.Fault.{fault_within}
 use Rattle.st_commands.specs.Output.{Output, judged, refused, no_acts}
@@ -16,47 +15,32 @@ use Rattle.st_commands.specs.Output.{Output, judged, refused, no_acts}
 abbrev pub top : ℕ
 top = 18446744073709551615
 
--- the bytes are the text of these streams, and of acts if there are any, within these limits
-pub record SpellsWithin (limits : Limits) (bytes : List ℕ) (streams : List Stream)
+-- the bytes are the text of these streams, and of acts if there are any, within the limits
+pub record Spells (limits : Limits) (bytes : List ℕ) (streams : List Stream)
     (acts : Option (List Act)) : Type 0
   where
     pub text : IsText bytes (record { streams = streams; acts = acts })
     pub within : IsWithinLimits limits (record { streams = streams; acts = acts })
 
--- the same within the reader's limits
-abbrev pub Spells : List ℕ → List Stream → Option (List Act) → Type 0
-Spells bytes streams acts = SpellsWithin standard bytes streams acts
-
 -- the bytes spell streams and acts, of which this is the verdict; on a yes each reported receive
 -- has a pair in which it follows its send
-pub record IsJudgedWithin (limits : Limits) (bytes : List ℕ) (v : Verdict) : Type 0 where
+pub record IsJudged (limits : Limits) (bytes : List ℕ) (v : Verdict) : Type 0 where
   pub streams : List Stream
   pub acts : List Act
-  pub spelled : SpellsWithin limits bytes streams (Some acts)
+  pub spelled : Spells limits bytes streams (Some acts)
   pub verdict : IsVerdict top streams acts v
   pub follows : FollowsAll top streams acts v
   pub paired : PairsAll top streams acts v
 
 -- the bytes spell streams without acts
-pub record LacksActsWithin (limits : Limits) (bytes : List ℕ) : Type 0 where
+pub record LacksActs (limits : Limits) (bytes : List ℕ) : Type 0 where
   pub streams : List Stream
-  pub spelled : SpellsWithin limits bytes streams None
+  pub spelled : Spells limits bytes streams None
 
 -- the output of the bytes
-pub data IsCheckedWithin (limits : Limits) : List ℕ → Output → Type 0 where
-  Judged : (bytes : List ℕ) (v : Verdict) → IsJudgedWithin limits bytes v
-      → IsCheckedWithin limits bytes (judged v)
-  Lacking : (bytes : List ℕ) → LacksActsWithin limits bytes → IsCheckedWithin limits bytes no_acts
+pub data IsChecked (limits : Limits) : List ℕ → Output → Type 0 where
+  Judged : (bytes : List ℕ) (v : Verdict) → IsJudged limits bytes v
+      → IsChecked limits bytes (judged v)
+  Lacking : (bytes : List ℕ) → LacksActs limits bytes → IsChecked limits bytes no_acts
   Faulty : (bytes : List ℕ) (f : ReadFault) → fault_within limits bytes ≡ Some f
-      → IsCheckedWithin limits bytes (refused f)
-
--- ---- the same within the reader's limits
-
-abbrev pub IsJudged : List ℕ → Verdict → Type 0
-IsJudged bytes v = IsJudgedWithin standard bytes v
-
-abbrev pub LacksActs : List ℕ → Type 0
-LacksActs bytes = LacksActsWithin standard bytes
-
-abbrev pub IsChecked : List ℕ → Output → Type 0
-IsChecked bytes out = IsCheckedWithin standard bytes out
+      → IsChecked limits bytes (refused f)

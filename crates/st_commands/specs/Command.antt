@@ -5,7 +5,6 @@ use Rattle.st_core.specs.declared.device.sink.ByteSink.{Ghosts as SinkOf}
 use Rattle.st_core.specs.declared.device.source.ByteSource.{Ghosts as SourceOf}
 use Rattle.st_core.specs.Device.{InARow}
 use Rattle.st_text.specs.declared.limits.Limits.{Limits}
-use Rattle.st_text.specs.Limits.{standard}
 use Rattle.st_text.specs.Writing.{Writes, WritesPart}
 use Rattle.clap.specs.Words.{Text}
 use Rattle.st_commands.specs.declared.words.Task.{Task}
@@ -40,10 +39,11 @@ WriterCall W = Call (SinkOf W) W
 
 -- ---- reading
 
+-- The limits are those of the reader: how many bytes, processes, events and acts a text may have.
 module _ (limits : Limits) {R : Type 0} (reader : ReaderCall R) where
   -- The reader gave these bytes, one piece after the other, without a failure; and then it had no
   -- more, or they are one more than may be read.
-  pub record ReadsAllWithin (bytes : List ℕ) : Type 0 where
+  pub record ReadsAll (bytes : List ℕ) : Type 0 where
     pub given : InARow reader.device.gives reader.old bytes reader.new
     pub whole : reader.device.ended reader.new ⊎ (length bytes ≡ limits.bytes + 1)
     pub sound : reader.device.failed reader.new ≡ false
@@ -51,28 +51,23 @@ module _ (limits : Limits) {R : Type 0} (reader : ReaderCall R) where
   -- The output that a command owes, by what it makes of all the bytes. Memory that runs out and a
   -- failed reader have outputs of their own, and neither comes in place of the fault of too many
   -- bytes.
-  pub data OwesWithin (IsOutput : List ℕ → Output → Type 0) : Output → Type 0 where
-    OfBytes : (bytes : List ℕ) (out : Output) → ReadsAllWithin bytes → IsOutput bytes out
-        → OwesWithin IsOutput out
-    ForMemory : (bytes : List ℕ) → ReadsAllWithin bytes → length bytes ≤ limits.bytes
-        → OwesWithin IsOutput no_memory
+  pub data Owes (IsOutput : List ℕ → Output → Type 0) : Output → Type 0 where
+    OfBytes : (bytes : List ℕ) (out : Output) → ReadsAll bytes → IsOutput bytes out
+        → Owes IsOutput out
+    ForMemory : (bytes : List ℕ) → ReadsAll bytes → length bytes ≤ limits.bytes
+        → Owes IsOutput no_memory
     ForReader : (bytes : List ℕ) → InARow reader.device.gives reader.old bytes reader.new
         → length bytes ≤ limits.bytes
         → reader.device.failed reader.new ≡ true
-        → OwesWithin IsOutput no_device
-
--- the same within the reader's limits
-module _ {R : Type 0} (reader : ReaderCall R) where
-  abbrev pub Owes : (List ℕ → Output → Type 0) → Output → Type 0
-  Owes IsOutput out = OwesWithin standard reader IsOutput out
+        → Owes IsOutput no_device
 
   -- the output that each command owes
   abbrev pub OwesBy : Task → Output → Type 0
-  OwesBy task.Check out = Owes IsChecked out
-  OwesBy task.Audit out = Owes IsAudited out
-  OwesBy task.Replay out = Owes IsReplayed out
-  OwesBy task.Drive out = Owes IsRecorded out
-  OwesBy (task.Chart label) out = Owes (IsCharted label) out
+  OwesBy task.Check out = Owes (IsChecked limits) out
+  OwesBy task.Audit out = Owes (IsAudited limits) out
+  OwesBy task.Replay out = Owes (IsReplayed limits) out
+  OwesBy task.Drive out = Owes (IsRecorded limits) out
+  OwesBy (task.Chart label) out = Owes (IsCharted limits label) out
 
   -- the output that the program owes, by its words: if they ask for no command, nothing is read
   pub data OwesFor (words : List Text) : Output → Type 0 where

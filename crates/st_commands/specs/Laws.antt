@@ -1,9 +1,10 @@
 -- The laws of what the commands write, each the contract of a function of `laws`.
-use Rattle.std.specs.Prelude.{◌≡◌, ℕ, List, Some}
+use Rattle.std.specs.Prelude.{◌≡◌, ℕ, ◌≤◌, List, Some}
 use Rattle.st_core.specs.declared.types.Act.{Act}
 use Rattle.st_core.specs.Run.{Stream, Shows}
 use Rattle.st_core.specs.Verdict.{Stuck, Yes, IsVerdict}
 use Rattle.st_runtime.specs.declared.join.record.Record.{Record}
+use Rattle.st_text.specs.declared.limits.Limits.{Limits}
 use Rattle.st_text.specs.Text.{spelling}
 use Rattle.st_commands.specs.Output.{Output, judged}
 use Rattle.st_commands.specs.Checked.{top, Spells, IsJudged, IsChecked}
@@ -12,29 +13,34 @@ use Rattle.st_commands.specs.Audited.{IsAudited}
 use Rattle.st_commands.specs.Recorded.{HasRecord, IsRecorded, record_output}
 use Rattle.st_commands.specs.Meaning.{MeansYes, MeansNo, MeansFits, MeansUnfit, MeansDriven}
 
--- status 0 is a yes, and status 1 a no
+-- status 0 is a yes, and status 1 a no, whatever the limits of the reader
 abbrev pub YesMeans : Type 0
 YesMeans =
-    (bytes : List ℕ) (out : Output) → IsChecked bytes out → out.status ≡ 0 → MeansYes bytes out
+    (limits : Limits) (bytes : List ℕ) (out : Output) → IsChecked limits bytes out
+    → out.status ≡ 0 → MeansYes limits bytes out
 
 abbrev pub NoMeans : Type 0
-NoMeans = (bytes : List ℕ) (out : Output) → IsChecked bytes out → out.status ≡ 1 → MeansNo bytes out
+NoMeans =
+    (limits : Limits) (bytes : List ℕ) (out : Output) → IsChecked limits bytes out
+    → out.status ≡ 1 → MeansNo limits bytes out
 
 -- if the bytes spell acts that show the streams, the output is a yes
 abbrev pub ShownIsYes : Type 0
 ShownIsYes =
-    (bytes : List ℕ) (streams : List Stream) (acts : List Act) (out : Output)
-    → Spells bytes streams (Some acts)
-    → Shows top streams acts → IsChecked bytes out → out.status ≡ 0
+    (limits : Limits) (bytes : List ℕ) (streams : List Stream) (acts : List Act) (out : Output)
+    → Spells limits bytes streams (Some acts)
+    → Shows top streams acts → IsChecked limits bytes out → out.status ≡ 0
 
 -- status 0 of `audit` is a certificate, and status 1 an event and a reason
 abbrev pub FitsMeans : Type 0
 FitsMeans =
-    (bytes : List ℕ) (out : Output) → IsAudited bytes out → out.status ≡ 0 → MeansFits bytes out
+    (limits : Limits) (bytes : List ℕ) (out : Output) → IsAudited limits bytes out
+    → out.status ≡ 0 → MeansFits limits bytes out
 
 abbrev pub UnfitMeans : Type 0
 UnfitMeans =
-    (bytes : List ℕ) (out : Output) → IsAudited bytes out → out.status ≡ 1 → MeansUnfit bytes out
+    (limits : Limits) (bytes : List ℕ) (out : Output) → IsAudited limits bytes out
+    → out.status ≡ 1 → MeansUnfit limits bytes out
 
 -- the text of streams and acts
 abbrev pub certificate : List Stream → List Act → List ℕ
@@ -44,22 +50,24 @@ certificate streams acts = spelling (record { streams = streams; acts = Some act
 -- says yes and the pairs, and nothing else
 abbrev pub CertificateIsYes : Type 0
 CertificateIsYes =
-    (streams : List Stream) (acts : List Act) (pairs : List (ℕ × ℕ))
+    (limits : Limits) (streams : List Stream) (acts : List Act) (pairs : List (ℕ × ℕ))
     → IsVerdict top streams acts (Yes pairs)
-    → Spells (certificate streams acts) streams (Some acts)
-    → (out : Output) → IsChecked (certificate streams acts) out → out ≡ judged (Yes pairs)
+    → Spells limits (certificate streams acts) streams (Some acts)
+    → (out : Output) → IsChecked limits (certificate streams acts) out → out ≡ judged (Yes pairs)
 
 -- status 0 of `drive` is a record
 abbrev pub DrivenMeans : Type 0
 DrivenMeans =
-    (bytes : List ℕ) (out : Output) → IsRecorded bytes out → out.status ≡ 0 → MeansDriven bytes out
+    (limits : Limits) (bytes : List ℕ) (out : Output) → IsRecorded limits bytes out
+    → out.status ≡ 0 → MeansDriven limits bytes out
 
--- if the text of a record is one within the reader's limits, `check` of it says yes
+-- if the text of a record is one within the limits of a reader, which may be others than those of
+-- the reader before `drive`, `check` of it says yes
 abbrev pub RecordedIsYes : Type 0
 RecordedIsYes =
-    (bytes : List ℕ) (r : Record) → HasRecord bytes r
-    → Spells (record_output r).text r.streams (Some r.acts)
-    → (out : Output) → IsChecked (record_output r).text out → out.status ≡ 0
+    (limits others : Limits) (bytes : List ℕ) (r : Record) → HasRecord limits bytes r
+    → Spells others (record_output r).text r.streams (Some r.acts)
+    → (out : Output) → IsChecked others (record_output r).text out → out.status ≡ 0
 
 -- bytes have an output of the command, and one at most
 abbrev pub HasOutput : (List ℕ → Output → Type 0) → Type 0
@@ -69,10 +77,13 @@ abbrev pub HasOneOutput : (List ℕ → Output → Type 0) → Type 0
 HasOneOutput IsOutput =
     (bytes : List ℕ) (one other : Output) → IsOutput bytes one → IsOutput bytes other → one ≡ other
 
--- no act of a text is stuck: clocks don't reach TOP within the reader's limits, and the pids of
--- acts are listed
+-- no act of a text is stuck if no more acts are read than a clock has counts: clocks don't reach
+-- TOP then, and the pids of acts are listed
 abbrev pub NeverStuck : Type 0
-NeverStuck = (bytes : List ℕ) (n : ℕ) → ¬ IsJudged bytes (Stuck n)
+NeverStuck =
+    (limits : Limits) → limits.acts ≤ top → (bytes : List ℕ) (n : ℕ)
+    → ¬ IsJudged limits bytes (Stuck n)
 
 abbrev pub NeverStuckInReplay : Type 0
-NeverStuckInReplay = (bytes : List ℕ) (n : ℕ) → ¬ HasStuck bytes n
+NeverStuckInReplay =
+    (limits : Limits) → limits.acts ≤ top → (bytes : List ℕ) (n : ℕ) → ¬ HasStuck limits bytes n

@@ -1,35 +1,48 @@
--- What a yes and a no of `check`, the findings of `audit` and a record of `drive` mean, each as one
--- record of plain facts, in the words of the machine.
-use Rattle.std.specs.Prelude.{◌≡◌, ℕ, List, ◌++◌, Option, Some, IsSome, All, codes, filter}
-use Rattle.std.specs.List.{flat_map}
+-- What a yes and a no of each command mean, each as one record of plain facts, in the words of the
+-- machine. The limits are those of the reader: how many bytes, processes, events and acts a text
+-- may have.
+use Rattle.std.specs.Prelude.{◌≡◌, ℕ, true, false, List, ◌++◌, Option, Some, None, IsSome, All}
+use Rattle.std.specs.Prelude.{codes, filter}
+use Rattle.std.specs.List.{flat_map, list_any}
 use Rattle.st_core.specs.declared.types.Pid.{Pid}
+use Rattle.st_core.specs.declared.types.Label.{Label}
 use Rattle.st_core.specs.declared.types.Act.{Act}
+use Rattle.st_core.specs.Laws.{NoReset}
 use Rattle.st_core.specs.Pid.{pid_eq}
 use Rattle.st_core.specs.Step.{Outcome, actor}
 use Rattle.st_core.specs.Run.{Stream, Shows, pids_of, run, stream}
 use Rattle.st_core.specs.Pairs.{Follows, AllPaired, pairs}
 use Rattle.st_core.specs.Verdict.{Verdict, IsVerdict}
 use Rattle.st_pair.specs.Places.{event_at}
+use Rattle.st_pair.specs.Pairing.{refusal}
+use Rattle.st_order.specs.declared.item.Item.{Item}
+use Rattle.st_order.specs.Order.{IsOrder}
+use Rattle.st_order.specs.Labels.{item_has_label}
 use Rattle.st_audit.specs.declared.finding.Reason.{Reason}
 use Rattle.st_audit.specs.declared.finding.Finding.TheVariants as finding
 use Rattle.st_audit.specs.Findings.{IsReason}
+use Rattle.st_chart.specs.Chart.{chart_text}
 use Rattle.st_chart.specs.Report.{report_text}
+use Rattle.st_runtime.specs.declared.fault.ActFault.TheVariants as act
+use Rattle.st_runtime.specs.declared.fault.DriveFault.TheVariants as drive
+use Rattle.st_runtime.specs.Driven.{IsDriveFault}
 use Rattle.st_text.specs.declared.limits.Limits.{Limits}
-use Rattle.st_text.specs.Limits.{standard}
 use Rattle.st_text.specs.Text.{spelling}
+use Rattle.st_text.specs.Spelling as words
 use Rattle.st_text.specs.Spelling.{ended_line}
 use Rattle.st_text.specs.Writing.{Writes}
 use Rattle.st_commands.specs.Output.{Output, pair_line, verdict_text}
-use Rattle.st_commands.specs.Checked.{top, Spells, SpellsWithin}
-use Rattle.st_commands.specs.Command.{ReaderCall, WriterCall, ReadsAllWithin}
+use Rattle.st_commands.specs.Checked.{top, Spells}
+use Rattle.st_commands.specs.Recorded.{ranks, scripts_of, act_fault_words}
+use Rattle.st_commands.specs.Command.{ReaderCall, WriterCall, ReadsAll}
 
 -- a yes: status 0
-pub record MeansYes (bytes : List ℕ) (out : Output) : Type 0 where
+pub record MeansYes (limits : Limits) (bytes : List ℕ) (out : Output) : Type 0 where
   pub streams : List Stream
   pub acts : List Act
   pub outcomes : List Outcome
   -- the bytes spell streams and acts, within the reader's limits
-  pub spelled : Spells bytes streams (Some acts)
+  pub spelled : Spells limits bytes streams (Some acts)
   -- the acts are a run of the machine from zero clocks over the streams' processes
   pub runs : run top (pids_of streams) acts ≡ Some outcomes
   -- in it each process reports exactly its stream; so the acts show the streams (`Shows`)
@@ -43,12 +56,12 @@ pub record MeansYes (bytes : List ℕ) (out : Output) : Type 0 where
   pub text : out.text ≡ ended_line (codes "yes") ++ flat_map pair_line (pairs acts outcomes)
 
 -- a no: status 1
-pub record MeansNo (bytes : List ℕ) (out : Output) : Type 0 where
+pub record MeansNo (limits : Limits) (bytes : List ℕ) (out : Output) : Type 0 where
   pub streams : List Stream
   pub acts : List Act
   pub verdict : Verdict
   -- the bytes spell streams and acts, within the reader's limits
-  pub spelled : Spells bytes streams (Some acts)
+  pub spelled : Spells limits bytes streams (Some acts)
   -- the acts don't show the streams: they have no run in which each process reports exactly its
   -- stream
   pub refuted : ¬ Shows top streams acts
@@ -59,13 +72,13 @@ pub record MeansNo (bytes : List ℕ) (out : Output) : Type 0 where
   pub place : IsVerdict top streams acts verdict
 
 -- a certificate: status 0 of `audit`
-pub record MeansFits (bytes : List ℕ) (out : Output) : Type 0 where
+pub record MeansFits (limits : Limits) (bytes : List ℕ) (out : Output) : Type 0 where
   pub streams : List Stream
   pub given : Option (List Act)
   pub acts : List Act
   pub outcomes : List Outcome
   -- the bytes spell streams, and acts or none, within the reader's limits
-  pub spelled : Spells bytes streams given
+  pub spelled : Spells limits bytes streams given
   -- other acts are a run of the machine from zero clocks over the streams' processes
   pub runs : run top (pids_of streams) acts ≡ Some outcomes
   -- in it each process reports exactly its stream; so the acts show the streams (`Shows`)
@@ -74,14 +87,14 @@ pub record MeansFits (bytes : List ℕ) (out : Output) : Type 0 where
   pub text : out.text ≡ spelling (record { streams = streams; acts = Some acts })
 
 -- an event and a reason: status 1 of `audit`
-pub record MeansUnfit (bytes : List ℕ) (out : Output) : Type 0 where
+pub record MeansUnfit (limits : Limits) (bytes : List ℕ) (out : Output) : Type 0 where
   pub streams : List Stream
   pub given : Option (List Act)
   pub pid : Pid
   pub index : ℕ
   pub reason : Reason
   -- the bytes spell streams, and acts or none, within the reader's limits
-  pub spelled : Spells bytes streams given
+  pub spelled : Spells limits bytes streams given
   -- the event is there
   pub there : IsSome (event_at streams pid index)
   -- and the reason holds at it
@@ -90,14 +103,14 @@ pub record MeansUnfit (bytes : List ℕ) (out : Output) : Type 0 where
   pub text : out.text ≡ report_text streams (finding.Unfit pid index reason)
 
 -- a record of threads: status 0 of `drive`
-pub record MeansDriven (bytes : List ℕ) (out : Output) : Type 0 where
+pub record MeansDriven (limits : Limits) (bytes : List ℕ) (out : Output) : Type 0 where
   pub listed : List Stream
   pub given : List Act
   pub streams : List Stream
   pub acts : List Act
   pub outcomes : List Outcome
   -- the bytes spell acts of listed processes, within the reader's limits
-  pub spelled : Spells bytes listed (Some given)
+  pub spelled : Spells limits bytes listed (Some given)
   -- acts are a run of the machine from zero clocks over these processes
   pub runs : run top (pids_of streams) acts ≡ Some outcomes
   pub pids : pids_of streams ≡ pids_of listed
@@ -109,80 +122,98 @@ pub record MeansDriven (bytes : List ℕ) (out : Output) : Type 0 where
   -- the text is that of the streams with these acts
   pub text : out.text ≡ spelling (record { streams = streams; acts = Some acts })
 
--- all bytes were read, and of them an output with this meaning was written whole
-pub record SaysWithin (limits : Limits) {R W : Type 0} (reader : ReaderCall R)
-    (writer : WriterCall W) (Means : List ℕ → Output → Type 0) : Type 0 where
-  pub bytes : List ℕ
-  pub output : Output
-  pub reads : ReadsAllWithin limits reader bytes
-  pub writes : Writes writer.device.puts writer.device.failed output.text writer.old writer.new
-  pub means : Means bytes output
+-- an act that was refused: status 1 of `drive`
+pub record MeansStray (limits : Limits) (bytes : List ℕ) (out : Output) : Type 0 where
+  pub listed : List Stream
+  pub given : List Act
+  pub pid : Pid
+  pub number : ℕ
+  -- the bytes spell acts of listed processes, within the reader's limits
+  pub spelled : Spells limits bytes listed (Some given)
+  -- of the given acts this process could make those before this number; it is refused, because the
+  -- process under a lock isn't that of the lock, which no call leaves so
+  pub refused : IsDriveFault top ranks (pids_of listed) (scripts_of (pids_of listed) given)
+      (drive.Act pid number act.Stray)
+  -- the text names the process and the number
+  pub text : out.text ≡ ended_line (act_fault_words pid number)
 
--- the same within the reader's limits
-abbrev pub Says : {R W : Type 0} → ReaderCall R → WriterCall W → (List ℕ → Output → Type 0)
-    → Type 0
-Says reader writer Means = SaysWithin standard reader writer Means
-
--- ---- the same within limits that are handed in: all is as above but for the limits
-
-pub record MeansYesWithin (limits : Limits) (bytes : List ℕ) (out : Output) : Type 0 where
+-- a run: status 0 of `replay`, which has no status 1
+pub record MeansReplayed (limits : Limits) (bytes : List ℕ) (out : Output) : Type 0 where
+  pub listed : List Stream
   pub streams : List Stream
   pub acts : List Act
   pub outcomes : List Outcome
-  -- the bytes spell streams and acts, within these limits
-  pub spelled : SpellsWithin limits bytes streams (Some acts)
-  -- the acts are a run of the machine from zero clocks over the streams' processes
+  -- the bytes spell acts of listed processes, within the reader's limits
+  pub spelled : Spells limits bytes listed (Some acts)
+  -- the acts are a run of the machine from zero clocks over these processes
   pub runs : run top (pids_of streams) acts ≡ Some outcomes
-  -- in it each process reports exactly its stream; so the acts show the streams (`Shows`)
-  pub reports : All (λ x. stream acts outcomes x.pid ≡ x.events) streams
-  -- each receive that was reported is in a pair
-  pub paired : AllPaired outcomes (pairs acts outcomes)
-  -- in each pair the receive follows its send, with the same label and serial, and no send is in
-  -- two pairs
-  pub follows : Follows acts outcomes (pairs acts outcomes)
-  -- the text is the line yes and a line for each of these pairs
-  pub text : out.text ≡ ended_line (codes "yes") ++ flat_map pair_line (pairs acts outcomes)
-
-pub record MeansNoWithin (limits : Limits) (bytes : List ℕ) (out : Output) : Type 0 where
-  pub streams : List Stream
-  pub acts : List Act
-  pub verdict : Verdict
-  -- the bytes spell streams and acts, within these limits
-  pub spelled : SpellsWithin limits bytes streams (Some acts)
-  -- the acts don't show the streams: they have no run in which each process reports exactly its
-  -- stream
-  pub refuted : ¬ Shows top streams acts
-  -- the text names a place
-  pub text : out.text ≡ verdict_text verdict
-  -- and the place shows it: all before it passes, and act n has no step or reports another event,
-  -- or p has events left
-  pub place : IsVerdict top streams acts verdict
-
-pub record MeansFitsWithin (limits : Limits) (bytes : List ℕ) (out : Output) : Type 0 where
-  pub streams : List Stream
-  pub given : Option (List Act)
-  pub acts : List Act
-  pub outcomes : List Outcome
-  -- the bytes spell streams, and acts or none, within these limits
-  pub spelled : SpellsWithin limits bytes streams given
-  -- other acts are a run of the machine from zero clocks over the streams' processes
-  pub runs : run top (pids_of streams) acts ≡ Some outcomes
+  pub pids : pids_of streams ≡ pids_of listed
   -- in it each process reports exactly its stream; so the acts show the streams (`Shows`)
   pub reports : All (λ x. stream acts outcomes x.pid ≡ x.events) streams
   -- the text is that of the streams with these acts
   pub text : out.text ≡ spelling (record { streams = streams; acts = Some acts })
 
-pub record MeansUnfitWithin (limits : Limits) (bytes : List ℕ) (out : Output) : Type 0 where
+-- a chart: status 0 of `chart`
+pub record MeansCharted (limits : Limits) (label : Label) (bytes : List ℕ) (out : Output) : Type 0
+  where
+    pub streams : List Stream
+    pub given : Option (List Act)
+    pub items : List Item
+    -- the bytes spell streams, and acts or none, within the reader's limits
+    pub spelled : Spells limits bytes streams given
+    -- no reason of pairing holds, so each receive has its one send, which was reported or wasn't
+    pub accepted : refusal streams ≡ None
+    -- the items are the events and the sends that weren't reported, in their order
+    pub order : IsOrder streams items
+    -- one of them has the label
+    pub labelled : list_any (item_has_label streams label) items ≡ true
+    -- the text is the chart of those with the label
+    pub text : out.text ≡ chart_text streams items label
+
+-- no item with the label: status 1 of `chart`, if no reason of pairing holds
+pub record MeansNoLabel (limits : Limits) (label : Label) (bytes : List ℕ) (out : Output) : Type 0
+  where
+    pub streams : List Stream
+    pub given : Option (List Act)
+    pub items : List Item
+    -- the bytes spell streams, and acts or none, within the reader's limits
+    pub spelled : Spells limits bytes streams given
+    -- no reason of pairing holds
+    pub accepted : refusal streams ≡ None
+    -- the items are the events and the sends that weren't reported, in their order
+    pub order : IsOrder streams items
+    -- none of them has the label
+    pub unlabelled : list_any (item_has_label streams label) items ≡ false
+    -- the text says so
+    pub text : out.text ≡ ended_line (codes "no label " ++ words.label label)
+
+-- an event and a reason of pairing: status 1 of a command that needs pairs
+pub record MeansUnpaired (limits : Limits) (bytes : List ℕ) (out : Output) : Type 0 where
   pub streams : List Stream
   pub given : Option (List Act)
   pub pid : Pid
   pub index : ℕ
   pub reason : Reason
-  -- the bytes spell streams, and acts or none, within these limits
-  pub spelled : SpellsWithin limits bytes streams given
-  -- the event is there
-  pub there : IsSome (event_at streams pid index)
-  -- and the reason holds at it
+  -- the bytes spell streams, and acts or none, within the reader's limits
+  pub spelled : Spells limits bytes streams given
+  -- no acts without a reset show the streams
+  pub ruled_out : (acts : List Act) → NoReset acts → ¬ Shows top streams acts
+  -- since the reason holds at the event
   pub holds : IsReason top streams pid index reason
   -- the text names the event and the reason, and what the reason rests on
   pub text : out.text ≡ report_text streams (finding.Unfit pid index reason)
+
+-- no chart: status 1 of `chart`
+pub data MeansNoChart (limits : Limits) (label : Label) (bytes : List ℕ) (out : Output) : Type 0
+  where
+    Unlabelled : MeansNoLabel limits label bytes out → MeansNoChart limits label bytes out
+    Unpaired : MeansUnpaired limits bytes out → MeansNoChart limits label bytes out
+
+-- all bytes were read, and of them an output with this meaning was written whole
+pub record Says (limits : Limits) {R W : Type 0} (reader : ReaderCall R) (writer : WriterCall W)
+    (Means : List ℕ → Output → Type 0) : Type 0 where
+  pub bytes : List ℕ
+  pub output : Output
+  pub reads : ReadsAll limits reader bytes
+  pub writes : Writes writer.device.puts writer.device.failed output.text writer.old writer.new
+  pub means : Means bytes output

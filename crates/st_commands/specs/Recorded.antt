@@ -10,10 +10,11 @@ use Rattle.st_runtime.specs.declared.fault.DriveFault.TheVariants as drive
 use Rattle.st_runtime.specs.declared.join.record.Record.{Record}
 use Rattle.st_runtime.specs.Driven.{IsDriven, IsDriveFault, acts_by}
 use Rattle.st_text.specs.declared.fault.ReadFault.{ReadFault}
+use Rattle.st_text.specs.declared.limits.Limits.{Limits}
 use Rattle.st_text.specs.Spelling as spelled
 use Rattle.st_text.specs.Spelling.{ended_line}
 use Rattle.st_text.specs.Text.{spelling}
-use Rattle.st_text.specs.Fault.{fault}
+use Rattle.st_text.specs.Fault.{fault_within}
 use Rattle.st_commands.specs.Output.{Output, refused, no_acts}
 use Rattle.st_commands.specs.Checked.{top, Spells, LacksActs}
 
@@ -34,10 +35,10 @@ record_output r = record {
 
 -- the bytes spell streams and acts, and this is a record of the acts as scripts of the streams'
 -- processes
-pub record HasRecord (bytes : List ℕ) (r : Record) : Type 0 where
+pub record HasRecord (limits : Limits) (bytes : List ℕ) (r : Record) : Type 0 where
   pub streams : List Stream
   pub acts : List Act
-  pub spelled : Spells bytes streams (Some acts)
+  pub spelled : Spells limits bytes streams (Some acts)
   pub driven : IsDriven top ranks (pids_of streams) (scripts_of (pids_of streams) acts) r
 
 -- ---- no record
@@ -58,26 +59,28 @@ abbrev pub join_fault : Output
 join_fault = record { text = ended_line (codes "fault join"); status = 4 }
 
 -- the bytes spell streams and acts
-pub record HasActs (bytes : List ℕ) : Type 0 where
+pub record HasActs (limits : Limits) (bytes : List ℕ) : Type 0 where
   pub streams : List Stream
   pub acts : List Act
-  pub spelled : Spells bytes streams (Some acts)
+  pub spelled : Spells limits bytes streams (Some acts)
 
 -- The bytes spell streams and acts, and the output says that act n of p's script found another
 -- process under a lock than its own. No call leaves that, which no clause says.
-pub record HasStray (bytes : List ℕ) (p : Pid) (n : ℕ) : Type 0 where
+pub record HasStray (limits : Limits) (bytes : List ℕ) (p : Pid) (n : ℕ) : Type 0 where
   pub streams : List Stream
   pub acts : List Act
-  pub spelled : Spells bytes streams (Some acts)
+  pub spelled : Spells limits bytes streams (Some acts)
   pub refused : IsDriveFault top ranks (pids_of streams) (scripts_of (pids_of streams) acts)
       (drive.Act p n act.Stray)
 
 -- the output of the bytes; an act is refused for no other cause
-pub data IsRecorded : List ℕ → Output → Type 0 where
-  Recorded : (bytes : List ℕ) (r : Record) → HasRecord bytes r → IsRecorded bytes (record_output r)
-  Strayed : (bytes : List ℕ) (p : Pid) (n : ℕ) → HasStray bytes p n
-      → IsRecorded bytes (act_fault p n)
-  Unstarted : (bytes : List ℕ) → HasActs bytes → IsRecorded bytes thread_fault
-  Unjoined : (bytes : List ℕ) → HasActs bytes → IsRecorded bytes join_fault
-  Lacking : (bytes : List ℕ) → LacksActs bytes → IsRecorded bytes no_acts
-  Faulty : (bytes : List ℕ) (f : ReadFault) → fault bytes ≡ Some f → IsRecorded bytes (refused f)
+pub data IsRecorded (limits : Limits) : List ℕ → Output → Type 0 where
+  Recorded : (bytes : List ℕ) (r : Record) → HasRecord limits bytes r
+      → IsRecorded limits bytes (record_output r)
+  Strayed : (bytes : List ℕ) (p : Pid) (n : ℕ) → HasStray limits bytes p n
+      → IsRecorded limits bytes (act_fault p n)
+  Unstarted : (bytes : List ℕ) → HasActs limits bytes → IsRecorded limits bytes thread_fault
+  Unjoined : (bytes : List ℕ) → HasActs limits bytes → IsRecorded limits bytes join_fault
+  Lacking : (bytes : List ℕ) → LacksActs limits bytes → IsRecorded limits bytes no_acts
+  Faulty : (bytes : List ℕ) (f : ReadFault) → fault_within limits bytes ≡ Some f
+      → IsRecorded limits bytes (refused f)

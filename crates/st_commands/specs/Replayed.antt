@@ -7,8 +7,9 @@ use Rattle.st_core.specs.Step.{Outcome}
 use Rattle.st_core.specs.Run.{Stream, pids_of, run}
 use Rattle.st_check.specs.Answers.{SticksAt, reported_streams}
 use Rattle.st_text.specs.declared.fault.ReadFault.{ReadFault}
+use Rattle.st_text.specs.declared.limits.Limits.{Limits}
 use Rattle.st_text.specs.Text.{spelling}
-use Rattle.st_text.specs.Fault.{fault}
+use Rattle.st_text.specs.Fault.{fault_within}
 use Rattle.st_text.specs.Spelling.{ended_line}
 use Rattle.st_commands.specs.Output.{Output, refused, no_acts}
 use Rattle.st_commands.specs.Checked.{top, Spells, LacksActs}
@@ -26,25 +27,26 @@ abbrev pub stuck : ℕ → Output
 stuck n = record { text = ended_line (codes "no stuck " ++ decimal n); status = 1 }
 
 -- the bytes spell streams and acts that have this run over the streams' pids
-pub record HasRun (bytes : List ℕ) (pids : List Pid) (acts : List Act)
+pub record HasRun (limits : Limits) (bytes : List ℕ) (pids : List Pid) (acts : List Act)
     (os : List Outcome) : Type 0 where
   pub streams : List Stream
-  pub spelled : Spells bytes streams (Some acts)
+  pub spelled : Spells limits bytes streams (Some acts)
   pub listed : pids ≡ pids_of streams
   pub runs : run top pids acts ≡ Some os
 
 -- the bytes spell streams and acts of which act n is stuck
-pub record HasStuck (bytes : List ℕ) (n : ℕ) : Type 0 where
+pub record HasStuck (limits : Limits) (bytes : List ℕ) (n : ℕ) : Type 0 where
   pub streams : List Stream
   pub acts : List Act
-  pub spelled : Spells bytes streams (Some acts)
+  pub spelled : Spells limits bytes streams (Some acts)
   pub sticks : SticksAt top (pids_of streams) acts n
 
 -- the output of the bytes
-pub data IsReplayed : List ℕ → Output → Type 0 where
+pub data IsReplayed (limits : Limits) : List ℕ → Output → Type 0 where
   Ran : (bytes : List ℕ) (pids : List Pid) (acts : List Act) (os : List Outcome)
-      → HasRun bytes pids acts os
-      → IsReplayed bytes (replayed pids acts os)
-  Stuck : (bytes : List ℕ) (n : ℕ) → HasStuck bytes n → IsReplayed bytes (stuck n)
-  Lacking : (bytes : List ℕ) → LacksActs bytes → IsReplayed bytes no_acts
-  Faulty : (bytes : List ℕ) (f : ReadFault) → fault bytes ≡ Some f → IsReplayed bytes (refused f)
+      → HasRun limits bytes pids acts os
+      → IsReplayed limits bytes (replayed pids acts os)
+  Stuck : (bytes : List ℕ) (n : ℕ) → HasStuck limits bytes n → IsReplayed limits bytes (stuck n)
+  Lacking : (bytes : List ℕ) → LacksActs limits bytes → IsReplayed limits bytes no_acts
+  Faulty : (bytes : List ℕ) (f : ReadFault) → fault_within limits bytes ≡ Some f
+      → IsReplayed limits bytes (refused f)

@@ -2,10 +2,9 @@
 //! reason why none was found. The acts in the input are ignored.
 
 ghost use Rattle.std.specs.Prelude.{◌≡◌};
-ghost use Rattle.st_commands.specs.Audited.{IsAudited, IsAuditedWithin};
-ghost use Rattle.st_commands.specs.Command.{Owes, OwesWithin, Tells, call};
+ghost use Rattle.st_commands.specs.Audited.{IsAudited};
+ghost use Rattle.st_commands.specs.Command.{Owes, Tells, call};
 ghost use Rattle.st_commands.specs.Meaning.{Says, MeansFits, MeansUnfit};
-ghost use Rattle.st_commands.specs.Meaning.{SaysWithin, MeansFitsWithin, MeansUnfitWithin};
 ghost use Rattle.st_commands.specs.Parts.{AuditsTo};
 
 use crate::answer::{tell_fault, tell_finding};
@@ -31,30 +30,10 @@ fn audit_streams<H: Threads + Sync, W: ByteSink>(
     }
 }
 
-/// Reads a bundle within the standard limits and writes what is found of its streams: see
-/// `run_audit_within`.
-pub fn run_audit<H: Threads + Sync, R: ByteSource, W: ByteSink>(
-    rt: &H,
-    alloc: Global,
-    reader: &mut R,
-    writer: &mut W,
-) -> u8
-    ensures told { Tells (call W.ByteSink writer.old writer.new)
-        (Owes (call R.ByteSource reader.old reader.new) IsAudited) result }
-
-    // What that says of a certificate and of a reason, in the machine's own words.
-    ensures fits { result ≡ 0 → Says (call R.ByteSource reader.old reader.new)
-        (call W.ByteSink writer.old writer.new) MeansFits }
-    ensures unfit { result ≡ 1 → Says (call R.ByteSource reader.old reader.new)
-        (call W.ByteSink writer.old writer.new) MeansUnfit }
-{
-    run_audit_within(rt, alloc, reader, writer, Limits::STANDARD)
-}
-
 /// Reads a bundle within these limits and writes its streams with a certificate's acts, with status
 /// 0, or an event and a reason, with status 1. Faulty input is 2; if memory runs out, or a reader
 /// or a writer fails, it is 4. It sorts on several threads.
-pub fn run_audit_within<H: Threads + Sync, R: ByteSource, W: ByteSink>(
+pub fn run_audit<H: Threads + Sync, R: ByteSource, W: ByteSink>(
     rt: &H,
     alloc: Global,
     reader: &mut R,
@@ -62,14 +41,13 @@ pub fn run_audit_within<H: Threads + Sync, R: ByteSource, W: ByteSink>(
     limits: Limits,
 ) -> u8
     ensures told { Tells (call W.ByteSink writer.old writer.new)
-        (OwesWithin limits (call R.ByteSource reader.old reader.new)
-        (IsAuditedWithin limits)) result }
+        (Owes limits (call R.ByteSource reader.old reader.new) (IsAudited limits)) result }
 
     // What that says of a certificate and of a reason, in the machine's own words.
-    ensures fits { result ≡ 0 → SaysWithin limits (call R.ByteSource reader.old reader.new)
-        (call W.ByteSink writer.old writer.new) (MeansFitsWithin limits) }
-    ensures unfit { result ≡ 1 → SaysWithin limits (call R.ByteSource reader.old reader.new)
-        (call W.ByteSink writer.old writer.new) (MeansUnfitWithin limits) }
+    ensures fits { result ≡ 0 → Says limits (call R.ByteSource reader.old reader.new)
+        (call W.ByteSink writer.old writer.new) (MeansFits limits) }
+    ensures unfit { result ≡ 1 → Says limits (call R.ByteSource reader.old reader.new)
+        (call W.ByteSink writer.old writer.new) (MeansUnfit limits) }
 {
     match read_within(alloc, reader, limits) {
         Ok(bundle) => audit_streams(rt, alloc, &bundle.streams, writer),

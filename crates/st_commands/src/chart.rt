@@ -6,6 +6,7 @@ ghost use Rattle.st_pair.specs.Links.{IsPairing};
 ghost use Rattle.st_pair.specs.Pairing.{IsPairFault};
 ghost use Rattle.st_commands.specs.Charted.{IsCharted};
 ghost use Rattle.st_commands.specs.Command.{Owes, Tells, call};
+ghost use Rattle.st_commands.specs.Meaning.{Says, MeansCharted, MeansNoChart};
 ghost use Rattle.st_commands.specs.Parts.{ChartsTo, DrawsTo};
 
 use crate::answer::{tell_fault, tell_finding, tell_line};
@@ -16,7 +17,7 @@ use st_chart::{ChartFault, chart};
 use st_core::{ByteSink, ByteSource, Label, Streams};
 use st_order::{Item, order};
 use st_pair::{PairFault, Pairing, pair};
-use st_text::{ReadFault, read};
+use st_text::{Limits, ReadFault, read_within};
 use std::alloc::Global;
 use std::thread::Threads;
 
@@ -94,20 +95,27 @@ fn chart_streams<H: Threads + Sync, W: ByteSink>(
     }
 }
 
-/// Reads a bundle and writes the chart of the label, with status 0. If no item has the label, or
-/// the streams can't be paired, it says so with status 1. Faulty input is 2; if memory runs out, or
-/// a reader or a writer fails, it is 4. It sorts on several threads.
+/// Reads a bundle within these limits and writes the chart of the label, with status 0. If no item
+/// has the label, or the streams can't be paired, it says so with status 1. Faulty input is 2; if
+/// memory runs out, or a reader or a writer fails, it is 4. It sorts on several threads.
 pub fn run_chart<H: Threads + Sync, R: ByteSource, W: ByteSink>(
     rt: &H,
     alloc: Global,
     reader: &mut R,
     writer: &mut W,
+    limits: Limits,
     label: Label,
 ) -> u8
-    ensures { Tells (call W.ByteSink writer.old writer.new)
-        (Owes (call R.ByteSource reader.old reader.new) (IsCharted label)) result }
+    ensures told { Tells (call W.ByteSink writer.old writer.new)
+        (Owes limits (call R.ByteSource reader.old reader.new) (IsCharted limits label)) result }
+
+    // What that says of a chart, and of none, in the machine's own words.
+    ensures charted { result ≡ 0 → Says limits (call R.ByteSource reader.old reader.new)
+        (call W.ByteSink writer.old writer.new) (MeansCharted limits label) }
+    ensures no_chart { result ≡ 1 → Says limits (call R.ByteSource reader.old reader.new)
+        (call W.ByteSink writer.old writer.new) (MeansNoChart limits label) }
 {
-    match read(alloc, reader) {
+    match read_within(alloc, reader, limits) {
         Ok(bundle) => chart_streams(rt, alloc, &bundle.streams, label, writer),
         Err(fault) => tell_fault(writer, fault),
     }

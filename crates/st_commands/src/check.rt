@@ -2,10 +2,9 @@
 
 ghost use Rattle.std.specs.Prelude.{◌≡◌};
 ghost use Rattle.st_text.specs.Contents.{contents};
-ghost use Rattle.st_commands.specs.Checked.{IsChecked, IsCheckedWithin};
-ghost use Rattle.st_commands.specs.Command.{Owes, OwesWithin, Tells, call};
+ghost use Rattle.st_commands.specs.Checked.{IsChecked};
+ghost use Rattle.st_commands.specs.Command.{Owes, Tells, call};
 ghost use Rattle.st_commands.specs.Meaning.{Says, MeansYes, MeansNo};
-ghost use Rattle.st_commands.specs.Meaning.{SaysWithin, MeansYesWithin, MeansNoWithin};
 ghost use Rattle.st_commands.specs.Parts.{ChecksTo, OfBundle};
 
 use crate::answer::{tell_fault, tell_line, tell_verdict};
@@ -16,7 +15,7 @@ use st_text::{Bundle, Limits, ReadFault, read_within};
 use std::alloc::Global;
 
 /// The greatest count that a clock of the program can have.
-pub(crate) const TOP: u64 = u64::MAX;
+pub const TOP: u64 = u64::MAX;
 
 /// Writes the verdict of streams and acts, and returns its status.
 fn check_acts<W: ByteSink>(alloc: Global, streams: &Streams, acts: &[Act], writer: &mut W) -> u8
@@ -39,38 +38,23 @@ fn check_bundle<W: ByteSink>(alloc: Global, bundle: &Bundle, writer: &mut W) -> 
     }
 }
 
-/// Reads a bundle within the standard limits and writes its verdict: see `run_check_within`.
-pub fn run_check<R: ByteSource, W: ByteSink>(alloc: Global, reader: &mut R, writer: &mut W) -> u8
-    ensures told { Tells (call W.ByteSink writer.old writer.new)
-        (Owes (call R.ByteSource reader.old reader.new) IsChecked) result }
-
-    // What that says of a yes and a no, in the machine's own words.
-    ensures yes { result ≡ 0 → Says (call R.ByteSource reader.old reader.new)
-        (call W.ByteSink writer.old writer.new) MeansYes }
-    ensures no { result ≡ 1 → Says (call R.ByteSource reader.old reader.new)
-        (call W.ByteSink writer.old writer.new) MeansNo }
-{
-    run_check_within(alloc, reader, writer, Limits::STANDARD)
-}
-
 /// Reads a bundle within these limits and writes its verdict: `yes` and the pairs with status 0, or
-/// a no with status
-/// 1. Faulty input is 2; if memory runs out, or a reader or a writer fails, it is 4.
-pub fn run_check_within<R: ByteSource, W: ByteSink>(
+/// a no with status 1. Faulty input is 2; if memory runs out, or a reader or a writer fails, it is
+/// 4.
+pub fn run_check<R: ByteSource, W: ByteSink>(
     alloc: Global,
     reader: &mut R,
     writer: &mut W,
     limits: Limits,
 ) -> u8
     ensures told { Tells (call W.ByteSink writer.old writer.new)
-        (OwesWithin limits (call R.ByteSource reader.old reader.new)
-        (IsCheckedWithin limits)) result }
+        (Owes limits (call R.ByteSource reader.old reader.new) (IsChecked limits)) result }
 
     // What that says of a yes and a no, in the machine's own words.
-    ensures yes { result ≡ 0 → SaysWithin limits (call R.ByteSource reader.old reader.new)
-        (call W.ByteSink writer.old writer.new) (MeansYesWithin limits) }
-    ensures no { result ≡ 1 → SaysWithin limits (call R.ByteSource reader.old reader.new)
-        (call W.ByteSink writer.old writer.new) (MeansNoWithin limits) }
+    ensures yes { result ≡ 0 → Says limits (call R.ByteSource reader.old reader.new)
+        (call W.ByteSink writer.old writer.new) (MeansYes limits) }
+    ensures no { result ≡ 1 → Says limits (call R.ByteSource reader.old reader.new)
+        (call W.ByteSink writer.old writer.new) (MeansNo limits) }
 {
     match read_within(alloc, reader, limits) {
         Ok(bundle) => check_bundle(alloc, &bundle, writer),

@@ -6,7 +6,7 @@ ghost use Rattle.std.specs.Prelude.{replicate, slice_set, slice_index_or};
 ghost use Rattle.st_core.specs.Run.{pids_of};
 ghost use Rattle.st_text.specs.Contents.{contents};
 ghost use Rattle.st_commands.specs.Command.{Delivers, Owes, Tells, call};
-ghost use Rattle.st_commands.specs.Meaning.{Says, MeansDriven};
+ghost use Rattle.st_commands.specs.Meaning.{Says, MeansDriven, MeansStray};
 ghost use Rattle.st_commands.specs.Parts.{DrivesTo, OfBundle, drive_refused};
 ghost use Rattle.st_commands.specs.Recorded.{IsRecorded, scripts_of};
 
@@ -15,7 +15,7 @@ use crate::check::TOP;
 use crate::lines::OutputLine;
 use st_core::{Act, ByteSink, ByteSource, Sequence, Streams};
 use st_runtime::{DriveFault, OpenGate, drive};
-use st_text::{Bundle, ReadFault, read};
+use st_text::{Bundle, Limits, ReadFault, read_within};
 use std::alloc::{AllocError, Global};
 use std::sync::Wait;
 use std::thread::Threads;
@@ -115,23 +115,27 @@ fn drive_bundle<H: Threads + Wait + Sync, W: ByteSink>(
     }
 }
 
-/// Reads a bundle, drives the acts of each process on a thread of its own, and writes the bundle of
-/// the one run that they made, with status 0. Faulty input is 2; if memory runs out, a thread can't
-/// be started, or a reader or a writer fails, it is 4. It waits for locks and for the threads.
+/// Reads a bundle within these limits, drives the acts of each process on a thread of its own, and
+/// writes the bundle of the one run that they made, with status 0. Faulty input is 2; if memory
+/// runs out, a thread can't be started, or a reader or a writer fails, it is 4. An act that is
+/// refused would be status 1 (`MeansStray`). It waits for locks and for the threads.
 pub fn run_drive<H: Threads + Wait + Sync, R: ByteSource, W: ByteSink>(
     rt: &H,
     alloc: Global,
     reader: &mut R,
     writer: &mut W,
+    limits: Limits,
 ) -> u8
     ensures told { Tells (call W.ByteSink writer.old writer.new)
-        (Owes (call R.ByteSource reader.old reader.new) IsRecorded) result }
+        (Owes limits (call R.ByteSource reader.old reader.new) (IsRecorded limits)) result }
 
-    // What that says of a record, in the machine's own words.
-    ensures driven { result ≡ 0 → Says (call R.ByteSource reader.old reader.new)
-        (call W.ByteSink writer.old writer.new) MeansDriven }
+    // What that says of a record, and of an act that was refused, in the machine's own words.
+    ensures driven { result ≡ 0 → Says limits (call R.ByteSource reader.old reader.new)
+        (call W.ByteSink writer.old writer.new) (MeansDriven limits) }
+    ensures stray { result ≡ 1 → Says limits (call R.ByteSource reader.old reader.new)
+        (call W.ByteSink writer.old writer.new) (MeansStray limits) }
 {
-    match read(alloc, reader) {
+    match read_within(alloc, reader, limits) {
         Ok(bundle) => drive_bundle(rt, alloc, bundle, writer),
         Err(fault) => tell_fault(writer, fault),
     }

@@ -1,9 +1,11 @@
 //! What the outputs of the commands mean. The functions do nothing: their contracts are the
 //! laws.
 
+ghost use Rattle.std.specs.Prelude.{◌≤◌};
 ghost use Rattle.st_core.specs.declared.types.Label.{Label};
+ghost use Rattle.st_text.specs.declared.limits.Limits.{Limits};
 ghost use Rattle.st_commands.specs.Charted.{IsCharted};
-ghost use Rattle.st_commands.specs.Checked.{IsChecked};
+ghost use Rattle.st_commands.specs.Checked.{IsChecked, top};
 ghost use Rattle.st_commands.specs.Laws.{YesMeans, NoMeans, ShownIsYes, HasOutput, HasOneOutput};
 ghost use Rattle.st_commands.specs.Laws.{FitsMeans, UnfitMeans, CertificateIsYes};
 ghost use Rattle.st_commands.specs.Laws.{DrivenMeans, RecordedIsYes};
@@ -61,11 +63,12 @@ pub fn recorded_is_yes()
     ensures { RecordedIsYes }
 {}
 
-/// Bytes have an output of the check, of the replay and of each label's chart.
+/// Bytes have an output of the check, of the replay and of each label's chart, whatever the
+/// reader's limits; of the replay if they let no more acts pass than a clock has counts.
 pub fn an_answer()
-    ensures check { HasOutput IsChecked }
-    ensures replay { HasOutput IsReplayed }
-    ensures chart { (label : Label) → HasOutput (IsCharted label) }
+    ensures check { (limits : Limits) → HasOutput (IsChecked limits) }
+    ensures replay { (limits : Limits) → limits.acts ≤ top → HasOutput (IsReplayed limits) }
+    ensures chart { (limits : Limits) (label : Label) → HasOutput (IsCharted limits label) }
 {
     a_verdict();
 }
@@ -73,12 +76,13 @@ pub fn an_answer()
 /// Bytes have one output at most of the check, of the replay and of each label's chart, so whoever
 /// knows the bytes that were read knows which output is owed.
 pub fn one_answer()
-    ensures check { HasOneOutput IsChecked }
-    ensures replay { HasOneOutput IsReplayed }
-    ensures chart { (label : Label) → HasOneOutput (IsCharted label) }
+    ensures check { (limits : Limits) → HasOneOutput (IsChecked limits) }
+    ensures replay { (limits : Limits) → HasOneOutput (IsReplayed limits) }
+    ensures chart { (limits : Limits) (label : Label) → HasOneOutput (IsCharted limits label) }
 {}
 
-/// No text within the reader's limits has an act without a step, so `no stuck` never comes.
+/// If the reader's limits let no more acts pass than a clock has counts, as those of the programs
+/// do, no text has an act without a step, so `no stuck` never comes.
 pub fn never_stuck()
     ensures check { NeverStuck }
     ensures replay { NeverStuckInReplay }

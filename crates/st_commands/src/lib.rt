@@ -18,9 +18,9 @@ mod replay;
 mod words;
 
 pub use answer::{status_of, tell_bundle, tell_fault, tell_finding, tell_line, tell_refusal};
-pub use audit::{run_audit, run_audit_within};
+pub use audit::run_audit;
 pub use chart::run_chart;
-pub use check::{run_check, run_check_within};
+pub use check::{TOP, run_check};
 pub use drive::run_drive;
 pub use program::run;
 pub use replay::run_replay;

@@ -2,6 +2,7 @@
 
 ghost use Rattle.std.specs.Prelude.{map};
 ghost use Rattle.st_commands.specs.Command.{OwesBy, OwesFor, Tells, call};
+ghost use Rattle.st_text.specs.Limits.{standard};
 
 use crate::answer::tell_refusal;
 use crate::audit::run_audit;
@@ -11,32 +12,34 @@ use crate::drive::run_drive;
 use crate::replay::run_replay;
 use crate::words::{Task, read_words};
 use st_core::{ByteSink, ByteSource};
+use st_text::Limits;
 use std::convert::AsStr;
 use std::sync::Wait;
 use std::thread::Threads;
 
-/// Does what this command does.
+/// Does what this command does, within these limits.
 fn run_task<H: AllocGlobal + Threads + Wait + Sync, R: ByteSource, W: ByteSink>(
     rt: &H,
     task: Task,
     reader: &mut R,
     writer: &mut W,
+    limits: Limits,
 ) -> u8
     ensures { Tells (call W.ByteSink writer.old writer.new)
-        (OwesBy (call R.ByteSource reader.old reader.new) task) result }
+        (OwesBy limits (call R.ByteSource reader.old reader.new) task) result }
 {
     match task {
-        Task::Check => run_check(rt.alloc(), reader, writer),
-        Task::Audit => run_audit(rt, rt.alloc(), reader, writer),
-        Task::Replay => run_replay(rt.alloc(), reader, writer),
-        Task::Chart(label) => run_chart(rt, rt.alloc(), reader, writer, label),
-        Task::Drive => run_drive(rt, rt.alloc(), reader, writer),
+        Task::Check => run_check(rt.alloc(), reader, writer, limits),
+        Task::Audit => run_audit(rt, rt.alloc(), reader, writer, limits),
+        Task::Replay => run_replay(rt.alloc(), reader, writer, limits),
+        Task::Chart(label) => run_chart(rt, rt.alloc(), reader, writer, limits, label),
+        Task::Drive => run_drive(rt, rt.alloc(), reader, writer, limits),
     }
 }
 
-/// Does what the words ask for, of which the first is the program's name, and returns the exit
-/// status. If they ask for no command, it writes the usage line, with status 3. All texts go to the
-/// writer.
+/// Does what the words ask for within the standard limits, and returns the exit status. The first
+/// word is the program's name. If the words ask for no command, it writes the usage line, with
+/// status 3. All texts go to the writer.
 pub fn run<H: AllocGlobal + Threads + Wait + Sync, S: AsStr, R: ByteSource, W: ByteSink>(
     rt: &H,
     words: &[S],
@@ -44,10 +47,10 @@ pub fn run<H: AllocGlobal + Threads + Wait + Sync, S: AsStr, R: ByteSource, W: B
     writer: &mut W,
 ) -> u8
     ensures { Tells (call W.ByteSink writer.old writer.new)
-        (OwesFor (call R.ByteSource reader.old reader.new) (map S.text words.now)) result }
+        (OwesFor standard (call R.ByteSource reader.old reader.new) (map S.text words.now)) result }
 {
     match read_words(rt.alloc(), words) {
-        Ok(task) => run_task(rt, task, reader, writer),
+        Ok(task) => run_task(rt, task, reader, writer, Limits::STANDARD),
         Err(refusal) => tell_refusal(writer, refusal),
     }
 }

@@ -1,8 +1,10 @@
 //! The command `replay`: what the acts of the input's bundle report. The events in the input are
 //! ignored.
 
+ghost use Rattle.std.specs.Prelude.{◌≡◌, ◌≢◌};
 ghost use Rattle.st_text.specs.Contents.{contents};
 ghost use Rattle.st_commands.specs.Command.{Delivers, Owes, Tells, call};
+ghost use Rattle.st_commands.specs.Meaning.{Says, MeansReplayed};
 ghost use Rattle.st_commands.specs.Parts.{OfBundle, ReplaysTo, reports_output};
 ghost use Rattle.st_commands.specs.Replayed.{IsReplayed};
 
@@ -11,7 +13,7 @@ use crate::check::TOP;
 use crate::lines::OutputLine;
 use st_check::{ReplayFault, Reports, reports};
 use st_core::{Act, ByteSink, ByteSource, Streams};
-use st_text::{Bundle, ReadFault, read};
+use st_text::{Bundle, Limits, ReadFault, read_within};
 use std::alloc::Global;
 
 /// Writes what acts report, and returns its status.
@@ -48,14 +50,25 @@ fn replay_bundle<W: ByteSink>(alloc: Global, bundle: &Bundle, writer: &mut W) ->
     }
 }
 
-/// Reads a bundle and writes the bundle of what its acts report, with status 0, or the first act
-/// without a step, with status 1. Faulty input is 2; if memory runs out, or a reader or a writer
-/// fails, it is 4.
-pub fn run_replay<R: ByteSource, W: ByteSink>(alloc: Global, reader: &mut R, writer: &mut W) -> u8
-    ensures { Tells (call W.ByteSink writer.old writer.new)
-        (Owes (call R.ByteSource reader.old reader.new) IsReplayed) result }
+/// Reads a bundle within these limits and writes the bundle of what its acts report, with status 0.
+/// An act without a step would be status 1, but there is none, since limits let fewer acts pass than
+/// a clock has counts. Faulty input is 2; if memory runs out, or a reader or a writer fails, it is
+/// 4.
+pub fn run_replay<R: ByteSource, W: ByteSink>(
+    alloc: Global,
+    reader: &mut R,
+    writer: &mut W,
+    limits: Limits,
+) -> u8
+    ensures told { Tells (call W.ByteSink writer.old writer.new)
+        (Owes limits (call R.ByteSource reader.old reader.new) (IsReplayed limits)) result }
+
+    // What that says of a run, in the machine's own words; and acts of a text always have one.
+    ensures ran { result ≡ 0 → Says limits (call R.ByteSource reader.old reader.new)
+        (call W.ByteSink writer.old writer.new) (MeansReplayed limits) }
+    ensures never_stuck { result ≢ 1 }
 {
-    match read(alloc, reader) {
+    match read_within(alloc, reader, limits) {
         Ok(bundle) => replay_bundle(alloc, &bundle, writer),
         Err(fault) => tell_fault(writer, fault),
     }

@@ -131,7 +131,7 @@ fn audit_streams<H: Threads + Sync, W: ByteSink>(
     }
 }
 
-/// Reads a bundle and writes what is found of its streams as `run_audit_within` of `st_commands`
+/// Reads a bundle and writes what is found of its streams as `run_audit` of `st_commands`
 /// does, but as JSON, with the same status.
 pub fn run_audit_json<H: Threads + Sync, R: ByteSource, W: ByteSink>(
     rt: &H,

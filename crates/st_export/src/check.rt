@@ -96,7 +96,7 @@ fn check_bundle<W: ByteSink>(alloc: Global, bundle: &Bundle, writer: &mut W) -> 
     }
 }
 
-/// Reads a bundle and writes its verdict as `run_check_within` of `st_commands` does, but as JSON,
+/// Reads a bundle and writes its verdict as `run_check` of `st_commands` does, but as JSON,
 /// with the same status.
 pub fn run_check_json<R: ByteSource, W: ByteSink>(
     alloc: Global,

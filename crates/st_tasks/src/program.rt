@@ -4,7 +4,7 @@ ghost use Rattle.st_commands.specs.Command.{call};
 ghost use Rattle.st_tasks.specs.Command.{Does};
 
 use crate::task::Task;
-use st_commands::{run_audit_within, run_check_within};
+use st_commands::{run_audit, run_check};
 use st_core::{ByteSink, ByteSource};
 use st_draw::run_draw;
 use st_event_commands::{run_cut, run_list, run_stats};
@@ -34,8 +34,8 @@ pub fn run<H: AllocGlobal + Threads + Sync, R: ByteSource, W: ByteSink, N: ByteS
         Task::Fix => run_fix(rt.alloc(), reader, writer, notes),
         Task::Explain => run_explain(rt.alloc(), reader, writer),
         Task::Why(question) => run_why(rt.alloc(), reader, writer, question),
-        Task::Check => run_check_within(rt.alloc(), reader, writer, Limits::GREATER),
-        Task::Audit => run_audit_within(rt, rt.alloc(), reader, writer, Limits::GREATER),
+        Task::Check => run_check(rt.alloc(), reader, writer, Limits::GREATER),
+        Task::Audit => run_audit(rt, rt.alloc(), reader, writer, Limits::GREATER),
         Task::List(filter, style) => run_list(rt.alloc(), reader, writer, &filter, style),
         Task::Cut(filter) => run_cut(rt.alloc(), reader, writer, notes, &filter),
         Task::Stats(style) => run_stats(rt.alloc(), reader, writer, style),

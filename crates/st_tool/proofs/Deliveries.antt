@@ -3,7 +3,7 @@ use Rattle.st_text.specs.Limits.{greater}
 use Rattle.st_text.specs.Text.{Contents}
 use Rattle.st_completions.specs.Renumbering.{renumbered_streams}
 use Rattle.st_commands.specs.Output.{Output}
-use Rattle.st_commands.specs.Command.{ReaderCall, OwesWithin, OfBytes, ForMemory}
+use Rattle.st_commands.specs.Command.{ReaderCall, Owes, OfBytes, ForMemory}
 use Rattle.st_commands.proofs.ForCallers.{WasRead}
 use Rattle.st_tool.specs.Renumber.{IsRenumbered, Ranked, streams_output}
 use Rattle.st_tool.specs.declared.complete.Form.{Form}
@@ -14,14 +14,14 @@ use Rattle.st_tool.specs.Parts.{RenumbersTo, Ranks, NoRoomToRenumber}
 module _ {R : Type 0} (reader : ReaderCall R) (c : Contents) (h : WasRead greater reader c) where
   -- ---- renumber
 
-  pub owes_renumber : (out : Output) → RenumbersTo c.streams out → OwesWithin greater reader IsRenumbered out
+  pub owes_renumber : (out : Output) → RenumbersTo c.streams out → Owes greater reader IsRenumbered out
   owes_renumber out Ranks =
       OfBytes h.bytes (streams_output (renumbered_streams c.streams)) h.all (Ranked h.bytes c.streams c.acts h.spelled)
   owes_renumber out NoRoomToRenumber = ForMemory h.bytes h.all h.small
 
   -- ---- complete
 
-  pub owes_complete : (f : Form) (out : Output) → CompletesTo f c.streams out → OwesWithin greater reader (IsCompleted f) out
+  pub owes_complete : (f : Form) (out : Output) → CompletesTo f c.streams out → Owes greater reader (IsCompleted f) out
   owes_complete f out (Finds found o is answers) =
       OfBytes h.bytes o h.all
       (Answered h.bytes c.streams found o (record { given = c.acts; spelled = h.spelled; is = is }) answers)

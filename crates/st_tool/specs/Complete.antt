@@ -30,7 +30,7 @@ use Rattle.st_text.specs.Spelling as spelled
 use Rattle.st_chart.specs.Words.{place_words}
 use Rattle.st_chart.specs.Report.{event_line, event_words}
 use Rattle.st_commands.specs.Output.{Output, refused, bundled}
-use Rattle.st_commands.specs.Checked.{top, SpellsWithin}
+use Rattle.st_commands.specs.Checked.{top, Spells}
 use Rattle.st_tool.specs.declared.complete.Form.{Form}
 use Rattle.st_tool.specs.declared.complete.Form.TheVariants as form
 use Rattle.st_tool.specs.Renumber.{streams_output}
@@ -143,7 +143,7 @@ pub data Answers (f : Form) (streams : List Stream) : Answer → Output → Type
 -- the bytes spell streams, of which this is found
 pub record HasAnswer (bytes : List ℕ) (streams : List Stream) (found : Answer) : Type 0 where
   pub given : Option (List Act)
-  pub spelled : SpellsWithin greater bytes streams given
+  pub spelled : Spells greater bytes streams given
   pub is : IsAnswer top streams found
 
 pub data IsCompleted (f : Form) : List ℕ → Output → Type 0 where
@@ -167,7 +167,7 @@ pub record MeansCompleted (f : Form) (bytes : List ℕ) (out : Output) : Type 0 
   pub completed : Completed
   pub acts : List Act
   -- the bytes spell streams, within the reader's limits; acts among them are ignored
-  pub spelled : SpellsWithin greater bytes streams given
+  pub spelled : Spells greater bytes streams given
   -- the streams list none of the unlisted processes
   pub apart : AllByRecursion (λ q. lists streams q ≡ false) completed.unlisted
   -- acts show the streams, with the unlisted processes, of which each reports nothing
@@ -189,7 +189,7 @@ pub record MeansNever (bytes : List ℕ) (out : Output) : Type 0 where
   pub index : ℕ
   pub reason : Never
   -- the bytes spell streams, within the reader's limits; acts among them are ignored
-  pub spelled : SpellsWithin greater bytes streams given
+  pub spelled : Spells greater bytes streams given
   -- whatever other processes report nothing, no acts without a reset show the streams with them
   pub ruled_out : (others : List Pid) (acts : List Act) → NoReset acts
       → ¬ Shows top (with_silent streams others) acts
@@ -204,7 +204,7 @@ pub record MeansLong (f : Form) (bytes : List ℕ) (out : Output) : Type 0 where
   pub given : Option (List Act)
   pub completed : Completed
   -- the bytes spell streams, within the reader's limits; acts among them are ignored
-  pub spelled : SpellsWithin greater bytes streams given
+  pub spelled : Spells greater bytes streams given
   -- acts without a reset show the streams, with unlisted processes, and this is a completion
   pub whole : IsWhole top streams completed
   -- it has more processes than the reader takes, or surely has room only in more acts

@@ -9,7 +9,7 @@ use Rattle.st_text.specs.Limits.{greater}
 use Rattle.st_text.specs.Text.{spelling}
 use Rattle.st_completions.specs.Renumbering.{renumbered_streams}
 use Rattle.st_commands.specs.Output.{Output, refused}
-use Rattle.st_commands.specs.Checked.{SpellsWithin}
+use Rattle.st_commands.specs.Checked.{Spells}
 
 -- streams as a bundle without acts
 abbrev pub streams_output : List Stream → Output
@@ -20,6 +20,6 @@ streams_output streams = record {
 
 pub data IsRenumbered : List ℕ → Output → Type 0 where
   Ranked : (bytes : List ℕ) (streams : List Stream) (given : Option (List Act))
-      → SpellsWithin greater bytes streams given
+      → Spells greater bytes streams given
       → IsRenumbered bytes (streams_output (renumbered_streams streams))
   Faulty : (bytes : List ℕ) (f : ReadFault) → fault_within greater bytes ≡ Some f → IsRenumbered bytes (refused f)

@@ -7,8 +7,8 @@ ghost use Rattle.st_text.specs.Limits.{greater};
 ghost use Rattle.st_text.specs.Spelling.{ended_line};
 ghost use Rattle.st_text.specs.Writing.{WritesText};
 ghost use Rattle.st_plan.specs.Marks.{all_streams};
-ghost use Rattle.st_commands.specs.Command.{OwesWithin, Tells, call};
-ghost use Rattle.st_commands.specs.Meaning.{SaysWithin};
+ghost use Rattle.st_commands.specs.Command.{Owes, Tells, call};
+ghost use Rattle.st_commands.specs.Meaning.{Says};
 ghost use Rattle.st_complete.specs.Answers.{IsAnswer, IsWhole};
 ghost use Rattle.st_open.specs.Silent.{with_silent};
 ghost use Rattle.st_tool.specs.Complete.{IsCompleted, MeansCompleted, MeansLong, MeansNever};
@@ -214,15 +214,15 @@ pub fn run_complete<H: Threads + Sync, R: ByteSource, W: ByteSink, N: ByteSink>(
     form: Form,
 ) -> u8
     ensures told { Tells (call W.ByteSink writer.old writer.new)
-        (OwesWithin greater (call R.ByteSource reader.old reader.new) (IsCompleted form)) result }
+        (Owes greater (call R.ByteSource reader.old reader.new) (IsCompleted form)) result }
 
     // What that says of a completion, of a reason and of a completion that is too long, in the
     // machine's own words.
-    ensures completed { result ≡ 0 → SaysWithin greater (call R.ByteSource reader.old reader.new)
+    ensures completed { result ≡ 0 → Says greater (call R.ByteSource reader.old reader.new)
         (call W.ByteSink writer.old writer.new) (MeansCompleted form) }
-    ensures never { result ≡ 1 → SaysWithin greater (call R.ByteSource reader.old reader.new)
+    ensures never { result ≡ 1 → Says greater (call R.ByteSource reader.old reader.new)
         (call W.ByteSink writer.old writer.new) MeansNever }
-    ensures long { result ≡ 5 → SaysWithin greater (call R.ByteSource reader.old reader.new)
+    ensures long { result ≡ 5 → Says greater (call R.ByteSource reader.old reader.new)
         (call W.ByteSink writer.old writer.new) (MeansLong form) }
 {
     match read_within(alloc, reader, Limits::GREATER) {

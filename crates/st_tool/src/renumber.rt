@@ -2,7 +2,7 @@
 //! rank. The acts in the input are ignored.
 
 ghost use Rattle.st_text.specs.Limits.{greater};
-ghost use Rattle.st_commands.specs.Command.{OwesWithin, Tells, call};
+ghost use Rattle.st_commands.specs.Command.{Owes, Tells, call};
 ghost use Rattle.st_tool.specs.Parts.{RenumbersTo};
 ghost use Rattle.st_tool.specs.Renumber.{IsRenumbered};
 
@@ -29,7 +29,7 @@ fn renumber_streams<W: ByteSink>(alloc: Global, streams: &Streams, writer: &mut 
 /// reader or a writer that fails, are 4.
 pub fn run_renumber<R: ByteSource, W: ByteSink>(alloc: Global, reader: &mut R, writer: &mut W) -> u8
     ensures { Tells (call W.ByteSink writer.old writer.new)
-        (OwesWithin greater (call R.ByteSource reader.old reader.new) IsRenumbered) result }
+        (Owes greater (call R.ByteSource reader.old reader.new) IsRenumbered) result }
 {
     match read_within(alloc, reader, Limits::GREATER) {
         Ok(bundle) => renumber_streams(alloc, &bundle.streams, writer),

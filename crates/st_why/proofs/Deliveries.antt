@@ -6,7 +6,7 @@ use Rattle.st_text.specs.Text.{Contents}
 use Rattle.st_pair.specs.Pairing.{refusal}
 use Rattle.st_commands.specs.Output.{Output}
 use Rattle.st_commands.specs.Audited.{report_output}
-use Rattle.st_commands.specs.Command.{ReaderCall, OwesWithin, OfBytes, ForMemory}
+use Rattle.st_commands.specs.Command.{ReaderCall, Owes, OfBytes, ForMemory}
 use Rattle.st_commands.proofs.ForCallers.{WasRead}
 use Rattle.st_why.specs.declared.question.Question.{Question}
 use Rattle.st_why.specs.Why.{ArePaired, IsWhy, Found, Lacking, Unpaired, found, no_event}
@@ -16,7 +16,7 @@ module _ {R : Type 0} (reader : ReaderCall R) (c : Contents) (h : WasRead greate
   paired : refusal c.streams ≡ None → ArePaired h.bytes c.streams
   paired ok = record { given = c.acts; spelled = h.spelled; accepted = ok }
 
-  pub owes_why : (out : Output) → AnswersOf c.streams q out → OwesWithin greater reader (IsWhy q) out
+  pub owes_why : (out : Output) → AnswersOf c.streams q out → Owes greater reader (IsWhy q) out
   owes_why out (OfFound x ok at) =
       OfBytes h.bytes (found c.streams q x) h.all (Found h.bytes c.streams x (paired ok) at)
   owes_why out (OfNoEvent ok none) =

@@ -1,4 +1,5 @@
 -- The lemmas.
 pub mod Answers
 pub mod Deliveries
+pub mod Meanings
 pub mod Pieces

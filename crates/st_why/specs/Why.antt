@@ -19,7 +19,7 @@ use Rattle.st_audit.specs.declared.finding.Finding.{Finding}
 use Rattle.st_audit.specs.Findings.{unfit_by}
 use Rattle.st_chart.specs.Words.{place_words}
 use Rattle.st_commands.specs.Output.{Output, refused}
-use Rattle.st_commands.specs.Checked.{SpellsWithin}
+use Rattle.st_commands.specs.Checked.{Spells}
 use Rattle.st_commands.specs.Audited.{report_output}
 use Rattle.st_lines.specs.Lines.{line_of}
 use Rattle.st_hops.specs.declared.node.Node.{Node}
@@ -88,13 +88,13 @@ no_event s = record { text = ended_line (codes "no event " ++ start_words s); st
 -- the bytes spell streams that pairing accepts
 pub record ArePaired (bytes : List ℕ) (streams : List Stream) : Type 0 where
   pub given : Option (List Act)
-  pub spelled : SpellsWithin greater bytes streams given
+  pub spelled : Spells greater bytes streams given
   pub accepted : refusal streams ≡ None
 
 -- the bytes spell streams that pairing refuses, and this is its reason as a finding
 pub record AreRefused (bytes : List ℕ) (streams : List Stream) (reason : Finding) : Type 0 where
   pub given : Option (List Act)
-  pub spelled : SpellsWithin greater bytes streams given
+  pub spelled : Spells greater bytes streams given
   pub fault : PairFault
   pub refused : refusal streams ≡ Some fault
   pub found_by : unfit_by fault ≡ Some reason

@@ -2,10 +2,12 @@
 //! caused. The acts in the input are ignored.
 
 ghost use Rattle.std.specs.Prelude.{◌≡◌, IfNone, IfSome, None};
-ghost use Rattle.st_commands.specs.Command.{OwesWithin, Tells, call};
+ghost use Rattle.st_commands.specs.Command.{Owes, Tells, call};
+ghost use Rattle.st_commands.specs.Meaning.{Says};
 ghost use Rattle.st_pair.specs.Links.{IsPairing};
 ghost use Rattle.st_pair.specs.Pairing.{IsPairFault, refusal};
 ghost use Rattle.st_text.specs.Limits.{greater};
+ghost use Rattle.st_why.specs.Meaning.{MeansTold, MeansUntold};
 ghost use Rattle.st_why.specs.Parts.{AnswersOf};
 ghost use Rattle.st_why.specs.Why.{HasNoStart, IsStart, IsWhy};
 
@@ -16,6 +18,7 @@ use st_audit::unfit_by;
 use st_commands::{status_of, tell_fault, tell_finding, tell_line};
 use st_core::{ByteSink, ByteSource, Pid, Streams};
 use st_hops::Origins;
+use st_hops::laws::hops_are_true;
 use st_lines::LineNumbers;
 use st_pair::{PairFault, Pairing, pair};
 use st_text::{Limits, ReadFault, read_within};
@@ -144,9 +147,16 @@ pub fn run_why<R: ByteSource, W: ByteSink>(
     writer: &mut W,
     question: Question,
 ) -> u8
-    ensures { Tells (call W.ByteSink writer.old writer.new)
-        (OwesWithin greater (call R.ByteSource reader.old reader.new) (IsWhy question)) result }
+    ensures told { Tells (call W.ByteSink writer.old writer.new)
+        (Owes greater (call R.ByteSource reader.old reader.new) (IsWhy question)) result }
+
+    // What that says of an event that is there, and of a no, in the machine's own words.
+    ensures found { result ≡ 0 → Says greater (call R.ByteSource reader.old reader.new)
+        (call W.ByteSink writer.old writer.new) (MeansTold question) }
+    ensures untold { result ≡ 1 → Says greater (call R.ByteSource reader.old reader.new)
+        (call W.ByteSink writer.old writer.new) (MeansUntold question) }
 {
+    hops_are_true();
     match read_within(alloc, reader, Limits::GREATER) {
         Ok(bundle) => answer_streams(alloc, &bundle.streams, question, writer),
         Err(fault) => tell_fault(writer, fault),
