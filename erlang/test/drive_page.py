@@ -428,7 +428,7 @@ def reset(browser, checks):
 
 
 def production(browser, checks):
-    """A chain over three of sixty lanes, with times: by the clock, as tables, in the dark, on a narrow window and on paper."""
+    """A chain over three of sixty lanes, with times: by the clock, as tables, in the dark, on a narrow window, on paper."""
     widths = "[...document.querySelectorAll('#names .name')].map(e => e.offsetWidth)"
     browser.click("#list [data-row='2']")
     panel = browser.ask("document.querySelector('#panel').textContent")

@@ -222,7 +222,8 @@ first_token_put_back_test_() ->
     end, fun(Command) ->
         Audit = Command(["audit"]),
         has(Audit, ["fits: 4 events of 3 processes, with 2 sends that nobody reported; the cause of 1 event isn't "
-                    "known\n", "Tokens may have been put back (seq_trace:set_token/1), so the audit took ", "(status 0)"]),
+                    "known\n", "Tokens may have been put back (seq_trace:set_token/1), so the audit took ",
+                    "(status 0)"]),
         has_none(Audit, ["reset", "Counts that no event here has"])
     end).
 

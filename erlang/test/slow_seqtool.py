@@ -117,12 +117,12 @@ def hidden_sends(streams, source):
 
 class Stretch:
     """The receives between two reported stamps of a process, each of which may be missing, and the hidden sends whose
-    counts lie between theirs. A send at gap K is behind K of the receives. A stamp costs nothing, that is, it isn't a need,
-    if what is before it leaves its prev, or if its prev isn't below the clock."""
+    counts lie between theirs. A send at gap K is behind K of the receives. A stamp costs nothing, that is, it isn't a
+    need, if what is before it leaves its prev, or if its prev isn't below the clock."""
 
     def __init__(self, before, receives, sends, stamp):
         self.before, self.sends, self.stamp, self.end = before, sends, stamp, len(receives)
-        # The clock at each gap by what is reported, and the gaps behind receives of a count, and of a count and a label.
+        # The clock at each gap by what is reported, and the gaps behind receives of a count, and of that and a label.
         self.clocks, self.behind = [before.this if before else 0], defaultdict(list)
         for gap, receive in enumerate(receives, 1):
             self.clocks.append(max(self.clocks[-1], receive.this))
@@ -223,8 +223,8 @@ def unreceived_sends(streams, source):
 
 
 def lost_receives(pid, asking, unreceived):
-    """Which stamps follow a reported send that no reported receive took. Those that ask come with how their prev lies to
-    the clock: needs take first, and for each sort those whose label is that of the send."""
+    """Which stamps follow a reported send that no reported receive took. Those that ask come with how their prev lies
+    to the clock: needs take first, and for each sort those whose label is that of the send."""
     found = {}
     for sort, same_label in product((-1, 1), (True, False)):
         for item, side in asking:
@@ -261,8 +261,8 @@ def unlisted_pids(listed):
 
 
 def with_senders(whole):
-    """The completion with a sender for each receive that needs one: of each count the processes that stamp it nowhere, by
-    rising pid, and then as few others as are enough, of which each sends a count once."""
+    """The completion with a sender for each receive that needs one: of each count the processes that stamp it nowhere,
+    by rising pid, and then as few others as are enough, of which each sends a count once."""
     needs, stamping, sent = defaultdict(list), defaultdict(set), defaultdict(list)
     for pid, items in whole.items():
         for item in items:
