@@ -37,7 +37,7 @@ returns-in-Err-Uncertified g c =
       output = uncertified;
       owed = Finds (answer.Whole c.args.completion.now) uncertified c.requires.whole
           (IsUncertified c.args.completion.now refl);
-      delivered = c.tell_line.ensures;
+      delivered = c.tell_line-in-Err-Uncertified.ensures;
     }
 
 pub returns-in-Err-Memory : goal.returns-in-Err-Memory
