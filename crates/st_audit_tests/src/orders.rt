@@ -100,7 +100,7 @@ fn labels_rise(rt: HostRuntime) -> Result<(), Fail> {
     Ok(())
 }
 
-/// A hidden send stands at the place of its receive, and is about it.
+/// A hidden send is at the place of its receive, and is about it.
 #[test]
 fn an_item_is_about_the_event_at_its_place(rt: HostRuntime) -> Result<(), Fail> {
     let streams = streams(rt.alloc(), HIDDEN_SENDS_CERTIFICATE)?;
@@ -186,7 +186,7 @@ fn label(process: u16, index: u32) -> u32 {
     u32::from(process).wrapping_mul(7).wrapping_add(index / 2) % LABELS
 }
 
-/// Whether the event at this index would be a send that nobody reports. A print stands there.
+/// Whether the event at this index would be a send that nobody reports. A print is there.
 fn is_silent(index: u32) -> bool {
     index % 8 == 6
 }

@@ -1,4 +1,4 @@
-//! The stamps that ask for a message: sends and prints whose prev isn't what stands before them
+//! The stamps that ask for a message: sends and prints whose prev isn't what is before them
 //! leaves.
 
 use crate::entries::Entries;

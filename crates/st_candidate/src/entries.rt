@@ -64,7 +64,7 @@ impl<'a> Entries<'a> {
         self.left
     }
 
-    /// The receive that stands before the next event, if there is one.
+    /// The receive that is before the next event, if there is one.
     fn next_receive(&mut self) -> Option<Event> {
         let (ask, others) = self.asks.split_first()?;
         if ask.index != self.index {
@@ -78,7 +78,7 @@ impl<'a> Entries<'a> {
         })
     }
 
-    /// The hidden send that stands before the next reported event, if there is one.
+    /// The hidden send that is before the next reported event, if there is one.
     fn next_hidden(&mut self) -> Option<Event> {
         let (send, others) = self.hidden.split_first()?;
         if send.place > self.place {

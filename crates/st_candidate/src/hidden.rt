@@ -6,7 +6,7 @@ use st_pair::{Pairing, Source};
 use std::alloc::{AllocError, Global};
 
 /// The receive of a hidden send. Indexes have half the memory of a `usize` in all of the candidate:
-/// one past what they hold is wrong, and the judge refuses what comes of it.
+/// one past what they hold is wrong, and the judge refuses the outcome of it.
 #[derive(Clone, Copy, Debug)]
 struct Receipt {
     /// The count of the message.
@@ -24,8 +24,8 @@ struct Receipt {
 pub(crate) struct HiddenSend {
     /// The send, as its receive tells of it.
     pub event: Event,
-    /// The index of its sender's reported event that it stands before, the number of these events
-    /// if it stands behind all; 0 until the walk has found it.
+    /// The index of its sender's reported event that it is before, the number of these events
+    /// if it is behind all; 0 until the walk has found it.
     pub place: u32,
 }
 

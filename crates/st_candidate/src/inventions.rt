@@ -7,7 +7,7 @@ use st_core::{Event, Kind, Label, Pid, Serial, Streams};
 use st_needs::{Left, is_stamp};
 use std::alloc::AllocError;
 
-/// The send of an invented message. It stands before the first event of its sender that doesn't
+/// The send of an invented message. It is before the first event of its sender that doesn't
 /// count lower, or at the end.
 #[derive(Clone, Copy, Debug)]
 pub(crate) struct Invention {
@@ -42,7 +42,7 @@ impl Invention {
     }
 }
 
-/// The prev of an invented send before an event: what stands before leaves, so that it costs
+/// The prev of an invented send before an event: what is before leaves, so that it costs
 /// nothing; or the event's own prev, if that lies between the clock and the send's count. Then the
 /// trace of the event begins before the invented send, and the event costs nothing behind it.
 fn prev_before(left: Left, count: u64, next: Option<&Event>) -> u64 {
@@ -60,12 +60,12 @@ struct Inventor<'a> {
     inventions: &'a mut [Invention],
     /// How many of them have their prevs.
     done: usize,
-    /// What stands before leaves.
+    /// What is before leaves.
     left: Left,
 }
 
 impl Inventor<'_> {
-    /// Gives prevs to the sends that stand before this event, or to all if there is no more event.
+    /// Gives prevs to the sends that are before this event, or to all if there is no more event.
     fn come_to(&mut self, next: Option<&Event>) {
         for number in self.done..self.inventions.len() {
             let Some(invention) = self.inventions.get_mut(number) else {

@@ -60,7 +60,7 @@ impl Stamps {
     }
 }
 
-/// Notes where the other end of a message stands.
+/// Notes where the other end of a message is.
 fn note(rows: &mut [Vec<u32>], place: usize, index: usize, link: u32) {
     if let Some(row) = rows.get_mut(place) {
         if let Some(slot) = row.get_mut(index) {

@@ -1,9 +1,9 @@
-//! Where hidden sends stand among the events of their processes.
+//! Where hidden sends are among the events of their processes.
 //!
-//! A hidden send stands somewhere between the two reported stamps of its sender whose counts are
+//! A hidden send is somewhere between the two reported stamps of its sender whose counts are
 //! the nearest, before the first receive that doesn't count lower. Which receives of this stretch
-//! it stands behind decides what its prev costs. It costs nothing if the machine could have stamped
-//! it there by what is known: what stands before it leaves its prev, or a new trace began, since
+//! it is behind decides what its prev costs. It costs nothing if the machine could have stamped
+//! it there by what is known: what is before it leaves its prev, or a new trace began, since
 //! its prev isn't below the clock (the greatest count so far). Else a message must be added that
 //! gives the prev.
 //!
@@ -42,7 +42,7 @@ enum Next {
 }
 
 impl Next {
-    /// Whether what comes next may stand at this gap, which isn't past its last place, the limit. A
+    /// Whether what comes next may be at this gap, which isn't past its last place, the limit. A
     /// hidden send may move back to it, but the reported stamp has one place, its limit.
     fn may_stand_at(self, gap: usize, limit: usize) -> bool {
         match self {
@@ -59,7 +59,7 @@ impl Next {
             Next::Nothing => return limit,
             Next::Send(prev) | Next::Stamp(prev) => prev,
         };
-        // The send leaves its own prev, wherever it stands.
+        // The send leaves its own prev, wherever it is.
         if prev == send.prev {
             return limit;
         }
@@ -104,11 +104,11 @@ fn walk_back(ground: &Ground, stretch: Stretch<'_>, steps: &mut [Step]) {
 struct Standing {
     /// The gap, which never goes back.
     gap: usize,
-    /// The prev that what stands before leaves.
+    /// The prev that what is before leaves.
     prev: u64,
-    /// The label of what stands before; none at the start of a process.
+    /// The label of what is before; none at the start of a process.
     label: Option<Label>,
-    /// The greatest count of what stands before.
+    /// The greatest count of what is before.
     clock: u64,
 }
 
@@ -140,7 +140,7 @@ impl Standing {
         if let Some(gap) = ground.next_behind(send.prev, self.gap, limit) {
             return gap;
         }
-        // A trace that began later, at a clock that nothing reported shows: it may stand behind
+        // A trace that began later, at a clock that nothing reported shows: it may be behind
         // all that counts no higher.
         if send.prev > self.clock {
             return self.gap.max(limit.min(ground.last_up_to(send.prev)));

@@ -190,7 +190,7 @@ const AFTER: OptionRow = OptionRow {
     help: "The trace after, of the same program",
 };
 
-/// The process of `why PID I`; with `--line` the file stands in its place.
+/// The process of `why PID I`; with `--line` the file is in its place.
 const WHY_PID: OptionRow = OptionRow {
     name: "PID",
     long: None,

@@ -1,4 +1,4 @@
--- An act stands in its own process's script and in no other, so one more act makes that script longer by it.
+-- An act is in its own process's script and in no other, so one more act makes that script longer by it.
 use Rattle.std.proofs.Common.{◌≡◌, zero, suc, Bool, true, false, List, [], ◌∷◌, ◌++◌, cond, refl, sym, ap, ◌∙◌}
 use Rattle.std.proofs.Common.{ℕ, ◌+◌, ◌<◌, get_or, set, slice_get, take, length, Some, subst, arith}
 use Rattle.std.specs.List.{AllByRecursion}

@@ -1,5 +1,5 @@
 -- The outputs of a bundle that was read, for the contracts of the functions that a command is made
--- of. What a command does in all stands in `Command`.
+-- of. What a command does in all is in `Command`.
 use Rattle.std.specs.Prelude.{◌≡◌, ℕ, true, false, List, Some, None}
 use Rattle.std.specs.List.{list_any}
 use Rattle.st_core.specs.declared.types.Label.{Label}

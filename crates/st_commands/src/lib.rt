@@ -2,7 +2,7 @@
 //! them, and returns the exit status.
 //!
 //! The contract of `run` says what it writes and returns, and each command has a function whose
-//! contract says it for that command. The definitions stand in `specs/`; `laws` says what the
+//! contract says it for that command. The definitions are in `specs/`; `laws` says what the
 //! outputs mean.
 #![tactic(auto)]
 

@@ -54,7 +54,7 @@ place_with (x ∷ streams) p i e at =
       | false ↦ λ other at. let rest = place_with streams p i e at in (suc rest.0, rest.1)
     ] refl at
 
--- a pid stands at one place
+-- a pid is at one place
 same_place : (ps : List Pid) (k l : ℕ) (p : Pid) → IsRising ps → slice_get ps k ≡ Some p → slice_get ps l ≡ Some p
     → k ≡ l
 same_place [] k l p rising at there = absurd (none-some p at)

@@ -1,4 +1,4 @@
--- When pairing accepts streams, said of their events two at a time: the least place at which a rule stands would be one
+-- When pairing accepts streams, said of their events two at a time: the least place at which a rule holds would be one
 -- of two events that don't fit.
 use Rattle.std.proofs.Common.{◌≡◌, ℕ, zero, suc, ◌+◌, ◌<◌, ◌==◌, ◌&&◌, ◌||◌, nat_lt, Bool, true, false, not, cond}
 use Rattle.std.proofs.Common.{List, [], ◌∷◌, Option, Some, None, slice_get, refl, sym, ◌∙◌, ap, subst, arith}
@@ -55,7 +55,7 @@ stamp_before_is es (suc i) g h =
           ] refl h
     ] refl h
 
--- a rule that stands where a test fails doesn't where it holds
+-- a rule that holds if a test fails doesn't hold if it passes
 stands_not : {X : Type 0} (b : Bool) (y x : X) → b ≡ true → cond b None (Some y) ≡ Some x → ⊥
 stands_not true y x is h = none-some x h
 stands_not false y x is h = absurd (false≢true is)

@@ -40,7 +40,7 @@ use Rattle.st_completions.proofs.Suppliers.{given_if}
 
 -- LISTS OF MARKED EVENTS
 
--- what stands at some place
+-- what is at some place
 pub record IsSomewhere {X : Type 0} (xs : List X) (x : X) : Type 0 where
   pub index : ℕ
   pub at : slice_get xs index ≡ Some x
@@ -87,7 +87,7 @@ unfiltered {X} test (y ∷ xs) k x at =
       ] at
     ] refl at
 
--- a told one stands among the told events
+-- a told one is among the told events
 pub told_somewhere : (ms : List Marked) (k : ℕ) (m : Marked) → slice_get ms k ≡ Some m → m.told ≡ true
     → IsSomewhere (told_events ms) m.event
 told_somewhere [] k m at told = absurd (none-some m at)

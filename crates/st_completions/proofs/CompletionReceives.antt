@@ -119,7 +119,7 @@ module _ (top : ℕ) (s : Supply) (streams : List Stream) (good : IsGood top str
         (ap (λ n. pid_eq y s.from && n == w) first.prev ∙ other);
   }
 
-  -- it stands where the completion puts it
+  -- it is where the completion puts it
   is_after : (f : ℕ × Event) → stamp_of streams s.from v ≡ Some f
       → more s.to (place_of_need v [] (events_of streams s.to)) (receive_for f.1) streams ≡ after
   is_after f is =

@@ -97,7 +97,7 @@ module _ (top : ℕ) (s : Supply) where
       free_else = free_else top streams good s served free;
     }
 
-    -- it stands where the completion puts it
+    -- it is where the completion puts it
     is_after : more s.from (place_below v es) (send_among s es) streams ≡ after
     is_after =
         let put = place top streams good s served free in

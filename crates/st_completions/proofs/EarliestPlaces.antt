@@ -1,8 +1,8 @@
 -- Why the hidden sends of a process do at their earliest places. All stamps stand by rising count then,
--- so none is late if no reported one is. And a hidden send stands right behind a stamp, or at the start:
--- so what stands right before a stamp with prev 0 is a stamp of a lower count or, if the stamp is
--- reported, a receive. If neither a receive nor a stamp with another prev stands before one with prev 0,
--- 0 is left there, or nothing stands before it.
+-- so none is late if no reported one is. And a hidden send is right behind a stamp, or at the start:
+-- so what is right before a stamp with prev 0 is a stamp of a lower count or, if the stamp is
+-- reported, a receive. If neither a receive nor a stamp with another prev is before one with prev 0,
+-- 0 is left there, or nothing is before it.
 use Rattle.std.proofs.Common.{◌≡◌, ◌⊎◌, inl, inr, ℕ, zero, suc, ◌<◌, ◌≤◌, ◌==◌, ◌&&◌, max, nat_lt, Bool, true}
 use Rattle.std.proofs.Common.{false, not, cond, List, [], ◌∷◌, ◌++◌, Some, None, slice_get, refl, sym, ◌∙◌}
 use Rattle.std.proofs.Common.{ap, subst, arith}
@@ -211,7 +211,7 @@ module _ (Stamps : Event → Type 0) where
 
   -- NONE IS LATE
 
-  -- the next hidden sends count above what stands before, or don't come yet
+  -- the next hidden sends count above what is before, or don't come yet
   abbrev AreHigh : List Event → List Event → List Event → Type 0
   AreHigh before es hs = (k : ℕ) (h : Event) → slice_get hs k ≡ Some h
       → (greatest_count before < h.serial.this) ⊎ (comes_first h.serial.this es ≡ false)

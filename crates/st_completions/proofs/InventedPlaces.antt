@@ -1,4 +1,4 @@
--- Where an invented send stands: before it all counts are lower, and behind it each stamp is higher, since none is
+-- Where an invented send is: before it all counts are lower, and behind it each stamp is higher, since none is
 -- late; its prev is lower too, being what events of lower counts leave, or the prev that begins a trace.
 use Rattle.std.proofs.Common.{◌≡◌, ℕ, zero, suc, ◌+◌, ◌<◌, ◌≤◌, ◌==◌, ◌&&◌, nat_lt, true, false, not, cond}
 use Rattle.std.proofs.Common.{List, [], ◌∷◌, ◌++◌, length, Some, slice_get, take, drop, append-nil, append_assoc, refl}

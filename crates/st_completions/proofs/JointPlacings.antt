@@ -1,6 +1,6 @@
 -- Placings of the processes, each chosen by itself, are together a choice. Each event of one is
--- reported or a hidden send. Stamps that aren't late rise. A receive stands once, since only
--- reported events are receives. Its send is reported or a hidden send; then it stands in its
+-- reported or a hidden send. Stamps that aren't late rise. A receive occurs once, since only
+-- reported events are receives. Its send is reported or a hidden send; then it is in its
 -- process's placing, as do all hidden sends of the process.
 use Rattle.std.proofs.Common.{◌≡◌, ◌⊎◌, inl, inr, ℕ, zero, suc, ◌+◌, ◌<◌, ◌≤◌, ◌==◌, ◌&&◌}
 use Rattle.std.proofs.Common.{true, false, cond, List, [], ◌∷◌, ◌++◌, map, take, find, Option, Some}
@@ -44,7 +44,7 @@ use Rattle.st_completions.proofs.UntoldEvents.{above_if, count_at, first_of, hid
 
 -- MARKED EVENTS
 
--- an untold one stands among the untold events
+-- an untold one is among the untold events
 pub untold_somewhere : (ms : List Marked) (k : ℕ) (m : Marked) → slice_get ms k ≡ Some m
     → m.told ≡ false
     → IsSomewhere (untold_events ms) m.event
@@ -170,7 +170,7 @@ module _ (streams : List Stream) (rising : IsRising (pids_of streams)) (q : Pid)
       let t = h.taken in
       ap (λ (x : Event). x.serial.this) (sym h.is) ∙ t.count
 
-  -- what stands among the hidden sends is one
+  -- what is among the hidden sends is one
   pub hidden_each : (v n k : ℕ) (f : Event) → slice_get (hidden_from streams q v n) k ≡ Some f
       → hidden_send streams q f.serial.this ≡ Some f
   hidden_each v zero k f at = absurd (none-some f at)
@@ -189,7 +189,7 @@ module _ (streams : List Stream) (rising : IsRising (pids_of streams)) (q : Pid)
             ] at
       ] refl at
 
-  -- and each one stands there
+  -- and each one is there
   pub hidden_found : (v n w : ℕ) (f : Event) → v ≤ w → w < v + n → hidden_send streams q w ≡ Some f
       → IsSomewhere (hidden_from streams q v n) f
   hidden_found v zero w f low high is = absurd (omega arith)
@@ -393,7 +393,7 @@ module _ (streams : List Stream) (sound : IsStreams streams) (accepted : refusal
         ∙ send_stamps m.event (hidden_stamps p m.event (hidden_in p k m at told))))
   ] refl
 
-  -- two receives of one message don't stand one before the other
+  -- of two receives of one message none is before the other
   not_before : (p : Pid) (i j : ℕ) (d e : Event) → i < j → event_at all p i ≡ Some d
       → event_at all p j ≡ Some e
       → is_stamp d ≡ false → is_stamp e ≡ false → d.from ≡ e.from → d.serial.this ≡ e.serial.this
@@ -558,7 +558,7 @@ module _ (streams : List Stream) (sound : IsStreams streams) (accepted : refusal
   pub placed_there : (p : Pid) → lists streams p ≡ true → events_of all p ≡ placed p
   placed_there p listed = events_all wholes p ∙ ap events (marks_listed p listed)
 
-  -- an event stands behind the same events as in its placing
+  -- an event is behind the same events as in its placing
   timely_all : HoldsOfNone is_late all
   timely_all p i e at = elim (lists streams p) as (λ b. lists streams p ≡ b
       → is_late (take i (events_of all p)) e ≡ false) [

@@ -44,7 +44,7 @@ events_told (w ∷ wholes) p =
       | false ↦ events_told wholes p
     ]
 
--- a marked event of p stands in its whole stream
+-- a marked event of p is in its whole stream
 pub at_mark : (wholes : List Whole) (p : Pid) (k : ℕ) (m : Marked) → slice_get (marked_of wholes p) k ≡ Some m
     → event_at (all_streams wholes) p k ≡ Some m.event
 at_mark wholes p k m at = ap (λ es. slice_get es k) (events_all wholes p) ∙ event_of_mark (marked_of wholes p) k m at

@@ -1,4 +1,4 @@
--- The counts of streams stand in a rising list that begins with 0. The rank of one of them is its place there, and what
+-- The counts of streams are in a rising list that begins with 0. The rank of one of them is its place there, and what
 -- stands at that place is the count again; and a later place has a greater count. So streams are their renumbered
 -- streams with the counts put back, in order.
 use Rattle.std.proofs.Common.{◌≡◌, ℕ, ◌+◌, zero, suc, ◌<◌, ◌≤◌, ◌⊎◌, inl, inr, nat_lt, true, false, cond}

@@ -1,4 +1,4 @@
--- Where the sends that nobody reported may stand: a choice of their places among the reported
+-- Where the sends that nobody reported may be: a choice of their places among the reported
 -- events.
 use Rattle.std.specs.Prelude.{◌≡◌, ℕ, ◌&&◌, Bool, true, false, List, Some, is_some, slice_get}
 use Rattle.st_core.specs.declared.types.Pid.{Pid}

@@ -1,5 +1,5 @@
 -- The completion of streams of which no reason holds: who sends what feeds each need, and where
--- these sends and their receives stand.
+-- these sends and their receives are.
 use Rattle.std.specs.Prelude.{ℕ, zero, suc, ◌+◌, ◌-◌, ◌==◌, ◌&&◌, Bool, true, false, not, nat_lt}
 use Rattle.std.specs.Prelude.{List, [], ◌∷◌, ◌++◌, map, filter, length, take, drop, slice_get}
 use Rattle.std.specs.Prelude.{Option, Some, None, if◌then◌else◌}

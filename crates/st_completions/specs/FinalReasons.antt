@@ -1,4 +1,4 @@
--- What is final wherever the sends that nobody reported stand: a stamp with prev 0 behind another
+-- What is final wherever the sends that nobody reported are: a stamp with prev 0 behind another
 -- prev or a receive.
 use Rattle.std.specs.Prelude.{◌≡◌, ◌⊎◌, ℕ, ◌<◌, true, false, List, Some}
 use Rattle.st_core.specs.declared.types.Pid.{Pid}
@@ -27,7 +27,7 @@ pub record HasZeroBehindStamp (streams : List Stream) (p : Pid) : Type 0 where
   pub some : 0 < first.serial.prev
   pub is_zero : later.serial.prev ≡ 0
 
--- a reported stamp of p has prev 0, and stands behind a receive
+-- a reported stamp of p has prev 0, and is behind a receive
 pub record HasZeroBehindReceive (streams : List Stream) (p : Pid) : Type 0 where
   pub index : ℕ
   pub received : Event

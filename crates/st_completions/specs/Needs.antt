@@ -33,7 +33,7 @@ HoldsOfNone test streams = (p : Pid) (i : ℕ) (e : Event) → event_at streams 
 abbrev pub marked_of : List Whole → Pid → List Marked
 marked_of wholes p = elim (find (λ w. pid_eq w.pid p) wholes) [ None ↦ [] | Some w ↦ w.marked ]
 
--- Between the told event before place k and this place stands an untold receive of this count.
+-- Between the told event before place k and this place is an untold receive of this count.
 pub record IsFed (ms : List Marked) (k this : ℕ) : Type 0 where
   pub index : ℕ
   pub event : Event
@@ -43,13 +43,13 @@ pub record IsFed (ms : List Marked) (k this : ℕ) : Type 0 where
   pub feeds : event.serial.this ≡ this
   pub between : told_events (take index ms) ≡ told_events (take k ms)
 
--- told event i is e, and stands at this place
+-- told event i is e, and is at this place
 pub record IsToldAt (ms : List Marked) (i : ℕ) (e : Event) : Type 0 where
   pub index : ℕ
   pub at : slice_get ms index ≡ Some (record { event = e; told = true })
   pub before : told_events (take index ms) ≡ take i (told_events ms)
 
--- told event i is a stamp e, and what stands before it is fed
+-- told event i is a stamp e, and what is before it is fed
 pub record IsFedAt (ms : List Marked) (i : ℕ) (e : Event) : Type 0 where
   pub place : IsToldAt ms i e
   pub fed : IsFed ms place.index e.serial.prev

@@ -1,4 +1,4 @@
--- Where the hidden sends of a process may stand among its reported events, and their earliest places.
+-- Where the hidden sends of a process may be among its reported events, and their earliest places.
 use Rattle.std.specs.Prelude.{◌≡◌, ℕ, Bool, true, false, nat_lt, List, [], ◌∷◌, ◌++◌, map}
 use Rattle.std.specs.Prelude.{if◌then◌else◌}
 use Rattle.st_core.specs.declared.types.Pid.{Pid}

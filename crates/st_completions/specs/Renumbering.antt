@@ -32,7 +32,7 @@ insert_counts [] cs = cs
 insert_counts (e ∷ es) cs =
     insert_count e.serial.prev (insert_count e.serial.this (insert_counts es cs))
 
--- 0 and all counts that stand in the streams, each once, rising
+-- 0 and all counts that are in the streams, each once, rising
 abbrev pub counts_of : List Stream → List ℕ
 counts_of [] = 0 ∷ []
 counts_of (s ∷ rest) = insert_counts s.events (counts_of rest)

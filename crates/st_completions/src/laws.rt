@@ -178,7 +178,7 @@ pub fn streams_are_shown_or_refused()
 
 /// And a reason is final, whether sends are hidden or not: if one holds of streams, no acts
 /// without a reset show them. So streams are refused only if they are never shown. Only `TooHigh`
-/// depends on TOP: the others stand at each.
+/// depends on TOP: the others are at each.
 pub fn refused_only_if_never_shown()
     ensures { (top : ℕ) (streams : List Stream) → IsRising (pids_of streams) → (reason : Reason)
         → StandsAgainst top streams reason → (acts : List Act) → NoReset acts
@@ -193,8 +193,8 @@ pub fn shown_exactly_if_hidden_sends_have_places()
         → (IsShownInOneTrace top streams ↔ HasChoice top streams) }
 {}
 
-/// Some needs of 0 stay wherever hidden sends stand: if a process has a stamp with prev 0, and a
-/// stamp of a lower count has another prev, or a receive stands before the reported stamp, no acts
+/// Some needs of 0 stay wherever hidden sends are: if a process has a stamp with prev 0, and a
+/// stamp of a lower count has another prev, or a receive is before the reported stamp, no acts
 /// without a reset show the streams.
 pub fn zeros_behind_others_are_final()
     ensures { (top : ℕ) (streams : List Stream) → IsRising (pids_of streams) → (p : Pid)
@@ -222,13 +222,13 @@ pub fn placings_together_are_a_choice()
 {}
 
 /// And each process has a placing, if no reported stamp is late: the earliest, in which each hidden
-/// send stands as soon as all stamps of lower counts have come.
+/// send is as soon as all stamps of lower counts have come.
 pub fn earliest_places_are_a_placing()
     ensures { (streams : List Stream) → IsStreams streams → refusal streams ≡ None
         → (p : Pid) → HoldsOfNone is_late streams → IsPlacing streams p (earliest_of streams p) }
 {}
 
-/// It needs no 0, unless a stamp with prev 0 stands behind another prev or a receive, which is final.
+/// It needs no 0, unless a stamp with prev 0 is behind another prev or a receive, which is final.
 pub fn earliest_places_need_no_zero()
     ensures { (streams : List Stream) → IsStreams streams → refusal streams ≡ None → (p : Pid)
         → ¬ (HasZeroBehindStamp streams p ⊎ HasZeroBehindReceive streams p)

@@ -1,7 +1,7 @@
 //! A sequence diagram in Mermaid's language: a participant for each process, and an arrow for each
 //! message, in the order of all events.
 //!
-//! An arrow stands at the place of its receive. If the sender did something else in between, the
+//! An arrow is at the place of its receive. If the sender did something else in between, the
 //! send has a note at its own place, and the arrow is dotted. So of each process the lines of the
 //! diagram tell its events in their order.
 //!
@@ -142,7 +142,7 @@ impl<'a> Diagram<'a> {
         say(writer, buffer, b"\n")
     }
 
-    /// Writes the line of an event. A send whose arrow stands in its place has none.
+    /// Writes the line of an event. A send whose arrow is in its place has none.
     fn say_event<W: ByteSink>(
         &self,
         writer: &mut W,
@@ -177,7 +177,7 @@ impl<'a> Diagram<'a> {
 }
 
 /// Sends the diagram of a scene whose items these are in their order, with its processes and those
-/// sends whose arrows stand elsewhere.
+/// sends whose arrows are elsewhere.
 pub(crate) fn send_mermaid<'a, W: ByteSink>(
     writer: &mut W,
     scene: &'a Scene<'a>,

@@ -1,7 +1,7 @@
 //! The sends behind which their process did something else before the message was received.
 //!
 //! A sequence diagram has one arrow for a message, at the place of its receive. As long as the
-//! sender does nothing in between, the arrow stands where the send belongs too.
+//! sender does nothing in between, the arrow is where the send belongs too.
 
 use crate::scene::Scene;
 use st_core::Pid;

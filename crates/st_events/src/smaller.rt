@@ -49,7 +49,7 @@ pub fn cut(alloc: Global, rows: &[Row]) -> Result<Streams, AllocError> {
     }
 }
 
-/// Whether the event at this place is among the rows, which stand in the order of the text.
+/// Whether the event at this place is among the rows, which are in the order of the text.
 fn has(rows: &[Row], pid: Pid, index: u64) -> bool {
     let before = |row: &Row| -> bool { row.pid < pid || (row.pid == pid && row.index < index) };
     let at = rows.partition_point(before);

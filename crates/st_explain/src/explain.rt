@@ -239,7 +239,7 @@ fn say_came<W: ByteSink>(writer: &mut W, buffer: &mut Buffer, came: &Came) -> Re
     }
 }
 
-/// Sends the first act that reports something else than the streams have; the run stands right
+/// Sends the first act that reports something else than the streams have; the run is right
 /// before it.
 fn send_difference<W: ByteSink>(
     writer: &mut W,
@@ -337,7 +337,7 @@ fn rerun_of(alloc: Global, given: &Given<'_>, acts: &[Act], pid: Pid) -> Result<
     Ok(rerun)
 }
 
-/// The run right before the act with this number, and what comes of that act.
+/// The run right before the act with this number, and the outcome of that act.
 fn rerun_before(
     alloc: Global,
     given: &Given<'_>,
@@ -371,7 +371,7 @@ fn tell_difference<W: ByteSink>(
     }
 }
 
-/// The run of all acts, and what comes of the only act that could report the next event of this
+/// The run of all acts, and the outcome of the only act that could report the next event of this
 /// process, if one could.
 fn rerun_left(
     alloc: Global,

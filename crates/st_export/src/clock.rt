@@ -83,7 +83,7 @@ impl Clocks {
         Ok(())
     }
 
-    /// Takes the next event of a process, which stands at this place in the streams.
+    /// Takes the next event of a process, which is at this place in the streams.
     pub(crate) fn take(
         &mut self,
         pairing: &Pairing,

@@ -2,7 +2,8 @@
 //! it is tested.
 //!
 //! Perfetto and Chrome read trace events, ShiViz reads a log with vector clocks, OpenTelemetry reads
-//! spans if there are times, and programs read the verdicts as JSON. What is found comes from the crates below, which the commands ask too.
+//! spans if there are times, and programs read the verdicts as JSON. What is found comes from the
+//! crates below, which the commands ask too.
 #![tactic(auto)]
 
 mod audit;

@@ -15,7 +15,7 @@ const FAULTY: u8 = 2;
 /// The status of a text of which no run reports some event.
 const NO: u8 = 1;
 
-/// A mistake, by its line and column, and what could stand there.
+/// A mistake, by its line and column, and what could be there.
 #[derive(Clone, Copy, Debug)]
 struct Mistake<'a> {
     line: u64,

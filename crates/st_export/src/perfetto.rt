@@ -35,7 +35,7 @@ fn say_start<W: ByteSink>(
     say_field(writer, buffer, "tid", thread)
 }
 
-/// Writes the name of a thread, which is the pid of its process, and where it stands.
+/// Writes the name of a thread, which is the pid of its process, and where it is.
 fn say_thread<W: ByteSink>(
     writer: &mut W,
     buffer: &mut Buffer,

@@ -10,7 +10,7 @@ use std::alloc::{AllocError, Global};
 pub(crate) struct Insertion {
     /// The process, by its place in the streams.
     pub process: usize,
-    /// The index of the event that it stands before.
+    /// The index of the event that it is before.
     pub index: usize,
     /// The event.
     pub event: Event,
@@ -56,7 +56,7 @@ fn add_untold<'a>(
     Ok(rest)
 }
 
-/// Adds the events of a process, each behind the untold ones that stand before it, and returns the
+/// Adds the events of a process, each behind the untold ones that are before it, and returns the
 /// untold sends and receives that are left.
 fn add_process<'a>(
     draft: &mut Draft,
@@ -81,7 +81,7 @@ fn add_process<'a>(
     Ok((sends, receives))
 }
 
-/// The whole streams with these untold events besides their own; nothing if one of them stands in a
+/// The whole streams with these untold events besides their own; nothing if one of them is in a
 /// process that isn't listed, which nobody asks for.
 pub(crate) fn with_insertions(
     alloc: Global,

@@ -1,8 +1,8 @@
-//! A mistake in a text: where it is, what could stand there, and what to do about it.
+//! A mistake in a text: where it is, what could be there, and what to do about it.
 
 use crate::scan::Expected;
 
-/// What could stand at the column.
+/// What could be at the column.
 #[derive(Clone, Copy, Debug)]
 pub(crate) enum Wanted<'a> {
     /// What the grammar has there.
@@ -37,7 +37,7 @@ pub(crate) struct Mistake<'a> {
     pub(crate) line: &'a [u8],
     /// The column, from 0.
     pub(crate) column: usize,
-    /// What could stand there.
+    /// What could be there.
     pub(crate) wanted: Wanted<'a>,
     /// What to do about it.
     pub(crate) remedy: &'static str,

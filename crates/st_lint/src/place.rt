@@ -17,7 +17,7 @@ fn mistake_of(alloc: Global, text: &[u8]) -> Option<Mistake<'_>> {
     }
 }
 
-/// Writes where the text of this name is at fault, what could stand there and what to do about it.
+/// Writes where the text of this name is at fault, what could be there and what to do about it.
 /// If the text wasn't kept, these words of the reader stand for that.
 pub fn tell_place<N: ByteSink>(
     alloc: Global,

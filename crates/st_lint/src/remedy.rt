@@ -1,4 +1,4 @@
-//! What to do about a line that isn't one of those that may stand there.
+//! What to do about a line that isn't one of those that may be there.
 
 use crate::kind::{Kind, form_of_act, kind_of};
 use crate::mend::behind_quote;
@@ -24,7 +24,7 @@ pub(crate) fn remedy_of_front(line: &[u8], column: usize, is_remote: bool) -> &'
     }
 }
 
-/// What to do about a line of a kind that doesn't stand there.
+/// What to do about a line of a kind that may not be there.
 fn remedy_of_kind(kind: Kind, above: Above) -> Option<&'static str> {
     match (kind, above) {
         (Kind::Comment, _) => Some("a bundle has no comments: leave the line out"),
@@ -81,7 +81,7 @@ fn remedy_of_bytes(rest: &[u8]) -> &'static str {
     }
 }
 
-/// What to do about what stands at the column, if its first byte tells that.
+/// What to do about what is at the column, if its first byte tells that.
 fn remedy_of_byte(rest: &[u8], kind: Kind, expected: Expected) -> Option<&'static str> {
     match rest.first().copied()? {
         b'\r' => Some("a carriage return: end lines with a newline alone"),
@@ -112,7 +112,7 @@ fn remedy_of_number(noun: &str, byte: Option<u8>) -> &'static str {
     }
 }
 
-/// What to do about the end of an event, by what stands there.
+/// What to do about the end of an event, by what is there.
 fn remedy_of_end(byte: Option<u8>) -> &'static str {
     match byte {
         Some(b',') => "an event ends there: leave out a time stamp, or what else stands there",
@@ -135,7 +135,7 @@ fn remedy_of_place(line: &[u8], rest: &[u8], expected: Expected) -> Option<&'sta
     }
 }
 
-/// What a line of its kind is, or what may stand there.
+/// What a line of its kind is, or what may be there.
 fn remedy_of_line(line: &[u8], kind: Kind, above: Above) -> &'static str {
     match kind {
         Kind::Process => "a process line is process <NODE.NUMBER.0>",

@@ -35,7 +35,7 @@ fn say_expected<W: ByteSink>(
     }
 }
 
-/// Writes what could stand at a column.
+/// Writes what could be at a column.
 fn say_wanted<W: ByteSink>(
     writer: &mut W,
     buffer: &mut Buffer,
@@ -144,7 +144,7 @@ fn say_line<W: ByteSink>(
     say(writer, buffer, b"^\n")
 }
 
-/// Writes the place of a mistake and what could stand there.
+/// Writes the place of a mistake and what could be there.
 pub(crate) fn say_place<W: ByteSink>(
     writer: &mut W,
     buffer: &mut Buffer,

@@ -1,4 +1,4 @@
-//! Where a line stops being one that may stand in a text, and what could stand there.
+//! Where a line stops being one that may be in a text, and what could be there.
 //!
 //! A scan follows a line through the grammar as far as some line goes on; `st_text` alone decides
 //! what a text is. So its column is that of the first byte at which no line of the grammar goes on.
@@ -6,7 +6,7 @@
 use arrayvec::ArrayVec;
 use st_column::Above;
 
-/// What could stand at the first byte at which no line goes on.
+/// What could be at the first byte at which no line goes on.
 #[derive(Clone, Copy, Debug, PartialEq, Eq)]
 pub(crate) enum Expected {
     /// These very bytes.
@@ -137,7 +137,7 @@ impl<'a> Scan<'a> {
         self.rest = self.rest.split_at(count.min(self.rest.len())).1;
     }
 
-    /// Passes these bytes, or those of them that stand here.
+    /// Passes these bytes, or those of them that are here.
     fn text(&mut self, text: &'static str) -> Result<(), Expected> {
         let same = common(self.rest, text.as_bytes());
         self.skip(same);
@@ -148,7 +148,7 @@ impl<'a> Scan<'a> {
         }
     }
 
-    /// Passes the one of these texts that stands here, or what one of them has in common with the
+    /// Passes the one of these texts that is here, or what one of them has in common with the
     /// line; says which.
     fn choose(&mut self, texts: &[&'static str], thing: &'static str) -> Result<usize, Expected> {
         let mut best: usize = 0;
@@ -324,7 +324,7 @@ impl<'a> Scan<'a> {
         self.pid()
     }
 
-    /// Passes what stands behind the actor of the act of this number among `ACTS`.
+    /// Passes what is behind the actor of the act of this number among `ACTS`.
     fn act_fields(&mut self, act: usize) -> Result<(), Expected> {
         match act {
             0 => {
@@ -362,7 +362,7 @@ impl<'a> Scan<'a> {
         Ok(Sort::Process)
     }
 
-    /// Passes a line that may stand below what stands above.
+    /// Passes a line that may be below what is above.
     fn content(&mut self, above: Above) -> Result<Sort, Expected> {
         match above {
             Above::Nothing => {
@@ -391,7 +391,7 @@ impl<'a> Scan<'a> {
         }
     }
 
-    /// Passes a whole line that may stand below what stands above.
+    /// Passes a whole line that may be below what is above.
     pub(crate) fn whole(&mut self, above: Above) -> Result<Sort, Expected> {
         let sort = self.content(above)?;
         if self.rest.is_empty() {

@@ -33,7 +33,7 @@ stream_here streams pids k d es rising are within is =
     s.at ∙ ap (λ q. Some (record { pid = q; events = s.stream.events })) s.pid
     ∙ ap (λ fs. Some (record { pid = p; events = fs })) same
 
--- one process more, whose line is n, and whose first event stands on the line after it
+-- one process more, whose line is n, and whose first event is on the line after it
 pub process_listed : (f : Filter) (all now more : List Row) (streams : List Stream) (pids : List Pid)
     (k n first next : ℕ) (d : Pid) (es : List Event) → IsRising (pids_of streams) → pids ≡ pids_of streams
     → k < length pids → es ≡ events_of streams (get_or pids k d)

@@ -1,2 +1,2 @@
--- What public contracts cite: which events are listed, where they stand and what they pair with.
+-- What public contracts cite: which events are listed, where they are and what they pair with.
 pub mod Rows

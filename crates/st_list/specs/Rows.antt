@@ -83,6 +83,6 @@ module _ (f : Filter) where
   rows_from n [] = []
   rows_from n (x ∷ xs) = rows_at x.pid 0 (n + 1) x.events ++ rows_from (n + 1 + length x.events) xs
 
-  -- the rows of streams, whose first process line stands below the header
+  -- the rows of streams, whose first process line is below the header
   abbrev pub listed : List Stream → List Row
   listed streams = rows_from 2 streams

@@ -7,7 +7,7 @@ use crate::filter::Filter;
 use st_core::{Event, Pid, Streams};
 use std::alloc::{AllocError, Global};
 
-/// The line of the first process; above it stands the header.
+/// The line of the first process; above it is the header.
 const FIRST_LINE: u64 = 2;
 
 /// An event of a list.

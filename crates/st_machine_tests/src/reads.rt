@@ -35,7 +35,7 @@ fn a_read_without_memory_may_be_asked_again(rt: HostRuntime) {
     assert_certificate(&rt, sink, answer);
 }
 
-/// What comes of the certificate in pieces. A feed that failed fails in the same way again.
+/// The outcome of the certificate in pieces. A feed that failed fails in the same way again.
 fn read_in_pieces(rt: &impl Abort, alloc: Global) -> Result<Bundle, ReadFault> {
     let mut feed = Feed::new(alloc);
     for piece in HIDDEN_SENDS_CERTIFICATE.as_bytes().chunks(7) {

@@ -11,7 +11,7 @@ pub(crate) fn same<T: PartialEq + Debug>(rt: &impl Abort, found: &T, wanted: &T)
     assert_eq!(rt; found, wanted);
 }
 
-/// The same of what stands at a place, which is told.
+/// The same of what is at a place, which is told.
 pub(crate) fn same_at<T: PartialEq + Debug>(rt: &impl Abort, place: u64, found: &T, wanted: &T) {
     assert_eq!(rt; found, wanted, "at {place}");
 }

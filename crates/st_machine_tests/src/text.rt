@@ -43,7 +43,7 @@ fn sink(rt: &impl Abort, alloc: Global, room: usize) -> MemorySink {
     }
 }
 
-/// What comes of a text in pieces of n bytes.
+/// The outcome of a text in pieces of n bytes.
 fn in_pieces(alloc: Global, text: &[u8], n: usize) -> Result<Bundle, ReadFault>
     requires { 0 < n }
 {

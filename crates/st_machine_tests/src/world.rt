@@ -34,10 +34,10 @@ fn mail(from: Pid, value: u64, place: u64) -> Result<Outcome, StepFault> {
     })
 }
 
-/// An act and what comes of it.
+/// An act and the outcome of it.
 type Played = (Act, Result<Outcome, StepFault>);
 
-/// Plays acts, and asserts what comes of each.
+/// Plays acts, and asserts the outcome of each.
 fn play<const TOP: u64>(rt: &impl Abort, world: &mut World<TOP>, acts: &[Played]) {
     for (act, told) in acts {
         assert_eq!(rt; world.step(act), *told, "{act:?}");

@@ -53,7 +53,7 @@ process_hidden q old now more streams pids k d es rising are within is noted so_
 
 -- LISTS
 
--- it stands somewhere
+-- it is somewhere
 pub record IsAmong (es : List Event) (f : Event) : Type 0 where
   pub index : ℕ
   pub at : slice_get es index ≡ Some f

@@ -1,5 +1,5 @@
 -- Why streams and other processes, merged, are the streams with these processes: the least of the
--- others stands where it is put into the streams with all that follow it.
+-- others is where it is put into the streams with all that follow it.
 use Rattle.std.proofs.Common.{◌≡◌, ℕ, ◌+◌, zero, suc, ◌<◌, ◌≤◌, ◌||◌, Bool, true, false, cond, List, [], ◌∷◌, ◌++◌}
 use Rattle.std.proofs.Common.{inl, inr, length, drop, get_or, slice_get, Some, append-nil, refl, sym, ◌∙◌, ap}
 use Rattle.std.proofs.Common.{subst, arith}
@@ -92,7 +92,7 @@ pub listed_next : (x : Stream) (xs : List Stream) (qs : List Pid) → is_other_n
 listed_next x xs [] next = refl
 listed_next x xs (q ∷ qs) next = ap (λ b. cond b (silent q ∷ merged (x ∷ xs) qs) (x ∷ merged xs (q ∷ qs))) next
 
--- what is drafted stands below what comes next
+-- what is drafted is below what comes next
 pub comes_last : (now : List Stream) (x : Stream) (rest : List Stream) → IsRising (pids_of (now ++ x ∷ rest))
     → ComesLast now x.pid
 comes_last [] x rest rising = tt

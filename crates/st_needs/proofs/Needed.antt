@@ -1,6 +1,6 @@
 -- Why the supplies are those of the definition. A count that no event needs has none, and each
--- count that is needed stands in the streams, below the greatest. So the supplies of the counts
--- that stand there, by rising count, are those of all numbers below the greatest.
+-- count that is needed is in the streams, below the greatest. So the supplies of the counts
+-- that are there, by rising count, are those of all numbers below the greatest.
 use Rattle.std.proofs.Common.{◌≡◌, ℕ, ◌+◌, ◌-◌, zero, suc, ◌<◌, ◌≤◌, ◌==◌, ◌&&◌, ◌⊎◌, inl, inr, nat_lt, not}
 use Rattle.std.proofs.Common.{Bool, true, false, cond, List, [], ◌∷◌, ◌++◌, map, filter, length, drop, take, get_or}
 use Rattle.std.proofs.Common.{Some, slice_get, refl, sym, ◌∙◌, ap, subst, arith, append_assoc, append-nil}
@@ -45,7 +45,7 @@ low_of streams n (v ∷ vs) = cond (nat_lt v n) (of_count streams v ++ low_of st
 
 -- WHERE COUNTS THAT ARE NEEDED STAND
 
--- n is needed: it is below the greatest count, and stands in the streams
+-- n is needed: it is below the greatest count, and is in the streams
 record IsThere (streams : List Stream) (n : ℕ) : Type 0 where
   below : n < greatest (map (λ x. greatest_count x.events) streams)
   among : IsIn n (counts_of streams)
@@ -54,7 +54,7 @@ greatest_front : (xs ys : List Event) → greatest_count xs ≤ greatest_count (
 greatest_front [] ys = omega arith
 greatest_front (x ∷ xs) ys = let rest = greatest_front xs ys in omega (arith, rest)
 
--- either these events need no message of v, or v stands among them, and is below their greatest
+-- either these events need no message of v, or v is among them, and is below their greatest
 needed_in : (v : ℕ) (before es : List Event)
     → (needs_of v before es ≡ []) ⊎ ((v < greatest_count (before ++ es)) × IsIn v (counts_in es))
 needed_in v before [] = inl refl
@@ -216,7 +216,7 @@ all_low streams (v ∷ vs) =
           ]
     ] refl)
 
--- the supplies of all counts that stand in the streams are all
+-- the supplies of all counts that are in the streams are all
 pub supplies_are : (streams : List Stream) → supplies_of_all streams (counts_of streams) ≡ supplies streams
 supplies_are streams =
     all_low streams (counts_of streams)

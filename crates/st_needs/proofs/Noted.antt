@@ -82,7 +82,7 @@ set_long [] i x = refl
 set_long (y ∷ xs) zero x = refl
 set_long (y ∷ xs) (suc i) x = ap suc (set_long xs i x)
 
--- rising pids stand once
+-- rising pids occur once
 one_place : (ps : List Pid) (i j : ℕ) (p : Pid) → IsRising ps → slice_get ps i ≡ Some p
     → slice_get ps j ≡ Some p → i ≡ j
 one_place [] i j p rising at_i at_j = absurd (none-some p at_i)

@@ -51,7 +51,7 @@ lists_last (x ∷ xs) p es =
     cond b (Some x) (stream_of (xs ++ record { pid = p; events = es } ∷ []) p) in is_some o ≡ true)
     [ true ↦ refl | false ↦ lists_last xs p es ]
 
--- an event of it stands behind its others
+-- an event of it is behind its others
 pub added_last : (xs : List Stream) (p : Pid) (es : List Event) (e : Event) → ComesLast xs p
     → added (xs ++ record { pid = p; events = es } ∷ []) p e ≡ xs ++ record { pid = p; events = es ++ e ∷ [] } ∷ []
 added_last [] p es e last =

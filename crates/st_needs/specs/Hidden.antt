@@ -1,5 +1,5 @@
 -- For the parts alone: the sends of a process whose messages were received and which nobody
--- reported, as their receives stand, and those whose counts rise.
+-- reported, as their receives are, and those whose counts rise.
 use Rattle.std.specs.Prelude.{ℕ, suc, ◌&&◌, nat_lt, List, [], ◌∷◌, ◌++◌, Option}
 use Rattle.std.specs.Prelude.{Some, None, if◌then◌else◌}
 use Rattle.st_core.specs.declared.types.Pid.{Pid}

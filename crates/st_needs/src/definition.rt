@@ -14,7 +14,7 @@ use st_core::Streams;
 use st_pair::Pairing;
 use std::alloc::{AllocError, Global};
 
-/// Builds a completion of streams of which no reason holds. Hidden sends stand at the earliest
+/// Builds a completion of streams of which no reason holds. Hidden sends are at the earliest
 /// places; there are as many unlisted processes as events, each free to send every count; and the
 /// definition says who sends what. That takes a time quadratic in the events. It fails only if memory
 /// runs out, or the 2^32 pids.

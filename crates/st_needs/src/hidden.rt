@@ -68,7 +68,7 @@ fn note_hidden(
     Ok(())
 }
 
-/// The hidden sends of a process, as their receives stand.
+/// The hidden sends of a process, as their receives are.
 fn hidden_among(
     alloc: Global,
     streams: &Streams,

@@ -41,7 +41,7 @@ pub fn pid_of(text: &str) -> Option<Pid> {
     }
 }
 
-/// The first word of a text, and what stands behind the blank after it.
+/// The first word of a text, and what is behind the blank after it.
 fn split_word(text: &str) -> (&str, &str) {
     text.split_once(" ").unwrap_or((text, ""))
 }
@@ -155,7 +155,7 @@ impl<'a> Known<'a> {
     }
 }
 
-/// Writes a line of the text, in front of what stands there.
+/// Writes a line of the text, in front of what is there.
 fn say_line<W: ByteSink>(writer: &mut W, buffer: &mut Buffer, line: u64) -> Result<(), Device> {
     say(writer, buffer, b"line ")?;
     say_number(writer, buffer, line)?;
@@ -323,7 +323,7 @@ fn bundle_of(alloc: Global, text: &[u8]) -> Option<Bundle> {
 }
 
 /// Writes in words the no whose first line this is: the line of the text of this name on which the
-/// event or the act is, what stands there, and the reason. Without the text, or without memory, it
+/// event or the act is, what is there, and the reason. Without the text, or without memory, it
 /// names places alone. What isn't the first line of a no is passed over.
 pub fn tell_no<N: ByteSink>(
     alloc: Global,

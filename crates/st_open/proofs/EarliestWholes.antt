@@ -1,4 +1,4 @@
--- If no reason holds of streams, their hidden sends can stand at the earliest places: no stamp is late
+-- If no reason holds of streams, their hidden sends can be at the earliest places: no stamp is late
 -- there, and none needs 0. And as many processes that report nothing as there are events are enough: each
 -- of them is free to send every count, and no event needs more than one message.
 use Rattle.std.proofs.Common.{◌≡◌, ℕ, ◌+◌, ◌≤◌, ◌==◌, ◌++◌, ◌||◌, zero, suc, Bool, true, false, List, [], ◌∷◌, map}

@@ -1,4 +1,4 @@
--- A stamp with prev 0 that stands behind another prev or a receive is told at a place: its own, or
+-- A stamp with prev 0 that is behind another prev or a receive is told at a place: its own, or
 -- that of the receive of its hidden send. And what is told so is such a stamp.
 use Rattle.std.proofs.Common.{◌≡◌, ◌⊎◌, inl, inr, ℕ, ◌||◌, Bool, true, false, cond, List, Option, Some, None}
 use Rattle.std.proofs.Common.{refl, sym, ◌∙◌, ap, arith}

@@ -1,4 +1,4 @@
--- What stands against streams whatever other processes there are.
+-- What is against streams whatever other processes there are.
 use Rattle.std.specs.Prelude.{◌≡◌, ◌⊎◌, ℕ, ◌<◌, ◌≤◌, ◌||◌, true, false, List, Some, None, sum_by}
 use Rattle.std.specs.List.{count_by}
 use Rattle.st_core.specs.declared.types.Pid.{Pid}

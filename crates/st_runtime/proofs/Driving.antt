@@ -1,4 +1,4 @@
--- A record of joined pieces is that of driven scripts: the seats hold the scripts, and each seat's calls stand in the
+-- A record of joined pieces is that of driven scripts: the seats hold the scripts, and each seat's calls are in the
 -- run in their order. A worker's refusal is one of an act of its script.
 use Rattle.std.proofs.Common.{◌≡◌, ◌≢◌, ℕ, zero, suc, ◌<◌, ◌≤◌, Bool, true, false, cond, List, [], ◌∷◌, ◌++◌}
 use Rattle.std.proofs.Common.{length, map, None, refl, sym, ◌∙◌, ap, subst, arith}

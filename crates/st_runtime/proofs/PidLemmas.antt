@@ -1,4 +1,4 @@
--- A pid that is found stands among the pids, and one that is missing from a search does not.
+-- A pid that is found is among the pids, and one that is missing from a search isn't.
 use Rattle.std.proofs.Common.{◌≡◌, ℕ, true, false, List, length, get_or}
 use Rattle.std.proofs.Common.{refl, sym, ◌∙◌, ap, is_some, Option, Some, None, IfNone, IfSome}
 use Rattle.std.proofs.Common.{Result, Ok, Err}

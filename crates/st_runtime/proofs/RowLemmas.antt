@@ -43,7 +43,7 @@ grown_length {T} xs xs' grown =
 
 -- ---- what is kept beside the rows
 
--- the calls, the acts under a token, and what stands apart
+-- the calls, the acts under a token, and what is apart
 record Beside : Type 0 where
   calls : List (Act × Reply)
   traced : List Traced

@@ -1,4 +1,4 @@
--- A binary search by a key ends where a search of the keys would, and keys that rise stand at one place each.
+-- A binary search by a key ends where a search of the keys would, and keys that rise are at one place each.
 use Rattle.std.proofs.Common.{◌≡◌, ℕ, zero, suc, ◌<◌, ◌≤◌, List, [], ◌∷◌, length, map, get_or, Some}
 use Rattle.std.proofs.Common.{◌∙◌, ap, subst, arith, Result, Ok, Err, ⊎_elim}
 use Rattle.std.specs.Prelude.{Contains, slice_get}

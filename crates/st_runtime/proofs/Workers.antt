@@ -102,7 +102,7 @@ acts_before : (mine : List (Act × Reply)) (rest : List Act)
 acts_before [] rest = refl
 acts_before (c ∷ mine) rest = ap (λ acts. c.0 ∷ acts) (acts_before mine rest)
 
--- what is left begins with the act that stands last
+-- what is left begins with the act that is last
 next_first : (mine : List (Act × Reply)) (a : Act) (rest script : List Act)
     → called_acts mine ++ reverse (rest ++ a ∷ []) ≡ script → called_acts mine ++ a ∷ reverse rest ≡ script
 next_first mine a rest script is =

@@ -1,5 +1,5 @@
 -- How acts with what they returned are kept: a brief form for each. Most say all of the call; any
--- other says at which place it stands whole.
+-- other says at which place it is whole.
 use Rattle.std.specs.Prelude.{◌≡◌, ℕ, ◌+◌, ◌<◌, ◌≤◌, List, length, map, slice_index_or}
 use Rattle.std.specs.List.{AllByRecursion}
 use Rattle.st_core.specs.declared.types.Act.{Act}

@@ -61,7 +61,7 @@ ShownStreams = (top : ℕ) (xs : List Control) (es : List Entry)
     → IsRising (pids_in xs) → IsOneRun top xs es → IsStreams (streams_of xs)
 
 -- The pieces fit, and the record is that of their merged entries, which are one run. Each seat's
--- calls stand in it once, in order.
+-- calls are in it once, in order.
 pub record IsJoined (top : ℕ) (pieces : Parts) (r : Record) : Type 0 where
   pub fit : IsFit pieces
   pub entries : List Entry

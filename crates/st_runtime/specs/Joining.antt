@@ -1,4 +1,4 @@
--- The steps of joining: where an entry stands, the least pid that isn't seated, and each process's
+-- The steps of joining: where an entry is, the least pid that isn't seated, and each process's
 -- own entries and reports.
 use Rattle.std.specs.Prelude.{◌≡◌, ℕ, ◌<◌, List, length, map, filter, Option, Some, None}
 use Rattle.std.specs.Prelude.{if◌then◌else◌, All, Contains, IfSome, slice_get}

@@ -1,4 +1,4 @@
--- What comes of a call on lent processes: a step or the reason that there is none, and what an act
+-- The outcome of a call on lent processes: a step or the reason that there is none, and what an act
 -- of a whole node does to one of them.
 use Rattle.std.specs.Prelude.{◌≡◌, ◌≢◌, ℕ, ◌-◌, ◌<◌, ◌≤◌, true, List, [], ◌∷◌, ◌++◌, option_map}
 use Rattle.std.specs.Prelude.{Some, None, IsSome, Result, Ok, Err}
@@ -16,12 +16,12 @@ use Rattle.st_runtime.specs.Pcb.{Control, IsSame, IsStepped, greatest_rank, is_w
 abbrev pub FindsClockFull : ℕ → Act → List Control → Type 0
 FindsClockFull top a xs = step top (lent_state xs) a ≡ None
 
--- the act has a step on these processes, and the greatest rank stands in their logs
+-- the act has a step on these processes, and the greatest rank is in their logs
 pub record FindsRankFull (top ranks : ℕ) (a : Act) (xs : List Control) : Type 0 where
   pub steps : IsSome (step top (lent_state xs) a)
   pub full : greatest_rank xs ≡ ranks
 
--- the act has a step on these processes, and the greatest rank doesn't stand in their logs
+-- the act has a step on these processes, and the greatest rank isn't in their logs
 pub record FindsStep (top ranks : ℕ) (a : Act) (xs : List Control) : Type 0 where
   pub steps : IsSome (step top (lent_state xs) a)
   pub rank : greatest_rank xs ≢ ranks
@@ -32,7 +32,7 @@ AreSame [] [] = Unit {0}
 AreSame (x ∷ xs) (y ∷ ys) = IsSame x y × AreSame xs ys
 AreSame xs ys = ⊥
 
--- What comes of a call that steps lent processes. What it finds for one result excludes what it
+-- The outcome of a call that steps lent processes. What it finds for one result excludes what it
 -- finds for another, so each refusal comes exactly if its reason holds.
 abbrev pub IsLentStep : ℕ → ℕ → Act → List Control → List Control
     → Result Reply PcbFault → Type 0

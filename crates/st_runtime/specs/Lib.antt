@@ -1,6 +1,6 @@
 -- What the public contracts cite: what an entry does to a process and what a log gives it; what
 -- contracts see of a process under its lock, of calls and of a seat, and what is done with them;
--- what an act in a system asks for; and what comes of a system that ran: pieces that fit, the one
+-- what an act in a system asks for; and the outcome of a system that ran: pieces that fit, the one
 -- run that they tell of, and scripts that are driven.
 pub mod Logs
 pub mod Pcb

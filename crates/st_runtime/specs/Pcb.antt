@@ -37,7 +37,7 @@ abbrev pub greatest_rank : List Control → ℕ
 greatest_rank [] = 0
 greatest_rank (x ∷ xs) = max (last_rank 0 x.log) (greatest_rank xs)
 
--- what comes of a step that leaves this entry and these processes
+-- the outcome of a step that leaves this entry and these processes
 abbrev pub entry_outcome : Entry → Option ℕ → List Control → Outcome
 entry_outcome e place after =
     record { reply = e.reply; report = e.report; place = place; after = lent_state after }

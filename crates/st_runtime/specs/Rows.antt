@@ -27,7 +27,7 @@ abbrev pub nowhere : Unranked
 nowhere = of_call no_call
 
 -- what a row's content says, if these calls and these acts under a token are kept, and these
--- entries stand apart
+-- entries are apart
 abbrev pub without_rank_in : List (Act × Reply) → List Traced → List Unranked → Content → Unranked
 without_rank_in calls traced apart (content.Reset p) = of_call (act.Reset p, reply.Done)
 without_rank_in calls traced apart (content.Tracer p on was) =
@@ -50,7 +50,7 @@ abbrev pub entry_at : List Entry → ℕ → Entry
 entry_at es i = slice_index_or es i (with_rank 0 nowhere)
 
 -- what the content says has a place among so many calls, so many acts under a token, or so many
--- entries that stand apart
+-- entries that are apart
 abbrev pub IsPlaced : ℕ → ℕ → ℕ → Content → Type 0
 IsPlaced calls traced apart (content.Call i) = i < calls
 IsPlaced calls traced apart (content.Traced i) = i < traced

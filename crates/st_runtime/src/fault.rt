@@ -16,7 +16,7 @@ pub enum PcbFault {
     /// The actor's clock is at its greatest value, so its token can't be stamped.
     #[error("a clock is at its greatest value")]
     ClockFull,
-    /// The greatest rank stands in a log already.
+    /// The greatest rank is in a log already.
     #[error("a log has the greatest rank")]
     RankFull,
 }
@@ -33,7 +33,7 @@ pub enum ActFault {
     /// The actor's clock is at its greatest value, so its token can't be stamped.
     #[error("a clock is at its greatest value")]
     ClockFull,
-    /// The greatest rank stands in a log already.
+    /// The greatest rank is in a log already.
     #[error("a log has the greatest rank")]
     RankFull,
     /// The actor isn't the seat's process. Looked at first.

@@ -30,7 +30,7 @@ use st_core::{Act, Reply, Sequence, Streams};
 use std::alloc::{AllocError, Global};
 use std::thread::{Threads, join};
 
-/// The record of what the threads did, exactly if the pieces fit: each entry stands in the log of
+/// The record of what the threads did, exactly if the pieces fit: each entry is in the log of
 /// each process that its act touches, and each seat's calls are those of its process's log. The
 /// acts are not replayed. That they are a run of the machine follows from what the locks kept.
 ///

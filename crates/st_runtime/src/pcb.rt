@@ -29,7 +29,7 @@ use st_mail::actor::inner;
 use std::alloc::{AllocError, Global};
 use std::marker::Model;
 
-/// The words of a cache line, 64 bytes. So much stands between a lock and what it keeps, so that
+/// The words of a cache line, 64 bytes. So much is between a lock and what it keeps, so that
 /// threads that try the lock don't take a line away from the thread that holds it.
 const CACHE_LINE: usize = 8;
 

@@ -149,7 +149,7 @@ impl<const TOP: u64, const RANKS: u64> System<TOP, RANKS> {
         Ok(reply)
     }
 
-    /// Where the actor stands, and where a send's receiver, which else is the actor.
+    /// Where the actor is, and where a send's receiver, which else is the actor.
     fn places(&self, act: &Act) -> Option<(usize, usize)>
         ensures variant { is_some result ≡ knows self.now act.now }
         ensures me { IfSome result (λ r. slice_get self.now r.0 ≡ Some (actor act.now)) }

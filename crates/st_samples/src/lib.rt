@@ -1,6 +1,6 @@
 //! What the tests of several crates take: texts of bundles, and three processes.
 //!
-//! A text that the tests of one crate alone take stands there. So do the helpers that assert, even
+//! A text that the tests of one crate alone take is there. So do the helpers that assert, even
 //! if two crates have the same: they end the process, and only tests may.
 #![tactic(auto)]
 

@@ -94,7 +94,7 @@ fn assert_one_run<R: Abort>(
     Ok(())
 }
 
-/// Drives busy processes, asserts what comes of it, and returns how many events they reported.
+/// Drives busy processes, asserts the outcome of it, and returns how many events they reported.
 fn assert_driven<R: Threads + Wait + Sync + Abort>(
     rt: &R,
     alloc: Global,

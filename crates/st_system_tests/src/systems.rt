@@ -87,7 +87,7 @@ fn a_hundred_thousand_acts_of_one_process_are_joined(rt: HostRuntime) -> Result<
     assert_joined(&rt, alloc, &Act::Send(p30(), p30(), 1), Reply::Done)
 }
 
-// Each stands in the logs of both processes.
+// Each is in the logs of both processes.
 #[test]
 fn a_hundred_thousand_acts_on_two_processes_are_joined(rt: HostRuntime) -> Result<(), Fail> {
     let alloc = rt.alloc();

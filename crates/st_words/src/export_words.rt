@@ -7,7 +7,7 @@ use st_export::Target;
 use st_pair_tasks::PairTask;
 use st_tasks::Task;
 
-/// What stands where only one of two options may.
+/// What is said if both of two options are given, of which only one may be.
 const DRAWING_WORDS: &str = "a chart is a sequence diagram or a graph: give --mermaid or --dot";
 
 const JSON_WORDS: &str = "only the added events are written as JSON: leave out --as, or --json";

@@ -4,7 +4,7 @@ use clap::ArgMatches;
 use st_lint::NAMED;
 use st_tasks::Task;
 
-/// What stands where `--fix` goes with nothing else.
+/// What is said if `--fix` is given with what it doesn't go with.
 const FIX_WORDS: &str = "the mended text is written: leave out --most and --json, or --fix";
 
 /// What `lint` is asked for, or what a word of its has to be.

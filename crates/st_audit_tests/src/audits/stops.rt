@@ -14,7 +14,7 @@ const WIDE_HIDDEN_SEND: &str = "seqtrace 1\n\
     process <0.31.0>\n\
     {seq_trace,1,{'receive',{0,1002},<0.30.0>,<0.31.0>,4}}\n";
 
-/// A receive that stands in the order before its send, which its sender reported after a greater
+/// A receive that is in the order before its send, which its sender reported after a greater
 /// count.
 const LATE_SEND: &str = "seqtrace 1\n\
     process <0.30.0>\n\

@@ -39,7 +39,7 @@ impl Random {
     }
 }
 
-/// An event and where it stands.
+/// An event and where it is.
 #[derive(Clone, Copy)]
 struct Place {
     pid: Pid,
@@ -109,7 +109,7 @@ fn events(alloc: Global, random: &mut Random) -> Result<Vec<Event>, AllocError> 
     Ok(events)
 }
 
-/// Whose stream the event stands in.
+/// Whose stream the event is in.
 fn actor(event: &Event) -> Pid {
     match event.kind {
         Kind::Receive => event.to.unwrap_or(event.from),

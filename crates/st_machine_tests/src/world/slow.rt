@@ -38,7 +38,7 @@ pub fn processes(alloc: Global, pids: &[Pid]) -> Result<Vec<Process>, AllocError
     Ok(processes)
 }
 
-/// Where the process stands.
+/// Where the process is.
 pub fn find(processes: &[Process], pid: Pid) -> Option<usize>
     ensures { IfSome result (λ i. i < length processes.now) }
 {

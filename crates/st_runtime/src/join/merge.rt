@@ -18,7 +18,7 @@ use std::alloc::{AllocError, Global};
 use std::marker::Model;
 use std::thread::{Threads, join};
 
-/// An entry that stays at its place in its log. Its rank stands beside, so that the sort fetches no
+/// An entry that stays at its place in its log. Its rank is beside, so that the sort fetches no
 /// entry.
 #[derive(Drop)]
 struct Ranked<'a> {

@@ -1,6 +1,6 @@
 //! Whether it is seen at once that all entries are whole. If it isn't, nothing is known.
 //!
-//! Ranks rise in each log, so that the entries of one log that another shares stand there in the
+//! Ranks rise in each log, so that the entries of one log that another shares are there in the
 //! same order: each is looked for from where the one before was found.
 
 ghost use Rattle.std.specs.Prelude.{All, Contains, IsTrue};

@@ -1,4 +1,4 @@
-//! Which entries stand in the log of each process that their acts touch.
+//! Which entries are in the log of each process that their acts touch.
 
 ghost use Rattle.std.specs.Prelude.{◌≡◌, ◌<◌, length, take, true, All, Contains, slice_get};
 ghost use Rattle.std.specs.Prelude.{slice_index_or, is_some, Some, IfSome, MatchBool};
@@ -183,7 +183,7 @@ fn has_at<const TOP: u64, const RANKS: u64>(
     }
 }
 
-/// Where the process of this pid stands.
+/// Where the process of this pid is.
 pub fn place_in<const TOP: u64, const RANKS: u64>(
     processes: &[Pcb<TOP, RANKS>],
     pid: Pid,

@@ -1,5 +1,5 @@
 //! Acts with what they returned, in little memory. For each call a brief form is kept, which says
-//! all of it in 24 bytes, or at which place the whole of it stands apart.
+//! all of it in 24 bytes, or at which place the whole of it is apart.
 
 ghost use Rattle.std.specs.Prelude.{◌≡◌, ◌+◌, ◌-◌, ◌<◌, ◌≤◌, ◌↔◌, ◌⊎◌, [], ◌∷◌, ◌++◌, length, slice_get};
 ghost use Rattle.std.specs.Prelude.{slice_index_or, vec_len, IfOk, IfSome, OnOk, IsOk, IsTrue};
@@ -16,7 +16,7 @@ const MOST_CALLS: usize = 4_294_967_295;
 /// The greatest place of a queue that a brief form can say, in 32 bits.
 const MOST_PLACE: u64 = 4_294_967_295;
 
-/// A call: all of it, if it is of a frequent form, or where it stands whole.
+/// A call: all of it, if it is of a frequent form, or where it is whole.
 #[derive(Clone, Copy)]
 pub enum Brief {
     /// A send from the first to the second process, which returned `Done`.
@@ -37,7 +37,7 @@ pub enum Brief {
     /// A receive of the first process by this place, which took a message from the second and of
     /// this value.
     Place(Pid, u32, Pid, u64),
-    /// What stands at this place among the calls that are kept whole.
+    /// What is at this place among the calls that are kept whole.
     Whole(u32),
 }
 

@@ -59,7 +59,7 @@ impl Model for Log {
 
 impl Log {
     /// An empty log with room for so many entries. Fails if memory runs out, or if there are more
-    /// than can stand apart.
+    /// than can be apart.
     pub(crate) fn with_capacity(alloc: Global, capacity: usize) -> Result<Log, AllocError>
         ensures entries { IfOk result (λ log. log.entries ≡ []) }
         ensures room { IfOk result (λ log. log.spare ≡ capacity) }
@@ -158,7 +158,7 @@ impl Log {
         }
     }
 
-    /// Makes room for one entry. Fails if memory runs out, or if as many as can stand apart do.
+    /// Makes room for one entry. Fails if memory runs out, or if as many as can be apart do.
     pub(crate) fn reserve(&mut self) -> Result<(), AllocError>
         ensures entries { self.new.entries ≡ self.old.entries }
         ensures spare { self.old.spare ≤ self.new.spare }

@@ -38,7 +38,7 @@ pub enum Content {
     Call(u32),
     /// What the form at this place says of an act under a token.
     Traced(u32),
-    /// What stands at this place among the entries that are kept apart.
+    /// What is at this place among the entries that are kept apart.
     Apart(u32),
 }
 

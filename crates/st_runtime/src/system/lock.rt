@@ -7,7 +7,7 @@ use std::sync::{Mutex, MutexGuard, Wait};
 /// microsecond; to sleep and be woken takes several, in which more threads come to wait and sleep.
 const LOCK_TRIES: u32 = 200;
 
-/// How many pauses of the processor stand between two tries, about 40 nanoseconds each.
+/// How many pauses of the processor are between two tries, about 40 nanoseconds each.
 const PAUSES: u32 = 8;
 
 /// The lock, as soon as it is free.

@@ -1,4 +1,4 @@
-//! Where pids stand in a list that rises.
+//! Where pids are in a list that rises.
 
 ghost use Rattle.std.specs.Prelude.{◌≡◌, ◌≤◌, length, is_some, nat_lt, slice_get, Some, IfSome};
 ghost use Rattle.st_core.specs.Streams.{is_among};
@@ -6,7 +6,7 @@ ghost use Rattle.st_core.specs.Pid.{node_of, IsRising};
 
 use st_core::Pid;
 
-/// Where the pid stands.
+/// Where the pid is.
 pub fn place_of(pids: &[Pid], pid: Pid) -> Option<usize>
     requires { IsRising pids.now }
     ensures variant { is_some result ≡ is_among pids.now pid }
@@ -15,7 +15,7 @@ pub fn place_of(pids: &[Pid], pid: Pid) -> Option<usize>
     pids.binary_search(&pid).ok()
 }
 
-/// Where the first process of the node stands, if it has one.
+/// Where the first process of the node is, if it has one.
 pub fn first_on(pids: &[Pid], node: u16) -> usize
     ensures { result ≤ length pids.now }
 {

@@ -1,4 +1,4 @@
--- One process more: its events stand below its line.
+-- One process more: its events are below its line.
 use Rattle.st_list.proofs.Listed.{process_listed}
 use Rattle.st_list.proofs.rows.list.Goals as goal
 

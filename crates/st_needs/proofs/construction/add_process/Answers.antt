@@ -1,4 +1,4 @@
--- The process stands last, so each event goes to its end.
+-- The process is last, so each event goes to its end.
 use Rattle.std.proofs.Common.{rules, ◌∙◌, ap}
 use Rattle.st_core.specs.Streams.{lists}
 use Rattle.st_needs.proofs.Constructed.{event_more}

@@ -1,4 +1,4 @@
--- The process stands before the first one above it.
+-- The process is before the first one above it.
 use Rattle.std.proofs.Common.{◌++◌, ◌∷◌, take, drop, ◌∙◌, ap, arith}
 use Rattle.st_needs.specs.Others.{place_above}
 use Rattle.st_needs.proofs.OthersAdded.{place_bound, put_in}

@@ -1,4 +1,4 @@
--- One count more, and in the end all that stand in the streams.
+-- One count more, and in the end all that are in the streams.
 use Rattle.std.proofs.Common.{◌∙◌, arith}
 use Rattle.st_needs.proofs.Needed.{all_supplied, count_supplied}
 use Rattle.st_needs.proofs.supplies.supplies.Goals as goal

@@ -1,4 +1,4 @@
--- What is sorted are all own entries, by the ranks that stand beside them, and stably.
+-- What is sorted are all own entries, by the ranks that are beside them, and stably.
 use Rattle.std.proofs.Common.{List, rules, subst, sym}
 use Rattle.std.specs.List.Sorted.{IsPermutation, IsStableBy}
 use Rattle.std.proofs.lemmas.List.Sorted.{IsNonDecreasingBy-from_sort_by_key, answers_always}

@@ -1,4 +1,4 @@
--- Ranks rise, so that the entry stands at the place that a search for its rank finds, or nowhere.
+-- Ranks rise, so that the entry is at the place that a search for its rank finds, or nowhere.
 use Rattle.std.proofs.Common.{sym, ◌∙◌}
 use Rattle.std.proofs.lemmas.List.{get_or_default}
 use Rattle.st_runtime.proofs.Searching.{entry_found, entry_missing}

@@ -1,4 +1,4 @@
--- A binary search by pid finds a process in a list whose pids rise exactly if it stands there.
+-- A binary search by pid finds a process in a list whose pids rise exactly if it is there.
 use Rattle.std.proofs.Common.{rules}
 use Rattle.std.specs.Result.{result_ok}
 use Rattle.std.proofs.lemmas.List.Sorted.{answers_always}

@@ -1,4 +1,4 @@
--- A content that says all of its entry is placed, whatever stands apart.
+-- A content that says all of its entry is placed, whatever is apart.
 use Rattle.std.proofs.Common.{length}
 use Rattle.st_runtime.proofs.pcb.log.keep_content.Goals as goal
 

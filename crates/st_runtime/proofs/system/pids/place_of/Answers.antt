@@ -1,4 +1,4 @@
--- A binary search finds a pid in a list that rises exactly if it stands there.
+-- A binary search finds a pid in a list that rises exactly if it is there.
 use Rattle.st_core.proofs.ForCallers.{missing_from_search}
 use Rattle.st_runtime.proofs.PidLemmas.{place_tells, found_from_search}
 use Rattle.st_runtime.proofs.system.pids.place_of.Goals as goal

@@ -1,4 +1,4 @@
--- The row says all of its entry, or where the rest of it stands apart from now on.
+-- The row says all of its entry, or where the rest of it is apart from now on.
 use Rattle.std.proofs.Common.{◌≡◌, ◌<◌, ◌+◌, ◌-◌, ◌∙◌, ap, ◌++◌, ◌∷◌, [], sym, subst, arith}
 use Rattle.st_runtime.specs.Logs.{Logged}
 use Rattle.st_runtime.proofs.RowLemmas.{entries_pushed, log_pushed}
