@@ -1,38 +1,27 @@
 "use strict";
-// The page of a trace. Rows are events, in one order that no event precedes its cause in; lanes are
-// processes. Only what is in sight is in the document: the lanes and arrows on a canvas, the rows as
-// elements of a grid, so that keys and screen readers reach each of them.
+// The page of a trace, joined by erlang/page/join. Rows are events, in one order that no event precedes its cause in;
+// lanes are processes. Only what is in sight is in the document: the lanes and arrows on a canvas, the rows as elements
+// of a grid, so that keys and screen readers reach each of them.
 (() => {
+  // The elements of the document.
+
+  const byId = id => document.getElementById(id);
+
+  function element(tag, attributes, ...children) {
+    const made = document.createElement(tag);
+    for (const [name, value] of Object.entries(attributes))
+      if (name.startsWith("on")) made.addEventListener(name.slice(2), value);
+      else if (value !== false) made.setAttribute(name, value === true ? "" : value);
+    made.append(...children);
+    return made;
+  }
+
+  // The trace as the page has it, and what is said of its events in words.
+
   const data = JSON.parse(document.getElementById("data").textContent);
   const { lanes, labels, terms, rows } = data;
   const count = rows.lane.length;
-  const byId = id => document.getElementById(id);
-
-  // What is drawn. Each colour has a shape or a dash of its own beside it.
-  const LIGHT = { message: "#333333", cause: "#0072b2", effect: "#d55e00", unreported: "#7a3e9d", dim: "#c8c8c8",
-                  life: "#b5b5b5", reset: "#aa0000", paper: "#ffffff", odd: "#f7f7f7", text: "#111111", faint: "#767676" };
-  const DARK = { message: "#d0d0d0", cause: "#56b4e9", effect: "#f5955a", unreported: "#c79be8", dim: "#4a4a4a",
-                 life: "#5c5c5c", reset: "#ff7b72", paper: "#16181b", odd: "#1c1f23", text: "#e8e8e8", faint: "#8a8a8a" };
-  const darkness = matchMedia("(prefers-color-scheme: dark)");
-  let INK = darkness.matches ? DARK : LIGHT;
-  // A message is put into the panel in pieces, of which a browser lays out those in sight, and so many in a frame.
-  const PIECE = 16384, PIECES = 4;
-  const LIST = 330, ABOVE = 10, MOST_ARROWS = 3000, MOST_LISTED = 500;
-  // How wide a lane is at first, and from where on names and terms are written beside each other.
-  const WIDEST = 220, NARROWEST = 24, UPRIGHT = 70;
-  // Browsers take elements up to some 17 million pixels high; a longer trace is scrolled in larger steps.
-  const TALLEST = 15e6;
   const VERBS = { s: "sends", h: "sends", r: "receives", p: "prints" };
-
-  let rowHeight = 22, laneWidth = 150, step = 1, isZoomed = false;
-  let order = lanes.map((_, lane) => lane);
-  const hiddenLanes = new Set();
-  const hiddenLabels = new Set(data.only === null ? [] : labels.keys());
-  if (data.only !== null) hiddenLabels.delete(data.only);
-  let chosen = -1, chainOnly = false, matches = [], matched = new Set();
-  let shown = new Int32Array(0), place = new Int32Array(count), column = new Int32Array(lanes.length);
-  let arrows = [];
-  const causes = new Set(), effects = new Set();
 
   // Control characters and those that turn the direction of text are shown by their numbers.
   const visible = text => text.replace(
@@ -102,7 +91,23 @@
   // Whether what is said of the cause isn't certain.
   const isDoubtful = row => "aouvx".includes(rows.how[row]) || rows.how[row] === "r" && !isPlain(rows.cause[row]);
 
-  // Which rows and lanes are shown, and where.
+  // Which rows and lanes are shown, where, and how large.
+
+  const LIST = 330, ABOVE = 10;
+  // How wide a lane is at first, and from where on names and terms are written beside each other.
+  const WIDEST = 220, NARROWEST = 24, UPRIGHT = 70;
+  // Browsers take elements up to some 17 million pixels high; a longer trace is scrolled in larger steps.
+  const TALLEST = 15e6;
+
+  let rowHeight = 22, laneWidth = 150, step = 1, isZoomed = false;
+  let order = lanes.map((_, lane) => lane);
+  const hiddenLanes = new Set();
+  const hiddenLabels = new Set(data.only === null ? [] : labels.keys());
+  if (data.only !== null) hiddenLabels.delete(data.only);
+  let chainOnly = false;
+  let shown = new Int32Array(0);
+  const place = new Int32Array(count), column = new Int32Array(lanes.length);
+  let arrows = [];
 
   function layOut() {
     const inChain = row => !chainOnly || chosen < 0 || row === chosen || causes.has(row) || effects.has(row);
@@ -186,7 +191,111 @@
     return found;
   }
 
-  // Drawing
+  function move(lane, by) {
+    const visibleLanes = order.filter(one => column[one] >= 0), other = visibleLanes[visibleLanes.indexOf(lane) + by];
+    if (other === undefined) return;
+    order = order.filter(one => one !== lane);
+    order.splice(order.indexOf(other) + (by > 0 ? 1 : 0), 0, lane);
+    layOut();
+  }
+
+  // Lanes in the order of their first events that are shown, so that arrows go mostly to the right.
+  function orderByFirst() {
+    const first = new Map();
+    for (const row of shown) for (const lane of [rows.lane[row], rows.other[row]])
+      if (lane >= 0 && !first.has(lane)) first.set(lane, first.size);
+    const rank = lane => first.has(lane) ? first.get(lane) : lanes.length + lane;
+    order = [...order].sort((a, b) => rank(a) - rank(b));
+    layOut();
+  }
+
+  const shareOf = count => Math.floor((byId("view").clientWidth - listWidth() - 60) / Math.max(1, count));
+
+  // At first the lanes fill the window. If they are too many for that, those of the first events come first.
+  function fitLanes() {
+    const used = labelledLanes(), share = shareOf(lanes.filter((_, lane) => used.has(lane)).length);
+    laneWidth = Math.max(NARROWEST, Math.min(WIDEST, share));
+    layOut();
+    if (share < NARROWEST) orderByFirst();
+  }
+
+  // They go on filling what the panel leaves of it, until somebody zooms. The names don't turn for the panel, since all
+  // rows would move then.
+  function refitLanes(mayTurn) {
+    const count = order.filter(lane => column[lane] >= 0).length, isNarrow = laneWidth < UPRIGHT;
+    const least = isNarrow || mayTurn ? NARROWEST : UPRIGHT, most = isNarrow && !mayTurn ? UPRIGHT - 1 : WIDEST;
+    if (!isZoomed) laneWidth = Math.max(least, Math.min(most, shareOf(count)));
+    layOutSpace(count);
+  }
+
+  function zoom(by) {
+    const view = byId("view"), [middle] = sight();
+    isZoomed = true;
+    laneWidth = Math.max(16, Math.min(400, laneWidth * by));
+    rowHeight = Math.max(4, Math.min(40, rowHeight * by));
+    layOutSpace(order.filter(lane => column[lane] >= 0).length);
+    view.scrollTop = middle * rowHeight * step;
+    redraw();
+  }
+
+  // The chain of the chosen event alone, or all. Its lanes are side by side, and fill the window.
+  function turnChain() {
+    chainOnly = !chainOnly;
+    byId("chain").setAttribute("aria-pressed", String(chainOnly));
+    layOut();
+    refitLanes(true);
+  }
+
+  // The chosen event, with its causes and effects.
+
+  let chosen = -1;
+  const causes = new Set(), effects = new Set();
+
+  function choose(row, focus = true) {
+    chosen = row;
+    causes.clear();
+    effects.clear();
+    if (row >= 0) {
+      for (let before = rows.cause[row]; before >= 0 && !causes.has(before) && before !== row; before = rows.cause[before])
+        causes.add(before);
+      const open = [row];
+      while (open.length > 0)
+        for (const after of effectsOf(open.pop()))
+          if (!effects.has(after) && after !== row) { effects.add(after); open.push(after); }
+    }
+    byId("chain").disabled = row < 0;
+    if (chainOnly) layOut();
+    // The panel takes a part of the window; what is left has to show the event.
+    showPanel();
+    if (row >= 0) reveal(row);
+    draw();
+    if (focus && row >= 0) byId("list").querySelector(`[data-row="${row}"]`)?.focus({ preventScroll: true });
+    byId("live").textContent = row < 0 ? "no event is chosen"
+      : eventName(row) + ": " + counted(causes.size, "cause") + ", " + counted(effects.size, "effect");
+  }
+
+  function reveal(row) {
+    const view = byId("view"), at = place[row];
+    if (at < 0) return;
+    const [above, below] = [at * rowHeight, (at + 1) * rowHeight - (view.clientHeight - top())];
+    const now = view.scrollTop / step;
+    if (above < now || below > now)
+      view.scrollTop = step * Math.max(0, above - (view.clientHeight - top()) / 2);
+    const left = column[rows.lane[row]] * laneWidth;
+    if (left < view.scrollLeft || left + laneWidth > view.scrollLeft + view.clientWidth - listWidth())
+      view.scrollLeft = Math.max(0, left - (view.clientWidth - listWidth()) / 2);
+  }
+
+  // The drawing: the lanes, the resets and the chain of the chosen event, and when it is drawn.
+
+  // What is drawn. Each colour has a shape or a dash of its own beside it.
+  const LIGHT = { message: "#333333", cause: "#0072b2", effect: "#d55e00", unreported: "#7a3e9d", dim: "#c8c8c8",
+                  life: "#b5b5b5", reset: "#aa0000", paper: "#ffffff", odd: "#f7f7f7", text: "#111111", faint: "#767676" };
+  const DARK = { message: "#d0d0d0", cause: "#56b4e9", effect: "#f5955a", unreported: "#c79be8", dim: "#4a4a4a",
+                 life: "#5c5c5c", reset: "#ff7b72", paper: "#16181b", odd: "#1c1f23", text: "#e8e8e8", faint: "#8a8a8a" };
+  const darkness = matchMedia("(prefers-color-scheme: dark)");
+  let INK = darkness.matches ? DARK : LIGHT;
+  darkness.addEventListener("change", () => { INK = darkness.matches ? DARK : LIGHT; redraw(); });
 
   let asked = false;
   function redraw() {
@@ -286,6 +395,11 @@
     pen.lineWidth = thick;
     pen.setLineDash(dash);
   }
+
+  // The arrows of messages, and a mark for each event.
+
+  // So many arrows are drawn at once.
+  const MOST_ARROWS = 3000;
 
   // Arrows with an end in sight come first; the number of those that aren't drawn is the result. Of the events that
   // follow one unreported receive the first alone has its arrow, and the others have one if they are lit.
@@ -388,14 +502,7 @@
               chosen >= 0 && !isLit(row) ? INK.faint : INK.text);
   }
 
-  function element(tag, attributes, ...children) {
-    const made = document.createElement(tag);
-    for (const [name, value] of Object.entries(attributes))
-      if (name.startsWith("on")) made.addEventListener(name.slice(2), value);
-      else if (value !== false) made.setAttribute(name, value === true ? "" : value);
-    made.append(...children);
-    return made;
-  }
+  // What is in the document of the rows in sight: the names of lanes and a row for each event.
 
   function drawNames(inSight) {
     const names = byId("names");
@@ -450,43 +557,10 @@
     return made;
   }
 
-  // Choosing an event
+  // The panel, which tells all of the chosen event.
 
-  function choose(row, focus = true) {
-    chosen = row;
-    causes.clear();
-    effects.clear();
-    if (row >= 0) {
-      for (let before = rows.cause[row]; before >= 0 && !causes.has(before) && before !== row; before = rows.cause[before])
-        causes.add(before);
-      const open = [row];
-      while (open.length > 0)
-        for (const after of effectsOf(open.pop()))
-          if (!effects.has(after) && after !== row) { effects.add(after); open.push(after); }
-    }
-    byId("chain").disabled = row < 0;
-    chainOf = -1;
-    if (chainOnly) layOut();
-    // The panel takes a part of the window; what is left has to show the event.
-    showPanel();
-    if (row >= 0) reveal(row);
-    draw();
-    if (focus && row >= 0) byId("list").querySelector(`[data-row="${row}"]`)?.focus({ preventScroll: true });
-    byId("live").textContent = row < 0 ? "no event is chosen"
-      : eventName(row) + ": " + counted(causes.size, "cause") + ", " + counted(effects.size, "effect");
-  }
-
-  function reveal(row) {
-    const view = byId("view"), at = place[row];
-    if (at < 0) return;
-    const [above, below] = [at * rowHeight, (at + 1) * rowHeight - (view.clientHeight - top())];
-    const now = view.scrollTop / step;
-    if (above < now || below > now)
-      view.scrollTop = step * Math.max(0, above - (view.clientHeight - top()) / 2);
-    const left = column[rows.lane[row]] * laneWidth;
-    if (left < view.scrollLeft || left + laneWidth > view.scrollLeft + view.clientWidth - listWidth())
-      view.scrollLeft = Math.max(0, left - (view.clientWidth - listWidth()) / 2);
-  }
+  // A message is put into the panel in pieces, of which a browser lays out those in sight, and so many in a frame.
+  const PIECE = 16384, PIECES = 4;
 
   const link = (row, text) => element("button", { type: "button", class: "link", onclick: () => choose(row) }, text);
 
@@ -549,7 +623,9 @@
     document.removeEventListener("copy", answer);
   }
 
-  // Searching
+  // Searching in names and terms.
+
+  let matches = [], matched = new Set();
 
   // The texts in which a term is searched, made when it is searched first.
   const searched = [];
@@ -579,7 +655,9 @@
     byId("found").textContent = number(next + 1) + " of " + number(matches.length);
   }
 
-  // Labels and lanes
+  // The drawers: labels, lanes, times and the legend.
+
+  const MOST_LISTED = 500;
 
   function drawer(name, fill) {
     const button = byId(name + "-button"), section = byId(name);
@@ -621,43 +699,6 @@
     fill();
   }
 
-  function move(lane, by) {
-    const visibleLanes = order.filter(one => column[one] >= 0), other = visibleLanes[visibleLanes.indexOf(lane) + by];
-    if (other === undefined) return;
-    order = order.filter(one => one !== lane);
-    order.splice(order.indexOf(other) + (by > 0 ? 1 : 0), 0, lane);
-    layOut();
-  }
-
-  // Lanes in the order of their first events that are shown, so that arrows go mostly to the right.
-  function orderByFirst() {
-    const first = new Map();
-    for (const row of shown) for (const lane of [rows.lane[row], rows.other[row]])
-      if (lane >= 0 && !first.has(lane)) first.set(lane, first.size);
-    const rank = lane => first.has(lane) ? first.get(lane) : lanes.length + lane;
-    order = [...order].sort((a, b) => rank(a) - rank(b));
-    layOut();
-  }
-
-  const shareOf = count => Math.floor((byId("view").clientWidth - listWidth() - 60) / Math.max(1, count));
-
-  // At first the lanes fill the window. If they are too many for that, those of the first events come first.
-  function fitLanes() {
-    const used = labelledLanes(), share = shareOf(lanes.filter((_, lane) => used.has(lane)).length);
-    laneWidth = Math.max(NARROWEST, Math.min(WIDEST, share));
-    layOut();
-    if (share < NARROWEST) orderByFirst();
-  }
-
-  // They go on filling what the panel leaves of it, until somebody zooms. The names don't turn for the panel, since all
-  // rows would move then.
-  function refitLanes(mayTurn) {
-    const count = order.filter(lane => column[lane] >= 0).length, isNarrow = laneWidth < UPRIGHT;
-    const least = isNarrow || mayTurn ? NARROWEST : UPRIGHT, most = isNarrow && !mayTurn ? UPRIGHT - 1 : WIDEST;
-    if (!isZoomed) laneWidth = Math.max(least, Math.min(most, shareOf(count)));
-    layOutSpace(count);
-  }
-
   drawer("labels", section => boxes(section, "Labels", () => [...labels.keys()], label => visible(labels[label]), hiddenLabels, () => []));
   drawer("lanes", function fillLanes(section) {
     boxes(section, "Lanes", () => order, laneName, hiddenLanes, (lane, fill) => [
@@ -695,7 +736,7 @@
       "/: search; + and -: zoom; on a name, Delete hides that lane, Alt with an arrow moves it"
     ].map(text => element("li", {}, text)))));
 
-  // Keys and the mouse
+  // Keys and the mouse.
 
   function onKey(event) {
     if (event.target.matches("input, button, pre") && !event.target.matches(".name")) {
@@ -720,16 +761,6 @@
     else if (event.key === "-") zoom(0.8);
     else return;
     event.preventDefault();
-  }
-
-  function zoom(by) {
-    const view = byId("view"), [middle] = sight();
-    isZoomed = true;
-    laneWidth = Math.max(16, Math.min(400, laneWidth * by));
-    rowHeight = Math.max(4, Math.min(40, rowHeight * by));
-    layOutSpace(order.filter(lane => column[lane] >= 0).length);
-    view.scrollTop = middle * rowHeight * step;
-    redraw();
   }
 
   byId("list").addEventListener("click", event => {
@@ -761,11 +792,7 @@
   byId("larger").addEventListener("click", () => zoom(1.25));
   byId("smaller").addEventListener("click", () => zoom(0.8));
   byId("chain").addEventListener("click", () => {
-    chainOnly = !chainOnly;
-    byId("chain").setAttribute("aria-pressed", String(chainOnly));
-    layOut();
-    // Its lanes are side by side, and fill the window.
-    refitLanes(true);
+    turnChain();
     if (chosen >= 0) reveal(chosen);
   });
   byId("view").addEventListener("scroll", redraw, { passive: true });
@@ -773,8 +800,9 @@
     if (event.ctrlKey) { event.preventDefault(); zoom(event.deltaY < 0 ? 1.1 : 1 / 1.1); }
   }, { passive: false });
   document.addEventListener("keydown", onKey);
-  darkness.addEventListener("change", () => { INK = darkness.matches ? DARK : LIGHT; redraw(); });
   window.addEventListener("resize", () => { refitLanes(true); redraw(); });
+
+  // What the page begins with.
 
   byId("title").textContent = visible(data.title);
   byId("headline").append(element("span", { class: data.fits ? "" : "doubt" }, visible(data.headline)));
