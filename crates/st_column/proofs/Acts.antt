@@ -1,5 +1,6 @@
 -- Each act has a template, and what a template of an act spells is one.
-use Rattle.std.proofs.Common.{◌≡◌, ℕ, zero, suc, ◌<◌, Bool, true, false, List, [], ◌∷◌, ◌++◌, length, get_or}
+use Rattle.std.proofs.Common.{◌≡◌, ℕ, zero, suc, ◌<◌, Bool, true, false, List, [], ◌∷◌, ◌++◌}
+use Rattle.std.proofs.Common.{length, get_or}
 use Rattle.std.proofs.Common.{refl, sym, ap, subst, ◌∙◌, append_assoc, inl, inr, lit<, arith}
 use Rattle.std.specs.Prelude.{codes, decimal}
 use Rattle.std.specs.List.{AllByRecursion}
@@ -13,14 +14,18 @@ use Rattle.st_core.specs.declared.types.Want.TheVariants as wants
 use Rattle.st_core.specs.declared.types.Act.{Act}
 use Rattle.st_core.specs.declared.types.Act.TheVariants as acts
 use Rattle.st_text.specs.Spelling as spelled
-use Rattle.st_text.specs.Range.{FitsAct, FitsComponent, FitsToken, FitsWant, most_label, most_number}
+use Rattle.st_text.specs.Range.{FitsAct, FitsComponent, FitsToken, FitsWant, most_label}
+use Rattle.st_text.specs.Range.{most_number}
 use Rattle.st_text.specs.Text.{named}
-use Rattle.st_column.specs.Longest.{IsAnyOf, Spells, act_lines, flag_lines, message_lines, print_lines}
-use Rattle.st_column.specs.Longest.{restore_lines, restore_send_lines, token_lines, tracer_lines}
+use Rattle.st_column.specs.Longest.{IsAnyOf, FitsTemplate, act_templates, flag_templates}
+use Rattle.st_column.specs.Longest.{message_templates, print_templates}
+use Rattle.st_column.specs.Longest.{restore_templates, restore_send_templates, token_templates}
+use Rattle.st_column.specs.Longest.{tracer_templates}
 use Rattle.st_column.proofs.Templates.{any_split}
 use Rattle.st_column.proofs.Pieces.{FitsNode, fits_pid, are_bytes, actor_out, count_out, last_pid}
 use Rattle.st_column.proofs.Pieces.{last_count, last_word}
-use Rattle.st_column.proofs.Pieces.{word_out, word_in, actor_in, count_in, pid_last, count_last, word_last}
+use Rattle.st_column.proofs.Pieces.{word_out, word_in, actor_in, count_in, pid_last, count_last}
+use Rattle.st_column.proofs.Pieces.{word_last}
 
 -- the text of three flags
 abbrev pub flags : Bool → Bool → Bool → List ℕ
@@ -69,21 +74,21 @@ restore_flat p t =
 module _ (wide : Bool) where
   -- one of the templates
   pub at : (k : ℕ) (templates : List (List ℕ)) (text : List ℕ) → k < length templates
-      → Spells wide (get_or templates k []) text → IsAnyOf wide templates text
+      → FitsTemplate wide (get_or templates k []) text → IsAnyOf wide templates text
   at k [] text lt x = absurd (omega (arith, lt))
   at zero (t ∷ ts) text lt x = inl x
   at (suc k) (t ∷ ts) text lt x = inr (at k ts text (omega (arith, lt)) x)
 
   -- the template of an act, whose text is put together from the back
-  act_at : (k : ℕ) (text : List ℕ) {same : List ℕ} → k < 28 → text ≡ same → Spells wide (get_or act_lines k []) same
-      → IsAnyOf wide act_lines text
-  act_at k text {same} lt e x = subst (IsAnyOf wide act_lines) (sym e) (at k act_lines same lt x)
+  act_at : (k : ℕ) (text : List ℕ) {same : List ℕ} → k < 28 → text ≡ same → FitsTemplate wide (get_or act_templates k []) same
+      → IsAnyOf wide act_templates text
+  act_at k text {same} lt e x = subst (IsAnyOf wide act_templates) (sym e) (at k act_templates same lt x)
 
   -- ---- the template of an act
 
   want_out : (p : Pid) (w : Want) → FitsNode wide p → FitsWant w
       → AllByRecursion (FitsNode wide) (named (acts.Receive p w))
-      → IsAnyOf wide act_lines (spelled.act (acts.Receive p w))
+      → IsAnyOf wide act_templates (spelled.act (acts.Receive p w))
   want_out p wants.First f v n =
       act_at 1 _ (lit< tt) (spaced (codes "receive ") p (codes "first"))
       (actor_out wide (codes "receive ") (codes " first") _ p refl f (last_word wide (codes " first") refl))
@@ -106,7 +111,7 @@ module _ (wide : Bool) where
       (last_count wide (codes " place ") 78 most_number k refl refl le))
 
   component_out : (p : Pid) (c : Component) → FitsNode wide p → FitsComponent c
-      → IsAnyOf wide act_lines (spelled.act (acts.Set p c))
+      → IsAnyOf wide act_templates (spelled.act (acts.Set p c))
   component_out p (components.Label l) f le =
       act_at 8 _ (lit< tt) (spaced (codes "set ") p (spelled.component (components.Label l)))
       (actor_out wide (codes "set ") (codes " label L") _ p refl f
@@ -130,7 +135,7 @@ module _ (wide : Bool) where
       act_at 17 _ (lit< tt) (spaced (codes "set ") p (codes "print false"))
       (actor_out wide (codes "set ") (codes " print false") _ p refl f (last_word wide (codes " print false") refl))
 
-  tracer_out : (p : Pid) (b : Bool) → FitsNode wide p → IsAnyOf wide act_lines (spelled.act (acts.Tracer p b))
+  tracer_out : (p : Pid) (b : Bool) → FitsNode wide p → IsAnyOf wide act_templates (spelled.act (acts.Tracer p b))
   tracer_out p true f =
       act_at 18 _ (lit< tt) (spaced (codes "tracer ") p (codes "true"))
       (actor_out wide (codes "tracer ") (codes " true") _ p refl f (last_word wide (codes " true") refl))
@@ -149,19 +154,19 @@ module _ (wide : Bool) where
   flags_bytes false false false = refl
 
   restore_any : (s r p : Bool) (text : List ℕ)
-      → Spells wide (codes "restore <M.P.0> L " ++ (flags s r p ++ codes " N N <M.P.0>")) text
-      → IsAnyOf wide act_lines text
-  restore_any true true true text x = at 20 act_lines text (lit< tt) x
-  restore_any true true false text x = at 21 act_lines text (lit< tt) x
-  restore_any true false true text x = at 22 act_lines text (lit< tt) x
-  restore_any true false false text x = at 23 act_lines text (lit< tt) x
-  restore_any false true true text x = at 24 act_lines text (lit< tt) x
-  restore_any false true false text x = at 25 act_lines text (lit< tt) x
-  restore_any false false true text x = at 26 act_lines text (lit< tt) x
-  restore_any false false false text x = at 27 act_lines text (lit< tt) x
+      → FitsTemplate wide (codes "restore <M.P.0> L " ++ (flags s r p ++ codes " N N <M.P.0>")) text
+      → IsAnyOf wide act_templates text
+  restore_any true true true text x = at 20 act_templates text (lit< tt) x
+  restore_any true true false text x = at 21 act_templates text (lit< tt) x
+  restore_any true false true text x = at 22 act_templates text (lit< tt) x
+  restore_any true false false text x = at 23 act_templates text (lit< tt) x
+  restore_any false true true text x = at 24 act_templates text (lit< tt) x
+  restore_any false true false text x = at 25 act_templates text (lit< tt) x
+  restore_any false false true text x = at 26 act_templates text (lit< tt) x
+  restore_any false false false text x = at 27 act_templates text (lit< tt) x
 
   restore_out : (p : Pid) (t : Token) → FitsNode wide p → FitsNode wide t.from → FitsToken t
-      → IsAnyOf wide act_lines (spelled.act (acts.Restore p t))
+      → IsAnyOf wide act_templates (spelled.act (acts.Restore p t))
   restore_out p t f g fits =
       let f3 = flags t.flags.send t.flags.receive t.flags.print in
       let last = last_pid wide (codes " ") t.from refl g in
@@ -175,12 +180,12 @@ module _ (wide : Bool) where
       let label =
       count_out wide (codes " ") 76 most_label t.label.0
       (codes " " ++ (f3 ++ codes " N N <M.P.0>")) _ refl refl fits.label space in
-      subst (IsAnyOf wide act_lines) (sym (restore_flat p t))
+      subst (IsAnyOf wide act_templates) (sym (restore_flat p t))
       (restore_any t.flags.send t.flags.receive t.flags.print _
       (actor_out wide (codes "restore ") (codes " L " ++ (f3 ++ codes " N N <M.P.0>")) _ p refl f label))
 
   pub act_out : (a : Act) → FitsAct a → AllByRecursion (FitsNode wide) (named a)
-      → IsAnyOf wide act_lines (spelled.act a)
+      → IsAnyOf wide act_templates (spelled.act a)
   act_out (acts.Send p q v) f n =
       act_at 0 _ (lit< tt) (sends_flat p q v)
       (actor_out wide (codes "send ") (codes " <M.P.0> N") _ p refl n.0
@@ -211,7 +216,7 @@ module _ (wide : Bool) where
     pub nodes : AllByRecursion (FitsNode wide) (named value)
     pub same : text ≡ spelled.act value
 
-  send_in : (text : List ℕ) → Spells wide (codes "send <M.P.0> <M.P.0> N") text → IsAct text
+  send_in : (text : List ℕ) → FitsTemplate wide (codes "send <M.P.0> <M.P.0> N") text → IsAct text
   send_in text x =
       let p = actor_in wide (codes "send ") (codes " <M.P.0> N") text refl x in
       let q = actor_in wide (codes " ") (codes " N") p.rest refl p.more in
@@ -235,25 +240,25 @@ module _ (wide : Bool) where
         same = e ∙ sym (spaced (codes "receive ") p (spelled.want w));
       }
 
-  first_in : (text : List ℕ) → Spells wide (codes "receive <M.P.0> first") text → IsAct text
+  first_in : (text : List ℕ) → FitsTemplate wide (codes "receive <M.P.0> first") text → IsAct text
   first_in text x =
       let p = actor_in wide (codes "receive ") (codes " first") text refl x in
       received p.value wants.First text p.fits tt (p.fits, tt)
       (p.whole _ (word_last wide (codes " first") p.rest refl p.more))
 
-  from_in : (text : List ℕ) → Spells wide (codes "receive <M.P.0> from <M.P.0>") text → IsAct text
+  from_in : (text : List ℕ) → FitsTemplate wide (codes "receive <M.P.0> from <M.P.0>") text → IsAct text
   from_in text x =
       let p = actor_in wide (codes "receive ") (codes " from <M.P.0>") text refl x in
       let q = pid_last wide (codes " from ") p.rest refl p.more in
       received p.value (wants.From q.0) text p.fits (fits_pid wide q.0 q.1) (p.fits, (q.1, tt)) (p.whole _ q.2)
 
-  value_in : (text : List ℕ) → Spells wide (codes "receive <M.P.0> value N") text → IsAct text
+  value_in : (text : List ℕ) → FitsTemplate wide (codes "receive <M.P.0> value N") text → IsAct text
   value_in text x =
       let p = actor_in wide (codes "receive ") (codes " value N") text refl x in
       let v = count_last wide (codes " value ") 78 most_number p.rest refl refl p.more in
       received p.value (wants.Value v.0) text p.fits v.1 (p.fits, tt) (p.whole _ v.2)
 
-  both_in : (text : List ℕ) → Spells wide (codes "receive <M.P.0> both <M.P.0> N") text → IsAct text
+  both_in : (text : List ℕ) → FitsTemplate wide (codes "receive <M.P.0> both <M.P.0> N") text → IsAct text
   both_in text x =
       let p = actor_in wide (codes "receive ") (codes " both <M.P.0> N") text refl x in
       let q = actor_in wide (codes " both ") (codes " N") p.rest refl p.more in
@@ -265,13 +270,13 @@ module _ (wide : Bool) where
         same = p.whole _ (q.whole _ v.2) ∙ sym (both_flat p.value q.value v.0);
       }
 
-  place_in : (text : List ℕ) → Spells wide (codes "receive <M.P.0> place N") text → IsAct text
+  place_in : (text : List ℕ) → FitsTemplate wide (codes "receive <M.P.0> place N") text → IsAct text
   place_in text x =
       let p = actor_in wide (codes "receive ") (codes " place N") text refl x in
       let v = count_last wide (codes " place ") 78 most_number p.rest refl refl p.more in
       received p.value (wants.Place v.0) text p.fits v.1 (p.fits, tt) (p.whole _ v.2)
 
-  print_in : (text : List ℕ) → Spells wide (codes "print <M.P.0> N") text → IsAct text
+  print_in : (text : List ℕ) → FitsTemplate wide (codes "print <M.P.0> N") text → IsAct text
   print_in text x =
       let p = actor_in wide (codes "print ") (codes " N") text refl x in
       let v = count_last wide (codes " ") 78 most_number p.rest refl refl p.more in
@@ -282,7 +287,7 @@ module _ (wide : Bool) where
         same = p.whole _ v.2 ∙ sym (spaced (codes "print ") p.value (decimal v.0));
       }
 
-  printat_in : (text : List ℕ) → Spells wide (codes "printat <M.P.0> L N") text → IsAct text
+  printat_in : (text : List ℕ) → FitsTemplate wide (codes "printat <M.P.0> L N") text → IsAct text
   printat_in text x =
       let p = actor_in wide (codes "printat ") (codes " L N") text refl x in
       let l = count_in wide (codes " ") 76 most_label (codes " N") p.rest refl refl p.more in
@@ -305,7 +310,7 @@ module _ (wide : Bool) where
         same = e ∙ sym (spaced (codes "set ") p (spelled.component c));
       }
 
-  label_in : (text : List ℕ) → Spells wide (codes "set <M.P.0> label L") text → IsAct text
+  label_in : (text : List ℕ) → FitsTemplate wide (codes "set <M.P.0> label L") text → IsAct text
   label_in text x =
       let p = actor_in wide (codes "set ") (codes " label L") text refl x in
       let l = count_last wide (codes " label ") 76 most_label p.rest refl refl p.more in
@@ -313,14 +318,14 @@ module _ (wide : Bool) where
 
   flag_in : (word : List ℕ) (c : Component) (text : List ℕ) → are_bytes wide word ≡ true
       → codes " " ++ spelled.component c ≡ word → FitsComponent c
-      → Spells wide (codes "set <M.P.0>" ++ word) text → IsAct text
+      → FitsTemplate wide (codes "set <M.P.0>" ++ word) text → IsAct text
   flag_in word c text bytes is fits x =
       let p = actor_in wide (codes "set ") word text refl x in
       set_to p.value c text p.fits fits (p.whole _ (word_last wide word p.rest bytes p.more ∙ sym is))
 
   alone_in : (word : List ℕ) (a : Pid → Act) (text : List ℕ) → are_bytes wide word ≡ true
       → ((p : Pid) → spelled.act (a p) ≡ word ++ spelled.pid p) → ((p : Pid) → FitsNode wide p → FitsAct (a p))
-      → ((p : Pid) → named (a p) ≡ p ∷ []) → Spells wide (word ++ codes "<M.P.0>") text → IsAct text
+      → ((p : Pid) → named (a p) ≡ p ∷ []) → FitsTemplate wide (word ++ codes "<M.P.0>") text → IsAct text
   alone_in word a text bytes is fits names x =
       let p = pid_last wide word text bytes x in
       record {
@@ -330,7 +335,7 @@ module _ (wide : Bool) where
         same = p.2 ∙ sym (is p.0);
       }
 
-  tracer_in : (b : Bool) (text : List ℕ) → Spells wide (codes "tracer <M.P.0> " ++ spelled.bool b) text → IsAct text
+  tracer_in : (b : Bool) (text : List ℕ) → FitsTemplate wide (codes "tracer <M.P.0> " ++ spelled.bool b) text → IsAct text
   tracer_in b text x =
       let p = actor_in wide (codes "tracer ") (codes " " ++ spelled.bool b) text refl x in
       record {
@@ -346,7 +351,7 @@ module _ (wide : Bool) where
       bool_bytes false = refl
 
   restore_in : (s r b : Bool) (text : List ℕ)
-      → Spells wide (codes "restore <M.P.0> L " ++ (flags s r b ++ codes " N N <M.P.0>")) text → IsAct text
+      → FitsTemplate wide (codes "restore <M.P.0> L " ++ (flags s r b ++ codes " N N <M.P.0>")) text → IsAct text
   restore_in s r b text x =
       let f3 = flags s r b in
       let p = actor_in wide (codes "restore ") (codes " L " ++ (f3 ++ codes " N N <M.P.0>")) text refl x in
@@ -380,21 +385,21 @@ module _ (wide : Bool) where
             ∙ sym (restore_flat p.value t);
       }
 
-  messages_in : (text : List ℕ) → IsAnyOf wide message_lines text → IsAct text
+  messages_in : (text : List ℕ) → IsAnyOf wide message_templates text → IsAct text
   messages_in text (inl x) = send_in text x
   messages_in text (inr (inl x)) = first_in text x
   messages_in text (inr (inr (inl x))) = from_in text x
   messages_in text (inr (inr (inr (inl x)))) = value_in text x
   messages_in text (inr (inr (inr (inr x)))) = absurd x
 
-  prints_in : (text : List ℕ) → IsAnyOf wide print_lines text → IsAct text
+  prints_in : (text : List ℕ) → IsAnyOf wide print_templates text → IsAct text
   prints_in text (inl x) = both_in text x
   prints_in text (inr (inl x)) = place_in text x
   prints_in text (inr (inr (inl x))) = print_in text x
   prints_in text (inr (inr (inr (inl x)))) = printat_in text x
   prints_in text (inr (inr (inr (inr x)))) = absurd x
 
-  tokens_in : (text : List ℕ) → IsAnyOf wide token_lines text → IsAct text
+  tokens_in : (text : List ℕ) → IsAnyOf wide token_templates text → IsAct text
   tokens_in text (inl x) = label_in text x
   tokens_in text (inr (inl x)) =
       alone_in (codes "clear ") acts.Clear text refl (λ p. refl) (λ p f. fits_pid wide p f) (λ p. refl) x
@@ -404,7 +409,7 @@ module _ (wide : Bool) where
       alone_in (codes "reset ") acts.Reset text refl (λ p. refl) (λ p f. fits_pid wide p f) (λ p. refl) x
   tokens_in text (inr (inr (inr (inr x)))) = absurd x
 
-  flags_in : (text : List ℕ) → IsAnyOf wide flag_lines text → IsAct text
+  flags_in : (text : List ℕ) → IsAnyOf wide flag_templates text → IsAct text
   flags_in text (inl x) = flag_in (codes " send true") (components.Send true) text refl refl tt x
   flags_in text (inr (inl x)) = flag_in (codes " send false") (components.Send false) text refl refl tt x
   flags_in text (inr (inr (inl x))) =
@@ -413,21 +418,21 @@ module _ (wide : Bool) where
       flag_in (codes " receive false") (components.Receive false) text refl refl tt x
   flags_in text (inr (inr (inr (inr x)))) = absurd x
 
-  tracers_in : (text : List ℕ) → IsAnyOf wide tracer_lines text → IsAct text
+  tracers_in : (text : List ℕ) → IsAnyOf wide tracer_templates text → IsAct text
   tracers_in text (inl x) = flag_in (codes " print true") (components.Print true) text refl refl tt x
   tracers_in text (inr (inl x)) = flag_in (codes " print false") (components.Print false) text refl refl tt x
   tracers_in text (inr (inr (inl x))) = tracer_in true text x
   tracers_in text (inr (inr (inr (inl x)))) = tracer_in false text x
   tracers_in text (inr (inr (inr (inr x)))) = absurd x
 
-  sends_restored_in : (text : List ℕ) → IsAnyOf wide restore_send_lines text → IsAct text
+  sends_restored_in : (text : List ℕ) → IsAnyOf wide restore_send_templates text → IsAct text
   sends_restored_in text (inl x) = restore_in true true true text x
   sends_restored_in text (inr (inl x)) = restore_in true true false text x
   sends_restored_in text (inr (inr (inl x))) = restore_in true false true text x
   sends_restored_in text (inr (inr (inr (inl x)))) = restore_in true false false text x
   sends_restored_in text (inr (inr (inr (inr x)))) = absurd x
 
-  others_restored_in : (text : List ℕ) → IsAnyOf wide restore_lines text → IsAct text
+  others_restored_in : (text : List ℕ) → IsAnyOf wide restore_templates text → IsAct text
   others_restored_in text (inl x) = restore_in false true true text x
   others_restored_in text (inr (inl x)) = restore_in false true false text x
   others_restored_in text (inr (inr (inl x))) = restore_in false false true text x
@@ -439,19 +444,19 @@ module _ (wide : Bool) where
       → (IsAnyOf wide ys text → IsAct text) → IsAnyOf wide (xs ++ ys) text → IsAct text
   either_in xs ys text f g x = elim (any_split wide xs ys text x) [ inl a ↦ f a | inr b ↦ g b ]
 
-  pub act_in : (text : List ℕ) → IsAnyOf wide act_lines text → IsAct text
+  pub act_in : (text : List ℕ) → IsAnyOf wide act_templates text → IsAct text
   act_in text =
-      let one = either_in restore_send_lines restore_lines text (sends_restored_in text) (others_restored_in text) in
-      let two = either_in tracer_lines (restore_send_lines ++ restore_lines) text (tracers_in text) one in
-      let three = either_in flag_lines (tracer_lines ++ restore_send_lines ++ restore_lines) text (flags_in text) two in
+      let one = either_in restore_send_templates restore_templates text (sends_restored_in text) (others_restored_in text) in
+      let two = either_in tracer_templates (restore_send_templates ++ restore_templates) text (tracers_in text) one in
+      let three = either_in flag_templates (tracer_templates ++ restore_send_templates ++ restore_templates) text (flags_in text) two in
       let four_groups =
-      either_in token_lines (flag_lines ++ (tracer_lines ++ (restore_send_lines ++ restore_lines))) text
+      either_in token_templates (flag_templates ++ (tracer_templates ++ (restore_send_templates ++ restore_templates))) text
       (tokens_in text)
       three in
       let five =
-      either_in print_lines (token_lines
-      ++ (flag_lines ++ (tracer_lines ++ (restore_send_lines ++ restore_lines)))) text
+      either_in print_templates (token_templates
+      ++ (flag_templates ++ (tracer_templates ++ (restore_send_templates ++ restore_templates)))) text
       (prints_in text) four_groups in
-      either_in message_lines
-      (print_lines ++ (token_lines ++ (flag_lines ++ (tracer_lines ++ (restore_send_lines ++ restore_lines))))) text
+      either_in message_templates
+      (print_templates ++ (token_templates ++ (flag_templates ++ (tracer_templates ++ (restore_send_templates ++ restore_templates))))) text
       (messages_in text) five

@@ -1,5 +1,6 @@
 -- Each event has a template, and what a template of an event spells is one.
-use Rattle.std.proofs.Common.{◌≡◌, ℕ, ◌≤◌, Bool, true, List, [], ◌∷◌, ◌++◌, Option, Some, None, refl, sym, ap}
+use Rattle.std.proofs.Common.{◌≡◌, ℕ, ◌≤◌, Bool, true, List, [], ◌∷◌, ◌++◌, Option, Some, None}
+use Rattle.std.proofs.Common.{refl, sym, ap}
 use Rattle.std.proofs.Common.{subst, ◌∙◌}
 use Rattle.std.proofs.Common.{append_assoc, inl, inr, lit<}
 use Rattle.std.specs.Prelude.{codes, decimal, option_to_list}
@@ -10,7 +11,7 @@ use Rattle.st_core.specs.declared.types.Kind.TheVariants as kinds
 use Rattle.st_core.specs.declared.types.Event.{Event}
 use Rattle.st_text.specs.Spelling as spelled
 use Rattle.st_text.specs.Range.{FitsEvent, FitsPlace, most_label, most_number}
-use Rattle.st_column.specs.Longest.{IsAnyOf, Spells, event_lines}
+use Rattle.st_column.specs.Longest.{IsAnyOf, FitsTemplate, event_templates}
 use Rattle.st_column.proofs.Pieces.{FitsNode, fits_pid, are_bytes, actor_out, count_out, last_word}
 use Rattle.st_column.proofs.Pieces.{actor_in, count_in, word_last}
 use Rattle.st_column.proofs.Acts.{at}
@@ -41,8 +42,8 @@ module _ (wide : Bool) where
   -- ---- the template of an event
 
   begun_out : (word tail rest : List ℕ) (l prev this : ℕ) (p : Pid) → are_bytes wide word ≡ true → l ≤ most_label
-      → prev ≤ most_number → this ≤ most_number → FitsNode wide p → Spells wide tail rest
-      → Spells wide (codes "{seq_trace,L" ++ (word ++ (codes "N,N},<M.P.0>" ++ tail))) (begun word l prev this p rest)
+      → prev ≤ most_number → this ≤ most_number → FitsNode wide p → FitsTemplate wide tail rest
+      → FitsTemplate wide (codes "{seq_trace,L" ++ (word ++ (codes "N,N},<M.P.0>" ++ tail))) (begun word l prev this p rest)
   begun_out word tail rest l prev this p bytes fl fp ft f x =
       let from = actor_out wide (codes "},") tail rest p refl f x in
       let second = count_out wide (codes ",") 78 most_number this (codes "},<M.P.0>" ++ tail) _ refl refl ft from in
@@ -51,46 +52,46 @@ module _ (wide : Bool) where
 
   -- what is behind an event's first pid
   to_out : (q : Pid) (v : ℕ) → FitsNode wide q → v ≤ most_number
-      → Spells wide (codes ",<M.P.0>,N}}") (codes "," ++ (spelled.pid q ++ (codes "," ++ (decimal v ++ codes "}}"))))
+      → FitsTemplate wide (codes ",<M.P.0>,N}}") (codes "," ++ (spelled.pid q ++ (codes "," ++ (decimal v ++ codes "}}"))))
   to_out q v f le =
       actor_out wide (codes ",") (codes ",N}}") _ q refl f
       (count_out wide (codes ",") 78 most_number v (codes "}}") (codes "}}") refl refl le
       (last_word wide (codes "}}") refl))
 
-  none_out : (v : ℕ) → v ≤ most_number → Spells wide (codes ",[],N}}") (codes ",[]," ++ (decimal v ++ codes "}}"))
+  none_out : (v : ℕ) → v ≤ most_number → FitsTemplate wide (codes ",[],N}}") (codes ",[]," ++ (decimal v ++ codes "}}"))
   none_out v le =
       count_out wide (codes ",[],") 78 most_number v (codes "}}") (codes "}}") refl refl le
       (last_word wide (codes "}}") refl)
 
   pub event_out : (e : Event) → FitsEvent e → AllByRecursion (FitsNode wide) (e.from ∷ option_to_list e.to)
-      → IsAnyOf wide event_lines (spelled.event e)
+      → IsAnyOf wide event_templates (spelled.event e)
   event_out e fits n =
-      subst (IsAnyOf wide event_lines) (sym (event_flat e)) (by e.kind e.to fits.to n.1)
+      subst (IsAnyOf wide event_templates) (sym (event_flat e)) (by e.kind e.to fits.to n.1)
     where
-      begins : (word tail rest : List ℕ) → are_bytes wide word ≡ true → Spells wide tail rest
-          → Spells wide (codes "{seq_trace,L" ++ (word ++ (codes "N,N},<M.P.0>" ++ tail)))
+      begins : (word tail rest : List ℕ) → are_bytes wide word ≡ true → FitsTemplate wide tail rest
+          → FitsTemplate wide (codes "{seq_trace,L" ++ (word ++ (codes "N,N},<M.P.0>" ++ tail)))
           (begun word e.label.0 e.serial.prev e.serial.this e.from rest)
       begins word tail rest bytes x =
           begun_out word tail rest e.label.0 e.serial.prev e.serial.this e.from bytes fits.label fits.serial.prev
           fits.serial.this n.0 x
 
       by : (k : Kind) (o : Option Pid) → FitsPlace k o → AllByRecursion (FitsNode wide) (option_to_list o)
-          → IsAnyOf wide event_lines
+          → IsAnyOf wide event_templates
           (codes "{seq_trace," ++ (decimal e.label.0 ++ (codes ",{" ++ (spelled.kind k ++ (codes ","
           ++ (codes "{" ++ (decimal e.serial.prev ++ (codes "," ++ (decimal e.serial.this ++ (codes "}" ++ (codes ","
           ++ (spelled.pid e.from ++ (codes "," ++ (spelled.place o ++ (codes "," ++ (decimal e.value
           ++ codes "}}"))))))))))))))))
       by kinds.Send (Some q) f m =
-          at wide 0 event_lines _ (lit< tt)
+          at wide 0 event_templates _ (lit< tt)
           (begins (codes ",{send,{") (codes ",<M.P.0>,N}}") _ refl (to_out q e.value m.0 fits.value))
       by kinds.Send None f m = absurd f
       by kinds.Receive (Some q) f m =
-          at wide 1 event_lines _ (lit< tt)
+          at wide 1 event_templates _ (lit< tt)
           (begins (codes ",{'receive',{") (codes ",<M.P.0>,N}}") _ refl (to_out q e.value m.0 fits.value))
       by kinds.Receive None f m = absurd f
       by kinds.Print (Some q) f m = absurd f
       by kinds.Print None f m =
-          at wide 2 event_lines _ (lit< tt)
+          at wide 2 event_templates _ (lit< tt)
           (begins (codes ",{print,{") (codes ",[],N}}") _ refl (none_out e.value fits.value))
 
   -- ---- the event of a template
@@ -112,10 +113,10 @@ module _ (wide : Bool) where
     fits_this : this ≤ most_number
     fits_from : FitsNode wide from
     whole : (t : List ℕ) → rest ≡ t → text ≡ begun word label prev this from t
-    more : Spells wide tail rest
+    more : FitsTemplate wide tail rest
 
   begun_in : (word tail text : List ℕ) → are_bytes wide word ≡ true
-      → Spells wide (codes "{seq_trace,L" ++ (word ++ (codes "N,N},<M.P.0>" ++ tail))) text → HasBegun word tail text
+      → FitsTemplate wide (codes "{seq_trace,L" ++ (word ++ (codes "N,N},<M.P.0>" ++ tail))) text → HasBegun word tail text
   begun_in word tail text bytes x =
       let l =
       count_in wide (codes "{seq_trace,") 76 most_label (word ++ (codes "N,N},<M.P.0>" ++ tail)) text refl refl x in
@@ -141,7 +142,7 @@ module _ (wide : Bool) where
   message_in : (word : List ℕ) (k : Kind) (text : List ℕ) → are_bytes wide word ≡ true
       → ((rest : List ℕ) → word ++ rest ≡ codes ",{" ++ (spelled.kind k ++ (codes ",{" ++ rest)))
       → ((q : Pid) → FitsNode wide q → FitsPlace k (Some q))
-      → Spells wide (codes "{seq_trace,L"
+      → FitsTemplate wide (codes "{seq_trace,L"
       ++ (word ++ (codes "N,N},<M.P.0>" ++ codes ",<M.P.0>,N}}"))) text → IsEvent text
   message_in word k text bytes is place x =
       let b = begun_in word (codes ",<M.P.0>,N}}") text bytes x in
@@ -170,7 +171,7 @@ module _ (wide : Bool) where
             ∙ ap (λ (t : List ℕ). codes "{seq_trace," ++ (decimal b.label ++ t)) (is _) ∙ sym (event_flat e);
       }
 
-  print_in : (text : List ℕ) → Spells wide (codes "{seq_trace,L,{print,{N,N},<M.P.0>,[],N}}") text → IsEvent text
+  print_in : (text : List ℕ) → FitsTemplate wide (codes "{seq_trace,L,{print,{N,N},<M.P.0>,[],N}}") text → IsEvent text
   print_in text x =
       let b = begun_in (codes ",{print,{") (codes ",[],N}}") text refl x in
       let v = count_in wide (codes ",[],") 78 most_number (codes "}}") b.rest refl refl b.more in
@@ -196,7 +197,7 @@ module _ (wide : Bool) where
         same = b.whole _ (v.whole _ (word_last wide (codes "}}") v.rest refl v.more)) ∙ sym (event_flat e);
       }
 
-  pub event_in : (text : List ℕ) → IsAnyOf wide event_lines text → IsEvent text
+  pub event_in : (text : List ℕ) → IsAnyOf wide event_templates text → IsEvent text
   event_in text (inl x) =
       message_in (codes ",{send,{") kinds.Send text refl (λ rest. refl) (λ q f. fits_pid wide q f) x
   event_in text (inr (inl x)) =

@@ -29,85 +29,86 @@ module _ (wide : Bool) where
   abbrev pub IsPiece : ℕ → List ℕ → Type 0
   IsPiece c word = MatchOption (most_of c) (word ≡ c ∷ []) (λ most. IsNumber most word)
 
-  -- the template's pieces, one behind the other
-  abbrev pub Spells : List ℕ → List ℕ → Type 0
-  Spells [] text = text ≡ []
-  Spells (c ∷ template) text =
+  -- the text is the template's pieces, one behind the other
+  abbrev pub FitsTemplate : List ℕ → List ℕ → Type 0
+  FitsTemplate [] text = text ≡ []
+  FitsTemplate (c ∷ template) text =
       (word : List ℕ) × (rest : List ℕ) × (text ≡ word ++ rest) × IsPiece c word
-      × Spells template rest
+      × FitsTemplate template rest
 
   abbrev pub IsAnyOf : List (List ℕ) → List ℕ → Type 0
   IsAnyOf [] text = ⊥
-  IsAnyOf (template ∷ templates) text = Spells template text ⊎ IsAnyOf templates text
+  IsAnyOf (template ∷ templates) text = FitsTemplate template text ⊎ IsAnyOf templates text
 
 -- ---- the lines that may be below what is above them
 
-abbrev pub header_lines : List (List ℕ)
-header_lines = codes "seqtrace 1" ∷ codes "seqtrace 2" ∷ []
+abbrev pub header_templates : List (List ℕ)
+header_templates = codes "seqtrace 1" ∷ codes "seqtrace 2" ∷ []
 
-abbrev pub rare_lines : List (List ℕ)
-rare_lines = codes "process <M.P.0>" ∷ codes "acts" ∷ []
+abbrev pub rare_templates : List (List ℕ)
+rare_templates = codes "process <M.P.0>" ∷ codes "acts" ∷ []
 
-abbrev pub event_lines : List (List ℕ)
-event_lines =
+abbrev pub event_templates : List (List ℕ)
+event_templates =
     codes "{seq_trace,L,{send,{N,N},<M.P.0>,<M.P.0>,N}}"
     ∷ codes "{seq_trace,L,{'receive',{N,N},<M.P.0>,<M.P.0>,N}}"
     ∷ codes "{seq_trace,L,{print,{N,N},<M.P.0>,[],N}}" ∷ []
 
-abbrev pub message_lines : List (List ℕ)
-message_lines =
+abbrev pub message_templates : List (List ℕ)
+message_templates =
     codes "send <M.P.0> <M.P.0> N" ∷ codes "receive <M.P.0> first"
     ∷ codes "receive <M.P.0> from <M.P.0>"
     ∷ codes "receive <M.P.0> value N" ∷ []
 
-abbrev pub print_lines : List (List ℕ)
-print_lines =
+abbrev pub print_templates : List (List ℕ)
+print_templates =
     codes "receive <M.P.0> both <M.P.0> N" ∷ codes "receive <M.P.0> place N"
     ∷ codes "print <M.P.0> N"
     ∷ codes "printat <M.P.0> L N" ∷ []
 
-abbrev pub token_lines : List (List ℕ)
-token_lines =
+abbrev pub token_templates : List (List ℕ)
+token_templates =
     codes "set <M.P.0> label L" ∷ codes "clear <M.P.0>" ∷ codes "look <M.P.0>"
     ∷ codes "reset <M.P.0>" ∷ []
 
-abbrev pub flag_lines : List (List ℕ)
-flag_lines =
+abbrev pub flag_templates : List (List ℕ)
+flag_templates =
     codes "set <M.P.0> send true" ∷ codes "set <M.P.0> send false"
     ∷ codes "set <M.P.0> receive true"
     ∷ codes "set <M.P.0> receive false" ∷ []
 
-abbrev pub tracer_lines : List (List ℕ)
-tracer_lines =
+abbrev pub tracer_templates : List (List ℕ)
+tracer_templates =
     codes "set <M.P.0> print true" ∷ codes "set <M.P.0> print false" ∷ codes "tracer <M.P.0> true"
     ∷ codes "tracer <M.P.0> false" ∷ []
 
-abbrev pub restore_send_lines : List (List ℕ)
-restore_send_lines =
+abbrev pub restore_send_templates : List (List ℕ)
+restore_send_templates =
     codes "restore <M.P.0> L true true true N N <M.P.0>"
     ∷ codes "restore <M.P.0> L true true false N N <M.P.0>"
     ∷ codes "restore <M.P.0> L true false true N N <M.P.0>"
     ∷ codes "restore <M.P.0> L true false false N N <M.P.0>"
     ∷ []
 
-abbrev pub restore_lines : List (List ℕ)
-restore_lines =
+abbrev pub restore_templates : List (List ℕ)
+restore_templates =
     codes "restore <M.P.0> L false true true N N <M.P.0>"
     ∷ codes "restore <M.P.0> L false true false N N <M.P.0>"
     ∷ codes "restore <M.P.0> L false false true N N <M.P.0>"
     ∷ codes "restore <M.P.0> L false false false N N <M.P.0>"
     ∷ []
 
-abbrev pub act_lines : List (List ℕ)
-act_lines =
-    message_lines ++ print_lines ++ token_lines ++ flag_lines ++ tracer_lines ++ restore_send_lines
-    ++ restore_lines
+abbrev pub act_templates : List (List ℕ)
+act_templates =
+    message_templates ++ print_templates ++ token_templates ++ flag_templates ++ tracer_templates
+    ++ restore_send_templates
+    ++ restore_templates
 
-abbrev pub lines_below : Above → List (List ℕ)
-lines_below above.Nothing = header_lines
-lines_below above.Header = rare_lines
-lines_below above.Process = event_lines ++ rare_lines
-lines_below above.Acts = act_lines
+abbrev pub templates_below : Above → List (List ℕ)
+templates_below above.Nothing = header_templates
+templates_below above.Header = rare_templates
+templates_below above.Process = event_templates ++ rare_templates
+templates_below above.Acts = act_templates
 
 -- the numbers that a line begins with are its first n bytes and each front of them
 pub record IsNumberFront (most : ℕ) (line : List ℕ) (n : ℕ) : Type 0 where

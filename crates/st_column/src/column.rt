@@ -5,10 +5,14 @@ ghost use Rattle.std.specs.Prelude.{◌≡◌, ◌≤◌, ◌<◌, ◌+◌, ◌-
 ghost use Rattle.std.specs.Option.{SomeIff};
 ghost use Rattle.st_text.specs.declared.line.Line.{Line};
 ghost use Rattle.st_column.specs.Column.{IsLineBehind, IsLongest, above_of, has_wide_header};
-ghost use Rattle.st_column.specs.Longest.{IsNumberFront, Spells, IsAnyOf, most_of, header_lines};
-ghost use Rattle.st_column.specs.Longest.{rare_lines, event_lines, act_lines, lines_below};
-ghost use Rattle.st_column.specs.Longest.{message_lines, print_lines, token_lines, flag_lines};
-ghost use Rattle.st_column.specs.Longest.{tracer_lines, restore_send_lines, restore_lines};
+ghost use Rattle.st_column.specs.Longest.{IsNumberFront, FitsTemplate, IsAnyOf, most_of};
+ghost use Rattle.st_column.specs.Longest.{header_templates};
+ghost use Rattle.st_column.specs.Longest.{rare_templates, event_templates, act_templates};
+ghost use Rattle.st_column.specs.Longest.{templates_below};
+ghost use Rattle.st_column.specs.Longest.{message_templates, print_templates, token_templates};
+ghost use Rattle.st_column.specs.Longest.{flag_templates};
+ghost use Rattle.st_column.specs.Longest.{tracer_templates, restore_send_templates};
+ghost use Rattle.st_column.specs.Longest.{restore_templates};
 
 use crate::above::Above;
 
@@ -62,7 +66,7 @@ fn most_at(wide: bool, piece: u8) -> Option<u64>
 
 /// How many bytes of the line a text of the template begins with.
 fn furthest(wide: bool, template: &[u8], line: &[u8]) -> usize
-    ensures { IsLongest (Spells wide template.now) line.now result }
+    ensures { IsLongest (FitsTemplate wide template.now) line.now result }
 {
     let Some((piece, template)) = template.split_first() else {
         return 0;
@@ -102,21 +106,21 @@ fn of_four(wide: bool, one: &[u8], two: &[u8], three: &[u8], four: &[u8], line: 
 
 /// How many bytes of the line a header begins with.
 fn of_headers(wide: bool, line: &[u8]) -> usize
-    ensures { IsLongest (IsAnyOf wide header_lines) line.now result }
+    ensures { IsLongest (IsAnyOf wide header_templates) line.now result }
 {
     of_two(wide, b"seqtrace 1", b"seqtrace 2", line)
 }
 
 /// How many bytes of the line a process line or `acts` begins with.
 fn of_rare_lines(wide: bool, line: &[u8]) -> usize
-    ensures { IsLongest (IsAnyOf wide rare_lines) line.now result }
+    ensures { IsLongest (IsAnyOf wide rare_templates) line.now result }
 {
     of_two(wide, b"process <M.P.0>", b"acts", line)
 }
 
 /// How many bytes of the line an event begins with.
 fn of_events(wide: bool, line: &[u8]) -> usize
-    ensures { IsLongest (IsAnyOf wide event_lines) line.now result }
+    ensures { IsLongest (IsAnyOf wide event_templates) line.now result }
 {
     let send = furthest(wide, b"{seq_trace,L,{send,{N,N},<M.P.0>,<M.P.0>,N}}", line);
     let others = of_two(
@@ -130,7 +134,7 @@ fn of_events(wide: bool, line: &[u8]) -> usize
 
 /// How many bytes of the line a send, or a receive that wants one thing, begins with.
 fn of_messages(wide: bool, line: &[u8]) -> usize
-    ensures { IsLongest (IsAnyOf wide message_lines) line.now result }
+    ensures { IsLongest (IsAnyOf wide message_templates) line.now result }
 {
     of_four(
         wide,
@@ -144,7 +148,7 @@ fn of_messages(wide: bool, line: &[u8]) -> usize
 
 /// How many bytes of the line one of the other receives, or a print, begins with.
 fn of_prints(wide: bool, line: &[u8]) -> usize
-    ensures { IsLongest (IsAnyOf wide print_lines) line.now result }
+    ensures { IsLongest (IsAnyOf wide print_templates) line.now result }
 {
     of_four(
         wide,
@@ -159,7 +163,7 @@ fn of_prints(wide: bool, line: &[u8]) -> usize
 /// How many bytes of the line the set of a label, or an act that names its actor alone, begins
 /// with.
 fn of_tokens(wide: bool, line: &[u8]) -> usize
-    ensures { IsLongest (IsAnyOf wide token_lines) line.now result }
+    ensures { IsLongest (IsAnyOf wide token_templates) line.now result }
 {
     of_four(
         wide,
@@ -173,7 +177,7 @@ fn of_tokens(wide: bool, line: &[u8]) -> usize
 
 /// How many bytes of the line the set of a send's or a receive's flag begins with.
 fn of_flags(wide: bool, line: &[u8]) -> usize
-    ensures { IsLongest (IsAnyOf wide flag_lines) line.now result }
+    ensures { IsLongest (IsAnyOf wide flag_templates) line.now result }
 {
     of_four(
         wide,
@@ -187,7 +191,7 @@ fn of_flags(wide: bool, line: &[u8]) -> usize
 
 /// How many bytes of the line the set of a print's flag, or of the tracer, begins with.
 fn of_tracers(wide: bool, line: &[u8]) -> usize
-    ensures { IsLongest (IsAnyOf wide tracer_lines) line.now result }
+    ensures { IsLongest (IsAnyOf wide tracer_templates) line.now result }
 {
     of_four(
         wide,
@@ -201,7 +205,7 @@ fn of_tracers(wide: bool, line: &[u8]) -> usize
 
 /// How many bytes of the line the restore of a token that traces sends begins with.
 fn of_restores_with_send(wide: bool, line: &[u8]) -> usize
-    ensures { IsLongest (IsAnyOf wide restore_send_lines) line.now result }
+    ensures { IsLongest (IsAnyOf wide restore_send_templates) line.now result }
 {
     of_four(
         wide,
@@ -215,7 +219,7 @@ fn of_restores_with_send(wide: bool, line: &[u8]) -> usize
 
 /// How many bytes of the line the restore of any other token begins with.
 fn of_restores(wide: bool, line: &[u8]) -> usize
-    ensures { IsLongest (IsAnyOf wide restore_lines) line.now result }
+    ensures { IsLongest (IsAnyOf wide restore_templates) line.now result }
 {
     of_four(
         wide,
@@ -229,7 +233,7 @@ fn of_restores(wide: bool, line: &[u8]) -> usize
 
 /// How many bytes of the line an act begins with.
 fn of_acts(wide: bool, line: &[u8]) -> usize
-    ensures { IsLongest (IsAnyOf wide act_lines) line.now result }
+    ensures { IsLongest (IsAnyOf wide act_templates) line.now result }
 {
     let restores = of_restores_with_send(wide, line).max(of_restores(wide, line));
     let tracers = of_tracers(wide, line).max(restores);
@@ -241,7 +245,7 @@ fn of_acts(wide: bool, line: &[u8]) -> usize
 
 /// How many bytes of the line one of the lines below this begins with.
 fn of_lines(wide: bool, above: Above, line: &[u8]) -> usize
-    ensures { IsLongest (IsAnyOf wide (lines_below above)) line.now result }
+    ensures { IsLongest (IsAnyOf wide (templates_below above)) line.now result }
 {
     match above {
         Above::Nothing => of_headers(wide, line),

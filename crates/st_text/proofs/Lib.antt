@@ -1,5 +1,7 @@
 -- The lemmas, in the order in which they build on each other; what upper crates may cite is in `ForCallers`.
 pub mod Numbers
+pub mod Digits
+pub mod Decimals
 pub mod Fields
 pub mod EventLemmas
 pub mod ActLemmas

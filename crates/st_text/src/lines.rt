@@ -28,6 +28,7 @@ pub trait TextLine: Copy {
 impl TextLine for Line {
     ghost words = { spelled.line };
 
+    #[inline(always)]
     fn put_words(self, buffer: &mut Buffer) {
         match self {
             Line::Header(false) => put_bytes(buffer, b"seqtrace 1"),
@@ -43,7 +44,9 @@ impl TextLine for Line {
     }
 }
 
-/// Writes a line into the buffer, and first what waits there if too little room is left.
+/// Writes a line into the buffer, and first what waits there if too little room is left. Always
+/// inlined, so that no copy of the line is made on the way.
+#[inline(always)]
 pub fn write_line<S: ByteSink, L: TextLine>(
     sink: &mut S,
     buffer: &mut Buffer,

@@ -1,11 +1,10 @@
 //! Decimal numbers: digits without a leading zero, up to the limit of their place. Every number of
 //! a text is read here.
 
-ghost use Rattle.std.specs.Prelude.{◌≤◌, ◌<◌, ◌+◌, ◌*◌, ◌^◌, take, IfSome};
+ghost use Rattle.std.specs.Prelude.{◌≡◌, ◌≤◌, ◌<◌, ◌+◌, ◌*◌, ◌^◌, ◌∷◌, IfSome, MatchOption};
 ghost use Rattle.std.specs.Option.{SomeIff};
 ghost use Rattle.std.specs.Char.{is_ascii_digit};
 ghost use Rattle.std.specs.List.{prefix_len};
-ghost use Rattle.std.specs.Str.Parse.{digits_value};
 ghost use Rattle.st_text.specs.Parts.Words.{Gives};
 ghost use Rattle.st_text.specs.Parsing.{number};
 
@@ -24,36 +23,36 @@ fn with_digit(n: u64, digit: u8) -> Option<u64>
     n.checked_mul(10)?.checked_add(u64::from(digit))
 }
 
-/// The value of the digits at the front of the bytes, and how many they are, if the value fits.
+/// The value of the digit that the bytes begin with, and the bytes after it.
 #[inline(always)]
-fn digits_at(bytes: &[u8]) -> Option<(u64, usize)>
-    ensures { let count = prefix_len is_ascii_digit bytes.now in
-        let digits = take count bytes.now in
-        SomeIff result (digits_value 10 digits < 2 ^ 64) (digits_value 10 digits, count) }
+fn digit_at(bytes: &[u8]) -> Option<(u8, &[u8])>
+    ensures { MatchOption result (prefix_len is_ascii_digit bytes.now ≡ 0)
+        (λ x. (x.0 < 10) × (bytes.now ≡ (48 + x.0) ∷ x.1.now)) }
 {
-    let mut n: u64 = 0;
-    for (i, b) in bytes.iter().enumerate() {
-        if !b.is_ascii_digit() {
-            return Some((n, i));
-        }
-        n = with_digit(n, *b - b'0')?;
+    match bytes {
+        [digit @ b'0'..=b'9', rest @ ..] => Some((*digit - b'0', rest)),
+        _ => None,
     }
-    Some((n, bytes.len()))
 }
 
 /// The number of at most `most` that the bytes begin with, and the bytes after it.
-#[inline]
+#[inline(always)]
 pub(crate) fn number(most: u64, bytes: &[u8]) -> Option<(u64, &[u8])>
     ensures exact { Gives (λ x. (x.0, x.1.now)) result (number most bytes.now) }
     ensures bound { IfSome result (λ x. x.0 ≤ most) }
 {
-    let (n, count) = digits_at(bytes)?;
-    let (digits, rest) = bytes.split_at(count);
-    if digits.is_empty() {
-        return None;
+    let (first, after_first) = digit_at(bytes)?;
+    if first == 0 {
+        return match digit_at(after_first) {
+            None => Some((0, after_first)),
+            Some(_) => None,
+        };
     }
-    if digits[0] == b'0' && digits.len() > 1 {
-        return None;
+    let mut n = u64::from(first);
+    let mut rest = after_first;
+    while let Some((digit, more)) = digit_at(rest) {
+        n = with_digit(n, digit)?;
+        rest = more;
     }
     if n > most {
         return None;

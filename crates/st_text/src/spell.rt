@@ -2,7 +2,7 @@
 //! one spelling of its value; that there is room is its caller's to know. Nothing here knows of a
 //! device.
 
-ghost use Rattle.std.specs.Prelude.{◌≡◌, ◌+◌, ◌++◌, length, decimal};
+ghost use Rattle.std.specs.Prelude.{◌≡◌, ◌<◌, ◌+◌, ◌/◌, ◌%◌, [], ◌∷◌, ◌++◌, length, decimal};
 ghost use Rattle.arrayvec.specs.ArrayVec.{array_vec_len};
 ghost use Rattle.st_text.specs.Spelling as spelled;
 ghost use Rattle.st_text.specs.Room.{number_room, bool_room, pid_room, HasRoom, Puts};
@@ -19,7 +19,12 @@ const BUFFER: usize = 8192;
 /// Bytes that wait to be written.
 pub type Buffer = ArrayVec<u8, BUFFER>;
 
-/// Appends bytes.
+/// The two digits of each number below 100, one pair after the other.
+static PAIRS: [u8; 200] =
+    *b"00010203040506070809101112131415161718192021222324252627282930313233343536373839404142434445464748495051525354555657585960616263646566676869707172737475767778798081828384858687888990919293949596979899";
+
+/// Appends bytes. Always inlined, so that words of the grammar are written in a store or two.
+#[inline(always)]
 pub fn put_bytes(buffer: &mut Buffer, bytes: &[u8])
     requires { HasRoom (length bytes.now) buffer.old }
     ensures items { buffer.new.items ≡ buffer.old.items ++ bytes.now }
@@ -30,13 +35,64 @@ pub fn put_bytes(buffer: &mut Buffer, bytes: &[u8])
     };
 }
 
-/// Appends a decimal number.
+/// Appends the two digits of a number below 100.
+#[inline(always)]
+fn put_pair(buffer: &mut Buffer, pair: u64)
+    requires below { pair < 100 }
+    requires room { HasRoom 2 buffer.old }
+    ensures items { buffer.new.items
+        ≡ buffer.old.items ++ (48 + pair / 10) ∷ (48 + pair % 10) ∷ [] }
+    ensures len { array_vec_len buffer.new ≡ array_vec_len buffer.old + 2 }
+{
+    let from = pair as usize * 2;
+    let (tens, ones) = (PAIRS[from], PAIRS[from + 1]);
+    put_bytes(buffer, &[tens, ones]);
+}
+
+/// Appends a number below 100.
+#[inline(always)]
+fn put_short(buffer: &mut Buffer, number: u64)
+    requires below { number < 100 }
+    requires room { HasRoom 2 buffer.old }
+    ensures { Puts 2 (decimal number) buffer.old buffer.new }
+{
+    if number < 10 {
+        put_bytes(buffer, &[b'0' + number as u8]);
+    } else {
+        put_pair(buffer, number);
+    }
+}
+
+/// Appends a number below 10,000.
+#[inline(always)]
+fn put_four(buffer: &mut Buffer, number: u64)
+    requires below { number < 10000 }
+    requires room { HasRoom 4 buffer.old }
+    ensures { Puts 4 (decimal number) buffer.old buffer.new }
+{
+    if number < 100 {
+        put_short(buffer, number);
+    } else {
+        put_short(buffer, number / 100);
+        put_pair(buffer, number % 100);
+    }
+}
+
+/// Appends a decimal number. Those of at most eight digits are written straight into the buffer.
 pub fn put_number(buffer: &mut Buffer, number: u64)
     requires { HasRoom number_room buffer.old }
     ensures { Puts number_room (decimal number) buffer.old buffer.new }
 {
-    let mut digits = itoa::Buffer::new();
-    put_bytes(buffer, digits.format(number).as_bytes());
+    if number < 10_000 {
+        put_four(buffer, number);
+    } else if number < 100_000_000 {
+        put_four(buffer, number / 10_000);
+        put_pair(buffer, number / 100 % 100);
+        put_pair(buffer, number % 100);
+    } else {
+        let mut digits = itoa::Buffer::new();
+        put_bytes(buffer, digits.format(number).as_bytes());
+    }
 }
 
 /// Appends words and a decimal number.

@@ -5,8 +5,9 @@ use Rattle.std.specs.Borrow.{Bor}
 use Rattle.std.specs.Option.{IsSome}
 use Rattle.std.proofs.lemmas.List.{take_rest}
 use Rattle.st_column.specs.Column.{IsLongest}
-use Rattle.st_column.specs.Longest.{Spells}
-use Rattle.st_column.proofs.Templates.{same_longest, other_longest, end_longest, best_more, number_longest, IsBest}
+use Rattle.st_column.specs.Longest.{FitsTemplate}
+use Rattle.st_column.proofs.Templates.{same_longest, other_longest, end_longest, best_more}
+use Rattle.st_column.proofs.Templates.{number_longest, IsBest}
 use Rattle.st_column.proofs.column.+furthest.Goals as goal
 
 pub returns-in-Some-split_first : goal.returns-in-Some-split_first
@@ -45,7 +46,7 @@ loop-i-preserved t c =
     let line = c.args.line.now in
     let all = take_rest line (c.loop-i.i + 1) in
     let behind =
-    subst (λ (l : List ℕ). IsLongest (Spells c.args.wide c.in-Some.template.now) l c.furthest-in-loop-i.result) all
+    subst (λ (l : List ℕ). IsLongest (FitsTemplate c.args.wide c.in-Some.template.now) l c.furthest-in-loop-i.result) all
     c.furthest-in-loop-i.ensures in
     rw c.max-best.ensures
     (best_more c.args.wide c.in-Some.template.now line c.loop-i.i c.loop-i.best c.furthest-in-loop-i.result
