@@ -3,7 +3,7 @@
 ghost use Rattle.std.specs.Prelude.{◌≡◌, ◌+◌, ◌<◌, IfOk};
 ghost use Rattle.st_index.specs.Index.{IsIndex, keys_of, room};
 
-use crate::shared::same;
+use crate::helpers::same;
 use st_core::{Message, Pid, Serial, Token};
 use st_index::{Index, Key, Keys};
 use st_samples::{p30, p31};

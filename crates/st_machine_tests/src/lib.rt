@@ -9,9 +9,11 @@
 //! | `index` | `st_index` |
 //! | `mailboxes`, `queues` | `st_mail`; `queues`: long queues beside a plain vector |
 //! | `world` | `st_world` |
-//! | `shared` | none: what several of these take |
+//! | `helpers` | none: what several of these take |
 #![tactic(auto)]
 
+#[cfg(test)]
+mod helpers;
 #[cfg(test)]
 mod index;
 #[cfg(test)]
@@ -28,8 +30,6 @@ mod queues;
 mod ranks;
 #[cfg(test)]
 mod reads;
-#[cfg(test)]
-mod shared;
 #[cfg(test)]
 mod text;
 #[cfg(test)]

@@ -5,7 +5,7 @@
 ghost use Rattle.std.specs.Prelude.{◌≡◌, ◌<◌, length, IfOk, map};
 ghost use Rattle.st_arena.specs.Arena.{list_at};
 
-use crate::shared::{same, same_at};
+use crate::helpers::{same, same_at};
 use st_arena::Lists;
 use std::alloc::{AllocError, Global};
 use std::process::Abort;

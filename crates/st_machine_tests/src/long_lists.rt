@@ -3,8 +3,8 @@
 
 ghost use Rattle.std.specs.Prelude.{◌≡◌, ◌<◌, length, IfOk};
 
+use crate::helpers::{same, same_at};
 use crate::lists::two_at_last;
-use crate::shared::{same, same_at};
 use st_arena::Lists;
 use std::alloc::{AllocError, Global};
 use std::process::Abort;

@@ -1,8 +1,8 @@
 //! Tests of what no clause says: worked values, and that each call succeeds with ample memory. A
-//! call that fails fails its test; what comes back if memory runs out is `machine/refused`'s.
+//! call that fails fails its test; what comes back if memory runs out is `machine/refusals`'s.
 
 mod devices;
-mod refused;
+mod refusals;
 
 use st_core::{AddFault, Draft, Event, Kind, Label, OpenFault, Pid, Sequence, Serial, Streams};
 use st_samples::{p30, p31};

@@ -3,7 +3,7 @@
 
 ghost use Rattle.std.specs.Prelude.{◌≡◌, ◌<◌, ◌+◌, length, IfOk};
 
-use crate::shared::{same, same_at};
+use crate::helpers::{same, same_at};
 use st_core::{Message, Pid, Serial, Token, Want};
 use st_mail::Mailboxes;
 use st_samples::{p30, p31};

@@ -1,6 +1,6 @@
 //! Ranks of slots by worked marks, and by a list of marks beside them.
 
-use crate::shared::{same, same_at};
+use crate::helpers::{same, same_at};
 use st_ranks::Ranks;
 use std::alloc::{AllocError, Global};
 use std::process::Abort;

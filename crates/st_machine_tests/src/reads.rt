@@ -1,7 +1,7 @@
 //! What a read returns if memory runs out, and that the same read succeeds afterwards. That is seen
 //! if `rt try --test --fail-alloc N` fails the N-th allocation.
 
-use crate::shared::{same, sink_at_last};
+use crate::helpers::{same, sink_at_last};
 use st_core::{MemorySink, MemorySource};
 use st_samples::HIDDEN_SENDS_CERTIFICATE;
 use st_text::{Bundle, Feed, ReadFault, read, write};

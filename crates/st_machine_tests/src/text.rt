@@ -6,7 +6,7 @@ mod devices;
 mod limits;
 mod texts;
 
-use crate::shared::same;
+use crate::helpers::same;
 use st_core::{Act, Draft, Event, Kind, Label, MemorySink, MemorySource, Pid, Sequence, Serial};
 use st_samples::{HIDDEN_SENDS_CERTIFICATE, PRINT_ONE};
 use st_text::{

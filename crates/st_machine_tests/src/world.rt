@@ -4,7 +4,7 @@
 mod random;
 mod slow;
 
-use crate::shared::same;
+use crate::helpers::same;
 use st_core::{Act, Component, Event, Flags, Kind, Label, Pid, Reply, Serial, Token, Want};
 use st_samples::{p30, p31, p32};
 use st_world::{NewFault, Outcome, StepFault, World};

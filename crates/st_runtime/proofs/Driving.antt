@@ -1,6 +1,7 @@
 -- A record of joined pieces is that of driven scripts: the seats hold the scripts, and each seat's calls are in the
 -- run in their order. A worker's refusal is one of an act of its script.
-use Rattle.std.proofs.Common.{◌≡◌, ◌≢◌, ℕ, zero, suc, ◌<◌, ◌≤◌, Bool, true, false, cond, List, [], ◌∷◌, ◌++◌}
+use Rattle.std.proofs.Common.{◌≡◌, ◌≢◌, ℕ, zero, suc, ◌<◌, ◌≤◌, Bool, true, false, cond, List, []}
+use Rattle.std.proofs.Common.{◌∷◌, ◌++◌}
 use Rattle.std.proofs.Common.{length, map, None, refl, sym, ◌∙◌, ap, subst, arith}
 use Rattle.std.specs.List.{AllZip, zip}
 use Rattle.std.specs.Prelude.{All, MatchOption, Some, take, slice_get}
@@ -19,12 +20,13 @@ use Rattle.st_runtime.specs.declared.fault.ActFault.{ActFault}
 use Rattle.st_runtime.specs.declared.fault.ActFault.TheVariants as fault
 use Rattle.st_runtime.specs.declared.join.record.Record.{Record}
 use Rattle.st_runtime.specs.declared.driver.worker.Ending.{Ending}
-use Rattle.st_runtime.specs.Driven.{acts_by, acts_in, stamps_in, IsDriven, IsOwn, IsRefused, IsPossible}
+use Rattle.st_runtime.specs.Driven.{acts_by, acts_in, stamps_in, IsDriven, IsOwn, IsRefused}
+use Rattle.st_runtime.specs.Driven.{IsPossible}
 use Rattle.st_runtime.specs.Driven.{IsWorkerFault}
 use Rattle.st_runtime.specs.Joined.{IsJoined}
 use Rattle.st_runtime.specs.Pieces.{Parts, pids_in, calls_of}
 use Rattle.st_runtime.specs.Seat.{Calls, no_calls}
-use Rattle.st_runtime.specs.Pcb.{Control, IsKept}
+use Rattle.st_runtime.specs.Pcb.{Control, IsFromLog}
 use Rattle.st_runtime.specs.Working.{called_acts, IsDone, IsWorked, IsFirstRefusal}
 use Rattle.st_runtime.proofs.Runs.{pids_streams}
 use Rattle.st_runtime.proofs.Shown.{are_streams}
@@ -105,7 +107,7 @@ pub driven : (top ranks : ℕ) (pieces : Parts) (r : Record) (pids : List Pid) (
     (ends : List Ending) → length scripts ≡ length pids → IsRising pids → pids_in pieces.processes ≡ pids
     → pieces.seats ≡ map (λ e. e.seat) ends → AllZip (IsWorked pids) (zip pids scripts) ends
     → All (λ (e : Ending). e.fault ≡ None) ends → IsJoined top pieces r
-    → All (λ (x : Control). IsKept top ranks x.process x.log) pieces.processes → IsDriven top ranks pids scripts r
+    → All (λ (x : Control). IsFromLog top ranks x.process x.log) pieces.processes → IsDriven top ranks pids scripts r
 driven top ranks pieces r pids scripts ends even rising of_pids of_seats worked none joined kept =
     let xs = pieces.processes in
     let es = joined.entries in

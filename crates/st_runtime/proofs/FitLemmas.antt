@@ -5,19 +5,19 @@ use Rattle.std.proofs.lemmas.Option.{slice_get-get_or}
 use Rattle.std.specs.List.{range_with_len}
 use Rattle.std.specs.Prelude.{All}
 use Rattle.st_core.specs.Streams.{is_among}
-use Rattle.st_runtime.specs.Joining.{FitsAt, IsSettled}
+use Rattle.st_runtime.specs.Joining.{FitsAt, IsWholeIfOwn}
 use Rattle.st_runtime.specs.Pcb.{Control}
 use Rattle.st_runtime.specs.Pieces.{Parts, pids_in, IsFit, IsSeated}
 use Rattle.st_runtime.specs.Seat.{Calls}
 use Rattle.st_runtime.proofs.Members.{In, In-All, All-In, In-Contains}
 use Rattle.st_runtime.proofs.Seated.{seated_each}
 use Rattle.st_runtime.proofs.Sorting.{among_in}
-use Rattle.st_runtime.proofs.Wholeness.{settled_whole}
+use Rattle.st_runtime.proofs.Wholeness.{all_whole}
 
 -- what is asked at each place is asked of each process
 fits_in : (pieces : Parts) → ((k : ℕ) → k < length pieces.processes → FitsAt pieces k)
     → (x : Control) → In x pieces.processes
-    → All (IsSettled pieces.processes x.process.pid) x.log × IsSeated pieces x.process.pid
+    → All (IsWholeIfOwn pieces.processes x.process.pid) x.log × IsSeated pieces x.process.pid
 fits_in pieces each x i =
     let at = In-Contains x pieces.processes i in
     each at.0 at.1 x (slice_get-get_or pieces.processes at.0 x at.1 ∙ ap Some at.2)
@@ -28,9 +28,9 @@ pub all_fit : (pieces : Parts) → ((k : ℕ) → k < length pieces.processes �
 all_fit pieces each listed =
     let xs = pieces.processes in
     let Listed : Calls → Type 0 = λ s. is_among (pids_in xs) s.pid ≡ true in
-    let Settles : Control → Type 0 = λ x. All (IsSettled xs x.process.pid) x.log in
+    let Settles : Control → Type 0 = λ x. All (IsWholeIfOwn xs x.process.pid) x.log in
     record {
-      whole = settled_whole xs (In-All Settles xs (λ x i. (fits_in pieces each x i).0));
+      whole = all_whole xs (In-All Settles xs (λ x i. (fits_in pieces each x i).0));
       seated = λ p. seated_each pieces (λ q. Unit {0})
           (λ x i r. (fits_in pieces each x i).1)
           (λ s i r.

@@ -9,7 +9,7 @@ use Rattle.st_mail.specs.Mail.{queue_in}
 use Rattle.st_runtime.specs.declared.pcb.entry.Entry.{Entry}
 use Rattle.st_runtime.specs.Inside.{IsInside}
 use Rattle.st_runtime.specs.Logs.{IsPart, LeadTo, RanksRise, last_rank, zero_process}
-use Rattle.st_runtime.specs.Pcb.{IsKept}
+use Rattle.st_runtime.specs.Pcb.{IsFromLog}
 use Rattle.st_runtime.proofs.PartLemmas.{part_pid}
 
 LeadTo-push : (top : ℕ) (r : Process) (log : List Entry) (m : Process) (e : Entry) (s : Process)
@@ -33,7 +33,7 @@ pub record IsNext (ranks : ℕ) (log : List Entry) (n : ℕ) : Type 0 where
 
 -- a legal entry with such a rank
 kept_push : (top ranks : ℕ) (r : Process) (log : List Entry) (e : Entry) (s : Process)
-    → IsKept top ranks r log → IsPart top r e s → IsNext ranks log e.rank → IsKept top ranks s (log ++ e ∷ [])
+    → IsFromLog top ranks r log → IsPart top r e s → IsNext ranks log e.rank → IsFromLog top ranks s (log ++ e ∷ [])
 kept_push top ranks r log e s kept part next =
     let led : LeadTo top (zero_process r.pid) (log ++ e ∷ []) s =
     LeadTo-push top (zero_process r.pid) log r e s kept.local part in

@@ -1,5 +1,6 @@
 -- Rows are only appended, and so is what is kept beside them: each row keeps its entry.
-use Rattle.std.proofs.Common.{◌≡◌, ℕ, ◌+◌, ◌-◌, List, [], ◌∷◌, ◌++◌, length, Some, refl, sym, ap, ◌∙◌, arith}
+use Rattle.std.proofs.Common.{◌≡◌, ℕ, ◌+◌, ◌-◌, List, [], ◌∷◌, ◌++◌, length, Some, refl, sym, ap}
+use Rattle.std.proofs.Common.{◌∙◌, arith}
 use Rattle.std.proofs.Common.{suc, ◌≤◌, ⊎_elim, subst}
 use Rattle.std.specs.Prelude.{slice_get, slice_index_or}
 use Rattle.std.proofs.lemmas.List.{append-nil, get_or_append_left, length-append, map-append}
@@ -10,13 +11,13 @@ use Rattle.st_runtime.specs.declared.pcb.row.Row.{Row}
 use Rattle.st_runtime.specs.declared.pcb.row.Content.{Content}
 use Rattle.st_runtime.specs.declared.pcb.row.Content.TheVariants as content
 use Rattle.st_runtime.specs.declared.pcb.row.Unranked.{Unranked}
-use Rattle.st_runtime.specs.declared.pcb.traced.Traced.{Traced}
+use Rattle.st_runtime.specs.declared.pcb.traced_act.TracedAct.{TracedAct}
 use Rattle.st_runtime.specs.Briefs.{call_at, no_call}
 use Rattle.st_runtime.specs.CallList.{CallList}
 use Rattle.st_runtime.specs.Logs.{last_rank}
 use Rattle.st_runtime.specs.Rows.{of_call, without_rank_in, row_entry, entries_of, nowhere}
-use Rattle.st_runtime.specs.Rows.{ArePlaced, HasGrown, IsPlaced, IsLog}
-use Rattle.st_runtime.specs.Traced.{no_traced, traced_rest, with_rank, without_rank}
+use Rattle.st_runtime.specs.Rows.{HavePlaces, HasGrown, HasPlace, IsLog}
+use Rattle.st_runtime.specs.TracedActs.{no_traced, traced_rest, with_rank, without_rank}
 
 -- ---- what has grown
 
@@ -46,7 +47,7 @@ grown_length {T} xs xs' grown =
 -- the calls, the acts under a token, and what is apart
 record Beside : Type 0 where
   calls : List (Act × Reply)
-  traced : List Traced
+  traced : List TracedAct
   apart : List Unranked
 
 -- each list begins as the other's
@@ -56,7 +57,7 @@ record AllBegin (b b' : Beside) : Type 0 where
   apart : Begins b.apart b'.apart
 
 stays : (b b' : Beside) (c : Content) → AllBegin b b'
-    → IsPlaced (length b.calls) (length b.traced) (length b.apart) c
+    → HasPlace (length b.calls) (length b.traced) (length b.apart) c
     → without_rank_in b'.calls b'.traced b'.apart c ≡ without_rank_in b.calls b.traced b.apart c
 stays b b' (content.Reset p) more placed = refl
 stays b b' (content.Tracer p on was) more placed = refl
@@ -84,8 +85,8 @@ all_at_most b b' more = record {
 }
 
 stays_placed : (b b' : Beside) (c : Content) → AllAtMost b b'
-    → IsPlaced (length b.calls) (length b.traced) (length b.apart) c
-    → IsPlaced (length b'.calls) (length b'.traced) (length b'.apart) c
+    → HasPlace (length b.calls) (length b.traced) (length b.apart) c
+    → HasPlace (length b'.calls) (length b'.traced) (length b'.apart) c
 stays_placed b b' (content.Reset p) more placed = tt
 stays_placed b b' (content.Tracer p on was) more placed = tt
 stays_placed b b' (content.Call i) more placed = let most = more.calls in omega (arith, placed, most)
@@ -93,14 +94,14 @@ stays_placed b b' (content.Traced i) more placed = let most = more.traced in ome
 stays_placed b b' (content.Apart i) more placed = let most = more.apart in omega (arith, placed, most)
 
 -- the rows have their places beside
-abbrev HavePlaces : Beside → List Row → Type 0
-HavePlaces b rows = ArePlaced (length b.calls) (length b.traced) (length b.apart) rows
+abbrev FitBeside : Beside → List Row → Type 0
+FitBeside b rows = HavePlaces (length b.calls) (length b.traced) (length b.apart) rows
 
 -- the entries of rows
 abbrev entries_beside : Beside → List Row → List Entry
 entries_beside b rows = entries_of b.calls b.traced b.apart rows
 
-entries_stay : (b b' : Beside) (rows : List Row) → AllBegin b b' → HavePlaces b rows
+entries_stay : (b b' : Beside) (rows : List Row) → AllBegin b b' → FitBeside b rows
     → entries_beside b' rows ≡ entries_beside b rows
 entries_stay b b' [] more placed = refl
 entries_stay b b' (r ∷ rows) more placed =
@@ -109,28 +110,28 @@ entries_stay b b' (r ∷ rows) more placed =
     let rest = entries_stay b b' rows more placed.1 in
     λ i. first i ∷ rest i
 
-placed_stay : (b b' : Beside) (rows : List Row) → AllAtMost b b' → HavePlaces b rows → HavePlaces b' rows
+placed_stay : (b b' : Beside) (rows : List Row) → AllAtMost b b' → FitBeside b rows → FitBeside b' rows
 placed_stay b b' [] more placed = tt
 placed_stay b b' (r ∷ rows) more placed =
     (stays_placed b b' r.content more placed.0, placed_stay b b' rows more placed.1)
 
 -- ---- one row more
 
-placed_push : (b : Beside) (rows : List Row) (r : Row) → HavePlaces b rows
-    → IsPlaced (length b.calls) (length b.traced) (length b.apart) r.content → HavePlaces b (rows ++ r ∷ [])
+placed_push : (b : Beside) (rows : List Row) (r : Row) → FitBeside b rows
+    → HasPlace (length b.calls) (length b.traced) (length b.apart) r.content → FitBeside b (rows ++ r ∷ [])
 placed_push b [] r placed one = (one, tt)
 placed_push b (x ∷ rows) r placed one = (placed.0, placed_push b rows r placed.1 one)
 
 -- ---- both
 
 -- what is kept beside the rows grew by one item at most in each list
-record HaveGrown (calls calls' : List (Act × Reply)) (traced traced' : List Traced) (apart apart' : List Unranked)
+record HaveGrown (calls calls' : List (Act × Reply)) (traced traced' : List TracedAct) (apart apart' : List Unranked)
     : Type 0 where
   pub calls_grown : HasGrown calls calls'
   pub traced_grown : HasGrown traced traced'
   pub apart_grown : HasGrown apart apart'
 
-all_begin : (calls calls' : List (Act × Reply)) (traced traced' : List Traced) (apart apart' : List Unranked)
+all_begin : (calls calls' : List (Act × Reply)) (traced traced' : List TracedAct) (apart apart' : List Unranked)
     → HaveGrown calls calls' traced traced' apart apart'
     → AllBegin (record { calls = calls; traced = traced; apart = apart })
     (record { calls = calls'; traced = traced'; apart = apart' })
@@ -141,9 +142,9 @@ all_begin calls calls' traced traced' apart apart' grown = record {
 }
 
 -- the entries after a push
-pub entries_pushed : (rows rows' : List Row) (calls calls' : List (Act × Reply)) (traced traced' : List Traced)
+pub entries_pushed : (rows rows' : List Row) (calls calls' : List (Act × Reply)) (traced traced' : List TracedAct)
     (apart apart' : List Unranked) (c : Content) (e : Entry)
-    → ArePlaced (length calls) (length traced) (length apart) rows
+    → HavePlaces (length calls) (length traced) (length apart) rows
     → HasGrown calls calls' → HasGrown traced traced' → HasGrown apart apart'
     → without_rank_in calls' traced' apart' c ≡ without_rank e
     → rows' ≡ rows ++ record { rank = e.rank; content = c } ∷ []
@@ -158,12 +159,12 @@ entries_pushed rows rows' calls calls' traced traced' apart apart' c e placed mo
     ∙ (λ i. old i ++ last i ∷ [])
 
 -- the inside after a push
-pub log_pushed : (rows rows' : List Row) (kept kept' : CallList) (traced traced' : List Traced)
+pub log_pushed : (rows rows' : List Row) (kept kept' : CallList) (traced traced' : List TracedAct)
     (apart apart' : List Unranked) (c : Content) (e : Entry) (row_room traced_room apart_room n m : ℕ)
     → IsLog rows kept traced apart row_room traced_room apart_room n
     → HasGrown kept.calls kept'.calls → kept.spare ≤ kept'.spare + 1
     → HasGrown traced traced' → HasGrown apart apart'
-    → IsPlaced (length kept'.calls) (length traced') (length apart') c
+    → HasPlace (length kept'.calls) (length traced') (length apart') c
     → rows' ≡ rows ++ record { rank = e.rank; content = c } ∷ [] → n ≡ m + 1
     → IsLog rows' kept' traced' apart' row_room traced_room apart_room m
 log_pushed rows rows' kept kept' traced traced' apart apart' c e row_room traced_room apart_room n m is more_calls spare
@@ -178,7 +179,7 @@ log_pushed rows rows' kept kept' traced traced' apart apart' c e row_room traced
     (record { calls_grown = more_calls; traced_grown = more_traced; apart_grown = more_apart }) in
     let old = placed_stay b b' rows (all_at_most b b' grown) is.placed in
     record {
-      placed = subst (HavePlaces b') (sym more) (placed_push b' rows r old placed);
+      placed = subst (FitBeside b') (sym more) (placed_push b' rows r old placed);
       rows_fit = omega (arith, long, is.rows_fit, fewer);
       calls_fit = omega (arith, spare, is.calls_fit, fewer);
       traced_fit = omega (arith, traced_at_most, is.traced_fit, fewer);
@@ -190,7 +191,7 @@ log_pushed rows rows' kept kept' traced traced' apart apart' c e row_room traced
 -- ---- what is read
 
 -- the last row has the last rank
-pub last_rank-rows : (low : ℕ) (rows : List Row) (calls : List (Act × Reply)) (traced : List Traced)
+pub last_rank-rows : (low : ℕ) (rows : List Row) (calls : List (Act × Reply)) (traced : List TracedAct)
     (apart : List Unranked) (r : Row)
     → Some r ≡ slice_get rows (length rows - 1) → r.rank ≡ last_rank low (entries_of calls traced apart rows)
 last_rank-rows low [] calls traced apart r is = cc

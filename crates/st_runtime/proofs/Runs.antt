@@ -1,6 +1,8 @@
 -- Merged entries are a run.
-use Rattle.std.proofs.Common.{◌≡◌, ℕ, Bool, true, false, cond, List, [], ◌∷◌, ◌++◌, map, Option, Some, None}
-use Rattle.std.proofs.Common.{option_map, IsSome, ◌||◌, if◌then◌else◌, refl, sym, ◌∙◌, ap, subst, inl, inr, ⊎_elim}
+use Rattle.std.proofs.Common.{◌≡◌, ℕ, Bool, true, false, cond, List, [], ◌∷◌, ◌++◌, map, Option}
+use Rattle.std.proofs.Common.{Some, None}
+use Rattle.std.proofs.Common.{option_map, IsSome, ◌||◌, if◌then◌else◌, refl, sym, ◌∙◌, ap, subst}
+use Rattle.std.proofs.Common.{inl, inr, ⊎_elim}
 use Rattle.std.specs.Prelude.{filter, All, Contains, option_to_list}
 use Rattle.std.proofs.lemmas.Option.{same_Some}
 use Rattle.st_core.specs.declared.types.Pid.{Pid}
@@ -15,13 +17,15 @@ use Rattle.st_core.proofs.ForCallers.{changed_pid, changed_untouched}
 use Rattle.st_core.proofs.ForCallers.{process_pid, process-map, mapped}
 use Rattle.st_runtime.specs.declared.pcb.entry.Entry.{Entry}
 use Rattle.st_runtime.specs.Logs.{IsPart, LeadTo, zero_process}
-use Rattle.st_runtime.specs.Pcb.{Control, IsKept}
-use Rattle.st_runtime.specs.Pieces.{pids_in, HasIfTouched, IsWhole, AreWhole, calls_of}
+use Rattle.st_runtime.specs.Pcb.{Control, IsFromLog}
+use Rattle.st_runtime.specs.Pieces.{pids_in, HasIfTouched, IsWholeEntry, AreWhole, calls_of}
 use Rattle.st_runtime.specs.Joined.{reports_of, streams_of, IsMerged, IsOneRun}
 use Rattle.st_runtime.proofs.PartLemmas.{touches_actor, part_pid}
 use Rattle.st_runtime.proofs.Legal.{own_of_part, IsDone, part_changed, untouched_other}
-use Rattle.st_runtime.proofs.Members.{In, In-Contains, Contains-In, All-In, In-All, In-filter, In-to_filter}
-use Rattle.st_runtime.proofs.Members.{IsOrdered-from_pairs, IsOrdered-filter, IsOrdered-from_rises, same_list}
+use Rattle.st_runtime.proofs.Members.{In, In-Contains, Contains-In, All-In, In-All, In-filter}
+use Rattle.st_runtime.proofs.Members.{In-to_filter}
+use Rattle.st_runtime.proofs.Members.{IsOrdered-from_pairs, IsOrdered-filter}
+use Rattle.st_runtime.proofs.Members.{IsOrdered-from_rises, same_list}
 
 abbrev pub touching : Pid → Entry → Bool
 touching p e = touches e.act p
@@ -133,14 +137,14 @@ led_touches top r f (d ∷ ds) e l i =
 
 -- an entry that the merge has is whole
 pub merged_whole : (xs : List Control) (es : List Entry) (e : Entry) → IsMerged xs es → AreWhole xs → In e es
-    → IsWhole xs e
+    → IsWholeEntry xs e
 merged_whole xs es e merged whole i =
     let from = merged.logged e (In-Contains e es i) in
-    All-In (IsWhole xs) from.0.log e (All-In (λ (x : Control). All (IsWhole xs) x.log) xs from.0 whole
+    All-In (IsWholeEntry xs) from.0.log e (All-In (λ (x : Control). All (IsWholeEntry xs) x.log) xs from.0 whole
     (Contains-In from.0 xs from.1)) (Contains-In e from.0.log from.2)
 
 pub restricted : (top ranks : ℕ) (xs : List Control) (es : List Entry) (x : Control) → IsMerged xs es → AreWhole xs
-    → In x xs → IsKept top ranks x.process x.log → filter (touching x.process.pid) es ≡ x.log
+    → In x xs → IsFromLog top ranks x.process x.log → filter (touching x.process.pid) es ≡ x.log
 restricted top ranks xs es x merged whole here kept =
     let p = x.process.pid in
     same_list (filter (touching p) es) x.log
@@ -253,12 +257,12 @@ all_streams acts os xs each = In-All (λ (x : Stream). stream acts os x.pid ≡ 
 
 -- ONE RUN
 pub one_run : (top ranks : ℕ) (xs : List Control) (es : List Entry)
-    → All (λ (x : Control). IsKept top ranks x.process x.log) xs → AreWhole xs → IsMerged xs es → IsOneRun top xs es
+    → All (λ (x : Control). IsFromLog top ranks x.process x.log) xs → AreWhole xs → IsMerged xs es → IsOneRun top xs es
 one_run top ranks xs es kept whole merged =
     let acts : List Act = map (λ (e : Entry). e.act) es in
     let log : (x : Control) → In x xs → filter (touching x.process.pid) es ≡ x.log =
     λ x i. restricted top ranks xs es x merged whole i (All-In
-    (λ (y : Control). IsKept top ranks y.process y.log) xs x kept i) in
+    (λ (y : Control). IsFromLog top ranks y.process y.log) xs x kept i) in
     let all : Ran top (zero_state (pids_in xs)) es = ran top es (zero_state (pids_in xs))
     (λ e i. let w = merged_whole xs es e merged whole i in (
       zero_there xs (actor e.act) w.actor,
@@ -267,7 +271,7 @@ one_run top ranks xs es kept whole merged =
     (λ p r h.
     let found = zero_found xs p r h in
     let x = found.control in
-    let k = All-In (λ (y : Control). IsKept top ranks y.process y.log) xs x kept found.among in
+    let k = All-In (λ (y : Control). IsFromLog top ranks y.process y.log) xs x kept found.among in
     let led : LeadTo top (zero_process x.process.pid) (filter (touching x.process.pid) es) x.process =
     rw (log x found.among) k.local in (
       x.process,

@@ -12,9 +12,9 @@ use Rattle.st_core.specs.Step.{actor, receiver, touches}
 use Rattle.st_core.specs.Streams.{is_among}
 use Rattle.st_core.proofs.ForCallers.{pid_eq-true, pid_eq-same, IsBelow-apart}
 use Rattle.st_runtime.specs.declared.pcb.entry.Entry.{Entry}
-use Rattle.st_runtime.specs.Joining.{HasAt, IsSettled}
+use Rattle.st_runtime.specs.Joining.{HasAt, IsWholeIfOwn}
 use Rattle.st_runtime.specs.Pcb.{Control, is_wide}
-use Rattle.st_runtime.specs.Pieces.{pids_in, AreWhole, HasIfTouched, IsWhole}
+use Rattle.st_runtime.specs.Pieces.{pids_in, AreWhole, HasIfTouched, IsWholeEntry}
 use Rattle.st_runtime.proofs.Members.{In, In-Contains, Contains-In, All-In, In-All}
 use Rattle.st_runtime.proofs.PartLemmas.{touches_actor}
 use Rattle.st_runtime.proofs.Searching.{key_at}
@@ -105,7 +105,7 @@ touches_receiver a = touches_actor a
 
 -- an entry that the actor and a send's receiver have is whole
 pub whole_of_two : (xs : List Control) (e : Entry) → IsRising (pids_in xs) → is_wide e.act ≡ false
-    → HasAt xs (actor e.act) e → HasAt xs (receiver e.act) e → IsWhole xs e
+    → HasAt xs (actor e.act) e → HasAt xs (receiver e.act) e → IsWholeEntry xs e
 whole_of_two xs e rising narrow from to = record {
   actor = among_has xs (actor e.act) e from;
   receiver = among_has xs (receiver e.act) e to;
@@ -121,7 +121,7 @@ wide_receiver a wide = refl
 
 -- an entry of a whole node that its actor has, and each process of the node, is whole
 pub whole_of_wide : (xs : List Control) (e : Entry) → is_wide e.act ≡ true → HasAt xs (actor e.act) e
-    → All (HasIfTouched e) xs → IsWhole xs e
+    → All (HasIfTouched e) xs → IsWholeEntry xs e
 whole_of_wide xs e wide made everywhere = record {
   actor = among_has xs (actor e.act) e made;
   receiver = ap (is_among (pids_in xs)) (wide_receiver e.act wide) ∙ among_has xs (actor e.act) e made;
@@ -140,21 +140,21 @@ has_at_of xs e p touched there everywhere =
       has = All-In (HasIfTouched e) xs x everywhere found.1.0 (ap (touches e.act) found.1.1 ∙ touched);
     }
 
-pub whole_actor : (xs : List Control) (e : Entry) → IsWhole xs e → HasAt xs (actor e.act) e
+pub whole_actor : (xs : List Control) (e : Entry) → IsWholeEntry xs e → HasAt xs (actor e.act) e
 whole_actor xs e whole = has_at_of xs e (actor e.act) (touches_actor e.act) whole.actor whole.everywhere
 
-pub whole_receiver : (xs : List Control) (e : Entry) → IsWhole xs e → HasAt xs (receiver e.act) e
+pub whole_receiver : (xs : List Control) (e : Entry) → IsWholeEntry xs e → HasAt xs (receiver e.act) e
 whole_receiver xs e whole = has_at_of xs e (receiver e.act) (touches_receiver e.act) whole.receiver whole.everywhere
 
 -- ---- entries that are looked for everywhere once
 
--- if each entry of each log is settled there, all are whole: it is in its actor's log, if it is whole
-pub settled_whole : (xs : List Control) → All (λ (x : Control). All (IsSettled xs x.process.pid) x.log) xs → AreWhole xs
-settled_whole xs settled =
-    let Settles : Control → Type 0 = λ x. All (IsSettled xs x.process.pid) x.log in
-    let settles : (x : Control) (e : Entry) → In x xs → In e x.log → IsSettled xs x.process.pid e =
-    λ x e i j. All-In (IsSettled xs x.process.pid) x.log e (All-In Settles xs x settled i) j in
-    In-All (λ (x : Control). All (IsWhole xs) x.log) xs (λ x i. In-All (IsWhole xs) x.log (λ e j.
+-- if each process's own entries are whole, and its other ones are in their actors' logs, all are whole
+pub all_whole : (xs : List Control) → All (λ (x : Control). All (IsWholeIfOwn xs x.process.pid) x.log) xs → AreWhole xs
+all_whole xs own =
+    let Settles : Control → Type 0 = λ x. All (IsWholeIfOwn xs x.process.pid) x.log in
+    let settles : (x : Control) (e : Entry) → In x xs → In e x.log → IsWholeIfOwn xs x.process.pid e =
+    λ x e i j. All-In (IsWholeIfOwn xs x.process.pid) x.log e (All-In Settles xs x own i) j in
+    In-All (λ (x : Control). All (IsWholeEntry xs) x.log) xs (λ x i. In-All (IsWholeEntry xs) x.log (λ e j.
     let has = (settles x e i j).made in
     let y = has.control in
     (settles y e (Contains-In y xs has.among) (Contains-In e y.log has.has)).whole (sym has.pid)))

@@ -1,6 +1,8 @@
 -- What became of each task is what its worker's promise says.
-use Rattle.std.proofs.Common.{◌≡◌, ℕ, suc, ◌<◌, List, [], ◌∷◌, length, map, get_or, take, reverse, refl, ap, subst}
-use Rattle.std.proofs.Common.{arith, ◌++◌, ◌≢◌, ◌↔◌, ◌∙◌, sym, Bool, true, false, Result, Ok, Err, Option, Some, IfOk}
+use Rattle.std.proofs.Common.{◌≡◌, ℕ, suc, ◌<◌, List, [], ◌∷◌, length, map, get_or, take, reverse}
+use Rattle.std.proofs.Common.{refl, ap, subst}
+use Rattle.std.proofs.Common.{arith, ◌++◌, ◌≢◌, ◌↔◌, ◌∙◌, sym, Bool, true, false, Result, Ok, Err}
+use Rattle.std.proofs.Common.{Option, Some, IfOk}
 use Rattle.std.specs.Prelude.{All, slice_get}
 use Rattle.std.specs.List.{AllZip, zip}
 use Rattle.std.proofs.lemmas.List.{append_assoc, reverse-append}
@@ -15,7 +17,7 @@ use Rattle.st_runtime.specs.declared.fault.ActFault.TheVariants as fault
 use Rattle.st_runtime.specs.declared.driver.worker.Ending.{Ending}
 use Rattle.st_runtime.specs.Driven.{IsOwn, IsRefused}
 use Rattle.st_runtime.specs.System.{is_stamping, knows}
-use Rattle.st_runtime.specs.Working.{called_acts, IsLeft, IsWorked}
+use Rattle.st_runtime.specs.Working.{called_acts, LeavesEnding, IsWorked}
 
 abbrev pub Task : Type 0
 Task = Pid × List Act
@@ -24,8 +26,8 @@ pub all_left : {H : Type 0} (system : H → List Pid) (task : H → Task) (pids 
     (ts : List Task) (os : List (Option Ending)) → length os ≡ length hs
     → AllZip (λ t h. (task h ≡ t) × (system h ≡ pids)) ts hs
     → ((i : ℕ) (d : Option Ending) → i < length hs
-    → (h : H) × (h ≡ get_or hs i h) × IsLeft (system h) (task h) (get_or os i d))
-    → AllZip (IsLeft pids) ts os
+    → (h : H) × (h ≡ get_or hs i h) × LeavesEnding (system h) (task h) (get_or os i d))
+    → AllZip (LeavesEnding pids) ts os
 all_left system task pids [] [] [] even of each = tt
 all_left system task pids [] [] (o ∷ os) even of each = absurd (omega arith)
 all_left system task pids [] (t ∷ ts) os even of each = absurd of
@@ -33,16 +35,16 @@ all_left system task pids (h ∷ hs) [] os even of each = absurd of
 all_left system task pids (h ∷ hs) (t ∷ ts) [] even of each = absurd (omega arith)
 all_left system task pids (h ∷ hs) (t ∷ ts) (o ∷ os) even of each =
     let here = each 0 o (omega arith) in
-    let of_h : IsLeft (system h) (task h) o =
-    subst (λ x. IsLeft (system x) (task x) o) here.1 here.2 in
-    let of_t : IsLeft (system h) t o = subst (λ x. IsLeft (system h) x o) of.0.0 of_h in (
-      subst (λ x. IsLeft x t o) of.0.1 of_t,
+    let of_h : LeavesEnding (system h) (task h) o =
+    subst (λ x. LeavesEnding (system x) (task x) o) here.1 here.2 in
+    let of_t : LeavesEnding (system h) t o = subst (λ x. LeavesEnding (system h) x o) of.0.0 of_h in (
+      subst (λ x. LeavesEnding x t o) of.0.1 of_t,
       all_left system task pids hs ts os (omega arith) of.1 (λ i d below. each (suc i) d (omega arith)),
     )
 
 -- none of them was told to stop
 pub all_worked : (pids : List Pid) (ts : List Task) (es : List Ending)
-    → AllZip (IsLeft pids) ts (map (λ e. Some e) es) → AllZip (IsWorked pids) ts es
+    → AllZip (LeavesEnding pids) ts (map (λ e. Some e) es) → AllZip (IsWorked pids) ts es
 all_worked pids [] [] left = tt
 all_worked pids [] (e ∷ es) left = absurd left
 all_worked pids (t ∷ ts) [] left = absurd left
@@ -50,10 +52,10 @@ all_worked pids (t ∷ ts) (e ∷ es) left = (left.0, all_worked pids ts es left
 
 pub ended_worked : {V E : Type 0} (pids : List Pid) (ts : List Task) (os : List (Option Ending))
     (items : V → List Ending)
-    (r : Result V E) → AllZip (IsLeft pids) ts os → IfOk r (λ v. map (λ e. Some e) (items v) ≡ os)
+    (r : Result V E) → AllZip (LeavesEnding pids) ts os → IfOk r (λ v. map (λ e. Some e) (items v) ≡ os)
     → IfOk r (λ v. AllZip (IsWorked pids) ts (items v))
 ended_worked pids ts os items (Ok v) left same =
-    all_worked pids ts (items v) (subst (AllZip (IsLeft pids) ts) (sym same) left)
+    all_worked pids ts (items v) (subst (AllZip (LeavesEnding pids) ts) (sym same) left)
 ended_worked pids ts os items (Err e) left same = tt
 
 -- pairs whose first parts are changed
@@ -90,7 +92,7 @@ pub acts_push : (cs : List (Act × Reply)) (a : Act) (y : Reply)
 acts_push [] a y = refl
 acts_push (c ∷ cs) a y = ap (λ rest. c.0 ∷ rest) (acts_push cs a y)
 
--- ---- a script that is taken from its end, where its next act stands
+-- ---- a script that is taken from its end, where its next act is
 
 next_act : (mine : List (Act × Reply)) (a : Act) (rest : List Act)
     → slice_get (called_acts mine ++ a ∷ rest) (length mine) ≡ Some a

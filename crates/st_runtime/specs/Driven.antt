@@ -15,7 +15,7 @@ use Rattle.st_runtime.specs.declared.fault.DriveFault.TheVariants as fault
 use Rattle.st_runtime.specs.declared.fault.JoinFault.TheVariants as joining
 use Rattle.st_runtime.specs.declared.join.record.Record.{Record}
 use Rattle.st_runtime.specs.Joined.{IsMerged}
-use Rattle.st_runtime.specs.Pcb.{Control, IsKept}
+use Rattle.st_runtime.specs.Pcb.{Control, IsFromLog}
 use Rattle.st_runtime.specs.Pieces.{pids_in, AreWhole}
 use Rattle.st_runtime.specs.System.{knows, is_stamping}
 
@@ -30,7 +30,7 @@ pub record IsDriven (top ranks : ℕ) (pids : List Pid) (scripts : List (List Ac
     (r : Record) : Type 0 where
   pub logs : List Control
   pub logged : pids_in logs ≡ pids
-  pub kept : All (λ x. IsKept top ranks x.process x.log) logs
+  pub kept : All (λ x. IsFromLog top ranks x.process x.log) logs
   pub whole : AreWhole logs
   pub entries : List Entry
   pub merged : IsMerged logs entries

@@ -9,7 +9,7 @@ use Rattle.st_mail.specs.Mail.{queue_in}
 use Rattle.st_runtime.specs.declared.pcb.entry.Entry.{Entry}
 use Rattle.st_mail.specs.Actor.{process_of, QueueFits}
 use Rattle.st_runtime.specs.Logs.{IsOwnPart, last_rank}
-use Rattle.st_runtime.specs.Pcb.{Control, IsKept}
+use Rattle.st_runtime.specs.Pcb.{Control, IsFromLog}
 
 -- the queue is the one box, each token in it can be met, and the process is what the log gives
 pub record IsInside (top ranks : ℕ) (p : Pid) (l : LocalState) (boxes : List (List Message))
@@ -17,7 +17,7 @@ pub record IsInside (top ranks : ℕ) (p : Pid) (l : LocalState) (boxes : List (
     : Type 0 where
   pub one_box : length boxes ≡ 1
   pub fit : QueueFits top (queue_in boxes 0)
-  pub kept : IsKept top ranks (process_of p l (queue_in boxes 0)) log
+  pub kept : IsFromLog top ranks (process_of p l (queue_in boxes 0)) log
 
 -- the actor's own part was made, and its entry was appended to its log
 pub record IsAppended (top : ℕ) (a : Act) (y : Reply) (x z : Control) : Type 0 where

@@ -10,7 +10,7 @@ use Rattle.st_core.specs.Step.{Outcome, actor}
 use Rattle.st_core.specs.Run.{Stream, Shows, run}
 use Rattle.st_runtime.specs.declared.pcb.entry.Entry.{Entry}
 use Rattle.st_runtime.specs.declared.join.record.Record.{Record}
-use Rattle.st_runtime.specs.Pcb.{Control, IsKept}
+use Rattle.st_runtime.specs.Pcb.{Control, IsFromLog}
 use Rattle.st_runtime.specs.Pieces.{Parts, pids_in, AreWhole, calls_of, IsFit}
 
 -- ---- the merge
@@ -52,7 +52,7 @@ pub record IsOneRun (top : ℕ) (xs : List Control) (es : List Entry) : Type 0 w
 -- whole entries of processes that their locks kept, merged, are one run
 abbrev pub OneRun : Type 0
 OneRun = (top ranks : ℕ) (xs : List Control) (es : List Entry)
-    → All (λ x. IsKept top ranks x.process x.log) xs → AreWhole xs → IsMerged xs es
+    → All (λ x. IsFromLog top ranks x.process x.log) xs → AreWhole xs → IsMerged xs es
     → IsOneRun top xs es
 
 -- the streams of one run are streams as they are collected

@@ -16,7 +16,7 @@ use Rattle.st_runtime.specs.declared.join.record.Record.{Record}
 use Rattle.st_runtime.specs.Joined.{IsMerged, IsOneRun, streams_of}
 use Rattle.st_runtime.specs.Logs.{Logged}
 use Rattle.st_runtime.specs.Pcb.{Control}
-use Rattle.st_runtime.specs.Pieces.{Parts, IsSeated, IsWhole}
+use Rattle.st_runtime.specs.Pieces.{Parts, IsSeated, IsWholeEntry}
 use Rattle.st_runtime.specs.Rows.{entry_at}
 
 -- the process of this pid is there and has the entry
@@ -27,14 +27,15 @@ pub record HasAt (xs : List Control) (p : Pid) (e : Entry) : Type 0 where
   pub has : Contains control.log e
 
 -- the entry is in its actor's log, and whole if that is p
-pub record IsSettled (xs : List Control) (p : Pid) (e : Entry) : Type 0 where
+pub record IsWholeIfOwn (xs : List Control) (p : Pid) (e : Entry) : Type 0 where
   pub made : HasAt xs (actor e.act) e
-  pub whole : actor e.act ≡ p → IsWhole xs e
+  pub whole : actor e.act ≡ p → IsWholeEntry xs e
 
--- if there is a process at this place, its entries are settled and it is seated
+-- if there is a process at this place, its own entries are whole, its other ones are in their
+-- actors' logs, and it is seated
 abbrev pub FitsAt : Parts → ℕ → Type 0
 FitsAt pieces k = (x : Control) → slice_get pieces.processes k ≡ Some x
-    → All (IsSettled pieces.processes x.process.pid) x.log × IsSeated pieces x.process.pid
+    → All (IsWholeIfOwn pieces.processes x.process.pid) x.log × IsSeated pieces x.process.pid
 
 -- the least, if there is one, isn't seated, and each of these pids that is below it is
 pub record IsLeastUnseated {X : Type 0} (pid_of : X → Pid) (pieces : Parts) (xs : List X)

@@ -1,6 +1,6 @@
 -- What the public contracts cite: what an entry does to a process and what a log gives it; what
 -- contracts see of a process under its lock, of calls and of a seat, and what is done with them;
--- what an act in a system asks for; and the outcome of a system that ran: pieces that fit, the one
+-- whom an act in a system needs; and the outcome of a system that ran: pieces that fit, the one
 -- run that they tell of, and scripts that are driven.
 pub mod Logs
 pub mod Pcb
@@ -14,7 +14,7 @@ pub mod Driven
 -- For the parts alone.
 pub mod Inside
 pub mod Briefs
-pub mod Traced
+pub mod TracedActs
 pub mod Rows
 pub mod Locked
 pub mod Joining

@@ -18,7 +18,7 @@ pub record Control : Type 0 where
   pub spare : ℕ
 
 -- what the type keeps: ranks rise strictly from 1 to RANKS, and the process is what its log gives
-pub record IsKept (top ranks : ℕ) (r : Process) (log : List Entry) : Type 0 where
+pub record IsFromLog (top ranks : ℕ) (r : Process) (log : List Entry) : Type 0 where
   pub rises : RanksRise 0 log
   pub within : last_rank 0 log ≤ ranks
   pub local : IsLocal top r log

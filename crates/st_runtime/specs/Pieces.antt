@@ -30,26 +30,26 @@ abbrev pub HasIfTouched : Entry → Control → Type 0
 HasIfTouched e x = touches e.act x.process.pid ≡ true → Contains x.log e
 
 -- the actor and a send's receiver are there, and each process that the act touches has the entry
-pub record IsWhole (xs : List Control) (e : Entry) : Type 0 where
+pub record IsWholeEntry (xs : List Control) (e : Entry) : Type 0 where
   pub actor : is_among (pids_in xs) (actor e.act) ≡ true
   pub receiver : is_among (pids_in xs) (receiver e.act) ≡ true
   pub everywhere : All (HasIfTouched e) xs
 
 -- each entry of each log is whole
 abbrev pub AreWhole : List Control → Type 0
-AreWhole xs = All (λ x. All (IsWhole xs) x.log) xs
+AreWhole xs = All (λ x. All (IsWholeEntry xs) x.log) xs
 
 -- place i of p's log is the least, by pid and then place, whose entry isn't whole
 pub record IsFirstMissing (xs : List Control) (p : Pid) (i : ℕ) : Type 0 where
   pub number : ℕ
-  pub before : All (λ x. All (IsWhole xs) x.log) (take number xs)
+  pub before : All (λ x. All (IsWholeEntry xs) x.log) (take number xs)
   pub control : Control
   pub is_at : slice_get xs number ≡ Some control
   pub pid : control.process.pid ≡ p
-  pub front : All (IsWhole xs) (take i control.log)
+  pub front : All (IsWholeEntry xs) (take i control.log)
   pub entry : Entry
   pub place : slice_get control.log i ≡ Some entry
-  pub missing : ¬ IsWhole xs entry
+  pub missing : ¬ IsWholeEntry xs entry
 
 -- ---- seats
 

@@ -13,10 +13,10 @@ use Rattle.st_runtime.specs.declared.pcb.row.Row.{Row}
 use Rattle.st_runtime.specs.declared.pcb.row.Content.{Content}
 use Rattle.st_runtime.specs.declared.pcb.row.Content.TheVariants as content
 use Rattle.st_runtime.specs.declared.pcb.row.Unranked.{Unranked}
-use Rattle.st_runtime.specs.declared.pcb.traced.Traced.{Traced}
+use Rattle.st_runtime.specs.declared.pcb.traced_act.TracedAct.{TracedAct}
 use Rattle.st_runtime.specs.Briefs.{call_at, no_call}
 use Rattle.st_runtime.specs.CallList.{CallList}
-use Rattle.st_runtime.specs.Traced.{no_traced, traced_rest, with_rank, without_rank}
+use Rattle.st_runtime.specs.TracedActs.{no_traced, traced_rest, with_rank, without_rank}
 
 -- a call that wasn't reported, and carried no token
 abbrev pub of_call : Act × Reply → Unranked
@@ -28,7 +28,8 @@ nowhere = of_call no_call
 
 -- what a row's content says, if these calls and these acts under a token are kept, and these
 -- entries are apart
-abbrev pub without_rank_in : List (Act × Reply) → List Traced → List Unranked → Content → Unranked
+abbrev pub without_rank_in : List (Act × Reply) → List TracedAct → List Unranked → Content
+    → Unranked
 without_rank_in calls traced apart (content.Reset p) = of_call (act.Reset p, reply.Done)
 without_rank_in calls traced apart (content.Tracer p on was) =
     of_call (act.Tracer p on, reply.Was was)
@@ -38,11 +39,11 @@ without_rank_in calls traced apart (content.Traced i) =
 without_rank_in calls traced apart (content.Apart i) = slice_index_or apart i nowhere
 
 -- the entry of a row
-abbrev pub row_entry : List (Act × Reply) → List Traced → List Unranked → Row → Entry
+abbrev pub row_entry : List (Act × Reply) → List TracedAct → List Unranked → Row → Entry
 row_entry calls traced apart r = with_rank r.rank (without_rank_in calls traced apart r.content)
 
 -- the entries of rows
-abbrev pub entries_of : List (Act × Reply) → List Traced → List Unranked → List Row → List Entry
+abbrev pub entries_of : List (Act × Reply) → List TracedAct → List Unranked → List Row → List Entry
 entries_of calls traced apart rows = map (row_entry calls traced apart) rows
 
 -- the entry at a place of a log, if there are so many
@@ -51,32 +52,33 @@ entry_at es i = slice_index_or es i (with_rank 0 nowhere)
 
 -- what the content says has a place among so many calls, so many acts under a token, or so many
 -- entries that are apart
-abbrev pub IsPlaced : ℕ → ℕ → ℕ → Content → Type 0
-IsPlaced calls traced apart (content.Call i) = i < calls
-IsPlaced calls traced apart (content.Traced i) = i < traced
-IsPlaced calls traced apart (content.Apart i) = i < apart
-IsPlaced calls traced apart c = Unit {0}
+abbrev pub HasPlace : ℕ → ℕ → ℕ → Content → Type 0
+HasPlace calls traced apart (content.Call i) = i < calls
+HasPlace calls traced apart (content.Traced i) = i < traced
+HasPlace calls traced apart (content.Apart i) = i < apart
+HasPlace calls traced apart c = Unit {0}
 
 -- the content says all of the entry but its rank, whatever is kept beside the rows
 pub record IsAll (e : Entry) (c : Content) : Type 0 where
-  pub says : (calls : List (Act × Reply)) (traced : List Traced) (apart : List Unranked)
+  pub says : (calls : List (Act × Reply)) (traced : List TracedAct) (apart : List Unranked)
       → without_rank_in calls traced apart c ≡ without_rank e
-  pub placed : (calls traced apart : ℕ) → IsPlaced calls traced apart c
+  pub placed : (calls traced apart : ℕ) → HasPlace calls traced apart c
 
 -- a list is as it was, or has one item more
 abbrev pub HasGrown : {T : Type 0} → List T → List T → Type 0
 HasGrown {T} xs xs' = (xs' ≡ xs) ⊎ ((x : T) × (xs' ≡ xs ++ x ∷ []))
 
 -- the rows have their places
-abbrev pub ArePlaced : ℕ → ℕ → ℕ → List Row → Type 0
-ArePlaced calls traced apart rows =
-    AllByRecursion (λ (r : Row). IsPlaced calls traced apart r.content) rows
+abbrev pub HavePlaces : ℕ → ℕ → ℕ → List Row → Type 0
+HavePlaces calls traced apart rows =
+    AllByRecursion (λ (r : Row). HasPlace calls traced apart r.content) rows
 
 -- what a log keeps inside: each row has its entry, and there is the room that is reserved. A place
 -- is a number of 32 bits.
-pub record IsLog (rows : List Row) (kept : CallList) (traced : List Traced) (apart : List Unranked)
-    (row_capacity traced_capacity apart_capacity reserved : ℕ) : Type 0 where
-  pub placed : ArePlaced (length kept.calls) (length traced) (length apart) rows
+pub record IsLog (rows : List Row) (kept : CallList) (traced : List TracedAct)
+    (apart : List Unranked) (row_capacity traced_capacity apart_capacity reserved : ℕ)
+    : Type 0 where
+  pub placed : HavePlaces (length kept.calls) (length traced) (length apart) rows
   pub rows_fit : length rows + reserved ≤ row_capacity
   pub calls_fit : reserved ≤ kept.spare
   pub traced_fit : length traced + reserved ≤ traced_capacity

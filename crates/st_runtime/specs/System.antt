@@ -1,4 +1,4 @@
--- What an act in a system asks for.
+-- Whom an act in a system needs, and which acts stamp.
 use Rattle.std.specs.Prelude.{Bool, true, false, ◌&&◌, List}
 use Rattle.st_core.specs.declared.types.Pid.{Pid}
 use Rattle.st_core.specs.declared.types.Act.{Act}

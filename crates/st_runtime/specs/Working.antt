@@ -34,8 +34,8 @@ pub record IsWorked (pids : List Pid) (task : Pid × List Act) (end : Ending) : 
       (IsRefused pids task.0 task.1 (length end.seat.mine))
 
 -- a worker that wasn't told to stop leaves what became of its script
-abbrev pub IsLeft : List Pid → (Pid × List Act) → Option Ending → Type 0
-IsLeft pids task left = IfSome left (IsWorked pids task)
+abbrev pub LeavesEnding : List Pid → (Pid × List Act) → Option Ending → Type 0
+LeavesEnding pids task left = IfSome left (IsWorked pids task)
 
 -- what became of each script
 abbrev pub AreWorked : List Pid → List (Pid × List Act) → List Ending → Type 0

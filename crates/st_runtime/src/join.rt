@@ -6,7 +6,7 @@ ghost use Rattle.st_core.specs.Pid.{IsRising};
 ghost use Rattle.st_core.specs.Streams.{IsStreams};
 ghost use Rattle.st_runtime.specs.Joined.{IsJoined, streams_of};
 ghost use Rattle.st_runtime.specs.Joining.{IsLogged, IsReadOut, IsThere};
-ghost use Rattle.st_runtime.specs.Pcb.{IsKept};
+ghost use Rattle.st_runtime.specs.Pcb.{IsFromLog};
 ghost use Rattle.st_runtime.specs.Pieces.{pids_in, AreWhole, IsFit, IsJoinFault};
 
 pub mod collect;
@@ -14,8 +14,8 @@ pub mod fitting;
 pub mod merge;
 pub mod record;
 pub mod seating;
-pub mod settled;
 pub mod whole;
+pub mod whole_at_once;
 
 use crate::fault::JoinFault;
 use crate::join::collect::streams_of;
@@ -55,7 +55,7 @@ pub(crate) fn join_given<const TOP: u64, const RANKS: u64, R: Threads + Sync>(
 ) -> Result<Record, JoinFault>
     ensures ok { IfOk result (IsJoined TOP pieces.entry) }
     ensures kept { OnOk result
-        (All (λ x. IsKept TOP RANKS x.process x.log) pieces.entry.processes) }
+        (All (λ x. IsFromLog TOP RANKS x.process x.log) pieces.entry.processes) }
     ensures err { IfErr result (IsJoinFault pieces.entry) }
 {
     see_fit(rt, alloc, &pieces)?;
@@ -130,7 +130,7 @@ fn run_by_threads<const TOP: u64, const RANKS: u64, R: Threads + Sync>(
     requires rising { IsRising (pids_in processes.now) }
     requires whole { AreWhole processes.now }
     ensures logged { IfOk result (IsLogged TOP processes.now) }
-    ensures kept { OnOk result (All (λ x. IsKept TOP RANKS x.process x.log) processes.now) }
+    ensures kept { OnOk result (All (λ x. IsFromLog TOP RANKS x.process x.log) processes.now) }
 {
     let merged = merge_logs(alloc, processes)?;
     let entries = merged.as_slice();

@@ -7,7 +7,7 @@ ghost use Rattle.st_core.specs.Step.{actor};
 ghost use Rattle.st_mail.specs.Actor.{is_inner, is_send_act};
 ghost use Rattle.st_runtime.specs.Lent.{IsLentStep, IsNodeEntry, with_node_entry};
 ghost use Rattle.st_runtime.specs.Logs.{zero_process, last_rank};
-ghost use Rattle.st_runtime.specs.Pcb.{IsKept, IsSame, IsBetween, is_alone};
+ghost use Rattle.st_runtime.specs.Pcb.{IsFromLog, IsSame, IsBetween, is_alone};
 
 pub mod acts;
 pub mod calls;
@@ -17,7 +17,7 @@ pub mod log;
 pub mod parts;
 pub mod row;
 pub mod same;
-pub mod traced;
+pub mod traced_act;
 
 use crate::fault::PcbFault;
 use crate::pcb::entry::Entry;
@@ -98,7 +98,7 @@ impl<const TOP: u64, const RANKS: u64> Pcb<TOP, RANKS> {
     /// state.
     pub fn log(&self) -> &Log
         ensures value { result.now.entries ≡ self.now.log }
-        ensures kept { IsKept TOP RANKS self.now.process self.now.log }
+        ensures kept { IsFromLog TOP RANKS self.now.process self.now.log }
     {
         &self.log
     }

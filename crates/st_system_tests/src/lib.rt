@@ -8,19 +8,19 @@
 //! | `commands` | `st_commands`: words, and devices that fail on the way |
 //! | `sizes` | many crates: calls with 100,000 of what they take |
 //! | `interface` | all crates of `seqaudit`: a caller of each public type and call |
-//! | `shared` | none: what several of these take |
+//! | `helpers` | none: what several of these take |
 #![tactic(auto)]
 
 #[cfg(test)]
 mod commands;
+#[cfg(test)]
+mod helpers;
 #[cfg(test)]
 mod interface;
 #[cfg(test)]
 mod runs;
 #[cfg(test)]
 mod runtime;
-#[cfg(test)]
-mod shared;
 #[cfg(test)]
 mod sizes;
 #[cfg(test)]

@@ -6,7 +6,7 @@ mod meetings;
 mod ranks;
 mod scripts;
 
-use crate::shared::same;
+use crate::helpers::same;
 use ranks::rise_by_rank;
 use scripts::{Places, processes, scripts};
 use st_check::{Replayed, Verdict, check, replay};

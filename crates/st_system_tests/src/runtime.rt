@@ -10,7 +10,7 @@ mod joins;
 mod logs;
 mod steps;
 
-use crate::shared::same;
+use crate::helpers::same;
 use st_core::{Act, Pid, Reply};
 use st_runtime::{ActFault, Gate, OpenFault, Pieces, Seat, System};
 use std::alloc::{AllocError, Global};

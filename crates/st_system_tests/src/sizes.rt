@@ -7,9 +7,9 @@ ghost use Rattle.std.specs.Prelude.{◌<◌};
 
 mod arenas;
 
-use crate::shared::same;
+use crate::helpers::same;
 use st_audit::{Finding, audit, told_acts};
-use st_chain::Chains;
+use st_chain::{Causes, Chains};
 use st_chart::chart;
 use st_core::{Act, Draft, Event, Kind, Label, MemorySink, Pid, Serial, Streams};
 use st_order::{by_label, order};
@@ -86,8 +86,8 @@ fn a_way_back_of_a_hundred_thousand_events_is_charted(rt: HostRuntime) -> Result
     let alloc = rt.alloc();
     let streams = to_and_fro(alloc)?;
     let pairing = pair(alloc, &streams)?;
-    let chains = Chains::new(alloc, &streams, &pairing)?;
-    let back = chains.back(p30(), MESSAGES - 1)?;
+    let causes = Causes::new(alloc, &streams, &pairing)?;
+    let back = causes.back(p30(), MESSAGES - 1)?;
     same(&rt, &(back.len() as u64), &MANY);
     let items = order(&rt, alloc, &streams, &pairing)?;
     let mut sink = MemorySink::new(alloc, 10_000_000, None)?;
@@ -95,7 +95,7 @@ fn a_way_back_of_a_hundred_thousand_events_is_charted(rt: HostRuntime) -> Result
         alloc,
         &mut sink,
         &streams,
-        &chains,
+        &causes,
         items.as_slice(),
         Label(17),
     )?;

@@ -2,7 +2,7 @@
 //! says that these calls have enough memory, so the prover accepts a body that gives up at some
 //! size; these tests don't.
 
-use crate::shared::same;
+use crate::helpers::{many_pids, same};
 use st_core::{Act, Pid, Reply, Want};
 use st_runtime::{OpenGate, Pieces, Seat, System, join_pieces};
 use st_samples::{p30, p31};
@@ -15,17 +15,6 @@ use std::test::Fail;
 const MANY: usize = 100_000;
 
 type Great = System<{ u64::MAX }, { u64::MAX }>;
-
-/// Half of them on each of two nodes.
-fn many_pids(alloc: Global) -> Result<Vec<Pid>, Fail> {
-    let mut pids = Vec::new(alloc);
-    for node in 0..2 {
-        for number in 0..50_000 {
-            pids.push(Pid::on(node, number))?;
-        }
-    }
-    Ok(pids)
-}
 
 /// Makes the act so many times.
 fn make_many<R: Wait + Abort>(

@@ -1,7 +1,7 @@
 //! Devices that fail, that pass three bytes a call, and that err once and would work again.
 
 use super::{refusal, sink, text_of};
-use crate::shared::same;
+use crate::helpers::same;
 use st_core::{MemorySource, ReadFrom, WriteTo};
 use st_samples::PRINT_ONE;
 use st_text::{Bundle, ReadFault, read, write};

@@ -1,7 +1,7 @@
 //! The reader's limits, on generated texts.
 
 use super::{assert_refused, in_pieces, refusal};
-use crate::shared::same;
+use crate::helpers::same;
 use st_core::MemorySource;
 use st_text::{Feed, ReadFault, read};
 use std::alloc::{AllocError, Global};

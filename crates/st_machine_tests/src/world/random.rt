@@ -5,7 +5,7 @@ ghost use Rattle.std.specs.Prelude.{◌<◌};
 
 use super::assert_counts;
 use super::slow::{Process, TOP, place_of, processes, step};
-use crate::shared::same;
+use crate::helpers::same;
 use st_core::{Act, Component, Flags, Label, Pid, Serial, Token, Want};
 use st_world::World;
 use std::alloc::AllocError;

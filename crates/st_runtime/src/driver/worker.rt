@@ -1,7 +1,7 @@
 //! The workers of a drive: each makes the acts of one script in a thread of its own.
 
 ghost use Rattle.std.specs.Prelude.{◌≡◌, [], map, reverse, zip, All, IfOk, IfErr, Some};
-ghost use Rattle.st_runtime.specs.Working.{IsLeft, AreWorked, IsOwnFault};
+ghost use Rattle.st_runtime.specs.Working.{LeavesEnding, AreWorked, IsOwnFault};
 
 use crate::fault::{ActFault, DriveFault};
 use crate::system::System;
@@ -73,7 +73,7 @@ struct Leaves<const TOP: u64, const RANKS: u64> {
 }
 
 impl<const TOP: u64, const RANKS: u64> Promise<Option<Ending>> for Leaves<TOP, RANKS> {
-    ghost kept_by = { λ p left. IsLeft p.system.value p.task.value left };
+    ghost kept_by = { λ p left. LeavesEnding p.system.value p.task.value left };
 }
 
 /// All workers at once, each in a thread of its own with a stack of so many bytes. If a thread
@@ -109,7 +109,7 @@ pub fn work_all<const TOP: u64, const RANKS: u64, R: Threads + Wait + Sync, G: G
                     task: Snapshot::of(&task),
                 };
                 let work = move || -> Option<Ending>
-                    ensures { IsLeft system.entry.now task result }
+                    ensures { LeavesEnding system.entry.now task result }
                 { work(rt, system, gate, stop, task) };
                 let thread = Stack::new().stack_size(stack);
                 let Ok(worker) = thread.spawn_scoped_with(scope, leaves, work) else {
@@ -153,7 +153,7 @@ fn work<const TOP: u64, const RANKS: u64, R: Wait, G: Gate>(
     stop: &AtomicBool,
     task: Task,
 ) -> Option<Ending>
-    ensures { IsLeft system.now task result }
+    ensures { LeavesEnding system.now task result }
 {
     let Task { seat, script } = task;
     let mut acts = script.into_vec();
@@ -172,7 +172,7 @@ fn play_from_end<const TOP: u64, const RANKS: u64, R: Wait, G: Gate>(
     mut acts: Vec<Act>,
 ) -> Option<Ending>
     requires { seat.mine ≡ [] }
-    ensures { IsLeft system.now (seat.pid, reverse acts.items) result }
+    ensures { LeavesEnding system.now (seat.pid, reverse acts.items) result }
 {
     while let Some(act) = acts.pop() {
         if stop.load(Ordering::SeqCst) {

@@ -8,8 +8,8 @@ ghost use Rattle.st_runtime.specs.Joining.{FitsAt};
 ghost use Rattle.st_runtime.specs.Pieces.{pids_in, IsFit};
 
 use crate::join::seating::is_seated;
-use crate::join::settled::are_seen_settled;
 use crate::join::whole::place_in;
+use crate::join::whole_at_once::are_seen_whole_if_own;
 use crate::pcb::Pcb;
 use crate::system::seat::Seat;
 use rayon::prelude::*;
@@ -40,7 +40,8 @@ pub fn is_seen_fit<const TOP: u64, const RANKS: u64>(
     )
 }
 
-/// Whether it is seen that the entries of this process are settled, and that it is seated.
+/// Whether it is seen that the entries of this process are in their actors' logs, that its own ones
+/// are whole, and that it is seated.
 fn fits_at<const TOP: u64, const RANKS: u64>(
     alloc: Global,
     processes: &[Pcb<TOP, RANKS>],
@@ -54,7 +55,7 @@ fn fits_at<const TOP: u64, const RANKS: u64>(
         return false;
     }
     let process = &processes[k];
-    are_seen_settled(alloc, processes, process.pid(), process.log())
+    are_seen_whole_if_own(alloc, processes, process.pid(), process.log())
         && is_seated(processes, seats, process.pid())
 }
 

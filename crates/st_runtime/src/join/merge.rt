@@ -4,7 +4,7 @@
 
 ghost use Rattle.std.specs.Prelude.{◌≡◌, ◌<◌, ◌++◌, length, map, All, IfOk, OnOk};
 ghost use Rattle.st_core.specs.Pid.{IsRising};
-ghost use Rattle.st_runtime.specs.Pcb.{IsKept};
+ghost use Rattle.st_runtime.specs.Pcb.{IsFromLog};
 ghost use Rattle.st_runtime.specs.Pieces.{pids_in, AreWhole};
 ghost use Rattle.st_runtime.specs.Joined.{IsMerged};
 ghost use Rattle.st_runtime.specs.Joining.{flat_of, own_of, referred, IsReadOut, IsThere};
@@ -70,7 +70,7 @@ pub fn merge_logs<const TOP: u64, const RANKS: u64>(
     ensures merged { IfOk result (λ v. AreWhole processes.now
         → IsMerged processes.now (map referred v.items)) }
     ensures there { IfOk result (λ v. All IsThere v.items) }
-    ensures kept { OnOk result (All (λ x. IsKept TOP RANKS x.process x.log) processes.now) }
+    ensures kept { OnOk result (All (λ x. IsFromLog TOP RANKS x.process x.log) processes.now) }
 {
     let mut all = own_entries(alloc, processes)?;
     all.sort_by_key(|own| own.rank())?;
@@ -97,7 +97,7 @@ fn own_entries<const TOP: u64, const RANKS: u64>(
     processes: &[Pcb<TOP, RANKS>],
 ) -> Result<Vec<Ranked<'_>>, AllocError>
     ensures items { IfOk result (λ v. v.items ≡ flat_of processes.now) }
-    ensures kept { OnOk result (All (λ x. IsKept TOP RANKS x.process x.log) processes.now) }
+    ensures kept { OnOk result (All (λ x. IsFromLog TOP RANKS x.process x.log) processes.now) }
 {
     let mut all = Vec::new(alloc);
     for process in processes {

@@ -10,9 +10,10 @@ ghost use Rattle.st_runtime.specs.declared.pcb.entry.Entry.{Entry};
 ghost use Rattle.st_runtime.specs.Joining.{HasAt};
 ghost use Rattle.st_runtime.specs.Logs.{RanksRise};
 ghost use Rattle.st_runtime.specs.Pcb.{is_wide};
-ghost use Rattle.st_runtime.specs.Pieces.{pids_in, AreWhole, HasIfTouched, IsWhole, IsFirstMissing};
+ghost use Rattle.st_runtime.specs.Pieces.{pids_in, AreWhole, HasIfTouched, IsWholeEntry};
+ghost use Rattle.st_runtime.specs.Pieces.{IsFirstMissing};
 
-use crate::join::settled::are_seen_whole;
+use crate::join::whole_at_once::are_seen_whole;
 use crate::pcb::Pcb;
 use crate::pcb::acts::{is_wide, receiver_of};
 use crate::pcb::entry::Entry;
@@ -61,9 +62,9 @@ fn missing_in<const TOP: u64, const RANKS: u64>(
 ) -> Option<usize>
     requires rising { IsRising (pids_in processes.now) }
     requires here { All (HasAt processes.now here) log.now.entries }
-    ensures { MatchOption result (All (IsWhole processes.now) log.now.entries) (λ i.
-        (i < length log.now.entries) × All (IsWhole processes.now) (take i log.now.entries)
-        × ((d : Entry) → ¬ IsWhole processes.now (slice_index_or log.now.entries i d))) }
+    ensures { MatchOption result (All (IsWholeEntry processes.now) log.now.entries) (λ i.
+        (i < length log.now.entries) × All (IsWholeEntry processes.now) (take i log.now.entries)
+        × ((d : Entry) → ¬ IsWholeEntry processes.now (slice_index_or log.now.entries i d))) }
 {
     for place in 0..log.len() {
         if !is_whole(processes, here, &log.at(place)) {
@@ -82,8 +83,8 @@ fn is_whole<const TOP: u64, const RANKS: u64>(
 ) -> bool
     requires rising { IsRising (pids_in processes.now) }
     requires here { HasAt processes.now here entry.now }
-    ensures { MatchBool result (IsWhole processes.now entry.now)
-        (¬ IsWhole processes.now entry.now) }
+    ensures { MatchBool result (IsWholeEntry processes.now entry.now)
+        (¬ IsWholeEntry processes.now entry.now) }
 {
     is_made(processes, here, entry) && is_shared(processes, here, entry)
 }
@@ -112,8 +113,8 @@ fn is_shared<const TOP: u64, const RANKS: u64>(
     requires rising { IsRising (pids_in processes.now) }
     requires here { HasAt processes.now here entry.now }
     requires made { HasAt processes.now (actor entry.now.act) entry.now }
-    ensures { MatchBool result (IsWhole processes.now entry.now)
-        (¬ IsWhole processes.now entry.now) }
+    ensures { MatchBool result (IsWholeEntry processes.now entry.now)
+        (¬ IsWholeEntry processes.now entry.now) }
 {
     if is_wide(&entry.act) {
         return is_everywhere(processes, here, entry);

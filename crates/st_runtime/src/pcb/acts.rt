@@ -1,4 +1,4 @@
-//! What an act asks for.
+//! Whom an act needs, and of what kind it is.
 
 ghost use Rattle.std.specs.Prelude.{◌≡◌};
 ghost use Rattle.st_core.specs.Step.{receiver};

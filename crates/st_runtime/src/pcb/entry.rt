@@ -5,7 +5,7 @@ use st_core::{Act, Event, Reply, Token};
 /// What each process that an act touches keeps of it in its log.
 #[derive(Clone, Copy, Debug, PartialEq, Eq)]
 pub struct Entry {
-    /// One more than the greatest rank that stood in the logs of the processes that the act
+    /// One more than the greatest rank that was in the logs of the processes that the act
     /// touches.
     pub rank: u64,
     /// The act.

@@ -7,14 +7,14 @@ ghost use Rattle.std.specs.List.Sorted.{IsBinarySearchResult, IsSearchInRange};
 ghost use Rattle.std.specs.Ordering.{nat_cmp};
 ghost use Rattle.std.specs.Vec.{vec_capacity};
 ghost use Rattle.st_runtime.specs.Logs.{last_rank};
-ghost use Rattle.st_runtime.specs.Rows.{without_rank_in, HasGrown, IsPlaced};
-ghost use Rattle.st_runtime.specs.Traced.{without_rank};
+ghost use Rattle.st_runtime.specs.Rows.{without_rank_in, HasGrown, HasPlace};
+ghost use Rattle.st_runtime.specs.TracedActs.{without_rank};
 
 use crate::fault::PcbFault;
 use crate::pcb::calls::CallLog;
 use crate::pcb::entry::Entry;
 use crate::pcb::row::{Content, Row, Unranked, content_of};
-use crate::pcb::traced::{Traced, traced_of};
+use crate::pcb::traced_act::{TracedAct, traced_of};
 use std::alloc::{AllocError, Global};
 use std::marker::Model;
 
@@ -33,7 +33,7 @@ const MOST_PLACES: usize = 4_294_967_295;
 pub struct Log {
     rows: Vec<Row>,
     calls: CallLog,
-    traced: Vec<Traced>,
+    traced: Vec<TracedAct>,
     apart: Vec<Unranked>,
     // For so many more entries there is room in all, whatever is logged.
     reserved: usize,
@@ -198,7 +198,7 @@ impl Log {
 /// that says it.
 fn keep_content(
     calls: &mut CallLog,
-    traced: &mut Vec<Traced>,
+    traced: &mut Vec<TracedAct>,
     apart: &mut Vec<Unranked>,
     entry: &Entry,
 ) -> Content
@@ -209,7 +209,7 @@ fn keep_content(
     requires places { vec_len apart.old < 4294967295 }
     ensures says { without_rank_in calls.new.calls traced.new.items apart.new.items result
         ≡ without_rank entry.now }
-    ensures placed { IsPlaced (length calls.new.calls) (length traced.new.items)
+    ensures placed { HasPlace (length calls.new.calls) (length traced.new.items)
         (length apart.new.items) result }
     ensures calls { HasGrown calls.old.calls calls.new.calls }
     ensures spare { calls.old.spare ≤ calls.new.spare + 1 }

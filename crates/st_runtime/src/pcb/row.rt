@@ -4,12 +4,12 @@
 //! mostly among the short forms of acts under a token (`pcb::traced`).
 
 ghost use Rattle.std.specs.Prelude.{◌≡◌, length, IfSome};
-ghost use Rattle.st_runtime.specs.Rows.{of_call, without_rank_in, IsAll, IsPlaced};
-ghost use Rattle.st_runtime.specs.Traced.{with_rank, without_rank};
+ghost use Rattle.st_runtime.specs.Rows.{of_call, without_rank_in, IsAll, HasPlace};
+ghost use Rattle.st_runtime.specs.TracedActs.{with_rank, without_rank};
 
 use crate::pcb::calls::CallLog;
 use crate::pcb::entry::Entry;
-use crate::pcb::traced::Traced;
+use crate::pcb::traced_act::TracedAct;
 use st_core::{Act, Event, Pid, Reply, Token};
 
 /// The rank of an entry, and where the rest of it is.
@@ -72,8 +72,8 @@ pub fn content_of(entry: &Entry) -> Option<Content>
 impl Content {
     /// The entry without its rank, if these are the calls, the acts under a token and the entries
     /// that are kept apart.
-    pub fn without_rank(self, calls: &CallLog, traced: &[Traced], apart: &[Unranked]) -> Unranked
-        requires { IsPlaced (length calls.now.calls) (length traced.now) (length apart.now) self }
+    pub fn without_rank(self, calls: &CallLog, traced: &[TracedAct], apart: &[Unranked]) -> Unranked
+        requires { HasPlace (length calls.now.calls) (length traced.now) (length apart.now) self }
         ensures { result ≡ without_rank_in calls.now.calls traced.now apart.now self }
     {
         match self {

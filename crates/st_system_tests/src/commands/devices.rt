@@ -1,7 +1,7 @@
 //! Devices that fail on the way, and readers and writers of std's that pass little at a time, err
 //! once and work again.
 
-use crate::shared::same;
+use crate::helpers::same;
 use st_commands::run;
 use st_core::{EndlessSource, MemorySink, MemorySource, ReadFrom, WriteTo};
 use st_samples::PRINT_ONE;

@@ -1,6 +1,6 @@
 //! Acts that are driven: `drive` writes the bundle of the one run that the threads made.
 
-use crate::shared::same;
+use crate::helpers::same;
 use st_commands::run;
 use st_core::{MemorySink, MemorySource};
 use std::test::Fail;

@@ -1,9 +1,9 @@
 //! Texts, the checker, and what is made of collected streams.
 
 use super::{message, one_message};
-use crate::shared::same;
+use crate::helpers::same;
 use st_audit::{Finding, audit};
-use st_chain::{Cause, Chains};
+use st_chain::{Cause, Causes, Chains};
 use st_chart::{chart, report};
 use st_check::{Replayed, Verdict, check, replay};
 use st_commands::run;
@@ -63,12 +63,13 @@ fn pairing_chains_and_order_are_called(rt: HostRuntime) -> Result<(), Fail> {
         &by_label(&rt, alloc, &streams, items.as_slice())?.len(),
         &1,
     );
+    let causes = Causes::new(alloc, &streams, &pairing)?;
     let mut sink = MemorySink::new(alloc, 1000, None)?;
     chart(
         alloc,
         &mut sink,
         &streams,
-        &chains,
+        &causes,
         items.as_slice(),
         Label(17),
     )?;

@@ -1,7 +1,7 @@
 //! The types of the machine, the parts that keep it, and the world.
 
 use super::{message, one_message};
-use crate::shared::same;
+use crate::helpers::same;
 use st_arena::Lists;
 use st_core::{
     Act, ByteSink, ByteSource, Component, Draft, EndlessSource, Event, Flags, Kind, Label, Local,

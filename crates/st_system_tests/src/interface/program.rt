@@ -1,6 +1,6 @@
 //! The function of each command of the program, over any reader and writer.
 
-use crate::shared::same;
+use crate::helpers::same;
 use st_commands::{run_audit, run_chart, run_check, run_drive, run_replay};
 use st_core::{Label, MemorySink, MemorySource};
 use st_samples::{ONE_MESSAGE, PRINT_ONE};

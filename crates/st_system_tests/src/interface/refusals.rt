@@ -1,9 +1,9 @@
 //! The type of each refusal, by a call that is refused for another reason than memory.
 
 use super::{message, one_message};
-use crate::shared::same;
+use crate::helpers::same;
 use st_audit::{AuditFault, Finding, Reason, audit};
-use st_chain::Chains;
+use st_chain::Causes;
 use st_chart::{ChartFault, chart};
 use st_check::{CheckFault, ReplayFault, Verdict, check, replay};
 use st_core::{
@@ -114,14 +114,14 @@ fn a_chart_is_refused(rt: HostRuntime) -> Result<(), Fail> {
     let alloc = rt.alloc();
     let streams = one_message(alloc)?;
     let pairing = pair(alloc, &streams)?;
-    let chains = Chains::new(alloc, &streams, &pairing)?;
+    let causes = Causes::new(alloc, &streams, &pairing)?;
     let items = order(&rt, alloc, &streams, &pairing)?;
     let mut sink = MemorySink::new(alloc, 1000, None)?;
     let drawn = chart(
         alloc,
         &mut sink,
         &streams,
-        &chains,
+        &causes,
         items.as_slice(),
         Label(18),
     );

@@ -1,6 +1,6 @@
 //! Processes under locks; `runtime::steps` calls those that are lent.
 
-use crate::shared::same;
+use crate::helpers::same;
 use st_core::{Act, Pid, Reply, Sequence, Want};
 use st_runtime::{Entry, Gate, OpenGate, Pcb, Pieces, Record, Seat, System, drive, join_pieces};
 use st_samples::{p30, p31};

@@ -2,7 +2,7 @@
 //! locks at a gate that it has left, or lacks one at a gate that it has entered.
 
 use super::MOST;
-use crate::shared::same;
+use crate::helpers::same;
 use st_check::{Verdict, check};
 use st_core::{Act, Pid, Sequence};
 use st_runtime::{ActFault, DriveFault, Gate, Record, Seat, System, drive};

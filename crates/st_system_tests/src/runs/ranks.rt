@@ -3,7 +3,7 @@
 use st_core::{Act, Pid};
 use std::alloc::{AllocError, Global};
 
-/// Whether the acts stand by rising rank and then actor. The rank of an act is one more than the
+/// Whether the acts are sorted by rank and then actor. The rank of an act is one more than the
 /// greatest of the acts before it that touch a process which it touches, 0 if there is none.
 pub(super) fn rise_by_rank(alloc: Global, pids: &[Pid], acts: &[Act]) -> Result<bool, AllocError> {
     let mut ranks = Vec::new(alloc);

@@ -1,7 +1,7 @@
 //! Worked acts in systems, on one thread and on two.
 
 use super::{act_at_last, gather_at_last, open_at_last, room_at_last};
-use crate::shared::{same, same_at};
+use crate::helpers::{same, same_at};
 use st_core::{Act, Component, Label, Pid, Reply, Serial, Want};
 use st_runtime::{ActFault, Gate, OpenFault, OpenGate, Seat, System, WORKER_STACK};
 use std::process::Abort;

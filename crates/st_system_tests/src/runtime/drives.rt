@@ -1,6 +1,6 @@
 //! Driven scripts: refusals, and what is left if memory runs out.
 
-use crate::shared::same;
+use crate::helpers::same;
 use st_check::{CheckFault, Verdict, check};
 use st_core::{Act, Component, Label, Pid, Sequence, Want};
 use st_runtime::{ActFault, DriveFault, Gate, OpenGate, Record, drive, drive_on};

@@ -1,7 +1,7 @@
 //! Pieces that fit, and pieces that don't.
 
 use super::{act_at_last, gather_at_last, open_at_last, room_at_last};
-use crate::shared::same;
+use crate::helpers::same;
 use st_core::{Act, Component, Pid, Reply, is_rising};
 use st_runtime::{ActFault, JoinFault, OpenGate, Pcb, Pieces, Record, join_pieces};
 use std::alloc::{AllocError, Global};

@@ -1,7 +1,7 @@
 //! Logs of acts that touch all processes of a node, which are kept shorter than other entries.
 
 use super::{act_at_last, gather_at_last, open_at_last, room_at_last};
-use crate::shared::{same, same_at};
+use crate::helpers::{same, same_at};
 use st_core::{Act, Component, Pid, Reply};
 use st_runtime::{Entry, JoinFault, Log, OpenGate, Seat, System, join_pieces};
 use std::process::Abort;

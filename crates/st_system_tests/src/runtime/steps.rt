@@ -4,7 +4,7 @@ ghost use Rattle.std.specs.Prelude.{◌≡◌, ◌<◌, true, IfOk, OnOk};
 ghost use Rattle.st_core.specs.Step.{actor};
 ghost use Rattle.st_runtime.specs.Pcb.{is_alone, IsBetween, IsSame};
 
-use crate::shared::same;
+use crate::helpers::same;
 use st_core::{Act, Component, Label, Pid, Reply, Serial, Want};
 use st_runtime::{Entry, Pcb, PcbFault};
 use std::alloc::{AllocError, Global};

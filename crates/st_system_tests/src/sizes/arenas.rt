@@ -3,7 +3,7 @@
 ghost use Rattle.std.specs.Prelude.{◌≡◌, ◌<◌, length};
 
 use super::MANY;
-use crate::shared::same;
+use crate::helpers::{many_pids, same};
 use st_arena::Lists;
 use st_core::{
     Act, ByteSink, ByteSource, Component, Draft, Label, MemorySink, MemorySource, Message, Pid,
@@ -12,7 +12,6 @@ use st_core::{
 use st_mail::Mailboxes;
 use st_samples::{p30, p31};
 use st_world::World;
-use std::alloc::Global;
 use std::process::Abort;
 use std::test::Fail;
 
@@ -74,17 +73,6 @@ fn a_hundred_thousand_mailboxes_take_as_many_messages(rt: HostRuntime) -> Result
         &Some(MANY - 1),
     );
     Ok(())
-}
-
-/// Half of them on each of two nodes.
-fn many_pids(alloc: Global) -> Result<Vec<Pid>, Fail> {
-    let mut pids = Vec::new(alloc);
-    for node in 0..2 {
-        for number in 0..50_000 {
-            pids.push(Pid::on(node, number))?;
-        }
-    }
-    Ok(pids)
 }
 
 /// 30 sends so many messages with its token to 31.

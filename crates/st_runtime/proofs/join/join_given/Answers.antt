@@ -3,7 +3,7 @@ use Rattle.std.proofs.Common.{◌∙◌, arith, sym, subst, List}
 use Rattle.std.specs.Prelude.{All}
 use Rattle.st_core.specs.Pid.{IsRising}
 use Rattle.st_runtime.specs.Joining.{IsLogged}
-use Rattle.st_runtime.specs.Pcb.{Control, IsKept}
+use Rattle.st_runtime.specs.Pcb.{Control, IsFromLog}
 use Rattle.st_runtime.specs.Pieces.{pids_in, AreWhole}
 use Rattle.st_runtime.proofs.JoinLemmas.{joined}
 use Rattle.st_runtime.proofs.join.join_given.Goals as goal
@@ -30,4 +30,4 @@ returns-clause-ok g c =
 pub returns-clause-kept : goal.returns-clause-kept
 returns-clause-kept g c =
     let is = c.as_slice.ensures.value ∙ c.into_processes-processes.ensures.processes in
-    subst (All (λ (x : Control). IsKept g.row.TOP g.row.RANKS x.process x.log)) is c.in_ok-run_by_threads.ensures.kept
+    subst (All (λ (x : Control). IsFromLog g.row.TOP g.row.RANKS x.process x.log)) is c.in_ok-run_by_threads.ensures.kept

@@ -5,7 +5,7 @@ use Rattle.std.proofs.lemmas.List.Sorted.{IsNonDecreasingBy-from_sort_by_key, an
 use Rattle.std.proofs.lemmas.Result.{IfOk-weaker}
 use Rattle.st_runtime.specs.declared.pcb.entry.Entry.{Entry}
 use Rattle.st_runtime.specs.Joined.{IsMerged}
-use Rattle.st_runtime.specs.Pcb.{Control, IsKept}
+use Rattle.st_runtime.specs.Pcb.{Control, IsFromLog}
 use Rattle.st_runtime.proofs.Members.{All-In}
 use Rattle.st_runtime.proofs.Sorting.{by_rank, sorted_merged}
 use Rattle.st_runtime.proofs.join.merge.merge_logs.Goals as goal
@@ -14,7 +14,7 @@ pub returns-clause-merged : goal.returns-clause-merged
 returns-clause-merged g c =
     let ps = c.args.processes.now in
     let sorted = c.sort_by_key.new.self.items in
-    let Kept : Control → Type 0 = λ x. IsKept g.row.TOP g.row.RANKS x.process x.log in
+    let Kept : Control → Type 0 = λ x. IsFromLog g.row.TOP g.row.RANKS x.process x.log in
     IfOk-weaker c.drop_ranks.result _ _ (λ refs are whole. subst (IsMerged ps) (sym are)
     (sorted_merged ps sorted c.requires
     (λ p i. (All-In Kept ps p c.in_ok-all.ensures.kept i).rises)

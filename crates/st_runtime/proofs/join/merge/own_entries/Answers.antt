@@ -2,7 +2,7 @@
 use Rattle.std.proofs.Common.{◌≡◌, ◌+◌, ◌++◌, ◌∷◌, [], sym, ap, ◌∙◌, take, subst}
 use Rattle.std.proofs.lemmas.List.{take_more, flat_map_more}
 use Rattle.std.proofs.lemmas.List.Elements.{All-more}
-use Rattle.st_runtime.specs.Pcb.{Control, IsKept}
+use Rattle.st_runtime.specs.Pcb.{Control, IsFromLog}
 use Rattle.st_runtime.specs.Joining.{flat_of, own_of}
 use Rattle.st_runtime.proofs.join.merge.own_entries.Goals as goal
 
@@ -11,7 +11,7 @@ loop-process-preserved g c =
     let ps = c.args.processes.now in
     let i = c.loop-process.process-index in
     let p = c.process-item.result in
-    let Fact : Control → Type 0 = λ x. IsKept g.row.TOP g.row.RANKS x.process x.log in
+    let Fact : Control → Type 0 = λ x. IsFromLog g.row.TOP g.row.RANKS x.process x.log in
     let pushed : c.push_own.new.all.items
     ≡ flat_of (take i ps) ++ own_of p.process.pid p.log = c.in_ok-push_own.ensures
     ∙ (λ j. c.loop-process.invariant.0 j ++ own_of (c.pid.ensures j) (c.log.ensures.value j)) in

@@ -6,8 +6,8 @@
 ghost use Rattle.std.specs.Prelude.{All, Contains, IsTrue};
 ghost use Rattle.st_core.specs.Pid.{IsRising};
 ghost use Rattle.st_core.specs.Step.{actor};
-ghost use Rattle.st_runtime.specs.Joining.{HasAt, IsSettled};
-ghost use Rattle.st_runtime.specs.Pieces.{pids_in, AreWhole, IsWhole};
+ghost use Rattle.st_runtime.specs.Joining.{HasAt, IsWholeIfOwn};
+ghost use Rattle.st_runtime.specs.Pieces.{pids_in, AreWhole, IsWholeEntry};
 
 use crate::join::whole::{is_everywhere, place_in};
 use crate::pcb::Pcb;
@@ -28,16 +28,16 @@ pub fn are_seen_whole<const TOP: u64, const RANKS: u64>(
     ensures { IsTrue result → AreWhole processes.now }
 {
     for process in processes {
-        if !are_seen_settled(alloc, processes, process.pid(), process.log()) {
+        if !are_seen_whole_if_own(alloc, processes, process.pid(), process.log()) {
             return false;
         }
     }
     true
 }
 
-/// Whether it is seen that all entries of this process's log are settled there. It isn't if there
-/// is no room for a place in each log.
-pub fn are_seen_settled<const TOP: u64, const RANKS: u64>(
+/// Whether it is seen that all entries of this process's log are in their actors' logs, and that
+/// its own ones are whole. It isn't if there is no room for a place in each log.
+pub fn are_seen_whole_if_own<const TOP: u64, const RANKS: u64>(
     alloc: Global,
     processes: &[Pcb<TOP, RANKS>],
     here: Pid,
@@ -45,16 +45,16 @@ pub fn are_seen_settled<const TOP: u64, const RANKS: u64>(
 ) -> bool
     requires rising { IsRising (pids_in processes.now) }
     requires here { All (HasAt processes.now here) log.now.entries }
-    ensures { IsTrue result → All (IsSettled processes.now here) log.now.entries }
+    ensures { IsTrue result → All (IsWholeIfOwn processes.now here) log.now.entries }
 {
     match vec![in alloc; 0; processes.len()] {
-        Ok(mut places) => are_settled(processes, &mut places, here, log),
+        Ok(mut places) => are_whole_if_own(processes, &mut places, here, log),
         Err(_) => false,
     }
 }
 
-/// Whether all entries of this process's log are seen to be settled there.
-fn are_settled<const TOP: u64, const RANKS: u64>(
+/// The same, with room for a place in each log.
+fn are_whole_if_own<const TOP: u64, const RANKS: u64>(
     processes: &[Pcb<TOP, RANKS>],
     places: &mut [usize],
     here: Pid,
@@ -62,10 +62,10 @@ fn are_settled<const TOP: u64, const RANKS: u64>(
 ) -> bool
     requires rising { IsRising (pids_in processes.now) }
     requires here { All (HasAt processes.now here) log.now.entries }
-    ensures { IsTrue result → All (IsSettled processes.now here) log.now.entries }
+    ensures { IsTrue result → All (IsWholeIfOwn processes.now here) log.now.entries }
 {
     for place in 0..log.len() {
-        if !is_settled(processes, places, here, &log.at(place)) {
+        if !is_whole_if_own(processes, places, here, &log.at(place)) {
             return false;
         }
     }
@@ -74,7 +74,7 @@ fn are_settled<const TOP: u64, const RANKS: u64>(
 
 /// Whether an entry of this process's log is seen in the log of its actor, and to be whole if that
 /// is this one.
-fn is_settled<const TOP: u64, const RANKS: u64>(
+fn is_whole_if_own<const TOP: u64, const RANKS: u64>(
     processes: &[Pcb<TOP, RANKS>],
     places: &mut [usize],
     here: Pid,
@@ -82,7 +82,7 @@ fn is_settled<const TOP: u64, const RANKS: u64>(
 ) -> bool
     requires rising { IsRising (pids_in processes.now) }
     requires here { HasAt processes.now here entry.now }
-    ensures { IsTrue result → IsSettled processes.now here entry.now }
+    ensures { IsTrue result → IsWholeIfOwn processes.now here entry.now }
 {
     if entry.act.actor() == here {
         sees_shared(processes, places, here, entry)
@@ -101,7 +101,7 @@ fn sees_shared<const TOP: u64, const RANKS: u64>(
     requires rising { IsRising (pids_in processes.now) }
     requires here { HasAt processes.now here entry.now }
     requires made { HasAt processes.now (actor entry.now.act) entry.now }
-    ensures { IsTrue result → IsWhole processes.now entry.now }
+    ensures { IsTrue result → IsWholeEntry processes.now entry.now }
 {
     if is_wide(&entry.act) {
         return is_everywhere(processes, here, entry);

@@ -16,8 +16,8 @@ use Rattle.st_core.specs.declared.types.Want.TheVariants as want
 use Rattle.st_core.specs.Pid.{pid_on}
 use Rattle.st_runtime.specs.declared.pcb.entry.Entry.{Entry}
 use Rattle.st_runtime.specs.declared.pcb.row.Unranked.{Unranked}
-use Rattle.st_runtime.specs.declared.pcb.traced.Traced.{Traced}
-use Rattle.st_runtime.specs.declared.pcb.traced.Traced.TheVariants as traced
+use Rattle.st_runtime.specs.declared.pcb.traced_act.TracedAct.{TracedAct}
+use Rattle.st_runtime.specs.declared.pcb.traced_act.TracedAct.TheVariants as traced
 
 -- an entry without its rank
 abbrev pub without_rank : Entry → Unranked
@@ -34,13 +34,13 @@ with_rank rank u = record {
 }
 
 -- the event of these parts
-abbrev pub event_with : Kind → Label → Serial → Pid → Option Pid → ℕ → Event
-event_with k label serial from to v =
+abbrev pub event_of_parts : Kind → Label → Serial → Pid → Option Pid → ℕ → Event
+event_of_parts k label serial from to v =
     record { label = label; kind = k; to = to; from = from; serial = serial; value = v }
 
 -- the token of these parts
-abbrev pub token_with : Flags → Label → Serial → Pid → Token
-token_with flags label serial from =
+abbrev pub token_of_parts : Flags → Label → Serial → Pid → Token
+token_of_parts flags label serial from =
     record { label = label; flags = flags; serial = serial; from = from }
 
 -- a send that carried a token
@@ -53,21 +53,21 @@ abbrev pub receive_rest : Pid → Want → Label → Pid → ℕ → Serial → 
 receive_rest p w label q v serial = record {
   act = act.Receive p w;
   reply = reply.Mail q v;
-  report = Some (event_with kind.Receive label serial q (Some p) v);
+  report = Some (event_of_parts kind.Receive label serial q (Some p) v);
   carried = None;
 }
 
 -- what the form of an act under a token says
-abbrev pub traced_rest : Traced → Unranked
+abbrev pub traced_rest : TracedAct → Unranked
 traced_rest (traced.Send flags label p q v serial) =
-    send_rest p q v None (token_with flags label serial p)
+    send_rest p q v None (token_of_parts flags label serial p)
 traced_rest (traced.ReportedSend flags label p q v serial) =
-    send_rest p q v (Some (event_with kind.Send label serial p (Some q) v))
-    (token_with flags label serial p)
+    send_rest p q v (Some (event_of_parts kind.Send label serial p (Some q) v))
+    (token_of_parts flags label serial p)
 traced_rest (traced.Print p label v serial) = record {
   act = act.Print p v;
   reply = reply.Done;
-  report = Some (event_with kind.Print label serial p None v);
+  report = Some (event_of_parts kind.Print label serial p None v);
   carried = None;
 }
 traced_rest (traced.First p label q v serial) = receive_rest p want.First label q v serial
@@ -76,5 +76,5 @@ traced_rest (traced.Value p label q v serial) = receive_rest p (want.Value v) la
 traced_rest (traced.Both p label q v serial) = receive_rest p (want.Both q v) label q v serial
 
 -- stands for a form that is at no place, which no log has
-abbrev pub no_traced : Traced
+abbrev pub no_traced : TracedAct
 no_traced = traced.Print (pid_on 0 0) (record { 0 = 0 }) 0 (record { prev = 0; this = 0 })

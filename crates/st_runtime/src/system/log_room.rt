@@ -1,4 +1,4 @@
-//! How much room scripts ask for, counted before their acts are made: a log that has its room from
+//! How much room scripts need, counted before their acts are made: a log that has its room from
 //! the start isn't moved as it grows. A guess, on which no promise rests.
 
 ghost use Rattle.std.specs.Prelude.{◌≡◌, length, vec_len, IfOk};

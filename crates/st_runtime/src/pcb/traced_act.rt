@@ -2,8 +2,9 @@
 //! token that its message carried, follow from the act, a label and a serial.
 
 ghost use Rattle.std.specs.Prelude.{◌≡◌, IfSome};
-ghost use Rattle.st_runtime.specs.Traced.{event_with, receive_rest, send_rest, token_with};
-ghost use Rattle.st_runtime.specs.Traced.{traced_rest, with_rank};
+ghost use Rattle.st_runtime.specs.TracedActs.{event_of_parts, receive_rest, send_rest};
+ghost use Rattle.st_runtime.specs.TracedActs.{token_of_parts};
+ghost use Rattle.st_runtime.specs.TracedActs.{traced_rest, with_rank};
 
 use crate::pcb::entry::Entry;
 use crate::pcb::row::Unranked;
@@ -12,7 +13,7 @@ use st_core::{Act, Event, Flags, Kind, Label, Pid, Reply, Serial, Token, Want};
 
 /// An entry without its rank, of an act under a token.
 #[derive(Clone, Copy)]
-pub enum Traced {
+pub enum TracedAct {
     /// A send from the first to the second process that wasn't reported. It carried the token of
     /// these flags, this label and this serial, which its sender stamped.
     Send(Flags, Label, Pid, Pid, u64, Serial),
@@ -32,10 +33,10 @@ pub enum Traced {
 }
 
 // So many bytes does such an act take in each log, beside its row.
-const _: () = prove!(size_of::<Traced>() == 40);
+const _: () = prove!(size_of::<TracedAct>() == 40);
 
 /// The form of the entry without its rank, if it has one that says all of it.
-pub fn traced_of(entry: &Entry) -> Option<Traced>
+pub fn traced_of(entry: &Entry) -> Option<TracedAct>
     ensures { IfSome result (λ t. with_rank entry.now.rank (traced_rest t) ≡ entry.now) }
 {
     let traced = likely_form(entry)?;
@@ -47,9 +48,9 @@ pub fn traced_of(entry: &Entry) -> Option<Traced>
 }
 
 /// The form that an entry like this has, if it says all of it.
-fn likely_form(entry: &Entry) -> Option<Traced> {
+fn likely_form(entry: &Entry) -> Option<TracedAct> {
     match (entry.act, entry.report, entry.carried) {
-        (Act::Send(me, to, value), None, Some(token)) => Some(Traced::Send(
+        (Act::Send(me, to, value), None, Some(token)) => Some(TracedAct::Send(
             token.flags,
             token.label,
             me,
@@ -57,7 +58,7 @@ fn likely_form(entry: &Entry) -> Option<Traced> {
             value,
             token.serial,
         )),
-        (Act::Send(me, to, value), Some(_), Some(token)) => Some(Traced::ReportedSend(
+        (Act::Send(me, to, value), Some(_), Some(token)) => Some(TracedAct::ReportedSend(
             token.flags,
             token.label,
             me,
@@ -66,7 +67,7 @@ fn likely_form(entry: &Entry) -> Option<Traced> {
             token.serial,
         )),
         (Act::Print(me, value), Some(event), None) => {
-            Some(Traced::Print(me, event.label, value, event.serial))
+            Some(TracedAct::Print(me, event.label, value, event.serial))
         }
         (Act::Receive(me, want), Some(event), None) => likely_receive(me, want, &event),
         _ => None,
@@ -74,7 +75,7 @@ fn likely_form(entry: &Entry) -> Option<Traced> {
 }
 
 /// The form that a receive with this report has, if it says all of it. One by place has none.
-fn likely_receive(me: Pid, want: Want, event: &Event) -> Option<Traced> {
+fn likely_receive(me: Pid, want: Want, event: &Event) -> Option<TracedAct> {
     let Event {
         label,
         from,
@@ -83,43 +84,43 @@ fn likely_receive(me: Pid, want: Want, event: &Event) -> Option<Traced> {
         ..
     } = *event;
     match want {
-        Want::First => Some(Traced::First(me, label, from, value, serial)),
-        Want::From(_) => Some(Traced::From(me, label, from, value, serial)),
-        Want::Value(_) => Some(Traced::Value(me, label, from, value, serial)),
-        Want::Both(..) => Some(Traced::Both(me, label, from, value, serial)),
+        Want::First => Some(TracedAct::First(me, label, from, value, serial)),
+        Want::From(_) => Some(TracedAct::From(me, label, from, value, serial)),
+        Want::Value(_) => Some(TracedAct::Value(me, label, from, value, serial)),
+        Want::Both(..) => Some(TracedAct::Both(me, label, from, value, serial)),
         Want::Place(_) => None,
     }
 }
 
-impl Traced {
+impl TracedAct {
     /// The entry without its rank.
     pub fn without_rank(self) -> Unranked
         ensures { result ≡ traced_rest self }
     {
         match self {
-            Traced::Send(flags, label, me, to, value, serial) => {
+            TracedAct::Send(flags, label, me, to, value, serial) => {
                 send_rest(me, to, value, None, token(flags, label, serial, me))
             }
-            Traced::ReportedSend(flags, label, me, to, value, serial) => {
+            TracedAct::ReportedSend(flags, label, me, to, value, serial) => {
                 let report = event(Kind::Send, label, serial, me, Some(to), value);
                 send_rest(me, to, value, Some(report), token(flags, label, serial, me))
             }
-            Traced::Print(me, label, value, serial) => Unranked {
+            TracedAct::Print(me, label, value, serial) => Unranked {
                 act: Act::Print(me, value),
                 reply: Reply::Done,
                 report: Some(event(Kind::Print, label, serial, me, None, value)),
                 carried: None,
             },
-            Traced::First(me, label, from, value, serial) => {
+            TracedAct::First(me, label, from, value, serial) => {
                 receive_rest(me, Want::First, label, from, value, serial)
             }
-            Traced::From(me, label, from, value, serial) => {
+            TracedAct::From(me, label, from, value, serial) => {
                 receive_rest(me, Want::From(from), label, from, value, serial)
             }
-            Traced::Value(me, label, from, value, serial) => {
+            TracedAct::Value(me, label, from, value, serial) => {
                 receive_rest(me, Want::Value(value), label, from, value, serial)
             }
-            Traced::Both(me, label, from, value, serial) => {
+            TracedAct::Both(me, label, from, value, serial) => {
                 receive_rest(me, Want::Both(from, value), label, from, value, serial)
             }
         }
@@ -159,7 +160,7 @@ fn receive_rest(
 
 /// The event of these parts.
 fn event(kind: Kind, label: Label, serial: Serial, from: Pid, to: Option<Pid>, value: u64) -> Event
-    ensures { result ≡ event_with kind label serial from to value }
+    ensures { result ≡ event_of_parts kind label serial from to value }
 {
     Event {
         label,
@@ -173,7 +174,7 @@ fn event(kind: Kind, label: Label, serial: Serial, from: Pid, to: Option<Pid>, v
 
 /// The token of these parts.
 fn token(flags: Flags, label: Label, serial: Serial, from: Pid) -> Token
-    ensures { result ≡ token_with flags label serial from }
+    ensures { result ≡ token_of_parts flags label serial from }
 {
     Token {
         label,

@@ -2,7 +2,7 @@
 //! only if an allocation fails: `rt try --test --fail-alloc N` fails the N-th of each.
 
 use super::{MANY, event};
-use crate::shared::sink_at_last;
+use crate::helpers::sink_at_last;
 use st_core::{AddFault, ByteSink, Draft, Kind, MemorySink, OpenFault, Pid, Recorder, Sequence};
 
 #[test]

@@ -1,19 +1,19 @@
 -- Each entry is looked for by itself; the places of the ones before it are only where the search begins.
 use Rattle.std.proofs.lemmas.List.Elements.{All-more}
 use Rattle.std.proofs.Common.{◌<◌, length, arith, subst}
-use Rattle.st_runtime.specs.Joining.{IsSettled}
+use Rattle.st_runtime.specs.Joining.{IsWholeIfOwn}
 use Rattle.st_runtime.proofs.Members.{All-past}
-use Rattle.st_runtime.proofs.join.settled.are_settled.Goals as goal
+use Rattle.st_runtime.proofs.join.whole_at_once.are_whole_if_own.Goals as goal
 
 pub loop-place-preserved : goal.loop-place-preserved
 loop-place-preserved g c =
-    let Settled = IsSettled c.args.processes.now c.args.here in
+    let Settled = IsWholeIfOwn c.args.processes.now c.args.here in
     let log = c.args.log.now.entries in
     let i = c.loop-place.place in
     let within : i < length log = omega (arith, c.loop-place-test.true, c.len-place-end.ensures) in
     All-more Settled log i c.at.result within c.loop-place.invariant
-    (subst Settled c.at.ensures (c.is_settled.ensures c.if-not-is_settled.false))
+    (subst Settled c.at.ensures (c.is_whole_if_own.ensures c.if-not-is_whole_if_own.false))
 
 pub returns : goal.returns
-returns g c sure = All-past (IsSettled c.args.processes.now c.args.here) c.loop-place.place c.args.log.now.entries
+returns g c sure = All-past (IsWholeIfOwn c.args.processes.now c.args.here) c.loop-place.place c.args.log.now.entries
     (omega (arith, c.loop-place-test.false, c.len-place-end.ensures)) c.loop-place.invariant

@@ -5,7 +5,7 @@ use Rattle.st_core.proofs.ForCallers.{pid_eq-true}
 use Rattle.st_runtime.specs.Joining.{HasAt}
 use Rattle.st_runtime.proofs.Legal.{on_true}
 use Rattle.st_runtime.proofs.Wholeness.{whole_of_two, whole_of_wide}
-use Rattle.st_runtime.proofs.join.settled.sees_shared.Goals as goal
+use Rattle.st_runtime.proofs.join.whole_at_once.sees_shared.Goals as goal
 
 pub returns-then-is_wide : goal.returns-then-is_wide
 returns-then-is_wide g c sure =

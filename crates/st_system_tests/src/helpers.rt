@@ -1,7 +1,21 @@
 //! What the tests of several modules take.
 
+use st_core::Pid;
+use std::alloc::Global;
 use std::fmt::Debug;
 use std::process::Abort;
+use std::test::Fail;
+
+/// A hundred thousand pids, half of them on each of two nodes.
+pub(crate) fn many_pids(alloc: Global) -> Result<Vec<Pid>, Fail> {
+    let mut pids = Vec::new(alloc);
+    for node in 0..2 {
+        for number in 0..50_000 {
+            pids.push(Pid::on(node, number))?;
+        }
+    }
+    Ok(pids)
+}
 
 /// Asserts that a value is the wanted one. A test that calls this is proved in a fourth of the time
 /// that it takes if it writes `assert_eq!` itself.
