@@ -2,7 +2,8 @@
 -- where it is, and that a call had this outcome.
 use Rattle.std.specs.Prelude.{◌≡◌, ℕ, ◌+◌, ◌-◌, ◌==◌, ◌&&◌, ◌||◌, nat_lt, Bool, true, false, not}
 use Rattle.std.specs.Prelude.{List, [], ◌∷◌, ◌++◌, ◌<◌, ◌^◌, ◌≢◌, length, slice_get, Option, Some}
-use Rattle.std.specs.Prelude.{None, if◌then◌else◌, Result, Ok, Err, option_map}
+use Rattle.std.specs.Prelude.{None, if◌then◌else◌, Result, Ok, Err, option_map, IfSome}
+use Rattle.st_check.specs.Progress.{IsPassedBy}
 use Rattle.std.specs.Option.{option_eq, option_map_or}
 use Rattle.st_core.specs.declared.types.Pid.{Pid}
 use Rattle.st_core.specs.declared.types.Event.{Event}
@@ -67,6 +68,10 @@ pub record TellsOne (streams : List Stream) (p : Pid) (i : ℕ) (old new : List 
   pub was : slice_get old place ≡ Some i
   pub now : i + 1 < 2 ^ 64 → slice_get new place ≡ Some (i + 1)
   pub others : (k : ℕ) → k ≢ place → slice_get new k ≡ slice_get old k
+
+-- if the acts are compared, they pass, and lead to the world
+abbrev pub IsMatched : {top : ℕ} → List Stream → Construction top → Type 0
+IsMatched {top} streams c = IfSome c.comparison (IsPassedBy top streams c.acts c.world)
 
 -- A SERIAL BEFORE ITS STAMP
 

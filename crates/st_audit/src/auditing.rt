@@ -1,8 +1,11 @@
 //! The auditor.
 
-ghost use Rattle.std.specs.Prelude.{◌≡◌, ◌⊎◌, IfOk, None, [], Some};
-ghost use Rattle.st_core.specs.Run.{pids_of};
+ghost use Rattle.std.specs.Prelude.{◌≡◌, ◌⊎◌, ℕ, IfOk, IfSome, List, None, [], Some};
+ghost use Rattle.st_check.specs.Answers.{verdict_of};
+ghost use Rattle.st_check.specs.Progress.{HasPassed};
+ghost use Rattle.st_core.specs.Run.{pids_of, Stream};
 ghost use Rattle.st_core.specs.Streams.{IsStreams};
+ghost use Rattle.st_core.specs.Verdict.{IsVerdict};
 ghost use Rattle.std.specs.Option.{ForSome};
 ghost use Rattle.st_order.specs.Order.{IsOrder};
 ghost use Rattle.st_pair.specs.Links.{IsPairing};
@@ -15,7 +18,7 @@ ghost use Rattle.st_plan.specs.Full.{IsFullyShown};
 
 use crate::construction::{Construction, Halt};
 use crate::finding::{AuditFault, Finding, Reason};
-use st_check::{Verdict, check};
+use st_check::{Comparison, Verdict, check};
 use st_core::{Act, Pid, Sequence, Streams};
 use st_order::{Item, order};
 use st_pair::{PairFault, Pairing, pair};
@@ -44,7 +47,19 @@ pub fn unfit_by(fault: PairFault) -> Option<Finding>
     }
 }
 
-/// What the checker makes of the acts that were built up to the event at this place.
+/// What is found by the verdict of the acts that were built up to the event at this place.
+fn finding_by(acts: Sequence<Act>, verdict: Verdict, place: (Pid, u64)) -> Finding
+    ensures { (top : ℕ) (streams : List Stream) →
+        IsVerdict top streams acts (verdict_of verdict) →
+        IsFoundAt top streams (Judged acts (Some place)) result }
+{
+    match verdict {
+        Verdict::Yes(pairs) => Finding::Fits(acts, pairs),
+        verdict => Finding::Unfit(place.0, place.1, Reason::NotReplayed(acts, verdict)),
+    }
+}
+
+/// What the checker makes of these acts.
 fn judge<const TOP: u64>(
     alloc: Global,
     streams: &Streams,
@@ -53,10 +68,27 @@ fn judge<const TOP: u64>(
 ) -> Result<Finding, AuditFault>
     ensures exact { IfOk result (IsFoundAt TOP streams.now (Judged acts (Some place))) }
 {
-    match check::<TOP>(alloc, streams, acts.as_slice()) {
-        Err(_) => Err(AuditFault::Memory),
-        Ok(Verdict::Yes(pairs)) => Ok(Finding::Fits(acts, pairs)),
-        Ok(verdict) => Ok(Finding::Unfit(place.0, place.1, Reason::NotReplayed(acts, verdict))),
+    let Ok(verdict) = check::<TOP>(alloc, streams, acts.as_slice()) else {
+        return Err(AuditFault::Memory);
+    };
+    Ok(finding_by(acts, verdict, place))
+}
+
+/// What is found by acts that were built for each item, of which this place is the last one's. If
+/// they were compared all the way, their verdict is known.
+fn finding_at_end<const TOP: u64>(
+    alloc: Global,
+    streams: &Streams,
+    acts: Sequence<Act>,
+    comparison: Option<Comparison>,
+    place: (Pid, u64),
+) -> Result<Finding, AuditFault>
+    requires { IfSome comparison (HasPassed TOP streams.now acts) }
+    ensures exact { IfOk result (IsFoundAt TOP streams.now (Judged acts (Some place))) }
+{
+    match comparison {
+        Some(comparison) => Ok(finding_by(acts, comparison.into_verdict(streams), place)),
+        None => judge::<TOP>(alloc, streams, acts, place),
     }
 }
 
@@ -98,17 +130,18 @@ fn finding_in_order<const TOP: u64>(
         return finding_of_nothing::<TOP>(alloc, streams);
     }
     let end = items[items.len() - 1];
-    let Ok(mut construction) = Construction::<TOP>::new(alloc, streams) else {
+    let Ok(mut construction) = Construction::<TOP>::compared(alloc, streams) else {
         return Err(AuditFault::Memory);
     };
-    match construction.open(pids) {
+    match construction.open(streams, pids) {
         Ok(()) => {}
         Err(Halt::Memory) => return Err(AuditFault::Memory),
         Err(_) => return judge::<TOP>(alloc, streams, construction.into_acts(), end.place()),
     }
+    let mut plan = Vec::new(alloc);
     for number in 0..items.len() {
         let (pid, index) = items[number].place();
-        match construction.append(alloc, streams, pairing, &Everything, items, number) {
+        match construction.append(streams, &mut plan, pairing, &Everything, items, number) {
             Ok(()) => {}
             Err(Halt::Memory) => return Err(AuditFault::Memory),
             Err(Halt::Uncaused) => return Ok(Finding::Unfit(pid, index, Reason::Uncaused)),
@@ -118,7 +151,8 @@ fn finding_in_order<const TOP: u64>(
             }
         }
     }
-    judge::<TOP>(alloc, streams, construction.into_acts(), end.place())
+    let (acts, comparison) = construction.into_parts();
+    finding_at_end::<TOP>(alloc, streams, acts, comparison, end.place())
 }
 
 /// What is found of streams.
@@ -147,8 +181,8 @@ fn finding_of<const TOP: u64>(
 }
 
 /// Finds a certificate for the streams, or an event and the reason why none was found. Its acts
-/// are built in the order of the items, stepped in a world from zero clocks, and judged by the
-/// checker: a certificate is one that the checker accepted.
+/// are built in the order of the items, stepped in a world from zero clocks, and compared with the
+/// streams as the checker does: a certificate is one that it accepts.
 ///
 /// It sorts on several threads, with one result for every number of threads.
 pub fn audit<const TOP: u64>(

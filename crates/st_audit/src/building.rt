@@ -33,16 +33,17 @@ fn build<const TOP: u64, M: Tells>(
     requires order { IsOrder streams.now items.now }
     ensures { IsPlain TOP streams.now → IfOk result (ShowTold TOP streams.now (M.marks marks.now)) }
 {
-    let Ok(mut construction) = Construction::<TOP>::new(alloc, streams) else {
+    let Ok(mut construction) = Construction::<TOP>::new(alloc, streams, None) else {
         return Err(AllocError);
     };
-    match construction.open(pids) {
+    match construction.open(streams, pids) {
         Ok(()) => {}
         Err(Halt::Memory) => return Err(AllocError),
         Err(_) => return Ok(None),
     }
+    let mut plan = Vec::new(alloc);
     for number in 0..items.len() {
-        match construction.append(alloc, streams, pairing, marks, items, number) {
+        match construction.append(streams, &mut plan, pairing, marks, items, number) {
             Ok(()) => {}
             Err(Halt::Memory) => return Err(AllocError),
             Err(Halt::Uncaused) => return Ok(None),

@@ -3,14 +3,18 @@
 //!
 //! After each item the clock and the last count of each process are what the items so far make of
 //! them. It stops if a reason of the auditor's own holds of an item, or if the world
-//! doesn't go the way of the streams; the checker then judges the acts.
+//! doesn't go the way of the streams; the checker then judges the acts. If it doesn't stop, their
+//! verdict is known: they were compared with the streams on the way.
 
-ghost use Rattle.std.specs.Prelude.{◌≡◌, ◌+◌, ◌<◌, ◌↔◌, ◌&&◌, [], ◌∷◌, length, not, take, ℕ};
+ghost use Rattle.std.specs.Prelude.{◌≡◌, ◌+◌, ◌<◌, ◌↔◌, ◌&&◌, [], ◌∷◌, ◌++◌, length, not, take, ℕ};
 ghost use Rattle.std.specs.Prelude.{option_map};
-ghost use Rattle.std.specs.Prelude.{if◌then◌else◌, slice_get, IfOk, IsTrue, List, None, OnOk, Some};
+ghost use Rattle.std.specs.Prelude.{if◌then◌else◌, slice_get, IfOk, IfSome, IsTrue, List, None, OnOk, Some};
+ghost use Rattle.st_check.specs.Progress.{IsEven, IsPassedBy};
+ghost use Rattle.st_core.specs.declared.types.Act.{Act as ActValue};
+ghost use Rattle.st_core.specs.Step.{step};
 ghost use Rattle.st_core.specs.Run.{pids_of, Stream};
 ghost use Rattle.st_core.specs.declared.types.Event.{Event as EventValue};
-ghost use Rattle.st_core.specs.State.{process, zero_state};
+ghost use Rattle.st_core.specs.State.{process, zero_state, State};
 ghost use Rattle.st_core.specs.Streams.{IsStreams};
 ghost use Rattle.st_pair.specs.Links.{IsPairing};
 ghost use Rattle.st_pair.specs.Pairing.{refusal};
@@ -24,9 +28,11 @@ ghost use Rattle.st_plan.specs.Moves.{earlier_of, move_by};
 ghost use Rattle.st_audit.specs.Progress.{acts_turn, if_told, is_below, is_too_wide, is_uncaused};
 ghost use Rattle.st_audit.specs.Progress.{item_turn, missing_count, move_skip, move_turn};
 ghost use Rattle.st_audit.specs.Progress.{report_turn, stamp_skip, stamp_turn, take_turn};
-ghost use Rattle.st_audit.specs.Progress.{IsCountedAs, IsSoFar, Meets, SaysNothing, TellsLast};
+ghost use Rattle.st_audit.specs.Progress.{IsCountedAs, IsMatched, IsSoFar, Meets, SaysNothing, TellsLast};
 ghost use Rattle.st_audit.specs.Progress.{TellsOne};
+ghost use Rattle.st_world.specs.World.{outcome_to};
 
+use st_check::Comparison;
 use st_core::{Act, Event, Flags, Kind, Pid, Sequence, Serial, Streams, Want};
 use st_order::Item;
 use st_pair::Pairing;
@@ -59,6 +65,8 @@ pub(crate) enum Halt {
 pub(crate) struct Construction<const TOP: u64> {
     world: World<TOP>,
     acts: Sequence<Act>,
+    /// How the acts compare with the streams, as long as they are compared and pass.
+    comparison: Option<Comparison>,
     /// How many events of each process were reported, in the order of the streams.
     told: Vec<u64>,
     /// How many counts were missing in all.
@@ -138,12 +146,45 @@ fn is_report(report: Option<Event>, event: &Event, is_told: bool) -> bool
     }
 }
 
+/// Compares the report of the act of this number with the streams, as long as acts are compared and
+/// pass.
+fn compare(
+    comparison: &mut Option<Comparison>,
+    streams: &Streams,
+    number: u64,
+    act: &Act,
+    outcome: &Outcome,
+) -> Result<(), AllocError>
+    requires { IfSome comparison.old (IsEven streams.now) }
+    ensures { OnOk result ((top : ℕ) (acts : List ActValue) (old new : State) →
+        length acts ≡ number → IfSome comparison.old (IsPassedBy top streams.now acts old) →
+        step top old act.now ≡ Some (outcome_to outcome.now new) →
+        IfSome comparison.new (IsPassedBy top streams.now (acts ++ act.now ∷ []) new)) }
+{
+    let Some(kept) = comparison else {
+        return Ok(());
+    };
+    let passes = kept.advance(streams, number, act, outcome)?;
+    if passes {
+        return Ok(());
+    }
+    *comparison = None;
+    Ok(())
+}
+
 impl<const TOP: u64> Construction<TOP> {
-    /// No items yet, and no acts.
-    pub(crate) fn new(alloc: Global, streams: &Streams) -> Result<Construction<TOP>, AllocError>
+    /// No items yet, and no acts, which are compared with the streams if a comparison is given.
+    pub(crate) fn new(
+        alloc: Global,
+        streams: &Streams,
+        comparison: Option<Comparison>,
+    ) -> Result<Construction<TOP>, AllocError>
+        requires { IfSome comparison
+            (IsPassedBy TOP streams.now [] (zero_state (pids_of streams.now))) }
         ensures so_far { IfOk result (λ c. IsSoFar streams.now [] c) }
         ensures world { IfOk result (λ c. c.world ≡ zero_state (pids_of streams.now)) }
         ensures acts { IfOk result (λ c. c.acts ≡ []) }
+        ensures matched { IfOk result (IsMatched streams.now) }
     {
         let pids = streams.pids();
         let Ok(world) = World::new(alloc, pids) else {
@@ -153,67 +194,103 @@ impl<const TOP: u64> Construction<TOP> {
         Ok(Construction {
             world,
             acts: Sequence::new(alloc),
+            comparison,
             told,
             skipped: 0,
         })
+    }
+
+    /// No items yet, and no acts; these are compared with the streams on the way.
+    pub(crate) fn compared(
+        alloc: Global,
+        streams: &Streams,
+    ) -> Result<Construction<TOP>, AllocError>
+        ensures so_far { IfOk result (λ c. IsSoFar streams.now [] c) }
+        ensures world { IfOk result (λ c. c.world ≡ zero_state (pids_of streams.now)) }
+        ensures acts { IfOk result (λ c. c.acts ≡ []) }
+        ensures matched { IfOk result (IsMatched streams.now) }
+    {
+        let comparison = Comparison::new(alloc, streams)?;
+        Construction::new(alloc, streams, Some(comparison))
     }
 
     /// The acts.
     pub(crate) fn into_acts(self) -> Sequence<Act>
         ensures { result ≡ self.entry.acts }
     {
-        let Construction {
-            world: _,
-            acts,
-            told: _,
-            skipped: _,
-        } = self;
+        let (acts, _) = self.into_parts();
         acts
     }
 
+    /// The acts, and how they compare with the streams.
+    pub(crate) fn into_parts(self) -> (Sequence<Act>, Option<Comparison>)
+        ensures acts { result.0 ≡ self.entry.acts }
+        ensures comparison { result.1 ≡ self.entry.comparison }
+    {
+        let Construction {
+            world: _,
+            acts,
+            comparison,
+            told: _,
+            skipped: _,
+        } = self;
+        (acts, comparison)
+    }
+
     /// Puts a tracer on each node, by its least pid.
-    pub(crate) fn open(&mut self, pids: &[Pid]) -> Result<(), Halt>
+    pub(crate) fn open(&mut self, streams: &Streams, pids: &[Pid]) -> Result<(), Halt>
+        requires { IsMatched streams.now self.old }
         ensures exact { Meets SaysNothing
             (acts_turn TOP self.old.world (tracers_after None pids.now)) self.old result self.new }
         ensures so_far { (streams : List Stream) → IsSoFar streams [] self.old →
             OnOk result (IsSoFar streams [] self.new) }
+        ensures matched { OnOk result (IsMatched streams.now self.new) }
     {
         let mut node: Option<u16> = None;
         for &pid in pids {
             if node != Some(pid.node()) {
-                self.perform(Act::Tracer(pid, true))?;
+                self.perform(streams, Act::Tracer(pid, true))?;
                 node = Some(pid.node());
             }
         }
         Ok(())
     }
 
-    /// Puts the act at the end, and steps it.
-    fn perform(&mut self, act: Act) -> Result<Outcome, Halt>
+    /// Puts the act at the end, steps it, and compares its report.
+    fn perform(&mut self, streams: &Streams, act: Act) -> Result<Outcome, Halt>
+        requires { IsMatched streams.now self.old }
         ensures exact { Meets TellsLast (acts_turn TOP self.old.world (act ∷ []))
             self.old result self.new }
         ensures skipped { self.new.skipped ≡ self.old.skipped }
         ensures told { self.new.told ≡ self.old.told }
+        ensures matched { OnOk result (IsMatched streams.now self.new) }
     {
+        let number = self.acts.len() as u64;
         let Ok(()) = self.acts.push(act) else {
             return Err(Halt::Memory);
         };
-        match self.world.step(&act) {
-            Ok(outcome) => Ok(outcome),
-            Err(StepFault::Memory) => Err(Halt::Memory),
-            Err(StepFault::Unknown | StepFault::ClockFull) => Err(Halt::Stopped),
-        }
+        let outcome = match self.world.step(&act) {
+            Ok(outcome) => outcome,
+            Err(StepFault::Memory) => return Err(Halt::Memory),
+            Err(StepFault::Unknown | StepFault::ClockFull) => return Err(Halt::Stopped),
+        };
+        let Ok(()) = compare(&mut self.comparison, streams, number, &act, &outcome) else {
+            return Err(Halt::Memory);
+        };
+        Ok(outcome)
     }
 
     /// The same for acts in a row.
-    fn perform_all(&mut self, plan: &[Act]) -> Result<(), Halt>
+    fn perform_all(&mut self, streams: &Streams, plan: &[Act]) -> Result<(), Halt>
+        requires { IsMatched streams.now self.old }
         ensures exact { Meets SaysNothing (acts_turn TOP self.old.world plan.now)
             self.old result self.new }
         ensures skipped { self.new.skipped ≡ self.old.skipped }
         ensures told { self.new.told ≡ self.old.told }
+        ensures matched { OnOk result (IsMatched streams.now self.new) }
     {
         for &act in plan {
-            self.perform(act)?;
+            self.perform(streams, act)?;
         }
         Ok(())
     }
@@ -222,29 +299,31 @@ impl<const TOP: u64> Construction<TOP> {
     fn start(&self, pid: Pid) -> Option<Start>
         ensures { result ≡ option_map (λ r. start_of r.local) (process self.now.world pid) }
     {
-        let clock = self.world.clock(pid)?;
-        let last = self.world.last(pid)?;
+        let local = self.world.local(pid)?;
         Some(Start {
-            token: self.world.token(pid),
-            clock,
-            last,
+            token: local.token(),
+            clock: local.clock(),
+            last: local.last(),
         })
     }
 
     /// Brings the process to be ready for the event's serial, and stamps it by this act.
     fn stamp(
         &mut self,
-        alloc: Global,
+        streams: &Streams,
+        plan: &mut Vec<Act>,
         pid: Pid,
         event: &Event,
         flags: Flags,
         act: Act,
     ) -> Result<Outcome, Halt>
+        requires { IsMatched streams.now self.old }
         ensures exact { Meets TellsLast (stamp_turn self.old pid event.now flags act)
             self.old result self.new }
         ensures skipped { OnOk result
             (self.new.skipped ≡ stamp_skip self.old.world pid event.now + self.old.skipped) }
         ensures told { self.new.told ≡ self.old.told }
+        ensures matched { OnOk result (IsMatched streams.now self.new) }
     {
         let Some(start) = self.start(pid) else {
             return Err(Halt::Stopped);
@@ -256,36 +335,39 @@ impl<const TOP: u64> Construction<TOP> {
             return Err(Halt::TooWide);
         };
         self.skipped = skipped;
-        let mut plan = Vec::new(alloc);
-        let Ok(()) = ready(&mut plan, pid, &start, event.label, event.serial, flags) else {
+        plan.clear();
+        let Ok(()) = ready(plan, pid, &start, event.label, event.serial, flags) else {
             return Err(Halt::Memory);
         };
-        self.perform_all(plan.as_slice())?;
-        self.perform(act)
+        self.perform_all(streams, plan.as_slice())?;
+        self.perform(streams, act)
     }
 
     /// Lets the process take the message whose token has the event's from and count.
-    fn receive(&mut self, pid: Pid, event: &Event) -> Result<Outcome, Halt>
+    fn receive(&mut self, streams: &Streams, pid: Pid, event: &Event) -> Result<Outcome, Halt>
+        requires { IsMatched streams.now self.old }
         ensures exact { Meets TellsLast (take_turn self.old pid event.now)
             self.old result self.new }
         ensures skipped { self.new.skipped ≡ self.old.skipped }
         ensures told { self.new.told ≡ self.old.told }
+        ensures matched { OnOk result (IsMatched streams.now self.new) }
     {
         match self.world.place_of(pid, event.from, event.serial.this) {
             None => Err(Halt::Stopped),
-            Some(place) => self.perform(Act::Receive(pid, Want::Place(place))),
+            Some(place) => self.perform(streams, Act::Receive(pid, Want::Place(place))),
         }
     }
 
     /// The send of the receive at this place: it isn't told, but its receive may be.
     fn send_hidden<M: Tells>(
         &mut self,
-        alloc: Global,
         streams: &Streams,
+        plan: &mut Vec<Act>,
         marks: &M,
         pid: Pid,
         index: u64,
     ) -> Result<(), Halt>
+        requires { IsMatched streams.now self.old }
         ensures exact { (e : EventValue) → event_at streams.now pid index ≡ Some e →
             Meets SaysNothing (move_turn streams.now (M.marks marks.now) self.old
             (move_by (item.Hidden pid index) e)) self.old result self.new }
@@ -293,6 +375,7 @@ impl<const TOP: u64> Construction<TOP> {
             OnOk result (self.new.skipped ≡
             move_skip self.old.world (move_by (item.Hidden pid index) e) + self.old.skipped) }
         ensures told { self.new.told ≡ self.old.told }
+        ensures matched { OnOk result (IsMatched streams.now self.new) }
     {
         let Some(event) = streams.event(pid, index) else {
             return Err(Halt::Stopped);
@@ -306,34 +389,43 @@ impl<const TOP: u64> Construction<TOP> {
             print: false,
         };
         let act = Act::Send(event.from, to, event.value);
-        self.stamp(alloc, event.from, &event, flags, act)?;
+        self.stamp(streams, plan, event.from, &event, flags, act)?;
         Ok(())
     }
 
     /// The act of this event.
     fn act<M: Tells>(
         &mut self,
-        alloc: Global,
+        streams: &Streams,
+        plan: &mut Vec<Act>,
         pairing: &Pairing,
         marks: &M,
         pid: Pid,
         index: u64,
         event: &Event,
     ) -> Result<Outcome, Halt>
+        requires { IsMatched streams.now self.old }
         ensures exact { (streams : List Stream) → IsPairing streams pairing.now →
             Meets TellsLast (move_turn streams (M.marks marks.now) self.old
             (move_by (item.Reported pid index) event.now)) self.old result self.new }
         ensures skipped { OnOk result (self.new.skipped ≡ move_skip self.old.world
             (move_by (item.Reported pid index) event.now) + self.old.skipped) }
         ensures told { self.new.told ≡ self.old.told }
+        ensures matched { OnOk result (IsMatched streams.now self.new) }
     {
         let flags = flags_of(marks, pairing, pid, index, event);
         match event.kind {
-            Kind::Receive => self.receive(pid, event),
-            Kind::Print => self.stamp(alloc, pid, event, flags, Act::Print(pid, event.value)),
+            Kind::Receive => self.receive(streams, pid, event),
+            Kind::Print => {
+                let act = Act::Print(pid, event.value);
+                self.stamp(streams, plan, pid, event, flags, act)
+            }
             Kind::Send => match event.to {
                 None => Err(Halt::Stopped),
-                Some(to) => self.stamp(alloc, pid, event, flags, Act::Send(pid, to, event.value)),
+                Some(to) => {
+                    let act = Act::Send(pid, to, event.value);
+                    self.stamp(streams, plan, pid, event, flags, act)
+                }
             },
         }
     }
@@ -360,14 +452,15 @@ impl<const TOP: u64> Construction<TOP> {
     /// exactly if it is told. If it isn't, the clock says that its serial is the one stamped.
     fn report<M: Tells>(
         &mut self,
-        alloc: Global,
         streams: &Streams,
+        plan: &mut Vec<Act>,
         pairing: &Pairing,
         marks: &M,
         pid: Pid,
         index: u64,
     ) -> Result<(), Halt>
-        requires { length self.old.told.items ≡ length streams.now }
+        requires told { length self.old.told.items ≡ length streams.now }
+        requires matched { IsMatched streams.now self.old }
         ensures exact { (e : EventValue) (n : ℕ) → event_at streams.now pid index ≡ Some e →
             IsPairing streams.now pairing.now →
             IsCountedAs streams.now self.old.told.items pid n →
@@ -379,6 +472,7 @@ impl<const TOP: u64> Construction<TOP> {
         ensures tells { OnOk result
             (TellsOne streams.now pid index self.old.told.items self.new.told.items) }
         ensures told { length self.new.told.items ≡ length self.old.told.items }
+        ensures matched { OnOk result (IsMatched streams.now self.new) }
     {
         let Some(place) = streams.place_of(pid) else {
             return Err(Halt::Stopped);
@@ -393,7 +487,7 @@ impl<const TOP: u64> Construction<TOP> {
         if self.is_high(pid, &event, is_told) {
             return Err(Halt::Stopped);
         }
-        let told = self.act(alloc, pairing, marks, pid, index, &event)?;
+        let told = self.act(streams, plan, pairing, marks, pid, index, &event)?;
         if !is_report(told.report, &event, is_told) {
             return Err(Halt::Stopped);
         }
@@ -404,8 +498,8 @@ impl<const TOP: u64> Construction<TOP> {
     /// The acts of the item at this number.
     pub(crate) fn append<M: Tells>(
         &mut self,
-        alloc: Global,
         streams: &Streams,
+        plan: &mut Vec<Act>,
         pairing: &Pairing,
         marks: &M,
         items: &[Item],
@@ -418,6 +512,7 @@ impl<const TOP: u64> Construction<TOP> {
         requires paired { IsPairing streams.now pairing.now }
         requires so_far { IsSoFar streams.now
             (earlier_of streams.now (take number items.now)) self.old }
+        requires matched { IsMatched streams.now self.old }
         ensures exact { (x : ItemValue) (e : EventValue) → slice_get items.now number ≡ Some x →
             event_of streams.now x ≡ Some e →
             Meets SaysNothing (item_turn streams.now (M.marks marks.now) self.old
@@ -425,10 +520,11 @@ impl<const TOP: u64> Construction<TOP> {
             self.old result self.new }
         ensures so_far { OnOk result (IsSoFar streams.now
             (earlier_of streams.now (take (number + 1) items.now)) self.new) }
+        ensures matched { OnOk result (IsMatched streams.now self.new) }
     {
         match items[number] {
-            Item::Reported(pid, index) => self.report(alloc, streams, pairing, marks, pid, index),
-            Item::Hidden(pid, index) => self.send_hidden(alloc, streams, marks, pid, index),
+            Item::Reported(pid, index) => self.report(streams, plan, pairing, marks, pid, index),
+            Item::Hidden(pid, index) => self.send_hidden(streams, plan, marks, pid, index),
         }
     }
 }

@@ -30,7 +30,7 @@ pub enum Reason {
 /// What the auditor found.
 #[derive(Debug, Drop)]
 pub enum Finding {
-    /// A certificate that the checker accepted: its acts, and for each reported receive the numbers
+    /// A certificate that the checker accepts: its acts, and for each reported receive the numbers
     /// of its act and of its send's.
     Fits(Sequence<Act>, Sequence<(u64, u64)>),
     /// No certificate: the process and the index of the event where the search ended, and why.

@@ -1,6 +1,6 @@
 //! The acts of completions: how many there are.
 
-use crate::shared::same;
+use crate::helpers::same;
 use st_complete::{
     Answer, CertificateFault, Completion, certificate, certificate_by_construction, complete,
 };

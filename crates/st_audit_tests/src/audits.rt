@@ -6,7 +6,7 @@ mod completions;
 mod reasons;
 mod stops;
 
-use crate::shared::{same, streams, streams_at_last};
+use crate::helpers::{same, streams, streams_at_last};
 use st_audit::{AuditFault, Finding, audit};
 use st_core::{Act, Flags, Label, MemorySource, Pid, Sequence, Serial, Token};
 use st_samples::HIDDEN_SENDS_CERTIFICATE;

@@ -1,7 +1,7 @@
 //! Worked streams, each with the causes and chains that the rules give by hand, and what is left if
 //! memory runs out.
 
-use crate::shared::{same, streams_at_last};
+use crate::helpers::{same, streams_at_last};
 use st_chain::{Cause, Chain, Chains};
 use st_core::{Draft, Event, Kind, Label, Pid, Serial, Streams};
 use st_pair::pair;

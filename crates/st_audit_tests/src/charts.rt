@@ -1,16 +1,15 @@
 //! Worked reports and charts, byte for byte, what a sink that fails has by then, and what is left
 //! if memory runs out.
 
-mod refused;
+mod refusals;
 mod reports;
-mod worked;
+mod worked_charts;
 
-use st_chain::Chains;
+use st_chain::Causes;
 use st_chart::{ChartFault, chart};
 use st_core::{Label, MemorySink, Streams};
 use st_order::Item;
 use st_pair::pair;
-use st_samples::{p30, p31};
 use std::alloc::Global;
 
 /// Two processes that report no send, and one that reports nothing.
@@ -22,18 +21,6 @@ const THREE_PROCESSES: &str = "seqtrace 1\n\
     {seq_trace,17,{'receive',{0,2},<0.30.0>,<0.31.0>,5}}\n\
     {seq_trace,17,{print,{2,3},<0.31.0>,[],8}}\n\
     process <0.32.0>\n";
-
-/// Their items, in their order.
-fn hidden_items() -> [Item; 6] {
-    [
-        Item::Reported(p30(), 0),
-        Item::Hidden(p31(), 0),
-        Item::Reported(p31(), 0),
-        Item::Reported(p31(), 1),
-        Item::Hidden(p30(), 1),
-        Item::Reported(p30(), 1),
-    ]
-}
 
 const HIDDEN_CHART: &[u8] = b"label 17
 lane 1 <0.30.0>
@@ -57,8 +44,8 @@ fn chart_of(
     let Ok(pairing) = pair(alloc, streams) else {
         return Err(ChartFault::Memory);
     };
-    let Ok(chains) = Chains::new(alloc, streams, &pairing) else {
+    let Ok(causes) = Causes::new(alloc, streams, &pairing) else {
         return Err(ChartFault::Memory);
     };
-    chart(alloc, sink, streams, &chains, items, Label(label))
+    chart(alloc, sink, streams, &causes, items, Label(label))
 }

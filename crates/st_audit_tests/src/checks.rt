@@ -1,7 +1,7 @@
 //! Worked certificates and replays, each with the result that the rules of the machine give by
 //! hand, and what is left if memory runs out.
 
-use crate::shared::{same, streams, streams_at_last};
+use crate::helpers::{same, streams, streams_at_last};
 use st_check::{CheckFault, ReplayFault, Replayed, Reports, Verdict, check, replay, reports};
 use st_core::{Act, Component, Label, Pid, Reply, Sequence, Streams, Want};
 use st_samples::{p30, p31, p32};

@@ -1,6 +1,6 @@
 //! Traces that lack something: their completions by hand, reasons, and acts.
 
-use crate::shared::{CROSSING, same, streams, streams_at_last};
+use crate::helpers::{CROSSING, same, streams, streams_at_last};
 use st_complete::{
     Answer, CertificateFault, CompleteFault, Completion, Never, certificate, complete,
 };

@@ -1,6 +1,6 @@
 //! Completions of 100,000 events. No clause says that there is memory for them.
 
-use crate::shared::same;
+use crate::helpers::same;
 use st_complete::{Answer, certificate, complete, renumbered};
 use st_core::{Draft, Event, Kind, Label, Serial, Streams};
 use st_samples::{p30, p31};

@@ -13,7 +13,7 @@
 //! | `acts` | `st_complete`: how many acts completions take |
 //! | `completions` | `st_complete`: completions of 100,000 events |
 //! | `charts` | `st_chart`: charts and reports |
-//! | `shared` | none: what several of these take |
+//! | `helpers` | none: what several of these take |
 #![tactic(auto)]
 
 #[cfg(test)]
@@ -31,6 +31,8 @@ mod completes;
 #[cfg(test)]
 mod completions;
 #[cfg(test)]
+mod helpers;
+#[cfg(test)]
 mod needs;
 #[cfg(test)]
 mod orders;
@@ -38,5 +40,3 @@ mod orders;
 mod pairs;
 #[cfg(test)]
 mod plans;
-#[cfg(test)]
-mod shared;

@@ -1,7 +1,7 @@
 //! Completions by the definition, as they were made by hand, with processes that aren't listed;
 //! stamps with prev 0 that two events tell; and what a call does after memory ran out.
 
-use crate::shared::same;
+use crate::helpers::same;
 use st_complete::{Answer, CompleteFault, Completion, Never, complete, renumbered};
 use st_core::{Draft, Event, Kind, Label, Pid, Serial, Streams};
 use st_needs::{Flaw, complete_by_definition, find_flaw, find_unfounded};

@@ -1,7 +1,7 @@
 //! Worked orders, each with the result that the rules give by hand, a large one against a plain
 //! sort, and what is left if memory runs out.
 
-use crate::shared::{same, streams, streams_at_last};
+use crate::helpers::{certificate_items, same, streams, streams_at_last};
 use st_core::{Draft, Event, Kind, Label, Pid, Sequence, Serial, Streams};
 use st_order::{Item, by_label, order};
 use st_pair::pair;
@@ -18,18 +18,6 @@ const FALLING_LABELS: &str = "seqtrace 1\n\
     {seq_trace,17,{print,{0,2},<0.30.0>,[],0}}\n\
     process <0.31.0>\n";
 
-/// The order of the certificate's items, by heights 1, 2, 2, 3, 4 and 4.
-fn certificate_order() -> [Item; 6] {
-    [
-        Item::Reported(p30(), 0),
-        Item::Hidden(p31(), 0),
-        Item::Reported(p31(), 0),
-        Item::Reported(p31(), 1),
-        Item::Hidden(p30(), 1),
-        Item::Reported(p30(), 1),
-    ]
-}
-
 /// That the order of the certificate's streams, and their items by label, are the worked ones.
 fn assert_certificate(
     rt: &(impl Threads + Sync + Abort),
@@ -38,7 +26,7 @@ fn assert_certificate(
 ) -> Result<(), AllocError> {
     let pairing = pair(alloc, streams).map_err(|_| AllocError)?;
     let items = order(rt, alloc, streams, &pairing)?;
-    let expected = certificate_order();
+    let expected = certificate_items();
     same(rt, &items.as_slice(), &expected.as_slice());
     let groups = by_label(rt, alloc, streams, items.as_slice())?;
     same(rt, &groups.len(), &1);

@@ -3,7 +3,7 @@
 
 mod random;
 
-use crate::shared::{same, streams_at_last};
+use crate::helpers::{same, streams_at_last};
 use st_core::Pid;
 use st_pair::{PairFault, Pairing, Source, pair};
 use st_samples::{HIDDEN_SENDS_CERTIFICATE, ONE_MESSAGE, p30, p31, p32};

@@ -1,6 +1,6 @@
 //! Worked plans, each counted by hand; that each call succeeds with ample memory.
 
-use crate::shared::same;
+use crate::helpers::same;
 use st_core::{Act, Flags, Label, Serial, Token};
 use st_plan::{QUIET, Start, ready};
 use st_samples::{p30, p31};

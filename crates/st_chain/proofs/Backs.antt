@@ -1,7 +1,7 @@
 -- What is found for one event more, and one process more.
 use Rattle.std.proofs.Common.{◌≡◌, ℕ, ◌+◌, ◌<◌, zero, suc, List, [], ◌∷◌, ◌++◌, length, map, take, drop, get_or}
-use Rattle.std.proofs.Common.{Option, Some, slice_get, option_and_then, refl, sym, ◌∙◌, ap, subst, arith}
-use Rattle.std.proofs.Common.{append_assoc, Bool, false, cond}
+use Rattle.std.proofs.Common.{Option, None, Some, slice_get, option_and_then, refl, sym, ◌∙◌, ap, subst, arith}
+use Rattle.std.proofs.Common.{append_assoc, Bool, true, false, cond}
 use Rattle.std.specs.List.{AllByRecursion}
 use Rattle.std.proofs.lemmas.Option.{same_Some}
 use Rattle.st_core.specs.declared.types.Pid.{Pid}
@@ -10,24 +10,25 @@ use Rattle.st_core.specs.Pid.{pid_eq, IsRising}
 use Rattle.st_core.specs.Run.{Stream, pids_of}
 use Rattle.st_core.specs.Streams.{events_of, stream_of}
 use Rattle.st_pair.proofs.ForCallers.{is_at, at_get_or, events_in, take_map}
-use Rattle.st_chain.specs.Causes.{received_before, backs_from}
+use Rattle.st_pair.specs.Places.{is_stamp}
+use Rattle.st_chain.specs.Causes.{received_before, back_of, backs_from}
 
 backs_at : (all : List Event) (i k : ℕ) (es : List Event) (e : Event) → slice_get es k ≡ Some e
-    → backs_from all i (drop k es) ≡ received_before all e.serial.prev i ∷ backs_from all (i + 1) (drop (suc k) es)
+    → backs_from all i (drop k es) ≡ back_of all i e ∷ backs_from all (i + 1) (drop (suc k) es)
 backs_at all i k [] e at = absurd (cc)
 backs_at all i zero (f ∷ es) e at =
-    ap (λ (x : Event). received_before all x.serial.prev i ∷ backs_from all (i + 1) es) (same_Some f e at)
+    ap (λ (x : Event). back_of all i x ∷ backs_from all (i + 1) es) (same_Some f e at)
 backs_at all i (suc k) (f ∷ es) e at = backs_at all i k es e at
 
 pub backs_passed : (es : List Event) (i : ℕ) (e : Event) (before total : List (Option ℕ)) (x : Option ℕ)
-    → slice_get es i ≡ Some e → x ≡ received_before es e.serial.prev i
+    → slice_get es i ≡ Some e → x ≡ back_of es i e
     → before ++ backs_from es i (drop i es) ≡ total
     → (before ++ x ∷ []) ++ backs_from es (i + 1) (drop (i + 1) es) ≡ total
 backs_passed es i e before total x at is far =
     let next : i + 1 ≡ suc i = omega arith in
     append_assoc before (x ∷ []) (backs_from es (i + 1) (drop (i + 1) es))
     ∙ ap (λ (y : Option ℕ). before ++ y ∷ backs_from es (i + 1) (drop (i + 1) es)) is
-    ∙ ap (λ (n : ℕ). before ++ received_before es e.serial.prev i ∷ backs_from es (i + 1) (drop n es)) next
+    ∙ ap (λ (n : ℕ). before ++ back_of es i e ∷ backs_from es (i + 1) (drop n es)) next
     ∙ ap (λ (l : List (Option ℕ)). before ++ l) (sym (backs_at es i i es e at)) ∙ far
 
 abbrev pub all_backs : List Stream → List (List (Option ℕ))
@@ -60,19 +61,19 @@ get_or_map f (y ∷ xs) zero x d at = ap f (same_Some y x at)
 get_or_map f (y ∷ xs) (suc k) x d at = get_or_map f xs k x d at
 
 read_from : (all : List Event) (j i : ℕ) (es : List Event) (e : Event) → slice_get es i ≡ Some e
-    → slice_get (backs_from all j es) i ≡ Some (received_before all e.serial.prev (j + i))
+    → slice_get (backs_from all j es) i ≡ Some (back_of all (j + i) e)
 read_from all j i [] e at = absurd (cc)
 read_from all j zero (f ∷ es) e at = let n : j ≡ j + 0 = omega arith in
-    ap (λ (x : Event). Some (received_before all x.serial.prev j)) (same_Some f e at)
-    ∙ ap (λ (m : ℕ). Some (received_before all e.serial.prev m)) n
+    ap (λ (x : Event). Some (back_of all j x)) (same_Some f e at)
+    ∙ ap (λ (m : ℕ). Some (back_of all m e)) n
 read_from all j (suc i) (f ∷ es) e at = let n : j + 1 + i ≡ j + suc i = omega arith in
-    read_from all (j + 1) i es e at ∙ ap (λ (m : ℕ). Some (received_before all e.serial.prev m)) n
+    read_from all (j + 1) i es e at ∙ ap (λ (m : ℕ). Some (back_of all m e)) n
 
 pub back_read : (streams : List Stream) (p : Pid) (k i : ℕ) (backs : List (List (Option ℕ))) (read : List (Option ℕ))
     (e : Event) → IsRising (pids_of streams) → backs ≡ all_backs streams → slice_get (pids_of streams) k ≡ Some p
-    → read ≡ get_or backs k read → slice_get (events_of streams p) i ≡ Some e
+    → read ≡ get_or backs k read → slice_get (events_of streams p) i ≡ Some e → is_stamp e ≡ true
     → option_and_then (λ (x : Option ℕ). x) (slice_get read i) ≡ received_before (events_of streams p) e.serial.prev i
-back_read streams p k i backs read e rising kept at is there =
+back_read streams p k i backs read e rising kept at is there stamps =
     let s = is_at streams k p rising at in
     let events : s.stream.events ≡ events_of streams p = sym (ap events_in s.found) in
     let whole : read ≡ backs_from (events_of streams p) 0 (events_of streams p) = is
@@ -83,7 +84,8 @@ back_read streams p k i backs read e rising kept at is there =
     ap (λ (l : List (Option ℕ)). option_and_then (λ (x : Option ℕ). x) (slice_get l i)) whole
     ∙ ap (λ (o : Option (Option ℕ)). option_and_then (λ (x : Option ℕ). x) o)
     (read_from (events_of streams p) 0 i (events_of streams p) e there)
-    ∙ ap (received_before (events_of streams p) e.serial.prev) n
+    ∙ ap (λ (m : ℕ). back_of (events_of streams p) m e) n
+    ∙ ap (λ (b : Bool). cond b (received_before (events_of streams p) e.serial.prev i) None) stamps
 
 pub missing_events : (streams : List Stream) (p : Pid)
     → AllByRecursion (λ (q : Pid). pid_eq q p ≡ false) (pids_of streams) → events_of streams p ≡ []

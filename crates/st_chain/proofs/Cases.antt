@@ -1,6 +1,5 @@
 -- Worked cases: the definitions computed. Nothing cites this file; it shows that the definitions say what is meant.
 use Rattle.std.specs.Prelude.{◌≡◌, List, [], ◌∷◌, Some, None, refl}
-use Rattle.st_core.specs.declared.types.Event.{Event}
 use Rattle.st_core.specs.Run.{Stream}
 use Rattle.st_chain.specs.declared.cause.Cause.TheVariants as cause
 use Rattle.st_chain.specs.Causes.{cause_at, place_at, IsBackFrom}

@@ -1,5 +1,6 @@
 -- The lemmas.
 pub mod Backs
+pub mod PassedReceives
 pub mod Weights
 pub mod Numbers
 pub mod Parts

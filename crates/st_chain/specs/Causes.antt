@@ -64,7 +64,11 @@ abbrev pub far : List Stream → Option (Pid × ℕ) → ℕ
 far streams None = 0
 far streams (Some x) = 1 + (elim (event_at streams x.0 x.1) [ None ↦ 0 | Some e ↦ weight e ])
 
--- of each event from index i on, the last receive before it that its prev is of
+-- what a send or print at index i follows in its own process; none of a receive
+abbrev pub back_of : List Event → ℕ → Event → Option ℕ
+back_of all i e = if is_stamp e then received_before all e.serial.prev i else None
+
+-- the same of each event from index i on
 abbrev pub backs_from : List Event → ℕ → List Event → List (Option ℕ)
 backs_from all i [] = []
-backs_from all i (e ∷ es) = received_before all e.serial.prev i ∷ backs_from all (i + 1) es
+backs_from all i (e ∷ es) = back_of all i e ∷ backs_from all (i + 1) es

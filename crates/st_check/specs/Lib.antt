@@ -1,6 +1,6 @@
--- What public contracts cite: the results, and the laws.
+-- What public contracts cite: the results, what is kept while acts pass, and the laws.
 pub mod Answers
-pub mod Laws
--- For the parts alone: what the checker and the replay keep on the way.
 pub mod Progress
+pub mod Laws
+-- For the parts alone: what the replay keeps on the way.
 pub mod Recorded

@@ -1,5 +1,4 @@
--- What the checker keeps while acts pass. For the contracts of its parts alone: what it returns is
--- in `Answers`.
+-- What is kept while acts pass, by the checker or by whoever compares acts that it steps itself.
 use Rattle.std.specs.Prelude.{◌≡◌, ℕ, ◌+◌, ◌<◌, ◌≤◌, IsSome, slice_get, List, [], ◌∷◌, length, map}
 use Rattle.std.specs.Prelude.{slice_set, slice_index, slice_index_or, remove, Option, Some, None}
 use Rattle.st_core.specs.declared.types.Pid.{Pid}
@@ -13,6 +12,7 @@ use Rattle.st_core.specs.Streams.{events_of}
 use Rattle.st_core.specs.Verdict.{IsPassing, Passes}
 use Rattle.st_world.specs.declared.outcome.StepFault.{StepFault}
 use Rattle.st_world.specs.declared.outcome.StepFault.TheVariants as fault
+use Rattle.st_check.specs.declared.comparison.Comparison.{Comparison}
 use Rattle.st_check.specs.declared.progress.Stop.{Stop}
 use Rattle.st_check.specs.declared.progress.Stop.TheVariants as stop
 
@@ -63,6 +63,23 @@ pub record IsPassed (top : ℕ) (streams : List Stream) (acts : List Act) (s : S
   pub are_tags : tags ≡ map (tags_of acts outcomes) (pids_of streams)
   pub are_pairs : ps ≡ pairs acts outcomes
 
+-- acts that pass, by what a comparison keeps of them
+abbrev pub IsPassedBy : ℕ → List Stream → List Act → State → Comparison → Type 0
+IsPassedBy top streams acts s c = IsPassed top streams acts s c.counts.items c.tags.lists c.pairs
+
+-- they lead somewhere
+abbrev pub HasPassed : ℕ → List Stream → List Act → Comparison → Type 0
+HasPassed top streams acts c = (s : State) × IsPassedBy top streams acts s c
+
+-- a comparison keeps a count and tags for each process
+pub record IsEven (streams : List Stream) (c : Comparison) : Type 0 where
+  pub counts : length c.counts.items ≡ length (pids_of streams)
+  pub tags : length c.tags.lists ≡ length (pids_of streams)
+
+-- the acts have a run, in which a process reports another event than its next
+abbrev pub Differ : ℕ → List Stream → List Act → Type 0
+Differ top streams acts = IsSome (run top (pids_of streams) acts) × ¬ Passes top streams acts
+
 -- an act stops because memory ran out, or has no step
 abbrev pub stop_of : StepFault → Stop
 stop_of fault.Memory = stop.Memory
@@ -73,8 +90,7 @@ stop_of fault.ClockFull = stop.Stuck
 abbrev pub IsStop : ℕ → List Stream → List Act → Stop → Type 0
 IsStop top streams acts stop.Memory = Unit {0}
 IsStop top streams acts stop.Stuck = run top (pids_of streams) acts ≡ None
-IsStop top streams acts stop.Differs =
-    IsSome (run top (pids_of streams) acts) × ¬ Passes top streams acts
+IsStop top streams acts stop.Differs = Differ top streams acts
 
 -- each of the first n processes reported all its events
 abbrev pub NoneLeftBefore : List Stream → List ℕ → ℕ → Type 0

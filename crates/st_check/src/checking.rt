@@ -38,8 +38,5 @@ pub fn check<const TOP: u64>(
             Err(Stop::Differs) => return Ok(Verdict::Differs(number as u64)),
         }
     }
-    match progress.first_left(streams) {
-        Some(pid) => Ok(Verdict::Left(pid)),
-        None => Ok(Verdict::Yes(progress.into_pairs())),
-    }
+    Ok(progress.into_verdict(streams))
 }

@@ -1,17 +1,14 @@
-//! Acts that pass one by one: the world, how far each stream was matched, the tags of each queue
-//! and the pairs.
+//! Acts that pass one by one: the world that they lead to, and how they compare with the streams.
 
-ghost use Rattle.std.specs.Prelude.{◌≡◌, ◌<◌, ◌+◌, ◌++◌, ◌↔◌, [], length, take, slice_get};
-ghost use Rattle.std.specs.Prelude.{slice_index, Some, IsTrue, IfOk, IfErr, IfSome, IfNone, OnOk};
-ghost use Rattle.std.specs.Option.{ForSome};
-ghost use Rattle.st_check.specs.Progress.{counts_with, pair_to, stop_of, IsPassed, IsStop, IsLeft};
-ghost use Rattle.st_check.specs.Progress.{NoneLeftBefore};
-ghost use Rattle.st_core.specs.Run.{pids_of};
-ghost use Rattle.st_core.specs.Streams.{IsStreams};
+ghost use Rattle.std.specs.Prelude.{◌≡◌, ◌<◌, ◌+◌, [], length, take, IfOk, IfErr, List, OnOk};
+ghost use Rattle.st_check.specs.Answers.{verdict_of};
+ghost use Rattle.st_check.specs.Progress.{stop_of, IsEven, IsPassedBy, IsStop};
+ghost use Rattle.st_core.specs.declared.types.Act.{Act as ActValue};
+ghost use Rattle.st_core.specs.Verdict.{IsVerdict};
 
-use crate::tags::retag;
-use st_arena::Lists;
-use st_core::{Act, Event, Pid, Sequence, Streams};
+use crate::comparison::Comparison;
+use crate::verdict::Verdict;
+use st_core::{Act, Streams};
 use st_world::{StepFault, World};
 use std::alloc::{AllocError, Global};
 
@@ -20,12 +17,8 @@ use std::alloc::{AllocError, Global};
 pub(crate) struct Progress<const TOP: u64> {
     /// The state that the acts lead to.
     world: World<TOP>,
-    /// How many events each process reported, in the order of the streams.
-    counts: Vec<u64>,
-    /// The numbers of the sends whose messages lie in each process's queue.
-    tags: Lists<u64>,
-    /// Each reported receive and the send whose message it took.
-    pairs: Sequence<(u64, u64)>,
+    /// How the acts compare with the streams.
+    comparison: Comparison,
 }
 
 /// Why the next act doesn't pass.
@@ -51,24 +44,17 @@ fn stop_of(fault: StepFault) -> Stop
 impl<const TOP: u64> Progress<TOP> {
     /// No acts yet.
     pub(crate) fn new(alloc: Global, streams: &Streams) -> Result<Progress<TOP>, AllocError>
-        ensures { IfOk result
-            (λ p. IsPassed TOP streams.now [] p.world p.counts.items p.tags.lists p.pairs) }
+        ensures { IfOk result (λ p. IsPassedBy TOP streams.now [] p.world p.comparison) }
     {
-        let pids = streams.pids();
-        let Ok(world) = World::new(alloc, pids) else {
+        let Ok(world) = World::new(alloc, streams.pids()) else {
             return Err(AllocError);
         };
-        let counts = vec![in alloc; 0u64; pids.len()]?;
-        let tags = Lists::new(alloc, pids.len())?;
-        Ok(Progress {
-            world,
-            counts,
-            tags,
-            pairs: Sequence::new(alloc),
-        })
+        let comparison = Comparison::new(alloc, streams)?;
+        Ok(Progress { world, comparison })
     }
 
     /// Takes the act of this number if it passes.
+    #[inline]
     pub(crate) fn advance(
         &mut self,
         streams: &Streams,
@@ -76,120 +62,40 @@ impl<const TOP: u64> Progress<TOP> {
         number: usize,
     ) -> Result<(), Stop>
         requires within { number < length acts.now }
-        requires passed { IsPassed TOP streams.now (take number acts.now)
-            self.old.world self.old.counts.items self.old.tags.lists self.old.pairs }
-        ensures passed { OnOk result (IsPassed TOP streams.now (take (number + 1) acts.now)
-            self.new.world self.new.counts.items self.new.tags.lists self.new.pairs) }
+        requires passed { IsPassedBy TOP streams.now (take number acts.now)
+            self.old.world self.old.comparison }
+        ensures passed { OnOk result (IsPassedBy TOP streams.now (take (number + 1) acts.now)
+            self.new.world self.new.comparison) }
         ensures stop { IfErr result (IsStop TOP streams.now (take (number + 1) acts.now)) }
     {
         let act = &acts[number];
-        let me = act.actor();
-        let Some(place) = streams.place_of(me) else {
-            return Err(Stop::Stuck);
-        };
-        let told = match self.world.step(act) {
-            Ok(told) => told,
+        let outcome = match self.world.step(act) {
+            Ok(outcome) => outcome,
             Err(fault) => return Err(stop_of(fault)),
         };
-        if !self.count(place, streams.events(me), told.report) {
+        let compared = self
+            .comparison
+            .advance(streams, number as u64, act, &outcome);
+        let Ok(passes) = compared else {
+            return Err(Stop::Memory);
+        };
+        if !passes {
             return Err(Stop::Differs);
         }
-        let Ok(sent) = retag(
-            &mut self.tags,
-            streams,
-            place,
-            act,
-            number as u64,
-            told.place,
-        ) else {
-            return Err(Stop::Memory);
-        };
-        let Ok(()) = pair(&mut self.pairs, number as u64, told.report.and(sent)) else {
-            return Err(Stop::Memory);
-        };
         Ok(())
     }
 
-    /// Counts the event that the process at this place reported, if it did. False if it isn't the
-    /// next of its events.
-    fn count(&mut self, place: usize, events: &[Event], report: Option<Event>) -> bool
-        requires { place < length self.old.counts.items }
-        ensures next { IsTrue result ↔
-            ForSome report (λ e. slice_get events.now (slice_index self.old.counts.items place)
-            ≡ Some e) }
-        ensures counts { IsTrue result
-            → self.new.counts.items ≡ counts_with self.old.counts.items place report }
-        ensures world { self.new.world ≡ self.old.world }
-        ensures tags { self.new.tags ≡ self.old.tags }
-        ensures pairs { self.new.pairs ≡ self.old.pairs }
-    {
-        let Some(event) = report else {
-            return true;
-        };
-        let index = self.counts[place];
-        if !is_at(events, index, &event) {
-            return false;
-        }
-        self.counts[place] = index + 1;
-        true
-    }
-
-    /// The first process with events left.
-    pub(crate) fn first_left(&self, streams: &Streams) -> Option<Pid>
-        requires { length self.now.counts.items ≡ length (pids_of streams.now) }
-        ensures found { IfSome result (IsLeft streams.now self.now.counts.items) }
-        ensures none { IfNone result
-            (NoneLeftBefore streams.now self.now.counts.items (length (pids_of streams.now))) }
-        ensures streams { IsStreams streams.now }
-    {
-        let pids = streams.pids();
-        for place in 0..pids.len() {
-            let pid = pids[place];
-            if self.counts[place] < streams.len(pid) {
-                return Some(pid);
-            }
-        }
-        None
-    }
-
-    /// The pairs of the acts so far.
-    pub(crate) fn into_pairs(self) -> Sequence<(u64, u64)>
-        ensures { result ≡ self.entry.pairs }
+    /// The verdict of the acts so far.
+    pub(crate) fn into_verdict(self, streams: &Streams) -> Verdict
+        requires { IsEven streams.now self.comparison }
+        ensures { (acts : List ActValue) →
+            IsPassedBy TOP streams.now acts self.entry.world self.entry.comparison →
+            IsVerdict TOP streams.now acts (verdict_of result) }
     {
         let Progress {
             world: _,
-            counts: _,
-            tags: _,
-            pairs,
+            comparison,
         } = self;
-        pairs
+        comparison.into_verdict(streams)
     }
-}
-
-/// Whether this is the event at an index.
-fn is_at(events: &[Event], index: u64, event: &Event) -> bool
-    ensures { IsTrue result ↔ (slice_get events.now index ≡ Some event.now) }
-{
-    match events.get(index as usize) {
-        None => false,
-        Some(found) => is_same(found, event),
-    }
-}
-
-/// Whether two events are the same.
-fn is_same(one: &Event, other: &Event) -> bool
-    ensures { IsTrue result ↔ (one.now ≡ other.now) }
-{
-    *one == *other
-}
-
-/// Puts the pair of this receive at the end, if it has one.
-fn pair(pairs: &mut Sequence<(u64, u64)>, receive: u64, send: Option<u64>) -> Result<(), AllocError>
-    ensures { OnOk result (pairs.new ≡ pairs.old ++ pair_to receive send) }
-{
-    let Some(send) = send else {
-        return Ok(());
-    };
-    pairs.push((receive, send))?;
-    Ok(())
 }

@@ -7,6 +7,7 @@ pub mod Linkage
 pub mod AcceptedEvents
 pub mod Converse
 pub mod Received
+pub mod Marks
 pub mod StampRows
 pub mod Matches
 pub mod Leasts

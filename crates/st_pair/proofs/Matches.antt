@@ -1,5 +1,5 @@
 -- A receive's link says which send or print has its count, so that only this one can differ from it.
-use Rattle.std.proofs.Common.{◌≡◌, ℕ, ◌||◌, Bool, false, cond, if◌then◌else◌, List, None, Some}
+use Rattle.std.proofs.Common.{◌≡◌, ℕ, ◌||◌, Bool, false, cond, if◌then◌else◌, List, Option, None, Some}
 use Rattle.std.proofs.Common.{option_and_then, slice_get, refl, sym, ◌∙◌, ap, subst}
 use Rattle.std.proofs.lemmas.Option.{same_Some, none-some}
 use Rattle.st_core.specs.declared.types.Pid.{Pid}
@@ -69,3 +69,8 @@ module _ (streams : List Stream) (p : Pid) (e : Event) (q : Pid) (j : ℕ) where
         ∙ ap (λ (f : Event). cond (agrees f e) None (Some (fault.Mismatch p i e.from j))) found
         ∙ ap (λ (c : Bool). cond c None (Some (fault.Mismatch p i e.from j))) (sym same)
         ∙ ap (λ (x : Pid). cond b None (Some (fault.Mismatch p i x j))) is.from
+
+-- a send's link is the first receive that has its process and count
+pub linked_send : (streams : List Stream) (p : Pid) (e : Event) (o : Option (Pid × ℕ)) → e.kind ≡ kind.Send
+    → o ≡ receive_of streams p e.serial.this → sent_link o ≡ link_of streams p e
+linked_send streams p e o is found = rw is (ap sent_link found)

@@ -28,7 +28,7 @@ Table = Key → Option (Pid × ℕ)
 abbrev pub key_in : Event → Key
 key_in e = record { from = e.from; this = e.serial.this }
 
-key_eq-true : (k l : Key) → key_eq k l ≡ true → k ≡ l
+pub key_eq-true : (k l : Key) → key_eq k l ≡ true → k ≡ l
 key_eq-true k l h =
     let parts = and_parts (pid_eq k.from l.from) (k.this == l.this) h in
     let from = pid_eq-true k.from l.from parts.0 in
@@ -63,10 +63,10 @@ here_rule : (k : Key) (p : Pid) (i : ℕ) (e : Event) → is_stamp e ≡ false
     → receive_rule k p i e ≡ here (key_in e) (p, i) k
 here_rule k p i e receives = ap (λ (b : Bool). cond b None (here (key_in e) (p, i) k)) receives
 
-key_eq-same : (k : Key) → key_eq k k ≡ true
+pub key_eq-same : (k : Key) → key_eq k k ≡ true
 key_eq-same k = and_from (pid_eq k.from k.from) (k.this == k.this) (pid_eq-same k.from) (eq-eqb k.this k.this refl)
 
-here_same : (k : Key) (place : Pid × ℕ) → here k place k ≡ Some place
+pub here_same : (k : Key) (place : Pid × ℕ) → here k place k ≡ Some place
 here_same k place = ap (λ (b : Bool). cond b (Some place) None) (key_eq-same k)
 
 module _ (before now : Table) (p : Pid) (i : ℕ) (es : List Event) (e : Event)

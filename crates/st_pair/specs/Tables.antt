@@ -1,31 +1,68 @@
 -- What streams are paired by: the first receive from each sender with each count, and the sends and prints of each
 -- process.
-use Rattle.std.specs.Prelude.{◌≡◌, ℕ, ◌+◌, ◌*◌, ◌<◌, ◌==◌, ◌&&◌, Bool, List, [], ◌∷◌, Option, Some, None}
-use Rattle.std.specs.Prelude.{if◌then◌else◌, map}
+use Rattle.std.specs.Prelude.{◌≡◌, ℕ, ◌+◌, ◌<◌, ◌==◌, ◌&&◌, Bool, List, [], ◌∷◌, Option, Some, None}
+use Rattle.std.specs.Prelude.{if◌then◌else◌, length, map, replicate, option_and_then, option_map, slice_get}
 use Rattle.std.specs.List.{AllByRecursion}
-use Rattle.indexmap.specs.IndexMap.{get}
+use Rattle.std.specs.BTreeMap.{get}
+use Rattle.std.specs.declared.cmp.Ordering.{Ordering}
+use Rattle.std.specs.Ordering.{nat_cmp, ordering_then}
 use Rattle.st_core.specs.declared.types.Pid.{Pid}
 use Rattle.st_core.specs.declared.types.Event.{Event}
-use Rattle.st_core.specs.Pid.{pid_eq, IsRising}
+use Rattle.st_core.specs.Pid.{pid_cmp, pid_eq, IsRising}
 use Rattle.st_core.specs.Run.{Stream, pids_of}
 use Rattle.st_pair.specs.declared.pairing.Tables.{Tables}
 use Rattle.st_pair.specs.declared.receives.Key.{Key}
+use Rattle.st_pair.specs.declared.receives.Mark.{Mark}
 use Rattle.st_pair.specs.declared.receives.Receives.{Receives}
 use Rattle.st_pair.specs.declared.stamped.Row.{Row}
 use Rattle.st_pair.specs.Places.{is_stamp, first, or_else}
-use Rattle.st_pair.specs.Pairing.{receive_of, not_rising}
+use Rattle.st_pair.specs.Pairing.{receive_of, stamp_of, not_rising}
 
 -- k and l are one sender and one count
 abbrev pub key_eq : Key → Key → Bool
 key_eq k l = pid_eq k.from l.from && k.this == l.this
 
--- sender and count as one number
-abbrev pub key_number : Key → ℕ
-key_number k = (k.from.node * 65536 + k.from.number) * 18446744073709551616 + k.this
+-- by sender, then count
+abbrev pub stamp_key_cmp : Key → Key → Ordering
+stamp_key_cmp k l = ordering_then (pid_cmp k.from l.from) (nat_cmp k.this l.this)
 
--- the place that a table gives for a key
-abbrev pub place_at : Receives → Key → Option (Pid × ℕ)
-place_at receives k = get key_eq receives.places k
+-- the index of the send or print that has this sender and this count
+abbrev pub stamp_index : List Stream → Key → Option ℕ
+stamp_index streams k = option_map (λ f. f.0) (stamp_of streams k.from k.this)
+
+-- no receives of a process's events
+abbrev pub no_marks : Stream → List (Option (Pid × ℕ))
+no_marks s = replicate (length s.events) None
+
+-- what is noted of the events of p, if the lists are in the order of the streams
+abbrev pub marks_in : List Stream → List (List (Option (Pid × ℕ))) → Pid → List (Option (Pid × ℕ))
+marks_in [] lists p = []
+marks_in (s ∷ streams) [] p = []
+marks_in (s ∷ streams) (marks ∷ lists) p = if pid_eq s.pid p then marks else marks_in streams lists p
+
+-- what is noted of the send or print that has this sender and this count, if it was reported
+abbrev pub mark_of : List Stream → List (List (Option (Pid × ℕ))) → Key → Option (Option (Pid × ℕ))
+mark_of streams lists k =
+    option_and_then (λ i. slice_get (marks_in streams lists k.from) i) (stamp_index streams k)
+
+-- what is noted at a process's place and an index
+abbrev pub mark_at : List (List (Option (Pid × ℕ))) → ℕ → ℕ → Option (Option (Pid × ℕ))
+mark_at lists n i = option_and_then (λ marks. slice_get marks i) (slice_get lists n)
+
+-- the mark is that of the send or print that has this sender and this count
+pub record IsMark (streams : List Stream) (lists : List (List (Option (Pid × ℕ)))) (k : Key)
+    (mark : Mark) : Type 0 where
+  pub rising : IsRising (pids_of streams)
+  pub process : slice_get (pids_of streams) mark.process ≡ Some k.from
+  pub index : stamp_index streams k ≡ Some mark.index
+  pub first : mark_at lists mark.process mark.index ≡ Some mark.first
+
+-- the place that the tables give for a key
+abbrev pub place_at : List Stream → Receives → Key → Option (Pid × ℕ)
+place_at streams receives k = elim (mark_of streams receives.shown.items k) [
+  | None ↦ get stamp_key_cmp receives.hidden k
+  | Some place ↦ place
+]
 
 -- the place where the key is this one
 abbrev pub here : {X : Type 0} → Key → X → Key → Option X
@@ -73,5 +110,5 @@ pub record AreStamps (streams : List Stream) (stamps : List (List Row)) : Type 0
 
 -- the tables of streams
 pub record AreTables (streams : List Stream) (tables : Tables) : Type 0 where
-  pub got : HasReceives streams (place_at tables.got)
+  pub got : HasReceives streams (place_at streams tables.got)
   pub sent : AreStamps streams tables.sent

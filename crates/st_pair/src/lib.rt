@@ -11,7 +11,6 @@ pub mod laws;
 mod pairing;
 mod receives;
 mod rules;
-mod seed;
 mod stamped;
 
 pub use answer::{PairFault, Source};

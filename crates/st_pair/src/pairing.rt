@@ -18,7 +18,8 @@ use crate::answer::{PairFault, Source};
 use crate::receives::Receives;
 use crate::rules::{Rule, mismatch_at};
 use crate::stamped::Stamps;
-use st_core::{Event, Kind, Pid, Sequence, Streams};
+use st_core::{Event, Kind, Pid, Sequence, Streams, place_of};
+use st_guesses::Guesses;
 use std::alloc::{AllocError, Global};
 use std::marker::Model;
 
@@ -65,6 +66,7 @@ impl Link {
 #[derive(Debug, Drop)]
 pub struct Pairing {
     pids: Vec<Pid>,
+    guesses: Guesses,
     links: Vec<Sequence<Link>>,
 }
 
@@ -84,7 +86,7 @@ impl Pairing {
     fn link(&self, pid: Pid, index: u64) -> Option<Link>
         ensures { result ≡ link_at self.now pid index }
     {
-        match place_of(&self.pids, pid) {
+        match place_of(&self.guesses, &self.pids, pid) {
             None => None,
             Some(place) => nth_link(self.links[place].as_slice(), index),
         }
@@ -120,15 +122,6 @@ fn nth_link(links: &[Link], index: u64) -> Option<Link>
     links.get(index as usize).copied()
 }
 
-/// The place of the pid among these, which rise.
-fn place_of(pids: &[Pid], pid: Pid) -> Option<usize>
-    requires { IsRising pids.now }
-    ensures found { IfSome result (λ i. slice_get pids.now i ≡ Some pid) }
-    ensures missing { IfNone result (AllByRecursion (λ p. pid_eq p pid ≡ false) pids.now) }
-{
-    pids.binary_search(&pid).ok()
-}
-
 /// What streams are paired by, if none of the first three reasons is against them.
 #[derive(Drop)]
 struct Tables {
@@ -152,10 +145,10 @@ impl Tables {
         if let Some(fault) = Rule::NotRising.first_fault(streams) {
             return Err(fault);
         }
-        let got = Receives::of(alloc, streams)?;
-        let Ok(sent) = Stamps::of(alloc, streams) else {
+        let Ok(mut sent) = Stamps::of(alloc, streams) else {
             return Err(PairFault::Memory);
         };
+        let got = Receives::of(alloc, streams, &mut sent)?;
         Ok(Tables { got, sent })
     }
 
@@ -167,13 +160,16 @@ impl Tables {
     {
         match event.kind {
             Kind::Print => Link::Printed,
-            Kind::Send => match self.got.find(pid, event.serial.this) {
+            Kind::Send => match self
+                .got
+                .find(streams, &mut self.sent, pid, event.serial.this)
+            {
                 None => Link::Unpaired,
                 Some((to, index)) => Link::To(to, index),
             },
             Kind::Receive => match self.sent.find(streams, event.from, event.serial.this) {
                 None => Link::Hidden,
-                Some(index) => Link::From(event.from, index),
+                Some((_, index)) => Link::From(event.from, index),
             },
         }
     }
@@ -225,6 +221,15 @@ impl Tables {
     }
 }
 
+/// Guesses at the places of these pids.
+fn guesses_at(alloc: Global, pids: &[Pid]) -> Result<Guesses, AllocError> {
+    let mut guesses = Guesses::for_pids(alloc, pids.len())?;
+    for (place, pid) in pids.iter().enumerate() {
+        guesses.expect(pid.node(), pid.number(), place);
+    }
+    Ok(guesses)
+}
+
 /// The pids of streams.
 fn pids_of(alloc: Global, streams: &Streams) -> Result<Vec<Pid>, AllocError>
     ensures { IfOk result (λ pids. pids.items ≡ pids_of streams.now) }
@@ -232,6 +237,24 @@ fn pids_of(alloc: Global, streams: &Streams) -> Result<Vec<Pid>, AllocError>
     let mut pids = Vec::new(alloc);
     pids.extend_from_slice(streams.pids())?;
     Ok(pids)
+}
+
+/// The pairing of links, which are those of the streams.
+fn pairing_of(
+    alloc: Global,
+    streams: &Streams,
+    links: Vec<Sequence<Link>>,
+) -> Result<Pairing, AllocError>
+    requires { links.items ≡ map (links_in streams.now) streams.now }
+    ensures { IfOk result (λ pairing. pairing ≡ pairing_of streams.now streams.now) }
+{
+    let pids = pids_of(alloc, streams)?;
+    let guesses = guesses_at(alloc, streams.pids())?;
+    Ok(Pairing {
+        pids,
+        guesses,
+        links,
+    })
 }
 
 /// Pairs the receives of streams with their sends, or tells the first reason against them.
@@ -245,8 +268,8 @@ pub fn pair(alloc: Global, streams: &Streams) -> Result<Pairing, PairFault>
 {
     let mut tables = Tables::of(alloc, streams)?;
     let links = tables.links(alloc, streams)?;
-    match pids_of(alloc, streams) {
+    match pairing_of(alloc, streams, links) {
         Err(_) => Err(PairFault::Memory),
-        Ok(pids) => Ok(Pairing { pids, links }),
+        Ok(pairing) => Ok(pairing),
     }
 }

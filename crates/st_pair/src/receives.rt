@@ -1,30 +1,30 @@
 //! The reported receives, by the sender and the count of their message.
+//!
+//! A receive of a reported send or print is noted at the place of that, which is found among its
+//! sender's, whose counts rise. Only the receives of hidden sends are kept by key.
 
-ghost use Rattle.std.specs.Prelude.{◌≡◌, ℕ, List, Option, None, Some, IfOk, IfErr, OnOk};
-ghost use Rattle.std.specs.Hash as fed;
-ghost use Rattle.std.specs.Cmp.Rules.{hashing};
-ghost use Rattle.std.proofs.Common.{rules};
+ghost use Rattle.std.specs.Prelude.{◌≡◌, ℕ, ◌<◌, Option, None, Some, IfOk, IfErr, IfNone, IfSome, OnOk};
+ghost use Rattle.std.specs.Prelude.{length, map, slice_get, slice_index_or, slice_set};
 ghost use Rattle.st_core.specs.declared.types.Pid.{Pid as PidValue};
-ghost use Rattle.st_core.specs.Run.{Stream};
 ghost use Rattle.st_pair.specs.declared.receives.Key.{Key as KeyValue};
 ghost use Rattle.st_pair.specs.Pairing.{repeated};
 ghost use Rattle.st_pair.specs.Places.{first, first_from, or_else};
 ghost use Rattle.st_pair.specs.Rules.{IsFirstFault};
-ghost use Rattle.st_pair.specs.Tables.{here, key_number, place_at, receive_rule, HasReceives, HasReceivesWith};
+ghost use Rattle.st_pair.specs.Tables.{here, mark_at, mark_of, no_marks, place_at, receive_rule};
+ghost use Rattle.st_pair.specs.Tables.{AreStamps, HasReceives, HasReceivesWith, IsMark};
 
 use crate::answer::PairFault;
 use crate::rules::repetition_at;
-use crate::seed::Seeded;
-use indexmap::IndexMap;
-use sha2::{Digest, Sha256};
+use crate::stamped::Stamps;
 use st_core::{Event, Kind, Pid, Streams};
 use std::alloc::{AllocError, Global};
-use std::hash::{Hash, Hasher};
+use std::collections::BTreeMap;
+use std::marker::Model;
 
 /// A sender and the count that it stamped.
-#[derive(Clone, Copy, Debug, PartialEq, Eq)]
+#[derive(Clone, Copy, Debug, PartialEq, Eq, PartialOrd, Ord)]
 pub struct Key {
-    /// The sender.
+    /// The sender, which comes first in the order.
     pub from: Pid,
     /// The count.
     pub this: u64,
@@ -40,116 +40,252 @@ impl Key {
             this: event.serial.this,
         }
     }
+}
 
-    /// The key as one number, which no other key has.
-    fn number(self) -> u128
-        ensures { result ≡ key_number self }
+/// For each event of a process the place of the first receive from it, if it is a send or print that has one.
+#[derive(Debug, Drop)]
+pub struct Marks {
+    places: Vec<Option<(Pid, u64)>>,
+}
+
+impl Model for Marks {
+    ghost use Rattle.std.specs.Prelude.{ℕ, List, Option};
+    ghost use Rattle.st_core.specs.declared.types.Pid.{Pid};
+
+    ghost Value = { List (Option (Pid × ℕ)) };
+
+    ghost view = { λ a. a.places.items };
+}
+
+impl Marks {
+    /// No receives yet of these events.
+    fn none(alloc: Global, events: &[Event]) -> Result<Marks, AllocError>
+        ensures len { IfOk result (λ marks. length marks ≡ length events.now) }
+        ensures none { IfOk result (λ marks. (i : ℕ) → i < length marks → slice_index_or marks i None ≡ None) }
     {
-        let from = u128::from(self.from.node()) * 65_536 + u128::from(self.from.number());
-        from * 18_446_744_073_709_551_616 + u128::from(self.this)
+        let places = vec![in alloc; None; events.len()]?;
+        Ok(Marks { places })
+    }
+
+    /// What is known of the event at this index, if there is one.
+    fn at(&self, index: u64) -> Option<Option<(Pid, u64)>>
+        ensures { result ≡ slice_get self.now index }
+    {
+        self.places.get(index as usize).copied()
+    }
+
+    /// Notes the place of the first receive from the event at this index.
+    fn put(&mut self, index: u64, place: (Pid, u64))
+        requires { index < length self.old }
+        ensures { self.new ≡ slice_set self.old index (Some place) }
+    {
+        self.places[index as usize] = Some(place);
     }
 }
 
-impl Hash for Key {
-    ghost hash_input = { λ k. fed.u128 (key_number k) };
-
-    ghost respects_eq = { Prim.search (hashing, rules) };
-
-    fn hash<H: Hasher>(&self, state: &mut H) {
-        state.write_u128(self.number());
-    }
+/// Where the receives from an event are noted, and what is noted there.
+#[derive(Clone, Copy, Debug)]
+pub struct Mark {
+    /// The place of its process.
+    pub process: usize,
+    /// Its index.
+    pub index: u64,
+    /// The place of the first receive from it.
+    pub first: Option<(Pid, u64)>,
 }
 
 /// For each sender and count the place of the first receive that has them.
 #[derive(Drop)]
 pub struct Receives {
-    places: IndexMap<Key, (Pid, u64), Seeded>,
+    /// The receives of reported sends and prints, by the process's place.
+    shown: Vec<Marks>,
+    /// The receives of hidden sends.
+    hidden: BTreeMap<Key, (Pid, u64)>,
 }
 
 impl Receives {
-    /// None yet, with room for all of these streams, whose keys decide the hash.
+    /// None yet.
     fn new(alloc: Global, streams: &Streams) -> Result<Receives, AllocError>
-        ensures { IfOk result (λ receives. (k : KeyValue) → place_at receives k ≡ None) }
+        ensures { IfOk result (λ receives. (k : KeyValue) → place_at streams.now receives k ≡ None) }
     {
-        let (count, keys) = keys_of(streams);
-        let places = IndexMap::with_capacity_and_hasher(alloc, count, Seeded::new(keys))?;
-        Ok(Receives { places })
+        let shown = all_marks(alloc, streams)?;
+        Ok(Receives {
+            shown,
+            hidden: BTreeMap::new(alloc),
+        })
     }
 
-    /// Those of these streams, if no message was received twice.
-    pub fn of(alloc: Global, streams: &Streams) -> Result<Receives, PairFault>
-        ensures table { IfOk result (λ receives. HasReceives streams.now (place_at receives)) }
+    /// Those of these streams, if no message was received twice. The sends and prints are theirs.
+    pub fn of(alloc: Global, streams: &Streams, sent: &mut Stamps) -> Result<Receives, PairFault>
+        requires { AreStamps streams.now sent.old }
+        ensures table { IfOk result (λ receives. HasReceives streams.now (place_at streams.now receives)) }
         ensures once { OnOk result (first (repeated streams.now) streams.now ≡ None) }
         ensures fault { IfErr result (IsFirstFault (first (repeated streams.now) streams.now)) }
+        ensures sent { sent.new ≡ sent.old }
     {
         let Ok(mut receives) = Receives::new(alloc, streams) else {
             return Err(PairFault::Memory);
         };
         for &pid in streams.pids() {
-            note_receives(&mut receives, pid, streams.events(pid))?;
+            note_receives(&mut receives, streams, sent, pid, streams.events(pid))?;
         }
         Ok(receives)
     }
 
-    /// Notes a receive, and returns the place of the first one with its key: this one's if there is none before it.
-    fn note(&mut self, key: Key, place: (Pid, u64)) -> Result<(Pid, u64), AllocError>
-        ensures first { IfOk result (λ first. Some first ≡ or_else (place_at self.old key) (Some place)) }
-        ensures noted { IfOk result (λ first. first ≡ place → (k : KeyValue) →
-            place_at self.new k ≡ or_else (place_at self.old k) (here key place k)) }
+    /// Where the receives with this key are noted, if its send or print was reported.
+    fn mark(&self, streams: &Streams, sent: &mut Stamps, key: Key) -> Option<Mark>
+        requires { AreStamps streams.now sent.old }
+        ensures mark { IfSome result (IsMark streams.now self.now.shown.items key) }
+        ensures none { IfNone result (mark_of streams.now self.now.shown.items key ≡ None) }
+        ensures sent { sent.new ≡ sent.old }
     {
-        match self.places.insert(key, place) {
+        let Some((process, index)) = sent.find(streams, key.from, key.this) else {
+            return None;
+        };
+        let Some(first) = mark_at(&self.shown, process, index) else {
+            return None;
+        };
+        Some(Mark {
+            process,
+            index,
+            first,
+        })
+    }
+
+    /// Notes a receive, and returns the place of the first one with its key: this one's if there is none before it.
+    fn note(
+        &mut self,
+        streams: &Streams,
+        sent: &mut Stamps,
+        key: Key,
+        place: (Pid, u64),
+    ) -> Result<(Pid, u64), AllocError>
+        requires { AreStamps streams.now sent.old }
+        ensures first { IfOk result (λ first.
+            Some first ≡ or_else (place_at streams.now self.old key) (Some place)) }
+        ensures noted { IfOk result (λ first. first ≡ place → (k : KeyValue) →
+            place_at streams.now self.new k
+            ≡ or_else (place_at streams.now self.old k) (here key place k)) }
+        ensures sent { sent.new ≡ sent.old }
+    {
+        match self.mark(streams, sent, key) {
+            None => self.note_hidden(streams, key, place),
+            Some(mark) => Ok(self.note_shown(streams, key, mark, place)),
+        }
+    }
+
+    /// The same of a receive whose send is hidden.
+    fn note_hidden(
+        &mut self,
+        streams: &Streams,
+        key: Key,
+        place: (Pid, u64),
+    ) -> Result<(Pid, u64), AllocError>
+        requires { mark_of streams.now self.old.shown.items key ≡ None }
+        ensures first { IfOk result (λ first.
+            Some first ≡ or_else (place_at streams.now self.old key) (Some place)) }
+        ensures noted { IfOk result (λ first. first ≡ place → (k : KeyValue) →
+            place_at streams.now self.new k
+            ≡ or_else (place_at streams.now self.old k) (here key place k)) }
+    {
+        match self.hidden.insert(key, place) {
             Err(_) => Err(AllocError),
             Ok(None) => Ok(place),
             Ok(Some(earlier)) => Ok(earlier),
         }
     }
 
-    /// The place of the first receive from this sender with this count, if there is one.
-    pub fn find(&self, from: Pid, this: u64) -> Option<(Pid, u64)>
-        ensures { result ≡ place_at self.now (record { from = from; this = this }) }
+    /// The same of a receive whose send or print was reported.
+    fn note_shown(
+        &mut self,
+        streams: &Streams,
+        key: Key,
+        mark: Mark,
+        place: (Pid, u64),
+    ) -> (Pid, u64)
+        requires { IsMark streams.now self.old.shown.items key mark }
+        ensures first { Some result ≡ or_else (place_at streams.now self.old key) (Some place) }
+        ensures noted { result ≡ place → (k : KeyValue) →
+            place_at streams.now self.new k
+            ≡ or_else (place_at streams.now self.old k) (here key place k) }
     {
-        self.places.get(&Key { from, this }).copied()
-    }
-}
-
-/// How many receives there are, and a digest of their keys. Only the room that is taken at first and the hash depend
-/// on it.
-fn keys_of(streams: &Streams) -> (usize, Sha256) {
-    let mut count: usize = 0;
-    let mut keys = Sha256::new();
-    for &pid in streams.pids() {
-        for event in streams.events(pid) {
-            match event.kind {
-                Kind::Send | Kind::Print => {}
-                Kind::Receive => {
-                    count = count.saturating_add(1);
-                    keys.update(&Key::of(event).number().to_le_bytes());
-                }
+        match mark.first {
+            Some(earlier) => earlier,
+            None => {
+                self.shown[mark.process].put(mark.index, place);
+                place
             }
         }
     }
-    (count, keys)
+
+    /// The place of the first receive from this sender with this count, if there is one.
+    pub fn find(
+        &self,
+        streams: &Streams,
+        sent: &mut Stamps,
+        from: Pid,
+        this: u64,
+    ) -> Option<(Pid, u64)>
+        requires { AreStamps streams.now sent.old }
+        ensures found { result ≡ place_at streams.now self.now (record { from = from; this = this }) }
+        ensures sent { sent.new ≡ sent.old }
+    {
+        let key = Key { from, this };
+        match self.mark(streams, sent, key) {
+            None => self.hidden.get(&key).copied(),
+            Some(mark) => mark.first,
+        }
+    }
+}
+
+/// What is noted at this place and index, if there is an event.
+fn mark_at(shown: &[Marks], process: usize, index: u64) -> Option<Option<(Pid, u64)>>
+    ensures { result ≡ mark_at shown.now process index }
+{
+    match shown.get(process) {
+        None => None,
+        Some(marks) => marks.at(index),
+    }
+}
+
+/// No receives yet of the events of all processes.
+fn all_marks(alloc: Global, streams: &Streams) -> Result<Vec<Marks>, AllocError>
+    ensures { IfOk result (λ shown. shown.items ≡ map no_marks streams.now) }
+{
+    let mut shown = Vec::with_capacity(alloc, streams.pids().len())?;
+    for &pid in streams.pids() {
+        shown.push(Marks::none(alloc, streams.events(pid))?)?;
+    }
+    Ok(shown)
 }
 
 /// Notes the receives of one process, up to the first whose message was received before.
-fn note_receives(receives: &mut Receives, pid: Pid, events: &[Event]) -> Result<(), PairFault>
+fn note_receives(
+    receives: &mut Receives,
+    streams: &Streams,
+    sent: &mut Stamps,
+    pid: Pid,
+    events: &[Event],
+) -> Result<(), PairFault>
+    requires { AreStamps streams.now sent.old }
     ensures noted { OnOk result ((k : KeyValue) →
-        place_at receives.new k
-        ≡ or_else (place_at receives.old k) (first_from (receive_rule k) pid 0 events.now)) }
-    ensures once { (streams : List Stream) (rest : KeyValue → Option (PidValue × ℕ)) →
-        HasReceivesWith streams (place_at receives.old)
+        place_at streams.now receives.new k
+        ≡ or_else (place_at streams.now receives.old k) (first_from (receive_rule k) pid 0 events.now)) }
+    ensures once { (rest : KeyValue → Option (PidValue × ℕ)) →
+        HasReceivesWith streams.now (place_at streams.now receives.old)
         (λ k. or_else (first_from (receive_rule k) pid 0 events.now) (rest k)) →
-        OnOk result (first_from (repeated streams) pid 0 events.now ≡ None) }
-    ensures fault { (streams : List Stream) (rest : KeyValue → Option (PidValue × ℕ)) →
-        HasReceivesWith streams (place_at receives.old)
+        OnOk result (first_from (repeated streams.now) pid 0 events.now ≡ None) }
+    ensures fault { (rest : KeyValue → Option (PidValue × ℕ)) →
+        HasReceivesWith streams.now (place_at streams.now receives.old)
         (λ k. or_else (first_from (receive_rule k) pid 0 events.now) (rest k)) →
-        IfErr result (IsFirstFault (first_from (repeated streams) pid 0 events.now)) }
+        IfErr result (IsFirstFault (first_from (repeated streams.now) pid 0 events.now)) }
+    ensures sent { sent.new ≡ sent.old }
 {
     for (i, event) in events.iter().enumerate() {
         match event.kind {
             Kind::Send | Kind::Print => {}
             Kind::Receive => {
-                let Ok(first) = receives.note(Key::of(event), (pid, i as u64)) else {
+                let Ok(first) = receives.note(streams, sent, Key::of(event), (pid, i as u64)) else {
                     return Err(PairFault::Memory);
                 };
                 if let Some(fault) = repetition_at(first, pid, i as u64) {

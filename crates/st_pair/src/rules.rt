@@ -168,10 +168,10 @@ pub fn mismatch_at(
 {
     match link {
         Link::Printed | Link::Unpaired | Link::To(..) | Link::Hidden => None,
-        Link::From(from, place) => match streams.event(from, place) {
+        Link::From(from, place) => match streams.events(from).get(place as usize) {
             None => None,
             Some(sent) => {
-                if is_send_of(&sent, event) {
+                if is_send_of(sent, event) {
                     None
                 } else {
                     Some(PairFault::Mismatch(pid, index, from, place))

@@ -75,6 +75,18 @@ impl<const TOP: u64> Processes<TOP> {
         })
     }
 
+    /// What the process keeps for tracing.
+    pub fn local(&self, pid: Pid) -> Option<Local<TOP>>
+        ensures { result ≡ option_map (λ r. r.local) (process self.now pid) }
+    {
+        let Some(number) = self.pids.number_of(pid) else {
+            return None;
+        };
+        let mut local = self.locals[number];
+        let _was = local.trace(self.nodes.is_traced(number));
+        Some(local)
+    }
+
     /// The token of the process.
     pub fn token(&self, pid: Pid) -> Option<Token>
         ensures { result ≡ token_of self.now pid }

@@ -10,7 +10,7 @@ ghost use Rattle.st_world.specs.World.{IsFault, IsNewFault, Rises};
 
 use crate::outcome::{NewFault, StepFault};
 use crate::processes::Processes;
-use st_core::{Act, Pid, Token};
+use st_core::{Act, Local, Pid, Token};
 use st_mail::Outcome;
 use std::alloc::Global;
 use std::marker::Model;
@@ -54,6 +54,14 @@ impl<const TOP: u64> World<TOP> {
             processes,
             one_trace: true,
         })
+    }
+
+    /// What the process keeps for tracing: its token, its clock, its last count and whether it is
+    /// traced, looked up at once. None if the process is unknown.
+    pub fn local(&self, pid: Pid) -> Option<Local<TOP>>
+        ensures { result ≡ option_map (λ r. r.local) (process self.now pid) }
+    {
+        self.processes.local(pid)
     }
 
     /// The token of the process. None if it has none, and if the process is unknown.

@@ -165,6 +165,15 @@ impl<T: Ord> BTreeSet<T> {
     }
 }
 
+impl<'a, T> IntoIterator for &'a BTreeSet<T> {
+    type Item = &'a T;
+    type IntoIter = btree_set::Iter<'a, T>;
+
+    fn into_iter(self) -> btree_set::Iter<'a, T> {
+        self.inner.iter()
+    }
+}
+
 /// As theirs, but if memory runs out this ends the program.
 #[derive(Debug)]
 pub struct BinaryHeap<T> {

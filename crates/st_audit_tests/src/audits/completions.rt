@@ -3,7 +3,7 @@
 ghost use Rattle.std.specs.Prelude.{◌==◌};
 
 use super::{MOST, restore_of};
-use crate::shared::{CROSSING, same, streams};
+use crate::helpers::{CROSSING, same, streams};
 use st_audit::told_acts;
 use st_check::{Verdict, check};
 use st_core::{Act, Pid, Want};

@@ -1,7 +1,7 @@
 //! Streams that no certificate was found for, each with its place and reason.
 
 use super::{MOST, finding_of, restore_of};
-use crate::shared::{same, streams};
+use crate::helpers::{same, streams};
 use st_audit::{Finding, Reason, audit, unfit_by};
 use st_check::Verdict;
 use st_core::{Act, Draft, Event, Kind, Label, Pid, Sequence, Serial, Streams};

@@ -1,7 +1,7 @@
 //! Worked reports.
 
 use super::THREE_PROCESSES;
-use crate::shared::{same, streams};
+use crate::helpers::{same, streams};
 use st_audit::{Finding, Reason};
 use st_chart::report;
 use st_check::Verdict;

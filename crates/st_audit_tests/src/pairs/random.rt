@@ -1,6 +1,6 @@
 //! Random streams against a slow plain reading of the rules: each rule over all pairs of places.
 
-use crate::shared::same;
+use crate::helpers::same;
 use st_core::{Draft, Event, Kind, Label, Pid, Serial, Streams};
 use st_pair::{PairFault, Pairing, Source, pair};
 use std::alloc::{AllocError, Global};

@@ -1,6 +1,7 @@
 -- The first acts run, and then each item's turn leads the construction on, or ends it as the course of the items ends.
-use Rattle.std.proofs.Common.{◌≡◌, length, take, get_or, rules, arith, Some, IfOk, Err, refl, sym, ◌∙◌, subst}
-use Rattle.std.proofs.lemmas.Option.{slice_get-get_or}
+use Rattle.std.proofs.Common.{◌≡◌, length, take, get_or, rules, arith, Some, IfOk, IfSome, Err, refl, sym, ◌∙◌, subst}
+use Rattle.std.proofs.lemmas.Option.{slice_get-get_or, IfSome_then}
+use Rattle.st_check.specs.Progress.{HasPassed}
 use Rattle.st_plan.specs.Marks.{all_told}
 use Rattle.st_plan.specs.Moves.{earlier_of, move_by}
 use Rattle.st_audit.specs.Construction.{IsFoundAt, Judged, Refused}
@@ -34,6 +35,7 @@ loop-number-init g c =
       way = subst (IsOnCourse top streams xs 0 now.world) (sym b.put)
           (begins_course top streams xs now.world b.outcomes
           (some_item (length xs) (sym c.is_empty.ensures ∙ c.if-is_empty.false)) b.runs b.after);
+      matched = c.in-Ok-open.ensures.matched;
     }
 
 pub loop-number-preserved : goal.loop-number-preserved
@@ -56,6 +58,7 @@ loop-number-preserved g c =
       way = course_next top streams rising xs c.requires.order n none within old.world old.acts way now.world now.acts
           met.acts met.outcomes (sym (all_told_turn streams old earlier (move_by x here.event)) ∙ met.through)
           met.after met.put;
+      matched = c.in-Ok-append.ensures.matched;
     }
 
 pub returns-in-Err-Uncaused : goal.returns-in-Err-Uncaused
@@ -130,6 +133,15 @@ returns-in-Err-Stopped g c =
     c.into_acts-in-Err-Stopped.ensures c.judge-in-Err-Stopped.ensures.exact in
     record { exact = subst (λ end. IfOk c.judge-in-Err-Stopped.result (IsFoundAt top streams end)) ends judged }
 
+pub finding_at_end-requires : goal.finding_at_end-requires
+finding_at_end-requires g c =
+    let top = g.row.TOP in
+    let streams = c.args.streams.now in
+    let now = c.loop-number.construction in
+    let passed = IfSome_then now.comparison c.loop-number.invariant.matched (λ x passes. (now.world, passes)) in
+    subst (λ acts. IfSome c.into_parts-acts.result.1 (HasPassed top streams acts)) (sym c.into_parts-acts.ensures.acts)
+    (subst (λ x. IfSome x (HasPassed top streams now.acts)) (sym c.into_parts-acts.ensures.comparison) passed)
+
 pub returns : goal.returns
 returns g c =
     let top = g.row.TOP in
@@ -141,6 +153,7 @@ returns g c =
     let some = some_item (length xs) (sym c.is_empty.ensures ∙ c.if-is_empty.false) in
     let ends = course_ends top streams xs n _ now.world now.acts at c.loop-number.invariant.way (omega arith) some
     c.place-2.ensures in
-    let judged = subst (λ acts. IfOk c.judge-2.result (IsFoundAt top streams (Judged acts (Some at))))
-    c.into_acts-2.ensures c.judge-2.ensures.exact in
-    record { exact = subst (λ end. IfOk c.judge-2.result (IsFoundAt top streams end)) ends judged }
+    let found = c.finding_at_end.result in
+    let judged = subst (λ acts. IfOk found (IsFoundAt top streams (Judged acts (Some at))))
+    c.into_parts-acts.ensures.acts c.finding_at_end.ensures.exact in
+    record { exact = subst (λ end. IfOk found (IsFoundAt top streams end)) ends judged }

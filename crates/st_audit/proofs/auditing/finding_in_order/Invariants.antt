@@ -1,7 +1,7 @@
 -- The construction is as the items so far make it, and it is where they led.
 use Rattle.std.proofs.Common.{take}
 use Rattle.st_plan.specs.Moves.{earlier_of}
-use Rattle.st_audit.specs.Progress.{IsSoFar}
+use Rattle.st_audit.specs.Progress.{IsMatched, IsSoFar}
 use Rattle.st_audit.proofs.Course.{IsOnCourse}
 use Rattle.st_audit.proofs.auditing.finding_in_order.Given as goal
 
@@ -10,4 +10,5 @@ invariant-loop-number g l =
     record {
       so_far : IsSoFar l.streams (earlier_of l.streams (take l.number l.items)) l.construction;
       way : IsOnCourse g.row.TOP l.streams l.items l.number l.construction.world l.construction.acts;
+      matched : IsMatched l.streams l.construction;
     }

@@ -29,6 +29,7 @@ loop-number-init g c =
       so_far = c.in-Ok-open.ensures.so_far streams c.in-Ok.ensures.so_far;
       track = λ plain. subst (IsOnTrack top streams marks [] now.world) (sym b.put)
           (on_track top streams marks now.world b.outcomes b.runs b.after);
+      matched = c.in-Ok-open.ensures.matched;
     }
 
 pub loop-number-preserved : goal.loop-number-preserved
@@ -49,6 +50,7 @@ loop-number-preserved g c =
           track in
           goes_track top streams marks c.requires.streams plain xs c.requires.order n x at old track c.append.new.self
           (c.in-Ok-append.ensures.exact x m.event at m.there);
+      matched = c.in-Ok-append.ensures.matched;
     }
 
 pub returns-in-Err-Uncaused : goal.returns-in-Err-Uncaused

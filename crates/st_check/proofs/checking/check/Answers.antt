@@ -1,37 +1,36 @@
--- After the loop all acts passed, so the counts decide; and what a yes shows holds in every run.
-use Rattle.st_core.specs.Verdict.{Yes}
-use Rattle.st_check.proofs.AllActs.{left_at_end, yes_at_end}
+-- After the loop all acts passed, so the verdict is that of what is kept; and what a yes shows holds in every run.
+use Rattle.std.proofs.Common.{arith, take}
+use Rattle.st_check.specs.Answers.{verdict_of}
+use Rattle.st_check.proofs.AllActs.{all}
+use Rattle.st_check.proofs.NextActs.{passed_even}
 use Rattle.st_check.proofs.Verdicts.{verdict_follows, verdict_pairs, verdict_rises}
 use Rattle.st_check.proofs.checking.check.Goals as goal
 
-pub returns-in-Some-clause-verdict : goal.returns-in-Some-clause-verdict
-returns-in-Some-clause-verdict g c =
+pub into_verdict-requires : goal.into_verdict-requires
+into_verdict-requires g c =
+    let loop = c.loop-number in (
+      omega arith,
+      passed_even g.row.TOP c.args.streams.now (take loop.number c.args.acts.now) loop.progress.world
+          loop.progress.comparison loop.invariant,
+    )
+
+pub returns-clause-verdict : goal.returns-clause-verdict
+returns-clause-verdict g c =
     let loop = c.loop-number in
-    let kept = loop.progress in
-    left_at_end g.row.TOP c.args.streams.now c.args.acts.now loop.number kept.world kept.counts.items kept.tags.lists
-    kept.pairs
-    c.loop-number-test.false c.first_left.ensures.streams loop.invariant c.in-Some.pid c.in-Some.ensures.found
+    c.into_verdict.ensures c.args.acts.now (all g.row.TOP c.args.streams.now c.args.acts.now loop.number
+    loop.progress.world loop.progress.comparison c.loop-number-test.false loop.invariant)
 
-pub returns-in-None-clause-verdict : goal.returns-in-None-clause-verdict
-returns-in-None-clause-verdict g c =
-    let loop = c.loop-number in
-    let kept = loop.progress in
-    yes_at_end g.row.TOP c.args.streams.now c.args.acts.now loop.number kept.world kept.counts.items kept.tags.lists
-    kept.pairs
-    c.loop-number-test.false c.first_left.ensures.streams loop.invariant c.into_pairs.result c.into_pairs.ensures
-    c.in-None.ensures.none
+pub returns-clause-follows : goal.returns-clause-follows
+returns-clause-follows g c =
+    verdict_follows g.row.TOP c.args.streams.now c.args.acts.now (verdict_of c.into_verdict.result)
+    (returns-clause-verdict g c)
 
-pub returns-in-None-clause-follows : goal.returns-in-None-clause-follows
-returns-in-None-clause-follows g c =
-    verdict_follows g.row.TOP c.args.streams.now c.args.acts.now (Yes c.into_pairs.result)
-    (returns-in-None-clause-verdict g c)
+pub returns-clause-paired : goal.returns-clause-paired
+returns-clause-paired g c =
+    verdict_pairs g.row.TOP c.args.streams.now c.args.acts.now (verdict_of c.into_verdict.result)
+    (returns-clause-verdict g c)
 
-pub returns-in-None-clause-paired : goal.returns-in-None-clause-paired
-returns-in-None-clause-paired g c =
-    verdict_pairs g.row.TOP c.args.streams.now c.args.acts.now (Yes c.into_pairs.result)
-    (returns-in-None-clause-verdict g c)
-
-pub returns-in-None-clause-rises : goal.returns-in-None-clause-rises
-returns-in-None-clause-rises g c =
-    verdict_rises g.row.TOP c.args.streams.now c.args.acts.now (Yes c.into_pairs.result)
-    (returns-in-None-clause-verdict g c)
+pub returns-clause-rises : goal.returns-clause-rises
+returns-clause-rises g c =
+    verdict_rises g.row.TOP c.args.streams.now c.args.acts.now (verdict_of c.into_verdict.result)
+    (returns-clause-verdict g c)

@@ -5,7 +5,6 @@ use Rattle.st_pair.specs.declared.answer.PairFault.{PairFault}
 use Rattle.st_pair.specs.Pairing.{IsPairFault}
 use Rattle.st_pair.specs.Places.{or_else}
 use Rattle.st_pair.proofs.FinalReasons.{answered_rules_out}
-use Rattle.st_pair.proofs.Linkage.{rows_linked}
 use Rattle.st_pair.proofs.pairing.pair.Goals as goal
 
 pub returns-in_err-tables-clause-rules_out : goal.returns-in_err-tables-clause-rules_out
@@ -24,5 +23,5 @@ returns-clause-ok c =
     record {
       accepted = c.in_ok-tables.ensures.accepted
           ∙ ap (λ (o : Option PairFault). or_else o None) c.in_ok-links.ensures.matched;
-      links = rw (c.in-Ok.ensures, c.in_ok-links.ensures.ok) (rows_linked streams streams);
+      links = c.in-Ok.ensures;
     }

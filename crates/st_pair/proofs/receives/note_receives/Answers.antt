@@ -14,21 +14,23 @@ use Rattle.st_pair.proofs.receives.note_receives.Goals.{in-Send, in-Receive+in-O
 use Rattle.st_pair.proofs.receives.note_receives.Goals as goal
 
 pub returns-in-Some-clause-fault : goal.returns-in-Some-clause-fault
-returns-in-Some-clause-fault c = λ streams rest all.
+returns-in-Some-clause-fault c = λ rest all.
+    let streams = c.args.streams.now in
     let es = c.args.events.now in
     let i = c.loop-i.i in
     let e = get_or es i blank in
     let at = at_get_or es i blank c.loop-i-test.true in
     let receives = receive_unstamped e c.in-Receive.is in
     let first = c.in-Ok.ensures.first
-    ∙ ap (λ k. or_else (place_at c.loop-i.receives k) (Some (c.args.pid, i))) c.of.ensures in
-    let given = repeated_at (place_at c.args.receives.now) (place_at c.loop-i.receives) c.args.pid i es e at receives
-    c.loop-i.invariant.noted streams rest c.in-Ok.first all first in
+    ∙ ap (λ k. or_else (place_at streams c.loop-i.receives k) (Some (c.args.pid, i))) c.of.ensures in
+    let given = repeated_at (place_at streams c.args.receives.now) (place_at streams c.loop-i.receives) c.args.pid i es
+    e at receives c.loop-i.invariant.noted streams rest c.in-Ok.first all first in
     first_fault _ c.in-Some.fault (first_from-given (repeated streams) c.args.pid i es e c.in-Some.fault at
-    (given ∙ sym c.in-Some.ensures) (c.loop-i.invariant.once streams rest all))
+    (given ∙ sym c.in-Some.ensures) (c.loop-i.invariant.once rest all))
 
 pub loop-i-preserved : goal.loop-i-preserved
 loop-i-preserved c =
+    let streams = c.args.streams.now in
     let es = c.args.events.now in
     let i = c.loop-i.i in
     let p = c.args.pid in
@@ -38,34 +40,37 @@ loop-i-preserved c =
       | in-Send w ↦
           let stamps : is_stamp e ≡ true = grind (arith, common_steps, w.in-Send.is) in
           record {
-            noted = λ k. ap (λ (r : Receives). or_else (place_at r k)
+            noted = λ k. ap (λ (r : Receives). or_else (place_at streams r k)
                 (first_from (receive_rule k) p (i + 1) (drop (i + 1) es))) w.receives-is
-                ∙ sym (ap (or_else (place_at c.loop-i.receives k)) (unnoted_passed k p i es e at stamps))
+                ∙ sym (ap (or_else (place_at streams c.loop-i.receives k)) (unnoted_passed k p i es e at stamps))
                 ∙ c.loop-i.invariant.noted k;
-            once = λ streams rest all. first_from-passed (repeated streams) p i es e at
-                (stamp_unrepeated streams p i e stamps) (c.loop-i.invariant.once streams rest all);
+            once = λ rest all. first_from-passed (repeated streams) p i es e at
+                (stamp_unrepeated streams p i e stamps) (c.loop-i.invariant.once rest all);
+            sent = w.sent-is ∙ c.loop-i.invariant.sent;
           }
       | in-Receive+in-Ok+in_default-repetition_at w ↦
           let receives = receive_unstamped e w.in-Receive.is in
           let accepted = sym w.repetition_at.ensures ∙ w.in_default-repetition_at.is in
           let own = own_place w.in-Ok.first p i accepted in
           let first = w.in-Ok.ensures.first
-          ∙ ap (λ k. or_else (place_at c.loop-i.receives k) (Some (p, i))) w.of.ensures in
-          let added : (k : Key) → place_at c.match-event.receives k
-          ≡ or_else (place_at c.loop-i.receives k) (here (key_in e) (p, i) k) =
-          λ k. ap (λ (r : Receives). place_at r k) w.receives-is ∙ w.in-Ok.ensures.noted own k
-          ∙ ap (λ l. or_else (place_at c.loop-i.receives k) (here l (p, i) k)) w.of.ensures in
+          ∙ ap (λ k. or_else (place_at streams c.loop-i.receives k) (Some (p, i))) w.of.ensures in
+          let added : (k : Key) → place_at streams c.match-event.receives k
+          ≡ or_else (place_at streams c.loop-i.receives k) (here (key_in e) (p, i) k) =
+          λ k. ap (λ (r : Receives). place_at streams r k) w.receives-is ∙ w.in-Ok.ensures.noted own k
+          ∙ ap (λ l. or_else (place_at streams c.loop-i.receives k) (here l (p, i) k)) w.of.ensures in
           record {
-            noted = noted_more (place_at c.args.receives.now) (place_at c.loop-i.receives) p i es e at receives
-                c.loop-i.invariant.noted (place_at c.match-event.receives) added;
-            once = λ streams rest all. first_from-passed (repeated streams) p i es e at
-                (repeated_at (place_at c.args.receives.now) (place_at c.loop-i.receives) p i es e at receives
-                c.loop-i.invariant.noted streams rest w.in-Ok.first all first ∙ accepted)
-                (c.loop-i.invariant.once streams rest all);
+            noted = noted_more (place_at streams c.args.receives.now) (place_at streams c.loop-i.receives) p i es e at
+                receives c.loop-i.invariant.noted (place_at streams c.match-event.receives) added;
+            once = λ rest all. first_from-passed (repeated streams) p i es e at
+                (repeated_at (place_at streams c.args.receives.now) (place_at streams c.loop-i.receives) p i es e at
+                receives c.loop-i.invariant.noted streams rest w.in-Ok.first all first ∙ accepted)
+                (c.loop-i.invariant.once rest all);
+            sent = w.sent-is ∙ w.in-Ok.ensures.sent ∙ c.loop-i.invariant.sent;
           }
     ]
 
 pub returns-clause-once : goal.returns-clause-once
-returns-clause-once c = λ streams rest all.
+returns-clause-once c = λ rest all.
+    let streams = c.args.streams.now in
     let len : length c.args.events.now ≡ c.loop-i.i = omega (arith, c.loop-i-test.false, c.loop-i.auto.i-end) in
-    c.loop-i.invariant.once streams rest all ∙ first_from-end (repeated streams) c.args.pid c.loop-i.i c.loop-i.i _ len
+    c.loop-i.invariant.once rest all ∙ first_from-end (repeated streams) c.args.pid c.loop-i.i c.loop-i.i _ len

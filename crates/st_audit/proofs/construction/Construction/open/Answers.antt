@@ -7,7 +7,8 @@ use Rattle.st_core.specs.declared.types.Pid.{Pid}
 use Rattle.st_core.specs.Run.{Stream}
 use Rattle.st_plan.specs.Build.{tracers_after}
 use Rattle.st_audit.specs.declared.construction.Construction.{Construction}
-use Rattle.st_audit.specs.Progress.{acts_turn, AreCounted, AreTold, IsSoFar, Meets, SaysNothing, TellsLast}
+use Rattle.st_audit.specs.Progress.{acts_turn, AreCounted, AreTold, IsMatched, IsSoFar, Meets, SaysNothing}
+use Rattle.st_audit.specs.Progress.{TellsLast}
 use Rattle.st_audit.proofs.Attempts.{done_by, goes_through, one_step}
 use Rattle.st_audit.proofs.FirstCounts.{tracer_counted}
 use Rattle.st_audit.proofs.MoveOutcomes.{on_err}
@@ -17,7 +18,12 @@ use Rattle.st_audit.proofs.construction.Construction.open.Goals as goal
 use Rattle.st_audit.proofs.construction.Construction.open.Goals.{then-ne+in_ok-perform, else-ne}
 
 pub loop-pid-init : goal.loop-pid-init
-loop-pid-init g c = record { so_far = λ streams so. so; opens = none_opened c.args.pids.now c.args.self.now }
+loop-pid-init g c =
+    record {
+      so_far = λ streams so. so;
+      opens = none_opened c.args.pids.now c.args.self.now;
+      matched = c.requires;
+    }
 
 pub loop-pid-preserved : goal.loop-pid-preserved
 loop-pid-preserved g c =
@@ -57,6 +63,7 @@ loop-pid-preserved g c =
                 });
             opens = subst (λ (x : Construction top). Opens pids c.if-ne.node rest old x) (sym w.self-is)
                 (subst (λ (m : Option ℕ). Opens pids m rest old after) (sym node_is) more);
+            matched = subst (λ (x : Construction top). IsMatched c.args.streams.now x) (sym w.self-is) done.matched;
           }
       | else-ne w ↦
           let more = seen_before pids old seen p rest now opens (test ∙ ap not w.if-ne.false) in
@@ -65,6 +72,7 @@ loop-pid-preserved g c =
                 → IsSoFar streams [] x) (sym w.self-is) i.so_far;
             opens = subst (λ (x : Construction top). Opens pids c.if-ne.node rest old x) (sym w.self-is)
                 (subst (λ (m : Option ℕ). Opens pids m rest old now) (sym w.node-is) more);
+            matched = subst (λ (x : Construction top). IsMatched c.args.streams.now x) (sym w.self-is) i.matched;
           }
     ]
 

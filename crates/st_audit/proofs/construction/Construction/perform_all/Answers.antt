@@ -13,7 +13,7 @@ use Rattle.st_audit.proofs.MoveOutcomes.{on_err}
 use Rattle.st_audit.proofs.construction.Construction.perform_all.Goals as goal
 
 pub loop-act-init : goal.loop-act-init
-loop-act-init g c = (none_performed c.args.self.now, refl, refl)
+loop-act-init g c = (none_performed c.args.self.now, refl, refl, c.requires)
 
 -- what stands for an act if there is none
 abbrev none : Act
@@ -33,6 +33,7 @@ loop-act-preserved g c =
           (then_performed (take n plan) (a ∷ []) old mid new c.loop-act.invariant.0 made),
       done.skipped ∙ c.loop-act.invariant.1,
       done.told ∙ c.loop-act.invariant.2,
+      done.matched,
     )
 
 pub returns-in_err-perform-clause-exact : goal.returns-in_err-perform-clause-exact

@@ -17,14 +17,14 @@ use Rattle.st_audit.proofs.construction.Construction.report.Goals as goal
 pub index-requires : goal.index-requires
 index-requires g c =
     let below = place_below c.args.streams.now c.in-Some.place c.args.pid c.in-Some.ensures.found in
-    let within : c.in-Some.place < length c.args.self.now.told.items = omega (arith, c.requires) in
+    let within : c.in-Some.place < length c.args.self.now.told.items = omega (arith, c.requires.told) in
     search rules
 
 pub index_mut-requires : goal.index_mut-requires
 index_mut-requires g c =
     let below = place_below c.args.streams.now c.in-Some.place c.args.pid c.in-Some.ensures.found in
     let same = ap (λ t. length t.items) c.act.ensures.told in
-    let within : c.in-Some.place < length c.act.new.self.told.items = omega (arith, c.requires) in
+    let within : c.in-Some.place < length c.act.new.self.told.items = omega (arith, c.requires.told) in
     search rules
 
 pub returns-clause-tells : goal.returns-clause-tells
@@ -34,7 +34,7 @@ returns-clause-tells g c =
     let old = c.args.self.now.told.items in
     let at = c.in-Some.ensures.found in
     let below = place_below streams place c.args.pid at in
-    let within : place < length old = omega (arith, c.requires) in
+    let within : place < length old = omega (arith, c.requires.told) in
     let was : slice_get old place ≡ Some c.args.index = slice_get-get_or old place c.index.result.now within
     ∙ ap (λ (n : ℕ). Some n) (sym c.index.ensures ∙ c.if-index.false) in
     let same : old ≡ c.act.new.self.told.items = ap (λ t. t.items) (sym c.act.ensures.told) in

@@ -22,7 +22,7 @@ returns-in_err-perform_all-clause-exact g c =
     let h = c.in_err-perform_all.field-0.0 in
     let acts = ready p start e.label e.serial f in
     let planned : c.as_slice.result.now ≡ acts =
-    c.as_slice.ensures.value ∙ c.in-Ok.ensures ∙ ap (λ xs. xs ++ acts) c.new-plan.ensures.items in
+    c.as_slice.ensures.value ∙ c.in-Ok.ensures ∙ ap (λ xs. xs ++ acts) c.clear.ensures.items in
     let missed = c.in-Some-with_skipped.ensures
     ∙ ap (λ k. cond (is_too_wide old.skipped k) None (Some (k + old.skipped))) c.missing_count.ensures in
     let turn = stamp_turn_is old p e f a start (sym c.start.ensures ∙ c.in-Some.is)
@@ -49,7 +49,7 @@ returns-clause-exact g c =
     let new = c.perform.new.self in
     let acts = ready p start e.label e.serial f in
     let planned : c.as_slice.result.now ≡ acts =
-    c.as_slice.ensures.value ∙ c.in-Ok.ensures ∙ ap (λ xs. xs ++ acts) c.new-plan.ensures.items in
+    c.as_slice.ensures.value ∙ c.in-Ok.ensures ∙ ap (λ xs. xs ++ acts) c.clear.ensures.items in
     let missed = c.in-Some-with_skipped.ensures
     ∙ ap (λ k. cond (is_too_wide old.skipped k) None (Some (k + old.skipped))) c.missing_count.ensures in
     let turn = stamp_turn_is old p e f a start (sym c.start.ensures ∙ c.in-Some.is)

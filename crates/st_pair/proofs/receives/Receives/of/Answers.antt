@@ -14,9 +14,9 @@ returns-in_err-note_receives-clause-fault c =
     let rising = c.pids-pid-items.ensures.streams.draft.rising in
     let are = c.pids-pid-items.ensures.value in
     let events = c.events.ensures.value in
-    let all = all_with streams rising _ _ _ _ (place_at c.loop-pid.receives) are c.loop-pid-test.true events
+    let all = all_with streams rising _ _ _ _ (place_at streams c.loop-pid.receives) are c.loop-pid-test.true events
     c.loop-pid.invariant.table in
-    let given = c.in_err-note_receives.ensures.fault streams _ all in
+    let given = c.in_err-note_receives.ensures.fault _ all in
     let here : IfErr c.from_residual.result (IsFirstFault (first_from (repeated streams) _ 0 c.events.result.now)) =
     search (given, rules) in
     err_along c.from_residual.result _ _ (λ g h. sym (first-given (repeated streams) streams rising _ _ _ g are
@@ -28,12 +28,13 @@ loop-pid-preserved c =
     let rising = c.pids-pid-items.ensures.streams.draft.rising in
     let are = c.pids-pid-items.ensures.value in
     let events = c.events.ensures.value in
-    let all = all_with streams rising _ _ _ _ (place_at c.loop-pid.receives) are c.loop-pid-test.true events
+    let all = all_with streams rising _ _ _ _ (place_at streams c.loop-pid.receives) are c.loop-pid-test.true events
     c.loop-pid.invariant.table in
     record {
       table = λ k. table-passed (receive_rule k) streams rising _ _ _ _ _ _ are c.loop-pid-test.true events
           (c.in_ok-note_receives.ensures.noted k) (c.loop-pid.invariant.table k);
       once = first-passed (repeated streams) streams rising _ _ _ are c.loop-pid-test.true
-          (sym (c.in_ok-note_receives.ensures.once streams _ all) ∙ ap (first_from (repeated streams) _ 0) events)
+          (sym (c.in_ok-note_receives.ensures.once _ all) ∙ ap (first_from (repeated streams) _ 0) events)
           c.loop-pid.invariant.once;
+      sent = c.in_ok-note_receives.ensures.sent ∙ c.loop-pid.invariant.sent;
     }

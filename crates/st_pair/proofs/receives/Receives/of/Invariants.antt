@@ -8,7 +8,8 @@ use Rattle.st_pair.proofs.receives.Receives.of.Given as goal
 
 abbrev pub invariant-loop-pid : goal.invariant-loop-pid
 invariant-loop-pid l = record {
-  table : (k : Key) → or_else (place_at l.receives k) (first (receive_rule k) (drop l.pid-index l.streams))
+  table : (k : Key) → or_else (place_at l.streams l.receives k) (first (receive_rule k) (drop l.pid-index l.streams))
       ≡ first (receive_rule k) l.streams;
   once : first (repeated l.streams) l.streams ≡ first (repeated l.streams) (drop l.pid-index l.streams);
+  sent : l.sent ≡ l.initial.sent;
 }

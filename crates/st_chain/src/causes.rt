@@ -1,0 +1,151 @@
+//! The causes of all events, and the way back over them.
+//!
+//! The last receive whose count is the prev of a send or print is found once, in one pass over all
+//! events of a process; the rest is read from the streams and their pairing.
+
+ghost use Rattle.std.specs.Prelude.{◌≡◌, true, map, None, Some, IfOk};
+ghost use Rattle.std.specs.Prelude.{slice_get, option_and_then};
+ghost use Rattle.st_core.specs.declared.types.Event.{Event as EventValue};
+ghost use Rattle.st_core.specs.Streams.{events_of, IsStreams};
+ghost use Rattle.st_pair.specs.Links.{IsPairing};
+ghost use Rattle.st_pair.specs.Pairing.{refusal};
+ghost use Rattle.st_pair.specs.Places.{is_stamp};
+ghost use Rattle.st_chain.specs.Causes.{backs_from, cause_at, event_in, place_at, received_before};
+ghost use Rattle.st_chain.specs.Causes.{IsBackFrom};
+
+use crate::cause::Cause;
+use crate::receives::all_backs;
+use st_core::{Kind, Pid, Sequence, Streams};
+use st_pair::{Pairing, Source};
+use std::alloc::{AllocError, Global};
+use std::marker::Model;
+
+/// What is kept at an index.
+fn back_at(list: &[Option<u64>], index: u64) -> Option<u64>
+    ensures { result ≡ option_and_then (λ x. x) (slice_get list.now index) }
+{
+    match list.get(index as usize) {
+        None => None,
+        Some(found) => *found,
+    }
+}
+
+/// The last receive before the send or print at this place that its prev is of.
+fn receive_before(
+    streams: &Streams,
+    backs: &[Sequence<Option<u64>>],
+    pid: Pid,
+    index: u64,
+) -> Option<u64>
+    requires sound { IsStreams streams.now }
+    requires backs { backs.now ≡ map (λ s. backs_from s.events 0 s.events) streams.now }
+    ensures { (e : EventValue) → slice_get (events_of streams.now pid) index ≡ Some e
+        → is_stamp e ≡ true
+        → result ≡ received_before (events_of streams.now pid) e.serial.prev index }
+{
+    match streams.place_of(pid) {
+        None => None,
+        Some(place) => back_at(backs[place].as_slice(), index),
+    }
+}
+
+/// The causes of the events of streams. A contract sees it as the streams. It borrows them and
+/// their pairing, and keeps 16 bytes an event.
+#[derive(Drop)]
+pub struct Causes<'a> {
+    alloc: Global,
+    streams: &'a Streams,
+    pairing: &'a Pairing,
+    backs: Vec<Sequence<Option<u64>>>,
+}
+
+impl<'a> Model for Causes<'a> {
+    ghost use Rattle.std.specs.Prelude.{List};
+    ghost use Rattle.st_core.specs.Run.{Stream};
+    ghost use Rattle.st_chain.specs.Kept.{AreCausesKept};
+
+    ghost Value = { List Stream };
+
+    ghost view = { λ a. a.streams.now };
+
+    ghost invariant = { λ a. AreCausesKept a.streams.now a.pairing.now a.backs.items };
+}
+
+impl<'a> Causes<'a> {
+    /// The causes in streams, by the pairing that was made from them. Fails only if memory runs
+    /// out.
+    pub fn new(
+        alloc: Global,
+        streams: &'a Streams,
+        pairing: &'a Pairing,
+    ) -> Result<Self, AllocError>
+        requires { IsPairing streams.now pairing.now }
+        ensures { IfOk result (λ causes. causes ≡ streams.now) }
+    {
+        let backs = all_backs(alloc, streams)?;
+        Ok(Causes {
+            alloc,
+            streams,
+            pairing,
+            backs,
+        })
+    }
+
+    /// What the event at this place follows; none if there is no event. Takes no memory.
+    pub fn cause(&self, pid: Pid, index: u64) -> Option<Cause>
+        ensures { result ≡ cause_at self.now pid index }
+    {
+        let event = self.streams.events(pid).get(index as usize)?;
+        match event.kind {
+            Kind::Receive => match self.pairing.source(pid, index) {
+                Some(Source::Event(from, place)) => Some(Cause::Event(from, place)),
+                Some(Source::Hidden) | None => Some(Cause::Hidden),
+            },
+            Kind::Send | Kind::Print => {
+                match receive_before(self.streams, self.backs.as_slice(), pid, index) {
+                    None => Some(Cause::Start),
+                    Some(place) => Some(Cause::Event(pid, place)),
+                }
+            }
+        }
+    }
+
+    /// The event at this place, its cause, and so on until a hidden send or a start; nothing if
+    /// there is no event. It ends: no cause counts more than its event. Fails only if memory runs
+    /// out.
+    pub fn back(&self, pid: Pid, index: u64) -> Result<Vec<(Pid, u64)>, AllocError>
+        ensures { IfOk result (λ v. IsBackFrom self.now (place_at self.now pid index) v.items) }
+    {
+        let mut list = Vec::new(self.alloc);
+        let mut at = self.place(pid, index);
+        while let Some((p, i)) = at {
+            list.push((p, i))?;
+            at = self.before(p, i);
+        }
+        Ok(list)
+    }
+
+    /// The place, if an event is there.
+    fn place(&self, pid: Pid, index: u64) -> Option<(Pid, u64)>
+        ensures { result ≡ place_at self.now pid index }
+    {
+        match self.cause(pid, index) {
+            None => None,
+            Some(_) => Some((pid, index)),
+        }
+    }
+
+    /// The event that the event at this place follows.
+    fn before(&self, pid: Pid, index: u64) -> Option<(Pid, u64)>
+        ensures before { result ≡ event_in (cause_at self.now pid index) }
+        ensures accepted { refusal self.now ≡ None }
+    {
+        // Reading a field shows what the type keeps: that pairing accepted the streams, so that the
+        // way back ends.
+        let _ = &self.backs;
+        match self.cause(pid, index) {
+            Some(Cause::Event(from, place)) => Some((from, place)),
+            Some(Cause::Hidden | Cause::Start) | None => None,
+        }
+    }
+}
