@@ -1,5 +1,9 @@
 -- A lane that is no end of an item has a bar, and so a run of such lanes has as many bars.
-use Rattle.std.proofs.Common.{◌≡◌, Bool, true, false, ◌||◌, List, [], ◌∷◌, length, refl, codes}
+use Rattle.std.proofs.Common.{◌≡◌, ℕ, ◌+◌, ◌-◌, ◌≤◌, zero, suc, Bool, true, false, ◌||◌, List, [], ◌∷◌, ◌++◌}
+use Rattle.std.proofs.Common.{length, refl, sym, ap, ◌∙◌, append_assoc, codes, arith}
+use Rattle.std.proofs.Math.ListN.{replicate}
+use Rattle.std.proofs.lemmas.List.{append-nil}
+use Rattle.std.proofs.lemmas.List.Concat.{flat_map-append}
 use Rattle.std.specs.List.{flat_map, list_any}
 use Rattle.std.specs.Option.{option_map_or}
 use Rattle.st_core.specs.declared.types.Pid.{Pid}
@@ -10,7 +14,35 @@ use Rattle.st_order.specs.declared.item.Item.{Item}
 use Rattle.st_order.specs.declared.item.Item.TheVariants as item
 use Rattle.st_chart.specs.declared.charted.ChartedItem.{ChartedItem}
 use Rattle.st_chart.specs.Chart.{is_at, is_end, mark}
-use Rattle.st_chart.specs.Parts.{bars}
+use Rattle.st_chart.specs.Parts.{bars, HasNoEndBeforeLast}
+
+-- ---- bars one behind the other
+
+pub bars_flat : (n : ℕ) → flat_map (λ t. t) (replicate n (codes "   |")) ≡ bars n
+bars_flat zero = refl
+bars_flat (suc n) = ap (λ (t : List ℕ). codes "   |" ++ t) (bars_flat n)
+
+bars_then : (m n : ℕ) → bars m ++ bars n ≡ bars (m + n)
+bars_then zero n = ap bars (let e : n ≡ 0 + n = omega arith in e)
+bars_then (suc m) n =
+    let next : suc (m + n) ≡ suc m + n = omega arith in
+    append_assoc (codes "   |") (bars m) (bars n) ∙ ap (λ (t : List ℕ). codes "   |" ++ t) (bars_then m n)
+    ∙ ap bars next
+
+-- all of them, if so many are left
+pub bars_whole : (count left : ℕ) → left ≤ count → bars (count - left) ++ bars left ≡ bars count
+bars_whole count left within =
+    let all : count - left + left ≡ count = omega (arith, within) in
+    bars_then (count - left) left ∙ ap bars all
+
+-- a run more
+pub bars_more : (count left run : ℕ) → left ≤ count → run ≤ left
+    → bars (count - left) ++ bars run ≡ bars (count - (left - run))
+bars_more count left run within upto =
+    let more : count - left + run ≡ count - (left - run) = omega (arith, within, upto) in
+    bars_then (count - left) run ∙ ap bars more
+
+-- ---- the marks of lanes
 
 or_left : (a b : Bool) → (a || b) ≡ false → a ≡ false
 or_left true b none = none
@@ -42,8 +74,20 @@ at_none x p none = by x.item x.event.kind (or_left _ _ none) (or_right (pid_eq x
 bar : (x : ChartedItem) (p : Pid) → is_end x.event p ≡ false → mark x p ≡ codes "   |"
 bar x p none = rw (at_none x p none, none) refl
 
-pub bars_are : (x : ChartedItem) (ps : List Pid) → list_any (is_end x.event) ps ≡ false
+bars_are : (x : ChartedItem) (ps : List Pid) → list_any (is_end x.event) ps ≡ false
     → flat_map (mark x) ps ≡ bars (length ps)
 bars_are x [] none = refl
 bars_are x (p ∷ ps) none =
     rw (bar x p (or_left (is_end x.event p) _ none), bars_are x ps (or_right (is_end x.event p) _ none)) refl
+
+pub no_marks : (x : ChartedItem) (ps : List Pid) → length ps ≡ 0 → flat_map (mark x) ps ≡ []
+no_marks x [] none = refl
+no_marks x (p ∷ ps) none = absurd (omega (arith, none))
+
+-- if only the last can be an end, the others have bars
+pub run_marks : (x : ChartedItem) (ps others : List Pid) (last : Pid) → HasNoEndBeforeLast x.event ps
+    → ps ≡ others ++ last ∷ [] → bars (length others) ++ mark x last ≡ flat_map (mark x) ps
+run_marks x ps others last clear is =
+    ap (λ (t : List ℕ). t ++ mark x last) (sym (bars_are x others (clear others last is)))
+    ∙ ap (λ (t : List ℕ). flat_map (mark x) others ++ t) (sym (append-nil (mark x last)))
+    ∙ sym (flat_map-append (mark x) others (last ∷ [])) ∙ ap (flat_map (mark x)) (sym is)

@@ -4,5 +4,7 @@ pub mod Texts
 pub mod Ends
 pub mod Lines
 pub mod Bars
+pub mod Common
+pub mod Cuts
 pub mod Runs
 pub mod Cases

@@ -1,8 +1,12 @@
 -- For the functions that go over all items and lanes: what an item adds to a chart, if it has the
 -- label, and the marks of lanes in which nothing happened.
-use Rattle.std.specs.Prelude.{ℕ, zero, suc, Bool, false, List, [], ◌++◌, Some, None, codes}
+use Rattle.std.specs.Prelude.{◌≡◌, ◌≢◌, ℕ, zero, suc, ◌+◌, ◌<◌, ◌≤◌, Bool, false, List, [], ◌∷◌}
+use Rattle.std.specs.Prelude.{◌++◌, length, get_or, take, drop, Option, Some, None, codes}
+use Rattle.std.specs.List.{list_any}
 use Rattle.st_core.specs.declared.types.Pid.{Pid}
 use Rattle.st_core.specs.declared.types.Label.{Label}
+use Rattle.st_core.specs.declared.types.Event.{Event}
+use Rattle.st_core.specs.Pid.{pid_eq}
 use Rattle.st_core.specs.Run.{Stream}
 use Rattle.st_order.specs.declared.item.Item.{Item}
 use Rattle.st_chart.specs.Chart.{charted_of, is_end, item_line}
@@ -21,3 +25,22 @@ line_in streams label caused ps x =
 abbrev pub bars : ℕ → List ℕ
 bars zero = []
 bars (suc n) = codes "   |" ++ bars n
+
+-- of these lanes, counted from 1, no other than the n-th is the process's, if there is one
+abbrev pub IsNoOther : Option Pid → List Pid → ℕ → Type 0
+IsNoOther None ps n = Unit {0}
+IsNoOther (Some p) ps n =
+    (i : ℕ) (d : Pid) → i < length ps → i + 1 ≢ n → pid_eq p (get_or ps i d) ≡ false
+
+-- none of these lanes but perhaps the last is an end
+abbrev pub HasNoEndBeforeLast : Event → List Pid → Type 0
+HasNoEndBeforeLast e ps = (others : List Pid) (last : Pid) → ps ≡ others ++ last ∷ []
+    → list_any (is_end e) others ≡ false
+
+-- lanes that are cut behind the m-th and behind the n-th: no part has an end before its last lane
+pub record AreCutAtEnds (e : Event) (ps : List Pid) (m n : ℕ) : Type 0 where
+  pub rise : m ≤ n
+  pub within : n ≤ length ps
+  pub left : HasNoEndBeforeLast e (take m (take n ps))
+  pub middle : HasNoEndBeforeLast e (drop m (take n ps))
+  pub right : HasNoEndBeforeLast e (drop n ps)

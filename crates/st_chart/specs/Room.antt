@@ -18,10 +18,6 @@ reason_room = 10 + place_room
 abbrev pub mark_room : ℕ
 mark_room = 4
 
--- a mark in each lane of a run
-abbrev pub bars_room : ℕ
-bars_room = 32
-
 abbrev pub item_word_room : ℕ
 item_word_room = 8
 

@@ -68,13 +68,6 @@ pub(crate) fn is_end(event: &Event, pid: Pid) -> bool
     event.from == pid || is_receiver(event, pid)
 }
 
-/// Whether one of these processes is the event's `from` or `to`.
-pub(crate) fn has_end_among(event: &Event, pids: &[Pid]) -> bool
-    ensures { result ≡ list_any (is_end event.now) pids.now }
-{
-    pids.iter().any(|pid| is_end(event, *pid))
-}
-
 /// Whether an item has the label.
 pub(crate) fn is_any_charted(streams: &Streams, label: Label, items: &[Item]) -> bool
     ensures { result ≡ list_any (item_has_label streams.now label) items.now }

@@ -2,23 +2,27 @@
 
 ghost use Rattle.std.specs.Prelude.{◌≡◌, ◌↔◌, ◌+◌, ◌++◌, false, Err};
 ghost use Rattle.std.specs.List.{flat_map, list_any};
+ghost use Rattle.st_core.specs.Pid.{IsRising};
 ghost use Rattle.st_text.specs.Room.{line_room, HasRoom};
 ghost use Rattle.st_text.specs.Writing.{WritesOn, WritesText};
 ghost use Rattle.st_order.specs.Labels.{item_has_label};
 ghost use Rattle.st_chart.specs.Answer.{WritesChart};
 ghost use Rattle.st_chart.specs.Chart.{all_charted, lane_line, lane_lines, mark, item_line};
 ghost use Rattle.st_chart.specs.Chart.{label_line, chart_lines, chart_text};
-ghost use Rattle.st_chart.specs.Parts.{line_in};
+ghost use Rattle.st_chart.specs.Parts.{bars, line_in, HasNoEndBeforeLast};
 
-use crate::charted::{ChartedItem, has_end_among, is_any_charted};
+use crate::charted::{ChartedItem, is_any_charted};
 use crate::fault::ChartFault;
-use crate::lanes::lanes_of;
+use crate::lanes::{lanes_of, lanes_to_ends};
 use crate::marks::{RUN, put_bars, put_item, put_mark};
-use st_chain::Chains;
+use st_chain::Causes;
 use st_core::{ByteSink, Label, Pid, Streams};
 use st_order::Item;
 use st_text::{Buffer, Device, flush, make_room, put_bytes, put_number, put_pid};
 use std::alloc::Global;
+
+/// In so many lanes the marks are written faster one by one than in runs.
+const FEW: usize = 8;
 
 /// Appends the line that names the label.
 fn put_label_line(buffer: &mut Buffer, label: Label)
@@ -68,8 +72,7 @@ fn write_lanes<W: ByteSink>(
     Ok(())
 }
 
-/// Writes an item's mark in each of these lanes. A line may be longer than the buffer, so room is
-/// made for each mark.
+/// Writes an item's mark in each of these lanes.
 fn write_each_mark<W: ByteSink>(
     writer: &mut W,
     buffer: &mut Buffer,
@@ -86,23 +89,59 @@ fn write_each_mark<W: ByteSink>(
     Ok(())
 }
 
-/// Writes an item's marks in these lanes. In most of a wide chart they are bars, which a whole run
-/// gets at once.
+/// Writes the bars of so many lanes. A line may be longer than the buffer, so room is made for each
+/// run of them.
+fn write_bars<W: ByteSink>(writer: &mut W, buffer: &mut Buffer, count: usize) -> Result<(), Device>
+    ensures { WritesOn W.puts W.failed (bars count)
+        writer.old writer.new buffer.old.items buffer.new.items result }
+{
+    let mut left = count;
+    while left > 0 {
+        let run = left.min(RUN);
+        make_room(writer, buffer)?;
+        put_bars(buffer, run);
+        left -= run;
+    }
+    Ok(())
+}
+
+/// Writes an item's marks in these lanes, all of which but the last get bars.
 fn write_run<W: ByteSink>(
     writer: &mut W,
     buffer: &mut Buffer,
     lanes: &[Pid],
     charted: &ChartedItem,
 ) -> Result<(), Device>
+    requires { HasNoEndBeforeLast charted.now.event lanes.now }
     ensures { WritesOn W.puts W.failed (flat_map (mark charted.now) lanes.now)
         writer.old writer.new buffer.old.items buffer.new.items result }
 {
-    if lanes.len() != RUN || has_end_among(&charted.event, lanes) {
-        return write_each_mark(writer, buffer, lanes, charted);
-    }
+    let Some((last, others)) = lanes.split_last() else {
+        return Ok(());
+    };
+    write_bars(writer, buffer, others.len())?;
     make_room(writer, buffer)?;
-    put_bars(buffer);
+    put_mark(buffer, charted, *last);
     Ok(())
+}
+
+/// Writes an item's mark in each of many lanes: bars up to the lanes of its ends.
+fn write_runs<W: ByteSink>(
+    writer: &mut W,
+    buffer: &mut Buffer,
+    lanes: &[Pid],
+    charted: &ChartedItem,
+) -> Result<(), Device>
+    requires { IsRising lanes.now }
+    ensures { WritesOn W.puts W.failed (flat_map (mark charted.now) lanes.now)
+        writer.old writer.new buffer.old.items buffer.new.items result }
+{
+    let (first, second) = lanes_to_ends(lanes, &charted.event);
+    let (front, back) = lanes.split_at(second);
+    let (left, middle) = front.split_at(first);
+    write_run(writer, buffer, left, charted)?;
+    write_run(writer, buffer, middle, charted)?;
+    write_run(writer, buffer, back, charted)
 }
 
 /// Writes an item's mark in each lane.
@@ -112,32 +151,32 @@ fn write_marks<W: ByteSink>(
     lanes: &[Pid],
     charted: &ChartedItem,
 ) -> Result<(), Device>
+    requires { IsRising lanes.now }
     ensures { WritesOn W.puts W.failed (flat_map (mark charted.now) lanes.now)
         writer.old writer.new buffer.old.items buffer.new.items result }
 {
-    let mut rest = lanes;
-    while !rest.is_empty() {
-        let (run, behind) = rest.split_at(RUN.min(rest.len()));
-        write_run(writer, buffer, run, charted)?;
-        rest = behind;
+    if lanes.len() <= FEW {
+        write_each_mark(writer, buffer, lanes, charted)
+    } else {
+        write_runs(writer, buffer, lanes, charted)
     }
-    Ok(())
 }
 
 /// Writes the line of an item.
 fn write_item<W: ByteSink>(
     writer: &mut W,
     buffer: &mut Buffer,
-    chains: &Chains,
+    causes: &Causes,
     lanes: &[Pid],
     charted: &ChartedItem,
 ) -> Result<(), Device>
-    ensures { WritesOn W.puts W.failed (item_line chains.now lanes.now charted.now)
+    requires { IsRising lanes.now }
+    ensures { WritesOn W.puts W.failed (item_line causes.now lanes.now charted.now)
         writer.old writer.new buffer.old.items buffer.new.items result }
 {
     write_marks(writer, buffer, lanes, charted)?;
     make_room(writer, buffer)?;
-    put_item(buffer, chains, charted);
+    put_item(buffer, causes, charted);
     Ok(())
 }
 
@@ -146,17 +185,18 @@ fn write_if_charted<W: ByteSink>(
     writer: &mut W,
     buffer: &mut Buffer,
     streams: &Streams,
-    chains: &Chains,
+    causes: &Causes,
     lanes: &[Pid],
     item: Item,
     label: Label,
 ) -> Result<(), Device>
-    ensures { WritesOn W.puts W.failed (line_in streams.now label chains.now lanes.now item)
+    requires { IsRising lanes.now }
+    ensures { WritesOn W.puts W.failed (line_in streams.now label causes.now lanes.now item)
         writer.old writer.new buffer.old.items buffer.new.items result }
 {
     match ChartedItem::of(streams, label, item) {
         None => Ok(()),
-        Some(charted) => write_item(writer, buffer, chains, lanes, &charted),
+        Some(charted) => write_item(writer, buffer, causes, lanes, &charted),
     }
 }
 
@@ -165,17 +205,18 @@ fn write_items<W: ByteSink>(
     writer: &mut W,
     buffer: &mut Buffer,
     streams: &Streams,
-    chains: &Chains,
+    causes: &Causes,
     lanes: &[Pid],
     items: &[Item],
     label: Label,
 ) -> Result<(), Device>
+    requires { IsRising lanes.now }
     ensures { WritesOn W.puts W.failed
-        (flat_map (line_in streams.now label chains.now lanes.now) items.now)
+        (flat_map (line_in streams.now label causes.now lanes.now) items.now)
         writer.old writer.new buffer.old.items buffer.new.items result }
 {
     for item in items {
-        write_if_charted(writer, buffer, streams, chains, lanes, *item, label)?;
+        write_if_charted(writer, buffer, streams, causes, lanes, *item, label)?;
     }
     Ok(())
 }
@@ -185,50 +226,52 @@ fn write_chart<W: ByteSink>(
     writer: &mut W,
     buffer: &mut Buffer,
     streams: &Streams,
-    chains: &Chains,
+    causes: &Causes,
     lanes: &[Pid],
     items: &[Item],
     label: Label,
 ) -> Result<(), Device>
+    requires { IsRising lanes.now }
     ensures { WritesOn W.puts W.failed
-        (chart_lines chains.now label lanes.now (all_charted streams.now items.now label))
+        (chart_lines causes.now label lanes.now (all_charted streams.now items.now label))
         writer.old writer.new buffer.old.items buffer.new.items result }
 {
     write_label(writer, buffer, label)?;
     write_lanes(writer, buffer, lanes)?;
-    write_items(writer, buffer, streams, chains, lanes, items, label)
+    write_items(writer, buffer, streams, causes, lanes, items, label)
 }
 
 /// Writes a chart with these lanes to the writer.
 fn send_chart<W: ByteSink>(
     writer: &mut W,
     streams: &Streams,
-    chains: &Chains,
+    causes: &Causes,
     lanes: &[Pid],
     items: &[Item],
     label: Label,
 ) -> Result<(), Device>
+    requires { IsRising lanes.now }
     ensures { WritesText W.puts W.failed
-        (chart_lines chains.now label lanes.now (all_charted streams.now items.now label))
+        (chart_lines causes.now label lanes.now (all_charted streams.now items.now label))
         writer.old writer.new result }
 {
     let mut buffer = Buffer::new();
-    write_chart(writer, &mut buffer, streams, chains, lanes, items, label)?;
+    write_chart(writer, &mut buffer, streams, causes, lanes, items, label)?;
     flush(writer, &mut buffer)
 }
 
 /// Writes the chart of the items that have this label, in their order: its lanes, and a line for
 /// each. An item at whose place there is no event has no label and is left out: an item of these
-/// streams never is. The chains are those of these streams. It takes memory for its lanes alone.
+/// streams never is. The causes are those of these streams. It takes memory for its lanes alone.
 pub fn chart<W: ByteSink>(
     alloc: Global,
     writer: &mut W,
     streams: &Streams,
-    chains: &Chains,
+    causes: &Causes,
     items: &[Item],
     label: Label,
 ) -> Result<(), ChartFault>
-    requires { chains.now ≡ streams.now }
+    requires { causes.now ≡ streams.now }
     ensures written { WritesChart W.puts W.failed (chart_text streams.now items.now label)
         writer.old writer.new result }
     ensures no_label { result ≡ Err ChartFault.NoLabel
@@ -240,7 +283,7 @@ pub fn chart<W: ByteSink>(
     let Ok(lanes) = lanes_of(alloc, streams, label, items) else {
         return Err(ChartFault::Memory);
     };
-    match send_chart(writer, streams, chains, &lanes, items, label) {
+    match send_chart(writer, streams, causes, &lanes, items, label) {
         Ok(()) => Ok(()),
         Err(Device) => Err(ChartFault::Device),
     }

@@ -1,29 +1,33 @@
 //! The parts of a chart's line for an item.
 
-ghost use Rattle.std.specs.Prelude.{◌≡◌, ◌+◌, ◌++◌, codes};
+ghost use Rattle.std.specs.Prelude.{◌≡◌, ◌≤◌, ◌+◌, ◌++◌, codes};
 ghost use Rattle.st_text.specs.Room.{line_room, HasRoom, Puts};
 ghost use Rattle.st_text.specs.Spelling.{ended_line};
 ghost use Rattle.st_chart.specs.Chart.{letter, mark, item_word, cause_words, origin_words};
 ghost use Rattle.st_chart.specs.Parts.{bars};
 ghost use Rattle.st_chart.specs.Chart.{item_words};
-ghost use Rattle.st_chart.specs.Room.{mark_room, bars_room, item_word_room, origin_room, item_room};
+ghost use Rattle.st_chart.specs.Room.{mark_room, item_word_room, origin_room, item_room};
 
 use crate::charted::{ChartedItem, is_end};
 use crate::words::put_place;
-use st_chain::{Cause, Chains};
+use st_chain::{Cause, Causes};
 use st_core::{Kind, Pid};
 use st_order::Item;
 use st_text::{Buffer, put_bytes, put_number, put_serial};
 
-/// So many lanes get their bars at once. A chart of 64 lanes has runs without an end too.
-pub(crate) const RUN: usize = 8;
+/// So many lanes get their bars at once: their bars take a line's room.
+pub(crate) const RUN: usize = 64;
 
-/// Appends the bars of a run of lanes.
-pub(crate) fn put_bars(buffer: &mut Buffer)
-    requires { HasRoom bars_room buffer.old }
-    ensures { buffer.new.items ≡ buffer.old.items ++ bars 8 }
+/// The bars of a run.
+static BARS: [[u8; 4]; RUN] = [*b"   |"; RUN];
+
+/// Appends the bars of so many lanes.
+pub(crate) fn put_bars(buffer: &mut Buffer, count: usize)
+    requires run { count ≤ 64 }
+    requires room { HasRoom line_room buffer.old }
+    ensures { buffer.new.items ≡ buffer.old.items ++ bars count }
 {
-    put_bytes(buffer, b"   |   |   |   |   |   |   |   |");
+    put_bytes(buffer, BARS[..count].as_flattened());
 }
 
 /// Appends the mark of the lane in which an item happened.
@@ -87,20 +91,20 @@ fn put_cause(buffer: &mut Buffer, cause: Option<Cause>)
 }
 
 /// Appends what an item follows.
-fn put_origin(buffer: &mut Buffer, chains: &Chains, item: Item)
+fn put_origin(buffer: &mut Buffer, causes: &Causes, item: Item)
     requires { HasRoom origin_room buffer.old }
-    ensures { Puts origin_room (origin_words chains.now item) buffer.old buffer.new }
+    ensures { Puts origin_room (origin_words causes.now item) buffer.old buffer.new }
 {
     match item {
-        Item::Reported(pid, index) => put_cause(buffer, chains.cause(pid, index)),
+        Item::Reported(pid, index) => put_cause(buffer, causes.cause(pid, index)),
         Item::Hidden(_, _) => put_bytes(buffer, b"unseen"),
     }
 }
 
 /// Appends an item's word, serial, value and cause.
-fn put_item_words(buffer: &mut Buffer, chains: &Chains, charted: &ChartedItem)
+fn put_item_words(buffer: &mut Buffer, causes: &Causes, charted: &ChartedItem)
     requires { HasRoom item_room buffer.old }
-    ensures { Puts item_room (item_words chains.now charted.now) buffer.old buffer.new }
+    ensures { Puts item_room (item_words causes.now charted.now) buffer.old buffer.new }
 {
     put_item_word(buffer, charted.item, charted.event.kind);
     put_bytes(buffer, b" ");
@@ -108,16 +112,16 @@ fn put_item_words(buffer: &mut Buffer, chains: &Chains, charted: &ChartedItem)
     put_bytes(buffer, b" ");
     put_number(buffer, charted.event.value);
     put_bytes(buffer, b" ");
-    put_origin(buffer, chains, charted.item);
+    put_origin(buffer, causes, charted.item);
 }
 
 /// Appends what follows the marks.
-pub(crate) fn put_item(buffer: &mut Buffer, chains: &Chains, charted: &ChartedItem)
+pub(crate) fn put_item(buffer: &mut Buffer, causes: &Causes, charted: &ChartedItem)
     requires { HasRoom line_room buffer.old }
     ensures { buffer.new.items
-        ≡ buffer.old.items ++ ended_line (codes "  " ++ item_words chains.now charted.now) }
+        ≡ buffer.old.items ++ ended_line (codes "  " ++ item_words causes.now charted.now) }
 {
     put_bytes(buffer, b"  ");
-    put_item_words(buffer, chains, charted);
+    put_item_words(buffer, causes, charted);
     put_bytes(buffer, b"\n");
 }

@@ -2,7 +2,9 @@
 
 use crate::scene::Scene;
 use st_core::{Event, Pid, Streams};
+use st_order::Item;
 use std::alloc::{AllocError, Global};
+use std::collections::BTreeSet;
 
 /// The processes that events of a drawing are from or to. They have numbers from 1, by rising pid.
 #[derive(Drop)]
@@ -36,6 +38,34 @@ fn marks_of(alloc: Global, scene: &Scene<'_>) -> Result<Vec<bool>, AllocError> {
         mark_ends(&mut marks, scene, scene.streams.events(*pid));
     }
     Ok(marks)
+}
+
+/// Notes a process, if the streams list it.
+fn note(ends: &mut BTreeSet<Pid>, scene: &Scene<'_>, pid: Pid) -> Result<(), AllocError> {
+    if scene.streams.place_of(pid).is_some() {
+        ends.insert(pid)?;
+    }
+    Ok(())
+}
+
+/// The processes that the items which are drawn are from and to, by rising pid. It looks at these
+/// items alone, so that the drawings of all labels together look at each once.
+pub(crate) fn ends_of(
+    alloc: Global,
+    scene: &Scene<'_>,
+    items: &[Item],
+) -> Result<BTreeSet<Pid>, AllocError> {
+    let mut ends = BTreeSet::new(alloc);
+    for item in items {
+        let (pid, index) = item.place();
+        if let Some(event) = scene.event(pid, index) {
+            note(&mut ends, scene, event.from)?;
+            if let Some(to) = event.to {
+                note(&mut ends, scene, to)?;
+            }
+        }
+    }
+    Ok(ends)
 }
 
 impl<'a> Lanes<'a> {

@@ -5,11 +5,11 @@
 
 ghost use Rattle.std.specs.Prelude.{◌≡◌};
 
-use crate::lanes::Lanes;
+use crate::lanes::ends_of;
 use crate::scene::Scene;
-use st_chain::Chains;
+use st_chain::Causes;
 use st_chart::{ChartFault, chart};
-use st_core::{ByteSink, Label, Streams, WriteTo};
+use st_core::{ByteSink, Label, Pid, Streams, WriteTo};
 use st_order::Item;
 use st_say::say;
 use st_text::{Buffer, Device, flush};
@@ -94,7 +94,7 @@ fn marks_of(
     scene: &Scene<'_>,
     items: &[Item],
 ) -> Result<Vec<&'static [u8]>, AllocError> {
-    let mut marks = lane_marks(alloc, scene)?;
+    let mut marks = lane_marks(alloc, scene, items)?;
     for item in items {
         if has_line(scene, *item) {
             marks.push(mark_of(scene, *item))?;
@@ -103,19 +103,26 @@ fn marks_of(
     Ok(marks)
 }
 
+/// The mark of a process's line.
+fn lane_mark(scene: &Scene<'_>, pid: Pid) -> &'static [u8] {
+    if scene.is_unlisted(pid) {
+        UNLISTED
+    } else {
+        NO_MARK
+    }
+}
+
 /// The marks of the lines of the label and of the processes.
-fn lane_marks(alloc: Global, scene: &Scene<'_>) -> Result<Vec<&'static [u8]>, AllocError> {
-    let lanes = Lanes::of(alloc, scene)?;
+fn lane_marks(
+    alloc: Global,
+    scene: &Scene<'_>,
+    items: &[Item],
+) -> Result<Vec<&'static [u8]>, AllocError> {
+    let ends = ends_of(alloc, scene, items)?;
     let mut marks: Vec<&'static [u8]> = Vec::new(alloc);
     marks.push(NO_MARK)?;
-    for (place, pid) in scene.streams.pids().iter().enumerate() {
-        if lanes.at(place).is_some() {
-            marks.push(if scene.is_unlisted(*pid) {
-                UNLISTED
-            } else {
-                NO_MARK
-            })?;
-        }
+    for pid in &ends {
+        marks.push(lane_mark(scene, *pid))?;
     }
     Ok(marks)
 }
@@ -125,12 +132,12 @@ pub(crate) fn marked_chart<W: ByteSink>(
     alloc: Global,
     streams: &Streams,
     scene: &Scene<'_>,
-    chains: &Chains,
+    causes: &Causes,
     items: &[Item],
     label: Label,
     writer: &mut W,
 ) -> Result<(), ChartFault>
-    requires { chains.now ≡ streams.now }
+    requires { causes.now ≡ streams.now }
 {
     let Ok(marks) = marks_of(alloc, &scene.of_label(label), items) else {
         return Err(ChartFault::Memory);
@@ -142,7 +149,7 @@ pub(crate) fn marked_chart<W: ByteSink>(
         ended: 0,
     };
     let mut sink = WriteTo::new(&mut marker);
-    chart(alloc, &mut sink, streams, chains, items, label)?;
+    chart(alloc, &mut sink, streams, causes, items, label)?;
     match marker.flush() {
         Ok(()) => Ok(()),
         Err(_) => Err(ChartFault::Device),

@@ -100,7 +100,7 @@ impl<'a> Scene<'a> {
     pub(crate) fn is_unlisted(&self, pid: Pid) -> bool {
         match self.completion {
             None => false,
-            Some(completion) => completion.unlisted().contains(&pid),
+            Some(completion) => completion.unlisted().binary_search(&pid).is_ok(),
         }
     }
 

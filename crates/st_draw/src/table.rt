@@ -7,7 +7,7 @@ ghost use Rattle.st_pair.specs.Links.{IsPairing};
 use crate::marked::marked_chart;
 use crate::scene::Scene;
 use crate::words::send_words;
-use st_chain::Chains;
+use st_chain::Causes;
 use st_chart::{ChartFault, chart};
 use st_core::{ByteSink, Label, Sequence, Streams};
 use st_order::{Item, by_label};
@@ -20,17 +20,17 @@ fn write_table<W: ByteSink>(
     alloc: Global,
     streams: &Streams,
     scene: &Scene<'_>,
-    chains: &Chains,
+    causes: &Causes,
     items: &[Item],
     label: Label,
     writer: &mut W,
 ) -> Result<(), ChartFault>
-    requires { chains.now ≡ streams.now }
+    requires { causes.now ≡ streams.now }
 {
     if scene.is_completed() {
-        return marked_chart(alloc, streams, scene, chains, items, label, writer);
+        return marked_chart(alloc, streams, scene, causes, items, label, writer);
     }
-    chart(alloc, writer, streams, chains, items, label)
+    chart(alloc, writer, streams, causes, items, label)
 }
 
 /// Writes the table of each group of items, which have a label, with an empty line between.
@@ -38,11 +38,11 @@ fn write_groups<W: ByteSink>(
     alloc: Global,
     streams: &Streams,
     scene: &Scene<'_>,
-    chains: &Chains,
+    causes: &Causes,
     groups: &[(Label, Sequence<Item>)],
     writer: &mut W,
 ) -> Result<(), ChartFault>
-    requires { chains.now ≡ streams.now }
+    requires { causes.now ≡ streams.now }
 {
     let mut between: &[u8] = b"";
     for (label, items) in groups {
@@ -53,7 +53,7 @@ fn write_groups<W: ByteSink>(
             alloc,
             streams,
             scene,
-            chains,
+            causes,
             items.as_slice(),
             *label,
             writer,
@@ -91,12 +91,12 @@ pub(crate) fn tell_tables<H: Threads + Sync, W: ByteSink, N: ByteSink>(
 ) -> Result<u8, AllocError>
     requires { IsPairing streams.now pairing.now }
 {
-    let chains = Chains::new(alloc, streams, pairing)?;
+    let causes = Causes::new(alloc, streams, pairing)?;
     let written = match label {
-        Some(label) => write_table(alloc, streams, scene, &chains, items, label, writer),
+        Some(label) => write_table(alloc, streams, scene, &causes, items, label, writer),
         None => {
             let groups = by_label(rt, alloc, streams, items)?;
-            write_groups(alloc, streams, scene, &chains, groups.as_slice(), writer)
+            write_groups(alloc, streams, scene, &causes, groups.as_slice(), writer)
         }
     };
     match written {

@@ -10,7 +10,7 @@ use crate::json::{say_name, say_pid_word, say_word};
 use crate::measured::{Measured, TimesFault};
 use sha2::{Digest, Sha256};
 use st_audit::unfit_by;
-use st_chain::{Cause, Chains};
+use st_chain::{Cause, Causes};
 use st_commands::{status_of, tell_finding};
 use st_core::{ByteSink, ByteSource, Event, Label, Pid, Streams};
 use st_list::{Partner, partner_at};
@@ -62,7 +62,7 @@ struct Span {
 struct Spans<'a> {
     streams: &'a Streams,
     pairing: &'a Pairing,
-    chains: &'a Chains<'a>,
+    causes: &'a Causes<'a>,
     measured: &'a Measured<'a>,
 }
 
@@ -246,7 +246,7 @@ impl<'a> Spans<'a> {
         let Origin::Event(pid, index) = span.origin else {
             return None;
         };
-        match self.chains.cause(pid, index)? {
+        match self.causes.cause(pid, index)? {
             Cause::Event(at, place) => self.span_of_receive(at, place),
             Cause::Hidden | Cause::Start => None,
         }
@@ -401,11 +401,11 @@ fn export_paired<W: ByteSink>(
 ) -> Result<u8, AllocError>
     requires { IsPairing streams.now pairing.now }
 {
-    let chains = Chains::new(alloc, streams, pairing)?;
+    let causes = Causes::new(alloc, streams, pairing)?;
     let spans = Spans {
         streams,
         pairing,
-        chains: &chains,
+        causes: &causes,
         measured,
     };
     Ok(status_of(spans.send(writer), 0))

@@ -1,5 +1,5 @@
 //! Trace events as Chrome has them and Perfetto reads them: a thread for each process, a slice of
-//! one unit for each event, and a flow for each message of which both ends were reported.
+//! half a unit for each event, and a flow for each message of which both ends were reported.
 
 use crate::json::{kind_word, say_field, say_name, say_pid_field, say_pid_word, say_word_field};
 use crate::times::Times;
@@ -13,6 +13,10 @@ use st_text::{Buffer, Device, flush};
 const HEAD: &str = "{\"displayTimeUnit\":\"ns\",\"otherData\":{\"time\":\"not measured: it follows \
 the ranks of the counts\"},\"traceEvents\":[\n\
 {\"ph\":\"M\",\"pid\":1,\"name\":\"process_name\",\"args\":{\"name\":\"trace\"}}";
+
+/// A slice doesn't last until the next unit, since a flow that begins there with the next slice would
+/// be drawn from this one.
+const DURATION: &str = ",\"dur\":0.5";
 
 /// What is written from.
 #[derive(Drop)]
@@ -102,7 +106,7 @@ fn say_slice<W: ByteSink>(
 ) -> Result<(), Device> {
     say_start(writer, buffer, "X", thread)?;
     say_field(writer, buffer, "ts", time)?;
-    say_field(writer, buffer, "dur", 1)?;
+    say(writer, buffer, DURATION.as_bytes())?;
     say_word_field(writer, buffer, "cat", kind_word(event.kind))?;
     say_name(writer, buffer, "name")?;
     say(writer, buffer, b"\"")?;

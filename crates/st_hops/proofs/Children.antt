@@ -2,7 +2,8 @@
 -- names its send. A stamp, since the receive that its hop names is directly before its row, so that the stamp
 -- is in the row behind that receive; and the row of a stamp in it goes back to the receive.
 use Rattle.std.proofs.Common.{◌≡◌, ℕ, ◌+◌, ◌-◌, ◌≤◌, ◌==◌, ◌||◌, zero, suc, Bool, true, false, cond}
-use Rattle.std.proofs.Common.{List, [], ◌∷◌, ◌++◌, take, drop, Option, Some, None, option_and_then, slice_get}
+use Rattle.std.proofs.Common.{List, [], ◌∷◌, ◌++◌, take, drop, Option, Some, None}
+use Rattle.std.proofs.Common.{option_and_then, slice_get}
 use Rattle.std.proofs.Common.{get_or, option_to_list, inl, inr, refl, sym, ◌∙◌, ap, subst, arith}
 use Rattle.std.specs.Prelude.{not}
 use Rattle.std.specs.List.{prefix_len}
@@ -20,16 +21,18 @@ use Rattle.st_pair.specs.declared.answer.Source.{Source}
 use Rattle.st_pair.specs.declared.answer.Source.TheVariants as source
 use Rattle.st_pair.specs.Places.{event_at, is_stamp}
 use Rattle.st_pair.specs.Pairing.{is_send, receive_of, receiver_at, refusal, source_at, source_of}
-use Rattle.st_pair.proofs.ForCallers.{at_get_or, blank, paired, receiver_from_source, source_from_receiver}
-use Rattle.st_origin.specs.declared.told.Told.{Told}
-use Rattle.st_origin.specs.declared.told.Told.TheVariants as what
-use Rattle.st_origin.specs.Events.{has_above, in_row, is_receive, received_before, row_start, told, told_by}
+use Rattle.st_pair.proofs.ForCallers.{at_get_or, blank, paired, receiver_from_source}
+use Rattle.st_pair.proofs.ForCallers.{source_from_receiver}
+use Rattle.st_origin.specs.declared.evidence.Evidence.{Evidence}
+use Rattle.st_origin.specs.declared.evidence.Evidence.TheVariants as what
+use Rattle.st_origin.specs.Events.{has_above, in_row, is_receive, receive_before, row_start}
+use Rattle.st_origin.specs.Events.{origin_evidence, origin_evidence_by}
 use Rattle.st_origin.proofs.ForCallers.{IsReceivedBefore, IsRowBetween, received_at}
 use Rattle.st_origin.proofs.ForCallers.{received_is, row_between, row_passes}
 use Rattle.st_origin.proofs.ForCallers.{row_start_within, row_stops}
 use Rattle.st_hops.specs.declared.hop.Hop.{Hop}
 use Rattle.st_hops.specs.declared.hop.Hop.TheVariants as hop
-use Rattle.st_hops.specs.Hops.{hop_by, hop_by_label, hop_of, hop_to_send, label_at}
+use Rattle.st_hops.specs.Hops.{hop_by, hop_by_label, hop_of, hop_to_send, label_at_or}
 use Rattle.st_hops.specs.Way.{next_at, next_of}
 use Rattle.st_hops.specs.Tree.{children, children_of, places_of, row_ahead}
 use Rattle.st_hops.proofs.Claims.{after_receive, or_begins_receive}
@@ -241,7 +244,7 @@ next_by_label across p same j received label leads =
 module _ (streams : List Stream) (across : Bool) where
   -- the label of the receive is the one that the row is asked for
   asked_label : (es : List Event) (j : ℕ) (d e : Event) → slice_get es j ≡ Some d
-      → (across || ((label_at es j e.label).0 == e.label.0)) ≡ (across || e.label.0 == d.label.0)
+      → (across || ((label_at_or es j e.label).0 == e.label.0)) ≡ (across || e.label.0 == d.label.0)
   asked_label es j d e at =
       ap (λ (o : Option Event). across || ((let l : Label = elim o as (λ _. Label) [
         | None ↦ e.label
@@ -279,8 +282,8 @@ module _ (streams : List Stream) (across : Bool) where
       (dropped (j + 1) es m ∙ ap (slice_get es) whole ∙ at))
 
   stamp_below : (p : Pid) (i : ℕ) (e : Event) (j : ℕ) → event_at streams p i ≡ Some e → is_stamp e ≡ true
-      → received_before e.serial.prev (events_of streams p) (row_start e.serial.prev (events_of streams p) i) ≡ Some j
-      → (across || ((label_at (events_of streams p) j e.label).0 == e.label.0)) ≡ true
+      → receive_before e.serial.prev (events_of streams p) (row_start e.serial.prev (events_of streams p) i) ≡ Some j
+      → (across || ((label_at_or (events_of streams p) j e.label).0 == e.label.0)) ≡ true
       → IsAmong (children streams across (p, j)) (p, i)
   stamp_below p i e j at stamps before wanted =
       let es = events_of streams p in
@@ -333,31 +336,31 @@ module _ (streams : List Stream) (across : Bool) where
       ))
 
   -- by what is told of a stamp
-  told_below : (p : Pid) (i : ℕ) (e : Event) (x : Pid × ℕ) → event_at streams p i ≡ Some e
-      → is_stamp e ≡ true → (t : Told)
-      → told e.serial.prev (events_of streams p) i ≡ t
+  evidence_below : (p : Pid) (i : ℕ) (e : Event) (x : Pid × ℕ) → event_at streams p i ≡ Some e
+      → is_stamp e ≡ true → (t : Evidence)
+      → origin_evidence e.serial.prev (events_of streams p) i ≡ t
       → next_of across p (hop_by (events_of streams p) e.label t) ≡ Some x
       → IsAmong (children streams across x) (p, i)
-  told_below p i e x at stamps (what.After j) is leads =
+  evidence_below p i e x at stamps (what.After j) is leads =
       let es = events_of streams p in
       let k = row_start e.serial.prev es i in
-      let parts = when_wanted across ((label_at es j e.label).0 == e.label.0) (p, j) x
-      (sym (next_by_label across p (hop.After j) j (label_at es j e.label) e.label refl) ∙ leads) in
+      let parts = when_wanted across ((label_at_or es j e.label).0 == e.label.0) (p, j) x
+      (sym (next_by_label across p (hop.After j) j (label_at_or es j e.label) e.label refl) ∙ leads) in
       subst (λ y. IsAmong (children streams across y) (p, i)) parts.0
       (stamp_below p i e j at stamps
-      (after_receive e.serial.prev j (has_above e.serial.prev es k) (received_before e.serial.prev es k) is) parts.1)
-  told_below p i e x at stamps (what.AfterOrBegins j) is leads =
+      (after_receive e.serial.prev j (has_above e.serial.prev es k) (receive_before e.serial.prev es k) is) parts.1)
+  evidence_below p i e x at stamps (what.AfterOrBegins j) is leads =
       let es = events_of streams p in
       let k = row_start e.serial.prev es i in
-      let parts = when_wanted across ((label_at es j e.label).0 == e.label.0) (p, j) x
-      (sym (next_by_label across p (hop.AfterOneLabel j) j (label_at es j e.label) e.label refl) ∙ leads) in
+      let parts = when_wanted across ((label_at_or es j e.label).0 == e.label.0) (p, j) x
+      (sym (next_by_label across p (hop.AfterOneLabel j) j (label_at_or es j e.label) e.label refl) ∙ leads) in
       subst (λ y. IsAmong (children streams across y) (p, i)) parts.0
       (stamp_below p i e j at stamps
       (or_begins_receive e.serial.prev j (has_above e.serial.prev es k)
-      (received_before e.serial.prev es k) is) parts.1)
-  told_below p i e x at stamps what.Unreported is leads = absurd (none-some x leads)
-  told_below p i e x at stamps what.Begins is leads = absurd (none-some x leads)
-  told_below p i e x at stamps what.BeginsOrUnreported is leads = absurd (none-some x leads)
+      (receive_before e.serial.prev es k) is) parts.1)
+  evidence_below p i e x at stamps what.Unreported is leads = absurd (none-some x leads)
+  evidence_below p i e x at stamps what.Begins is leads = absurd (none-some x leads)
+  evidence_below p i e x at stamps what.BeginsOrUnreported is leads = absurd (none-some x leads)
 
   sent_below : IsStreams streams → refusal streams ≡ None → (p : Pid) (i : ℕ) (e : Event) (x : Pid × ℕ) (s : Source)
       → event_at streams p i ≡ Some e → is_stamp e ≡ false → source_of streams e ≡ s
@@ -376,9 +379,9 @@ all_below streams across x y sound ok leads =
     option_and_then_some (λ (e : Event). next_of across p (hop_of streams p i e)) (event_at streams p i) x leads
     (λ e at given.
     elim (is_stamp e) as (λ b. is_stamp e ≡ b
-    → next_of across p (cond b (hop_by es e.label (told e.serial.prev es i)) (hop_to_send (source_of streams e)))
+    → next_of across p (cond b (hop_by es e.label (origin_evidence e.serial.prev es i)) (hop_to_send (source_of streams e)))
     ≡ Some x → IsAmong (children streams across x) y) [
-      | true ↦ λ stamps is. told_below streams across p i e x at stamps (told e.serial.prev es i) refl is
+      | true ↦ λ stamps is. evidence_below streams across p i e x at stamps (origin_evidence e.serial.prev es i) refl is
       | false ↦ λ receives is. sent_below streams across sound ok p i e x (source_of streams e) at receives refl is
     ] refl given)
 
@@ -411,10 +414,10 @@ module _ (streams : List Stream) (across : Bool) where
   -- the hop of an event, by what it is
   stamp_next : (p : Pid) (i : ℕ) (e : Event) → event_at streams p i ≡ Some e → is_stamp e ≡ true
       → next_at streams across (p, i)
-      ≡ next_of across p (hop_by (events_of streams p) e.label (told e.serial.prev (events_of streams p) i))
+      ≡ next_of across p (hop_by (events_of streams p) e.label (origin_evidence e.serial.prev (events_of streams p) i))
   stamp_next p i e at stamps =
       ap (option_and_then (λ (f : Event). next_of across p (hop_of streams p i f))) at
-      ∙ ap (λ b. next_of across p (cond b (hop_by (events_of streams p) e.label (told e.serial.prev
+      ∙ ap (λ b. next_of across p (cond b (hop_by (events_of streams p) e.label (origin_evidence e.serial.prev
       (events_of streams p) i))
       (hop_to_send (source_of streams e)))) stamps
 
@@ -422,7 +425,7 @@ module _ (streams : List Stream) (across : Bool) where
       → next_at streams across (p, i) ≡ next_of across p (hop_to_send (source_of streams e))
   receive_next p i e at receives =
       ap (option_and_then (λ (f : Event). next_of across p (hop_of streams p i f))) at
-      ∙ ap (λ b. next_of across p (cond b (hop_by (events_of streams p) e.label (told e.serial.prev
+      ∙ ap (λ b. next_of across p (cond b (hop_by (events_of streams p) e.label (origin_evidence e.serial.prev
       (events_of streams p) i))
       (hop_to_send (source_of streams e)))) receives
 
@@ -450,18 +453,18 @@ module _ (streams : List Stream) (across : Bool) where
       let start : row_start this es i ≡ suc j =
       row_passes this es (j + 1) i (omega arith) between ∙ ap (row_start this es) next
       ∙ row_stops this es j d at receive in
-      let by = λ (k : ℕ). told_by this (has_above this es k) (received_before this es k) in
+      let by = λ (k : ℕ). origin_evidence_by this (has_above this es k) (receive_before this es k) in
       let above = has_above this es (suc j) in
-      let tells : told e.serial.prev es i ≡ told_by this above (Some j) =
-      ap (λ v. told v es i) prev ∙ ap by start
-      ∙ ap (told_by this above) (received_at this es j d at receive refl) in
-      let leads : (b : Bool) → next_of across p (hop_by es e.label (told_by this b (Some j))) ≡ Some (p, j) = λ b.
+      let tells : origin_evidence e.serial.prev es i ≡ origin_evidence_by this above (Some j) =
+      ap (λ v. origin_evidence v es i) prev ∙ ap by start
+      ∙ ap (origin_evidence_by this above) (received_at this es j d at receive refl) in
+      let leads : (b : Bool) → next_of across p (hop_by es e.label (origin_evidence_by this b (Some j))) ≡ Some (p, j) = λ b.
       let asked = asked_label streams across es j d e at ∙ wanted in
-      let test = (label_at es j e.label).0 == e.label.0 in
-      elim b as (λ c. next_of across p (hop_by es e.label (told_by this c (Some j))) ≡ Some (p, j)) [
-        | true ↦ next_by_label across p (hop.After j) j (label_at es j e.label) e.label refl
+      let test = (label_at_or es j e.label).0 == e.label.0 in
+      elim b as (λ c. next_of across p (hop_by es e.label (origin_evidence_by this c (Some j))) ≡ Some (p, j)) [
+        | true ↦ next_by_label across p (hop.After j) j (label_at_or es j e.label) e.label refl
             ∙ wanted_leads across test (p, j) asked
-        | false ↦ next_by_label across p (hop.AfterOneLabel j) j (label_at es j e.label) e.label refl
+        | false ↦ next_by_label across p (hop.AfterOneLabel j) j (label_at_or es j e.label) e.label refl
             ∙ wanted_leads across test (p, j) asked
       ] in
       stamp_next p i e here (row_stamps this e own)

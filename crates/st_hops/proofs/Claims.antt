@@ -1,14 +1,17 @@
 -- What a hop claims is true. Of a receive, since its count names the send that it took, whether that was reported or
 -- not. Of a stamp, since what its process's events tell of its origin is true, and the receive directly before its row
 -- is the last one.
-use Rattle.std.proofs.Common.{◌≡◌, ◌≢◌, ℕ, ◌+◌, ◌==◌, ◌&&◌, ◌||◌, ◌⊎◌, Bool, true, false, cond, List, []}
-use Rattle.std.proofs.Common.{◌∷◌, length, take, Option, Some, None, option_and_then, All, inl, inr, refl, sym, ◌∙◌}
+use Rattle.std.proofs.Common.{◌≡◌, ◌≢◌, ℕ, ◌+◌, ◌==◌, ◌&&◌, ◌||◌, ◌⊎◌, Bool, true, false, cond}
+use Rattle.std.proofs.Common.{List, []}
+use Rattle.std.proofs.Common.{◌∷◌, length, take, Option, Some, None, option_and_then, All, inl}
+use Rattle.std.proofs.Common.{inr, refl, sym, ◌∙◌}
 use Rattle.std.proofs.Common.{ap, subst}
 use Rattle.std.specs.List.{slice_get, Contains}
 use Rattle.std.specs.Option.{option_map_or}
 use Rattle.std.proofs.lemmas.Bool.{and_from, and_parts, eq-eqb, eqb-true, false≢true}
 use Rattle.std.proofs.lemmas.List.Elements.{All-head, All-tail, All-from_recursion}
-use Rattle.std.proofs.lemmas.Option.{same_Some, none-some, option_and_then_some, slice_get-get_or, cond_some}
+use Rattle.std.proofs.lemmas.Option.{same_Some, none-some, option_and_then_some, slice_get-get_or}
+use Rattle.std.proofs.lemmas.Option.{cond_some}
 use Rattle.st_core.specs.declared.types.Pid.{Pid}
 use Rattle.st_core.specs.declared.types.Label.{Label}
 use Rattle.st_core.specs.declared.types.Kind.TheVariants as kind
@@ -21,24 +24,28 @@ use Rattle.st_core.specs.Run.{Shows, Stream, pids_of, run, stream}
 use Rattle.st_core.specs.Streams.{stream_of, events_of, is_among}
 use Rattle.st_core.specs.Pairs.{IsFollowing, pairs}
 use Rattle.st_core.specs.Laws.{NoReset, Reports, ReportsAmong, ReportsEvent}
-use Rattle.st_core.proofs.ForCallers.{AllZip_at, All_at, event_reported, pid_eq-true, receives_are_paired}
+use Rattle.st_core.proofs.ForCallers.{AllZip_at, All_at, event_reported, pid_eq-true}
+use Rattle.st_core.proofs.ForCallers.{receives_are_paired}
 use Rattle.st_core.proofs.ForCallers.{receives_follow, report_told, reported_sends_agree, run_named}
 use Rattle.st_pair.specs.declared.answer.Source.{Source}
 use Rattle.st_pair.specs.declared.answer.Source.TheVariants as source
 use Rattle.st_pair.specs.Places.{event_at, is_stamp}
 use Rattle.st_pair.specs.Pairing.{source_of, stamp_of}
-use Rattle.st_pair.proofs.ForCallers.{events_in, from_none, given_from, own_rule, stamp_at, stamp_not_received}
-use Rattle.st_origin.specs.declared.told.Told.{Told}
-use Rattle.st_origin.specs.declared.told.Told.TheVariants as what
-use Rattle.st_origin.specs.Events.{has_above, received_before, row_start, told, told_by}
+use Rattle.st_pair.proofs.ForCallers.{events_in, from_none, given_from, own_rule, stamp_at}
+use Rattle.st_pair.proofs.ForCallers.{stamp_not_received}
+use Rattle.st_origin.specs.declared.evidence.Evidence.{Evidence}
+use Rattle.st_origin.specs.declared.evidence.Evidence.TheVariants as what
+use Rattle.st_origin.specs.Events.{has_above, receive_before, row_start, origin_evidence}
+use Rattle.st_origin.specs.Events.{origin_evidence_by}
 use Rattle.st_origin.specs.Labels.{SetsLabelBetween}
 use Rattle.st_origin.specs.Origin.{Origin, Begins, Follows, ReportsReceives, origin}
 use Rattle.st_origin.specs.Truth.{BeginsAfter, FollowsEvent, IsTrue, IsTrueIfReported}
-use Rattle.st_origin.proofs.ForCallers.{another_label_set, last_of_row, one_label_follows, received_is, sends_told}
+use Rattle.st_origin.proofs.ForCallers.{another_label_set, last_of_row, one_label_follows}
+use Rattle.st_origin.proofs.ForCallers.{received_is, sends_told}
 use Rattle.st_origin.proofs.ForCallers.{told_true, told_true_if_reported}
 use Rattle.st_hops.specs.declared.hop.Hop.{Hop}
 use Rattle.st_hops.specs.declared.hop.Hop.TheVariants as hop
-use Rattle.st_hops.specs.Hops.{hop_by, hop_by_label, hop_of, hop_to_send, label_at, premises_of}
+use Rattle.st_hops.specs.Hops.{hop_by, hop_by_label, hop_of, hop_to_send, label_at_or, premises_of}
 use Rattle.st_hops.specs.Claims.{Claims, Hold, IsTrueHop}
 
 -- WHAT IS SHOWN
@@ -194,7 +201,7 @@ other_label : (k l : Label) → (k.0 == l.0) ≡ false → ¬ (k ≡ l)
 other_label k l h same = false≢true (sym h ∙ eq-eqb k.0 l.0 (ap (λ (x : Label). x.0) same))
 
 -- what is told names the receive directly before the row
-pub after_receive : (prev j : ℕ) (above : Bool) (o : Option ℕ) → told_by prev above o ≡ what.After j → o ≡ Some j
+pub after_receive : (prev j : ℕ) (above : Bool) (o : Option ℕ) → origin_evidence_by prev above o ≡ what.After j → o ≡ Some j
 after_receive prev j true (Some k) h = let same : k ≡ j = cc in ap Some same
 after_receive prev j false (Some k) h = absurd (cc)
 after_receive prev j true None h = absurd (cc)
@@ -204,7 +211,7 @@ after_receive prev j false None h =
       | false ↦ λ h. cc
     ] h)
 
-pub or_begins_receive : (prev j : ℕ) (above : Bool) (o : Option ℕ) → told_by prev above o ≡ what.AfterOrBegins j
+pub or_begins_receive : (prev j : ℕ) (above : Bool) (o : Option ℕ) → origin_evidence_by prev above o ≡ what.AfterOrBegins j
     → o ≡ Some j
 or_begins_receive prev j false (Some k) h = let same : k ≡ j = cc in ap Some same
 or_begins_receive prev j true (Some k) h = absurd (cc)
@@ -248,14 +255,14 @@ module _ (top : ℕ) (pids : List Pid) (acts : List Act) (os : List Outcome) (h 
       another_label_set top pids acts os h none p k n d e took r.reports other is differ
 
   -- the receive at j, to which the label decides whether the hop goes
-  by_label : (j : ℕ) (same : Hop) → received_before e.serial.prev es (row_start e.serial.prev es i) ≡ Some j
+  by_label : (j : ℕ) (same : Hop) → receive_before e.serial.prev es (row_start e.serial.prev es i) ≡ Some j
       → ((d : Event) → slice_get es j ≡ Some d → d.label ≡ e.label → IsClaimed same)
       → (ReportsReceives pids acts os p → BeginsAfter acts os p j from ⊎ FollowsEvent acts os p j from)
-      → IsClaimed (hop_by_label same j (label_at es j e.label) e.label)
+      → IsClaimed (hop_by_label same j (label_at_or es j e.label) e.label)
   by_label j same is one either =
       let x = received_is e.serial.prev es (row_start e.serial.prev es i) j is in
       let d = x.event in
-      let label : label_at es j e.label ≡ d.label =
+      let label : label_at_or es j e.label ≡ d.label =
       ap (λ (o : Option Event). elim o as (λ _. Label) [ None ↦ e.label | Some y ↦ y.label ]) x.at in
       subst (λ m. IsClaimed (hop_by_label same j m e.label)) (sym label)
       (elim (d.label.0 == e.label.0) as (λ b. (d.label.0 == e.label.0) ≡ b
@@ -274,30 +281,30 @@ module _ (top : ℕ) (pids : List Pid) (acts : List Act) (os : List Outcome) (h 
             }
       ] refl)
 
-  by_told : (t : Told) → told e.serial.prev es i ≡ t → IsClaimed (hop_by es e.label t)
-  by_told (what.After j) is =
+  by_evidence : (t : Evidence) → origin_evidence e.serial.prev es i ≡ t → IsClaimed (hop_by es e.label t)
+  by_evidence (what.After j) is =
       let k = row_start e.serial.prev es i in
       let follows : ReportsReceives pids acts os p → FollowsEvent acts os p j from =
       λ all. subst (λ t. IsTrueIfReported acts os p t from) is
       (told_true_if_reported top pids acts os h none p all i n e r other) in
       by_label j (hop.After j)
-      (after_receive e.serial.prev j (has_above e.serial.prev es k) (received_before e.serial.prev es k) is)
+      (after_receive e.serial.prev j (has_above e.serial.prev es k) (receive_before e.serial.prev es k) is)
       (λ d at label all. follows all) (λ all. inr (follows all))
-  by_told (what.AfterOrBegins j) is =
+  by_evidence (what.AfterOrBegins j) is =
       let k = row_start e.serial.prev es i in
       by_label j (hop.AfterOneLabel j)
-      (or_begins_receive e.serial.prev j (has_above e.serial.prev es k) (received_before e.serial.prev es k) is)
+      (or_begins_receive e.serial.prev j (has_above e.serial.prev es k) (receive_before e.serial.prev es k) is)
       (λ d at label both. one_label_follows top pids acts os h none p both.0 both.1 i n e r other j d is at label)
       (λ all. elim (subst (λ t. IsTrueIfReported acts os p t from) is
       (told_true_if_reported top pids acts os h none p all i n e r other)) [
         | inl follows ↦ inr follows
         | inr begins ↦ inl begins
       ])
-  by_told what.Unreported is = λ _.
+  by_evidence what.Unreported is = λ _.
       inr (subst (λ t. IsTrue acts os p t from) is (told_true top pids acts os h none p i n e r other))
-  by_told what.Begins is = λ _.
+  by_evidence what.Begins is = λ _.
       subst (λ t. IsTrue acts os p t from) is (told_true top pids acts os h none p i n e r other)
-  by_told what.BeginsOrUnreported is = λ _.
+  by_evidence what.BeginsOrUnreported is = λ _.
       subst (λ t. IsTrue acts os p t from) is (told_true top pids acts os h none p i n e r other)
 
 -- ALL EVENTS
@@ -310,15 +317,15 @@ hop_true streams p i e at top acts shows none n r =
     let es = events_of streams p in
     let events = shown_events streams acts os p shows.2 (listed streams p i e at) in
     elim (is_stamp e) as (λ b. is_stamp e ≡ b
-    → Hold pids acts os p (premises_of (cond b (hop_by es e.label (told e.serial.prev es i))
+    → Hold pids acts os p (premises_of (cond b (hop_by es e.label (origin_evidence e.serial.prev es i))
     (hop_to_send (source_of streams e))))
-    → Claims pids acts os p i e n (cond b (hop_by es e.label (told e.serial.prev es i))
+    → Claims pids acts os p i e n (cond b (hop_by es e.label (origin_evidence e.serial.prev es i))
     (hop_to_send (source_of streams e)))) [
       | true ↦ λ stamps.
-          subst (λ xs. Hold pids acts os p (premises_of (hop_by xs e.label (told e.serial.prev xs i)))
-          → Claims pids acts os p i e n (hop_by xs e.label (told e.serial.prev xs i))) (sym events)
-          (by_told top pids acts os shows.1 none p i n e r (stamp_not_received e stamps)
-          (told e.serial.prev (stream acts os p) i) refl)
+          subst (λ xs. Hold pids acts os p (premises_of (hop_by xs e.label (origin_evidence e.serial.prev xs i)))
+          → Claims pids acts os p i e n (hop_by xs e.label (origin_evidence e.serial.prev xs i))) (sym events)
+          (by_evidence top pids acts os shows.1 none p i n e r (stamp_not_received e stamps)
+          (origin_evidence e.serial.prev (stream acts os p) i) refl)
       | false ↦ λ receives _.
           receive_claims top streams acts shows none p i e n r (taken top streams acts shows none p i e n r receives)
     ] refl

@@ -9,9 +9,9 @@ use Rattle.st_pair.specs.declared.answer.Source.{Source}
 use Rattle.st_pair.specs.declared.answer.Source.TheVariants as source
 use Rattle.st_pair.specs.Places.{is_stamp}
 use Rattle.st_pair.specs.Pairing.{source_of}
-use Rattle.st_origin.specs.declared.told.Told.{Told}
-use Rattle.st_origin.specs.declared.told.Told.TheVariants as what
-use Rattle.st_origin.specs.Events.{told}
+use Rattle.st_origin.specs.declared.evidence.Evidence.{Evidence}
+use Rattle.st_origin.specs.declared.evidence.Evidence.TheVariants as what
+use Rattle.st_origin.specs.Events.{origin_evidence}
 use Rattle.st_hops.specs.declared.hop.Hop.{Hop}
 use Rattle.st_hops.specs.declared.hop.Hop.TheVariants as hop
 use Rattle.st_hops.specs.declared.hop.Premises.{Premises}
@@ -23,8 +23,8 @@ hop_to_send (source.Event q j) = hop.Sent q j
 hop_to_send source.Hidden = hop.Unsent
 
 -- the label of event j, this one if there is none
-abbrev pub label_at : List Event → ℕ → Label → Label
-label_at es j label = elim (slice_get es j) [ None ↦ label | Some e ↦ e.label ]
+abbrev pub label_at_or : List Event → ℕ → Label → Label
+label_at_or es j label = elim (slice_get es j) [ None ↦ label | Some e ↦ e.label ]
 
 -- to the receive at index j if it has the stamp's label, else to what the other label leaves open
 abbrev pub hop_by_label : Hop → ℕ → Label → Label → Hop
@@ -32,10 +32,10 @@ hop_by_label same j received label =
     if received.0 == label.0 then same else hop.OtherLabel j received
 
 -- of a send or print with this label: by what the events of its process tell of its origin
-abbrev pub hop_by : List Event → Label → Told → Hop
-hop_by es label (what.After j) = hop_by_label (hop.After j) j (label_at es j label) label
+abbrev pub hop_by : List Event → Label → Evidence → Hop
+hop_by es label (what.After j) = hop_by_label (hop.After j) j (label_at_or es j label) label
 hop_by es label (what.AfterOrBegins j) =
-    hop_by_label (hop.AfterOneLabel j) j (label_at es j label) label
+    hop_by_label (hop.AfterOneLabel j) j (label_at_or es j label) label
 hop_by es label what.Unreported = hop.BeginsOrUnreported
 hop_by es label what.Begins = hop.Begins
 hop_by es label what.BeginsOrUnreported = hop.BeginsOrUnreported
@@ -44,7 +44,8 @@ hop_by es label what.BeginsOrUnreported = hop.BeginsOrUnreported
 abbrev pub hop_of : List Stream → Pid → ℕ → Event → Hop
 hop_of streams p i e =
     if is_stamp e
-    then hop_by (events_of streams p) e.label (told e.serial.prev (events_of streams p) i)
+    then hop_by (events_of streams p) e.label
+    (origin_evidence e.serial.prev (events_of streams p) i)
     else hop_to_send (source_of streams e)
 
 -- the premises that a hop rests on

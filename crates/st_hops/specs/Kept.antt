@@ -28,7 +28,7 @@ row_starts es = starts_from es 0 es
 abbrev pub all_starts : List Stream → List (List ℕ)
 all_starts streams = map (λ s. row_starts s.events) streams
 
-pub record IsKept (streams : List Stream) (pairing : List ProcessLinks)
+pub record AreTablesOf (streams : List Stream) (pairing : List ProcessLinks)
     (greatest starts : List (List ℕ)) : Type 0 where
   pub sound : IsStreams streams
   pub made : IsPairing streams pairing

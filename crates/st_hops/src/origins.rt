@@ -9,15 +9,15 @@ ghost use Rattle.st_core.specs.Streams.{IsStreams, events_of};
 ghost use Rattle.st_pair.specs.Links.{IsPairing};
 ghost use Rattle.st_pair.specs.Places.{event_at};
 ghost use Rattle.st_pair.specs.Pairing.{receiver_at};
-ghost use Rattle.st_origin.specs.Events.{has_above, row_start, told};
-ghost use Rattle.st_hops.specs.Hops.{hop_by, hop_by_label, hop_of, hop_to_send, label_at};
+ghost use Rattle.st_origin.specs.Events.{has_above, row_start, origin_evidence};
+ghost use Rattle.st_hops.specs.Hops.{hop_by, hop_by_label, hop_of, hop_to_send, label_at_or};
 ghost use Rattle.st_hops.specs.Claims.{IsTrueHop};
 ghost use Rattle.st_hops.specs.Kept.{all_greatest, all_starts, greatest_from};
 
 use crate::hop::Hop;
-use crate::rows::{received_before, row_starts, told_by};
+use crate::rows::{evidence_by, receive_before, row_starts};
 use st_core::{Event, Kind, Label, Pid, Sequence, Streams};
-use st_origin::Told;
+use st_origin::Evidence;
 use st_pair::{Pairing, Source};
 use std::alloc::{AllocError, Global};
 use std::marker::Model;
@@ -131,8 +131,8 @@ fn has_above(
 }
 
 /// The label of the event at this index, this one if there is none.
-fn label_at(events: &[Event], index: u64, label: Label) -> Label
-    ensures { result ≡ label_at events.now index label }
+fn label_at_or(events: &[Event], index: u64, label: Label) -> Label
+    ensures { result ≡ label_at_or events.now index label }
 {
     match events.get(index as usize) {
         None => label,
@@ -152,20 +152,20 @@ fn hop_by_label(same: Hop, index: u64, received: Label, label: Label) -> Hop
 }
 
 /// The hop of a send or print with this label.
-fn hop_by(events: &[Event], label: Label, told: Told) -> Hop
-    ensures { result ≡ hop_by events.now label told }
+fn hop_by(events: &[Event], label: Label, evidence: Evidence) -> Hop
+    ensures { result ≡ hop_by events.now label evidence }
 {
-    match told {
-        Told::After(index) => {
-            let received = label_at(events, index, label);
+    match evidence {
+        Evidence::After(index) => {
+            let received = label_at_or(events, index, label);
             hop_by_label(Hop::After(index), index, received, label)
         }
-        Told::AfterOrBegins(index) => {
-            let received = label_at(events, index, label);
+        Evidence::AfterOrBegins(index) => {
+            let received = label_at_or(events, index, label);
             hop_by_label(Hop::AfterOneLabel(index), index, received, label)
         }
-        Told::Begins => Hop::Begins,
-        Told::Unreported | Told::BeginsOrUnreported => Hop::BeginsOrUnreported,
+        Evidence::Begins => Hop::Begins,
+        Evidence::Unreported | Evidence::BeginsOrUnreported => Hop::BeginsOrUnreported,
     }
 }
 
@@ -192,13 +192,13 @@ pub struct Origins<'a> {
 impl<'a> Model for Origins<'a> {
     ghost use Rattle.std.specs.Prelude.{List};
     ghost use Rattle.st_core.specs.Run.{Stream};
-    ghost use Rattle.st_hops.specs.Kept.{IsKept};
+    ghost use Rattle.st_hops.specs.Kept.{AreTablesOf};
 
     ghost Value = { List Stream };
 
     ghost view = { λ a. a.streams.now };
 
-    ghost invariant = { λ a. IsKept a.streams.now a.pairing.now a.greatest.items
+    ghost invariant = { λ a. AreTablesOf a.streams.now a.pairing.now a.greatest.items
         a.starts.items };
 }
 
@@ -244,17 +244,17 @@ impl<'a> Origins<'a> {
     }
 
     /// What its process's events tell of this send or print, which is the event at this place.
-    fn told(&self, pid: Pid, index: u64, event: &Event) -> Told
+    fn evidence(&self, pid: Pid, index: u64, event: &Event) -> Evidence
         requires { slice_get (events_of self.now pid) index ≡ Some event.now }
-        ensures { result ≡ told event.now.serial.prev (events_of self.now pid) index }
+        ensures { result ≡ origin_evidence event.now.serial.prev (events_of self.now pid) index }
     {
         let prev = event.serial.prev;
         let start = row_start(self.streams, self.starts.as_slice(), pid, index, event);
         let above = has_above(self.streams, self.greatest.as_slice(), pid, prev, start);
-        told_by(
+        evidence_by(
             prev,
             above,
-            received_before(prev, self.streams.events(pid), start),
+            receive_before(prev, self.streams.events(pid), start),
         )
     }
 
@@ -279,7 +279,7 @@ impl<'a> Origins<'a> {
                 hop_by(
                     self.streams.events(pid),
                     event.label,
-                    self.told(pid, index, event),
+                    self.evidence(pid, index, event),
                 )
             }
         }

@@ -4,10 +4,10 @@ ghost use Rattle.std.specs.Prelude.{◌≡◌, ◌-◌, ◌<◌, ◌≤◌, IfOk
 ghost use Rattle.std.specs.List.{prefix_len};
 ghost use Rattle.st_core.specs.declared.types.Event.{Event as EventValue};
 ghost use Rattle.st_hops.specs.Kept.{row_starts};
-ghost use Rattle.st_origin.specs.Events.{in_row, received_before, row_start, told_by};
+ghost use Rattle.st_origin.specs.Events.{in_row, receive_before, row_start, origin_evidence_by};
 
 use st_core::{Event, Kind};
-use st_origin::Told;
+use st_origin::Evidence;
 use std::alloc::{AllocError, Global};
 
 /// Whether the event is a send or a print with this prev.
@@ -65,9 +65,9 @@ pub(crate) fn row_starts(alloc: Global, events: &[Event]) -> Result<Vec<usize>, 
 }
 
 /// The index before this one, if a receive of this count is there.
-pub(crate) fn received_before(this: u64, events: &[Event], index: usize) -> Option<u64>
+pub(crate) fn receive_before(this: u64, events: &[Event], index: usize) -> Option<u64>
     requires { index ≤ length events.now }
-    ensures { result ≡ received_before this events.now index }
+    ensures { result ≡ receive_before this events.now index }
 {
     if index == 0 {
         return None;
@@ -85,26 +85,26 @@ pub(crate) fn received_before(this: u64, events: &[Event], index: usize) -> Opti
     }
 }
 
-/// What is told, by whether a count above the prev is before the row, and by the receive
+/// The evidence, by whether a count above the prev is before the row, and by the receive
 /// directly before it.
-pub(crate) fn told_by(prev: u64, above: bool, receive: Option<u64>) -> Told
-    ensures { result ≡ told_by prev above receive }
+pub(crate) fn evidence_by(prev: u64, above: bool, receive: Option<u64>) -> Evidence
+    ensures { result ≡ origin_evidence_by prev above receive }
 {
     match receive {
         Some(index) => {
             if above {
-                Told::After(index)
+                Evidence::After(index)
             } else {
-                Told::AfterOrBegins(index)
+                Evidence::AfterOrBegins(index)
             }
         }
         None => {
             if above {
-                Told::Unreported
+                Evidence::Unreported
             } else if prev == 0 {
-                Told::Begins
+                Evidence::Begins
             } else {
-                Told::BeginsOrUnreported
+                Evidence::BeginsOrUnreported
             }
         }
     }

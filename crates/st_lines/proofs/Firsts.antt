@@ -1,6 +1,7 @@
 -- The line of an event is that of its process's first event and its index more, and what is kept at a
 -- process's place is the line of its first event.
-use Rattle.std.proofs.Common.{◌≡◌, ◌≢◌, ℕ, ◌+◌, ◌-◌, ◌<◌, ◌≤◌, ◌^◌, zero, suc, nat_lt, true, false, cond, List}
+use Rattle.std.proofs.Common.{◌≡◌, ◌≢◌, ℕ, ◌+◌, ◌-◌, ◌<◌, ◌≤◌, ◌^◌, zero, suc, nat_lt, true}
+use Rattle.std.proofs.Common.{false, cond, List}
 use Rattle.std.proofs.Common.{[], ◌∷◌, ◌++◌, length, drop, get_or}
 use Rattle.std.proofs.Common.{Option, Some, None, option_and_then, slice_get, refl}
 use Rattle.std.proofs.Common.{sym, ◌∙◌, ap, subst, arith, append_assoc, append-nil, inl, inr}
@@ -14,7 +15,7 @@ use Rattle.st_core.specs.Run.{Stream, pids_of}
 use Rattle.st_core.specs.Streams.{IsStreams, events_of, stream_of}
 use Rattle.st_core.proofs.ForCallers.{above_apart, pid_eq-true, pid_eq-refl}
 use Rattle.st_pair.proofs.ForCallers.{at_get_or, events_in, is_at}
-use Rattle.st_lines.specs.Lines.{line_behind, line_from, line_of}
+use Rattle.st_lines.specs.Lines.{line_behind, line_from, line_number_of}
 use Rattle.st_lines.specs.Kept.{AreFirsts, first_line, firsts_from}
 
 -- ONE EVENT
@@ -37,52 +38,52 @@ line_parts first (s ∷ streams) p i =
     ]
 
 pub line_by : (streams : List Stream) (p : Pid) (i : ℕ) (o : Option ℕ) → o ≡ first_line 3 streams p
-    → option_and_then (line_at (length (events_of streams p)) i) o ≡ line_of streams p i
+    → option_and_then (line_at (length (events_of streams p)) i) o ≡ line_number_of streams p i
 line_by streams p i o is =
     ap (option_and_then (line_at (length (events_of streams p)) i)) is ∙ sym (line_parts 3 streams p i)
 
-pub line_none : (streams : List Stream) (p : Pid) (i : ℕ) → first_line 3 streams p ≡ None → line_of streams p i ≡ None
+pub line_none : (streams : List Stream) (p : Pid) (i : ℕ) → first_line 3 streams p ≡ None → line_number_of streams p i ≡ None
 line_none streams p i is = sym (line_by streams p i None (sym is))
 
 pub line_some : (streams : List Stream) (p : Pid) (i f : ℕ) → first_line 3 streams p ≡ Some f
-    → i < length (events_of streams p) → line_of streams p i ≡ Some (f + i)
+    → i < length (events_of streams p) → line_number_of streams p i ≡ Some (f + i)
 line_some streams p i f is less =
     sym (line_by streams p i (Some f) (sym is))
     ∙ ap (λ b. cond b (Some (f + i)) None) (lt-ltb i (length (events_of streams p)) less)
 
 pub line_past : (streams : List Stream) (p : Pid) (i f : ℕ) → first_line 3 streams p ≡ Some f
-    → length (events_of streams p) ≤ i → line_of streams p i ≡ None
+    → length (events_of streams p) ≤ i → line_number_of streams p i ≡ None
 line_past streams p i f is past =
     sym (line_by streams p i (Some f) (sym is))
     ∙ ap (λ b. cond b (Some (f + i)) None) (le-ltb i (length (events_of streams p)) past)
 
 -- an event on a line
 pub line_says : (streams : List Stream) (p : Pid) (i f n : ℕ) → first_line 3 streams p ≡ Some f
-    → line_of streams p i ≡ Some n → (i < length (events_of streams p)) × (f + i ≡ n)
+    → line_number_of streams p i ≡ Some n → (i < length (events_of streams p)) × (f + i ≡ n)
 line_says streams p i f n is at =
     let count = length (events_of streams p) in
     let parts = cond_some (nat_lt i count) (f + i) n (line_by streams p i (Some f) (sym is) ∙ at) in
     (ltb-true i count parts.0, parts.1)
 
 pub line_on : (streams : List Stream) (p : Pid) (f n : ℕ) → first_line 3 streams p ≡ Some f → f ≤ n
-    → n - f < length (events_of streams p) → line_of streams p (n - f) ≡ Some n
+    → n - f < length (events_of streams p) → line_number_of streams p (n - f) ≡ Some n
 line_on streams p f n is low high =
     let whole : f + (n - f) ≡ n = omega arith in
     line_some streams p (n - f) f is high ∙ ap Some whole
 
 pub line_none_says : (streams : List Stream) (p : Pid) (i n : ℕ) → first_line 3 streams p ≡ None
-    → line_of streams p i ≢ Some n
+    → line_number_of streams p i ≢ Some n
 line_none_says streams p i n is at = none-some n (sym (line_none streams p i is) ∙ at)
 
 pub line_below : (streams : List Stream) (p : Pid) (f n i : ℕ) → first_line 3 streams p ≡ Some f → n < f
-    → line_of streams p i ≢ Some n
+    → line_number_of streams p i ≢ Some n
 line_below streams p f n i is low at =
     let says = line_says streams p i f n is at in
     let whole = says.1 in
     absurd (omega arith)
 
 pub line_above : (streams : List Stream) (p : Pid) (f n i : ℕ) → first_line 3 streams p ≡ Some f
-    → length (events_of streams p) ≤ n - f → line_of streams p i ≢ Some n
+    → length (events_of streams p) ≤ n - f → line_number_of streams p i ≢ Some n
 line_above streams p f n i is high at =
     let says = line_says streams p i f n is at in
     let within = says.0 in
@@ -177,27 +178,27 @@ not_less j k less is = elim (cases_lt j k) [
 -- no process up to a place has an event on the line
 abbrev pub NoneBefore : List Stream → ℕ → ℕ → Type 0
 NoneBefore streams n k = (j : ℕ) (q : Pid) → j < k → slice_get (pids_of streams) j ≡ Some q → (i : ℕ)
-    → line_of streams q i ≢ Some n
+    → line_number_of streams q i ≢ Some n
 
 pub none_more : (streams : List Stream) (pids : List Pid) (n k : ℕ) (d : Pid) → pids ≡ pids_of streams
-    → k < length pids → NoneBefore streams n k → ((i : ℕ) → line_of streams (get_or pids k d) i ≢ Some n)
+    → k < length pids → NoneBefore streams n k → ((i : ℕ) → line_number_of streams (get_or pids k d) i ≢ Some n)
     → NoneBefore streams n (k + 1)
 none_more streams pids n k d are within before here j q less at i =
-    elim (nat_lt j k) as (λ b. nat_lt j k ≡ b → line_of streams q i ≢ Some n) [
+    elim (nat_lt j k) as (λ b. nat_lt j k ≡ b → line_number_of streams q i ≢ Some n) [
       | true ↦ λ is. before j q (ltb-true j k is) at i
       | false ↦ λ is.
           let same : j ≡ k = not_less j k less is in
           let who : get_or pids k d ≡ q = same_Some (get_or pids k d) q
           (sym (at_get_or pids k d within) ∙ ap (λ (ps : List Pid). slice_get ps k) are
           ∙ ap (slice_get (pids_of streams)) (sym same) ∙ at) in
-          subst (λ x. line_of streams x i ≢ Some n) who (here i)
+          subst (λ x. line_number_of streams x i ≢ Some n) who (here i)
     ] refl
 
 -- if no process has one, nobody does
 pub none_at_all : (streams : List Stream) (pids : List Pid) (n k : ℕ) → pids ≡ pids_of streams → length pids ≤ k
-    → NoneBefore streams n k → (p : Pid) (i : ℕ) → line_of streams p i ≢ Some n
+    → NoneBefore streams n k → (p : Pid) (i : ℕ) → line_number_of streams p i ≢ Some n
 none_at_all streams pids n k are past before p i =
-    elim (first_line 3 streams p) as (λ o. first_line 3 streams p ≡ o → line_of streams p i ≢ Some n) [
+    elim (first_line 3 streams p) as (λ o. first_line 3 streams p ≡ o → line_number_of streams p i ≢ Some n) [
       | None ↦ λ none. line_none_says streams p i n none
       | Some f ↦ λ is.
           let at = listed_at 3 streams p f is in

@@ -1,7 +1,9 @@
 -- The lines behind the header are those of each process in order, so the line of an event is found by passing the
 -- processes before it. The lines of acts are no event's.
-use Rattle.std.proofs.Common.{◌≡◌, ℕ, ◌+◌, ◌-◌, ◌<◌, ◌≤◌, zero, suc, nat_lt, true, false, cond, List, [], ◌∷◌}
-use Rattle.std.proofs.Common.{◌++◌, length, map, Option, Some, None, slice_get, refl, sym, ◌∙◌, ap, arith}
+use Rattle.std.proofs.Common.{◌≡◌, ℕ, ◌+◌, ◌-◌, ◌<◌, ◌≤◌, zero, suc, nat_lt, true, false, cond}
+use Rattle.std.proofs.Common.{List, [], ◌∷◌}
+use Rattle.std.proofs.Common.{◌++◌, length, map, Option, Some, None, slice_get, refl, sym, ◌∙◌}
+use Rattle.std.proofs.Common.{ap, arith}
 use Rattle.std.proofs.Common.{append_assoc, inl, inr}
 use Rattle.std.specs.List.{flat_map, list_any}
 use Rattle.std.proofs.lemmas.Bool.{cases_lt, lt-ltb}
@@ -17,7 +19,7 @@ use Rattle.st_pair.proofs.ForCallers.{events_in}
 use Rattle.st_text.specs.declared.line.Line.{Line}
 use Rattle.st_text.specs.declared.line.Line.TheVariants as lines
 use Rattle.st_text.specs.Text.{Contents, act_lines, body, is_remote, lines_of, process_lines}
-use Rattle.st_lines.specs.Lines.{act_line_of, line_behind, line_from, line_of}
+use Rattle.st_lines.specs.Lines.{act_line_number_of, line_behind, line_from, line_number_of}
 
 abbrev event_lines : List Event → List Line
 event_lines es = map lines.Event es
@@ -85,7 +87,7 @@ line_in first (s ∷ streams) tail p i e at =
     ] refl at
 
 pub event_on_line : (c : Contents) (p : Pid) (i : ℕ) (e : Event) → slice_get (events_of c.streams p) i ≡ Some e
-    → (n : ℕ) × (line_of c.streams p i ≡ Some n) × (slice_get (lines_of c) (n - 1) ≡ Some (lines.Event e))
+    → (n : ℕ) × (line_number_of c.streams p i ≡ Some n) × (slice_get (lines_of c) (n - 1) ≡ Some (lines.Event e))
 event_on_line c p i e at =
     let x = line_in 3 c.streams (act_lines c.acts) p i e at in
     let n = x.line in
@@ -131,7 +133,7 @@ all_passed first (s ∷ streams) tail =
     }
 
 pub act_on_line : (c : Contents) (acts : List Act) (n : ℕ) (a : Act) → c.acts ≡ Some acts → slice_get acts n ≡ Some a
-    → slice_get (lines_of c) (act_line_of c.streams n - 1) ≡ Some (lines.Act a)
+    → slice_get (lines_of c) (act_line_number_of c.streams n - 1) ≡ Some (lines.Act a)
 act_on_line c acts n a are at =
     let behind = all_passed 3 c.streams (act_lines c.acts) in
     let low = behind.low in
@@ -259,7 +261,7 @@ placed first (s ∷ streams) acts k e rising at =
 
 pub line_has_event : (c : Contents) (n : ℕ) (e : Event) → IsRising (pids_of c.streams)
     → slice_get (lines_of c) n ≡ Some (lines.Event e)
-    → (p : Pid) × (i : ℕ) × (slice_get (events_of c.streams p) i ≡ Some e) × (line_of c.streams p i ≡ Some (suc n))
+    → (p : Pid) × (i : ℕ) × (slice_get (events_of c.streams p) i ≡ Some e) × (line_number_of c.streams p i ≡ Some (suc n))
 line_has_event c zero e rising at =
     let same = same_Some (lines.Header (list_any is_remote (body c))) (lines.Event e) at in absurd (cc)
 line_has_event c (suc k) e rising at =

@@ -16,8 +16,8 @@ line_from first (s ∷ rest) p i =
 
 -- the line of event i of p; none if there is no such event. Above the first event are the header
 -- and its process
-abbrev pub line_of : List Stream → Pid → ℕ → Option ℕ
-line_of streams p i = line_from 3 streams p i
+abbrev pub line_number_of : List Stream → Pid → ℕ → Option ℕ
+line_number_of streams p i = line_from 3 streams p i
 
 -- where the first event of a further process would be, if that of these streams is on line `first`
 abbrev pub line_behind : ℕ → List Stream → ℕ
@@ -25,5 +25,5 @@ line_behind first [] = first
 line_behind first (s ∷ rest) = line_behind (first + length s.events + 1) rest
 
 -- the line of act n, if the bundle has acts: the word acts is where a further process would be
-abbrev pub act_line_of : List Stream → ℕ → ℕ
-act_line_of streams n = line_behind 3 streams + n
+abbrev pub act_line_number_of : List Stream → ℕ → ℕ
+act_line_number_of streams n = line_behind 3 streams + n

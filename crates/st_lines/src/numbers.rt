@@ -6,7 +6,7 @@ ghost use Rattle.std.specs.Prelude.{length};
 ghost use Rattle.st_core.specs.declared.types.Pid.{Pid as PidValue};
 ghost use Rattle.st_core.specs.Streams.{events_of};
 ghost use Rattle.st_lines.specs.Kept.{AreFirsts, first_line};
-ghost use Rattle.st_lines.specs.Lines.{act_line_of, line_of};
+ghost use Rattle.st_lines.specs.Lines.{act_line_number_of, line_number_of};
 
 use st_core::{Pid, Streams};
 use std::alloc::{AllocError, Global};
@@ -89,7 +89,7 @@ impl<'a> LineNumbers<'a> {
     /// The line of a process's event, counted from 1; none if there is no such event.
     #[tactic(auto, using(crate::proofs::Firsts::line_by))]
     pub fn line(&self, pid: Pid, index: u64) -> Option<u64>
-        ensures { result ≡ line_of self.now pid index }
+        ensures { result ≡ line_number_of self.now pid index }
     {
         match self.first(pid) {
             None => None,
@@ -106,16 +106,16 @@ impl<'a> LineNumbers<'a> {
     /// The line of the act with this number, counted from 0, if the bundle has acts; none if no
     /// number is so great.
     pub fn act_line(&self, number: u64) -> Option<u64>
-        ensures value { IfSome result (λ line. line ≡ act_line_of self.now number) }
-        ensures missing { IfNone result (2 ^ 64 ≤ act_line_of self.now number) }
+        ensures value { IfSome result (λ line. line ≡ act_line_number_of self.now number) }
+        ensures missing { IfNone result (2 ^ 64 ≤ act_line_number_of self.now number) }
     {
         self.first_act.checked_add(number)
     }
 
     /// The index of this process's event on a line; none if the line is none of its events'.
     fn index_on(&self, pid: Pid, line: u64) -> Option<u64>
-        ensures found { IfSome result (λ i. line_of self.now pid i ≡ Some line) }
-        ensures missing { IfNone result ((i : ℕ) → line_of self.now pid i ≢ Some line) }
+        ensures found { IfSome result (λ i. line_number_of self.now pid i ≡ Some line) }
+        ensures missing { IfNone result ((i : ℕ) → line_number_of self.now pid i ≢ Some line) }
     {
         match self.first(pid) {
             None => None,
@@ -132,9 +132,10 @@ impl<'a> LineNumbers<'a> {
     /// The process and index of the event on a line; none if the line is no event's. Its time grows
     /// as the number of processes does.
     pub fn place(&self, line: u64) -> Option<(Pid, u64)>
-        ensures found { IfSome result (λ place. line_of self.now place.0 place.1 ≡ Some line) }
+        ensures found { IfSome result (λ place.
+            line_number_of self.now place.0 place.1 ≡ Some line) }
         ensures missing { IfNone result
-            ((p : PidValue) (i : ℕ) → line_of self.now p i ≢ Some line) }
+            ((p : PidValue) (i : ℕ) → line_number_of self.now p i ≢ Some line) }
     {
         for &pid in self.streams.pids() {
             if let Some(index) = self.index_on(pid, line) {

@@ -1,7 +1,7 @@
 -- The lemmas that proofs of the crates above may cite: what events tell of an origin is true, where a token got
 -- another label, and what is before a row of sends and prints. They hold by the definitions alone.
 
--- ---- what is told
+-- ---- evidence
 pub use Rattle.st_origin.proofs.Truths.{told_true, told_true_if_reported, one_label_follows, sends_told}
 -- ---- labels
 pub use Rattle.st_origin.proofs.Labels.{another_label_set}

@@ -1,7 +1,8 @@
 -- What is between an index and a later one decides where the row begins that goes up to the later one: nothing but
 -- sends and prints of one prev, back to the first event that is none.
 use Rattle.std.proofs.Common.{◌≡◌, ◌≢◌, ℕ, ◌+◌, ◌<◌, ◌≤◌, ◌&&◌, ◌==◌, zero, suc, Bool, true, false}
-use Rattle.std.proofs.Common.{cond, List, [], ◌∷◌, ◌++◌, length, take, Option, Some, None, inl, inr, refl, sym, ◌∙◌}
+use Rattle.std.proofs.Common.{cond, List, [], ◌∷◌, ◌++◌, length, take, Option, Some, None, inl}
+use Rattle.std.proofs.Common.{inr, refl, sym, ◌∙◌}
 use Rattle.std.proofs.Common.{ap, arith}
 use Rattle.std.specs.Prelude.{not}
 use Rattle.std.specs.List.{slice_get, AllByRecursion}
@@ -13,7 +14,7 @@ use Rattle.st_core.specs.declared.types.Kind.TheVariants as kind
 use Rattle.st_core.specs.declared.types.Event.{Event}
 use Rattle.st_core.specs.Laws.{greatest_count}
 use Rattle.st_core.proofs.ForCallers.{both_true}
-use Rattle.st_origin.specs.Events.{has_above, in_row, is_receive, received_before, row_start}
+use Rattle.st_origin.specs.Events.{has_above, in_row, is_receive, receive_before, row_start}
 use Rattle.st_origin.specs.Truth.{last_receive}
 
 -- all of these are in the row of this prev
@@ -94,7 +95,7 @@ row_passes prev es j (suc i) le row = elim (cases_order j (suc i)) [
 -- THE RECEIVE BEFORE IT
 
 pub received_at : (prev : ℕ) (es : List Event) (j : ℕ) (e : Event) → slice_get es j ≡ Some e → is_receive e ≡ true
-    → e.serial.this ≡ prev → received_before prev es (suc j) ≡ Some j
+    → e.serial.this ≡ prev → receive_before prev es (suc j) ≡ Some j
 received_at prev es j e at is this =
     let by = λ (o : Option Event). elim o as (λ _. Option ℕ) [
       | None ↦ None
@@ -103,7 +104,7 @@ received_at prev es j e at is this =
     let both = both_true (is_receive e) (e.serial.this == prev) is (eq-eqb e.serial.this prev this) in
     ap by at ∙ ap (λ c. cond c (Some j) None) both
 
-pub received_earlier : (prev : ℕ) (es : List Event) (k j : ℕ) → received_before prev es k ≡ Some j → j < k
+pub received_earlier : (prev : ℕ) (es : List Event) (k j : ℕ) → receive_before prev es k ≡ Some j → j < k
 received_earlier prev es zero j h = absurd (none-some j h)
 received_earlier prev es (suc k) j h =
     elim (slice_get es k) as (λ o.
@@ -228,7 +229,7 @@ pub record IsReceivedBefore (es : List Event) (k j this : ℕ) : Type 0 where
   pub count : event.serial.this ≡ this
   pub index : k ≡ suc j
 
-pub received_is : (this : ℕ) (es : List Event) (k j : ℕ) → received_before this es k ≡ Some j
+pub received_is : (this : ℕ) (es : List Event) (k j : ℕ) → receive_before this es k ≡ Some j
     → IsReceivedBefore es k j this
 received_is this es zero j h = absurd (none-some j h)
 received_is this es (suc k) j h =
@@ -250,7 +251,7 @@ received_is this es (suc k) j h =
 
 -- it is the last one before the row
 pub last_of_row : (prev : ℕ) (es : List Event) (i j : ℕ)
-    → received_before prev es (row_start prev es i) ≡ Some j → last_receive es i ≡ Some j
+    → receive_before prev es (row_start prev es i) ≡ Some j → last_receive es i ≡ Some j
 last_of_row prev es i j is =
     let k = row_start prev es i in
     let x = received_is prev es k j is in

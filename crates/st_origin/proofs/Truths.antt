@@ -1,7 +1,9 @@
 -- What events tell of a stamp's origin is true, by the account of its process: the row goes back to the origin's act at
 -- least, and no further than a receive that was reported.
-use Rattle.std.proofs.Common.{◌≡◌, ◌≢◌, ℕ, ◌+◌, ◌<◌, ◌≤◌, ◌⊎◌, ◌==◌, zero, suc, Bool, true, false, cond, List, [], ◌∷◌}
-use Rattle.std.proofs.Common.{◌++◌, length, take, drop, Option, Some, None, option_and_then, option_to_list, inl}
+use Rattle.std.proofs.Common.{◌≡◌, ◌≢◌, ℕ, ◌+◌, ◌<◌, ◌≤◌, ◌⊎◌, ◌==◌, zero, suc, Bool, true, false}
+use Rattle.std.proofs.Common.{cond, List, [], ◌∷◌}
+use Rattle.std.proofs.Common.{◌++◌, length, take, drop, Option, Some, None, option_and_then}
+use Rattle.std.proofs.Common.{option_to_list, inl}
 use Rattle.std.proofs.Common.{inr, refl, sym, ◌∙◌, ap, subst, arith, append_assoc}
 use Rattle.std.specs.Prelude.{is_none, MatchOption}
 use Rattle.std.specs.List.{slice_get}
@@ -20,18 +22,23 @@ use Rattle.st_core.specs.Run.{run, stream}
 use Rattle.st_core.specs.Pairs.{IsFollowing}
 use Rattle.st_core.specs.Laws.{greatest_count, LiftsClock, moves_token, NoReset, ReportsEvent}
 use Rattle.st_core.proofs.ForCallers.{followed_sends_lift, lifted_once, reported_stamps_lift}
-use Rattle.st_origin.specs.declared.told.Told.{Told}
-use Rattle.st_origin.specs.declared.told.Told.TheVariants as what
+use Rattle.st_origin.specs.declared.evidence.Evidence.{Evidence}
+use Rattle.st_origin.specs.declared.evidence.Evidence.TheVariants as what
 use Rattle.st_origin.specs.Origin.{Origin, Follows, Begins, given, given_by, given_to, origin}
 use Rattle.st_origin.specs.Origin.{ReportsReceives, state_before}
-use Rattle.st_origin.specs.Events.{has_above, received_before, row_start, told, told_by}
-use Rattle.st_origin.specs.Truth.{BeginsAfter, FollowsEvent, FollowsUnreported, IsBeginning, IsTrue, IsTrueIfReported}
+use Rattle.st_origin.specs.Events.{has_above, receive_before, row_start, origin_evidence}
+use Rattle.st_origin.specs.Events.{origin_evidence_by}
+use Rattle.st_origin.specs.Truth.{BeginsAfter, FollowsEvent, FollowsUnreported, IsBeginning}
+use Rattle.st_origin.specs.Truth.{IsTrue, IsTrueIfReported}
 use Rattle.st_origin.specs.Truth.{IsUnreported, last_receive, NeverBeginsAgain}
-use Rattle.st_origin.proofs.Rows.{AreInRow, event_behind, front_not_above, IsRowBetween, last_earlier}
+use Rattle.st_origin.proofs.Rows.{AreInRow, event_behind, front_not_above, IsRowBetween}
+use Rattle.st_origin.proofs.Rows.{last_earlier}
 use Rattle.st_origin.proofs.Rows.{last_is, last_passes}
-use Rattle.st_origin.proofs.Rows.{not_above, receive_is, received_at, received_earlier, row_behind, row_passes}
+use Rattle.st_origin.proofs.Rows.{not_above, receive_is, received_at, received_earlier}
+use Rattle.st_origin.proofs.Rows.{row_behind, row_passes}
 use Rattle.st_origin.proofs.Rows.{row_start_within, row_stops}
-use Rattle.st_origin.proofs.Accounts.{Accounts, front, front_and_rest, OfBeginning, OfNothing, OfReceive, reported}
+use Rattle.st_origin.proofs.Accounts.{Accounts, front, front_and_rest, OfBeginning, OfNothing}
+use Rattle.st_origin.proofs.Accounts.{OfReceive, reported}
 use Rattle.st_origin.proofs.Accounts.{stamp_accounted}
 
 -- WHAT STANDS BETWEEN THE ORIGIN AND THE STAMP
@@ -61,14 +68,14 @@ split_by prev i es front before row rest whole parts at all =
 -- TELLING
 
 told_at : (prev : ℕ) (es : List Event) (k : ℕ) (above : Bool) (o : Option ℕ) → has_above prev es k ≡ above
-    → received_before prev es k ≡ o → told_by prev (has_above prev es k) (received_before prev es k)
-    ≡ told_by prev above o
-told_at prev es k above o is at = ap (λ b. told_by prev b (received_before prev es k)) is ∙ ap (told_by prev above) at
+    → receive_before prev es k ≡ o → origin_evidence_by prev (has_above prev es k) (receive_before prev es k)
+    ≡ origin_evidence_by prev above o
+told_at prev es k above o is at = ap (λ b. origin_evidence_by prev b (receive_before prev es k)) is ∙ ap (origin_evidence_by prev above) at
 
 module _ (acts : List Act) (os : List Outcome) (p : Pid) where
-  -- an unreported receive makes true whatever is told of a prev above 0
+  -- an unreported receive makes any evidence of a prev above 0 true
   unreported_true : (prev : ℕ) (above : Bool) (o : Option ℕ) (is : Option Origin) → 0 < prev
-      → FollowsUnreported os is → IsTrue acts os p (told_by prev above o) is
+      → FollowsUnreported os is → IsTrue acts os p (origin_evidence_by prev above o) is
   unreported_true prev true (Some j) is some f = inr f
   unreported_true prev false (Some j) is some f = inl (inr f)
   unreported_true prev true None is some f = f
@@ -77,12 +84,12 @@ module _ (acts : List Act) (os : List Outcome) (p : Pid) where
       subst (λ b. IsTrue acts os p (cond b what.Begins what.BeginsOrUnreported) is) (sym no) (inr f)
 
   reported_true : (prev j : ℕ) (above : Bool) (is : Option Origin) → FollowsEvent acts os p j is
-      → IsTrue acts os p (told_by prev above (Some j)) is
+      → IsTrue acts os p (origin_evidence_by prev above (Some j)) is
   reported_true prev j true is f = inl f
   reported_true prev j false is f = inl (inl f)
 
   beginning_true : (prev : ℕ) (o : Option ℕ) (m : ℕ) → ((j : ℕ) → o ≡ Some j → j < length (front acts os p m))
-      → IsTrue acts os p (told_by prev false o) (Some (Begins m))
+      → IsTrue acts os p (origin_evidence_by prev false o) (Some (Begins m))
   beginning_true prev (Some j) m within = inr (m, refl, within j refl)
   beginning_true prev None m within =
       elim (prev == 0) as (λ b. IsTrue acts os p (cond b what.Begins what.BeginsOrUnreported) (Some (Begins m))) [
@@ -126,9 +133,9 @@ module _ (acts : List Act) (os : List Outcome) (p : Pid) where
 
   received_true : (prev i n m : ℕ) → length (front acts os p n) ≡ i
       → OfReceive acts os p m prev (front acts os p n)
-      → IsTrue acts os p (told prev all_events i) (Some (Follows m))
+      → IsTrue acts os p (origin_evidence prev all_events i) (Some (Follows m))
   received_true prev i n m at a =
-      elim (reported os m) as (λ t. reported os m ≡ t → IsTrue acts os p (told prev all_events i) (Some (Follows m))) [
+      elim (reported os m) as (λ t. reported os m ≡ t → IsTrue acts os p (origin_evidence prev all_events i) (Some (Follows m))) [
         | None ↦ λ none. unreported_true prev _ _ (Some (Follows m)) a.some (m, refl, none)
         | Some r ↦ λ is.
             let j = length (front acts os p m) in
@@ -137,8 +144,8 @@ module _ (acts : List Act) (os : List Outcome) (p : Pid) where
             let kind = receive_is r receive.0 in
             let start : row_start prev all_events i ≡ suc j =
             row_passes prev all_events (suc j) i x.within x.row ∙ row_stops prev all_events j r x.at kind in
-            let by = λ (k : ℕ). told_by prev (has_above prev all_events k) (received_before prev all_events k) in
-            let tells : told prev all_events i ≡ told_by prev (has_above prev all_events (suc j)) (Some j) =
+            let by = λ (k : ℕ). origin_evidence_by prev (has_above prev all_events k) (receive_before prev all_events k) in
+            let tells : origin_evidence prev all_events i ≡ origin_evidence_by prev (has_above prev all_events (suc j)) (Some j) =
             ap by start
             ∙ told_at prev all_events (suc j) (has_above prev all_events (suc j)) (Some j) refl
             (received_at prev all_events j r x.at kind receive.1) in
@@ -165,38 +172,38 @@ module _ (acts : List Act) (os : List Outcome) (p : Pid) where
       )
 
   begun_true : (prev i n m : ℕ) → length (front acts os p n) ≡ i → OfBeginning acts os p m prev (front acts os p n)
-      → IsTrue acts os p (told prev all_events i) (Some (Begins m))
+      → IsTrue acts os p (origin_evidence prev all_events i) (Some (Begins m))
   begun_true prev i n m at a =
       let k = row_start prev all_events i in
       let row = row_of_beginning prev i n m at a in
-      let tells = told_at prev all_events k false (received_before prev all_events k)
+      let tells = told_at prev all_events k false (receive_before prev all_events k)
       (not_above prev all_events k row.1) refl in
       subst (λ t. IsTrue acts os p t (Some (Begins m))) (sym tells)
-      (beginning_true prev (received_before prev all_events k) m
+      (beginning_true prev (receive_before prev all_events k) m
       (λ j is. let less = received_earlier prev all_events k j is in let low = row.0 in omega arith))
 
   nothing_true : (prev i n : ℕ) → length (front acts os p n) ≡ i → OfNothing prev (front acts os p n)
-      → IsTrue acts os p (told prev all_events i) None
+      → IsTrue acts os p (origin_evidence prev all_events i) None
   nothing_true prev i n at a =
       let rest = stream (drop n acts) (drop n os) p in
       let split = split_by prev i all_events (front acts os p n) [] (front acts os p n) rest
       (front_and_rest acts os p n) refl at a.row in
       let start : row_start prev all_events i ≡ 0 = row_passes prev all_events 0 i split.length_before split.row in
-      let by = λ (k : ℕ). told_by prev (has_above prev all_events k) (received_before prev all_events k) in
-      let tells : told prev all_events i ≡ what.Begins =
+      let by = λ (k : ℕ). origin_evidence_by prev (has_above prev all_events k) (receive_before prev all_events k) in
+      let tells : origin_evidence prev all_events i ≡ what.Begins =
       ap by start ∙ told_at prev all_events 0 false None (not_above prev all_events 0 (omega arith)) refl
       ∙ ap (λ b. cond b what.Begins what.BeginsOrUnreported) (eq-eqb prev 0 a.zero_prev) in
       subst (λ t. IsTrue acts os p t None) (sym tells) (inr refl)
 
   told_true_of : (prev i n : ℕ) (o : Option Origin) → length (front acts os p n) ≡ i
-      → Accounts acts os p prev (front acts os p n) o → IsTrue acts os p (told prev all_events i) o
+      → Accounts acts os p prev (front acts os p n) o → IsTrue acts os p (origin_evidence prev all_events i) o
   told_true_of prev i n None at a = nothing_true prev i n at a
   told_true_of prev i n (Some (Follows m)) at a = received_true prev i n m at a
   told_true_of prev i n (Some (Begins m)) at a = begun_true prev i n m at a
 
 pub told_true : (top : ℕ) (pids : List Pid) (acts : List Act) (os : List Outcome) → run top pids acts ≡ Some os
     → NoReset acts → (p : Pid) (i n : ℕ) (e : Event) → ReportsEvent acts os p i e n → e.kind ≢ kind.Receive
-    → IsTrue acts os p (told e.serial.prev (stream acts os p) i) (origin pids acts os p n)
+    → IsTrue acts os p (origin_evidence e.serial.prev (stream acts os p) i) (origin pids acts os p n)
 told_true top pids acts os h none p i n e r other =
     told_true_of acts os p e.serial.prev i n (origin pids acts os p n) r.before
     (stamp_accounted top pids acts os h none p i n e r other)
@@ -254,7 +261,7 @@ module _ (pids : List Pid) (acts : List Act) (os : List Outcome) (p : Pid) where
     none_unreported : (n : ℕ) → FollowsUnreported os (origin pids acts os p n) → ⊥
     none_unreported n f = was_reported n f.0 f.1 f.2
 
-    true_if_reported : (n : ℕ) (t : Told) → IsTrue acts os p t (origin pids acts os p n)
+    true_if_reported : (n : ℕ) (t : Evidence) → IsTrue acts os p t (origin pids acts os p n)
         → IsTrueIfReported acts os p t (origin pids acts os p n)
     true_if_reported n (what.After j) (inl f) = f
     true_if_reported n (what.After j) (inr f) = absurd (none_unreported n f)
@@ -269,9 +276,9 @@ module _ (pids : List Pid) (acts : List Act) (os : List Outcome) (p : Pid) where
 pub told_true_if_reported : (top : ℕ) (pids : List Pid) (acts : List Act) (os : List Outcome)
     → run top pids acts ≡ Some os → NoReset acts → (p : Pid) → ReportsReceives pids acts os p → (i n : ℕ) (e : Event)
     → ReportsEvent acts os p i e n → e.kind ≢ kind.Receive
-    → IsTrueIfReported acts os p (told e.serial.prev (stream acts os p) i) (origin pids acts os p n)
+    → IsTrueIfReported acts os p (origin_evidence e.serial.prev (stream acts os p) i) (origin pids acts os p n)
 told_true_if_reported top pids acts os h none p all i n e r other =
-    true_if_reported pids acts os p all n (told e.serial.prev (stream acts os p) i)
+    true_if_reported pids acts os p all n (origin_evidence e.serial.prev (stream acts os p) i)
     (told_true top pids acts os h none p i n e r other)
 
 -- THE LAST RECEIVE
@@ -376,7 +383,7 @@ beginning_below_row top pids acts os h none p i n m e r other is =
 pub one_label_follows : (top : ℕ) (pids : List Pid) (acts : List Act) (os : List Outcome)
     → run top pids acts ≡ Some os → NoReset acts → (p : Pid) → ReportsReceives pids acts os p
     → NeverBeginsAgain pids acts os p → (i n : ℕ) (e : Event) → ReportsEvent acts os p i e n → e.kind ≢ kind.Receive
-    → (j : ℕ) (d : Event) → told e.serial.prev (stream acts os p) i ≡ what.AfterOrBegins j
+    → (j : ℕ) (d : Event) → origin_evidence e.serial.prev (stream acts os p) i ≡ what.AfterOrBegins j
     → slice_get (stream acts os p) j ≡ Some d → d.label ≡ e.label
     → FollowsEvent acts os p j (origin pids acts os p n)
 one_label_follows top pids acts os h none p all never i n e r other j d tells there label =

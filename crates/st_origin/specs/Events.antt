@@ -4,8 +4,8 @@ use Rattle.std.specs.Prelude.{Option, Some, None, if◌then◌else◌, slice_get
 use Rattle.st_core.specs.declared.types.Kind.TheVariants as kind
 use Rattle.st_core.specs.declared.types.Event.{Event}
 use Rattle.st_core.specs.Laws.{greatest_count}
-use Rattle.st_origin.specs.declared.told.Told.{Told}
-use Rattle.st_origin.specs.declared.told.Told.TheVariants as what
+use Rattle.st_origin.specs.declared.evidence.Evidence.{Evidence}
+use Rattle.st_origin.specs.declared.evidence.Evidence.TheVariants as what
 
 abbrev pub is_receive : Event → Bool
 is_receive e = elim e.kind [ kind.Send ↦ false | kind.Receive ↦ true | kind.Print ↦ false ]
@@ -24,9 +24,9 @@ row_start prev es (suc i) = elim (slice_get es i) [
 ]
 
 -- the index before this one, if a receive of this count is there
-abbrev pub received_before : ℕ → List Event → ℕ → Option ℕ
-received_before this es zero = None
-received_before this es (suc j) = elim (slice_get es j) [
+abbrev pub receive_before : ℕ → List Event → ℕ → Option ℕ
+receive_before this es zero = None
+receive_before this es (suc j) = elim (slice_get es j) [
   | None ↦ None
   | Some e ↦ if is_receive e && e.serial.this == this then Some j else None
 ]
@@ -36,13 +36,13 @@ abbrev pub has_above : ℕ → List Event → ℕ → Bool
 has_above prev es k = nat_lt prev (greatest_count (take k es))
 
 -- by whether a count above the prev is before the row, and by the receive directly before it
-abbrev pub told_by : ℕ → Bool → Option ℕ → Told
-told_by prev above (Some j) = if above then what.After j else what.AfterOrBegins j
-told_by prev above None =
+abbrev pub origin_evidence_by : ℕ → Bool → Option ℕ → Evidence
+origin_evidence_by prev above (Some j) = if above then what.After j else what.AfterOrBegins j
+origin_evidence_by prev above None =
     if above then what.Unreported
     else (if prev == 0 then what.Begins else what.BeginsOrUnreported)
 
 -- what these events tell of a send or print with this prev behind the first i of them
-abbrev pub told : ℕ → List Event → ℕ → Told
-told prev es i = let k = row_start prev es i in
-    told_by prev (has_above prev es k) (received_before prev es k)
+abbrev pub origin_evidence : ℕ → List Event → ℕ → Evidence
+origin_evidence prev es i = let k = row_start prev es i in
+    origin_evidence_by prev (has_above prev es k) (receive_before prev es k)

@@ -9,13 +9,13 @@ use Rattle.st_core.specs.declared.types.Act.TheVariants as act
 use Rattle.st_core.specs.Step.{actor}
 
 -- the label that a component is
-abbrev pub label_in : Component → Option Label
-label_in (component.Label x) = Some x
-label_in c = None
+abbrev pub label_of_component : Component → Option Label
+label_of_component (component.Label x) = Some x
+label_of_component c = None
 
 -- the label that an act itself gives its actor's token: it sets it, or puts back a whole token
 abbrev pub label_set : Act → Option Label
-label_set (act.Set p c) = label_in c
+label_set (act.Set p c) = label_of_component c
 label_set (act.Restore p t) = Some t.label
 label_set a = None
 

@@ -7,8 +7,8 @@ use Rattle.st_core.specs.declared.types.Event.{Event}
 use Rattle.st_core.specs.Step.{Outcome}
 use Rattle.st_core.specs.Run.{stream}
 use Rattle.st_core.specs.Laws.{ReportsEvent}
-use Rattle.st_origin.specs.declared.told.Told.{Told}
-use Rattle.st_origin.specs.declared.told.Told.TheVariants as what
+use Rattle.st_origin.specs.declared.evidence.Evidence.{Evidence}
+use Rattle.st_origin.specs.declared.evidence.Evidence.TheVariants as what
 use Rattle.st_origin.specs.Origin.{Origin, Follows, Begins, origin}
 use Rattle.st_origin.specs.Events.{is_receive}
 
@@ -34,8 +34,8 @@ abbrev pub BeginsAfter : List Act → List Outcome → Pid → ℕ → Option Or
 BeginsAfter acts os p j o =
     (m : ℕ) × (o ≡ Some (Begins m)) × (j < length (stream (take m acts) (take m os) p))
 
--- what is told is true, whatever was reported
-abbrev pub IsTrue : List Act → List Outcome → Pid → Told → Option Origin → Type 0
+-- the evidence is true, whatever was reported
+abbrev pub IsTrue : List Act → List Outcome → Pid → Evidence → Option Origin → Type 0
 IsTrue acts os p (what.After j) o = FollowsEvent acts os p j o ⊎ FollowsUnreported os o
 IsTrue acts os p (what.AfterOrBegins j) o =
     (FollowsEvent acts os p j o ⊎ FollowsUnreported os o) ⊎ BeginsAfter acts os p j o
@@ -45,7 +45,7 @@ IsTrue acts os p what.BeginsOrUnreported o = IsBeginning o ⊎ FollowsUnreported
 
 -- the same if p reports each receive of a token: then more is known, and nothing tells of a receive
 -- that wasn't reported
-abbrev pub IsTrueIfReported : List Act → List Outcome → Pid → Told → Option Origin → Type 0
+abbrev pub IsTrueIfReported : List Act → List Outcome → Pid → Evidence → Option Origin → Type 0
 IsTrueIfReported acts os p (what.After j) o = FollowsEvent acts os p j o
 IsTrueIfReported acts os p (what.AfterOrBegins j) o =
     FollowsEvent acts os p j o ⊎ BeginsAfter acts os p j o

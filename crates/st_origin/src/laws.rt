@@ -12,8 +12,8 @@ ghost use Rattle.st_core.specs.Laws.{NoReset, Reports, ReportsEvent, greatest_co
 ghost use Rattle.st_core.specs.Run.{run, stream};
 ghost use Rattle.st_core.specs.Step.{Outcome};
 ghost use Rattle.st_core.specs.Pairs.{IsFollowing};
-ghost use Rattle.st_origin.specs.declared.told.Told.TheVariants as what;
-ghost use Rattle.st_origin.specs.Events.{row_start, told};
+ghost use Rattle.st_origin.specs.declared.evidence.Evidence.TheVariants as what;
+ghost use Rattle.st_origin.specs.Events.{row_start, origin_evidence};
 ghost use Rattle.st_origin.specs.Labels.{SetsLabelBetween};
 ghost use Rattle.st_origin.specs.Origin.{Begins, Follows, ReportsReceives, origin};
 ghost use Rattle.st_origin.specs.Truth.{BeginsAfter, FollowsEvent, IsBeginning, IsTrue};
@@ -59,7 +59,8 @@ pub fn told_is_true()
     ensures { (top : ℕ) (pids : List Pid) (acts : List Act) (os : List Outcome)
         → run top pids acts ≡ Some os → NoReset acts → (p : Pid) (i n : ℕ) (e : Event)
         → ReportsEvent acts os p i e n → e.kind ≢ kind.Receive
-        → IsTrue acts os p (told e.serial.prev (stream acts os p) i) (origin pids acts os p n) }
+        → IsTrue acts os p (origin_evidence e.serial.prev (stream acts os p) i)
+        (origin pids acts os p n) }
 {}
 
 /// And more of it if the process reports each receive of a token.
@@ -67,7 +68,7 @@ pub fn told_is_true_if_receives_are_reported()
     ensures { (top : ℕ) (pids : List Pid) (acts : List Act) (os : List Outcome)
         → run top pids acts ≡ Some os → NoReset acts → (p : Pid) → ReportsReceives pids acts os p
         → (i n : ℕ) (e : Event) → ReportsEvent acts os p i e n → e.kind ≢ kind.Receive
-        → IsTrueIfReported acts os p (told e.serial.prev (stream acts os p) i)
+        → IsTrueIfReported acts os p (origin_evidence e.serial.prev (stream acts os p) i)
         (origin pids acts os p n) }
 {}
 
@@ -78,7 +79,7 @@ pub fn one_label_tells_the_receive()
         → run top pids acts ≡ Some os → NoReset acts → (p : Pid) → ReportsReceives pids acts os p
         → NeverBeginsAgain pids acts os p → (i n : ℕ) (e : Event) → ReportsEvent acts os p i e n
         → e.kind ≢ kind.Receive → (j : ℕ) (d : Event)
-        → told e.serial.prev (stream acts os p) i ≡ what.AfterOrBegins j
+        → origin_evidence e.serial.prev (stream acts os p) i ≡ what.AfterOrBegins j
         → slice_get (stream acts os p) j ≡ Some d → d.label ≡ e.label
         → FollowsEvent acts os p j (origin pids acts os p n) }
 {}

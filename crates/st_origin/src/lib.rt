@@ -1,7 +1,7 @@
 //! What a stamp follows in a run, and what the events of its process tell of it.
 #![tactic(auto)]
 
+mod evidence;
 pub mod laws;
-mod told;
 
-pub use told::Told;
+pub use evidence::Evidence;

@@ -19,12 +19,12 @@ use Rattle.st_why.specs.declared.question.Style.{Style}
 use Rattle.st_why.specs.declared.question.Style.TheVariants as style
 use Rattle.st_why.specs.Json.{premises_object}
 use Rattle.st_why.specs.Parts.{AnswersOf, OfReason}
-use Rattle.st_why.specs.Why.{event_line, last_line, node_line}
+use Rattle.st_why.specs.Why.{answer_line, last_line, node_line}
 use Rattle.st_why.specs.Words.{premises_text}
 
 module _ (streams : List Stream) (q : Question) (x : Node) where
   abbrev line_by : Option Event → List ℕ
-  line_by o = elim o [ None ↦ [] | Some e ↦ event_line streams q x.depth x.place.0 x.place.1 e ]
+  line_by o = elim o [ None ↦ [] | Some e ↦ answer_line streams q x.depth x.place.0 x.place.1 e ]
 
   pub line_of : (o : Option Event) → event_at streams x.place.0 x.place.1 ≡ o → node_line streams q x ≡ line_by o
   line_of o is = ap line_by is

@@ -12,13 +12,13 @@ use Rattle.st_hops.specs.declared.hop.Hop.TheVariants as hop
 use Rattle.st_hops.specs.declared.hop.Premises.{Premises}
 use Rattle.st_hops.specs.declared.hop.Premises.TheVariants as premises
 use Rattle.st_hops.specs.Hops.{hop_of, premises_of}
-use Rattle.st_why.specs.Words.{line_at}
+use Rattle.st_why.specs.Words.{line_number_at}
 
 -- the fields that say where an event is
 abbrev pub place_fields : List Stream → Pid → ℕ → List ℕ
 place_fields streams p i = codes "\"pid\":\"" ++ spelled.pid p ++ codes "\",\"index\":" ++ decimal i
     ++ codes ",\"line\":"
-    ++ decimal (line_at streams p i)
+    ++ decimal (line_number_at streams p i)
 
 abbrev pub kind_field : Kind → List ℕ
 kind_field kind.Send = codes ",\"kind\":\"send\""

@@ -1,12 +1,12 @@
--- The words of the line that stands alone, and how many bytes the parts of a line take at most.
+-- The words of the line that is all of an output, and how many bytes the parts of a line take at most.
 use Rattle.std.specs.Prelude.{ℕ, ◌+◌, List, ◌++◌, codes}
 use Rattle.st_text.specs.Room.{number_room, pid_room, serial_room}
 use Rattle.st_chart.specs.Room.{item_word_room, place_room}
 use Rattle.st_why.specs.declared.lines.NoEvent.{NoEvent}
 use Rattle.st_why.specs.Why.{start_words}
 
-abbrev pub words_of : NoEvent → List ℕ
-words_of x = codes "no event " ++ start_words x.0
+abbrev pub no_event_words : NoEvent → List ℕ
+no_event_words x = codes "no event " ++ start_words x.0
 
 -- a number, a space and the greatest indent
 abbrev pub depth_room : ℕ

@@ -21,7 +21,7 @@ use Rattle.st_chart.specs.Words.{place_words}
 use Rattle.st_commands.specs.Output.{Output, refused}
 use Rattle.st_commands.specs.Checked.{Spells}
 use Rattle.st_commands.specs.Audited.{report_output}
-use Rattle.st_lines.specs.Lines.{line_of}
+use Rattle.st_lines.specs.Lines.{line_number_of}
 use Rattle.st_hops.specs.declared.node.Node.{Node}
 use Rattle.st_hops.specs.Way.{way}
 use Rattle.st_hops.specs.Tree.{tree}
@@ -37,12 +37,12 @@ use Rattle.st_why.specs.Json.{hop_object, premises_object}
 -- this is the event that is asked about
 abbrev pub IsStart : List Stream → Start → Pid × ℕ → Type 0
 IsStart streams (start.Place p i) x = (x ≡ (p, i)) × IsSome (event_at streams p i)
-IsStart streams (start.Line n) x = line_of streams x.0 x.1 ≡ Some n
+IsStart streams (start.Line n) x = line_number_of streams x.0 x.1 ≡ Some n
 
 -- there is no such event
 abbrev pub HasNoStart : List Stream → Start → Type 0
 HasNoStart streams (start.Place p i) = event_at streams p i ≡ None
-HasNoStart streams (start.Line n) = (p : Pid) (i : ℕ) → line_of streams p i ≢ Some n
+HasNoStart streams (start.Line n) = (p : Pid) (i : ℕ) → line_number_of streams p i ≢ Some n
 
 -- what is found from there
 abbrev pub nodes_from : List Stream → Question → Pid × ℕ → List Node
@@ -52,8 +52,8 @@ nodes_from streams q x = elim q.direction [
 ]
 
 -- the line of an event
-abbrev pub event_line : List Stream → Question → ℕ → Pid → ℕ → Event → List ℕ
-event_line streams q depth p i e = elim q.style [
+abbrev pub answer_line : List Stream → Question → ℕ → Pid → ℕ → Event → List ℕ
+answer_line streams q depth p i e = elim q.style [
   | style.Text ↦ hop_line streams q.direction depth p i e
   | style.Json ↦ hop_object streams depth p i e
 ]
@@ -62,7 +62,7 @@ event_line streams q depth p i e = elim q.style [
 abbrev pub node_line : List Stream → Question → Node → List ℕ
 node_line streams q x = elim (event_at streams x.place.0 x.place.1) [
   | None ↦ []
-  | Some e ↦ event_line streams q x.depth x.place.0 x.place.1 e
+  | Some e ↦ answer_line streams q x.depth x.place.0 x.place.1 e
 ]
 
 -- the last line: what the sentences rest on

@@ -11,7 +11,7 @@ use Rattle.st_text.specs.Spelling.{ended_line}
 use Rattle.st_order.specs.declared.item.Item.TheVariants as item
 use Rattle.st_chart.specs.Words.{place_words}
 use Rattle.st_chart.specs.Chart.{item_word}
-use Rattle.st_lines.specs.Lines.{line_of}
+use Rattle.st_lines.specs.Lines.{line_number_of}
 use Rattle.st_hops.specs.declared.hop.Hop.{Hop}
 use Rattle.st_hops.specs.declared.hop.Hop.TheVariants as hop
 use Rattle.st_hops.specs.declared.hop.Premises.{Premises}
@@ -21,12 +21,13 @@ use Rattle.st_why.specs.declared.question.Direction.{Direction}
 use Rattle.st_why.specs.declared.question.Direction.TheVariants as direction
 
 -- the line of the event at a place, 0 if there is none
-abbrev pub line_at : List Stream → Pid → ℕ → ℕ
-line_at streams p i = unwrap_or (line_of streams p i) 0
+abbrev pub line_number_at : List Stream → Pid → ℕ → ℕ
+line_number_at streams p i = unwrap_or (line_number_of streams p i) 0
 
 -- where an event is: its process, its index there, and its line of the text
 abbrev pub located_words : List Stream → Pid → ℕ → List ℕ
-located_words streams p i = place_words p i ++ codes ", line " ++ decimal (line_at streams p i)
+located_words streams p i = place_words p i ++ codes ", line "
+    ++ decimal (line_number_at streams p i)
 
 -- how far an event of a tree is from the first one: a number, and so many spaces, up to 16
 abbrev pub depth_words : Direction → ℕ → List ℕ

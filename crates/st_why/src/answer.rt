@@ -4,7 +4,7 @@ ghost use Rattle.std.specs.Prelude.{◌≡◌, ◌++◌, IfOk, Some};
 ghost use Rattle.std.specs.List.{flat_map};
 ghost use Rattle.st_text.specs.Writing.{WritesOn, WritesText};
 ghost use Rattle.st_pair.specs.Places.{event_at};
-ghost use Rattle.st_why.specs.Why.{event_line, last_line, node_line, nodes_from};
+ghost use Rattle.st_why.specs.Why.{answer_line, last_line, node_line, nodes_from};
 
 use crate::json::{write_json, write_premises_object};
 use crate::question::{Direction, Question, Style};
@@ -43,7 +43,7 @@ fn write_event<W: ByteSink>(
     requires same { numbers.now ≡ origins.now }
     requires there { event_at origins.now node.place.0 node.place.1 ≡ Some event.now }
     ensures { WritesOn W.puts W.failed
-        (event_line origins.now question node.depth node.place.0 node.place.1 event.now)
+        (answer_line origins.now question node.depth node.place.0 node.place.1 event.now)
         writer.old writer.new buffer.old.items buffer.new.items result }
 {
     match question.style {

@@ -14,7 +14,7 @@ ghost use Rattle.st_why.specs.Json.{after_fields, claim_fields, event_fields, fr
 ghost use Rattle.st_why.specs.Json.{hop_object, kind_field, place_fields, premise_fields};
 ghost use Rattle.st_why.specs.Json.{premises_object};
 
-use crate::parts::line_at;
+use crate::parts::line_number_at;
 use st_core::{ByteSink, Event, Kind, Label, Pid};
 use st_hops::{Hop, Node, Origins, Premises};
 use st_lines::LineNumbers;
@@ -30,7 +30,7 @@ fn put_place_fields(buffer: &mut Buffer, numbers: &LineNumbers, pid: Pid, index:
     put_bytes(buffer, b"\",\"index\":");
     put_number(buffer, index);
     put_bytes(buffer, b",\"line\":");
-    put_number(buffer, line_at(numbers, pid, index));
+    put_number(buffer, line_number_at(numbers, pid, index));
 }
 
 /// Appends how far an event is from the first one, and where it is.

@@ -1,6 +1,6 @@
-//! The line that stands alone.
+//! The line that is all of an output.
 
-ghost use Rattle.st_why.specs.Lines.{words_of};
+ghost use Rattle.st_why.specs.Lines.{no_event_words};
 
 use crate::question::Start;
 use st_chart::put_place;
@@ -11,7 +11,7 @@ use st_text::{Buffer, TextLine, put_bytes, put_number};
 pub(crate) struct NoEvent(pub(crate) Start);
 
 impl TextLine for NoEvent {
-    ghost words = { words_of };
+    ghost words = { no_event_words };
 
     fn put_words(self, buffer: &mut Buffer) {
         put_bytes(buffer, b"no event ");

@@ -9,7 +9,8 @@ ghost use Rattle.st_chart.specs.Room.{item_word_room};
 ghost use Rattle.st_why.specs.Lines.{begins_label_room, claim_room, depth_room};
 ghost use Rattle.st_why.specs.Lines.{had_received_room, located_room, premise_room, what_room};
 ghost use Rattle.st_why.specs.Words.{begins_label_words, claim_words, depth_words};
-ghost use Rattle.st_why.specs.Words.{had_received_words, line_at, located_words, premise_words};
+ghost use Rattle.st_why.specs.Words.{had_received_words, line_number_at, located_words};
+ghost use Rattle.st_why.specs.Words.{premise_words};
 ghost use Rattle.st_why.specs.Words.{what_words};
 
 use crate::question::Direction;
@@ -24,8 +25,8 @@ use st_text::{Buffer, put_bytes, put_number, put_serial};
 const INDENT: u64 = 16;
 
 /// The line of an event, 0 if there is none.
-pub(crate) fn line_at(numbers: &LineNumbers, pid: Pid, index: u64) -> u64
-    ensures { result ≡ line_at numbers.now pid index }
+pub(crate) fn line_number_at(numbers: &LineNumbers, pid: Pid, index: u64) -> u64
+    ensures { result ≡ line_number_at numbers.now pid index }
 {
     match numbers.line(pid, index) {
         None => 0,
@@ -40,7 +41,7 @@ pub(crate) fn put_located(buffer: &mut Buffer, numbers: &LineNumbers, pid: Pid, 
 {
     put_place(buffer, pid, index);
     put_bytes(buffer, b", line ");
-    put_number(buffer, line_at(numbers, pid, index));
+    put_number(buffer, line_number_at(numbers, pid, index));
 }
 
 /// Appends how far an event of a tree is from the first one.

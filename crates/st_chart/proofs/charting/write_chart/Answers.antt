@@ -12,7 +12,7 @@ returns-in_err-write_label g c =
     let first = label_line c.args.label in
     let lanes = lane_lines 1 c.args.lanes.now in
     let xs = all_charted c.args.streams.now c.args.items.now c.args.label in
-    let rest = flat_map (item_line c.args.chains.now c.args.lanes.now) xs in
+    let rest = flat_map (item_line c.args.causes.now c.args.lanes.now) xs in
     on_err _ _ _ _ c.from_residual.ensures.0
     (part_longer g.W.ByteSink.puts g.W.ByteSink.failed (first ++ lanes) rest _
     (part_longer g.W.ByteSink.puts g.W.ByteSink.failed first lanes _ c.in_err-write_label.ensures))
@@ -22,7 +22,7 @@ returns-in_err-write_lanes g c =
     let first = label_line c.args.label in
     let lanes = lane_lines 1 c.args.lanes.now in
     let xs = all_charted c.args.streams.now c.args.items.now c.args.label in
-    let rest = flat_map (item_line c.args.chains.now c.args.lanes.now) xs in
+    let rest = flat_map (item_line c.args.causes.now c.args.lanes.now) xs in
     let part =
     part_then g.W.ByteSink.puts g.W.ByteSink.failed first lanes c.in_ok-write_label.ensures
     c.in_err-write_lanes.ensures in
@@ -34,8 +34,8 @@ returns g c =
     let first = label_line c.args.label in
     let lanes = lane_lines 1 c.args.lanes.now in
     let xs = all_charted c.args.streams.now c.args.items.now c.args.label in
-    let rest = flat_map (item_line c.args.chains.now c.args.lanes.now) xs in
-    let same = lines_are c.args.streams.now c.args.label c.args.chains.now c.args.lanes.now c.args.items.now in
+    let rest = flat_map (item_line c.args.causes.now c.args.lanes.now) xs in
+    let same = lines_are c.args.streams.now c.args.label c.args.causes.now c.args.lanes.now c.args.items.now in
     let begun =
     goes_then g.W.ByteSink.puts g.W.ByteSink.failed first lanes c.in_ok-write_label.ensures
     c.in_ok-write_lanes.ensures in

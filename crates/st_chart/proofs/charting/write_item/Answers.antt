@@ -10,14 +10,14 @@ use Rattle.st_chart.proofs.charting.write_item.Goals as goal
 pub returns-in_err-write_marks : goal.returns-in_err-write_marks
 returns-in_err-write_marks g c =
     let marks = flat_map (mark c.args.charted.now) c.args.lanes.now in
-    let words = ended_line (codes "  " ++ item_words c.args.chains.now c.args.charted.now) in
+    let words = ended_line (codes "  " ++ item_words c.args.causes.now c.args.charted.now) in
     on_err _ _ _ _ c.from_residual.ensures.0
     (part_longer g.W.ByteSink.puts g.W.ByteSink.failed marks words _ c.in_err-write_marks.ensures)
 
 pub returns-in_err-make_room : goal.returns-in_err-make_room
 returns-in_err-make_room g c =
     let marks = flat_map (mark c.args.charted.now) c.args.lanes.now in
-    let words = ended_line (codes "  " ++ item_words c.args.chains.now c.args.charted.now) in
+    let words = ended_line (codes "  " ++ item_words c.args.causes.now c.args.charted.now) in
     let is = c.from_residual-in_err-make_room.ensures.0 in
     then_on g.W.ByteSink.puts g.W.ByteSink.failed marks words _ _ _ c.in_ok-write_marks.ensures
     (no_room g.W.ByteSink.puts g.W.ByteSink.failed words _ _ _ is c.in_err-make_room.ensures.goes)
@@ -25,6 +25,6 @@ returns-in_err-make_room g c =
 pub returns : goal.returns
 returns g c =
     let marks = flat_map (mark c.args.charted.now) c.args.lanes.now in
-    let words = ended_line (codes "  " ++ item_words c.args.chains.now c.args.charted.now) in
+    let words = ended_line (codes "  " ++ item_words c.args.causes.now c.args.charted.now) in
     goes_then g.W.ByteSink.puts g.W.ByteSink.failed marks words c.in_ok-write_marks.ensures
     (room_then g.W.ByteSink.puts g.W.ByteSink.failed words c.in_ok-make_room.ensures.goes c.put_item.ensures)

@@ -1,23 +1,46 @@
--- The bars of a run in which the item has no end are its marks.
-use Rattle.std.proofs.Common.{◌≡◌, length, sym, ap, ◌∙◌, arith}
-use Rattle.std.specs.List.{flat_map}
+-- The mark of the last lane is behind the bars of the others.
+use Rattle.std.proofs.Common.{length, sym}
+use Rattle.st_text.proofs.ForCallers.{goes_still, goes_then, then_on, part_longer, on_err}
 use Rattle.st_chart.specs.Chart.{mark}
 use Rattle.st_chart.specs.Parts.{bars}
-use Rattle.st_chart.proofs.Bars.{bars_are}
+use Rattle.st_chart.proofs.Bars.{run_marks, no_marks}
 use Rattle.st_chart.proofs.Rooms.{room_then, no_room}
 use Rattle.st_chart.proofs.charting.write_run.Goals as goal
 
+pub returns-in_default : goal.returns-in_default
+returns-in_default g c =
+    let empty = rw c.in_default.is at c.split_last.ensures.cases in
+    rw (no_marks c.args.charted.now c.args.lanes.now empty) (goes_still g.W.ByteSink.puts g.W.ByteSink.failed)
+
+pub returns-in_err-write_bars : goal.returns-in_err-write_bars
+returns-in_err-write_bars g c =
+    let others = c.in-Some.others.now in
+    let last = c.in-Some.last.now in
+    let parts = rw c.in-Some.is at c.split_last.ensures.cases in
+    let marks = run_marks c.args.charted.now c.args.lanes.now others last c.requires parts.0 in
+    rw (sym marks) (on_err _ _ _ _ c.from_residual.ensures.0
+    (part_longer g.W.ByteSink.puts g.W.ByteSink.failed (bars (length others)) (mark c.args.charted.now last) _
+    c.in_err-write_bars.ensures))
+
 pub returns-in_err-make_room : goal.returns-in_err-make_room
 returns-in_err-make_room g c =
-    no_room g.W.ByteSink.puts g.W.ByteSink.failed (flat_map (mark c.args.charted.now) c.args.lanes.now) _ _ _
-    c.from_residual.ensures.0 c.in_err-make_room.ensures.goes
+    let others = c.in-Some.others.now in
+    let last = c.in-Some.last.now in
+    let parts = rw c.in-Some.is at c.split_last.ensures.cases in
+    let marks = run_marks c.args.charted.now c.args.lanes.now others last c.requires parts.0 in
+    let end = mark c.args.charted.now last in
+    let is = c.from_residual-in_err-make_room.ensures.0 in
+    rw (sym marks)
+    (then_on g.W.ByteSink.puts g.W.ByteSink.failed (bars (length others)) end _ _ _ c.in_ok-write_bars.ensures
+    (no_room g.W.ByteSink.puts g.W.ByteSink.failed end _ _ _ is c.in_err-make_room.ensures.goes))
 
 pub returns : goal.returns
 returns g c =
-    let x = c.args.charted.now in
-    let lanes = c.args.lanes.now in
-    let eight : length lanes ≡ 8 = omega (arith, c.if-lanes-ne-RUN.false) in
-    let marks : flat_map (mark x) lanes ≡ bars 8 =
-    bars_are x lanes (sym c.has_end_among.ensures ∙ c.if-has_end_among.false) ∙ ap (λ n. bars n) eight in
-    rw marks
-    (room_then g.W.ByteSink.puts g.W.ByteSink.failed (bars 8) c.in_ok-make_room.ensures.goes c.put_bars.ensures)
+    let others = c.in-Some.others.now in
+    let last = c.in-Some.last.now in
+    let parts = rw c.in-Some.is at c.split_last.ensures.cases in
+    let marks = run_marks c.args.charted.now c.args.lanes.now others last c.requires parts.0 in
+    let end = mark c.args.charted.now last in
+    rw (sym marks)
+    (goes_then g.W.ByteSink.puts g.W.ByteSink.failed (bars (length others)) end c.in_ok-write_bars.ensures
+    (room_then g.W.ByteSink.puts g.W.ByteSink.failed end c.in_ok-make_room.ensures.goes c.put_mark.ensures))

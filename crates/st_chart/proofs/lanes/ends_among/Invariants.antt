@@ -1,8 +1,8 @@
--- What is kept so far are the noted ones among the pids so far.
-use Rattle.std.proofs.Common.{◌≡◌, take, filter}
-use Rattle.std.specs.HashSet.{contains}
-use Rattle.st_core.specs.Pid.{pid_eq}
+-- What is kept so far, with the listed ones among the processes that are left, are the listed ones of all.
+use Rattle.std.proofs.Common.{◌≡◌, ◌++◌, filter}
+use Rattle.st_core.specs.Streams.{is_among}
 use Rattle.st_chart.proofs.lanes.ends_among.Given as goal
 
-abbrev pub invariant-loop-pid : goal.invariant-loop-pid
-invariant-loop-pid l = l.noted.items ≡ filter (contains pid_eq l.ends) (take l.pid-index l.pids)
+abbrev pub invariant-loop-end : goal.invariant-loop-end
+invariant-loop-end l =
+    l.noted.items ++ filter (is_among l.pids) l.end-iterator ≡ filter (is_among l.pids) l.ends.keys

@@ -1,11 +1,11 @@
-//! What events tell.
+//! Evidence of an origin.
 
 /// What the events of a process tell of the origin of one of its sends or prints, in every run
 /// without a reset that reports them.
 #[derive(Clone, Copy, Debug, PartialEq, Eq)]
-pub enum Told {
-    /// It follows the receive at this index, or one that nobody reported. It begins nothing, since a
-    /// greater count than its prev came before.
+pub enum Evidence {
+    /// It follows the receive at this index, or one that nobody reported. It begins nothing, since
+    /// a greater count than its prev came before.
     After(u64),
     /// It follows the receive at this index, or one that nobody reported, or its process began
     /// after that receive.
