@@ -1,7 +1,7 @@
 -- Why the reasons hold, and why they are final: each is one of the open question's, at its place. And
 -- why acts show the streams otherwise: a completion needs nothing.
 use Rattle.std.proofs.Common.{◌≡◌, ◌↔◌, ℕ, ◌<◌, zero, suc, ◌&&◌, nat_lt, not, Bool, true, false, List, [], ◌∷◌}
-use Rattle.std.proofs.Common.{slice_get, take, Some, None, refl, sym, ◌∙◌, ap, subst, arith}
+use Rattle.std.proofs.Common.{slice_get, take, Some, None, refl, sym, ◌∙◌, subst, arith}
 use Rattle.std.proofs.lemmas.Bool.{false≢true}
 use Rattle.std.proofs.lemmas.Bool.Decides.{nat_tests}
 use Rattle.std.proofs.lemmas.Option.{same_Some}
@@ -16,6 +16,7 @@ use Rattle.st_pair.specs.declared.answer.PairFault.TheVariants as fault
 use Rattle.st_pair.specs.Pairing.{refusal}
 use Rattle.st_pair.specs.Places.{event_at, is_stamp}
 use Rattle.st_pair.proofs.ForCallers.{paired, serial_rises, stamp_counts_rise}
+use Rattle.st_plan.specs.Marks.{all_streams}
 use Rattle.st_completions.specs.Completed.{IsCompleted, IsShownInOneTrace}
 use Rattle.st_completions.specs.Local.{IsNeedless}
 use Rattle.st_completions.specs.Needs.{is_late}
@@ -28,8 +29,10 @@ use Rattle.st_complete.specs.declared.answer.Never.{Never}
 use Rattle.st_complete.specs.declared.answer.Never.TheVariants as never
 use Rattle.st_complete.specs.declared.answer.Answer.{Answer}
 use Rattle.st_complete.specs.declared.answer.Answer.TheVariants as answer
-use Rattle.st_complete.specs.Answers.{IsAnswer, IsFinal, IsFound, IsLastHigher, IsReason}
+use Rattle.st_complete.specs.Answers.{IsAnswer, IsFinal}
+use Rattle.st_complete.specs.Found.{IsFound, IsFoundReason, IsLastHigherAt}
 use Rattle.st_complete.specs.Higher.{IsHigher, LastHigher}
+use Rattle.st_complete.proofs.Reasons.{reason_means, sent_if}
 
 -- THE LAST EVENT THAT COUNTS NO LOWER
 
@@ -47,7 +50,7 @@ receive_if stamp never_is = elim stamp as
 -- in streams that pairing accepts it is a receive
 pub last_higher : (streams : List Stream) (p : Pid) (i j this : ℕ) (e : Event) → refusal streams ≡ None
     → HoldsAt is_late streams p i → event_at streams p i ≡ Some e → this ≡ e.serial.this
-    → IsHigher (events_of streams p) i this j → IsLastHigher streams p i j
+    → IsHigher (events_of streams p) i this j → IsLastHigherAt streams p i j
 last_higher streams p i j this e accepted late at is higher =
     let same = same_Some late.event e (sym late.at ∙ at) in
     let stamp : is_stamp e ≡ true = subst (λ (x : Event). is_stamp x ≡ true) same
@@ -76,7 +79,7 @@ AreFinal = (top : ℕ) (streams : List Stream) → IsStreams streams → (reason
     → NoReset acts → ¬ Shows top (with_silent streams others) acts
 
 reason_final : (top : ℕ) (streams : List Stream) (p : Pid) (i : ℕ) (reason : Never) → AreFinal
-    → IsStreams streams → IsReason top streams p i reason → IsFinal top streams reason
+    → IsStreams streams → IsFoundReason top streams p i reason → IsFinal top streams reason
 reason_final top streams p i never.PrevNotBefore law sound is =
     λ most. law most streams sound (Refused (fault.PrevNotBefore p i)) is
 reason_final top streams p i (never.NotRising j) law sound is =
@@ -96,9 +99,15 @@ abbrev pub AreShownIfNeedless : Type 0
 AreShownIfNeedless = (top : ℕ) (streams : List Stream) → IsRising (pids_of streams)
     → (IsShownInOneTrace top streams ↔ IsCompleted IsNeedless top streams)
 
-pub answered : (top : ℕ) (streams : List Stream) (found : Answer) → AreFinal → AreShownIfNeedless → IsStreams streams
+-- and so are those in which nothing is needed
+abbrev pub AreShownNeedless : Type 0
+AreShownNeedless = (top : ℕ) (streams : List Stream) → IsStreams streams → IsNeedless top streams
+    → IsShownInOneTrace top streams
+
+pub answered : (top : ℕ) (streams : List Stream) (found : Answer) → AreFinal → AreShownIfNeedless
+    → AreShownNeedless → IsStreams streams
     → IsFound top streams found → IsAnswer top streams found
-answered top streams (answer.Whole completed) final shown sound is =
+answered top streams (answer.Whole completed) final shown needless sound is =
     let c : Completed = completed in
     let more = silent_sound streams sound c.unlisted in
     record {
@@ -109,9 +118,17 @@ answered top streams (answer.Whole completed) final shown sound is =
         sound = is.is.sound;
         is = is.is.needless;
       });
+      lacks = record {
+        shown = needless top (all_streams c.wholes) is.is.sound is.is.needless;
+        sent = λ p i e at. sent_if (all_streams c.wholes) e (is.is.needless.reported p i e at);
+        caused = is.is.needless.caused;
+      };
     }
-answered top streams (answer.Never p i reason) final shown sound is =
-    record { holds = is; final = reason_final top streams p i reason final sound is }
+answered top streams (answer.Never p i reason) final shown needless sound is =
+    record {
+      holds = reason_means top streams sound p i reason is;
+      final = reason_final top streams p i reason final sound is;
+    }
 
 -- AN EVENT THAT IS LATE
 

@@ -3,3 +3,4 @@ pub mod Answered
 pub mod Bounded
 pub mod Judged
 pub mod Linked
+pub mod Reasons

@@ -1,19 +1,20 @@
 -- What the results mean: a completion, or a place and a reason why no acts without a reset show the
 -- streams, whatever other processes report nothing.
-use Rattle.std.specs.Prelude.{◌≡◌, ℕ, ◌<◌, ◌≤◌, false, length, List, Some, None}
+use Rattle.std.specs.Prelude.{◌≡◌, ◌⊎◌, ℕ, ◌<◌, ◌≤◌, ◌||◌, true, false, length, List}
+use Rattle.std.specs.Prelude.{Some, is_none, is_some, take}
 use Rattle.st_core.specs.declared.types.Act.{Act}
 use Rattle.st_core.specs.declared.types.Pid.{Pid}
 use Rattle.st_core.specs.declared.types.Event.{Event}
 use Rattle.st_core.specs.Laws.{NoReset}
 use Rattle.st_core.specs.Run.{Shows, Stream}
+use Rattle.st_core.specs.Streams.{events_of}
 use Rattle.st_core.specs.Verdict.{IsVerdict, Yes}
-use Rattle.st_pair.specs.declared.answer.PairFault.TheVariants as fault
-use Rattle.st_pair.specs.Pairing.{refusal}
+use Rattle.st_pair.specs.Laws.{IsEarlier}
+use Rattle.st_pair.specs.Pairing.{is_send, stamp_of}
 use Rattle.st_pair.specs.Places.{event_at, is_stamp}
+use Rattle.st_plan.specs.Marks.{all_streams}
 use Rattle.st_completions.specs.Completed.{IsShownInOneTrace}
-use Rattle.st_completions.specs.Needs.{HoldsOfNone, is_late}
-use Rattle.st_completions.specs.Reasons.{HoldsAt, is_too_high}
-use Rattle.st_open.specs.OpenReasons.{IsLeastPlace, IsUnfounded}
+use Rattle.st_completions.specs.Needs.{is_need}
 use Rattle.st_open.specs.Silent.{with_silent}
 use Rattle.st_needs.specs.Completions.{Completed, Completes}
 use Rattle.st_complete.specs.declared.answer.Never.{Never}
@@ -22,47 +23,74 @@ use Rattle.st_complete.specs.declared.answer.Certificate.{Certificate}
 use Rattle.st_complete.specs.declared.answer.Answer.{Answer}
 use Rattle.st_complete.specs.declared.answer.Answer.TheVariants as answer
 
--- event j of p is the last receive before its event i that counts no lower than this one
-pub record IsLastHigher (streams : List Stream) (p : Pid) (i j : ℕ) : Type 0 where
+-- THE REASONS
+
+-- event j of p is the last one before its event i that is so
+pub record IsLast (streams : List Stream) (p : Pid) (i : ℕ) (Is : Event → Type 0) (j : ℕ)
+    : Type 0 where
+  pub event : Event
+  pub at : event_at streams p j ≡ Some event
+  pub before : j < i
+  pub is : Is event
+  pub last : (k : ℕ) (f : Event) → j < k → k < i → event_at streams p k ≡ Some f → ¬ Is f
+
+-- the first is a send with the label, the prev, the receiver and the value of the second
+abbrev pub IsSendOf : Event → Event → Type 0
+IsSendOf f e = (is_send f ≡ true) × (f.label ≡ e.label) × (f.serial.prev ≡ e.serial.prev)
+    × (f.to ≡ e.to) × (f.value ≡ e.value)
+
+-- this is a send or print, and one of p's events before index i is a receive
+abbrev pub IsAfterReceive : List Stream → Pid → ℕ → Event → Type 0
+IsAfterReceive streams p i e = (is_stamp e ≡ true) × (j : ℕ) × (f : Event) × (j < i)
+    × (event_at streams p j ≡ Some f) × (is_stamp f ≡ false)
+
+-- this is a send or print, or the receive of a send that its sender didn't report, and some event
+-- tells of a send or print of the same process with a lower count and another prev than 0
+abbrev pub IsAfterStamp : List Stream → Event → Type 0
+IsAfterStamp streams e =
+    ((is_stamp e || is_none (stamp_of streams e.from e.serial.this)) ≡ true)
+    × (q : Pid) × (j : ℕ) × (f : Event) × (event_at streams q j ≡ Some f) × (f.from ≡ e.from)
+    × (f.serial.this < e.serial.this) × (0 < f.serial.prev)
+
+-- what a reason says of event i of p
+abbrev pub IsAgainst : ℕ → List Stream → Pid → ℕ → Event → Never → Type 0
+IsAgainst top streams p i e never.PrevNotBefore = e.serial.this ≤ e.serial.prev
+IsAgainst top streams p i e (never.NotRising j) = (is_stamp e ≡ true)
+    × (f : IsLast streams p i (λ f. is_stamp f ≡ true) j) × (e.serial.this ≤ f.event.serial.this)
+IsAgainst top streams p i e (never.Repeated q j) = (is_stamp e ≡ false) × IsEarlier q j p i
+    × (f : Event) × (event_at streams q j ≡ Some f) × (is_stamp f ≡ false) × (f.from ≡ e.from)
+    × (f.serial.this ≡ e.serial.this)
+IsAgainst top streams p i e (never.Mismatch q j) = (is_stamp e ≡ false) × (q ≡ e.from)
+    × (f : Event) × (stamp_of streams q e.serial.this ≡ Some (j, f)) × (¬ IsSendOf f e)
+IsAgainst top streams p i e (never.Late j) = (is_stamp e ≡ true)
+    × IsLast streams p i (λ f. (is_stamp f ≡ false) × (e.serial.this ≤ f.serial.this)) j
+IsAgainst top streams p i e never.Unfounded = (e.serial.prev ≡ 0)
+    × (IsAfterReceive streams p i e ⊎ IsAfterStamp streams e)
+IsAgainst top streams p i e never.TooHigh = top < e.serial.this
+
+-- which of the reasons it is, in their order
+abbrev pub reason_rank : Never → ℕ
+reason_rank never.PrevNotBefore = 0
+reason_rank (never.NotRising j) = 1
+reason_rank (never.Repeated q j) = 2
+reason_rank (never.Mismatch q j) = 3
+reason_rank (never.Late j) = 4
+reason_rank never.Unfounded = 5
+reason_rank never.TooHigh = 6
+
+-- The reason holds of event i of p; none that comes before it holds of any event, and none of its
+-- kind of an event before this one.
+pub record IsReason (top : ℕ) (streams : List Stream) (p : Pid) (i : ℕ) (reason : Never)
+    : Type 0 where
   pub event : Event
   pub at : event_at streams p i ≡ Some event
-  pub receive : Event
-  pub there : event_at streams p j ≡ Some receive
-  pub before : j < i
-  pub receives : is_stamp receive ≡ false
-  pub high : event.serial.this ≤ receive.serial.this
-  pub last : (k : ℕ) (f : Event) → j < k → k < i → event_at streams p k ≡ Some f
-      → f.serial.this < event.serial.this
+  pub holds : IsAgainst top streams p i event reason
+  pub first : (other : Never) (q : Pid) (j : ℕ) (f : Event) → event_at streams q j ≡ Some f
+      → IsAgainst top streams q j f other → reason_rank reason ≤ reason_rank other
+  pub least : (other : Never) (q : Pid) (j : ℕ) (f : Event) → event_at streams q j ≡ Some f
+      → IsAgainst top streams q j f other → reason_rank reason ≡ reason_rank other → ¬ IsEarlier q j p i
 
--- event i of p is the first that is late, and event j the last receive before it that counts no lower
-pub record IsFirstLate (streams : List Stream) (p : Pid) (i j : ℕ) : Type 0 where
-  pub accepted : refusal streams ≡ None
-  pub least : IsLeastPlace (HoldsAt is_late streams) p i
-  pub higher : IsLastHigher streams p i j
-
--- no stamp is late, and event i of p is the first that tells of a stamp with prev 0 behind another
--- prev or a receive
-pub record IsFirstUnfounded (streams : List Stream) (p : Pid) (i : ℕ) : Type 0 where
-  pub accepted : refusal streams ≡ None
-  pub timely : HoldsOfNone is_late streams
-  pub least : IsLeastPlace (IsUnfounded streams) p i
-
--- neither reason holds, and event i of p is the first whose count no clock can have
-pub record IsFirstTooHigh (top : ℕ) (streams : List Stream) (p : Pid) (i : ℕ) : Type 0 where
-  pub accepted : refusal streams ≡ None
-  pub timely : HoldsOfNone is_late streams
-  pub founded : (q : Pid) (j : ℕ) → ¬ IsUnfounded streams q j
-  pub least : IsLeastPlace (HoldsAt (is_too_high top) streams) p i
-
--- the reason holds at event i of p, at no event before it, and none of the reasons before it holds
-abbrev pub IsReason : ℕ → List Stream → Pid → ℕ → Never → Type 0
-IsReason top streams p i never.PrevNotBefore = refusal streams ≡ Some (fault.PrevNotBefore p i)
-IsReason top streams p i (never.NotRising j) = refusal streams ≡ Some (fault.NotRising p i j)
-IsReason top streams p i (never.Repeated q j) = refusal streams ≡ Some (fault.Repeated p i q j)
-IsReason top streams p i (never.Mismatch q j) = refusal streams ≡ Some (fault.Mismatch p i q j)
-IsReason top streams p i (never.Late j) = IsFirstLate streams p i j
-IsReason top streams p i never.Unfounded = IsFirstUnfounded streams p i
-IsReason top streams p i never.TooHigh = IsFirstTooHigh top streams p i
+-- THE RESULTS
 
 -- no acts without a reset show the streams with any other processes that report nothing
 abbrev pub NeverShownWithOthers : ℕ → List Stream → Type 0
@@ -74,10 +102,22 @@ abbrev pub IsFinal : ℕ → List Stream → Never → Type 0
 IsFinal top streams never.TooHigh = NeverShownWithOthers top streams
 IsFinal top streams reason = (most : ℕ) → NeverShownWithOthers most streams
 
--- the streams have this completion, so acts without a reset show them with its unlisted processes
+-- No send and no receive is missing in these streams: acts without a reset show them; the send of
+-- each message that was received is among them; and the prev of each send and print is what the
+-- event before it leaves, or a new trace begins there.
+pub record LacksNothing (top : ℕ) (streams : List Stream) : Type 0 where
+  pub shown : IsShownInOneTrace top streams
+  pub sent : (p : Pid) (i : ℕ) (e : Event) → event_at streams p i ≡ Some e
+      → (is_stamp e || is_some (stamp_of streams e.from e.serial.this)) ≡ true
+  pub caused : (p : Pid) (i : ℕ) (e : Event) → event_at streams p i ≡ Some e
+      → is_need (take i (events_of streams p)) e ≡ false
+
+-- The streams have this completion, so acts without a reset show them with its unlisted processes;
+-- and with all of its events nothing is missing.
 pub record IsWhole (top : ℕ) (streams : List Stream) (completed : Completed) : Type 0 where
   pub completes : Completes top streams completed
   pub shown : IsShownInOneTrace top (with_silent streams completed.unlisted)
+  pub lacks : LacksNothing top (all_streams completed.wholes)
 
 -- the reason holds, and is final
 pub record IsNever (top : ℕ) (streams : List Stream) (p : Pid) (i : ℕ) (reason : Never)
@@ -93,11 +133,6 @@ pub record IsCertificate (top : ℕ) (streams : List Stream) (most : ℕ) (found
   pub shows : Shows top streams found.acts
   pub one_trace : NoReset found.acts
   pub within : length found.acts ≤ most
-
--- For the parts alone: a completion, or a reason that holds.
-abbrev pub IsFound : ℕ → List Stream → Answer → Type 0
-IsFound top streams (answer.Whole completed) = Completes top streams completed
-IsFound top streams (answer.Never p i reason) = IsReason top streams p i reason
 
 -- a completion, or a reason that is final
 abbrev pub IsAnswer : ℕ → List Stream → Answer → Type 0

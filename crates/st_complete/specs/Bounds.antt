@@ -1,6 +1,5 @@
 -- How many acts a completion surely has room in, by a plain count of its events.
 use Rattle.std.specs.Prelude.{ℕ, ◌+◌, ◌-◌, List, [], ◌∷◌, ◌++◌, if◌then◌else◌, sum_by}
-use Rattle.st_core.specs.declared.types.Pid.{Pid}
 use Rattle.st_core.specs.declared.types.Event.{Event}
 use Rattle.st_core.specs.Laws.{greatest_count}
 use Rattle.st_core.specs.Run.{Stream, pids_of}

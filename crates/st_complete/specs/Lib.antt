@@ -2,6 +2,8 @@
 -- a completion is, is defined in `st_needs`.
 pub mod Answers
 pub mod Bounds
--- For the parts alone: what the judge asks of an event; and the last event that counts no lower.
+-- For the parts alone: a reason as it is found; what the judge asks of an event; and the last event
+-- that counts no lower.
+pub mod Found
 pub mod Links
 pub mod Higher

@@ -8,13 +8,14 @@ ghost use Rattle.st_completions.specs.Needs.{is_late};
 ghost use Rattle.st_completions.specs.Reasons.{HoldsAt};
 ghost use Rattle.st_open.specs.OpenReasons.{HasNoOpenReason, IsLeastPlace};
 ghost use Rattle.st_needs.specs.Completions.{Completes};
-ghost use Rattle.st_complete.specs.Answers.{IsAnswer, IsFound, IsReason};
+ghost use Rattle.st_complete.specs.Answers.{IsAnswer};
+ghost use Rattle.st_complete.specs.Found.{IsFound, IsFoundReason};
 ghost use Rattle.st_complete.specs.Higher.{LastHigher};
 
 use crate::answer::{Answer, CompleteFault, Never};
 use crate::judge::judge;
 use st_candidate::build_candidate;
-use st_completions::laws::shown_exactly_where_nothing_is_needed;
+use st_completions::laws::{needless_streams_are_shown, shown_exactly_where_nothing_is_needed};
 use st_core::{Event, Pid, Streams};
 use st_needs::{Completion, Flaw, complete_by_definition, find_flaw, find_unfounded};
 use st_open::laws::open_reasons_are_final;
@@ -35,7 +36,7 @@ pub(crate) struct Refusal {
 /// The reason that pairing gives; none if it ran out of memory.
 fn refusal_of<const TOP: u64>(streams: &Streams, fault: PairFault) -> Option<Refusal>
     requires { IsPairFault streams.now fault }
-    ensures reason { IfSome result (λ r. IsReason TOP streams.now r.pid r.index r.never) }
+    ensures reason { IfSome result (λ r. IsFoundReason TOP streams.now r.pid r.index r.never) }
     ensures memory { IfNone result (fault ≡ PairFault.Memory) }
 {
     let _streams = streams;
@@ -71,7 +72,7 @@ fn last_higher(events: &[Event], index: usize, this: u64) -> Option<usize>
 fn late_refusal<const TOP: u64>(streams: &Streams, pid: Pid, index: u64) -> Refusal
     requires accepted { refusal streams.now ≡ None }
     requires late { IsLeastPlace (HoldsAt is_late streams.now) pid index }
-    ensures { IsReason TOP streams.now result.pid result.index result.never }
+    ensures { IsFoundReason TOP streams.now result.pid result.index result.never }
 {
     let events = streams.events(pid);
     let Some(event) = streams.event(pid, index) else {
@@ -96,7 +97,7 @@ fn find_refusal<const TOP: u64>(
     requires accepted { refusal streams.now ≡ None }
     requires paired { IsPairing streams.now pairing.now }
     ensures some { IfOk result (λ found. IfSome found
-        (λ r. IsReason TOP streams.now r.pid r.index r.never)) }
+        (λ r. IsFoundReason TOP streams.now r.pid r.index r.never)) }
     ensures none { IfOk result (λ found. IfNone found (HasNoOpenReason TOP streams.now)) }
 {
     if let Some((pid, index)) = find_flaw(streams, Flaw::Late) {
@@ -176,6 +177,7 @@ fn answer_of<const TOP: u64>(alloc: Global, streams: &Streams) -> Result<Answer,
 pub fn complete<const TOP: u64>(alloc: Global, streams: &Streams) -> Result<Answer, CompleteFault>
     ensures { IfOk result (IsAnswer TOP streams.now) }
 {
+    needless_streams_are_shown();
     shown_exactly_where_nothing_is_needed();
     open_reasons_are_final();
     let _pids = streams.pids();

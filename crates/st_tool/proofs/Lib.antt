@@ -3,3 +3,4 @@ pub mod Deliveries
 pub mod Rooms
 pub mod Completions
 pub mod Meanings
+pub mod RenumberMeanings

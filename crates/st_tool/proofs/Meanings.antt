@@ -38,7 +38,7 @@ completion_of f bytes streams _ _ has (Adds c is) e =
       shows = has.is.shown.shows;
       one_trace = has.is.shown.one_trace;
       told = has.is.completes.is.told;
-      needless = has.is.completes.is.needless;
+      lacks = has.is.lacks;
       text = sym (ap (λ (g : Form). completed_text g streams c (has.is.shown.acts)) is);
     }
 completion_of f bytes streams _ _ has (Completes c is) e =
@@ -52,7 +52,7 @@ completion_of f bytes streams _ _ has (Completes c is) e =
       shows = has.is.shown.shows;
       one_trace = has.is.shown.one_trace;
       told = has.is.completes.is.told;
-      needless = has.is.completes.is.needless;
+      lacks = has.is.lacks;
       text = sym (ap (λ (g : Form). completed_text g streams c (has.is.shown.acts)) is);
     }
 completion_of f bytes streams _ _ has (Certifies c acts is shows one_trace) e =
@@ -66,7 +66,7 @@ completion_of f bytes streams _ _ has (Certifies c acts is shows one_trace) e =
       shows = shows;
       one_trace = one_trace;
       told = has.is.completes.is.told;
-      needless = has.is.completes.is.needless;
+      lacks = has.is.lacks;
       text = sym (ap (λ (g : Form). completed_text g streams c (acts)) is);
     }
 completion_of f bytes streams _ _ has (IsLong c is) e = absurd (omega arith)

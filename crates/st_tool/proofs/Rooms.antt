@@ -9,7 +9,7 @@ use Rattle.std.specs.Result.{IsErr}
 use Rattle.std.proofs.lemmas.List.{append-nil}
 use Rattle.st_text.specs.Writing.{WritesPart, Goes, WritesOn}
 use Rattle.st_text.proofs.ForCallers.{part_longer, goes_then, goes_buffer, then_on, on_err}
-use Rattle.st_tool.specs.Complete.{up_to}
+use Rattle.st_tool.specs.Lines.{up_to}
 
 module _ (f : ℕ → List ℕ) where
   pub next_text : (i : ℕ) → up_to f (i + 1) ≡ up_to f i ++ f i

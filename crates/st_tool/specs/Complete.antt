@@ -1,34 +1,34 @@
 -- What `complete` makes of bytes: what the streams that they spell lack, or why no run without a
 -- reset has them, whatever processes report nothing. The acts in the input are ignored.
-use Rattle.std.specs.Prelude.{◌≡◌, ℕ, ◌<◌, zero, suc, Bool, true, false, List, [], ◌++◌, Option}
-use Rattle.std.specs.Prelude.{Some, None, codes, decimal, length, option_map}
-use Rattle.std.specs.Prelude.{slice_get}
+use Rattle.std.specs.Prelude.{◌≡◌, ℕ, ◌<◌, ◌+◌, false, List, [], ◌∷◌, ◌++◌, Option, Some, None}
+use Rattle.std.specs.Prelude.{codes, decimal, length, if◌then◌else◌}
 use Rattle.std.specs.List.{flat_map, AllByRecursion}
+use Rattle.std.specs.Option.{option_map_or}
 use Rattle.st_core.specs.declared.types.Pid.{Pid}
 use Rattle.st_core.specs.declared.types.Act.{Act}
 use Rattle.st_core.specs.declared.types.Event.{Event}
 use Rattle.st_core.specs.Laws.{NoReset}
 use Rattle.st_core.specs.Run.{Stream, Shows, pids_of}
-use Rattle.st_core.specs.Streams.{events_of, lists}
+use Rattle.st_core.specs.Streams.{lists}
 use Rattle.st_text.specs.declared.fault.ReadFault.{ReadFault}
 use Rattle.st_text.specs.Fault.{fault_within}
 use Rattle.st_text.specs.Limits.{greater}
 use Rattle.st_text.specs.Spelling.{ended_line}
+use Rattle.st_text.specs.Text.{spelling}
 use Rattle.st_pair.specs.Places.{event_at}
-use Rattle.st_plan.specs.Marks.{all_streams, told_streams, Whole}
-use Rattle.st_completions.specs.Local.{IsNeedless}
+use Rattle.st_plan.specs.Marks.{all_streams, told_streams, Marked}
 use Rattle.st_completions.specs.Needs.{marked_of}
 use Rattle.st_open.specs.Silent.{with_silent}
 use Rattle.st_complete.specs.declared.answer.Never.{Never}
 use Rattle.st_complete.specs.declared.answer.Never.TheVariants as never
 use Rattle.st_complete.specs.declared.answer.Answer.{Answer}
 use Rattle.st_complete.specs.declared.answer.Answer.TheVariants as answer
-use Rattle.st_complete.specs.Answers.{IsAnswer, IsReason, IsWhole}
+use Rattle.st_complete.specs.Answers.{IsAnswer, IsReason, IsWhole, LacksNothing}
 use Rattle.st_complete.specs.Bounds.{act_bound}
 use Rattle.st_needs.specs.Completions.{added_in, Completed}
 use Rattle.st_text.specs.Spelling as spelled
 use Rattle.st_chart.specs.Words.{place_words}
-use Rattle.st_chart.specs.Report.{event_line, event_words}
+use Rattle.st_chart.specs.Report.{event_words}
 use Rattle.st_commands.specs.Output.{Output, refused, bundled}
 use Rattle.st_commands.specs.Checked.{top, Spells}
 use Rattle.st_tool.specs.declared.complete.Form.{Form}
@@ -41,67 +41,40 @@ use Rattle.st_tool.specs.Renumber.{streams_output}
 abbrev pub place_line : List ℕ → Pid → ℕ → Option Event → List ℕ
 place_line word p i e = (word ++ place_words p i ++ codes " ") ++ ended_line (event_words e)
 
--- the line of an event with this mark: none if it was told
-abbrev pub if_untold : Option Bool → List ℕ → List ℕ
-if_untold None line = []
-if_untold (Some true) line = []
-if_untold (Some false) line = line
-
--- the line of event i of p, if it was added
-abbrev pub added_at : List Whole → Pid → ℕ → List ℕ
-added_at wholes p i =
-    if_untold (option_map (λ m. m.told) (slice_get (marked_of wholes p) i))
-    (place_line (codes "added ") p i (event_at (all_streams wholes) p i))
-
--- the texts of the numbers below n, one behind the other
-abbrev pub up_to : (ℕ → List ℕ) → ℕ → List ℕ
-up_to text zero = []
-up_to text (suc n) = up_to text n ++ text n
-
-abbrev pub added_of : List Whole → Pid → List ℕ
-added_of wholes p = up_to (added_at wholes p) (length (events_of (all_streams wholes) p))
-
-abbrev pub count_line : ℕ → List ℕ
-count_line n = ended_line (codes "added " ++ decimal n)
-
--- a process that the streams don't list
-abbrev pub unlisted_line : Pid → List ℕ
-unlisted_line p = ended_line (codes "unlisted " ++ spelled.pid p)
+-- the lines of the untold ones of these events of p, which are from index i on
+abbrev pub added_from : Pid → ℕ → List Marked → List ℕ
+added_from p i [] = []
+added_from p i (m ∷ ms) =
+    (if m.told then [] else place_line (codes "added ") p i (Some m.event))
+    ++ added_from p (i + 1) ms
 
 -- how many events were added; the processes that aren't listed; and each event, by pid and index
 abbrev pub added_text : Completed → List ℕ
 added_text c =
-    count_line (added_in c.wholes) ++ flat_map unlisted_line c.unlisted
-    ++ flat_map (added_of c.wholes) (pids_of (all_streams c.wholes))
+    ended_line (codes "added " ++ decimal (added_in c.wholes))
+    ++ flat_map (λ p. ended_line (codes "unlisted " ++ spelled.pid p)) c.unlisted
+    ++ flat_map (λ p. added_from p 0 (marked_of c.wholes p)) (pids_of (all_streams c.wholes))
 
 -- ---- no completion
 
--- a reason against an event of p, with the other place that it names
-abbrev pub never_words : Pid → Never → List ℕ
-never_words p never.PrevNotBefore = codes "prevnotbefore"
-never_words p (never.NotRising j) = codes "notrising " ++ place_words p j
-never_words p (never.Repeated q j) = codes "repeated " ++ place_words q j
-never_words p (never.Mismatch q j) = codes "mismatch " ++ place_words q j
-never_words p (never.Late j) = codes "late " ++ place_words p j
-never_words p never.Unfounded = codes "unfounded"
-never_words p never.TooHigh = codes "toohigh"
+-- the word of a reason against an event of p, and the other place that it names
+abbrev pub reason_of : Pid → Never → List ℕ × Option (Pid × ℕ)
+reason_of p never.PrevNotBefore = (codes "prevnotbefore", None)
+reason_of p (never.NotRising j) = (codes "notrising", Some (p, j))
+reason_of p (never.Repeated q j) = (codes "repeated", Some (q, j))
+reason_of p (never.Mismatch q j) = (codes "mismatch", Some (q, j))
+reason_of p (never.Late j) = (codes "late", Some (p, j))
+reason_of p never.Unfounded = (codes "unfounded", None)
+reason_of p never.TooHigh = (codes "toohigh", None)
 
--- the event at the other place
-abbrev pub other_line : List Stream → Pid → Never → List ℕ
-other_line streams p never.PrevNotBefore = []
-other_line streams p (never.NotRising j) = event_line streams p j
-other_line streams p (never.Repeated q j) = event_line streams q j
-other_line streams p (never.Mismatch q j) = event_line streams q j
-other_line streams p (never.Late j) = event_line streams p j
-other_line streams p never.Unfounded = []
-other_line streams p never.TooHigh = []
-
-abbrev pub never_line : Pid → ℕ → Never → List ℕ
-never_line p i r = ended_line (codes "never " ++ place_words p i ++ codes " " ++ never_words p r)
-
--- the event and the reason, and the events that they name
+-- the place and the reason, the event at the place, and the one at the other place
 abbrev pub never_text : List Stream → Pid → ℕ → Never → List ℕ
-never_text streams p i r = never_line p i r ++ event_line streams p i ++ other_line streams p r
+never_text streams p i r =
+    ended_line (codes "never " ++ place_words p i ++ codes " " ++ ((reason_of p r).0
+    ++ option_map_or (λ at. codes " " ++ place_words at.0 at.1) (reason_of p r).1 []))
+    ++ place_line (codes "event ") p i (event_at streams p i)
+    ++ option_map_or (λ at. place_line (codes "event ") at.0 at.1 (event_at streams at.0 at.1))
+    (reason_of p r).1 []
 
 -- ---- the output of streams
 
@@ -156,8 +129,10 @@ pub data IsCompleted (f : Form) : List ℕ → Output → Type 0 where
 
 -- the text of a completion in a form, of which these acts are
 abbrev pub completed_text : Form → List Stream → Completed → List Act → List ℕ
-completed_text form.Acts streams c acts = (bundled (with_silent streams c.unlisted) acts).text
-completed_text form.Streams streams c acts = (streams_output (all_streams c.wholes)).text
+completed_text form.Acts streams c acts =
+    spelling (record { streams = with_silent streams c.unlisted; acts = Some acts })
+completed_text form.Streams streams c acts =
+    spelling (record { streams = all_streams c.wholes; acts = None })
 completed_text form.Added streams c acts = added_text c
 
 -- a completion: status 0
@@ -176,8 +151,8 @@ pub record MeansCompleted (f : Form) (bytes : List ℕ) (out : Output) : Type 0 
   pub one_trace : NoReset acts
   -- of all events of the completion the told ones are just those of the streams
   pub told : told_streams completed.wholes ≡ with_silent streams completed.unlisted
-  -- and in all its events no send and no receive is missing
-  pub needless : IsNeedless top (all_streams completed.wholes)
+  -- and with all its events no send and no receive is missing
+  pub lacks : LacksNothing top (all_streams completed.wholes)
   -- the text is that of the streams with these acts, or of all events, or of those that were added
   pub text : out.text ≡ completed_text f streams completed acts
 

@@ -19,7 +19,7 @@ ghost use Rattle.st_tool.specs.Parts.{CompletesTo, IsStandard};
 use crate::answer::tell_streams;
 use crate::completion_lines::{send_added, send_never};
 use crate::lines::OutputLine;
-use st_commands::{status_of, tell_bundle, tell_fault, tell_line};
+use st_commands::{TOP, status_of, tell_bundle, tell_fault, tell_line};
 use st_complete::{
     Answer, CertificateFault, CompleteFault, Completion, certificate, complete, with_silent,
 };
@@ -27,9 +27,6 @@ use st_core::{ByteSink, ByteSource, Streams};
 use st_text::{Device, Limits, ReadFault, read_within, send_line};
 use std::alloc::Global;
 use std::thread::Threads;
-
-/// The greatest count that a clock of the program can have.
-const TOP: u64 = u64::MAX;
 
 /// The most acts and processes that the reader of the greater limits takes.
 const MOST_ACTS: u64 = 64_000_000;

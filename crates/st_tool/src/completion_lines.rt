@@ -8,8 +8,9 @@ ghost use Rattle.st_text.specs.Spelling.{ended_line};
 ghost use Rattle.st_text.specs.Writing.{WritesOn, WritesText};
 ghost use Rattle.st_chart.specs.Words.{place_words};
 ghost use Rattle.st_chart.specs.Report.{event_line, event_words};
-ghost use Rattle.st_tool.specs.Complete.{added_at, added_of, added_text, never_text};
-ghost use Rattle.st_tool.specs.Complete.{other_line, place_line, unlisted_line};
+ghost use Rattle.st_tool.specs.Complete.{added_text, never_text, place_line};
+ghost use Rattle.st_tool.specs.Lines.{added_at, added_of, added_parts, never_parts};
+ghost use Rattle.st_tool.specs.Lines.{other_line, unlisted_line};
 
 use crate::lines::OutputLine;
 use st_chart::put_place;
@@ -152,7 +153,7 @@ fn write_added<W: ByteSink>(
     buffer: &mut Buffer,
     completion: &Completion,
 ) -> Result<(), Device>
-    ensures { WritesOn W.puts W.failed (added_text completion.now)
+    ensures { WritesOn W.puts W.failed (added_parts completion.now)
         writer.old writer.new buffer.old.items buffer.new.items result }
 {
     write_line(writer, buffer, OutputLine::Added(completion.added()))?;
@@ -202,7 +203,7 @@ fn write_never<W: ByteSink>(
     index: u64,
     never: Never,
 ) -> Result<(), Device>
-    ensures { WritesOn W.puts W.failed (never_text streams.now pid index never)
+    ensures { WritesOn W.puts W.failed (never_parts streams.now pid index never)
         writer.old writer.new buffer.old.items buffer.new.items result }
 {
     write_line(writer, buffer, OutputLine::Never(pid, index, never))?;

@@ -7,8 +7,7 @@ ghost use Rattle.st_text.specs.Room.{line_room, HasRoom, Puts};
 ghost use Rattle.st_text.specs.Spelling as spelled;
 ghost use Rattle.st_chart.specs.Words.{place_words};
 ghost use Rattle.st_chart.specs.Room.{place_room};
-ghost use Rattle.st_tool.specs.Complete.{never_words};
-ghost use Rattle.st_tool.specs.Lines.{words_of, words_room};
+ghost use Rattle.st_tool.specs.Lines.{never_words, words_of, words_room};
 
 use st_chart::put_place;
 use st_complete::Never;

@@ -1,14 +1,17 @@
 //! The command `renumber`: the streams whose text the input is, with each count replaced by its
 //! rank. The acts in the input are ignored.
 
+ghost use Rattle.std.specs.Prelude.{◌≡◌};
 ghost use Rattle.st_text.specs.Limits.{greater};
 ghost use Rattle.st_commands.specs.Command.{Owes, Tells, call};
+ghost use Rattle.st_commands.specs.Meaning.{Says};
 ghost use Rattle.st_tool.specs.Parts.{RenumbersTo};
-ghost use Rattle.st_tool.specs.Renumber.{IsRenumbered};
+ghost use Rattle.st_tool.specs.Renumber.{IsRenumbered, MeansRefused, MeansRenumbered};
 
 use crate::answer::tell_streams;
 use st_commands::tell_fault;
 use st_complete::renumbered;
+use st_completions::laws::{counts_can_be_put_back, shown_if_renumbered_is};
 use st_core::{ByteSink, ByteSource, Streams};
 use st_text::{Limits, ReadFault, read_within};
 use std::alloc::Global;
@@ -28,9 +31,17 @@ fn renumber_streams<W: ByteSink>(alloc: Global, streams: &Streams, writer: &mut 
 /// (`shown_if_renumbered_is` of `st_completions`). Faulty input is 2; running out of memory, and a
 /// reader or a writer that fails, are 4.
 pub fn run_renumber<R: ByteSource, W: ByteSink>(alloc: Global, reader: &mut R, writer: &mut W) -> u8
-    ensures { Tells (call W.ByteSink writer.old writer.new)
+    ensures told { Tells (call W.ByteSink writer.old writer.new)
         (Owes greater (call R.ByteSource reader.old reader.new) IsRenumbered) result }
+
+    // What that says of renumbered streams and of faulty input, in the machine's own words.
+    ensures renumbered { result ≡ 0 → Says greater (call R.ByteSource reader.old reader.new)
+        (call W.ByteSink writer.old writer.new) MeansRenumbered }
+    ensures refused { result ≡ 2 → Says greater (call R.ByteSource reader.old reader.new)
+        (call W.ByteSink writer.old writer.new) MeansRefused }
 {
+    counts_can_be_put_back();
+    shown_if_renumbered_is();
     match read_within(alloc, reader, Limits::GREATER) {
         Ok(bundle) => renumber_streams(alloc, &bundle.streams, writer),
         Err(fault) => tell_fault(writer, fault),

@@ -1,5 +1,5 @@
 -- One process more; and those that were taken are no more than all.
-use Rattle.std.proofs.Common.{◌≡◌, ◌+◌, ◌<◌, ◌≤◌, [], get_or, length, sum_by, take, sym, ap, subst, arith}
+use Rattle.std.proofs.Common.{◌+◌, ◌<◌, [], get_or, length, sum_by, take, ap, arith}
 use Rattle.std.proofs.lemmas.List.{take_more}
 use Rattle.std.proofs.lemmas.List.Sums.{sum_by-take-le, sum_by_push}
 use Rattle.st_core.specs.declared.types.Pid.{Pid}

@@ -1,5 +1,5 @@
 -- One process more.
-use Rattle.std.proofs.Common.{◌≡◌, false, get_or, sym, ◌∙◌, subst}
+use Rattle.std.proofs.Common.{◌≡◌, false, get_or, subst}
 use Rattle.std.specs.List.{AllByRecursion}
 use Rattle.std.proofs.lemmas.List.{take_all}
 use Rattle.std.proofs.lemmas.Option.{slice_get-get_or}

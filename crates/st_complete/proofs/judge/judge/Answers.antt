@@ -7,8 +7,8 @@ use Rattle.st_core.specs.Pid.{IsRising}
 use Rattle.st_core.specs.Streams.{IsStreams, lists}
 use Rattle.st_completions.specs.Local.{IsNeedless}
 use Rattle.st_open.specs.Silent.{with_silent}
-use Rattle.st_plan.specs.Marks.{told_streams, Whole}
-use Rattle.st_needs.specs.Completions.{wholes_with, Completed, Completes, IsCompletionOf}
+use Rattle.st_plan.specs.Marks.{told_streams}
+use Rattle.st_needs.specs.Completions.{wholes_with, Completed, IsCompletionOf}
 use Rattle.st_needs.proofs.ForCallers.{all_kept}
 use Rattle.st_complete.proofs.judge.judge.Goals as goal
 

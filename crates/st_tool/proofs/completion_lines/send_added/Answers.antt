@@ -1,11 +1,18 @@
--- All that waits in the buffer is flushed.
+-- All that waits in the buffer is flushed, and the parts are the text.
 use Rattle.st_tool.specs.Complete.{added_text}
-use Rattle.st_text.proofs.ForCallers.{finishes}
-use Rattle.st_tool.proofs.Completions.{added_some}
+use Rattle.st_tool.specs.Lines.{added_parts}
+use Rattle.st_tool.proofs.Completions.{added_same, added_some, fails_as, finishes_as}
 use Rattle.st_tool.proofs.completion_lines.send_added.Goals as goal
+
+pub returns-in_err-write_added : goal.returns-in_err-write_added
+returns-in_err-write_added g c =
+    let done = c.args.completion.now in
+    fails_as g.W.ByteSink.puts g.W.ByteSink.failed (added_parts done) (added_text done) (added_same done) _
+    c.from_residual.ensures.0 (rw c.new-buffer.ensures at c.in_err-write_added.ensures)
 
 pub returns : goal.returns
 returns g c =
-    finishes g.W.ByteSink.puts g.W.ByteSink.failed (added_text c.args.completion.now) _ _ c.flush.result
-    (added_some c.args.completion.now)
+    let done = c.args.completion.now in
+    finishes_as g.W.ByteSink.puts g.W.ByteSink.failed (added_parts done) (added_text done) (added_same done)
+    _ _ c.flush.result (added_some done)
     (rw c.new-buffer.ensures at c.in_ok-write_added.ensures) c.flush.ensures.goes c.flush.ensures.empty

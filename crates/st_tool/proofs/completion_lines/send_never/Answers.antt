@@ -1,12 +1,25 @@
--- All that waits in the buffer is flushed.
+-- All that waits in the buffer is flushed, and the parts are the text.
 use Rattle.st_tool.specs.Complete.{never_text}
-use Rattle.st_text.proofs.ForCallers.{finishes}
-use Rattle.st_tool.proofs.Completions.{never_some}
+use Rattle.st_tool.specs.Lines.{never_parts}
+use Rattle.st_tool.proofs.Completions.{fails_as, finishes_as, never_same, never_some}
 use Rattle.st_tool.proofs.completion_lines.send_never.Goals as goal
+
+pub returns-in_err-write_never : goal.returns-in_err-write_never
+returns-in_err-write_never g c =
+    let xs = c.args.streams.now in
+    let p = c.args.pid in
+    let i = c.args.index in
+    let reason = c.args.never in
+    fails_as g.W.ByteSink.puts g.W.ByteSink.failed (never_parts xs p i reason) (never_text xs p i reason)
+    (never_same xs p i reason) _
+    c.from_residual.ensures.0 (rw c.new-buffer.ensures at c.in_err-write_never.ensures)
 
 pub returns : goal.returns
 returns g c =
-    finishes g.W.ByteSink.puts g.W.ByteSink.failed
-    (never_text c.args.streams.now c.args.pid c.args.index c.args.never) _ _ c.flush.result
-    (never_some c.args.streams.now c.args.pid c.args.index c.args.never)
+    let xs = c.args.streams.now in
+    let p = c.args.pid in
+    let i = c.args.index in
+    let reason = c.args.never in
+    finishes_as g.W.ByteSink.puts g.W.ByteSink.failed (never_parts xs p i reason) (never_text xs p i reason)
+    (never_same xs p i reason) _ _ c.flush.result (never_some xs p i reason)
     (rw c.new-buffer.ensures at c.in_ok-write_never.ensures) c.flush.ensures.goes c.flush.ensures.empty

@@ -1,7 +1,7 @@
 -- Each turn writes the lines of the next process behind those before.
 use Rattle.std.proofs.Common.{refl}
 use Rattle.st_text.proofs.ForCallers.{goes_still, one_more, one_failed, all_done, on_err}
-use Rattle.st_tool.specs.Complete.{added_of}
+use Rattle.st_tool.specs.Lines.{added_of}
 use Rattle.st_tool.proofs.completion_lines.write_added_by.Goals as goal
 
 pub loop-pid-init : goal.loop-pid-init

@@ -2,7 +2,7 @@
 use Rattle.std.proofs.Common.{take}
 use Rattle.std.specs.List.{flat_map}
 use Rattle.st_text.specs.Writing.{Goes}
-use Rattle.st_tool.specs.Complete.{added_of}
+use Rattle.st_tool.specs.Lines.{added_of}
 use Rattle.st_tool.proofs.completion_lines.write_added_by.Given as goal
 
 abbrev pub invariant-loop-pid : goal.invariant-loop-pid

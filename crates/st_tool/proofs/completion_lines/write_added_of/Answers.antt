@@ -1,6 +1,6 @@
 -- Each turn writes the line of the next event behind those before, if it has one.
 use Rattle.st_text.proofs.ForCallers.{goes_still, on_err}
-use Rattle.st_tool.specs.Complete.{added_at}
+use Rattle.st_tool.specs.Lines.{added_at}
 use Rattle.st_tool.proofs.Rooms.{goes_next, part_among}
 use Rattle.st_tool.proofs.completion_lines.write_added_of.Goals as goal
 

@@ -1,6 +1,6 @@
 -- The lines of the events so far were written, or wait.
 use Rattle.st_text.specs.Writing.{Goes}
-use Rattle.st_tool.specs.Complete.{added_at, up_to}
+use Rattle.st_tool.specs.Lines.{added_at, up_to}
 use Rattle.st_tool.proofs.completion_lines.write_added_of.Given as goal
 
 abbrev pub invariant-loop-index : goal.invariant-loop-index

@@ -2,7 +2,7 @@
 use Rattle.std.proofs.Common.{◌++◌}
 use Rattle.st_text.proofs.ForCallers.{part_longer, then_on, goes_then, on_err}
 use Rattle.st_chart.specs.Report.{event_line}
-use Rattle.st_tool.specs.Complete.{never_line, other_line}
+use Rattle.st_tool.specs.Lines.{never_line, other_line}
 use Rattle.st_tool.proofs.Rooms.{part_then}
 use Rattle.st_tool.proofs.completion_lines.write_never.Goals as goal
 

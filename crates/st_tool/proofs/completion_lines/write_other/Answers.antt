@@ -1,7 +1,7 @@
 -- Three reasons rest on the event alone, so there is nothing to add.
 use Rattle.std.proofs.Common.{ap}
 use Rattle.st_text.proofs.ForCallers.{goes_still}
-use Rattle.st_tool.specs.Complete.{other_line}
+use Rattle.st_tool.specs.Lines.{other_line}
 use Rattle.st_tool.proofs.completion_lines.write_other.Goals as goal
 
 pub returns-in-PrevNotBefore : goal.returns-in-PrevNotBefore

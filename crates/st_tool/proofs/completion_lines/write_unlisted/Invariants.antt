@@ -2,7 +2,7 @@
 use Rattle.std.proofs.Common.{take}
 use Rattle.std.specs.List.{flat_map}
 use Rattle.st_text.specs.Writing.{Goes}
-use Rattle.st_tool.specs.Complete.{unlisted_line}
+use Rattle.st_tool.specs.Lines.{unlisted_line}
 use Rattle.st_tool.proofs.completion_lines.write_unlisted.Given as goal
 
 abbrev pub invariant-loop-pid : goal.invariant-loop-pid
