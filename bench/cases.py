@@ -13,6 +13,8 @@ TRACES = {
     "labels": ("64 processes, 10,000 labels", COMMANDS),
     "nodes": ("256 processes on 256 nodes", COMMANDS),
     "random": ("random acts of 64 processes", ("check", "replay", "drive")),
+    # No audit accepts the streams of the others.
+    "reported": ("random acts that are all reported", ("audit", "chart")),
     "lanes": ("1,000 lanes", ("chart",)),
 }
 

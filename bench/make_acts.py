@@ -2,11 +2,12 @@
 """Writes the text of a bundle of acts without events, the same at each run. A replay makes of it the bundles that the
 measurements take.
 
-    make_acts.py [--processes N] [--nodes N] [--labels N] [--acts N] [--random] [FLAG ..]
+    make_acts.py [--processes N] [--nodes N] [--labels N] [--acts N] [--random [--reported]] [FLAG ..]
 
 N processes on N nodes make N acts: they send, receive and print under one trace each; FLAG is send, receive or print,
 and says what is reported. An eighth of the acts looks at the token; with --labels it gives the token another label, one
-of N. With --random they make acts of all kinds, by all wants."""
+of N. With --random they make acts of all kinds, by all wants; with --reported too only such by which each stamp is
+reported, so that an audit accepts their streams."""
 
 import argparse
 import itertools
@@ -34,6 +35,8 @@ RANDOM_ACTS = {
     "tracer {me} false": 1,
     "reset {me}": 1,
 }
+# How those begin by which a stamp isn't reported, or counts start anew.
+HIDING_ACTS = ("set", "tracer", "reset")
 VALUES, LABELS, PLACES = 16, 8, 4
 
 
@@ -75,14 +78,15 @@ def acts(pids, labels):
             yield f"look {pids[actor]}"
 
 
-def random_acts(pids):
-    """Acts of all kinds."""
+def random_acts(pids, are_reported):
+    """Acts of all kinds, or of those by which all stamps are reported."""
     given = numbers(2026)
-    kinds = [kind for kind, times in RANDOM_ACTS.items() for _ in range(times)]
+    left_out = HIDING_ACTS if are_reported else ()
+    kinds = [kind for kind, times in RANDOM_ACTS.items() if not kind.startswith(left_out) for _ in range(times)]
     for me, kind, pid, drawn in zip(given, given, given, given):
         yield kinds[kind % len(kinds)].format(
             me=pids[me % len(pids)], pid=pids[pid % len(pids)], value=drawn % VALUES, label=(drawn >> 8) % LABELS,
-            place=(drawn >> 16) % PLACES, truth="true" if drawn >> 24 & 3 else "false")
+            place=(drawn >> 16) % PLACES, truth="true" if are_reported or drawn >> 24 & 3 else "false")
 
 
 def main():
@@ -92,13 +96,14 @@ def main():
     reader.add_argument("--labels", type=int, default=0)
     reader.add_argument("--acts", type=int, default=1_000_000)
     reader.add_argument("--random", action="store_true")
+    reader.add_argument("--reported", action="store_true")
     reader.add_argument("flags", nargs="*", default=["receive", "print"])
     words = reader.parse_args()
     nodes = [1 + n * words.nodes // words.processes for n in range(words.processes)]
     pids = [f"<{node}.{1000 + n}.0>" for n, node in enumerate(nodes)]
     leaders = [pid for n, pid in enumerate(pids) if n == 0 or nodes[n] != nodes[n - 1]]
     made = itertools.chain(opening(pids, leaders, words.labels, words.flags),
-                           random_acts(pids) if words.random else acts(pids, words.labels))
+                           random_acts(pids, words.reported) if words.random else acts(pids, words.labels))
     out = sys.stdout
     out.write("seqtrace 2\n")
     out.writelines(f"process {pid}\n" for pid in pids)

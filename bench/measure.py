@@ -47,10 +47,15 @@ def timed(programs, words, source, folder, rounds):
             for name, done in runs.items()}
 
 
+def ratio_of(name, results):
+    """How many times as long as the tuned program the program took."""
+    return f"{results[name][0] / results[TUNED][0]:.2f}"
+
+
 def cell(name, results):
     """What a cell says of the program."""
     seconds, peak, events = results[name]
-    ratio = "" if name == TUNED else f" = {seconds / results[TUNED][0]:.2f}"
+    ratio = "" if name == TUNED else f" = {ratio_of(name, results)}"
     said = f"{seconds:.2f} s{ratio}, {peak} MB"
     return said if events is None else f"{said}, {events:,} events"
 
@@ -69,9 +74,18 @@ def results_of(command, programs, folder, rounds):
 
 def legend(rounds, command, results):
     """What a cell says, for instance this command's first."""
-    (seconds, peak, _), (tuned, _, _) = results[PROVED], results[TUNED]
-    said = f"`{command}` took {seconds:.2f} s, {seconds / tuned:.2f} times as long as the tuned program"
+    seconds, peak, _ = results[PROVED]
+    said = f"`{command}` took {seconds:.2f} s, {ratio_of(PROVED, results)} times as long as the tuned program"
     return f"Each cell has the median of {rounds} runs in turn. The first one says that {said}, with a peak of {peak} MB.\n"
+
+
+def ratio_table(results):
+    """The lines of one table of all commands and traces: the proved program's time by the tuned one's."""
+    yield f"| proved / tuned | {' | '.join(f'`{command}`' for command in results)} |"
+    yield "|---|" + "---|" * len(results)
+    for title, _ in TRACES.values():
+        ratios = (ratio_of(PROVED, found[title]) if title in found else "" for found in results.values())
+        yield f"| {title} | {' | '.join(ratios)} |"
 
 
 def table(command, columns, results):
@@ -89,6 +103,7 @@ def main():
     results = {command: results_of(command, programs, folder, int(rounds)) for command in COMMANDS}
     first = next(iter(COMMANDS))
     print(legend(rounds, first, next(iter(results[first].values()))))
+    print(*ratio_table(results), "", sep="\n")
     for command, found in results.items():
         print(*table(command, columns, found), "", sep="\n")
 

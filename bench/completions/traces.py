@@ -4,10 +4,12 @@ import random
 from functools import partial
 
 FIRST = 30  # The number of the first process.
+NUMBERS = 1 << 16  # Of a node. Further processes are on the next ones.
 
 
 def pid(place):
-    return f"<0.{FIRST + place}.0>"
+    node, number = divmod(FIRST + place, NUMBERS)
+    return f"<{node}.{number}.0>"
 
 
 def event(kind, serial, sender, receiver, value):

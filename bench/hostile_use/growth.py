@@ -1,327 +1,125 @@
 """Stalls: texts that grow in one dimension at a time, and the processor time that each command takes for them.
 
 The time for a byte, of the text and of what is written, may hardly grow with the dimension: for a text that grows as the
-dimension does, the time grows as its power 1.25 at most."""
+dimension does, the time grows as its power 1.25 at most. And each text of as many bytes, processes and events as
+`seqaudit` reads takes less than 20 seconds and 2 GB."""
 
 import math
 import os
-import random
-import re
-import sys
 import tempfile
 from collections import namedtuple
-from functools import cache, partial
-from pathlib import Path
+from functools import cache
+from inspect import signature
 
-sys.path.insert(0, str(Path(__file__).resolve().parent.parent / "completions"))
+from one_run import run_once
 
-from one_run import run_once  # noqa: E402
-from traces import SORTS, Run, event, pid, ring  # noqa: E402
-
-from . import queues  # noqa: E402
-from .model import MOST_PROCESSES  # noqa: E402
-from .program import Check  # noqa: E402
+from . import model
+from .act_families import ACTS, CROWDS_OF_ACTS
+from .mistakes import MISTAKES
+from .program import Check
+from .stream_families import CROWDS, STREAMS, Nodes
+from .texts import LABEL, SECOND, bundle, is_event, on_nodes
 
 BOUND = 1.25
 PARTS = (9, 3, 1)  # The sizes are these parts of a family's greatest.
-ROUNDS, MORE_ROUNDS = 2, 6  # The least time of each size counts, since others use the processor too.
+LONG = 8  # With --long they are so many times as great.
+ROUNDS = 8  # The least time of each size counts, since others use the processor too.
 SECONDS = 20
+MEGABYTES = 2_048
+MOST_BYTES = 500_000_000  # What reads and writes more may take longer.
 LEAST_SECONDS = 0.02  # A shorter run tells nothing.
-EVENTS = 40_000  # In a text of a fixed size.
-LABEL = 17
-
-AUDIT, CHART = ("seqaudit", "audit"), ("seqaudit", "chart", "--label", str(LABEL))
-OF_STREAMS = (AUDIT, CHART, ("seqtool", "audit"), ("seqtool", "complete"), ("seqtool", "complete", "--as", "acts"),
-              ("seqtool", "why"), ("seqtool", "lint"), ("seqtool", "renumber"))
-OF_ACTS = (("seqaudit", "check"), ("seqaudit", "replay"), ("seqaudit", "drive"), ("seqtool", "check"),
-           ("seqtool", "explain"), ("seqtool", "lint"), ("seqtool", "renumber"))
-
-# A dimension: what makes the text of a size, and the greatest size of a short run. If there is a most, no size is greater.
-Family = namedtuple("Family", "name make great most", defaults=(None,))
+# What a command is measured with in the part `great`: most of the bytes that `seqaudit` reads.
+GREAT_BYTES = model.MOST_BYTES * 95 // 100
 
 
-def bundle(streams, acts=()):
-    """The text of these streams, of the processes from the first on, and of the acts."""
-    yield "seqtrace 1\n"
-    for place, events in enumerate(streams):
-        yield f"process {pid(place)}\n"
-        yield from events
-    if acts:
-        yield "acts\n"
-        yield from acts
+def words(text):
+    return tuple(tuple(line.split()) for line in text.strip().split("\n"))
 
 
-def on_nodes(lines):
-    """The same bundle with each process on a node of its own."""
-    return (re.sub(r"<0\.(\d+)\.0>", r"<\1.0.0>", line).replace("seqtrace 1", "seqtrace 2") for line in lines)
-
-
-# ---- streams
-
-def prints(processes, events, first=0):
-    counts = range(first + 1, first + events // processes + 1)
-    return [[event("print", (0, n), me, None, 0) for n in counts] for me in range(processes)]
-
-
-def labels(events):
-    return [[event("print", (0, n), 0, None, 0).replace(str(LABEL), str(n), 1) for n in range(1, events + 1)]]
-
-
-def values(events):
-    return [[event("print", (0, n), 0, None, 2 ** 64 - n) for n in range(1, events + 1)]]
-
-
-def received(order, events):
-    """Receives whose sends nobody reported, with their counts in this order."""
-    return [[], [event("'receive'", (0, n), 0, 1, 0) for n in order(events)]]
-
-
-def rising(events):
-    return range(1, events + 1)
-
-
-def falling(events):
-    return range(events, 0, -1)
-
-
-def shuffled(events):
-    counts = list(rising(events))
-    random.Random(2026).shuffle(counts)
-    return counts
-
-
-def far_apart(events):
-    return range(2 ** 40, 2 ** 40 * (events + 1), 2 ** 40)
-
-
-def waiting(events):
-    """A server calls another process, and takes its replies while many messages wait."""
-    run = Run(3)
-    for _ in range(events // 6):
-        run.send(2, 0)
-    for _ in range(events // 6):
-        run.send(0, 1)
-        run.receive(1)
-        run.send(1, 0)
-        run.queues[0].insert(0, run.queues[0].pop())
-        run.receive(0)
-    return run.streams
-
-
-def backwards(senders, events):
-    """A process takes the newest message first."""
-    run = Run(senders + 1)
-    for n in range(events // 2):
-        run.send(1 + n % senders, 0)
-    run.queues[0].reverse()
-    for _ in range(events // 2):
-        run.receive(0)
-    return run.streams
-
-
-def spoilt(last, events):
-    """A full trace whose last event is of no run."""
-    streams = ring(2, events)
-    streams[1].append(event(*last(events)))
-    return streams
-
-
-def not_rising(events):
-    return "print", (0, 1), 1, None, 0
-
-
-def repeated(events):
-    return "'receive'", (0, 1), 0, 1, 0
-
-
-def mismatched(events):
-    return "'receive'", (events, events // 2 - 1), 0, 1, 9
-
-
-def scarce(events):
-    """Counts that three processes sent and a fourth follows nine times, and receives for which there is neither a run nor a
-    reason: each such count is one that is needed."""
-    counts = range(10, 10 + 2 * (events // 24))
-    first = [event("'receive'", serial, 0, 0, 0) for serial in ((0, 2), (0, 1), (1, 3), (2, 4))]
-    needs, this = [event("print", (0, n), 1, None, 0) for n in (1, 2, counts[-1] + 1)], counts[-1] + 1
-    for count in counts[::2]:
-        for prev in 3 * (count, count + 1):
-            for this in range(this + 1, this + 4):
-                needs.append(event("print", (prev, this), 1, None, 0))
-    sent = ([event("print", (0, n), me, None, 0) for n in (1, 2)] + [event("send", (0, n), me, 1, 0) for n in counts]
-            for me in (2, 3, 4))
-    return [first, needs, *sent]
-
-
-def undecided(processes, events):
-    """Four receives for which there is neither a run nor a reason, beside processes whose messages nobody reported."""
-    first = [event("'receive'", serial, 0, 0, 0) for serial in ((0, 2), (0, 1), (1, 3), (2, 4))]
-    each = max(1, events // processes)
-    return [first, *([event("'receive'", (0, n), 1 + (me + 1) % processes, 1 + me, 0) for n in range(1, each + 1)]
-                     for me in range(processes))]
-
-
-def stretched(events):
-    """A process reports receives and no sends, half of which another receives; and one message more asks for a count that
-    every process has stamped and nobody sent to it."""
-    third = events // 3
-    asked = third + 1 + third // 2
-    own = [event("'receive'", (0, n), 2, 0, 0) for n in range(1, third + 1)]
-    others = [event("print", (0, asked), 1, None, 0)]
-    others += [event("'receive'", (0, third + 1 + n), 0, 1, 0) for n in range(third)]
-    others.append(event("'receive'", (asked, 2 * third + 10), 0, 1, 0))
-    sent = [event("send", (0, n), 2, 0, 0) for n in range(1, third + 1)]
-    return [own, others, [*sent, event("print", (0, asked), 2, None, 0)]]
-
-
-STREAMS = (
-    Family("events of a process", partial(prints, 1), 80_000),
-    Family("events of 1,000 processes", partial(prints, 1_000), 80_000),
-    Family("processes", lambda n: prints(n, EVENTS), MOST_PROCESSES, MOST_PROCESSES),
-    Family("labels", labels, 80_000),
-    Family("values", values, 80_000),
-    Family("counts from 2^63 on", partial(prints, 1, first=2 ** 63), 60_000),
-    Family("hidden sends", partial(received, rising), 60_000),
-    Family("hidden sends with falling counts", partial(received, falling), 60_000),
-    Family("hidden sends with counts in no order", partial(received, shuffled), 60_000),
-    Family("hidden sends with counts far apart", partial(received, far_apart), 60_000),
-    Family("a chain through two processes", partial(ring, 2), 80_000),
-    Family("a chain through 1,000 processes", partial(ring, 1_000), 80_000),
-    Family("processes of a chain", lambda n: ring(n, EVENTS), MOST_PROCESSES, MOST_PROCESSES),
-    Family("messages that wait while a server calls", waiting, 80_000),
-    Family("messages taken backwards, of one process", partial(backwards, 1), 80_000),
-    Family("messages taken backwards, of 1,000 processes", partial(backwards, 1_000), 80_000),
-    Family("an event that doesn't rise after many", partial(spoilt, not_rising), 80_000),
-    Family("a stamp received again after many", partial(spoilt, repeated), 80_000),
-    Family("a receive unlike its send after many", partial(spoilt, mismatched), 80_000),
-    Family("scarce counts", scarce, 24_000),
-    Family("undecided, of 100 processes", partial(undecided, 100), 60_000),
-    Family("undecided, processes", lambda n: undecided(n, n), MOST_PROCESSES - 1, MOST_PROCESSES - 1),
-    Family("a stretch with a need that nobody meets", stretched, 60_000),
-    *(Family(name, make, 40_000) for name, make, _, _ in SORTS),
-)
-
-
-# ---- acts
-
-def act(words, count, processes=1):
-    """So many acts, by one process after the other."""
-    return [words.format(pid(n % processes), n) + "\n" for n in range(count)]
-
-
-def looks(processes, acts):
-    return bundle([[]] * processes, act("look {}", acts, processes))
-
-
-def on_one_node(words, processes, acts):
-    """Each second act is this one, on a node of so many processes."""
-    other = act("clear {}", acts // 2, processes)
-    return bundle([[]] * processes, [line for pair in zip(other, act(words, acts // 2, processes)) for line in pair])
-
-
-def passed_on(processes, acts):
-    """Each process sends to the next one, which takes the message at once."""
-    of = (f"send {pid(n % processes)} {pid((n + 1) % processes)} {n}\nreceive {pid((n + 1) % processes)} first\n"
-          for n in range(acts // 2))
-    return bundle([[]] * processes, list(of))
-
-
-def wiped(acts):
-    """A queue that grows while its tokens are taken away again and again."""
-    send = f"send {pid(0)} {pid(0)} 1\n"
-    return bundle([[]], [f"set {pid(0)} label 1\n", *([send, f"reset {pid(0)}\n", f"set {pid(0)} label 1\n"] * (acts // 3))])
-
-
-def queued(kind, acts):
-    return (line.decode() for pieces in (queues.sends(acts // 2), queues.WANTS[kind](acts // 2)) for line in pieces)
-
-
-def differing(events):
-    """A certificate whose last print has another value."""
-    acts = [f"tracer {pid(0)} true\n", f"set {pid(0)} label {LABEL}\n", f"set {pid(0)} print true\n",
-            *[f"print {pid(0)} 0\n"] * (events - 1), f"print {pid(0)} 1\n"]
-    return bundle(prints(1, events), acts)
-
-
-ACTS = (
-    Family("acts of a process", partial(looks, 1), 120_000),
-    Family("processes that act", lambda n: looks(n, 4 * EVENTS), MOST_PROCESSES, MOST_PROCESSES),
-    Family("nodes on which they act", lambda n: on_nodes(looks(n, 4 * EVENTS)), MOST_PROCESSES, MOST_PROCESSES),
-    Family("messages passed on by two processes", partial(passed_on, 2), 120_000),
-    Family("messages passed on by 1,000 processes", partial(passed_on, 1_000), 120_000),
-    Family("labels that are set", lambda n: bundle([[]], act("set {} label {}", n)), 120_000),
-    Family("tokens that are restored",
-           lambda n: bundle([[]], act(f"restore {{0}} 1 true true true {{1}} {{1}} {pid(0)}", n)), 60_000),
-    Family("resets", partial(on_one_node, "reset {}", 1), 120_000),
-    Family("processes that are reset", lambda n: on_one_node("reset {}", n, EVENTS // 10), MOST_PROCESSES, MOST_PROCESSES),
-    Family("tracer changes", partial(on_one_node, "tracer {} true", 1), 120_000),
-    Family("processes whose tracer changes", lambda n: on_one_node("tracer {} true", n, EVENTS // 10), MOST_PROCESSES,
-           MOST_PROCESSES),
-    Family("a queue that is wiped again and again", wiped, 120_000),
-    Family("events that differ at the end", differing, 60_000),
-    *(Family(f"waiting messages, {kind}", partial(queued, kind), 120_000) for kind in queues.WANTS),
-)
-
+# LAST, FIRST, TEXT and the names of SECOND stand for what is of the text: an event, a line, a file.
+OF_STREAMS = words(f"""
+seqaudit audit
+seqaudit chart --label {LABEL}
+seqtool audit
+seqtool complete
+seqtool complete --as acts
+seqtool why LAST
+seqtool why --effects FIRST
+seqtool lint
+seqtool list
+seqtool cut --label {LABEL}
+seqtool stats
+seqtool chart
+seqtool chart --complete
+seqtool chart --mermaid
+seqtool chart --dot
+seqtool export --as perfetto
+seqtool export --as shiviz
+seqtool export --as otlp --times TIMES
+seqtool diff - FEWER
+seqtool diff - RENUMBERED
+seqtool renumber""")
+# Other forms of these, which are tried with --long.
+FORMS_OF_STREAMS = words("""
+seqtool audit --json
+seqtool complete --json
+seqtool complete --as streams
+seqtool why --effects --label --json FIRST
+seqtool list --json
+seqtool cut --counts 1- --lines 1-
+seqtool stats --json
+seqtool chart --mermaid --complete
+seqtool chart --dot --complete
+seqtool diff - BACKWARDS
+seqtool diff - HALVES
+seqtool diff --json - OTHERWISE""")
+OF_ACTS = words("""
+seqaudit check
+seqaudit replay
+seqaudit drive
+seqtool check
+seqtool explain
+seqtool lint
+seqtool renumber""")
+# Of certificates that `audit` found for streams.
+OF_CERTIFICATES = words("""
+seqaudit check
+seqaudit replay
+seqtool explain""")
+OF_MISTAKES = words("""
+seqtool lint
+seqtool lint --json --most 1000000
+seqtool lint --fix""")
 
 # No time is promised for these: such an act waits for all processes of its node, and leaves an entry in the log of each.
 UNPROMISED = {(name, "drive") for name in ("processes that are reset", "processes whose tracer changes")}
 
 
-# ---- times
-
-# The seconds of the processor that a run takes beside one that ends at once, and the bytes of its text and its output.
-Cost = namedtuple("Cost", "seconds bytes")
+def of_tool(commands):
+    return tuple(command for command in commands if command[0] == "seqtool")
 
 
-class Grown:
-    """The texts of a family, one of each size, and what they cost a command."""
+# Families with the commands that are tried on them. If they are certified, `audit` first finds their certificates.
+Group = namedtuple("Group", "families commands forms certified", defaults=((), False))
+GROUPS = (
+    Group(STREAMS, OF_STREAMS, FORMS_OF_STREAMS),
+    Group(STREAMS, OF_CERTIFICATES, certified=True),
+    Group(CROWDS, of_tool(OF_STREAMS), FORMS_OF_STREAMS),
+    Group(ACTS, OF_ACTS, words("seqtool check --json")),
+    Group(CROWDS_OF_ACTS, of_tool(OF_ACTS)),
+    Group(MISTAKES, OF_MISTAKES),
+)
 
-    def __init__(self, family, folder, times):
-        most = min(family.most or times * family.great, times * family.great)
-        self.name, self.folder = family.name, folder
-        self.sizes = [most // part for part in PARTS]
-        self.written = os.path.join(folder, "written")
-        for size in self.sizes:
-            made = family.make(size)
-            write(self.path(size), bundle(made) if isinstance(made, list) else made)
-
-    def path(self, size):
-        return os.path.join(self.folder, str(size))
-
-    def seconds(self, command, path):
-        """Those of one run; None if it was killed."""
-        more = asked(path) if command[1] == "why" else ()
-        status, _, seconds, _ = run_once([*command, *more], path, self.written, SECONDS)
-        return seconds if status >= 0 else None
-
-    def cost(self, command, size, start):
-        seconds = self.seconds(command, self.path(size))
-        count = os.path.getsize(self.path(size)) + os.path.getsize(self.written)
-        return seconds and Cost(max(seconds - start, 1e-4), count)
-
-    def tried(self, program, words):
-        """The check that the command's time grows no faster than it may."""
-        name, command = f"growth: {self.name}, by {program.name} {' '.join(words)}", [program.path, *words]
-        start = start_of(*command)
-        least = {}
-        for done in range(1, ROUNDS + MORE_ROUNDS + 1):
-            for size in self.sizes:
-                cost = self.cost(command, size, start)
-                if cost is None:
-                    return Check(name, f"at {size:,} no output in {SECONDS} s of the processor")
-                least[size] = min(cost, least.get(size, cost))
-            power = exponent(least)
-            is_right = power <= BOUND or least[self.sizes[-1]].seconds < LEAST_SECONDS
-            if done >= ROUNDS and is_right:
-                break
-        note = f"power {power:.2f}; " + ", ".join(f"{size:,} in {it.seconds:.3f} s" for size, it in least.items())
-        return Check(name, None if is_right else f"more than {BOUND}: {note}", note)
+# The seconds of the processor that a run takes beside one that ends at once, the bytes of its text and its output, and
+# its peak of memory.
+Cost = namedtuple("Cost", "seconds bytes peak")
 
 
-@cache
-def start_of(*command):
-    """The seconds that a run takes that ends at once."""
-    return min(run_once([*command, "?"], os.devnull, os.devnull, SECONDS)[2] for _ in range(5))
+def lines_of(made):
+    """The lines of what a family made: a text, or streams."""
+    if not isinstance(made, list):
+        return made
+    return on_nodes(bundle(made)) if isinstance(made, Nodes) else bundle(made)
 
 
 def write(path, lines):
@@ -329,17 +127,68 @@ def write(path, lines):
         text.writelines(lines)
 
 
-def asked(path):
-    """The last event of the process that reported most, as `why` is asked for it."""
-    most, name, count = (0, None), None, 0
-    with open(path, encoding="ascii") as text:
-        for line in text:
+class Text:
+    """A text in a file, and the files that commands take beside it, which are made when they are asked for."""
+
+    def __init__(self, path, lines):
+        self.path = path
+        write(path, lines)
+
+    def certify(self, program):
+        """Puts the certificate that `audit` finds in its place; whether it finds one."""
+        certificate = f"{self.path}.certificate"
+        status, *_ = run_once([program.path, "audit"], self.path, certificate, SECONDS)
+        os.replace(certificate, self.path)
+        return status == 0
+
+    def lines(self):
+        with open(self.path, encoding="ascii") as text:
+            yield from text
+
+    def second(self, word):
+        path = f"{self.path}.{word}"
+        if not os.path.exists(path):
+            write(path, SECOND[word](self.lines()))
+        return [path]
+
+    def last(self):
+        """The last event of the process that reported most."""
+        most, name, count = (0, None), None, 0
+        for line in self.lines():
             if line.startswith("process "):
                 name, count = line.split()[1], 0
-            elif line.startswith("{"):
+            elif is_event(line):
                 count += 1
                 most = max(most, (count, name))
-    return (most[1] or "<0.30.0>"), str(max(0, most[0] - 1))
+        return [most[1] or "<0.30.0>", str(max(0, most[0] - 1))]
+
+    def first(self):
+        """The first event's line."""
+        return ["--line", str(next((n for n, line in enumerate(self.lines(), 1) if is_event(line)), 1))]
+
+    def filled(self, words):
+        """The words of a command, with those that are of this text."""
+        of_text = {"LAST": self.last, "FIRST": self.first, "TEXT": lambda: [self.path]}
+        for word in words:
+            if word in SECOND:
+                yield from self.second(word)
+            else:
+                yield from of_text.get(word, lambda word=word: [word])()
+
+    def cost(self, program, words, seconds=SECONDS):
+        """What one run costs, and its status, which is negative if it was killed."""
+        written = f"{self.path}.written"
+        command = [program.path, *self.filled(words)]
+        status, _, taken, peak = run_once(command, self.path, written, seconds)
+        count = os.path.getsize(self.path) + os.path.getsize(written)
+        os.remove(written)
+        return Cost(max(taken - start_of(program.path, *words), 1e-4), count, peak), status
+
+
+@cache
+def start_of(*command):
+    """The seconds that a run takes that ends at once."""
+    return min(run_once([*command, "?"], os.devnull, os.devnull, SECONDS)[2] for _ in range(5))
 
 
 def exponent(costs):
@@ -349,10 +198,117 @@ def exponent(costs):
     return 1 + sum((a - x) * (b - y) for a, b in zip(xs, ys)) / sum((a - x) ** 2 for a in xs)
 
 
-def tried(programs, family, commands, times=1):
-    """A family with each of the commands."""
+def made_sizes(folder, family, times):
+    """The texts of a family, by size."""
+    most = min(family.most or times * family.great, times * family.great)
+    sizes = [most // part for part in PARTS]
+    return {size: Text(os.path.join(folder, str(size)), lines_of(family.make(size))) for size in sizes}
+
+
+def grown(name, program, words, texts):
+    """The check that the command's time grows no faster than it may."""
+    least = {}
+    for _ in range(ROUNDS):
+        for size, text in texts.items():
+            cost, status = text.cost(program, words)
+            if status < 0:
+                return unended(name, f"at {size:,} no end in {SECONDS} s of the processor", cost)
+            if is_refused(words, status):
+                return Check(f"{name}: at {size:,} the text is refused", skipped=True)
+            least[size] = min(cost, least.get(size, cost))
+        power = exponent(least)
+        is_right = power <= BOUND or least[max(texts)].seconds < LEAST_SECONDS
+        if is_right:
+            break
+    note = f"power {power:.2f}; " + ", ".join(f"{size:,} in {it.seconds:.3f} s" for size, it in least.items())
+    return Check(name, None if is_right else f"more than {BOUND}: {note}", note)
+
+
+def is_refused(words, status):
+    """Whether a command takes no such text; `lint` says what is wrong in it."""
+    return status > 1 and words[0] != "lint"
+
+
+def unended(name, problem, cost):
+    """A run that was killed: it passes if it was only writing more than anybody reads."""
+    note = f"{problem}, {cost.bytes >> 20} MB read and written"
+    return Check(name, None if cost.bytes > MOST_BYTES else note, note)
+
+
+def named(part, family, program, words, certified):
+    what = "its certificate, " if certified else ""
+    return f"{part}: {family.name}, {what}by {program.name} {' '.join(words)}"
+
+
+def numbers():
+    """Of each family the numbers of its group and of itself, by which a task names it to another process."""
+    return [(of, number) for of, group in enumerate(GROUPS) for number in range(len(group.families))]
+
+
+def chosen(group, family, programs, long):
+    """The commands of a group that are tried on this family, each with its program."""
+    for name, *command in group.commands + (group.forms if long else ()):
+        if name in programs and (family.name, command[0]) not in UNPROMISED:
+            yield programs[name], command
+
+
+def tried(programs, number, long=False):
+    """A family with each of the commands, at three sizes."""
+    group = GROUPS[number[0]]
+    family = group.families[number[1]]
     with tempfile.TemporaryDirectory() as folder:
-        grown = Grown(family, folder, times)
-        for name, *words in commands:
-            if name in programs and (family.name, words[0]) not in UNPROMISED:
-                yield grown.tried(programs[name], words)
+        texts = made_sizes(folder, family, LONG if long else 1)
+        if group.certified and not all([text.certify(programs["seqaudit"]) for text in texts.values()]):
+            return
+        for program, command in chosen(group, family, programs, long):
+            yield grown(named("growth", family, program, command, group.certified), program, command, texts)
+
+
+# ---- texts of 64 MB
+
+def great_of(folder, family):
+    """The text of a family that is nearly as long as `seqaudit` reads, with no more events and acts than that."""
+    path = os.path.join(folder, "great")
+    few = family.great // 4
+
+    def text_of(count):
+        return Text(path, lines_of(family.make(family.most, count) if takes_events(family) else family.make(count)))
+
+    def counts_of(text):
+        lines = sum(1 for _ in text.lines())
+        return os.path.getsize(path), lines
+
+    size, lines = counts_of(text_of(few))
+    most_lines = model.MOST_EVENTS if any(map(is_event, text_of(few).lines())) else model.MOST_ACTS
+    count = int(few * min(GREAT_BYTES / size, most_lines * 0.98 / lines))
+    return text_of(min(count, family.most) if family.most and not takes_events(family) else count)
+
+
+def takes_events(family):
+    """Whether a family with a greatest size is told how many events or acts it has."""
+    return bool(family.most) and len(signature(family.make).parameters) > 1
+
+
+def great(programs, number):
+    """A family's text of 64 MB with each of the commands, once."""
+    group = GROUPS[number[0]]
+    family = group.families[number[1]]
+    with tempfile.TemporaryDirectory() as folder:
+        text = great_of(folder, family)
+        if group.certified and not text.certify(programs["seqaudit"]):
+            return
+        for program, command in chosen(group, family, programs, True):
+            cost, status = text.cost(program, command, 2 * SECONDS)
+            yield judged(named("great", family, program, command, group.certified), command, text, cost, status)
+
+
+def judged(name, words, text, cost, status):
+    """The check that a run took no longer and no more than it may."""
+    size = os.path.getsize(text.path)
+    note = f"{size / 1e6:.0f} MB in, {(cost.bytes - size) / 1e6:.0f} MB out, status {status}: " \
+           f"{cost.seconds:.2f} s, peak {cost.peak >> 20} MB"
+    if status < 0:
+        return unended(name, note, cost)
+    if is_refused(words, status):
+        return Check(f"{name}: the text is refused", skipped=True)
+    return Check(name, note if cost.seconds > SECONDS or cost.peak > MEGABYTES << 20 else None, note)

@@ -1,36 +1,90 @@
 """Small stacks: each command on a short text and on a longer one, within the stack that is promised. What it writes must be
 what it writes with ample room, and no signal may end it."""
 
-from .growth import OF_ACTS, OF_STREAMS, bundle, passed_on, ring
-from .inputs import CERTIFICATE
+import os
+import tempfile
+
+from .act_families import passed_on
+from .growth import FORMS_OF_STREAMS, OF_ACTS, OF_MISTAKES, OF_STREAMS, Text, words
+from .inputs import CERTIFICATE, HIDDEN_SENDS
 from .program import expect
+from .stream_families import ring
+from .texts import bundle
 
 KILOBYTES = {"seqaudit": 128, "seqtool": 128}
 EVENTS = 20_000
-WHY = ("why", "0.31.0", "0")
-# What people ask of streams, beside the commands whose growth is tried.
-OTHERS = tuple(("seqtool", *words.split()) for words in (
-    "why --effects --line 4", "list", "list --json", "cut --label 17", "stats", "chart", "chart --mermaid", "chart --dot",
-    "export --as perfetto", "export --as shiviz", "audit --json", "complete --json", "lint --json"))
+# What people ask, beside the commands whose growth is tried.
+OTHERS = words("""
+seqtool --help
+seqtool --version
+seqtool audit --help
+seqtool audit --quiet
+seqtool complete --quiet
+seqtool lint --quiet
+seqtool list --process 0.31.0
+seqtool why 0.31.0 0
+seqtool why --depth 1 LAST
+seqtool audit TEXT TEXT
+seqtool lint TEXT TEXT
+seqtool lint --json TEXT TEXT
+seqtool list TEXT TEXT
+seqtool list --json TEXT TEXT
+seqtool stats TEXT TEXT
+seqtool stats --json TEXT
+seqtool diff TEXT FEWER
+seqtool diff --quiet TEXT FEWER
+seqtool diff TEXT TEXT
+seqtool export --as otlp --times TIMES TEXT""")
+OTHERS_OF_ACTS = words("""
+seqtool check --quiet
+seqtool check --json
+seqtool check TEXT TEXT
+seqtool explain --quiet
+seqtool explain TEXT
+seqtool audit""")
 
 
-def texts():
+def misspelt(text):
+    """A text with mistakes of many kinds, each on some of its lines."""
+    for number, line in enumerate(text):
+        yield (line, line.replace("\n", "\r\n"), line.replace(",", ", "), line + "\n", line.replace("17", "x"),
+               line.replace("<0.", "#Pid<0."))[number % 6]
+
+
+def longer(processes, events):
+    """A trace and its acts, of which the last one is wrong."""
+    acts = list(passed_on(processes, events))
+    return [*acts, f"print {acts[1].split()[1]} 7\n"]
+
+
+def texts(folder):
     """The commands, and what they are tried on."""
-    streams = "".join(bundle(ring(1_000, EVENTS))).encode()
-    acts = "".join(passed_on(1_000, EVENTS)).encode()
-    for commands, long in ((OF_STREAMS + OTHERS, streams), (OF_ACTS + (("seqtool", "check", "--json"),), acts)):
-        yield from ((command, given) for command in commands for given in (CERTIFICATE, long))
+    of_streams, of_acts, of_mistakes = OF_STREAMS + FORMS_OF_STREAMS + OTHERS, OF_ACTS + OTHERS_OF_ACTS, OF_MISTAKES
+    ring_of = list(bundle(ring(1_000, EVENTS)))
+    made = ((of_streams, [HIDDEN_SENDS.decode()]), (of_streams, ring_of), (of_acts, [CERTIFICATE.decode()]),
+            (of_acts, longer(1_000, EVENTS)), (of_mistakes, misspelt(HIDDEN_SENDS.decode().splitlines(True))),
+            (of_mistakes, misspelt(ring_of)))
+    for number, (commands, lines) in enumerate(made):
+        text = Text(os.path.join(folder, str(number)), lines)
+        yield from ((command, text) for command in commands)
 
 
 def tried(programs):
     """Each command of these programs."""
-    for (name, *words), given in texts():
-        if name not in programs:
-            continue
-        words = WHY if words == ["why"] else words
-        ample = programs[name].run(words, given)
-        narrow = programs[name].run(words, given, before=("prlimit", f"--stack={KILOBYTES[name] << 10}"))
-        said = f"stacks: {name} {' '.join(words)}, {len(given):,} bytes within {KILOBYTES[name]} KB"
-        if words == ["drive"]:  # Which run of the scripts it writes is the threads' choice.
-            ample, narrow = ample.status, narrow.status
-        yield expect(said, ample, narrow, given)
+    with tempfile.TemporaryDirectory() as folder:
+        for (name, *command), text in texts(folder):
+            if name in programs:
+                yield within(programs[name], KILOBYTES[name], command, text)
+
+
+def within(program, kilobytes, command, text):
+    """What a command writes in so much stack."""
+    said = f"stacks: {program.name} {' '.join(command)}, {os.path.getsize(text.path):,} bytes within {kilobytes} KB"
+    command = list(text.filled(command))
+    with open(text.path, "rb") as given:
+        ample = program.run(command, stdin=given)
+        given.seek(0)
+        narrow = program.run(command, stdin=given, before=("prlimit", f"--stack={kilobytes << 10}"))
+    if command == ["drive"]:  # Which run of the scripts it writes is the threads' choice.
+        ample, narrow = ample.status, narrow.status
+    return expect(said, ample, narrow)

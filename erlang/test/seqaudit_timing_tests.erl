@@ -159,7 +159,7 @@ no_times(Name, Run) ->
 json(Name, Run) ->
     [begin
          {0, _} = Run([Words, " --json"]),
-         {0, Value} = seqaudit_test_shell:run(["grep -v 'built without' ", Name,
+         {0, Value} = seqaudit_test_shell:run(["grep -v '^seqaudit-node: ' ", Name,
                                                ".log | python3 -c 'import json, sys; print(eval(sys.argv[1], "
                                                "{\"d\": json.load(sys.stdin)}))' '", Expression, "' 2>&1"])
      end || {Words, Expression, Value} <-
