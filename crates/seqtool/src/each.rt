@@ -39,6 +39,7 @@ fn serve<H: AllocGlobal + Threads + Sync, R: Read + Drop>(
 ) -> Served {
     let rt = screen.rt;
     let progress = &screen.progress;
+    progress.begin();
     let mut inlet = Inlet::new(rt.alloc(), Watched { reader, progress });
     let mut outlet = Outlet::new(Lines::new(
         Cleared {
@@ -64,7 +65,7 @@ fn serve<H: AllocGlobal + Threads + Sync, R: Read + Drop>(
         &mut notes,
     );
     let status = finish(rt, &mut outlet, status);
-    progress.clear();
+    progress.end();
     tell_end(screen, name, status, &inlet, &outlet);
     Served {
         status,

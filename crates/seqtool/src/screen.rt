@@ -9,9 +9,13 @@ use st_terminal::{Painter, Progress};
 use st_words::{Input, Request};
 use std::io;
 use std::io::{IsTerminal, Read, Write};
+use std::thread::Threads;
 
 /// The status of a no.
 pub(crate) const NO: u8 = 1;
+
+/// The status of a completion that is too long.
+const LONG: u8 = 5;
 
 /// The status of a device that failed.
 pub(crate) const FAILED: u8 = 4;
@@ -29,7 +33,7 @@ pub(crate) struct Screen<'a, H> {
     pub(crate) is_quiet: bool,
 }
 
-impl<'a, H> Screen<'a, H> {
+impl<'a, H: Threads> Screen<'a, H> {
     /// As the request wants it.
     pub(crate) fn new(rt: &'a HostRuntime, threads: &'a H, request: &Request<'_>) -> Screen<'a, H> {
         let is_watched = rt.stderr().is_terminal() && !request.is_quiet;
@@ -37,7 +41,11 @@ impl<'a, H> Screen<'a, H> {
             rt,
             threads,
             painter: Painter::new(rt),
-            progress: Progress::new(rt, is_watched),
+            progress: if is_watched {
+                Progress::shown(rt, threads, rt.alloc())
+            } else {
+                Progress::hidden(rt)
+            },
             is_json: request.is_json,
             is_quiet: request.is_quiet,
         }
@@ -75,7 +83,7 @@ pub(crate) fn tell_end<H, R: Read, W: Write>(
     let mut notes = WriteTo::new(rt.stderr());
     screen.painter.red();
     tell_trouble(rt, rt.alloc(), name, inlet, outlet, &mut notes);
-    if status == NO && !screen.is_quiet {
+    if (status == NO || status == LONG) && !screen.is_quiet {
         let line = outlet.first_line();
         let _ = tell_no(rt.alloc(), name, inlet.text(), line, &mut notes);
     }

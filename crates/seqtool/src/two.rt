@@ -43,6 +43,7 @@ fn serve_both<H: AllocGlobal, R: Read + Drop, S: Read + Drop>(
 ) -> u8 {
     let rt = screen.rt;
     let progress = &screen.progress;
+    progress.begin();
     let reader = first;
     let mut first = Inlet::new(rt.alloc(), Watched { reader, progress });
     let reader = second;
@@ -63,7 +64,7 @@ fn serve_both<H: AllocGlobal, R: Read + Drop, S: Read + Drop>(
         &mut WriteTo::new(&mut outlet),
     );
     let status = finish(rt, &mut outlet, ended.status);
-    progress.clear();
+    progress.end();
     if let Some(fault) = ended.times {
         tell_times(screen, names.1, fault);
     }

@@ -13,7 +13,7 @@ A trace is a text (docs/FORMATS.md; `seqtool COMMAND --help` has examples):
   seqtrace 1
   process <0.30.0>
   {seq_trace,17,{print,{0,1},<0.30.0>,[],7}}
-Status 0: yes; 1: no; 2: faulty text; 3: bad command line; 4: memory or device.";
+Status 0 yes, 1 no, 2 faulty text, 3 bad words, 4 memory or device, 5 too long.";
 
 pub(crate) const FILE: &str = "The trace's file; standard input if it is left out or -";
 
@@ -32,7 +32,7 @@ pub(crate) const COMPLETE_EXAMPLE: &str = "Example:
 
 Status 1: `never PID I WORD`, no run without a reset has event I of PID, for
 the reason WORD (docs/FORMATS.md), whatever unlisted processes it may have.
-Status 5, with --as acts: `long`, there are acts, but too many to be read.";
+Status 5, with --as acts or streams: `long`, there is one, too long to be read.";
 
 pub(crate) const RENUMBER: &str = "Replaces each count by its rank, if counts begin high";
 
@@ -62,11 +62,11 @@ pub(crate) const LINT_EXAMPLE: &str = "Example:
   line 3, column 12: expected a label up to 4294967295
     {seq_trace,foo,{print,{0,1},<0.30.0>,[],7}}
                ^
-  labels are numbers here: give each term a number
+  labels are numbers: seqaudit-node convert gives each term one
 
 --fix mends line ends, blanks, a mark of UTF-8, the last newline, the quotes of
 'receive', the header and #Pid; standard error says what, and what is left.
-Status 1: it can be read, but no run reports some event (its counts don't rise).";
+Status 1: it can be read, but no run reports some event (counts don't rise).";
 
 pub(crate) const EXPLAIN: &str = "Says why check refuses acts: the act, what was due, what came";
 

@@ -12,7 +12,7 @@ ghost use Rattle.st_commands.specs.Parts.{ChartsTo, DrawsTo};
 use crate::answer::{tell_fault, tell_finding, tell_line};
 use crate::lines::OutputLine;
 use st_audit::unfit_by;
-use st_chain::Chains;
+use st_chain::Causes;
 use st_chart::{ChartFault, chart};
 use st_core::{ByteSink, ByteSource, Label, Streams};
 use st_order::{Item, order};
@@ -41,16 +41,16 @@ fn tell_unpaired<W: ByteSink>(
 fn tell_chart<W: ByteSink>(
     alloc: Global,
     streams: &Streams,
-    chains: &Chains,
+    causes: &Causes,
     items: &[Item],
     label: Label,
     writer: &mut W,
 ) -> u8
-    requires { chains.now ≡ streams.now }
+    requires { causes.now ≡ streams.now }
     ensures { Tells (call W.ByteSink writer.old writer.new)
         (DrawsTo streams.now label items.now) result }
 {
-    match chart(alloc, writer, streams, chains, items, label) {
+    match chart(alloc, writer, streams, causes, items, label) {
         Ok(()) => 0,
         Err(ChartFault::NoLabel) => tell_line(writer, OutputLine::NoLabel(label), 1),
         Err(ChartFault::Memory) => tell_fault(writer, ReadFault::Memory),
@@ -70,11 +70,11 @@ fn chart_paired<H: Threads + Sync, W: ByteSink>(
     requires { IsPairing streams.now pairing.now }
     ensures { Tells (call W.ByteSink writer.old writer.new) (ChartsTo streams.now label) result }
 {
-    let Ok(chains) = Chains::new(alloc, streams, pairing) else {
+    let Ok(causes) = Causes::new(alloc, streams, pairing) else {
         return tell_fault(writer, ReadFault::Memory);
     };
     match order(rt, alloc, streams, pairing) {
-        Ok(items) => tell_chart(alloc, streams, &chains, items.as_slice(), label, writer),
+        Ok(items) => tell_chart(alloc, streams, &causes, items.as_slice(), label, writer),
         Err(_) => tell_fault(writer, ReadFault::Memory),
     }
 }

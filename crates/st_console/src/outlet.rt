@@ -5,8 +5,9 @@ ghost use Rattle.std.specs.Prelude.{◌≤◌, length};
 use arrayvec::ArrayVec;
 use std::io::{Error, ErrorKind, Result, Write};
 
-/// More than the line of any fault, and the first line of any finding, has.
-const HEAD: usize = 256;
+/// More than the line of any fault has, and than the object of a no with two events, which may have
+/// some 550 bytes.
+const HEAD: usize = 1_024;
 
 /// The word that each fault begins with, and nothing else that a command writes.
 const FAULT: &[u8; 6] = b"fault ";

@@ -12,10 +12,9 @@ struct Ranks {
 }
 
 impl Ranks {
-    /// Those of a trace, and 0.
+    /// Those of a trace.
     fn of(alloc: Global, trace: &Trace<'_>) -> Result<Ranks, AllocError> {
         let mut counts = Vec::new(alloc);
-        counts.push(0)?;
         for place in 0..trace.len() {
             add_counts(&mut counts, trace, place)?;
         }

@@ -4,7 +4,7 @@ use crate::pairs::Ground;
 use st_core::{ByteSink, Pid};
 use st_events::{Style, say_field, say_other, say_pid_field, say_row, say_row_fields};
 use st_list::Row;
-use st_say::{say, say_number, say_pid};
+use st_say::{say, say_number, say_pid, say_serial};
 use st_text::{Buffer, Device};
 
 /// How many of each there are.
@@ -205,11 +205,13 @@ fn say_front<W: ByteSink>(
     say_row(writer, buffer, row)
 }
 
-/// Writes where an event of the first trace is in the second one.
+/// Writes where an event of the first trace is in the second one, and its serial there if that is
+/// what differs.
 fn say_now<W: ByteSink>(
     writer: &mut W,
     buffer: &mut Buffer,
     row: &Row,
+    has_other_counts: bool,
     style: Style,
 ) -> Result<(), Device> {
     if style == Style::Json {
@@ -221,6 +223,10 @@ fn say_now<W: ByteSink>(
     say(writer, buffer, b": ")?;
     say_pid(writer, buffer, row.pid)?;
     say_sum(writer, buffer, " ", row.index)?;
+    if has_other_counts {
+        say(writer, buffer, b" ")?;
+        say_serial(writer, buffer, row.event.serial)?;
+    }
     say_other(writer, buffer, &row.event)
 }
 
@@ -235,7 +241,7 @@ pub(crate) fn say_change<W: ByteSink>(
 ) -> Result<(), Device> {
     say_front(writer, buffer, what, row, style)?;
     if let Some(now) = now {
-        say_now(writer, buffer, now, style)?;
+        say_now(writer, buffer, now, what == "counts", style)?;
     }
     match style {
         Style::Text => say(writer, buffer, b"\n"),

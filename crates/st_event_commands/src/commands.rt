@@ -4,7 +4,7 @@
 use st_audit::unfit_by;
 use st_commands::{status_of, tell_fault, tell_finding};
 use st_core::{ByteSink, ByteSource, Streams};
-use st_events::{Style, count, count_open, cut, send_open, send_rows, send_stats};
+use st_events::{Style, count, count_open, cut, send_open, send_rows, send_stats, send_unpaired};
 use st_list::{Filter, Row, list};
 use st_pair::{PairFault, Pairing, pair};
 use st_text::{Limits, ReadFault, read_within, write_parts};
@@ -20,33 +20,38 @@ fn pairing_of(alloc: Global, streams: &Streams) -> Result<Option<Pairing>, ReadF
 }
 
 /// Writes the events of streams that are asked for.
-fn list_streams<W: ByteSink>(
+fn list_streams<W: ByteSink, N: ByteSink>(
     alloc: Global,
     streams: &Streams,
     filter: &Filter,
     style: Style,
     writer: &mut W,
+    notes: &mut N,
 ) -> Result<u8, ReadFault> {
     let Ok(rows) = list(alloc, streams, filter) else {
         return Err(ReadFault::Memory);
     };
     let pairing = pairing_of(alloc, streams)?;
+    if pairing.is_none() && !rows.is_empty() {
+        let _ = send_unpaired(notes);
+    }
     let sent = send_rows(writer, rows.as_slice(), pairing.as_ref(), style);
     Ok(status_of(sent, 0))
 }
 
 /// Reads a bundle and writes the events that are asked for, each with its line, its place and what
-/// it pairs with, with status 0. Faulty input is 2; running out of memory, and a reader or a writer
-/// that fails, are 4.
-pub fn run_list<R: ByteSource, W: ByteSink>(
+/// it pairs with, with status 0; the notes say so if the streams can't be paired. Faulty input is 2;
+/// running out of memory, and a reader or a writer that fails, are 4.
+pub fn run_list<R: ByteSource, W: ByteSink, N: ByteSink>(
     alloc: Global,
     reader: &mut R,
     writer: &mut W,
+    notes: &mut N,
     filter: &Filter,
     style: Style,
 ) -> u8 {
     let told = match read_within(alloc, reader, Limits::GREATER) {
-        Ok(bundle) => list_streams(alloc, &bundle.streams, filter, style, writer),
+        Ok(bundle) => list_streams(alloc, &bundle.streams, filter, style, writer, notes),
         Err(fault) => Err(fault),
     };
     match told {

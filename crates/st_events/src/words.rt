@@ -186,6 +186,17 @@ fn say_object<W: ByteSink>(
     say(writer, buffer, b"}\n")
 }
 
+/// Says that the rows have no partners.
+pub fn send_unpaired<N: ByteSink>(notes: &mut N) -> Result<(), Device> {
+    let mut buffer = Buffer::new();
+    say(
+        notes,
+        &mut buffer,
+        b"note: the streams can't be paired, so no partners are shown; seqtool audit says why\n",
+    )?;
+    flush(notes, &mut buffer)
+}
+
 /// Sends the rows, each with its partner if the streams could be paired.
 pub fn send_rows<W: ByteSink>(
     writer: &mut W,

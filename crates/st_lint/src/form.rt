@@ -1,10 +1,23 @@
 //! Texts that are no bundle as a whole: one mistake is named, and nothing is mended.
 
 use crate::kind::{Kind, kind_of};
+use crate::text::Text;
 
 /// The words that a report of a command begins with.
 const REPORTS: [&str; 8] = [
     "unfit ", "never ", "no ", "yes", "added ", "fault ", "long", "error: ",
+];
+
+/// What the files of `seqaudit-node` begin with, each with what to do about it.
+const BESIDE: [(&[u8], &str); 2] = [
+    (
+        b"seqaudit events",
+        "these are events as seqaudit-node collects them: seqaudit-node convert makes a bundle of them",
+    ),
+    (
+        b"seqaudit ",
+        "this is a file that seqaudit-node writes beside a bundle: that is in NAME.seqtrace",
+    ),
 ];
 
 /// The first bytes of packed files, each with how it is unpacked.
@@ -34,6 +47,18 @@ const FRONT: usize = 512;
 fn is_binary(bytes: &[u8]) -> bool {
     let (front, _) = bytes.split_at(FRONT.min(bytes.len()));
     kind_of(front) == Kind::Other && front.iter().any(|byte| matches!(*byte, 0..=8 | 14..=31))
+}
+
+/// Whether a text is a log of events: it begins with one, below comments if there are some.
+fn is_log(bytes: &[u8]) -> bool {
+    for line in Text::new(bytes).lines() {
+        match kind_of(line.bytes) {
+            Kind::Event => return true,
+            Kind::Comment => {}
+            _ => return false,
+        }
+    }
+    false
 }
 
 /// What a text that begins with a bracket or a brace is, if it is no bundle.
@@ -71,6 +96,12 @@ pub(crate) fn remedy_of_text(bytes: &[u8]) -> Option<&'static str> {
         return Some(
             "this is what a command found, and no bundle: see what the command before said",
         );
+    }
+    if let Some(beside) = BESIDE.iter().find(|beside| bytes.starts_with(beside.0)) {
+        return Some(beside.1);
+    }
+    if is_log(bytes) {
+        return Some("a log of events, and no bundle: seqaudit-node convert makes one of it");
     }
     if is_binary(bytes) {
         return Some("this is no text: a bundle is lines of ASCII");

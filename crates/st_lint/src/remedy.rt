@@ -102,13 +102,13 @@ fn remedy_of_byte(rest: &[u8], kind: Kind, expected: Expected) -> Option<&'stati
 fn remedy_of_number(noun: &str, byte: Option<u8>) -> &'static str {
     match (noun, byte) {
         ("a label", Some(b'0'..=b'9')) => "no label is greater: number the labels anew",
-        ("a label", _) => "labels are numbers here: give each term a number",
+        ("a label", _) => "labels are numbers: seqaudit-node convert gives each term one",
         ("a pid's node" | "a pid's number", _) => {
             "a pid is <NODE.NUMBER.0> with numbers up to 65535: number the processes anew"
         }
         (_, Some(b'0'..=b'9')) => "no number is greater",
         (_, Some(b'-')) => "no number is below 0",
-        _ => "a number is digits alone: give each term a number",
+        _ => "a number is digits alone: seqaudit-node convert gives each term one",
     }
 }
 

@@ -2,8 +2,10 @@
 //! says of a no, and of a run without a result.
 #![tactic(auto)]
 
+mod kind;
 mod no;
 mod trouble;
 
-pub use no::{pid_of, tell_no};
+pub use kind::pid_of;
+pub use no::tell_no;
 pub use trouble::{tell_trouble, tell_unopened, tell_unwritten};

@@ -3,93 +3,12 @@
 //! A no is known by its first line, which is what other programs read; the text is read once more for
 //! the lines, if it was kept.
 
+use crate::kind::{No, no_of};
 use st_core::{Act, ByteSink, Event, MemorySource, Pid};
 use st_lines::LineNumbers;
 use st_say::{say, say_act, say_event, say_number, say_pid, say_place};
 use st_text::{Buffer, Bundle, Device, Limits, flush, read_within};
 use std::alloc::Global;
-
-/// What a no is about.
-#[derive(Clone, Copy, Debug, PartialEq, Eq)]
-enum No<'a> {
-    /// The event at this place, for the reason of this word, which may name a second event.
-    Event((Pid, u64), &'a str, Option<(Pid, u64)>),
-    /// The act of this number has no step.
-    Stuck(u64),
-    /// The act of this number reports another event than the one that is due.
-    Differs(u64),
-    /// A process has events left at the end of the acts.
-    Left(Pid),
-    /// There is no event at this place.
-    NoEvent(Pid, u64),
-    /// There is no event on this line.
-    NoLine(u64),
-}
-
-/// The pid that a text writes, with its angle brackets or without.
-pub fn pid_of(text: &str) -> Option<Pid> {
-    let open = text.strip_prefix("<").unwrap_or(text);
-    let bare = open.strip_suffix(">").unwrap_or(open);
-    let (node, rest) = bare.split_once(".")?;
-    let (number, serial) = rest.split_once(".")?;
-    if serial != "0" {
-        return None;
-    }
-    match (node.parse::<u16>(), number.parse::<u16>()) {
-        (Ok(node), Ok(number)) => Some(Pid::on(node, number)),
-        _ => None,
-    }
-}
-
-/// The first word of a text, and what is behind the blank after it.
-fn split_word(text: &str) -> (&str, &str) {
-    text.split_once(" ").unwrap_or((text, ""))
-}
-
-/// The place that a text begins with.
-fn place_of(text: &str) -> Option<(Pid, u64)> {
-    let (pid, rest) = split_word(text);
-    let (index, _) = split_word(rest);
-    Some((pid_of(pid)?, index.parse::<u64>().ok()?))
-}
-
-/// The no about an event whose place, word and second place these are.
-fn no_of_event(text: &str) -> Option<No<'_>> {
-    let place = place_of(text)?;
-    let (_, behind_pid) = split_word(text);
-    let (_, reason) = split_word(behind_pid);
-    let (word, rest) = split_word(reason);
-    Some(No::Event(place, word, place_of(rest)))
-}
-
-/// The no of `why` about a place or a line without an event.
-fn no_of_question(text: &str) -> Option<No<'_>> {
-    match text.strip_prefix("on line ") {
-        Some(line) => Some(No::NoLine(line.parse::<u64>().ok()?)),
-        None => {
-            let (pid, index) = place_of(text)?;
-            Some(No::NoEvent(pid, index))
-        }
-    }
-}
-
-/// The no whose first line this is, if it is one.
-fn no_of(line: &str) -> Option<No<'_>> {
-    let (first, text) = split_word(line);
-    match first {
-        "unfit" | "never" => return no_of_event(text),
-        "no" => {}
-        _ => return None,
-    }
-    let (second, rest) = split_word(text);
-    match second {
-        "stuck" => Some(No::Stuck(rest.parse::<u64>().ok()?)),
-        "differs" => Some(No::Differs(rest.parse::<u64>().ok()?)),
-        "left" => Some(No::Left(pid_of(rest)?)),
-        "event" => no_of_question(rest),
-        _ => None,
-    }
-}
 
 /// What the word of a reason says of an event, in front of the second event's place and behind it.
 fn clause_of(word: &str) -> (&'static str, &'static str) {
@@ -154,6 +73,10 @@ impl<'a> Known<'a> {
         Some((self.numbers.act_line(number)?, *act))
     }
 }
+
+/// What is said of a completion that is too long.
+const LONG: &str =
+    "it has a completion, but with more acts or processes than seqtool reads; if its counts begin high, complete what seqtool renumber writes";
 
 /// Writes a line of the text, in front of what is there.
 fn say_line<W: ByteSink>(writer: &mut W, buffer: &mut Buffer, line: u64) -> Result<(), Device> {
@@ -278,6 +201,21 @@ fn say_no_line<W: ByteSink>(writer: &mut W, buffer: &mut Buffer, line: u64) -> R
     )
 }
 
+/// Writes that no event has this label.
+fn say_no_label<W: ByteSink>(
+    writer: &mut W,
+    buffer: &mut Buffer,
+    label: u64,
+) -> Result<(), Device> {
+    say(writer, buffer, b"label ")?;
+    say_number(writer, buffer, label)?;
+    say(
+        writer,
+        buffer,
+        b": no event has it; seqtool stats has the labels",
+    )
+}
+
 /// Writes what a no says.
 fn say_no<W: ByteSink>(
     writer: &mut W,
@@ -298,6 +236,18 @@ fn say_no<W: ByteSink>(
         No::Left(pid) => say_left(writer, buffer, known, pid),
         No::NoEvent(pid, index) => say_no_event(writer, buffer, known, pid, index),
         No::NoLine(line) => say_no_line(writer, buffer, line),
+        No::NoLabel(label) => say_no_label(writer, buffer, label),
+        No::NoEvents => say(writer, buffer, b"there is no event to be drawn"),
+        No::Long => say(writer, buffer, LONG.as_bytes()),
+    }
+}
+
+/// What stands before the name of the text and behind it. That a completion is too long is no no.
+fn marks_of(no: No<'_>) -> (&'static str, &'static str) {
+    match no {
+        No::Long => ("note: ", ": "),
+        No::NoEvents => ("no: ", ": "),
+        _ => ("no: ", ", "),
     }
 }
 
@@ -309,9 +259,10 @@ fn send_no<N: ByteSink>(
     notes: &mut N,
 ) -> Result<(), Device> {
     let mut buffer = Buffer::new();
-    say(notes, &mut buffer, b"no: ")?;
+    let (front, mark) = marks_of(no);
+    say(notes, &mut buffer, front.as_bytes())?;
     say(notes, &mut buffer, name.as_bytes())?;
-    say(notes, &mut buffer, b", ")?;
+    say(notes, &mut buffer, mark.as_bytes())?;
     say_no(notes, &mut buffer, known, no)?;
     say(notes, &mut buffer, b"\n")?;
     flush(notes, &mut buffer)

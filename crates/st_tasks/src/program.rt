@@ -36,7 +36,7 @@ pub fn run<H: AllocGlobal + Threads + Sync, R: ByteSource, W: ByteSink, N: ByteS
         Task::Why(question) => run_why(rt.alloc(), reader, writer, question),
         Task::Check => run_check(rt.alloc(), reader, writer, Limits::GREATER),
         Task::Audit => run_audit(rt, rt.alloc(), reader, writer, Limits::GREATER),
-        Task::List(filter, style) => run_list(rt.alloc(), reader, writer, &filter, style),
+        Task::List(filter, style) => { run_list(rt.alloc(), reader, writer, notes, &filter, style) }
         Task::Cut(filter) => run_cut(rt.alloc(), reader, writer, notes, &filter),
         Task::Stats(style) => run_stats(rt.alloc(), reader, writer, style),
         Task::Chart(drawing) => run_draw(rt, rt.alloc(), reader, writer, notes, drawing),
