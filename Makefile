@@ -81,12 +81,14 @@ wrong-bodies: ## tries all wrong bodies, many in one check (an hour or more, aft
 	@.ci/wrong-bodies
 
 # The gate asks for the layout of `rt fmt` too, but only after the proofs below a crate.
-layout: ## names the sources that rt fmt would lay out otherwise (3 seconds)
+layout: ## names the sources that rt fmt would lay out otherwise, and holds page.js to its modules (3 seconds)
 	@.ci/layout
 
 # A crate cites of another crate's proofs its lemmas for callers alone, and none of its definitions for the parts alone.
-layers: ## looks what each crate cites of the others (1 second)
+# No definition has the name of another crate's, and no file of code a bare participle for its name.
+layers: ## looks what each crate cites of the others, and for names that two have (1 second)
 	@.ci/layers
+	@.ci/names
 
 clauses: ## looks for functions without a clause in crates that have definitions (1 second)
 	@.ci/clauses
@@ -129,7 +131,7 @@ test-rust: ## plain Rust: its own tests, and each output beside the programs' (3
 bench: bin/seqaudit ## times the commands on bundles of 600,000 events, beside plain Rust (11 minutes, after program; needs rustc)
 	bench/run
 
-hostile: bin/seqaudit bin/seqtool ## faults, tampered text and inputs at the limits, docs/HOSTILE.md (2 minutes, after program)
+hostile: bin/seqaudit bin/seqtool ## faults, tampered text and inputs at the limits, docs/HOSTILE.md (about 10 minutes, after program)
 	bench/hostile
 
 clean: ## removes what was built; keeps the proofs

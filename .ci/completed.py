@@ -132,4 +132,4 @@ def completed(program):
             yield Check(f"{name}: its status", None if (got.status, got.complaint) == (0, b"") else str(got))
     yield Check("chart --complete: events and processes were added", None if all(seen.values()) and len(seen) == 2 else str(seen))
     got = program.run(("chart", "--complete", "--label", "9"), drawn.HIGH.encode())
-    yield expect("chart --complete of a label that nothing has", Answer(1, b"no label 9\n"), got)
+    yield expect("chart --complete of a label that nothing has", Answer(1, b"no label 9\n", drawn.NO_LABEL), got)

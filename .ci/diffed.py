@@ -38,12 +38,13 @@ def differ(program, first, second, *words, **how):
 
 
 def renamed(streams, chosen):
-    """The same trace with other pids and counts: the counts keep their order, the pids needn't."""
+    """The same trace with other pids and counts: the counts keep their order, the pids needn't. The first count may be any,
+    since the counters of a node go on from trace to trace."""
     pids = list(streams)
     numbers = chosen.sample(range(1, 60_000), len(pids))
     new = {pid: (chosen.choice((0, 0, 7)), number) for pid, number in zip(pids, numbers)}
-    counts = sorted({0} | {count for events in streams.values() for it in events for count in (it.prev, it.this)})
-    steps = [0]
+    counts = sorted({count for events in streams.values() for it in events for count in (it.prev, it.this)})
+    steps = [chosen.choice((0, 5, 1_000))]
     for _ in counts[1:]:
         steps.append(steps[-1] + chosen.choice((1, 1, 2, 1_000)))
     count = dict(zip(counts, steps))
@@ -213,7 +214,7 @@ class Told:
         first, second = self.streams
         if sorted(self.matches) != sorted(first) or sorted(self.matches.values()) != sorted(second):
             return False
-        ranks = [{count: rank for rank, count in enumerate(sorted({0} | {
+        ranks = [{count: rank for rank, count in enumerate(sorted({
             count for events in streams.values() for it in events for count in (it.prev, it.this)}))} for streams in self.streams]
         return all([(*bare(it), ranks[0][it.prev], ranks[0][it.this], self.matches[it.sender], it.to and self.matches[it.to])
                     for it in first[one]]
@@ -243,7 +244,8 @@ def lines_of(output):
             continue
         now = it.get("now")
         other = now and {"send": f" to {now.get('to')}", "receive": f" from {now['from']}", "print": ""}[now["kind"]]
-        yield f"{it['change']} {row_words(it)}" + (f", now {now['line']}: {now['pid']} {now['index']}{other}" if now else "")
+        serial = now and f" {{{now['prev']},{now['this']}}}" if it["change"] == "counts" else ""
+        yield f"{it['change']} {row_words(it)}" + (f", now {now['line']}: {now['pid']} {now['index']}{serial}{other}" if now else "")
 
 
 def judged(program, name, first, second):
@@ -310,7 +312,7 @@ TOLD = (TOP / "examples/after.diff.answer").read_text()
 # The counts of the print and of the send behind it are exchanged.
 COUNTS = BEFORE.replace("{1,2}", "{1,9}")
 TOLD_OF_COUNTS = """different: events gone 0, new 0, elsewhere 0; processes gone 0, new 0, matched by a guess 0
-counts 4: <0.30.0> 1  receive  label 17 {1,3} value 2 from <0.31.0>, now 4: <0.30.0> 1 from <0.31.0>
+counts 4: <0.30.0> 1  receive  label 17 {1,3} value 2 from <0.31.0>, now 4: <0.30.0> 1 {1,3} from <0.31.0>
 """
 
 

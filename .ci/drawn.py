@@ -35,6 +35,8 @@ process <7.31.0>
 {{seq_trace,4294967295,{{'receive',{{0,{model.TOP - 1}}},<0.30.0>,<7.31.0>,{model.TOP}}}}}
 """
 EMPTY = "seqtrace 1\nprocess <0.30.0>\n"
+NO_EVENTS = b"no: standard input: there is no event to be drawn\n"
+NO_LABEL = b"no: standard input, label 9: no event has it; seqtool stats has the labels\n"
 
 
 class Trace:
@@ -274,9 +276,9 @@ def charts(program):
         yield Check("Graphviz reads the graphs: there is no dot", skipped=True)
     for form in ((), ("--mermaid",), ("--dot",)):
         got = program.run(("chart", *form), EMPTY.encode())
-        yield expect(f"chart {' '.join(form)} of no events", Answer(1, b"no events\n"), got)
+        yield expect(f"chart {' '.join(form)} of no events", Answer(1, b"no events\n", NO_EVENTS), got)
         got = program.run(("chart", *form, "--label", "9"), HIGH.encode())
-        yield expect(f"chart {' '.join(form)} of a label that nothing has", Answer(1, b"no label 9\n"), got)
+        yield expect(f"chart {' '.join(form)} of a label that nothing has", Answer(1, b"no label 9\n", NO_LABEL), got)
 
 
 # ---- trace events
@@ -296,7 +298,7 @@ def judge_perfetto(trace, output):
     for tid, pid in zip(names, trace.streams):
         slices = [it for it in of["X"] if it["tid"] == tid]
         assert [it["args"]["index"] for it in slices] == list(range(len(trace.streams[pid])))
-        assert all(one["ts"] + one["dur"] <= other["ts"] for one, other in pairwise(slices))
+        assert all(one["ts"] + one["dur"] < other["ts"] for one, other in pairwise(slices))
         for found, event in zip(slices, trace.streams[pid]):
             assert judge_slice(trace, (pid, found["args"]["index"]), event, found)
             place_at[tid, found["ts"]] = pid, found["args"]["index"]
@@ -318,7 +320,7 @@ def judge_slice(trace, place, event, found):
     if event.kind == "receive" and not trace.source[place]:
         args["send"] = "not reported"
     return (found["name"], found["cat"], found["dur"], found["args"]) == (
-        f"{event.kind} {event.value}", event.kind, 1, args)
+        f"{event.kind} {event.value}", event.kind, 0.5, args)
 
 
 def judge_times(trace, times):
@@ -484,7 +486,7 @@ def verdicts(program):
                 yield expect(name_of, lines, got)
                 continue
             yield judged(name_of, judge_objects, program, objects_of, lines.output, got.output)
-            yield expect(f"{name_of}: its status", Answer(lines.status, got.output), got)
+            yield expect(f"{name_of}: its status and its note", Answer(lines.status, got.output, lines.complaint), got)
             seen.add((command, lines.status))
     yield Check("verdicts: a yes and a no of each command", None if len(seen) == 6 else f"only {sorted(seen)}")
 

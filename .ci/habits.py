@@ -169,7 +169,7 @@ def whole_lines(program):
 
 CLEAR = b"\r\x1b[K"
 RED, PLAIN = b"\x1b[31m", b"\x1b[0m"
-SLOW = 2.5  # Seconds: more than those for which a run waits with its line.
+SLOW = 3.5  # Seconds: more than those for which a run waits with its line, on a busy machine too.
 
 
 def on_terminal(program, words, pieces, env, pause=0.0):
@@ -223,7 +223,7 @@ def progress(program):
     got = on_terminal(program, ("audit",), pieces, env, SLOW)
     lines = got.complaint.split(CLEAR)
     is_right = (got.status, got.output) == (right.status, right.output) and len(lines) > 2 and lines[0] == lines[-1] == b""
-    is_right = is_right and all(it.endswith(b" MB read") for it in lines[1:-1])
+    is_right = is_right and all(it.endswith((b" MB read", b" MB read, working")) for it in lines[1:-1])
     yield Check("audit of a slow pipe says how much was read, and takes that off", None if is_right else str(got))
     got = on_terminal(program, ("audit", "--quiet"), pieces, env, SLOW)
     yield expect("audit --quiet of a slow pipe", Answer(right.status, b""), got)
@@ -238,6 +238,29 @@ def progress(program):
         ran.stdin.close()
         said = ran.stderr.read()
     yield Check("audit of a slow pipe says nothing in a pipe", None if said == b"" else repr(said))
+    yield long_work(program, env)
+
+
+# A trace that takes longer than `SLOW` to audit, though it is read at once: each send is hidden, and begins a trace.
+HIDDEN = 1_000_000
+
+
+def long_work(program, env):
+    """Work that takes long after all was read says so."""
+    with tempfile.TemporaryDirectory() as folder:
+        path = os.path.join(folder, "trace.txt")
+        with open(path, "w") as file:
+            file.write("seqtrace 1\nprocess <0.10.0>\nprocess <0.20.0>\n")
+            file.writelines(f"{{seq_trace,1,{{'receive',{{{this - 1},{this}}},<0.10.0>,<0.20.0>,0}}}}\n"
+                            for this in range(1, 2 * HIDDEN, 2))
+        began = time.monotonic()
+        got = on_terminal(program, ("audit", path), [], env)
+        seconds = time.monotonic() - began
+    name = "audit of a file that is read quickly says that it works"
+    if seconds < SLOW:
+        return Check(f"{name}: it took {seconds:.1f} s alone", skipped=True)
+    is_right = got.status == 0 and got.complaint.endswith(b" MB read, working" + CLEAR)
+    return Check(name, None if is_right else f"{seconds:.1f} s: {got.complaint}")
 
 
 PARTS = (several_files, quiet, names, whole_lines, colours, progress)

@@ -28,7 +28,8 @@ RETURN = "a carriage return: end lines with a newline alone"
 VALUES = "a value, a number up to 18446744073709551615"
 QUOTES = "the word 'receive' stands in straight single quotes"
 EMPTY = "the line is empty: leave it out"
-LABELS = "labels are numbers here: give each term a number"
+LABELS = "labels are numbers: seqaudit-node convert gives each term one"
+LOG = "a log of events, and no bundle: seqaudit-node convert makes one of it"
 HEADER_1 = "the first line is seqtrace 1"
 RISES = "no run reports this event: the second count of a serial is above its first"
 NO_TIME = "an event ends there: leave out a time stamp, or what else stands there"
@@ -71,7 +72,7 @@ BY_HAND = (
     ("a label above the greatest", HEAD + PRINT.replace("17", "4294967296") + "\n", 3, 21, "a label up to 4294967295",
      "no label is greater: number the labels anew"),
     ("an atom for a value", HEAD + PRINT.replace("7}}", "ok}}") + "\n", 3, 40,
-     VALUES, "a number is digits alone: give each term a number"),
+     VALUES, "a number is digits alone: seqaudit-node convert gives each term one"),
     ("a full stop at the end", f"{HEAD}{PRINT}.\n", 3, 43, END, "nothing stands behind that: leave the rest out"),
     ("an event with a time stamp", HEAD + PRINT[:-1] + ",{1,2,3}}\n", 3, 42, "}", NO_TIME),
     ("the report of a no", "unfit <0.30.0> 2 uncaused\n", 1, 1, HEADER,
@@ -83,6 +84,12 @@ BY_HAND = (
     ("UTF-16 without a mark", HEAD.encode("utf-16-le"), 1, 1, HEADER,
      "the text is UTF-16: write it as ASCII, as by iconv -f UTF-16 -t ASCII"),
     ("bytes that are no text", b"\x7fELF\x02\x01\x01\n", 1, 1, HEADER, "this is no text: a bundle is lines of ASCII"),
+    ("a log of events", f"{PRINT}\n{PRINT}\n", 1, 1, HEADER, LOG),
+    ("a log of events below a comment", f"%% node a@b\n{PRINT}\n", 1, 1, HEADER, LOG),
+    ("events as they are collected", b"seqaudit events 2\n\x83h", 1, 1, HEADER,
+     "these are events as seqaudit-node collects them: seqaudit-node convert makes a bundle of them"),
+    ("the legend of a bundle", "seqaudit terms 1\nlabel\t1\tx\n", 1, 1, HEADER,
+     "this is a file that seqaudit-node writes beside a bundle: that is in NAME.seqtrace"),
     ("an Erlang list", f"[{PRINT},\n {PRINT}]\n", 1, 1, HEADER,
      "an Erlang list: write each event on a line of its own, below that of its process"),
     ("a list of JSON", '[{"label":17}]\n', 1, 1, HEADER, "a list or JSON: a bundle is lines of text"),
@@ -163,7 +170,6 @@ SEVERAL = (
       (5, 12, "a label up to 4294967295", LABELS)), 1),
     ("carriage returns", GOOD.replace("\n", "\r\n"),
      ((1, 11, END, RETURN), (2, 17, END, RETURN), (3, 43, END, RETURN)), 3),
-    ("an event at the front", f"{PRINT}\n", ((1, 1, HEADER, HEADER_1), (1, 1, BELOW_THE_HEADER, BELOW_ITS_LINE)), 1),
     ("a pid without a line is named once, and so is each other",
      HEAD + "".join(f"{{seq_trace,17,{{send,{{0,{n}}},<0.30.0>,<0.{pid}.0>,7}}}}\n" for n, pid in enumerate((98, 99, 98), 1)),
      ((3, 39, "a pid with a process line, <0.98.0> has none", LIST),
@@ -330,14 +336,15 @@ MENDED = (
     ("a text in quotes is kept", HEAD + PRINT.replace("7}}", '"a b"}}') + " \n", HEAD + PRINT.replace("7}}", '"a b"}}') + "\n",
      "lines with blanks 1",
      diagnosis((HEAD + PRINT.replace("7}}", '"a b"}}') + "\n").encode(), 3, 40,
-               VALUES, "a number is digits alone: give each term a number"), 2),
+               VALUES, "a number is digits alone: seqaudit-node convert gives each term one"), 2),
     ("a comment is kept", f"% my  trace\n{HEAD}{PRINT}", f"% my  trace\n{GOOD}", "newline at the end 1",
      diagnosis(f"% my  trace\n{GOOD}".encode(), 1, 1, HEADER, "a bundle has no comments: leave the line out"), 2),
     ("counts that don't rise are left", HEAD + PRINT.replace("{0,1}", "{1, 1}"), HEAD + PRINT.replace("{0,1}", "{1,1}") + "\n",
      "newline at the end 1, lines with blanks 1",
      diagnosis((HEAD + PRINT.replace("{0,1}", "{1,1}") + "\n").encode(), 3, 25, "a number above 1", RISES), 1),
 )
-NO_BUNDLE = ("an empty text", "the report of a no", "a text packed by gzip", "a text packed by zstd", "UTF-16 with a mark",
+NO_BUNDLE = ("a log of events", "a log of events below a comment", "events as they are collected", "the legend of a bundle",
+             "an empty text", "the report of a no", "a text packed by gzip", "a text packed by zstd", "UTF-16 with a mark",
              "UTF-16 without a mark", "bytes that are no text", "an Erlang list", "a list of JSON", "an object of JSON")
 
 

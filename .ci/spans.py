@@ -1,8 +1,8 @@
 """What `seqtool export --as otlp` writes, with times of the trace's events. `.ci/seqtool` runs these checks.
 
-No reader of OTLP comes with Debian, so this one is ours: it knows the fields of `opentelemetry/proto/trace/v1` by their names
-in JSON and refuses any other, ids of another length, a number that isn't written as the mapping of 64-bit numbers has it, a
-parent that isn't there and a span that ends before it begins."""
+This reader is ours, and `.ci/foreign.py` asks OpenTelemetry's own, if it is there. Ours knows the fields of
+`opentelemetry/proto/trace/v1` by their names in JSON and refuses any other, ids of another length, a number that isn't
+written as the mapping of 64-bit numbers has it, a parent that isn't there and a span that ends before it begins."""
 import json
 import random
 import re

@@ -3,6 +3,7 @@ import re
 from functools import cache
 
 from pages import sources
+from pages.blocks import wrong_blocks
 from pages.sources import DECLARED, NAME, TOP, WORDS, files
 from pages.text import NUMBER, claims, command_lines, is_of_crate, lines_of_code, prose, sentences, spans, tables, value
 
@@ -11,6 +12,9 @@ from pages.text import NUMBER, claims, command_lines, is_of_crate, lines_of_code
 
 def wrong_names(page):
     for said in spans(prose(page.text)):
+        made = re.match(r"([A-Z][a-z]\w*)\(", said)
+        if made and made[1] not in WORDS:
+            yield f"`{said}`: there is no {made[1]}"
         if not re.fullmatch(rf"{NAME}(::{NAME})*", said):
             continue
         first, *rest = said.split("::")
@@ -158,8 +162,11 @@ def wrong_commands(page):
         elif re.match(r"(?:\.ci|bench|examples|erlang|tests|rust)/", words[0]) and (TOP / words[0]).is_file():
             text = sources.read(words[0])
             bad = [it for it in words[1:] if re.match(r"--\w", it) and it.split("=")[0] not in text]
+        elif re.fullmatch(r"(?:\.ci|bench|examples|erlang|tests|rust)/[\w/-]+", words[0]) and len(words) > 1:
+            bad = [] if (TOP / words[0]).exists() else [f"script {words[0]}"]
         else:
             bad = []
+        bad += [it for it in words[1:] if re.fullmatch(r"st_[a-z_]+", it) and it not in sources.CRATES]
         for it in bad:
             yield f"`{line}`: {program} has no {it}"
 
@@ -188,7 +195,7 @@ COUNTS = r" (?:crates|tests|wrong bodies|of them|definitions|types|lines)\b"
 CODE = r"crates/(?!st_\w*(?:tests|samples))\w+/(?:src|specs)"
 SCOPES = {r"docs/ERLANG": ((CODE, "erlang"), 100),
           r"README|docs/(?:FORMATS|AUDIT|COMPLETIONS|ARCHITECTURE)": ((CODE, "erlang/src", "examples"), 100),
-          r"": ((CODE, "bench", r"\.ci", "erlang"), 200)}
+          r"": ((CODE, "bench", "tests", r"\.ci", "erlang"), 200)}
 
 
 def scope_of(page):
@@ -286,6 +293,9 @@ def wrong_outputs(page):
     """Outputs of the programs that they never write."""
     known = sources.outputs()
     for said in spans(prose(page.text)):
+        line = re.match(r"([a-z]+) (?:PID|NUMBER|LABEL)\b", said)
+        if page.path.name == "FORMATS.md" and line and line[1] not in options_of_all() and f'codes "{line[1]}' not in sources.ALL_SPECS:
+            yield f"`{said}`: no text has such a line"
         if re.match(r"fault |no |usage: ", said) and not is_output(said, known) and not sources.is_written(fixed(said)):
             yield f"`{said}`: no program writes that"
         reason = re.match(r"(unfit|never) (?:PID|<[\d.]+>) (?:I|\d+) (\w+)", said)
@@ -302,9 +312,9 @@ def status_in_row(cells, known):
 
 def wrong_statuses(page):
     known = sources.outputs()
-    for status, verdict in re.findall(r"returns (\d), `Means(Yes|No)`", page.text):
-        if int(status) != known["yes" if verdict == "Yes" else "no stuck"]:
-            yield f"`Means{verdict}` isn't about the status {status}"
+    for status, name in re.findall(r"returns (\d)(?:, | \()`(Means\w+)`", page.text):
+        if int(status) != sources.meanings().get(name):
+            yield f"`{name}` isn't about the status {status}"
     for said, status in re.findall(r"`((?:fault|no|usage:|never|long)[^`]*)`, (?:status )?(\d)", page.text):
         if known.get(fixed(said), int(status)) != int(status):
             yield f"`{said}` has the status {known[fixed(said)]}, not {status}"
@@ -349,6 +359,15 @@ def wrong_terms(page):
                     yield f"`{said}`: the text form has no such act"
 
 
+def wrong_variants(page):
+    """The tables of acts and of wants have each of them, and no other."""
+    for header, rows in tables(page.text):
+        kind = {"Act": "Act", "Want": "Want"}.get(header[0]) if header[1:2] in (["Erlang"], ["Matches"]) else None
+        said = {re.match(r"\w+", span)[0] for cells in rows for span in spans(cells[0])[:1]} if kind else set()
+        for it in sorted(said ^ sources.variants(kind)) if kind else ():
+            yield f"the table of a {kind.lower()}: {it} is {'no such' if it in said else 'missing'}"
+
+
 def wrong_fields(page):
     """Fields of JSON objects that none of them has, and words that none of their fields has."""
     for header, rows in tables(page.text):
@@ -364,4 +383,4 @@ def wrong_fields(page):
 
 CHECKS = (wrong_names, wrong_homes, wrong_links, wrong_files, wrong_parts, wrong_commands, wrong_calls, wrong_options,
           wrong_numbers, wrong_greatest, wrong_versions, wrong_limits, wrong_numerals, wrong_outputs, wrong_statuses,
-          wrong_reasons, wrong_terms, wrong_fields)
+          wrong_reasons, wrong_terms, wrong_variants, wrong_fields, wrong_blocks)

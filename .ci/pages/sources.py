@@ -182,6 +182,17 @@ def outputs():
     return learned("outputs", found)
 
 
+@cache
+def meanings():
+    """The status with which each record of `Meaning` is what an output means: `MeansYes`, 0."""
+    clause = r"ensures \w+ \{ result ≡ (\d) → Says (?:(?!ensures).)*?\b(Means\w+)"
+    return learned("meanings", {name: int(status) for status, name in re.findall(clause, ALL_RUST, re.S)})
+
+
+def status_of(name):
+    return meanings()[name]
+
+
 def is_written(words):
     """Whether a text of the programs has these words."""
     return any(words in text for text in (ALL_SPECS, ALL_RUST, ERLANG))

@@ -3,6 +3,8 @@ import re
 from functools import cache
 
 from pages import sources
+from pages.blocks import wrong_callings
+from pages.facts import wrong_facts, wrong_orders, wrong_tallies
 from pages.text import lines_of_code, spans, tables
 
 FORMATS = "docs/FORMATS.md"
@@ -123,4 +125,4 @@ def wrong_counts(pages, counts):
 
 
 WHOLE = (missing_outputs, missing_fields, missing_options, wrong_crates, wrong_command_rows, wrong_answers,
-         wrong_headline, wrong_times)
+         wrong_headline, wrong_times, wrong_callings, wrong_facts, wrong_orders, wrong_tallies)
