@@ -45,8 +45,8 @@ bin/%: $(SOURCES)
 	@$(PROVE) $*
 
 demo: bin/seqaudit bin/seqtool ## runs the proved programs on examples/ and compares what they write (seconds, after program)
-	@examples/demo bin/seqaudit
-	@examples/demo-seqtool bin/seqtool
+	@tests/demo bin/seqaudit
+	@tests/demo-seqtool bin/seqtool
 
 # The sources without their contracts, as cargo builds them: rust/README.md.
 rust: ## writes both programs as plain Rust, not proved, and builds them in bin/rust/ (1 to 2 minutes; needs cargo and Python)
@@ -100,16 +100,16 @@ docs: ## holds the docs to the sources, and plants falsehoods, which must be ref
 BUILT = $(firstword $(wildcard $(CURDIR)/crates/seqaudit/out/seqaudit $(CURDIR)/bin/seqaudit))
 BUILT_TOOL = $(firstword $(wildcard $(CURDIR)/crates/seqtool/out/seqtool $(CURDIR)/bin/seqtool))
 
-# All parts of bench/hostile but the growth of times, which a busy machine could spoil, and the floods of 64 MB: make
+# All parts of tests/hostile but the growth of times, which a busy machine could spoil, and the floods of 64 MB: make
 # hostile has these too.
 FAULTS = memory stacks calls devices tampering limits queues floods scripts completions
 
 # What no proof sees: the built programs on examples/, their statuses and words, random traces beside a slow model, a
 # million acts and events, and faults. Python's seeds are fixed.
 test-program: ## the programs that were built last: examples/, random traces, a million acts, faults (3 minutes)
-	@.ci/program $(BUILT)
-	@examples/demo-seqtool $(BUILT_TOOL)
-	@if command -v python3 >/dev/null; then .ci/seqtool $(BUILT_TOOL) && bench/completions/small.py $(BUILT_TOOL) 2000 && bench/hostile --tool $(BUILT_TOOL) $(BUILT) $(FAULTS); \
+	@tests/seqaudit $(BUILT)
+	@tests/demo-seqtool $(BUILT_TOOL)
+	@if command -v python3 >/dev/null; then tests/seqtool $(BUILT_TOOL) && tests/completions/small.py $(BUILT_TOOL) 2000 && tests/hostile --tool $(BUILT_TOOL) $(BUILT) $(FAULTS); \
 	else echo "There is no python3 here: seqtool's words, its small streams and the faults are skipped."; fi
 
 # Traces of a real Erlang node, if there is one, by the program that was built last.
@@ -132,7 +132,7 @@ bench: bin/seqaudit ## times the commands on bundles of 600,000 events, beside p
 	bench/run
 
 hostile: bin/seqaudit bin/seqtool ## faults, tampered text and inputs at the limits, docs/HOSTILE.md (about 10 minutes, after program)
-	bench/hostile
+	tests/hostile
 
 clean: ## removes what was built; keeps the proofs
 	rm -rf bin erlang/ebin erlang/test/ebin erlang/test/out erlang/conformance/ebin

@@ -11,7 +11,8 @@ import tempfile
 from pathlib import Path
 
 sys.dont_write_bytecode = True
-sys.path.insert(1, str(Path(__file__).resolve().parent.parent / "erlang" / "test"))
+TOP = Path(__file__).resolve().parent.parent
+sys.path[1:1] = [str(TOP / it) for it in ("tests", "tests/models")]
 
 import slow_seqaudit as model  # noqa: E402
 from hostile_use.scripts import random_scripts  # noqa: E402

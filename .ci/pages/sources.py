@@ -13,7 +13,7 @@ FOREIGN = set("dbg ttb et edoc erl Option Some None Vec String DOWN EXIT BUILD u
 # The checks themselves are no source: they have the falsehoods that they must find.
 PATTERNS = ("crates/*/src/**/*.rt", "crates/*/specs/**/*.antt", "crates/*/proofs/**/*.antt", "crates.txt", "Makefile",
             "erlang/**/*.*", "erlang/test/*", "erlang/seqaudit-node", "erlang/Makefile", "bench/**/*", "examples/*",
-            "tests/*", "rust/*", "completions/*", ".ci/[!d]*")
+            "tests/*", "tests/[!w]*/*", "rust/*", "completions/*", ".ci/[!d]*")
 
 
 def files(*patterns):

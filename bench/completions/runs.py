@@ -3,7 +3,7 @@
 import sys
 from pathlib import Path
 
-sys.path.insert(0, str(Path(__file__).resolve().parents[2] / "erlang/test"))
+sys.path.insert(0, str(Path(__file__).resolve().parents[2] / "tests/models"))
 
 import slow_seqaudit as machine  # noqa: E402
 

@@ -10,7 +10,7 @@ from functools import reduce
 from pathlib import Path
 from typing import Callable
 
-sys.path.insert(0, str(Path(__file__).parent.parent / "test"))
+sys.path.insert(0, str(Path(__file__).resolve().parents[2] / "tests/models"))
 import slow_seqaudit as model  # noqa: E402 (it lies in the folder just named)
 
 

@@ -2,7 +2,7 @@
 %% program if it is built and has the command; then both must write the same.
 -module(seqaudit_audits).
 
--export([file/1, mode/1, home/0, fits/1, audit/1, answer/2, has/1, has/2, programs/0, tools/0, model/0]).
+-export([file/1, mode/1, home/0, tests/0, fits/1, audit/1, answer/2, has/1, has/2, programs/0, tools/0, model/0]).
 
 -include_lib("kernel/include/file.hrl").
 
@@ -27,6 +27,10 @@ home(Folder) ->
         true -> Folder;
         false -> home(filename:dirname(Folder))
     end.
+
+%% The tests of the programs, beside the folder of the application.
+tests() ->
+    filename:join(filename:dirname(home()), "tests").
 
 %% The auditor says that the bundle fits, and the checker confirms its answer.
 fits(Name) ->
@@ -77,7 +81,7 @@ programs() ->
 model() ->
     case os:find_executable("python3") of
         false -> [];
-        _ -> [filename:join([home(), "test", "slow_seqaudit.py"])]
+        _ -> [filename:join([tests(), "models", "slow_seqaudit.py"])]
     end.
 
 %% Says which of them the tests ask.

@@ -31,7 +31,7 @@ compared(Auditor, Tool, Last) ->
 files_test_() ->
     with_programs("files of the model", fun(_, Tool) ->
         Example = filename:join([filename:dirname(seqaudit_audits:home()), "examples", "crossing.txt"]),
-        Both = fun(Words) -> [run([Program, $\s, Words], []) || Program <- [Tool, test_file("slow_seqtool.py")]] end,
+        Both = fun(Words) -> [run([Program, $\s, Words], []) || Program <- [Tool, test_file("models/slow_seqtool.py")]] end,
         [[{0, Same}, {0, Same}] = Both(Words)
          || Words <- [["complete ", Example], ["complete <", Example], ["complete --as streams ", Example],
                       ["renumber ", Example]]],
@@ -39,7 +39,7 @@ files_test_() ->
         [{_, _} = binary:match(Said, <<"error: /no/such/file can't be opened: No such file or directory">>)
          || Said <- [One, Other]],
         [{2, _}, {2, _}] = Both("complete /dev/null"),
-        [{3, _} = run([test_file("slow_seqtool.py"), $\s, Words], [])
+        [{3, _} = run([test_file("models/slow_seqtool.py"), $\s, Words], [])
          || Words <- ["", "complete a b", "complete --as nothing", "lint"]]
     end).
 
@@ -53,7 +53,7 @@ with_programs(What, Test) ->
     end}.
 
 test_file(Name) ->
-    filename:join([seqaudit_audits:home(), "test", Name]).
+    filename:join(seqaudit_audits:tests(), Name).
 
 script(Name, Text) ->
     File = seqaudit_audits:file(Name),

@@ -14,11 +14,14 @@ import random
 import sys
 from collections import Counter
 from dataclasses import replace
+from pathlib import Path
 
-import slow_seqaudit as model
-import slow_seqtool as tool
-from random_runs import Run, Wild, ask, text
-from slow_seqaudit import Event
+sys.path.insert(1, str(Path(__file__).resolve().parent / "models"))
+
+import slow_seqaudit as model  # noqa: E402
+import slow_seqtool as tool  # noqa: E402
+from random_runs import Run, Wild, ask, text  # noqa: E402
+from slow_seqaudit import Event  # noqa: E402
 
 FIRST, SECOND, THIRD = (0, 30), (0, 31), (0, 32)
 

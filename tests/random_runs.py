@@ -17,8 +17,11 @@ import subprocess
 import sys
 from collections import Counter
 from dataclasses import replace
+from pathlib import Path
 
-import slow_seqaudit as model
+sys.path.insert(1, str(Path(__file__).resolve().parent / "models"))
+
+import slow_seqaudit as model  # noqa: E402
 
 LABELS = (1, 2, 3)
 VALUES = range(6)

@@ -1,5 +1,5 @@
 """What `lint` says of mistakes in a text, one and several, what `lint --fix` makes of them, and both on long texts.
-`.ci/seqtool` runs these checks.
+`tests/seqtool` runs these checks.
 
 The mistakes of a text are planted here, so their lines are known; whether a text is faulty says another command."""
 import json

@@ -1,6 +1,6 @@
-"""What `seqtool export --as otlp` writes, with times of the trace's events. `.ci/seqtool` runs these checks.
+"""What `seqtool export --as otlp` writes, with times of the trace's events. `tests/seqtool` runs these checks.
 
-This reader is ours, and `.ci/foreign.py` asks OpenTelemetry's own, if it is there. Ours knows the fields of
+This reader is ours, and `tests/parts/foreign.py` asks OpenTelemetry's own, if it is there. Ours knows the fields of
 `opentelemetry/proto/trace/v1` by their names in JSON and refuses any other, ids of another length, a number that isn't
 written as the mapping of 64-bit numbers has it, a parent that isn't there and a span that ends before it begins."""
 import json

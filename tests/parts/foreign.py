@@ -1,6 +1,6 @@
 """What readers of others make of what `seqtool` writes: OpenTelemetry's of spans, Mermaid's of sequence diagrams, and that of
-chrome://tracing of trace events. `.ci/readers/fetch FOLDER` fetches them, and `READERS` names the folder; `.ci/seqtool` runs
-these checks. `.ci/drawn.py` asks Graphviz, which is a package of each system. Nobody packs ShiViz."""
+chrome://tracing of trace events. `tests/readers/fetch FOLDER` fetches them, and `READERS` names the folder; `tests/seqtool` runs
+these checks. `tests/parts/drawn.py` asks Graphviz, which is a package of each system. Nobody packs ShiViz."""
 import json
 import os
 import shutil
@@ -14,7 +14,7 @@ import spans
 from drawn import judged, model
 from hostile_use.program import Check
 
-HERE = Path(__file__).resolve().parent / "readers"
+HERE = Path(__file__).resolve().parents[1] / "readers"
 WANTED = ("opentelemetry", "mermaid.min.js", "trace_viewer_full.html")
 
 
@@ -96,7 +96,7 @@ def foreign(program):
     folder = Path(os.environ.get("READERS", "none"))
     missing = [it for it in WANTED if not (folder / it).exists()] + [it for it in ("node",) if not shutil.which(it)]
     if missing:
-        yield Check(f"readers of others: {', '.join(missing)} isn't there (.ci/readers/fetch)", skipped=True)
+        yield Check(f"readers of others: {', '.join(missing)} isn't there (tests/readers/fetch)", skipped=True)
         return
     for part in (viewer, diagrams, telemetry):
         yield from part(program, folder)

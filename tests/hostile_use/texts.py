@@ -6,7 +6,7 @@ import sys
 from collections import namedtuple
 from pathlib import Path
 
-sys.path.insert(0, str(Path(__file__).resolve().parent.parent / "completions"))
+sys.path.insert(0, str(Path(__file__).resolve().parents[2] / "bench/completions"))
 
 from traces import FIRST, SORTS, Run, event, pid, ring  # noqa: E402, F401
 

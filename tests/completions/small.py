@@ -1,12 +1,12 @@
 #!/usr/bin/env python3
 """Compares `seqtool complete` on small streams with a search through what the machine can do:
 
-    bench/completions/small.py [SEQTOOL [COUNT [SEED]]]
+    tests/completions/small.py [SEQTOOL [COUNT [SEED]]]
 
 Of up to three processes and six events, some of a run and most of any kind. A completion has to come exactly if the search
 finds a run, of the listed processes and up to three silent ones. What is added is judged by the text and from the
 beginning: the given events stay, nothing is missing in all events, nothing is added for nothing, and unlisted processes
-weren't listed. Then the lines have to be those of the slow model of erlang/test: the same completion, or the same reason
+weren't listed. Then the lines have to be those of the slow model of tests/models: the same completion, or the same reason
 at the same place. The table says how often each answer came; the exit status is 1 if one was wrong."""
 
 import random

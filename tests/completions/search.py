@@ -10,7 +10,7 @@ a process, from zero up to its last event, is a sequence of steps:
     take      the count of a message whose receive isn't reported
 
 The ways of all processes come from a run only if nothing is taken that nobody sends. So streams without such ways have no
-run. With such ways they have one: `Acts` makes its acts, and the slow machine of erlang/test does them.
+run. With such ways they have one: `Acts` makes its acts, and the slow machine of `tests/models` does them.
 
 Two things are left out, since they are of no use. A silent process sends one message of each count at most, and all of
 them before anything else happens: nobody sees when, nor what their prevs are. And counts stay up to the greatest reported
@@ -23,7 +23,7 @@ from collections import Counter, defaultdict
 from dataclasses import replace
 from pathlib import Path
 
-sys.path.insert(0, str(Path(__file__).resolve().parents[2] / "erlang/test"))
+sys.path.insert(0, str(Path(__file__).resolve().parents[1] / "models"))
 
 import slow_seqaudit as machine  # noqa: E402
 

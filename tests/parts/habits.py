@@ -1,4 +1,4 @@
-"""The parts of `.ci/seqtool` on what people expect of any program: several files, a status alone, whole lines, a terminal."""
+"""The parts of `tests/seqtool` on what people expect of any program: several files, a status alone, whole lines, a terminal."""
 import gzip
 import json
 import os
@@ -14,7 +14,7 @@ from pathlib import Path
 
 from hostile_use.program import Answer, Check, expect
 
-TOP = Path(__file__).resolve().parent.parent
+TOP = Path(__file__).resolve().parents[2]
 EXAMPLES = TOP / "examples"
 # Commands that take several files; the others take one.
 OF_FILES = ("lint", "audit", "check", "list", "stats")

@@ -1,5 +1,5 @@
 """What `chart`, `export` and the verdicts as JSON write, on the traces of examples/ and on random ones of which events were
-lost, beside the slow model of erlang/test. `.ci/seqtool` runs these checks.
+lost, beside the slow model of tests/models. `tests/seqtool` runs these checks.
 
 The readers are strict: a line that the format doesn't have fails. If Graphviz is there, its `dot` reads each graph too."""
 import json
@@ -13,8 +13,8 @@ from collections import Counter, defaultdict
 from itertools import pairwise
 from pathlib import Path
 
-TOP = Path(__file__).resolve().parent.parent
-sys.path[:0] = [str(TOP / "bench"), str(TOP / "erlang/test")]
+TOP = Path(__file__).resolve().parents[2]
+sys.path[:0] = [str(TOP / it) for it in ("tests", "tests/models", "bench")]
 
 import slow_seqaudit as model  # noqa: E402
 from hostile_use import shim  # noqa: E402

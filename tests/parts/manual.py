@@ -1,14 +1,14 @@
-"""The parts of `man/seqtool.1` that say what the help says: `.ci/manual.py PROGRAM` writes them anew from the program's help.
+"""The parts of `man/seqtool.1` that say what the help says: `tests/parts/manual.py PROGRAM` writes them anew from the program's help.
 
 These are the synopsis, the first line of each command, and the options with their arguments. The rest of the page is written
-by hand. The part `manuals` of `.ci/seqtool` holds the page to this, and the completions to the same options."""
+by hand. The part `manuals` of `tests/seqtool` holds the page to this, and the completions to the same options."""
 import re
 import subprocess
 import sys
 from collections import namedtuple
 from pathlib import Path
 
-PAGE = Path(__file__).resolve().parent.parent / "man/seqtool.1"
+PAGE = Path(__file__).resolve().parents[2] / "man/seqtool.1"
 
 # An option or an argument: `-q`, `--quiet`, the value that it takes, and what it is for; `values` are the only ones.
 Option = namedtuple("Option", "short long value about values")

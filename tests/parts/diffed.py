@@ -1,4 +1,4 @@
-"""What `seqtool diff` writes of two traces, beside a judge that knows nothing of how it is found. `.ci/seqtool` runs these
+"""What `seqtool diff` writes of two traces, beside a judge that knows nothing of how it is found. `tests/seqtool` runs these
 checks.
 
 The judge reads the objects of --json: which processes are matched, and which events are gone, new and elsewhere. What is

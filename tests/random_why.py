@@ -13,9 +13,12 @@ import re
 import subprocess
 import sys
 from collections import Counter
+from pathlib import Path
 
-import slow_seqaudit as model
-import slow_why
+sys.path.insert(1, str(Path(__file__).resolve().parent / "models"))
+
+import slow_seqaudit as model  # noqa: E402
+import slow_why  # noqa: E402
 
 # So many events of a run are asked about if a program has to be started for each.
 ASKED = 12

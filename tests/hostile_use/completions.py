@@ -6,7 +6,7 @@ import sys
 import tempfile
 from pathlib import Path
 
-sys.path.insert(0, str(Path(__file__).resolve().parent.parent / "completions"))
+sys.path.insert(0, str(Path(__file__).resolve().parents[2] / "bench/completions"))
 
 from one_run import run_once  # noqa: E402
 from traces import SORTS, ring, written  # noqa: E402

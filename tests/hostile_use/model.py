@@ -1,5 +1,5 @@
 """What the program has to write, by slow readings of `docs/FORMATS.md` and of the rules: the reader's first refusal,
-and what the slow auditor of `erlang/test` says of a text that has none."""
+and what the slow auditor of `tests/models` says of a text that has none."""
 
 import importlib.util
 import re
@@ -84,7 +84,7 @@ def first_fault(text):
 
 
 def load_slow_model():
-    path = Path(__file__).parents[2] / "erlang" / "test" / "slow_seqaudit.py"
+    path = Path(__file__).parents[1] / "models/slow_seqaudit.py"
     spec = importlib.util.spec_from_file_location("slow_seqaudit", path)
     module = importlib.util.module_from_spec(spec)
     spec.loader.exec_module(module)

@@ -1,6 +1,6 @@
-"""What `seqtool chart --complete` draws. `.ci/seqtool` runs these checks.
+"""What `seqtool chart --complete` draws. `tests/seqtool` runs these checks.
 
-Without its marks a drawing is that of the trace that `complete --as streams` writes, which `.ci/drawn.py` judges; and the
+Without its marks a drawing is that of the trace that `complete --as streams` writes, which `tests/parts/drawn.py` judges; and the
 marks are at exactly the events that `complete --json` adds, and at the processes that it says the trace doesn't list."""
 import json
 import re

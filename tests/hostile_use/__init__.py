@@ -1,0 +1,1 @@
+"""The parts of `tests/hostile`: faults that the built program `seqaudit` is put under."""
