@@ -4,8 +4,8 @@
 %% what it says, and of a small file terms that fill the memory. So a term stays the bytes that it
 %% is, without the version byte in front. They are walked once, with a counter and no stack, and put
 %% into one form: equal terms have equal bytes, whichever release of OTP wrote them. The only
-%% exceptions are maps with more than 10,000 pairs, or more than 32 maps deep: they keep the order
-%% in which their node wrote the pairs.
+%% exceptions are maps in 1,000 others or more: they keep the order in which their node wrote the
+%% pairs.
 -module(seqaudit_external).
 
 -export([read/1, take/1, from_term/1, to_term/1, atom/1, name/2, view/1, event/1, tuple/1,
@@ -198,34 +198,24 @@ walk(<<?BINARY, Size:32, Bytes:Size/binary, Rest/binary>>, Left, Depth, Done) ->
     walk(Rest, Left - 1, Depth, <<Done/binary, ?BINARY, Size:32, Bytes/binary>>);
 walk(<<?STRING, Size:16, Bytes:Size/binary, Rest/binary>>, Left, Depth, Done) ->
     walk(Rest, Left - 1, Depth, <<Done/binary, ?STRING, Size:16, Bytes/binary>>);
-walk(<<?NEW_PID, Rest0/binary>>, Left, Depth, Done) ->
-    {Node, Rest1} = take_atom(Rest0),
-    case Rest1 of
-        <<Numbers:12/binary, Rest/binary>> ->
-            walk(Rest, Left - 1, Depth, <<Done/binary, ?NEW_PID, Node/binary, Numbers/binary>>);
-        _ -> throw(damaged)
-    end;
-walk(<<?NEWER_REFERENCE, Words:16, Rest0/binary>>, Left, Depth, Done) when Words =< 5 ->
-    {Node, Rest1} = take_atom(Rest0),
-    Size = 4 + 4 * Words,
-    case Rest1 of
-        <<Numbers:Size/binary, Rest/binary>> ->
-            walk(Rest, Left - 1, Depth,
-                 <<Done/binary, ?NEWER_REFERENCE, Words:16, Node/binary, Numbers/binary>>);
-        _ -> throw(damaged)
-    end;
-walk(<<?MAP, Pairs:32, Rest/binary>>, Left, Depth, Done) when Pairs > 1, Depth < ?SORTED_DEPTH ->
-    {Sorted, After} = sorted_pairs(Pairs, Rest, Depth + 1),
-    walk(After, Left - 1, Depth, <<Done/binary, ?MAP, Pairs:32, Sorted/binary>>);
-walk(<<?MAP, Pairs:32, Rest/binary>>, Left, Depth, Done) ->
-    walk(Rest, Left - 1 + 2 * Pairs, Depth, <<Done/binary, ?MAP, Pairs:32>>);
 walk(<<?SMALL_BIG, Size, Bytes:(Size + 1)/binary, Rest/binary>>, Left, Depth, Done) ->
     walk(Rest, Left - 1, Depth, <<Done/binary, ?SMALL_BIG, Size, Bytes/binary>>);
-walk(<<?LARGE_TUPLE, Arity:32, Rest/binary>>, Left, Depth, Done) ->
-    walk(Rest, Left - 1 + Arity, Depth, <<Done/binary, ?LARGE_TUPLE, Arity:32>>);
 walk(<<?NEW_FLOAT, Bytes:8/binary, Rest/binary>>, Left, Depth, Done) ->
     walk(Rest, Left - 1, Depth, <<Done/binary, ?NEW_FLOAT, Bytes/binary>>);
-walk(<<?NEW_FUN, _Size:32, Fixed:21/binary, Free:32, Rest0/binary>>, Left, Depth, Done) ->
+walk(<<Bytes/binary>>, Left, Depth, Done) ->
+    walk_other(Bytes, Left, Depth, Done).
+
+%% The same where the first term is a map, a large tuple, a fun, or one that has its node's name in it.
+walk_other(<<?MAP, Pairs:32, Rest/binary>>, Left, Depth, Done) when Pairs > 1, Depth < ?SORTED_DEPTH ->
+    {Sorted, After} = sorted_pairs(Pairs, Rest, Depth + 1),
+    walk(After, Left - 1, Depth, <<Done/binary, ?MAP, Pairs:32, Sorted/binary>>);
+walk_other(<<?MAP, Pairs:32, Rest/binary>>, Left, Depth, Done) ->
+    walk(Rest, Left - 1 + 2 * Pairs, Depth, <<Done/binary, ?MAP, Pairs:32>>);
+walk_other(<<?LARGE_TUPLE, Arity:32, Rest/binary>>, Left, Depth, Done) ->
+    walk(Rest, Left - 1 + Arity, Depth, <<Done/binary, ?LARGE_TUPLE, Arity:32>>);
+walk_other(<<?EXPORT, Rest/binary>>, Left, Depth, Done) ->
+    walk(Rest, Left + 2, Depth, <<Done/binary, ?EXPORT>>);
+walk_other(<<?NEW_FUN, _Size:32, Fixed:21/binary, Free:32, Rest0/binary>>, Left, Depth, Done) ->
     {Module, Rest1} = take_atom(Rest0),
     {Index, Rest2} = take_integer(Rest1),
     {Unique, Rest3} = take_integer(Rest2),
@@ -233,11 +223,17 @@ walk(<<?NEW_FUN, _Size:32, Fixed:21/binary, Free:32, Rest0/binary>>, Left, Depth
     walk(Rest, Left - 1 + Free, Depth,
          <<Done/binary, ?NEW_FUN, ?NO_SIZE:32, Fixed/binary, Free:32, Module/binary, Index/binary, Unique/binary,
            ?NO_PROCESS>>);
-walk(<<?EXPORT, Rest/binary>>, Left, Depth, Done) ->
-    walk(Rest, Left + 2, Depth, <<Done/binary, ?EXPORT>>);
-walk(<<Bytes/binary>>, Left, Depth, Done) ->
-    {Term, Rest} = seldom(Bytes),
+walk_other(<<Bytes/binary>>, Left, Depth, Done) ->
+    {Term, Rest} = without_parts(Bytes),
     walk(Rest, Left - 1, Depth, <<Done/binary, Term/binary>>).
+
+without_parts(<<?NEW_PID, Rest/binary>>) ->
+    with_node(Rest, 12, fun(Node, Numbers) -> <<?NEW_PID, Node/binary, Numbers/binary>> end);
+without_parts(<<?NEWER_REFERENCE, Words:16, Rest/binary>>) when Words =< 5 ->
+    with_node(Rest, 4 + 4 * Words,
+              fun(Node, Numbers) -> <<?NEWER_REFERENCE, Words:16, Node/binary, Numbers/binary>> end);
+without_parts(Bytes) ->
+    seldom(Bytes).
 
 %% What is seldom written, and what only older releases write.
 seldom(<<?V4_PORT, Rest0/binary>>) ->
