@@ -13,6 +13,7 @@ from pages.sources import TOP, files, read
 from pages.text import spans, tables, value
 
 FORMATS, AUDIT, README, ERLANG = "docs/FORMATS.md", "docs/AUDIT.md", "README.md", "docs/ERLANG.md"
+REFERENCE = "docs/ERLANG-REFERENCE.md"
 MACHINE, CONTRIBUTING = "docs/MACHINE.md", "docs/CONTRIBUTING.md"
 
 
@@ -63,12 +64,12 @@ NUMBERS = [
     (ERLANG, r"more processes than `seqaudit` takes, which is ([\d,]+)", min(sources.limits()["processes"])),
     (MACHINE, r"The defaults are label (\d+)",
      int(re.search(r"^default_token p = record \{\s*label = record \{ 0 = (\d+)", sources.ALL_SPECS, re.M)[1])),
-    (ERLANG, r"It takes up to ([\d,]+) rows", constant("erlang/src/seqaudit_draw.erl", "MOST_ROWS")),
-    (ERLANG, r"Mermaid, up to ([\d,]+) events", constant("erlang/src/seqaudit_export.erl", "MERMAID_ROWS")),
-    (ERLANG, r"together have more than ([\d,]+) characters", constant("erlang/src/seqaudit_page.erl", "CHARACTERS")),
-    (ERLANG, r"a node with more than ([\d,]+) processes", constant(COLLECTOR, "PROCESSES")),
-    (ERLANG, r"`NAME.terms` has their first ([\d,]+) characters", constant("erlang/src/seqaudit_terms.erl", "CHARACTERS")),
-    (ERLANG, r"those more than ([\d,]+) maps deep", constant("erlang/src/seqaudit_external.erl", "SORTED_DEPTH")),
+    (REFERENCE, r"It takes up to ([\d,]+) rows", constant("erlang/src/seqaudit_draw.erl", "MOST_ROWS")),
+    (REFERENCE, r"Mermaid, up to ([\d,]+) events", constant("erlang/src/seqaudit_export.erl", "MERMAID_ROWS")),
+    (REFERENCE, r"together have more than ([\d,]+) characters", constant("erlang/src/seqaudit_page.erl", "CHARACTERS")),
+    (REFERENCE, r"a node with more than ([\d,]+) processes", constant(COLLECTOR, "PROCESSES")),
+    (REFERENCE, r"`NAME.terms` has their first ([\d,]+) characters", constant("erlang/src/seqaudit_terms.erl", "CHARACTERS")),
+    (REFERENCE, r"those more than ([\d,]+) maps deep", constant("erlang/src/seqaudit_external.erl", "SORTED_DEPTH")),
     (README, r"A real node reported (\d+) events", read("examples/order.seqtrace").count("{seq_trace,")),
     (README, r"and for (\w+) \(`.ci/clauses` has them", len(runpy.run_path(str(TOP / ".ci/clauses"))["WITHOUT_CLAUSE"])),
     (CONTRIBUTING, r"about (\w+) a crate", round(len(files(EDITS[0])) / len({it.parent for it in files(EDITS[0])}))),

@@ -1,5 +1,5 @@
-%% What docs/ERLANG.md quotes is what the commands print of the traces that it tells how to collect; and what README.md
-%% quotes is what they print of examples/.
+%% What docs/ERLANG.md and docs/ERLANG-REFERENCE.md quote is what the commands print of the traces that the first tells how
+%% to collect; and what README.md quotes is what they print of examples/.
 -module(seqaudit_guide_tests).
 
 -export([guide_test_/0, readme_test_/0]).
@@ -44,8 +44,10 @@ guide(Programs) ->
     _ = file:del_dir_r(Folder),
     ok = file:make_dir(Folder),
     collect(fun(Name) -> filename:join(Folder, Name) end),
-    {ok, Guide} = file:read_file(filename:join([seqaudit_audits:home(), "..", "docs", "ERLANG.md"])),
-    Quoted = quoted(binary:split(Guide, <<"\n">>, [global])),
+    Quoted = lists:append([begin
+                               {ok, Page} = file:read_file(filename:join([seqaudit_audits:home(), "..", "docs", Name])),
+                               quoted(binary:split(Page, <<"\n">>, [global]))
+                           end || Name <- ["ERLANG.md", "ERLANG-REFERENCE.md"]]),
     %% Each of the four traces is audited, and the order is cut.
     [true = lists:any(fun({Command, _}) -> string:find(Command, "seqaudit-node audit " ++ Name) =/= nomatch end, Quoted)
      || Name <- ["order", "second", "flag", "reset", "order --process"]],
