@@ -80,7 +80,7 @@ test: layout layers clauses docs ## the merge gate: all proofs from nothing, the
 wrong-bodies: ## tries all wrong bodies, many in one check (an hour or more, after program)
 	@.ci/wrong-bodies
 
-# The gate asks for the layout of `rt fmt` too, but only after the proofs below a crate.
+# The gate requires the layout of `rt fmt` too, but only after the proofs below a crate.
 layout: ## names the sources that rt fmt would lay out otherwise, and holds page.js to its modules (3 seconds)
 	@.ci/layout
 

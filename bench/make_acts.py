@@ -48,7 +48,7 @@ def numbers(seed):
 
 
 def opening(pids, leaders, labels, flags):
-    """A tracer for each node, which its leader asks for, and a trace for each process."""
+    """A tracer for each node, which its leader sets, and a trace for each process."""
     yield from (f"tracer {pid} true" for pid in leaders)
     for place, pid in enumerate(pids):
         yield f"set {pid} label {place % labels if labels else 17 + place}"

@@ -3,13 +3,13 @@
 
     random_runs.py SEQAUDIT FIRST LAST
 
-Each number from FIRST to LAST makes one run. The model and the program must answer the same to
+Each number from FIRST to LAST makes one run. The model and the program must write the same for
 `check` of its acts, to `check` of the acts after a tampering, and to `audit` and `chart` of its
 streams, if the program has these commands. If every stamp and every receive of a message with
 a token is reported and nothing is reset, the streams must fit; and each fits must pass `check`.
 
 Each number also makes wild streams: those of another run with one to three damages. `audit` and
-`chart` of them must be the model's too. Of 300 numbers or more each of the auditor's answers must
+`chart` of them must be the model's too. Of 300 numbers or more each of the auditor's results must
 have come at least once."""
 
 import random

@@ -179,7 +179,7 @@ def options_of_scripts():
 
 
 def wrong_options(page):
-    """Options that stand alone, without the name of a program."""
+    """Options without the name of a program."""
     ours = set().union(*options_of_all().values()) | {"--version"} | options_of_scripts()
     for said in spans(prose(page.text)):
         option = re.match(r"--\w[\w-]*", said)

@@ -80,7 +80,7 @@ pub struct Act {
     pub deed: Deed,
 }
 
-/// A bundle without its acts: the listed pids, their events, and where these and the acts stand in the text.
+/// A bundle without its acts: the listed pids, their events, and where these and the acts are in the text.
 pub struct Streams {
     pub pids: Pids,
     pub events: Vec<Vec<Event>>,
@@ -110,7 +110,7 @@ impl Pids {
         pids
     }
 
-    /// The slot that has the pid, or the empty one where it would stand.
+    /// The slot that has the pid, or the empty one where it would be.
     fn slot(&self, pid: Pid) -> usize {
         let mut slot = (pid.wrapping_mul(0x9e37_79b1) >> self.shift) as usize;
         while self.table[slot].1 != EMPTY && self.table[slot].0 != pid {

@@ -59,7 +59,7 @@ impl System<'_> {
         self.locks[place].lock().unwrap_or_else(PoisonError::into_inner)
     }
 
-    /// Where the processes of this one's node stand.
+    /// The places of the processes of this one's node.
     fn node_of(&self, actor: usize) -> Range<usize> {
         let node = self.pids[actor] >> 16;
         let first = self.pids.partition_point(|pid| pid >> 16 < node);

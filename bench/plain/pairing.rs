@@ -17,7 +17,7 @@ pub struct Unfit {
     pub other: Option<At>,
 }
 
-/// Where each receive's send stands, by process and index: `HIDDEN` of a receive whose send wasn't reported.
+/// Where each receive's send is, by process and index: `HIDDEN` of a receive whose send wasn't reported.
 pub struct Pairs {
     pub sources: Vec<Vec<At>>,
     /// For each event whether a receive is paired with it.
@@ -56,7 +56,7 @@ fn stamps(events: &[Vec<Event>]) -> Result<Vec<Vec<(u64, u32)>>, Unfit> {
     Ok(all)
 }
 
-/// Where the stamp stands among the counts that rise; near `guess` most times.
+/// The stamp's place among the counts, which rise; near `guess` most times.
 fn find(stamps: &[(u64, u32)], this: u64, guess: &mut usize) -> Option<u32> {
     let next = *guess;
     if stamps.get(next).is_some_and(|stamp| stamp.0 == this) {

@@ -67,7 +67,7 @@ queued("receive", _, Actor, {_, _}, Queued, _) ->
 queued(_, _, _, _, Queued, _) ->
     Queued.
 
-%% The call that a line of a script stands for.
+%% The call that a line of a script means.
 call("send", [To, Value], _, World) -> {send, pid(To, World), list_to_integer(Value)};
 call("receive", ["first"], _, _) -> {'receive', any, any};
 call("receive", ["from", From], _, World) -> {'receive', pid(From, World), any};

@@ -8,7 +8,7 @@ MOST_PROCESSES, MOST_ACTS = 5, 40
 LABELS, VALUES, COUNTS = range(3), range(3), range(10)
 FLAGS = ["send", "receive", "print"]
 TRUTHS = ["true"] * 5 + ["false"]
-#: How often each is drawn. `flags` stands for the three acts that set all flags of a token.
+#: How often each is drawn. `flags` is the three acts that set all flags of a token.
 WEIGHTS = {"send": 12, "receive": 12, "print": 6, "printat": 3, "flags": 8, "set": 3, "clear": 3, "look": 3,
            "restore": 2, "reset": 1, "tracer": 1}
 

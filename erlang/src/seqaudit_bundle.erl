@@ -1,7 +1,7 @@
 %% @doc The streams of a bundle: what each process reported, event by event.
 %%
 %% An event keeps its number in the trace as it was converted (`at'), whatever is cut off it later,
-%% so that its name, `shop#24', is the same in every answer. An event that nobody reported, which
+%% so that its name, `shop#24', is the same in every result. An event that nobody reported, which
 %% `seqtool complete' adds, is named after the one that it comes before: `shop#24~1'.
 -module(seqaudit_bundle).
 

@@ -73,7 +73,7 @@ mark_invented(Rows) ->
 paired(Streams) ->
     {Sends, Receives} = {by_message(send, Streams), by_message('receive', Streams)},
     Pairs = maps:fold(fun(Key, Received, Pairs) -> pairs(Received, maps:get(Key, Sends, []), Pairs) end, #{}, Receives),
-    %% An alias or a name that isn't resolved stands for its receiver, and has no events.
+    %% An alias or a name that isn't resolved is taken for its receiver, and has no events.
     Reporting = maps:from_keys([Pid || {Pid, [_ | _]} <- Streams], reporting),
     ToAnybody = maps:fold(fun({_, To, _, _, _, _} = Key, Ids, Known) ->
                                   case Reporting of
@@ -242,7 +242,7 @@ origin({How, Id}, _Stamp, _Event, _Row) when How =/= unreported -> Id;
 origin(Cause, _Stamp, #{label := Label, prev := Prev}, {Label, Prev, _, Cause, Origin}) -> Origin;
 origin(_Cause, Stamp, _Event, _Row) -> Stamp.
 
-%% Of the tokens with one label, prev and origin the first stands for all.
+%% Of the tokens with one label, prev and origin the first is kept for all.
 had_token(#{label := Label, prev := Prev, this := This}, Origin, #{tokens := Tokens, prevs := Prevs} = Known) ->
     Key = {Label, Prev},
     case Tokens of

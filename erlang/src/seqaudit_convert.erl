@@ -6,7 +6,7 @@
 %% <dt>`NAME.messages'</dt><dd>the whole texts of the messages that are cut there, if any are
 %% ({@link seqaudit_messages})</dd>
 %% <dt>`NAME.notes'</dt><dd>what was decided, dropped or can't be represented, a line each</dd>
-%% <dt>`NAME.facts'</dt><dd>the same with the kind of each, from which the answers are computed
+%% <dt>`NAME.facts'</dt><dd>the same with the kind of each, from which the results are computed
 %% ({@link seqaudit_notes})</dd>
 %% <dt>`NAME.times'</dt><dd>when each event happened, if the events say it
 %% ({@link seqaudit_times})</dd>

@@ -1,7 +1,7 @@
 %% @doc Whether a run has some streams, as the two programs say.
 %%
 %% The counters of a node go on from trace to trace, so the counts are first replaced by their ranks
-%% (`seqtool renumber'): that changes no answer, and no count is too high any more. A `seqtool' that
+%% (`seqtool renumber'): that changes no result, and no count is too high any more. A `seqtool' that
 %% doesn't know that command leaves them as they are. What `seqaudit audit' doesn't explain, `seqtool
 %% complete' completes, or says that no run without a reset has it. What is past
 %% the limits of `seqaudit' goes to `seqtool audit', whose limits are greater; what is past those of `seqtool

@@ -32,7 +32,7 @@
 -define(REMOTE_MS, 15_000).
 %% A node that is out of reach is tried again in these steps.
 -define(REACH_MS, 500).
-%% A collector that has answered is gone within this time, and one that is gone is known to be.
+%% A collector that has replied is gone within this time, and one that is gone is known to be.
 -define(END_MS, 5_000).
 %% Pieces of files that are fetched from another node.
 -define(PIECE, 1_048_576).
@@ -423,7 +423,7 @@ stopped(#state{nodes = Nodes0} = State) ->
     State#state{nodes = [stopped_node(Node, lists:keyfind(Node#node.node, 1, Ends)) || Node <- Nodes]}.
 
 stopped_node(Node, {_, ok}) ->
-    %% It has answered and goes now; once it has gone, the next one can start.
+    %% It has replied and goes now; once it has gone, the next one can start.
     _ = end_of(Node),
     Node#node{is = {gone, normal}};
 stopped_node(Node, {_, {error, noproc}}) -> Node#node{is = {gone, end_of(Node)}};

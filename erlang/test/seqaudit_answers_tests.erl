@@ -150,7 +150,7 @@ lost_node_test_() ->
      end, [["audit"], ["chart", "--label", "ask"]])
      || {Case, SharedDisk} <- [{"lost_node", true}, {"lost_disk", false}]].
 
-%% The customer is answered once. Then the node goes, and nobody gets the second question.
+%% The customer gets one reply. Then the node goes, and nobody gets the second question.
 lost_node(There, Name, SharedDisk) ->
     {_, Binary, File} = code:get_object_code(?MODULE),
     {module, _} = erpc:call(There, code, load_binary, [?MODULE, File, Binary]),
@@ -203,7 +203,7 @@ cut_test_() ->
           ["audit", "--process", "nobody"], ["why", "--event", "ann#9"], ["why", "--event", "post#3"],
           ["why", "--event", "shop#8", "--effects"]]).
 
-%% A trace beyond the reader's limits is answered for a label of it, and its drawings are in parts or
+%% A trace beyond the reader's limits is audited for a label of it, and its drawings are in parts or
 %% refused, with a way out.
 files_test_() ->
     {timeout, 180, fun() ->
@@ -231,7 +231,7 @@ files(Name) ->
         ["cut: 4 of 1,201 events; the cut leaves nothing open\nfits: 4 events of 4 processes"]),
     has(command(["chart", "--label", "l7"], Name, Tool),
         ["cut: 2 of 1,201 events", "fits: 2 events of 2 processes", "<0.607.0>#0"]),
-    %% One corner is damaged: an event that follows itself. The rest is answered.
+    %% One corner is damaged: an event that follows itself. The rest is audited.
     ok = file:write_file(Name ++ ".seqtrace", ["seqtrace 1\nprocess <0.100.0>\n", Print(7, 1, 100),
                                                "process <0.101.0>\n{seq_trace,8,{print,{5,5},<0.101.0>,[],0}}\n"]),
     has(command(["audit"], Name, Tool),

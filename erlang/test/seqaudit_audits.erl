@@ -32,7 +32,7 @@ home(Folder) ->
 tests() ->
     filename:join(filename:dirname(home()), "tests").
 
-%% The auditor says that the bundle fits, and the checker confirms its answer.
+%% The auditor says that the bundle fits, and the checker confirms its acts.
 fits(Name) ->
     case audit(Name) of
         {0, Answer} -> confirmed(Name, Answer);

@@ -1,4 +1,4 @@
-%% Answers and charts with names and terms in the place of numbers.
+%% Results and charts with names and terms in the place of numbers.
 -module(seqaudit_explain_tests).
 
 -export([whole_test/0, acts_test/0, reported_acts_test_/0, fits_test/0, many_test/0, unreceived_test/0,
@@ -273,7 +273,7 @@ faults_test() ->
          "or cut it"]),
     has(said((outcome(fault, []))#{fault => <<"fault line 3">>}), ["not audited: this isn't a bundle"]).
 
-%% Notes that tell of losses are in the answer.
+%% Notes that tell of losses are in the result.
 losses_test() ->
     Facts = [{by_request, "4 sends to an alias: the request that handed it out says whose it is"},
              {lost, "a@h: its collector went down (noconnection), and all of its events are lost"},

@@ -123,7 +123,7 @@ same(Command, Quoted, Folder, Programs) ->
     Lines = binary:split(normal(seqaudit_test_shell:as_proved(Said)), <<"\n">>, [global, trim]),
     {Command, ok} = {Command, compared([normal(Line) || Line <- Quoted], Lines)}.
 
-%% Two dots stand for what isn't quoted: the rest of a line, or lines.
+%% Two dots replace what isn't quoted: the rest of a line, or lines.
 compared([], _Said) ->
     ok;
 compared([Dots | Quoted], Said) when Dots =:= <<"..">>; Dots =:= <<" ..">> ->

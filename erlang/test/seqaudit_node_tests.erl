@@ -248,7 +248,7 @@ printing() -> seq_trace:print(seen).
 command(Words) ->
     command(Words, false).
 
-%% Its status and what it wrote, errors too; `Program' stands for seqaudit.
+%% Its status and what it wrote, errors too; `Program' is run as seqaudit.
 command(Words, Program) ->
     {Status, Said} = seqaudit_test_shell:run([seqaudit_test_shell:node_command(), $\s, Words],
                                              [{"SEQAUDIT", Program}, {"SEQTOOL", "/no/such/seqtool"}]),

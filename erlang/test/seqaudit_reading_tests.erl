@@ -198,7 +198,7 @@ log_lines_test() ->
                              "=INFO REPORT==== 23-Nov-2026::10:00:00 ===\n",
                              "10:00:00.000 [debug] {seq_trace,1,\n   {print,{3,4},<0.80.0>,\n     [],x}} trailing\n"]),
     {ok, [{_, [_, _, _, {seq_trace, 1, {print, {3, 4}, _, [], x}}]}]} = seqaudit_text:read(Text),
-    %% Without any event the first line that isn't understood is the answer.
+    %% Without any event the first line that isn't understood is named.
     {error, {1, "this isn't an Erlang term" ++ _}} = seqaudit_text:read(<<"2026-11-23 info: started\nok\n">>),
     {error, {2, _}} = seqaudit_text:read(<<"ok\n2026-11-23 info: {seq_trace,1,\n">>).
 

@@ -59,7 +59,7 @@ with_all(Label) ->
     [seq_trace:set_token(Flag, true) || Flag <- ?ALL],
     ok.
 
-%% A client makes 20 calls, each under a label of its own: the last one's chain is its own, in each answer.
+%% A client makes 20 calls, each under a label of its own: the last one's chain is its own, in each result.
 calls_under_labels_test_() ->
     traced("calls_under_labels", fun() ->
         with_client(served, fun(Request) -> {done, Request} end, fun(Server) ->
@@ -524,7 +524,7 @@ forged_loss_test_() ->
         said_whole(Name)
     end}.
 
-%% A process that the trace doesn't list has no name, and is said to be one, in each answer.
+%% A process that the trace doesn't list has no name, and is said to be one, in each result.
 unlisted_test_() ->
     {timeout, 60, fun() ->
         case seqaudit_answers_tests:auditor() of

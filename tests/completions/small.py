@@ -7,7 +7,7 @@ Of up to three processes and six events, some of a run and most of any kind. A c
 finds a run, of the listed processes and up to three silent ones. What is added is judged by the text and from the
 beginning: the given events stay, nothing is missing in all events, nothing is added for nothing, and unlisted processes
 weren't listed. Then the lines have to be those of the slow model of tests/models: the same completion, or the same reason
-at the same place. The table says how often each answer came; the exit status is 1 if one was wrong."""
+at the same place. The table says how often each result came; the exit status is 1 if one was wrong."""
 
 import random
 import subprocess
@@ -25,8 +25,8 @@ import slow_seqtool  # noqa: E402  (search says where it is)
 
 PIDS = [(0, 30), (0, 31), (0, 32)]
 MOST_EVENTS = 6
-SHOWN = 3  # Wrong answers that are shown.
-ENOUGH = 1_000  # Of so many streams each answer has to come once.
+SHOWN = 3  # Wrong results that are shown.
+ENOUGH = 1_000  # Of so many streams each result has to come once.
 REASONS = {"prevnotbefore", "notrising", "repeated", "mismatch", "late", "unfounded"}
 
 

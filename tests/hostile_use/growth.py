@@ -36,7 +36,7 @@ def words(text):
     return tuple(tuple(line.split()) for line in text.strip().split("\n"))
 
 
-# LAST, FIRST, TEXT and the names of SECOND stand for what is of the text: an event, a line, a file.
+# LAST, FIRST, TEXT and the names of SECOND are replaced by what is of the text: an event, a line, a file.
 OF_STREAMS = words(f"""
 seqaudit audit
 seqaudit chart --label {LABEL}

@@ -75,7 +75,7 @@ int pthread_create(pthread_t *made, const pthread_attr_t *how, void *(*body)(voi
     return refused() || refuses(thread, &threads) ? EAGAIN : real(made, how, body, given);
 }
 
-/* How much of a piece passes: up to the place of a fault, which comes once it stands at the front (-1, or 0 bytes). */
+/* How much of a piece passes: up to the place of a fault, which comes once it is at the front (-1, or 0 bytes). */
 static ssize_t passes(size_t size, long so_far, long *place) {
     if (pieces && size > 1) size = 1;
     if (*place < 0 || size == 0 || so_far + (long)size <= *place) return size;

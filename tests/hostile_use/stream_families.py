@@ -180,7 +180,7 @@ def undecided(processes, events=None):
 
 
 def stretched(events):
-    """A process reports receives and no sends, half of which another receives; and one message more asks for a count that
+    """A process reports receives and no sends, half of which another receives; and one message more needs a count that
     every process has stamped and nobody sent to it."""
     third = events // 3
     asked = third + 1 + third // 2

@@ -281,7 +281,7 @@ def with_senders(whole):
 
 def with_invented(pid, items, receives):
     """A sender's items with the sends of these receives, which come by rising count: each before the first event that
-    reaches its count. It goes on from what is left, or begins the next event's trace. The receives get its serial."""
+    reaches its count. It continues with what is left, or begins the next event's trace. The receives get its serial."""
     found, left, waiting = [], START, receives[:]
     for item in [*items, None]:
         while waiting and (item is None or waiting[0].event.this <= item.event.this):

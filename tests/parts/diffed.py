@@ -355,7 +355,7 @@ LOOPS = 20_000
 
 
 def loops(extra):
-    """A process that answers a message again and again, with more to do each time."""
+    """A process that replies to a message again and again, with more to do each time."""
     lines = []
     for n in range(LOOPS):
         count = 10 * n

@@ -35,7 +35,7 @@ def heading(name, is_json, is_first):
 
 
 def joined(program, words, paths, given=b""):
-    """What the command owes of these files: each one's answer below its name."""
+    """What the command owes of these files: each one's output below its name."""
     output, complaint, status = b"", b"", 0
     for path in paths:
         got = program.run((*words, path), given if path == "-" else b"")

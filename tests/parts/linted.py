@@ -42,7 +42,7 @@ def received(quoted):
     return HEAD + RECEIVE.replace("'receive'", quoted) + f"\n{TWO}"
 
 
-# What is wrong, the text, the line and the column of the mistake, what could stand there, and the remedy.
+# What is wrong, the text, the line and the column of the mistake, what is allowed there, and the remedy.
 BY_HAND = (
     ("a comment", "seqtrace 1\n% my trace\nprocess <0.30.0>\n", 2, 1, BELOW_THE_HEADER,
      "a bundle has no comments: leave the line out"),
@@ -163,7 +163,7 @@ MISTAKES = BY_HAND + tuple(it[:-1] for it in BY_FIX)
 
 FOO = PRINT.replace("17", "foo")
 ALIEN = "{seq_trace,17,{print,{0,2},<0.31.0>,[],7}}"
-# Texts with several mistakes: of each the line, the column, what could stand there and the remedy; and how many are mended.
+# Texts with several mistakes: of each the line, the column, what is allowed there and the remedy; and how many are mended.
 SEVERAL = (
     ("each of three lines", f"{HEAD}{FOO}\n{PRINT} \n{FOO}\n",
      ((3, 12, "a label up to 4294967295", LABELS), (4, 43, END, "a blank ends the line: leave it out"),

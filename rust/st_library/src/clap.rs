@@ -220,7 +220,7 @@ impl<'a> Command<'a> {
         Ok(Error { inner: Some(self.inner.error(kind, text)) })
     }
 
-    /// What the words ask for, the program's name first. As theirs.
+    /// The command that the words name, the program's name first. As theirs.
     pub fn try_get_matches_from<S: AsStr>(self, words: &'a [S]) -> Result<ArgMatches<'a>, Error> {
         match self.inner.try_get_matches_from(words.iter().map(|word| word.as_str().to_string())) {
             Ok(matches) => Ok(ArgMatches::of(matches)),

@@ -5,7 +5,7 @@ use std::collections::{binary_heap, btree_map, btree_set};
 use std::hash::Hash;
 use std::ops::RangeBounds;
 
-/// The calls of a map that ask for no memory. As theirs.
+/// The calls of a map that allocate no memory. As theirs.
 macro_rules! calls_without_memory {
     () => {
         pub fn get(&self, key: &K) -> Option<&V> {

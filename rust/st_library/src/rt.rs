@@ -29,7 +29,7 @@ impl HostRuntime {
     }
 }
 
-/// The right to ask for memory.
+/// The right to allocate memory.
 pub trait AllocGlobal {
     /// The allocator.
     fn alloc(&self) -> Global {
