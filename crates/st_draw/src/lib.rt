@@ -12,6 +12,7 @@ mod marked;
 mod mermaid;
 mod overtaken;
 mod scene;
+mod size;
 mod table;
 mod words;
 

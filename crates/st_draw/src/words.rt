@@ -50,6 +50,11 @@ pub(crate) fn send_words<W: ByteSink>(writer: &mut W, words: &[u8]) -> Result<()
     flush(writer, &mut buffer)
 }
 
+/// Sends that the tables would be too long.
+pub(crate) fn send_long<W: ByteSink>(writer: &mut W) -> Result<(), Device> {
+    send_words(writer, b"long chart\n")
+}
+
 /// Sends that nothing has the label, or that there are no events at all.
 pub(crate) fn send_nothing<W: ByteSink>(
     writer: &mut W,

@@ -17,6 +17,7 @@ mod measured;
 mod otlp;
 mod perfetto;
 mod shiviz;
+mod size;
 mod times;
 
 pub use audit::run_audit_json;

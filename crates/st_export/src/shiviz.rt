@@ -3,13 +3,17 @@
 
 use crate::clock::{Clock, Clocks};
 use crate::json::{kind_word, say_pid_word};
-use st_commands::{status_of, tell_fault};
+use crate::size::is_long;
+use st_commands::status_of;
 use st_core::{ByteSink, Event, Kind, Pid, Streams};
 use st_order::Item;
 use st_pair::Pairing;
 use st_say::{say, say_number, say_pid, say_serial};
-use st_text::{Buffer, Device, ReadFault, flush};
+use st_text::{Buffer, Device, flush};
 use std::alloc::{AllocError, Global};
+
+/// The status of a log that would be too long.
+const LONG: u8 = 5;
 
 /// Why a log breaks off.
 #[derive(Clone, Copy, Debug)]
@@ -133,8 +137,16 @@ fn note_memory<N: ByteSink>(notes: &mut N) {
     let _ = flush(notes, &mut buffer);
 }
 
-/// Writes paired streams, whose items these are in their order, and returns the status. If memory
-/// runs out in the midst, the lines break off, and the notes say why.
+/// Sends that the log would be too long.
+fn send_long<W: ByteSink>(writer: &mut W) -> Result<(), Device> {
+    let mut buffer = Buffer::new();
+    say(writer, &mut buffer, b"long clocks\n")?;
+    flush(writer, &mut buffer)
+}
+
+/// Writes paired streams, whose items these are in their order, and returns the status; or that their
+/// log would be too long, with status 5. If memory runs out in the midst, the lines break off, and the
+/// notes say why.
 pub(crate) fn tell_shiviz<W: ByteSink, N: ByteSink>(
     alloc: Global,
     streams: &Streams,
@@ -143,6 +155,9 @@ pub(crate) fn tell_shiviz<W: ByteSink, N: ByteSink>(
     writer: &mut W,
     notes: &mut N,
 ) -> Result<u8, AllocError> {
+    if is_long(alloc, streams, pairing, items)? {
+        return Ok(status_of(send_long(writer), LONG));
+    }
     let mut clocks = Clocks::new(alloc, streams)?;
     let mut buffer = Buffer::new();
     match write_log(writer, &mut buffer, streams, pairing, &mut clocks, items) {
