@@ -235,8 +235,9 @@ def fields():
 def own_fields():
     """The fields of the JSON whose form is our own, that of `--json`, and not that of another program that reads it."""
     defined = "\n".join(text for path, text in SOURCE.items() if path.name == "Json.antt")
-    texts = "\n".join(text for text in SOURCE.values() if "Style::Json" in text)
-    called = re.findall(r'say_\w*field\(\s*\w+,\s*&?\w* ?\w+,\s*"(\w+)"', texts)
+    texts = "\n".join(text for text in SOURCE.values() if "Style::Json" in text or "fn say_event_fields" in text)
+    called = re.findall(r'say_\w*field\(\s*"(\w+)"', texts)
+    called += [name for block in re.findall(r"say_fields\(&\[(.*?)\]\)", texts, re.S) for name in re.findall(r'\("(\w+)",', block)]
     return learned("fields of JSON", {*called, *re.findall(r'\\"(\w+)\\":', defined)})
 
 

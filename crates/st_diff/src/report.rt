@@ -11,7 +11,8 @@ use crate::words::{
 };
 use st_core::ByteSink;
 use st_events::Style;
-use st_text::{Buffer, Device, flush};
+use st_say::TextWriter;
+use st_text::Device;
 
 /// Two traces with what differs in them.
 #[derive(Drop)]
@@ -100,8 +101,7 @@ impl<'a> Report<'a> {
     /// Writes a change of the first trace.
     fn say_first<W: ByteSink>(
         &self,
-        writer: &mut W,
-        buffer: &mut Buffer,
+        out: &mut TextWriter<'_, W>,
         change: &Change,
     ) -> Result<(), Device> {
         let Some(row) = self.first.row(change.process, change.index) else {
@@ -109,23 +109,22 @@ impl<'a> Report<'a> {
         };
         let other = change.elsewhere.and_then(|at| self.changes.second.get(at));
         match other.and_then(|other| self.second.row(other.process, other.index)) {
-            Some(now) => say_change(writer, buffer, "elsewhere", &row, Some(&now), self.style),
-            None => say_change(writer, buffer, "gone", &row, None, self.style),
+            Some(now) => say_change(out, "elsewhere", &row, Some(&now), self.style),
+            None => say_change(out, "gone", &row, None, self.style),
         }
     }
 
     /// Writes a change of the second trace, unless it is told with one of the first.
     fn say_second<W: ByteSink>(
         &self,
-        writer: &mut W,
-        buffer: &mut Buffer,
+        out: &mut TextWriter<'_, W>,
         change: &Change,
     ) -> Result<(), Device> {
         if change.elsewhere.is_some() {
             return Ok(());
         }
         match self.second.row(change.process, change.index) {
-            Some(row) => say_change(writer, buffer, "new", &row, None, self.style),
+            Some(row) => say_change(out, "new", &row, None, self.style),
             None => Ok(()),
         }
     }
@@ -133,8 +132,7 @@ impl<'a> Report<'a> {
     /// Writes the changes of two processes, in the order of both.
     fn say_changes<W: ByteSink>(
         &self,
-        writer: &mut W,
-        buffer: &mut Buffer,
+        out: &mut TextWriter<'_, W>,
         gone: &[Change],
         new: &[Change],
     ) -> Result<(), Device> {
@@ -143,87 +141,80 @@ impl<'a> Report<'a> {
             let is_before = |other: &Change| -> bool { other.before < change.before };
             let until = new.partition_point(is_before);
             for other in new.get(next..until).unwrap_or(&[]) {
-                self.say_second(writer, buffer, other)?;
+                self.say_second(out, other)?;
             }
             next = next.max(until);
-            self.say_first(writer, buffer, change)?;
+            self.say_first(out, change)?;
         }
         for other in new.get(next..).unwrap_or(&[]) {
-            self.say_second(writer, buffer, other)?;
+            self.say_second(out, other)?;
         }
         Ok(())
     }
 
     /// Writes what differs in two processes that are matched.
-    fn say_pair<W: ByteSink>(
-        &self,
-        writer: &mut W,
-        buffer: &mut Buffer,
-        pair: Pair,
-    ) -> Result<(), Device> {
+    fn say_pair<W: ByteSink>(&self, out: &mut TextWriter<'_, W>, pair: Pair) -> Result<(), Device> {
         if self.style == Style::Text && self.has_changes(pair) {
             if let Some(found) = self.found(pair) {
-                say_match(writer, buffer, &found)?;
+                say_match(out, &found)?;
             }
         }
         let gone = of_process(self.changes.first.as_slice(), pair.first);
         let new = of_process(self.changes.second.as_slice(), pair.second);
-        self.say_changes(writer, buffer, gone, new)
+        self.say_changes(out, gone, new)
     }
 
     /// Writes what differs in a process of the first trace.
     fn say_process<W: ByteSink>(
         &self,
-        writer: &mut W,
-        buffer: &mut Buffer,
+        out: &mut TextWriter<'_, W>,
         place: usize,
     ) -> Result<(), Device> {
         if let Some(pair) = self.pairs.of(Which::First, place) {
-            return self.say_pair(writer, buffer, pair);
+            return self.say_pair(out, pair);
         }
         if let Some(pid) = self.first.pid(place) {
-            say_alone(writer, buffer, "gone", pid, self.style)?;
+            say_alone(out, "gone", pid, self.style)?;
         }
         let gone = of_process(self.changes.first.as_slice(), place);
-        self.say_changes(writer, buffer, gone, &[])
+        self.say_changes(out, gone, &[])
     }
 
     /// Writes a process of the second trace that is matched with none.
     fn say_new_process<W: ByteSink>(
         &self,
-        writer: &mut W,
-        buffer: &mut Buffer,
+        out: &mut TextWriter<'_, W>,
         place: usize,
     ) -> Result<(), Device> {
         if let Some(pid) = self.second.pid(place) {
-            say_alone(writer, buffer, "new", pid, self.style)?;
+            say_alone(out, "new", pid, self.style)?;
         }
         let new = of_process(self.changes.second.as_slice(), place);
-        self.say_changes(writer, buffer, &[], new)
+        self.say_changes(out, &[], new)
     }
 
     /// Writes an object for each two processes that are matched, by rising pid of the first.
-    fn say_matches<W: ByteSink>(&self, writer: &mut W, buffer: &mut Buffer) -> Result<(), Device> {
+    fn say_matches<W: ByteSink>(&self, out: &mut TextWriter<'_, W>) -> Result<(), Device> {
         if self.style == Style::Text {
             return Ok(());
         }
         for place in 0..self.first.len() {
             let pair = self.pairs.of(Which::First, place);
             if let Some(found) = pair.and_then(|pair| self.found(pair)) {
-                say_match_object(writer, buffer, &found)?;
+                say_match_object(out, &found)?;
             }
         }
         Ok(())
     }
 
     /// Writes all that differs.
-    fn say_all<W: ByteSink>(&self, writer: &mut W, buffer: &mut Buffer) -> Result<(), Device> {
+    fn say_all<W: ByteSink>(&self, out: &mut TextWriter<'_, W>) -> Result<(), Device> {
         for place in 0..self.first.len() {
-            self.say_process(writer, buffer, place)?;
+            self.say_process(out, place)?;
         }
         for place in 0..self.second.len() {
             if self.pairs.is_free(Which::Second, place) {
-                self.say_new_process(writer, buffer, place)?;
+                self.say_new_process(out, place)?;
             }
         }
         Ok(())
@@ -233,14 +224,13 @@ impl<'a> Report<'a> {
     /// that.
     fn say_moved<W: ByteSink>(
         &self,
-        writer: &mut W,
-        buffer: &mut Buffer,
+        out: &mut TextWriter<'_, W>,
         moved: Moved,
     ) -> Result<(), Device> {
         let row = self.first.row(moved.pair.first, moved.index);
         let now = self.second.row(moved.pair.second, moved.index);
         match row {
-            Some(row) => say_change(writer, buffer, "counts", &row, now.as_ref(), self.style),
+            Some(row) => say_change(out, "counts", &row, now.as_ref(), self.style),
             None => Ok(()),
         }
     }
@@ -252,19 +242,19 @@ impl<'a> Report<'a> {
         sums: &Sums,
         moved: Option<Moved>,
     ) -> Result<u8, Device> {
-        let mut buffer = Buffer::new();
+        let mut out = TextWriter::new(writer);
         let is_same = sums.are_none() && moved.is_none();
         if is_same {
-            say_same(writer, &mut buffer, self.style)?;
+            say_same(&mut out, self.style)?;
         } else {
-            say_sums(writer, &mut buffer, sums, self.style)?;
+            say_sums(&mut out, sums, self.style)?;
         }
-        self.say_matches(writer, &mut buffer)?;
-        self.say_all(writer, &mut buffer)?;
+        self.say_matches(&mut out)?;
+        self.say_all(&mut out)?;
         if let Some(moved) = moved {
-            self.say_moved(writer, &mut buffer, moved)?;
+            self.say_moved(&mut out, moved)?;
         }
-        flush(writer, &mut buffer)?;
+        out.flush()?;
         Ok(if is_same { 0 } else { 1 })
     }
 }

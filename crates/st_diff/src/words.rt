@@ -2,10 +2,10 @@
 
 use crate::pairs::Ground;
 use st_core::{ByteSink, Pid};
-use st_events::{Style, say_field, say_other, say_pid_field, say_row, say_row_fields};
+use st_events::{Style, say_row, say_row_fields};
 use st_list::Row;
-use st_say::{say, say_number, say_pid, say_serial};
-use st_text::{Buffer, Device};
+use st_say::TextWriter;
+use st_text::Device;
 
 /// How many of each there are.
 #[derive(Clone, Copy, Debug, Default)]
@@ -55,52 +55,43 @@ fn ground_word(ground: Ground) -> &'static str {
     }
 }
 
-/// Writes words and a number.
-fn say_sum<W: ByteSink>(
-    writer: &mut W,
-    buffer: &mut Buffer,
-    words: &str,
-    number: u64,
-) -> Result<(), Device> {
-    say(writer, buffer, words.as_bytes())?;
-    say_number(writer, buffer, number)
-}
-
 /// Writes the first line: how much is different.
 pub(crate) fn say_sums<W: ByteSink>(
-    writer: &mut W,
-    buffer: &mut Buffer,
+    out: &mut TextWriter<'_, W>,
     sums: &Sums,
     style: Style,
 ) -> Result<(), Device> {
     if style == Style::Json {
-        say(writer, buffer, b"{\"result\":\"different\"")?;
-        say_field(writer, buffer, "gone", sums.gone)?;
-        say_field(writer, buffer, "new", sums.new)?;
-        say_field(writer, buffer, "elsewhere", sums.elsewhere)?;
-        say_field(writer, buffer, "gone_processes", sums.gone_processes)?;
-        say_field(writer, buffer, "new_processes", sums.new_processes)?;
-        say_field(writer, buffer, "guesses", sums.guesses)?;
-        return say(writer, buffer, b"}\n");
+        out.say("{\"result\":\"different\"")?;
+        out.say_fields(&[
+            ("gone", sums.gone),
+            ("new", sums.new),
+            ("elsewhere", sums.elsewhere),
+            ("gone_processes", sums.gone_processes),
+            ("new_processes", sums.new_processes),
+            ("guesses", sums.guesses),
+        ])?;
+        return out.say("}\n");
     }
-    say_sum(writer, buffer, "different: events gone ", sums.gone)?;
-    say_sum(writer, buffer, ", new ", sums.new)?;
-    say_sum(writer, buffer, ", elsewhere ", sums.elsewhere)?;
-    say_sum(writer, buffer, "; processes gone ", sums.gone_processes)?;
-    say_sum(writer, buffer, ", new ", sums.new_processes)?;
-    say_sum(writer, buffer, ", matched by a guess ", sums.guesses)?;
-    say(writer, buffer, b"\n")
+    out.say_parts(&[
+        ("different: events gone ", sums.gone),
+        (", new ", sums.new),
+        (", elsewhere ", sums.elsewhere),
+        ("; processes gone ", sums.gone_processes),
+        (", new ", sums.new_processes),
+        (", matched by a guess ", sums.guesses),
+    ])?;
+    out.say("\n")
 }
 
 /// Writes that two traces are the same.
 pub(crate) fn say_same<W: ByteSink>(
-    writer: &mut W,
-    buffer: &mut Buffer,
+    out: &mut TextWriter<'_, W>,
     style: Style,
 ) -> Result<(), Device> {
     match style {
-        Style::Text => say(writer, buffer, b"same\n"),
-        Style::Json => say(writer, buffer, b"{\"result\":\"same\"}\n"),
+        Style::Text => out.say("same\n"),
+        Style::Json => out.say("{\"result\":\"same\"}\n"),
     }
 }
 
@@ -115,136 +106,121 @@ pub(crate) struct Match {
 
 /// Writes the object of two processes that are matched.
 pub(crate) fn say_match_object<W: ByteSink>(
-    writer: &mut W,
-    buffer: &mut Buffer,
+    out: &mut TextWriter<'_, W>,
     found: &Match,
 ) -> Result<(), Device> {
-    say(writer, buffer, b"{\"process\":\"")?;
-    say_pid(writer, buffer, found.first)?;
-    say(writer, buffer, b"\"")?;
-    say_pid_field(writer, buffer, "is", found.second)?;
-    say(writer, buffer, b",\"because\":\"")?;
-    say(writer, buffer, ground_word(found.ground).as_bytes())?;
-    say(writer, buffer, b"\",\"guess\":")?;
-    say_bool(writer, buffer, found.ground.is_guess())?;
-    say(writer, buffer, b",\"coarse\":")?;
-    say_bool(writer, buffer, found.is_coarse)?;
-    say(writer, buffer, b"}\n")
-}
-
-/// Writes a truth value.
-fn say_bool<W: ByteSink>(writer: &mut W, buffer: &mut Buffer, value: bool) -> Result<(), Device> {
-    say(writer, buffer, if value { b"true" } else { b"false" })
+    out.say("{\"process\":\"")?;
+    out.say_pid(found.first)?;
+    out.say("\"")?;
+    out.say_pid_field("is", found.second)?;
+    out.say(",\"because\":\"")?;
+    out.say(ground_word(found.ground))?;
+    out.say("\",\"guess\":")?;
+    out.say_bool(found.ground.is_guess())?;
+    out.say(",\"coarse\":")?;
+    out.say_bool(found.is_coarse)?;
+    out.say("}\n")
 }
 
 /// Writes the line of two processes that are matched and differ, unless their pid says it all.
 pub(crate) fn say_match<W: ByteSink>(
-    writer: &mut W,
-    buffer: &mut Buffer,
+    out: &mut TextWriter<'_, W>,
     found: &Match,
 ) -> Result<(), Device> {
     let is_guess = found.ground.is_guess();
     if found.first == found.second && !is_guess && !found.is_coarse {
         return Ok(());
     }
-    say(writer, buffer, b"process ")?;
-    say_pid(writer, buffer, found.first)?;
-    say(writer, buffer, b" is ")?;
-    say_pid(writer, buffer, found.second)?;
+    out.say("process ")?;
+    out.say_pid(found.first)?;
+    out.say(" is ")?;
+    out.say_pid(found.second)?;
     if is_guess {
-        say(writer, buffer, b", a guess: ")?;
-        say(writer, buffer, ground_words(found.ground).as_bytes())?;
+        out.say(", a guess: ")?;
+        out.say(ground_words(found.ground))?;
     }
     if found.is_coarse {
-        say(
-            writer,
-            buffer,
-            b"; compared coarsely, so there may be fewer changes",
-        )?;
+        out.say("; compared coarsely, so there may be fewer changes")?;
     }
-    say(writer, buffer, b"\n")
+    out.say("\n")
 }
 
 /// Writes that a process has no partner in the other trace.
 pub(crate) fn say_alone<W: ByteSink>(
-    writer: &mut W,
-    buffer: &mut Buffer,
+    out: &mut TextWriter<'_, W>,
     what: &str,
     pid: Pid,
     style: Style,
 ) -> Result<(), Device> {
     if style == Style::Json {
-        say(writer, buffer, b"{\"change\":\"")?;
-        say(writer, buffer, what.as_bytes())?;
-        say(writer, buffer, b" process\"")?;
-        say_pid_field(writer, buffer, "pid", pid)?;
-        return say(writer, buffer, b"}\n");
+        out.say("{\"change\":\"")?;
+        out.say(what)?;
+        out.say(" process\"")?;
+        out.say_pid_field("pid", pid)?;
+        return out.say("}\n");
     }
-    say(writer, buffer, what.as_bytes())?;
-    say(writer, buffer, b" process ")?;
-    say_pid(writer, buffer, pid)?;
-    say(writer, buffer, b"\n")
+    out.say(what)?;
+    out.say(" process ")?;
+    out.say_pid(pid)?;
+    out.say("\n")
 }
 
 /// Writes the front of the line of an event.
 fn say_front<W: ByteSink>(
-    writer: &mut W,
-    buffer: &mut Buffer,
+    out: &mut TextWriter<'_, W>,
     what: &str,
     row: &Row,
     style: Style,
 ) -> Result<(), Device> {
     if style == Style::Json {
-        say(writer, buffer, b"{\"change\":\"")?;
-        say(writer, buffer, what.as_bytes())?;
-        say(writer, buffer, b"\",")?;
-        return say_row_fields(writer, buffer, row);
+        out.say("{\"change\":\"")?;
+        out.say(what)?;
+        out.say("\",")?;
+        return say_row_fields(out, row);
     }
-    say(writer, buffer, what.as_bytes())?;
-    say(writer, buffer, b" ")?;
-    say_row(writer, buffer, row)
+    out.say(what)?;
+    out.say(" ")?;
+    say_row(out, row)
 }
 
 /// Writes where an event of the first trace is in the second one, and its serial there if that is
 /// what differs.
 fn say_now<W: ByteSink>(
-    writer: &mut W,
-    buffer: &mut Buffer,
+    out: &mut TextWriter<'_, W>,
     row: &Row,
     has_other_counts: bool,
     style: Style,
 ) -> Result<(), Device> {
     if style == Style::Json {
-        say(writer, buffer, b",\"now\":{")?;
-        say_row_fields(writer, buffer, row)?;
-        return say(writer, buffer, b"}");
+        out.say(",\"now\":{")?;
+        say_row_fields(out, row)?;
+        return out.say("}");
     }
-    say_sum(writer, buffer, ", now ", row.line)?;
-    say(writer, buffer, b": ")?;
-    say_pid(writer, buffer, row.pid)?;
-    say_sum(writer, buffer, " ", row.index)?;
+    out.say_part(", now ", row.line)?;
+    out.say(": ")?;
+    out.say_pid(row.pid)?;
+    out.say_part(" ", row.index)?;
     if has_other_counts {
-        say(writer, buffer, b" ")?;
-        say_serial(writer, buffer, row.event.serial)?;
+        out.say(" ")?;
+        out.say_serial(row.event.serial)?;
     }
-    say_other(writer, buffer, &row.event)
+    out.say_other(&row.event)
 }
 
 /// Writes an event of one trace, with its place in the other one if it has one there.
 pub(crate) fn say_change<W: ByteSink>(
-    writer: &mut W,
-    buffer: &mut Buffer,
+    out: &mut TextWriter<'_, W>,
     what: &str,
     row: &Row,
     now: Option<&Row>,
     style: Style,
 ) -> Result<(), Device> {
-    say_front(writer, buffer, what, row, style)?;
+    say_front(out, what, row, style)?;
     if let Some(now) = now {
-        say_now(writer, buffer, now, what == "counts", style)?;
+        say_now(out, now, what == "counts", style)?;
     }
     match style {
-        Style::Text => say(writer, buffer, b"\n"),
-        Style::Json => say(writer, buffer, b"}\n"),
+        Style::Text => out.say("\n"),
+        Style::Json => out.say("}\n"),
     }
 }

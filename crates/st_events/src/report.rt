@@ -2,110 +2,108 @@
 
 use crate::stats::{PairStats, ProcessStats, Stats};
 use crate::sweep::Shape;
-use crate::words::{Style, say_field, say_pid_field};
+use crate::words::Style;
 use st_core::{ByteSink, Pid};
-use st_say::{say, say_number, say_pid};
-use st_text::{Buffer, Device, flush};
-
-/// Writes words and a number.
-fn say_part<W: ByteSink>(
-    writer: &mut W,
-    buffer: &mut Buffer,
-    words: &str,
-    number: u64,
-) -> Result<(), Device> {
-    say(writer, buffer, words.as_bytes())?;
-    say_number(writer, buffer, number)
-}
+use st_say::TextWriter;
+use st_text::Device;
 
 /// Writes the line of a process.
 fn say_process<W: ByteSink>(
-    writer: &mut W,
-    buffer: &mut Buffer,
+    out: &mut TextWriter<'_, W>,
     stats: &ProcessStats,
     style: Style,
 ) -> Result<(), Device> {
     if style == Style::Json {
-        say(writer, buffer, b"{\"of\":\"process\"")?;
-        say_pid_field(writer, buffer, "pid", stats.pid)?;
-        say_field(writer, buffer, "sends", stats.sends)?;
-        say_field(writer, buffer, "receives", stats.receives)?;
-        say_field(writer, buffer, "prints", stats.prints)?;
-        say_field(writer, buffer, "skipped", stats.skipped)?;
-        say_field(writer, buffer, "queue", stats.queue)?;
-        return say(writer, buffer, b"}\n");
+        out.say("{\"of\":\"process\"")?;
+        out.say_pid_field("pid", stats.pid)?;
+        out.say_fields(&[
+            ("sends", stats.sends),
+            ("receives", stats.receives),
+            ("prints", stats.prints),
+            ("skipped", stats.skipped),
+            ("queue", stats.queue),
+        ])?;
+        return out.say("}\n");
     }
-    say(writer, buffer, b"process ")?;
-    say_pid(writer, buffer, stats.pid)?;
-    say_part(writer, buffer, ": sends ", stats.sends)?;
-    say_part(writer, buffer, ", receives ", stats.receives)?;
-    say_part(writer, buffer, ", prints ", stats.prints)?;
-    say_part(writer, buffer, ", counts skipped ", stats.skipped)?;
-    say_part(writer, buffer, ", longest queue ", stats.queue)?;
-    say(writer, buffer, b"\n")
+    out.say("process ")?;
+    out.say_pid(stats.pid)?;
+    out.say_parts(&[
+        (": sends ", stats.sends),
+        (", receives ", stats.receives),
+        (", prints ", stats.prints),
+        (", counts skipped ", stats.skipped),
+        (", longest queue ", stats.queue),
+    ])?;
+    out.say("\n")
 }
 
 /// Writes the line of a pair of processes.
 fn say_pair<W: ByteSink>(
-    writer: &mut W,
-    buffer: &mut Buffer,
+    out: &mut TextWriter<'_, W>,
     pair: &(Pid, Pid),
     stats: &PairStats,
     style: Style,
 ) -> Result<(), Device> {
     if style == Style::Json {
-        say(writer, buffer, b"{\"of\":\"pair\"")?;
-        say_pid_field(writer, buffer, "from", pair.0)?;
-        say_pid_field(writer, buffer, "to", pair.1)?;
-        say_field(writer, buffer, "messages", stats.messages)?;
-        say_field(writer, buffer, "unreceived", stats.unreceived)?;
-        say_field(writer, buffer, "unsent", stats.unsent)?;
-        return say(writer, buffer, b"}\n");
+        out.say("{\"of\":\"pair\"")?;
+        out.say_pid_field("from", pair.0)?;
+        out.say_pid_field("to", pair.1)?;
+        out.say_fields(&[
+            ("messages", stats.messages),
+            ("unreceived", stats.unreceived),
+            ("unsent", stats.unsent),
+        ])?;
+        return out.say("}\n");
     }
-    say(writer, buffer, b"messages from ")?;
-    say_pid(writer, buffer, pair.0)?;
-    say(writer, buffer, b" to ")?;
-    say_pid(writer, buffer, pair.1)?;
-    say_part(writer, buffer, ": ", stats.messages)?;
-    say_part(writer, buffer, ", without a receive ", stats.unreceived)?;
-    say_part(writer, buffer, ", without a send ", stats.unsent)?;
-    say(writer, buffer, b"\n")
+    out.say("messages from ")?;
+    out.say_pid(pair.0)?;
+    out.say(" to ")?;
+    out.say_pid(pair.1)?;
+    out.say_parts(&[
+        (": ", stats.messages),
+        (", without a receive ", stats.unreceived),
+        (", without a send ", stats.unsent),
+    ])?;
+    out.say("\n")
 }
 
 /// Writes the line of a label.
 fn say_label<W: ByteSink>(
-    writer: &mut W,
-    buffer: &mut Buffer,
+    out: &mut TextWriter<'_, W>,
     label: u32,
     shape: &Shape,
     style: Style,
 ) -> Result<(), Device> {
     if style == Style::Json {
-        say(writer, buffer, b"{\"of\":\"label\"")?;
-        say_field(writer, buffer, "label", u64::from(label))?;
-        say_field(writer, buffer, "events", shape.events)?;
-        say_field(writer, buffer, "depth", shape.depth)?;
-        say_field(writer, buffer, "width", shape.width)?;
-        return say(writer, buffer, b"}\n");
+        out.say("{\"of\":\"label\"")?;
+        out.say_fields(&[
+            ("label", u64::from(label)),
+            ("events", shape.events),
+            ("depth", shape.depth),
+            ("width", shape.width),
+        ])?;
+        return out.say("}\n");
     }
-    say_part(writer, buffer, "label ", u64::from(label))?;
-    say_part(writer, buffer, ": events ", shape.events)?;
-    say_part(writer, buffer, ", depth ", shape.depth)?;
-    say_part(writer, buffer, ", width ", shape.width)?;
-    say(writer, buffer, b"\n")
+    out.say_parts(&[
+        ("label ", u64::from(label)),
+        (": events ", shape.events),
+        (", depth ", shape.depth),
+        (", width ", shape.width),
+    ])?;
+    out.say("\n")
 }
 
 /// Sends the counts.
 pub fn send_stats<W: ByteSink>(writer: &mut W, stats: &Stats, style: Style) -> Result<(), Device> {
-    let mut buffer = Buffer::new();
+    let mut out = TextWriter::new(writer);
     for process in stats.processes.iter() {
-        say_process(writer, &mut buffer, process, style)?;
+        say_process(&mut out, process, style)?;
     }
     for (pair, messages) in &stats.pairs {
-        say_pair(writer, &mut buffer, pair, messages, style)?;
+        say_pair(&mut out, pair, messages, style)?;
     }
     for (label, shape) in &stats.labels {
-        say_label(writer, &mut buffer, *label, shape, style)?;
+        say_label(&mut out, *label, shape, style)?;
     }
-    flush(writer, &mut buffer)
+    out.flush()
 }

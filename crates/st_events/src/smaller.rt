@@ -3,8 +3,8 @@
 use st_core::{ByteSink, Draft, Pid, Streams};
 use st_list::{Partner, Row, partner_at};
 use st_pair::Pairing;
-use st_say::{say, say_number};
-use st_text::{Buffer, Device, flush};
+use st_say::TextWriter;
+use st_text::Device;
 use std::alloc::{AllocError, Global};
 
 /// The processes that report these events, or that they name, by rising pid.
@@ -92,19 +92,15 @@ pub fn send_open<N: ByteSink>(
     total: u64,
     open: Option<Open>,
 ) -> Result<(), Device> {
-    let mut buffer = Buffer::new();
-    say(notes, &mut buffer, b"note: ")?;
-    say_number(notes, &mut buffer, kept)?;
-    say(notes, &mut buffer, b" of ")?;
-    say_number(notes, &mut buffer, total)?;
-    say(notes, &mut buffer, b" events are kept")?;
+    let mut out = TextWriter::new(notes);
+    out.say_part("note: ", kept)?;
+    out.say_part(" of ", total)?;
+    out.say(" events are kept")?;
     if let Some(open) = open {
-        say(notes, &mut buffer, b"; the sends of ")?;
-        say_number(notes, &mut buffer, open.receives)?;
-        say(notes, &mut buffer, b" receives and the receives of ")?;
-        say_number(notes, &mut buffer, open.sends)?;
-        say(notes, &mut buffer, b" sends are cut off")?;
+        out.say_part("; the sends of ", open.receives)?;
+        out.say_part(" receives and the receives of ", open.sends)?;
+        out.say(" sends are cut off")?;
     }
-    say(notes, &mut buffer, b"\n")?;
-    flush(notes, &mut buffer)
+    out.say("\n")?;
+    out.flush()
 }

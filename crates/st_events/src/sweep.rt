@@ -5,7 +5,7 @@
 //! sends and prints before receives.
 
 use st_core::{Event, Kind, Pid, Streams};
-use st_list::{Partner, partner_at};
+use st_list::partner_at;
 use st_pair::Pairing;
 use std::alloc::{AllocError, Global};
 use std::collections::BTreeMap;

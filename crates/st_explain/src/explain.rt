@@ -9,8 +9,8 @@ use st_check::{CheckFault, Verdict, check};
 use st_commands::{status_of, tell_fault};
 use st_core::{Act, ByteSink, ByteSource, Event, Kind, Pid, Streams, Token};
 use st_lines::LineNumbers;
-use st_say::{say, say_act, say_count, say_event, say_number, say_pid, say_serial};
-use st_text::{Buffer, Bundle, Device, Limits, ReadFault, flush, read_within};
+use st_say::{TextWriter, send_words};
+use st_text::{Bundle, Device, Limits, ReadFault, read_within};
 use std::alloc::{AllocError, Global};
 
 /// So many messages of a queue are shown.
@@ -26,94 +26,67 @@ struct Given<'a> {
 
 /// Writes a flag's word if it is set.
 fn say_flag<W: ByteSink>(
-    writer: &mut W,
-    buffer: &mut Buffer,
-    word: &[u8],
+    out: &mut TextWriter<'_, W>,
+    word: &str,
     is_set: bool,
 ) -> Result<(), Device> {
     if is_set {
-        say(writer, buffer, word)?;
+        out.say(word)?;
     }
     Ok(())
 }
 
 /// Writes a token.
-fn say_token<W: ByteSink>(
-    writer: &mut W,
-    buffer: &mut Buffer,
-    token: Option<Token>,
-) -> Result<(), Device> {
+fn say_token<W: ByteSink>(out: &mut TextWriter<'_, W>, token: Option<Token>) -> Result<(), Device> {
     let Some(token) = token else {
-        return say(writer, buffer, b"none");
+        return out.say("none");
     };
-    say(writer, buffer, b"label ")?;
-    say_number(writer, buffer, u64::from(token.label.0))?;
-    say(writer, buffer, b", flags")?;
-    say_flag(writer, buffer, b" send", token.flags.send)?;
-    say_flag(writer, buffer, b" receive", token.flags.receive)?;
-    say_flag(writer, buffer, b" print", token.flags.print)?;
-    say(writer, buffer, b", serial ")?;
-    say_serial(writer, buffer, token.serial)?;
-    say(writer, buffer, b", from ")?;
-    say_pid(writer, buffer, token.from)
+    out.say_part("label ", u64::from(token.label.0))?;
+    out.say(", flags")?;
+    say_flag(out, " send", token.flags.send)?;
+    say_flag(out, " receive", token.flags.receive)?;
+    say_flag(out, " print", token.flags.print)?;
+    out.say(", serial ")?;
+    out.say_serial(token.serial)?;
+    out.say(", from ")?;
+    out.say_pid(token.from)
 }
 
 /// Writes the line of an event or an act behind what names it, if it has one.
-fn say_line<W: ByteSink>(
-    writer: &mut W,
-    buffer: &mut Buffer,
-    line: Option<u64>,
-) -> Result<(), Device> {
+fn say_line<W: ByteSink>(out: &mut TextWriter<'_, W>, line: Option<u64>) -> Result<(), Device> {
     match line {
-        Some(line) => {
-            say(writer, buffer, b", line ")?;
-            say_number(writer, buffer, line)
-        }
+        Some(line) => { out.say_part(", line ", line) }
         None => Ok(()),
     }
 }
 
 /// Writes the message at this place of a queue, and whether it is the one that is due.
 fn say_message<W: ByteSink>(
-    writer: &mut W,
-    buffer: &mut Buffer,
+    out: &mut TextWriter<'_, W>,
     given: &Given<'_>,
     place: u64,
     message: Sent,
     is_due: bool,
 ) -> Result<(), Device> {
-    say(writer, buffer, b"    place ")?;
-    say_number(writer, buffer, place)?;
+    out.say_part("    place ", place)?;
     if let Some(Act::Send(from, _, value)) = given.acts.get(message.act as usize) {
-        say(writer, buffer, b": ")?;
-        say_number(writer, buffer, *value)?;
-        say(writer, buffer, b" from ")?;
-        say_pid(writer, buffer, *from)?;
+        out.say_part(": ", *value)?;
+        out.say(" from ")?;
+        out.say_pid(*from)?;
     }
     if message.count > 0 {
-        say(writer, buffer, b", count ")?;
-        say_number(writer, buffer, message.count)?;
+        out.say_part(", count ", message.count)?;
     } else {
-        say(writer, buffer, b", without a token")?;
+        out.say(", without a token")?;
     }
-    say(writer, buffer, b", sent by act ")?;
-    say_number(writer, buffer, message.act)?;
-    say_line(writer, buffer, given.numbers.act_line(message.act))?;
-    say(
-        writer,
-        buffer,
-        if is_due {
-            b": this one is due\n"
-        } else {
-            b"\n"
-        },
-    )
+    out.say_part(", sent by act ", message.act)?;
+    say_line(out, given.numbers.act_line(message.act))?;
+    out.say(if is_due { ": this one is due\n" } else { "\n" })
 }
 
 /// Writes the messages that wait at places from `first` up to `end` of the queue.
 fn say_messages<W: ByteSink>(
-    writer: &mut W,
-    buffer: &mut Buffer,
+    out: &mut TextWriter<'_, W>,
     given: &Given<'_>,
     rerun: &Rerun,
     due: Option<u64>,
@@ -122,7 +95,7 @@ fn say_messages<W: ByteSink>(
 ) -> Result<(), Device> {
     for place in first..end {
         if let Some(message) = rerun.queue.message(place) {
-            say_message(writer, buffer, given, place, message, due == Some(place))?;
+            say_message(out, given, place, message, due == Some(place))?;
         }
     }
     Ok(())
@@ -131,77 +104,65 @@ fn say_messages<W: ByteSink>(
 /// Writes the queue of a process from which this event is due, if one is: its first messages, and
 /// the one that is due.
 fn say_queue<W: ByteSink>(
-    writer: &mut W,
-    buffer: &mut Buffer,
+    out: &mut TextWriter<'_, W>,
     given: &Given<'_>,
     rerun: &Rerun,
     pid: Pid,
     event: Option<Event>,
 ) -> Result<(), Device> {
     let count = rerun.queue.len();
-    say_count(writer, buffer, b"  messages in its queue ", count)?;
+    out.say_count("  messages in its queue ", count)?;
     let receive = event.filter(|event| event.kind == Kind::Receive);
     let due = receive
         .as_ref()
         .and_then(|event| rerun.place_of(pid, event));
-    say_messages(writer, buffer, given, rerun, due, 0, count.min(SHOWN))?;
+    say_messages(out, given, rerun, due, 0, count.min(SHOWN))?;
     match due {
         Some(place) if place >= SHOWN => {
             let behind = place.saturating_add(1);
-            say_messages(writer, buffer, given, rerun, due, place, behind)?;
-            say_more(
-                writer,
-                buffer,
-                count.saturating_sub(SHOWN).saturating_sub(1),
-            )
+            say_messages(out, given, rerun, due, place, behind)?;
+            say_more(out, count.saturating_sub(SHOWN).saturating_sub(1))
         }
         None if receive.is_some() => {
-            say_more(writer, buffer, count.saturating_sub(SHOWN))?;
-            say(
-                writer,
-                buffer,
-                b"    the message that is due doesn't wait there\n",
-            )
+            say_more(out, count.saturating_sub(SHOWN))?;
+            out.say("    the message that is due doesn't wait there\n")
         }
-        _ => say_more(writer, buffer, count.saturating_sub(SHOWN)),
+        _ => say_more(out, count.saturating_sub(SHOWN)),
     }
 }
 
 /// Writes how many more messages wait, if some do.
-fn say_more<W: ByteSink>(writer: &mut W, buffer: &mut Buffer, count: u64) -> Result<(), Device> {
+fn say_more<W: ByteSink>(out: &mut TextWriter<'_, W>, count: u64) -> Result<(), Device> {
     if count == 0 {
         return Ok(());
     }
-    say(writer, buffer, b"    and ")?;
-    say_number(writer, buffer, count)?;
-    say(writer, buffer, b" more\n")
+    out.say_part("    and ", count)?;
+    out.say(" more\n")
 }
 
 /// Writes the state of a process.
 fn say_state<W: ByteSink>(
-    writer: &mut W,
-    buffer: &mut Buffer,
+    out: &mut TextWriter<'_, W>,
     given: &Given<'_>,
     rerun: &Rerun,
     pid: Pid,
 ) -> Result<(), Device> {
-    say(writer, buffer, b"state of ")?;
-    say_pid(writer, buffer, pid)?;
-    say(writer, buffer, b"\n  token ")?;
-    say_token(writer, buffer, rerun.world.token(pid))?;
-    say(writer, buffer, b"\n")?;
+    out.say("state of ")?;
+    out.say_pid(pid)?;
+    out.say("\n  token ")?;
+    say_token(out, rerun.world.token(pid))?;
+    out.say("\n")?;
     let clock = rerun.world.clock(pid).unwrap_or(0);
-    say_count(writer, buffer, b"  clock ", clock)?;
+    out.say_count("  clock ", clock)?;
     let last = rerun.world.last(pid).unwrap_or(0);
-    say_count(writer, buffer, b"  last ", last)?;
+    out.say_count("  last ", last)?;
     let event = rerun.due(given.streams, pid);
-    say_queue(writer, buffer, given, rerun, pid, event)
+    say_queue(out, given, rerun, pid, event)
 }
 
 /// Writes the event that is due from a process.
 fn say_due<W: ByteSink>(
-    writer: &mut W,
-    buffer: &mut Buffer,
+    out: &mut TextWriter<'_, W>,
     given: &Given<'_>,
     rerun: &Rerun,
     pid: Pid,
@@ -209,32 +170,31 @@ fn say_due<W: ByteSink>(
     let next = rerun.next_index(given.streams, pid);
     match given.streams.event(pid, next) {
         Some(event) => {
-            say(writer, buffer, b"due: event ")?;
-            say_number(writer, buffer, next)?;
-            say(writer, buffer, b" of ")?;
-            say_pid(writer, buffer, pid)?;
-            say_line(writer, buffer, given.numbers.line(pid, next))?;
-            say(writer, buffer, b"\n  ")?;
-            say_event(writer, buffer, &event)?;
+            out.say_part("due: event ", next)?;
+            out.say(" of ")?;
+            out.say_pid(pid)?;
+            say_line(out, given.numbers.line(pid, next))?;
+            out.say("\n  ")?;
+            out.say_event(&event)?;
         }
         None => {
-            say(writer, buffer, b"due: nothing, all events of ")?;
-            say_pid(writer, buffer, pid)?;
-            say(writer, buffer, b" are reported")?;
+            out.say("due: nothing, all events of ")?;
+            out.say_pid(pid)?;
+            out.say(" are reported")?;
         }
     }
-    say(writer, buffer, b"\n")
+    out.say("\n")
 }
 
 /// Writes what came of an act.
-fn say_came<W: ByteSink>(writer: &mut W, buffer: &mut Buffer, came: &Came) -> Result<(), Device> {
+fn say_came<W: ByteSink>(out: &mut TextWriter<'_, W>, came: &Came) -> Result<(), Device> {
     match came {
-        Came::Stuck => say(writer, buffer, b"came: no step\n"),
-        Came::Step(None) => say(writer, buffer, b"came: no report\n"),
+        Came::Stuck => out.say("came: no step\n"),
+        Came::Step(None) => out.say("came: no report\n"),
         Came::Step(Some(event)) => {
-            say(writer, buffer, b"came:\n  ")?;
-            say_event(writer, buffer, event)?;
-            say(writer, buffer, b"\n")
+            out.say("came:\n  ")?;
+            out.say_event(event)?;
+            out.say("\n")
         }
     }
 }
@@ -249,52 +209,42 @@ fn send_difference<W: ByteSink>(
     act: &Act,
     came: &Came,
 ) -> Result<(), Device> {
-    let mut buffer = Buffer::new();
-    say(writer, &mut buffer, b"act ")?;
-    say_number(writer, &mut buffer, number)?;
-    say_line(writer, &mut buffer, given.numbers.act_line(number))?;
-    say(writer, &mut buffer, b": ")?;
-    say_act(writer, &mut buffer, act)?;
-    say(writer, &mut buffer, b"\n")?;
-    say_due(writer, &mut buffer, given, rerun, act.actor())?;
-    say_came(writer, &mut buffer, came)?;
-    say_state(writer, &mut buffer, given, rerun, act.actor())?;
-    flush(writer, &mut buffer)
+    let mut out = TextWriter::new(writer);
+    out.say_part("act ", number)?;
+    say_line(&mut out, given.numbers.act_line(number))?;
+    out.say(": ")?;
+    out.say_act(act)?;
+    out.say("\n")?;
+    say_due(&mut out, given, rerun, act.actor())?;
+    say_came(&mut out, came)?;
+    say_state(&mut out, given, rerun, act.actor())?;
+    out.flush()
 }
 
 /// Writes which act could report the event that is left, or what the only one that could do so at
 /// another token or clock would report now.
 fn say_next<W: ByteSink>(
-    writer: &mut W,
-    buffer: &mut Buffer,
+    out: &mut TextWriter<'_, W>,
     event: &Event,
     tried: Option<(Act, Came)>,
 ) -> Result<(), Device> {
     let Some((act, came)) = tried else {
-        return say(
-            writer,
-            buffer,
-            b"next: no single act would report it, since its message doesn't wait\n",
-        );
+        return out.say("next: no single act would report it, since its message doesn't wait\n");
     };
-    say(writer, buffer, b"next: ")?;
+    out.say("next: ")?;
     if came == Came::Step(Some(*event)) {
-        say_act(writer, buffer, &act)?;
-        return say(writer, buffer, b" would report it\n");
+        out.say_act(&act)?;
+        return out.say(" would report it\n");
     }
-    say(
-        writer,
-        buffer,
-        b"no single act would report it, since its token or its clock doesn't allow it\n  ",
-    )?;
-    say_act(writer, buffer, &act)?;
+    out.say("no single act would report it, since its token or its clock doesn't allow it\n  ")?;
+    out.say_act(&act)?;
     match came {
         Came::Step(Some(other)) => {
-            say(writer, buffer, b" would report ")?;
-            say_event(writer, buffer, &other)?;
-            say(writer, buffer, b"\n")
+            out.say(" would report ")?;
+            out.say_event(&other)?;
+            out.say("\n")
         }
-        Came::Step(None) | Came::Stuck => say(writer, buffer, b" would report nothing\n"),
+        Came::Step(None) | Came::Stuck => out.say(" would report nothing\n"),
     }
 }
 
@@ -307,27 +257,24 @@ fn send_left<W: ByteSink>(
     pid: Pid,
     tried: Option<(Act, Came)>,
 ) -> Result<(), Device> {
-    let mut buffer = Buffer::new();
-    say(writer, &mut buffer, b"the acts end, and ")?;
-    say_pid(writer, &mut buffer, pid)?;
-    say(writer, &mut buffer, b" has events left\n")?;
-    say_due(writer, &mut buffer, given, rerun, pid)?;
-    say_state(writer, &mut buffer, given, rerun, pid)?;
+    let mut out = TextWriter::new(writer);
+    out.say("the acts end, and ")?;
+    out.say_pid(pid)?;
+    out.say(" has events left\n")?;
+    say_due(&mut out, given, rerun, pid)?;
+    say_state(&mut out, given, rerun, pid)?;
     if let Some(event) = rerun.due(given.streams, pid) {
-        say_next(writer, &mut buffer, &event, tried)?;
+        say_next(&mut out, &event, tried)?;
     }
-    flush(writer, &mut buffer)
+    out.flush()
 }
 
 /// Sends that `check` accepts the acts.
 fn send_accepted<W: ByteSink>(writer: &mut W) -> Result<(), Device> {
-    let mut buffer = Buffer::new();
-    say(
+    send_words(
         writer,
-        &mut buffer,
-        b"yes: each process reports exactly its stream in a run of these acts\n",
-    )?;
-    flush(writer, &mut buffer)
+        "yes: each process reports exactly its stream in a run of these acts\n",
+    )
 }
 
 /// The run of these acts, with the queue of this process.
@@ -408,17 +355,10 @@ fn explain_acts<W: ByteSink>(alloc: Global, given: &Given<'_>, writer: &mut W) -
     }
 }
 
-/// Sends that a bundle has no acts.
-fn send_no_acts<W: ByteSink>(writer: &mut W) -> Result<(), Device> {
-    let mut buffer = Buffer::new();
-    say(writer, &mut buffer, b"fault no acts\n")?;
-    flush(writer, &mut buffer)
-}
-
 /// Writes why `check` refuses a bundle.
 fn explain_bundle<W: ByteSink>(alloc: Global, bundle: &Bundle, writer: &mut W) -> u8 {
     let Some(acts) = &bundle.acts else {
-        return status_of(send_no_acts(writer), 2);
+        return status_of(send_words(writer, "fault no acts\n"), 2);
     };
     let Ok(numbers) = LineNumbers::new(alloc, &bundle.streams) else {
         return tell_fault(writer, ReadFault::Memory);

@@ -74,15 +74,16 @@ module _ (f : Filter) where
   row_if_chosen p i n e = if is_chosen f p n e then row_of p i n e ∷ [] else []
 
   -- the rows of these events of p, of which the first is event i and stands on line n
-  abbrev pub rows_at : Pid → ℕ → ℕ → List Event → List Row
-  rows_at p i n [] = []
-  rows_at p i n (e ∷ es) = row_if_chosen p i n e ++ rows_at p (i + 1) (n + 1) es
+  abbrev pub listed_at : Pid → ℕ → ℕ → List Event → List Row
+  listed_at p i n [] = []
+  listed_at p i n (e ∷ es) = row_if_chosen p i n e ++ listed_at p (i + 1) (n + 1) es
 
   -- the rows of these processes, of which the first has its process line on line n
-  abbrev pub rows_from : ℕ → List Stream → List Row
-  rows_from n [] = []
-  rows_from n (x ∷ xs) = rows_at x.pid 0 (n + 1) x.events ++ rows_from (n + 1 + length x.events) xs
+  abbrev pub listed_from : ℕ → List Stream → List Row
+  listed_from n [] = []
+  listed_from n (x ∷ xs) =
+      listed_at x.pid 0 (n + 1) x.events ++ listed_from (n + 1 + length x.events) xs
 
   -- the rows of streams, whose first process line is below the header
   abbrev pub listed : List Stream → List Row
-  listed streams = rows_from 2 streams
+  listed streams = listed_from 2 streams

@@ -1,7 +1,7 @@
 //! The events that are asked for, each with its place and its line.
 
 ghost use Rattle.std.specs.Prelude.{◌≡◌, ◌+◌, ◌++◌, length, IfOk, OnOk};
-ghost use Rattle.st_list.specs.Rows.{listed, row_of, rows_at};
+ghost use Rattle.st_list.specs.Rows.{listed, row_of, listed_at};
 
 use crate::filter::Filter;
 use st_core::{Event, Pid, Streams};
@@ -39,7 +39,7 @@ fn add_rows(
     events: &[Event],
 ) -> Result<(), AllocError>
     ensures { OnOk result (rows.new.items
-        ≡ rows.old.items ++ rows_at filter.now pid 0 first events.now) }
+        ≡ rows.old.items ++ listed_at filter.now pid 0 first events.now) }
 {
     let mut index: u64 = 0;
     let mut line = first;

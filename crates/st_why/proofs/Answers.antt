@@ -1,5 +1,5 @@
--- A node's line is that of its event, what is written isn't empty, since the last line isn't, and a reason of
--- pairing is told as a finding.
+-- A node's line is that of its event, what is written isn't empty, since the last line isn't, and a
+-- reason of pairing is told as a finding.
 use Rattle.std.proofs.Common.{◌≡◌, ℕ, ◌<◌, List, [], ◌++◌, length, Option, Some, None, ap, arith}
 use Rattle.std.proofs.lemmas.List.{length-append}
 use Rattle.std.specs.List.{flat_map}
@@ -26,7 +26,8 @@ module _ (streams : List Stream) (q : Question) (x : Node) where
   abbrev line_by : Option Event → List ℕ
   line_by o = elim o [ None ↦ [] | Some e ↦ answer_line streams q x.depth x.place.0 x.place.1 e ]
 
-  pub line_of : (o : Option Event) → event_at streams x.place.0 x.place.1 ≡ o → node_line streams q x ≡ line_by o
+  pub line_of : (o : Option Event) → event_at streams x.place.0 x.place.1 ≡ o
+      → node_line streams q x ≡ line_by o
   line_of o is = ap line_by is
 
 last_some : (s : Style) → 0 < length (last_line s)
@@ -43,9 +44,14 @@ answer_some streams q nodes =
 
 -- a reason, unless it is that memory ran out, is written as a finding
 pub unpaired : (streams : List Stream) (q : Question) (f : PairFault) (found : Finding)
-    → IsPairFault streams f → unfit_by f ≡ Some found → AnswersOf streams q (report_output streams found)
+    → IsPairFault streams f → unfit_by f ≡ Some found
+    → AnswersOf streams q (report_output streams found)
 unpaired streams q fault.Memory found is by = absurd (cc)
-unpaired streams q (fault.PrevNotBefore p j) found is by = OfReason (fault.PrevNotBefore p j) found is by
-unpaired streams q (fault.NotRising p j k) found is by = OfReason (fault.NotRising p j k) found is by
-unpaired streams q (fault.Repeated p j o k) found is by = OfReason (fault.Repeated p j o k) found is by
-unpaired streams q (fault.Mismatch p j o k) found is by = OfReason (fault.Mismatch p j o k) found is by
+unpaired streams q (fault.PrevNotBefore p j) found is by =
+    OfReason (fault.PrevNotBefore p j) found is by
+unpaired streams q (fault.NotRising p j k) found is by =
+    OfReason (fault.NotRising p j k) found is by
+unpaired streams q (fault.Repeated p j o k) found is by =
+    OfReason (fault.Repeated p j o k) found is by
+unpaired streams q (fault.Mismatch p j o k) found is by =
+    OfReason (fault.Mismatch p j o k) found is by

@@ -1,4 +1,5 @@
--- What the parts of the command say adds up to what it owes: the bytes that were read go with each answer.
+-- What the parts of the command say adds up to what it owes: the bytes that were read go with each
+-- answer.
 use Rattle.std.proofs.Common.{◌≡◌}
 use Rattle.std.specs.Prelude.{None}
 use Rattle.st_text.specs.Limits.{greater}
@@ -12,7 +13,8 @@ use Rattle.st_why.specs.declared.question.Question.{Question}
 use Rattle.st_why.specs.Why.{ArePaired, IsWhy, Found, Lacking, Unpaired, found, no_event}
 use Rattle.st_why.specs.Parts.{AnswersOf, OfFound, OfNoEvent, OfReason, NoRoom}
 
-module _ {R : Type 0} (reader : ReaderCall R) (c : Contents) (h : WasRead greater reader c) (q : Question) where
+module _ {R : Type 0} (reader : ReaderCall R) (c : Contents) (h : WasRead greater reader c)
+    (q : Question) where
   paired : refusal c.streams ≡ None → ArePaired h.bytes c.streams
   paired ok = record { given = c.acts; spelled = h.spelled; accepted = ok }
 

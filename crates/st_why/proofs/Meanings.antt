@@ -1,4 +1,5 @@
--- Status 0 belongs to an event that is there, and status 1 to one that isn't or to a reason of pairing.
+-- Status 0 belongs to an event that is there, and status 1 to one that isn't or to a reason of
+-- pairing.
 use Rattle.std.proofs.Common.{◌≡◌, ℕ, List, Some, refl, arith}
 use Rattle.st_core.specs.declared.types.Pid.{Pid}
 use Rattle.st_core.specs.declared.types.Event.{Event}
@@ -19,7 +20,8 @@ abbrev HopsAreTrue : Type 0
 HopsAreTrue = (streams : List Stream) (p : Pid) (i : ℕ) (e : Event) → event_at streams p i ≡ Some e
     → IsTrueHop streams p i e (hop_of streams p i e)
 
-pub told_means : HopsAreTrue → (q : Question) (bytes : List ℕ) (out : Output) → IsWhy q bytes out → out.status ≡ 0
+pub told_means : HopsAreTrue → (q : Question) (bytes : List ℕ) (out : Output) → IsWhy q bytes out
+    → out.status ≡ 0
     → MeansTold q bytes out
 told_means law q bytes out (why.Found b streams x h start) e =
     record {
@@ -35,9 +37,11 @@ told_means law q bytes out (why.Found b streams x h start) e =
 told_means law q bytes out (why.Lacking b streams h none) e = absurd (omega (arith, e))
 told_means law q bytes out (why.Unpaired b streams reason h) e =
     absurd (omega (arith, e, unfit_status h.fault reason h.found_by))
-told_means law q bytes out (why.Faulty b f is) e = let high = fault_status_high f in absurd (omega arith)
+told_means law q bytes out (why.Faulty b f is) e =
+    let high = fault_status_high f in absurd (omega arith)
 
-pub untold_means : (q : Question) (bytes : List ℕ) (out : Output) → IsWhy q bytes out → out.status ≡ 1
+pub untold_means : (q : Question) (bytes : List ℕ) (out : Output) → IsWhy q bytes out
+    → out.status ≡ 1
     → MeansUntold q bytes out
 untold_means q bytes out (why.Found b streams x h start) e = absurd (omega (arith, e))
 untold_means q bytes out (why.Lacking b streams h none) e =
@@ -50,5 +54,7 @@ untold_means q bytes out (why.Lacking b streams h none) e =
       text = refl;
     })
 untold_means q bytes out (why.Unpaired b streams reason h) e =
-    Unpaired (unpaired_means greater b streams h.given h.spelled h.fault reason h.refused h.found_by)
-untold_means q bytes out (why.Faulty b f is) e = let high = fault_status_high f in absurd (omega arith)
+    Unpaired (unpaired_means greater b streams h.given h.spelled h.fault reason h.refused
+    h.found_by)
+untold_means q bytes out (why.Faulty b f is) e =
+    let high = fault_status_high f in absurd (omega arith)

@@ -1,4 +1,5 @@
--- The words of the line that is all of an output, and how many bytes the parts of a line take at most.
+-- The words of the line that is all of an output, and how many bytes the parts of a line take at
+-- most.
 use Rattle.std.specs.Prelude.{ℕ, ◌+◌, List, ◌++◌, codes}
 use Rattle.st_text.specs.Room.{number_room, pid_room, serial_room}
 use Rattle.st_chart.specs.Room.{item_word_room, place_room}

@@ -1,4 +1,5 @@
--- What a yes and a no of `why` mean, each as one record of plain facts, in the words of the machine.
+-- What a yes and a no of `why` mean, each as one record of plain facts, in the words of the
+-- machine.
 use Rattle.std.specs.Prelude.{◌≡◌, ℕ, List, ◌++◌, Option, Some, None, codes}
 use Rattle.std.specs.List.{flat_map}
 use Rattle.st_core.specs.declared.types.Pid.{Pid}

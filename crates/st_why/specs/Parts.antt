@@ -1,5 +1,5 @@
--- The outputs of streams that were read, for the contracts of the functions that the command is made
--- of.
+-- The outputs of streams that were read, for the contracts of the functions that the command is
+-- made of.
 use Rattle.std.specs.Prelude.{◌≡◌, ℕ, List, Some, None}
 use Rattle.st_core.specs.declared.types.Pid.{Pid}
 use Rattle.st_core.specs.Run.{Stream}

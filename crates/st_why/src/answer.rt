@@ -9,21 +9,22 @@ ghost use Rattle.st_why.specs.Why.{answer_line, last_line, node_line, nodes_from
 use crate::json::{write_json, write_premises_object};
 use crate::question::{Direction, Question, Style};
 use crate::text::{write_premises, write_text};
+use crate::trace::NumberedOrigins;
 use st_core::{ByteSink, Event, Pid};
-use st_hops::{Node, Origins, tree, way};
-use st_lines::LineNumbers;
+use st_hops::{Node, tree, way};
 use st_text::{Buffer, Device, flush};
 use std::alloc::{AllocError, Global};
 
 /// The events that are found from this place. Fails only if memory runs out.
 pub(crate) fn nodes_from(
     alloc: Global,
-    origins: &Origins,
+    trace: &NumberedOrigins<'_>,
     question: Question,
     place: (Pid, u64),
 ) -> Result<Vec<Node>, AllocError>
-    ensures { IfOk result (λ v. v.items ≡ nodes_from origins.now question place) }
+    ensures { IfOk result (λ v. v.items ≡ nodes_from trace.now question place) }
 {
+    let origins = trace.origins();
     match question.direction {
         Direction::Back => way(alloc, origins, question.reach, place),
         Direction::Forth => tree(alloc, origins, question.reach, place),
@@ -34,31 +35,19 @@ pub(crate) fn nodes_from(
 fn write_event<W: ByteSink>(
     writer: &mut W,
     buffer: &mut Buffer,
-    origins: &Origins,
-    numbers: &LineNumbers,
+    trace: &NumberedOrigins<'_>,
     question: Question,
     node: Node,
     event: &Event,
 ) -> Result<(), Device>
-    requires same { numbers.now ≡ origins.now }
-    requires there { event_at origins.now node.place.0 node.place.1 ≡ Some event.now }
+    requires { event_at trace.now node.place.0 node.place.1 ≡ Some event.now }
     ensures { WritesOn W.puts W.failed
-        (answer_line origins.now question node.depth node.place.0 node.place.1 event.now)
+        (answer_line trace.now question node.depth node.place.0 node.place.1 event.now)
         writer.old writer.new buffer.old.items buffer.new.items result }
 {
     match question.style {
-        Style::Text => {
-            write_text(
-                writer,
-                buffer,
-                origins,
-                numbers,
-                question.direction,
-                node,
-                event,
-            )
-        }
-        Style::Json => write_json(writer, buffer, origins, numbers, node, event),
+        Style::Text => { write_text(writer, buffer, trace, question.direction, node, event) }
+        Style::Json => write_json(writer, buffer, trace, node, event),
     }
 }
 
@@ -66,18 +55,16 @@ fn write_event<W: ByteSink>(
 fn write_node<W: ByteSink>(
     writer: &mut W,
     buffer: &mut Buffer,
-    origins: &Origins,
-    numbers: &LineNumbers,
+    trace: &NumberedOrigins<'_>,
     question: Question,
     node: Node,
 ) -> Result<(), Device>
-    requires { numbers.now ≡ origins.now }
-    ensures { WritesOn W.puts W.failed (node_line origins.now question node)
+    ensures { WritesOn W.puts W.failed (node_line trace.now question node)
         writer.old writer.new buffer.old.items buffer.new.items result }
 {
-    match origins.event(node.place.0, node.place.1) {
+    match trace.event(node.place.0, node.place.1) {
         None => Ok(()),
-        Some(event) => write_event(writer, buffer, origins, numbers, question, node, &event),
+        Some(event) => write_event(writer, buffer, trace, question, node, &event),
     }
 }
 
@@ -85,17 +72,15 @@ fn write_node<W: ByteSink>(
 fn write_nodes<W: ByteSink>(
     writer: &mut W,
     buffer: &mut Buffer,
-    origins: &Origins,
-    numbers: &LineNumbers,
+    trace: &NumberedOrigins<'_>,
     question: Question,
     nodes: &[Node],
 ) -> Result<(), Device>
-    requires { numbers.now ≡ origins.now }
-    ensures { WritesOn W.puts W.failed (flat_map (node_line origins.now question) nodes.now)
+    ensures { WritesOn W.puts W.failed (flat_map (node_line trace.now question) nodes.now)
         writer.old writer.new buffer.old.items buffer.new.items result }
 {
     for node in nodes {
-        write_node(writer, buffer, origins, numbers, question, *node)?;
+        write_node(writer, buffer, trace, question, *node)?;
     }
     Ok(())
 }
@@ -115,34 +100,30 @@ fn write_last<W: ByteSink>(writer: &mut W, buffer: &mut Buffer, style: Style) ->
 fn write_answer<W: ByteSink>(
     writer: &mut W,
     buffer: &mut Buffer,
-    origins: &Origins,
-    numbers: &LineNumbers,
+    trace: &NumberedOrigins<'_>,
     question: Question,
     nodes: &[Node],
 ) -> Result<(), Device>
-    requires { numbers.now ≡ origins.now }
     ensures { WritesOn W.puts W.failed
-        (flat_map (node_line origins.now question) nodes.now ++ last_line question.style)
+        (flat_map (node_line trace.now question) nodes.now ++ last_line question.style)
         writer.old writer.new buffer.old.items buffer.new.items result }
 {
-    write_nodes(writer, buffer, origins, numbers, question, nodes)?;
+    write_nodes(writer, buffer, trace, question, nodes)?;
     write_last(writer, buffer, question.style)
 }
 
 /// The same, all of it.
 pub(crate) fn send_answer<W: ByteSink>(
     writer: &mut W,
-    origins: &Origins,
-    numbers: &LineNumbers,
+    trace: &NumberedOrigins<'_>,
     question: Question,
     nodes: &[Node],
 ) -> Result<(), Device>
-    requires { numbers.now ≡ origins.now }
     ensures { WritesText W.puts W.failed
-        (flat_map (node_line origins.now question) nodes.now ++ last_line question.style)
+        (flat_map (node_line trace.now question) nodes.now ++ last_line question.style)
         writer.old writer.new result }
 {
     let mut buffer = Buffer::new();
-    write_answer(writer, &mut buffer, origins, numbers, question, nodes)?;
+    write_answer(writer, &mut buffer, trace, question, nodes)?;
     flush(writer, &mut buffer)
 }

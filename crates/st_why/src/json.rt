@@ -15,8 +15,9 @@ ghost use Rattle.st_why.specs.Json.{hop_object, kind_field, place_fields, premis
 ghost use Rattle.st_why.specs.Json.{premises_object};
 
 use crate::parts::line_number_at;
+use crate::trace::NumberedOrigins;
 use st_core::{ByteSink, Event, Kind, Label, Pid};
-use st_hops::{Hop, Node, Origins, Premises};
+use st_hops::{Hop, Node, Premises};
 use st_lines::LineNumbers;
 use st_text::{Buffer, Device, make_room, put_bytes, put_number, put_pid};
 
@@ -167,19 +168,18 @@ fn write_rest<W: ByteSink>(
 pub(crate) fn write_json<W: ByteSink>(
     writer: &mut W,
     buffer: &mut Buffer,
-    origins: &Origins,
-    numbers: &LineNumbers,
+    trace: &NumberedOrigins<'_>,
     node: Node,
     event: &Event,
 ) -> Result<(), Device>
-    requires same { numbers.now ≡ origins.now }
-    requires there { event_at origins.now node.place.0 node.place.1 ≡ Some event.now }
+    requires { event_at trace.now node.place.0 node.place.1 ≡ Some event.now }
     ensures { WritesOn W.puts W.failed
-        (hop_object origins.now node.depth node.place.0 node.place.1 event.now)
+        (hop_object trace.now node.depth node.place.0 node.place.1 event.now)
         writer.old writer.new buffer.old.items buffer.new.items result }
 {
     let (pid, index) = node.place;
-    let hop = origins.hop(pid, index, event);
+    let hop = trace.hop(pid, index, event);
+    let numbers = trace.numbers();
     make_room(writer, buffer)?;
     put_front(buffer, numbers, node);
     write_rest(writer, buffer, numbers, pid, event, hop)

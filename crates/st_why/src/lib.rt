@@ -8,6 +8,7 @@ mod lines;
 mod parts;
 mod question;
 mod text;
+mod trace;
 mod why;
 
 pub use question::{Direction, Question, Start, Style};

@@ -10,8 +10,9 @@ ghost use Rattle.st_why.specs.Words.{head_words, hop_line, hop_words, premises_t
 
 use crate::parts::{put_claim, put_depth, put_located, put_premises, put_what};
 use crate::question::Direction;
+use crate::trace::NumberedOrigins;
 use st_core::{ByteSink, Event, Label, Pid};
-use st_hops::{Hop, Node, Origins};
+use st_hops::{Hop, Node};
 use st_lines::LineNumbers;
 use st_text::{Buffer, Device, make_room, put_bytes};
 
@@ -51,20 +52,19 @@ fn put_sentence(buffer: &mut Buffer, numbers: &LineNumbers, pid: Pid, label: Lab
 pub(crate) fn write_text<W: ByteSink>(
     writer: &mut W,
     buffer: &mut Buffer,
-    origins: &Origins,
-    numbers: &LineNumbers,
+    trace: &NumberedOrigins<'_>,
     direction: Direction,
     node: Node,
     event: &Event,
 ) -> Result<(), Device>
-    requires same { numbers.now ≡ origins.now }
-    requires there { event_at origins.now node.place.0 node.place.1 ≡ Some event.now }
+    requires { event_at trace.now node.place.0 node.place.1 ≡ Some event.now }
     ensures { WritesOn W.puts W.failed
-        (hop_line origins.now direction node.depth node.place.0 node.place.1 event.now)
+        (hop_line trace.now direction node.depth node.place.0 node.place.1 event.now)
         writer.old writer.new buffer.old.items buffer.new.items result }
 {
     let (pid, index) = node.place;
-    let hop = origins.hop(pid, index, event);
+    let hop = trace.hop(pid, index, event);
+    let numbers = trace.numbers();
     make_room(writer, buffer)?;
     put_head(buffer, numbers, direction, node, event);
     make_room(writer, buffer)?;

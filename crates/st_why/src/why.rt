@@ -14,12 +14,11 @@ ghost use Rattle.st_why.specs.Why.{HasNoStart, IsStart, IsWhy};
 use crate::answer::{nodes_from, send_answer};
 use crate::lines::NoEvent;
 use crate::question::{Question, Start};
+use crate::trace::NumberedOrigins;
 use st_audit::unfit_by;
 use st_commands::{status_of, tell_fault, tell_finding, tell_line};
 use st_core::{ByteSink, ByteSource, Pid, Streams};
-use st_hops::Origins;
 use st_hops::laws::hops_are_true;
-use st_lines::LineNumbers;
 use st_pair::{PairFault, Pairing, pair};
 use st_text::{Limits, ReadFault, read_within};
 use std::alloc::Global;
@@ -42,14 +41,13 @@ fn tell_unpaired<W: ByteSink>(
 }
 
 /// The place of the event that is asked about; none if there is no such event.
-fn place_of(origins: &Origins, numbers: &LineNumbers, start: Start) -> Option<(Pid, u64)>
-    requires { numbers.now ≡ origins.now }
-    ensures found { IfSome result (IsStart origins.now start) }
-    ensures missing { IfNone result (HasNoStart origins.now start) }
+fn place_of(trace: &NumberedOrigins<'_>, start: Start) -> Option<(Pid, u64)>
+    ensures found { IfSome result (IsStart trace.now start) }
+    ensures missing { IfNone result (HasNoStart trace.now start) }
 {
     match start {
-        Start::Line(line) => numbers.place(line),
-        Start::Place(pid, index) => match origins.event(pid, index) {
+        Start::Line(line) => trace.numbers().place(line),
+        Start::Place(pid, index) => match trace.event(pid, index) {
             None => None,
             Some(_) => Some((pid, index)),
         },
@@ -59,21 +57,19 @@ fn place_of(origins: &Origins, numbers: &LineNumbers, start: Start) -> Option<(P
 /// Writes what is found from an event that is there.
 fn tell_found<W: ByteSink>(
     alloc: Global,
-    origins: &Origins,
-    numbers: &LineNumbers,
+    trace: &NumberedOrigins<'_>,
     question: Question,
     place: (Pid, u64),
     writer: &mut W,
 ) -> u8
-    requires same { numbers.now ≡ origins.now }
-    requires accepted { refusal origins.now ≡ None }
-    requires start { IsStart origins.now question.start place }
+    requires accepted { refusal trace.now ≡ None }
+    requires start { IsStart trace.now question.start place }
     ensures { Tells (call W.ByteSink writer.old writer.new)
-        (AnswersOf origins.now question) result }
+        (AnswersOf trace.now question) result }
 {
-    match nodes_from(alloc, origins, question, place) {
+    match nodes_from(alloc, trace, question, place) {
         Ok(nodes) => {
-            let sent = send_answer(writer, origins, numbers, question, nodes.as_slice());
+            let sent = send_answer(writer, trace, question, nodes.as_slice());
             status_of(sent, 0)
         }
         Err(_) => tell_fault(writer, ReadFault::Memory),
@@ -83,18 +79,16 @@ fn tell_found<W: ByteSink>(
 /// Writes what is found, if the event is there.
 fn answer<W: ByteSink>(
     alloc: Global,
-    origins: &Origins,
-    numbers: &LineNumbers,
+    trace: &NumberedOrigins<'_>,
     question: Question,
     writer: &mut W,
 ) -> u8
-    requires same { numbers.now ≡ origins.now }
-    requires accepted { refusal origins.now ≡ None }
+    requires { refusal trace.now ≡ None }
     ensures { Tells (call W.ByteSink writer.old writer.new)
-        (AnswersOf origins.now question) result }
+        (AnswersOf trace.now question) result }
 {
-    match place_of(origins, numbers, question.start) {
-        Some(place) => tell_found(alloc, origins, numbers, question, place, writer),
+    match place_of(trace, question.start) {
+        Some(place) => tell_found(alloc, trace, question, place, writer),
         None => tell_line(writer, NoEvent(question.start), 1),
     }
 }
@@ -111,13 +105,10 @@ fn answer_paired<W: ByteSink>(
     ensures { Tells (call W.ByteSink writer.old writer.new)
         (AnswersOf streams.now question) result }
 {
-    let Ok(origins) = Origins::new(alloc, streams, pairing) else {
-        return tell_fault(writer, ReadFault::Memory);
-    };
-    let Ok(numbers) = LineNumbers::new(alloc, streams) else {
-        return tell_fault(writer, ReadFault::Memory);
-    };
-    answer(alloc, &origins, &numbers, question, writer)
+    match NumberedOrigins::new(alloc, streams, pairing) {
+        Ok(trace) => answer(alloc, &trace, question, writer),
+        Err(_) => tell_fault(writer, ReadFault::Memory),
+    }
 }
 
 /// Writes what is found in streams.

@@ -6,10 +6,11 @@ use Rattle.st_why.proofs.answer.write_node.Goals as goal
 
 pub returns-in-None : goal.returns-in-None
 returns-in-None g c =
-    rw (line_of c.args.origins.now c.args.question c.args.node None (sym c.event.ensures ∙ c.in-None.is))
+    rw (line_of c.args.trace.now c.args.question c.args.node None
+    (sym c.event.ensures ∙ c.in-None.is))
     (goes_still g.W.ByteSink.puts g.W.ByteSink.failed)
 
 pub returns-in-Some : goal.returns-in-Some
 returns-in-Some g c =
-    rw (line_of c.args.origins.now c.args.question c.args.node (Some c.in-Some.event)
+    rw (line_of c.args.trace.now c.args.question c.args.node (Some c.in-Some.event)
     (sym c.event.ensures ∙ c.in-Some.is)) c.write_event.ensures

@@ -8,5 +8,5 @@ use Rattle.st_why.proofs.answer.write_nodes.Given as goal
 abbrev pub invariant-loop-node : goal.invariant-loop-node
 invariant-loop-node g l =
     Goes g.W.ByteSink.puts g.W.ByteSink.failed
-    (flat_map (node_line l.origins l.question) (take l.node-index l.nodes)) l.initial.writer l.writer
+    (flat_map (node_line l.trace l.question) (take l.node-index l.nodes)) l.initial.writer l.writer
     l.initial.buffer.items l.buffer.items

@@ -7,5 +7,10 @@ pub returns : goal.returns
 returns c = record {
   items = three_pieces _ _ _ _ _ _ _ c.put_bytes.ensures.items c.put_place_fields.ensures.items
       c.put_bytes-2.ensures.items;
-  len = omega (arith, c.put_bytes.ensures.len, c.put_place_fields.ensures.len, c.put_bytes-2.ensures.len);
+  len = omega (
+    arith,
+    c.put_bytes.ensures.len,
+    c.put_place_fields.ensures.len,
+    c.put_bytes-2.ensures.len,
+  );
 }

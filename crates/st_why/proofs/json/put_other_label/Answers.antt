@@ -7,7 +7,8 @@ pub returns : goal.returns
 returns c = record {
   items =
       five_pieces _ _ _ _ _ _ _ _ _ _ _ c.put_bytes.ensures.items c.put_place_fields.ensures.items
-      c.put_bytes-2.ensures.items (rw c.from.ensures at c.put_number.ensures.items) c.put_bytes-3.ensures.items;
+      c.put_bytes-2.ensures.items (rw c.from.ensures at c.put_number.ensures.items)
+      c.put_bytes-3.ensures.items;
   len =
       omega (
         arith,

@@ -17,4 +17,5 @@ returns g c =
     let sink = g.W.ByteSink in
     goes_then sink.puts sink.failed [] (ended_line premises_object) c.in_ok-make_room.ensures.goes
     (goes_buffer sink.puts sink.failed
-    (two_pieces _ premises_object (10 ∷ []) _ _ c.put_bytes.ensures.items c.put_bytes-2.ensures.items))
+    (two_pieces _ premises_object (10 ∷ []) _ _ c.put_bytes.ensures.items
+    c.put_bytes-2.ensures.items))

@@ -8,4 +8,5 @@ use Rattle.st_why.proofs.text.write_premises.Goals as goal
 pub returns-in_err-make_room : goal.returns-in_err-make_room
 returns-in_err-make_room g c =
     on_err _ _ _ _ c.from_residual.ensures.0
-    (part_longer g.W.ByteSink.puts g.W.ByteSink.failed [] (ended_line premises_text) _ c.in_err-make_room.ensures.goes)
+    (part_longer g.W.ByteSink.puts g.W.ByteSink.failed []
+    (ended_line premises_text) _ c.in_err-make_room.ensures.goes)

@@ -9,7 +9,8 @@ use Rattle.st_why.proofs.text.write_text.Goals as goal
 pub returns-in_err-make_room : goal.returns-in_err-make_room
 returns-in_err-make_room g c =
     let x = c.args.node in
-    let line = hop_line c.args.origins.now c.args.direction x.depth x.place.0 x.place.1 c.args.event.now in
+    let line = hop_line c.args.trace.now c.args.direction x.depth x.place.0 x.place.1
+    c.args.event.now in
     on_err _ _ _ _ c.from_residual.ensures.0
     (part_longer g.W.ByteSink.puts g.W.ByteSink.failed [] line _ c.in_err-make_room.ensures.goes)
 
@@ -17,12 +18,13 @@ pub returns-in_err-make_room-2 : goal.returns-in_err-make_room-2
 returns-in_err-make_room-2 g c =
     let e = c.args.event.now in
     let x = c.args.node in
-    let streams = c.args.origins.now in
+    let streams = c.args.trace.now in
     let front = head_words streams c.args.direction x.depth x.place.0 x.place.1 e in
-    let rest = ended_line (hop_words streams x.place.0 e.label (hop_of streams x.place.0 x.place.1 e)) in
+    let rest = ended_line (hop_words streams x.place.0 e.label
+    (hop_of streams x.place.0 x.place.1 e)) in
     let sink = g.W.ByteSink in
     let begun = goes_then sink.puts sink.failed [] front c.in_ok-make_room.ensures.goes
-    (goes_buffer sink.puts sink.failed (rw c.requires.same at c.put_head.ensures)) in
+    (goes_buffer sink.puts sink.failed (rw c.numbers-numbers.ensures at c.put_head.ensures)) in
     then_on sink.puts sink.failed front rest _ _ _ begun
     (on_err _ _ _ _ c.from_residual-in_err-make_room-2.ensures.0
     (part_longer sink.puts sink.failed [] rest _ c.in_err-make_room-2.ensures.goes))
@@ -31,13 +33,14 @@ pub returns : goal.returns
 returns g c =
     let e = c.args.event.now in
     let x = c.args.node in
-    let streams = c.args.origins.now in
+    let streams = c.args.trace.now in
     let front = head_words streams c.args.direction x.depth x.place.0 x.place.1 e in
-    let rest = ended_line (hop_words streams x.place.0 e.label (hop_of streams x.place.0 x.place.1 e)) in
+    let rest = ended_line (hop_words streams x.place.0 e.label
+    (hop_of streams x.place.0 x.place.1 e)) in
     let sink = g.W.ByteSink in
     let begun = goes_then sink.puts sink.failed [] front c.in_ok-make_room.ensures.goes
-    (goes_buffer sink.puts sink.failed (rw c.requires.same at c.put_head.ensures)) in
-    let end = rw (c.hop-hop.ensures.value, c.requires.same) at c.put_sentence.ensures in
+    (goes_buffer sink.puts sink.failed (rw c.numbers-numbers.ensures at c.put_head.ensures)) in
+    let end = rw (c.hop-hop.ensures, c.numbers-numbers.ensures) at c.put_sentence.ensures in
     let ended = goes_then sink.puts sink.failed [] rest c.in_ok-make_room-2.ensures.goes
     (goes_buffer sink.puts sink.failed end) in
     goes_then sink.puts sink.failed front rest begun ended

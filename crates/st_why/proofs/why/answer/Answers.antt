@@ -7,6 +7,6 @@ pub returns-in-None : goal.returns-in-None
 returns-in-None g c =
     record {
       output = no_event c.args.question.start;
-      owed = OfNoEvent c.requires.accepted c.in-None.ensures.missing;
+      owed = OfNoEvent c.requires c.in-None.ensures.missing;
       delivered = c.tell_line.ensures;
     }

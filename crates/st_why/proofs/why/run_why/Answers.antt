@@ -1,4 +1,5 @@
--- The reader tells which bytes it gave, what was delivered is what they owe, and its status says what it is.
+-- The reader tells which bytes it gave, what was delivered is what they owe, and its status says
+-- what it is.
 use Rattle.st_text.specs.Limits.{greater}
 use Rattle.st_commands.specs.Command.{call}
 use Rattle.st_commands.proofs.ForCallers.{says, tells_as, tells_fault, was_read}
@@ -14,7 +15,8 @@ returns-in-Ok-clause-told g c =
 
 pub returns-in-Ok-clause-found : goal.returns-in-Ok-clause-found
 returns-in-Ok-clause-found g c =
-    says 0 (λ same. cc) (told_means c.hops_are_true.ensures c.args.question) (returns-in-Ok-clause-told g c)
+    says 0 (λ same. cc) (told_means c.hops_are_true.ensures c.args.question)
+    (returns-in-Ok-clause-told g c)
 
 pub returns-in-Ok-clause-untold : goal.returns-in-Ok-clause-untold
 returns-in-Ok-clause-untold g c =
@@ -27,7 +29,8 @@ returns-in-Err-clause-told g c =
 
 pub returns-in-Err-clause-found : goal.returns-in-Err-clause-found
 returns-in-Err-clause-found g c =
-    says 0 (λ same. cc) (told_means c.hops_are_true.ensures c.args.question) (returns-in-Err-clause-told g c)
+    says 0 (λ same. cc) (told_means c.hops_are_true.ensures c.args.question)
+    (returns-in-Err-clause-told g c)
 
 pub returns-in-Err-clause-untold : goal.returns-in-Err-clause-untold
 returns-in-Err-clause-untold g c =

@@ -8,12 +8,13 @@ use Rattle.st_why.proofs.why.tell_found.Goals as goal
 
 pub returns-in-Ok : goal.returns-in-Ok
 returns-in-Ok g c =
-    let out = found c.args.origins.now c.args.question c.args.place in
+    let out = found c.args.trace.now c.args.question c.args.place in
     record {
       output = out;
       owed = OfFound c.args.place c.requires.accepted c.requires.start;
       delivered = delivers (call g.W.ByteSink _ _) out c.send_answer-sent.result _
-          (rw (c.as_slice.ensures.value, c.in-Ok.ensures) at c.send_answer-sent.ensures) c.status_of.ensures;
+          (rw (c.as_slice.ensures.value, c.in-Ok.ensures) at c.send_answer-sent.ensures)
+          c.status_of.ensures;
     }
 
 pub returns-in-Err : goal.returns-in-Err
