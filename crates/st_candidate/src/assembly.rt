@@ -2,10 +2,13 @@
 
 use crate::asks::{Ask, split_asks, split_hidden};
 use crate::candidate::{Candidate, items_from};
-use crate::entries::Entries;
+use crate::entries::{Entries, Origin};
 use crate::hidden::HiddenSend;
 use crate::inventions::Invention;
+use crate::links::{links_of, short};
+use crate::placed::Placed;
 use st_core::{Draft, Event, Pid, Sequence, Streams};
+use st_pair::Pairing;
 use std::alloc::{AllocError, Global};
 use std::mem::replace;
 
@@ -27,6 +30,8 @@ pub(crate) struct Parts {
 struct Assembly<'a> {
     streams: &'a Streams,
     draft: Draft,
+    /// Where the events stand that were added.
+    placed: Placed,
     /// The marks of the process whose events are being added.
     marks: Vec<bool>,
     hidden_left: &'a [HiddenSend],
@@ -57,11 +62,12 @@ impl Assembly<'_> {
     }
 
     /// Adds an event of the process.
-    fn add(&mut self, pid: Pid, event: Event, told: bool) -> Result<(), AllocError> {
+    fn add(&mut self, pid: Pid, event: Event, origin: Origin) -> Result<(), AllocError> {
         let Ok(()) = self.draft.add(pid, event) else {
             return Err(AllocError);
         };
-        self.marks.push(told)?;
+        self.placed.note(origin, short(self.marks.len()))?;
+        self.marks.push(origin.is_told())?;
         Ok(())
     }
 
@@ -77,7 +83,7 @@ impl Assembly<'_> {
             if invention.count > most {
                 return Ok(left);
             }
-            self.add(pid, invention.sent(), false)?;
+            self.add(pid, invention.sent(), Origin::Invented)?;
             left = items_from(left, 1);
         }
         Ok(left)
@@ -93,7 +99,7 @@ impl Assembly<'_> {
         let mut left = sends;
         for entry in entries {
             left = self.add_sends(pid, left, entry.event.serial.this)?;
-            self.add(pid, entry.event, entry.told)?;
+            self.add(pid, entry.event, entry.origin)?;
         }
         self.add_sends(pid, left, u64::MAX)?;
         Ok(())
@@ -107,23 +113,28 @@ impl Assembly<'_> {
         self.hidden_left = hidden_left;
         self.fed_left = fed_left;
         self.inventions_left = inventions_left;
-        let entries = Entries::new(self.streams, self.streams.events(pid), hidden, fed);
+        let reported = self.streams.events(pid);
+        if self.streams.place_of(pid).is_some() {
+            self.placed.begin()?;
+        }
+        let entries = Entries::new(self.streams, reported, hidden, fed);
         self.make_room(pid, entries.most().saturating_add(sends.len()))?;
         self.add_process(pid, entries, sends)?;
         Ok(replace(&mut self.marks, Vec::new(alloc)))
     }
 
-    /// The draft of all that was added.
-    fn into_draft(self) -> Draft {
+    /// The draft of all that was added, and where it stands.
+    fn into_draft(self) -> (Draft, Placed) {
         let Assembly {
             streams: _,
             draft,
+            placed,
             marks: _,
             hidden_left: _,
             fed_left: _,
             inventions_left: _,
         } = self;
-        draft
+        (draft, placed)
     }
 }
 
@@ -142,34 +153,39 @@ fn open_draft(alloc: Global, pids: &[Pid]) -> Result<Draft, AllocError> {
 pub(crate) fn assemble(
     alloc: Global,
     streams: &Streams,
+    pairing: &Pairing,
     parts: Parts,
 ) -> Result<Option<Candidate>, AllocError> {
-    let Parts {
-        hidden,
-        fed,
-        inventions,
-        unlisted,
-    } = parts;
-    let pids = all_pids(alloc, streams, &unlisted)?;
+    let pids = all_pids(alloc, streams, &parts.unlisted)?;
     let mut assembly = Assembly {
         streams,
         draft: open_draft(alloc, &pids)?,
+        placed: Placed::new(alloc, streams, &parts)?,
         marks: Vec::new(alloc),
-        hidden_left: &hidden,
-        fed_left: &fed,
-        inventions_left: &inventions,
+        hidden_left: &parts.hidden,
+        fed_left: &parts.fed,
+        inventions_left: &parts.inventions,
     };
     let mut told = Vec::with_capacity(alloc, pids.len())?;
     for &pid in &pids {
         let marks = assembly.add_next(alloc, pid)?;
         told.push(Sequence::from_vec(marks))?;
     }
-    match assembly.into_draft().close() {
-        Err(_) => Ok(None),
-        Ok(streams) => Ok(Some(Candidate {
-            streams,
-            told,
-            unlisted,
-        })),
-    }
+    let (draft, placed) = assembly.into_draft();
+    let Ok(whole) = draft.close() else {
+        return Ok(None);
+    };
+    let links = links_of(alloc, streams, pairing, &parts, &placed, &whole)?;
+    let Parts {
+        hidden: _,
+        fed: _,
+        inventions: _,
+        unlisted,
+    } = parts;
+    Ok(Some(Candidate {
+        streams: whole,
+        told,
+        links,
+        unlisted,
+    }))
 }

@@ -26,6 +26,10 @@ pub struct Candidate {
     pub streams: Streams,
     /// For each process, by its place, whether each of its events is told.
     pub told: Vec<Sequence<bool>>,
+    /// For each process, by its place, and each of its events the index of the other end of its message:
+    /// of a receive among the events of its sender, of a send among those of its receiver. That of an
+    /// event without another end may be any number.
+    pub links: Vec<Sequence<u32>>,
     /// The processes that weren't listed, by rising pid.
     pub unlisted: Vec<Pid>,
 }
@@ -59,13 +63,13 @@ pub fn build_candidate(
     let mut asks = Asks::of(alloc, streams, &hidden)?;
     give_lost(alloc, streams, pairing, &mut asks)?;
     let mut fed = asks.into_fed()?;
-    let (mut inventions, unlisted) = give_senders(alloc, streams, &hidden, &mut fed)?;
-    invent(streams, &hidden, &mut fed, &mut inventions)?;
+    let (sends, unlisted) = give_senders(alloc, streams, &hidden, &mut fed)?;
+    let inventions = invent(alloc, streams, &hidden, &mut fed, sends)?;
     let parts = Parts {
         hidden,
         fed,
         inventions,
         unlisted,
     };
-    assemble(alloc, streams, parts)
+    assemble(alloc, streams, pairing, parts)
 }

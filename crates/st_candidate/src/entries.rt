@@ -6,18 +6,34 @@ use crate::asks::Ask;
 use crate::hidden::HiddenSend;
 use st_core::{Event, Kind, Streams};
 
-/// An event of a process, and whether it was reported.
+/// Where an event comes from.
+#[derive(Clone, Copy, Debug)]
+pub(crate) enum Origin {
+    /// It was reported.
+    Reported,
+    /// It is a hidden send.
+    Hidden,
+    /// It is the receive that a stamp got.
+    Fed,
+    /// It is the send of a message that was invented.
+    Invented,
+}
+
+impl Origin {
+    /// Whether it was reported.
+    pub(crate) fn is_told(self) -> bool {
+        match self {
+            Origin::Reported => true,
+            Origin::Hidden | Origin::Fed | Origin::Invented => false,
+        }
+    }
+}
+
+/// An event of a process, and where it comes from.
 #[derive(Clone, Copy, Debug)]
 pub(crate) struct Entry {
     pub event: Event,
-    pub told: bool,
-}
-
-impl Entry {
-    /// An event that wasn't reported.
-    fn untold(event: Event) -> Entry {
-        Entry { event, told: false }
-    }
+    pub origin: Origin,
 }
 
 /// The events of a process in order: the reported ones, its hidden sends at their places, and right
@@ -101,13 +117,22 @@ impl<'a> Entries<'a> {
     /// The next event, if there is one.
     fn next_entry(&mut self) -> Option<Entry> {
         if let Some(received) = self.next_receive() {
-            return Some(Entry::untold(received));
+            return Some(Entry {
+                event: received,
+                origin: Origin::Fed,
+            });
         }
         if let Some(sent) = self.next_hidden() {
-            return Some(Entry::untold(sent));
+            return Some(Entry {
+                event: sent,
+                origin: Origin::Hidden,
+            });
         }
         let event = self.next_reported()?;
-        Some(Entry { event, told: true })
+        Some(Entry {
+            event,
+            origin: Origin::Reported,
+        })
     }
 }
 

@@ -27,6 +27,8 @@ pub(crate) struct HiddenSend {
     /// The index of its sender's reported event that it is before, the number of these events
     /// if it is behind all; 0 until the walk has found it.
     pub place: u32,
+    /// The index of its receive among its receiver's reported events.
+    pub receipt: u32,
 }
 
 /// Notes the receives of hidden sends among a process's events.
@@ -70,7 +72,11 @@ pub(crate) fn hidden_sends(
                 kind: Kind::Send,
                 ..receive
             };
-            hidden.push(HiddenSend { event, place: 0 })?;
+            hidden.push(HiddenSend {
+                event,
+                place: 0,
+                receipt: receipt.index,
+            })?;
         }
     }
     Ok(hidden)

@@ -3,9 +3,10 @@
 use crate::asks::{Ask, Message, split_asks, split_hidden};
 use crate::entries::Entries;
 use crate::hidden::HiddenSend;
+use crate::sorting::sorted_by_number;
 use st_core::{Event, Kind, Label, Pid, Serial, Streams};
 use st_needs::{Left, is_stamp};
-use std::alloc::AllocError;
+use std::alloc::{AllocError, Global};
 
 /// The send of an invented message. It is before the first event of its sender that doesn't
 /// count lower, or at the end.
@@ -130,17 +131,40 @@ fn note_prevs(fed: &mut [Ask], inventions: &[Invention]) {
     }
 }
 
-/// Gives the invented messages that these stamps got their prevs. Their sends, which come by count,
-/// then are by sender and count.
+/// How many sends pay for a table of all numbers of a node.
+const MANY: usize = 1 << 16;
+
+/// The sends by sender; those of one sender stay as they come.
+fn by_sender(alloc: Global, inventions: Vec<Invention>) -> Result<Vec<Invention>, AllocError> {
+    let mut inventions = inventions;
+    if inventions.is_sorted_by_key(|invention| invention.sender) {
+        return Ok(inventions);
+    }
+    let node = inventions
+        .first()
+        .map_or(0, |invention| invention.sender.node());
+    let is_one_node = inventions
+        .iter()
+        .all(|invention| invention.sender.node() == node);
+    if is_one_node && inventions.len() >= MANY {
+        let number = |invention: &Invention| usize::from(invention.sender.number());
+        return sorted_by_number(alloc, &inventions, usize::from(u16::MAX), &number);
+    }
+    inventions.sort_by_key(|invention| invention.sender)?;
+    Ok(inventions)
+}
+
+/// Gives the invented messages that these stamps got their prevs. Returns their sends, which come by
+/// count, by sender and count.
 pub(crate) fn invent(
+    alloc: Global,
     streams: &Streams,
     hidden: &[HiddenSend],
     fed: &mut [Ask],
-    inventions: &mut Vec<Invention>,
-) -> Result<(), AllocError> {
-    // Those of one sender stay as they come.
-    inventions.sort_by_key(|invention| invention.sender)?;
-    give_prevs(streams, hidden, fed, inventions);
-    note_prevs(fed, inventions);
-    Ok(())
+    inventions: Vec<Invention>,
+) -> Result<Vec<Invention>, AllocError> {
+    let mut sends = by_sender(alloc, inventions)?;
+    give_prevs(streams, hidden, fed, &mut sends);
+    note_prevs(fed, &sends);
+    Ok(sends)
 }

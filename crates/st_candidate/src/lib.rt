@@ -1,8 +1,8 @@
 //! Nothing is proved of what is built here but that it is safe and returns. `st_complete` judges all
 //! of it, and a wrong candidate or link costs time and no more.
 //!
-//! `build_candidate` builds whole streams that may be a completion of streams. `links_of` pairs the
-//! sends and receives of whole streams.
+//! `build_candidate` builds whole streams that may be a completion of streams, and pairs their sends
+//! and receives.
 #![tactic(auto)]
 
 mod asks;
@@ -13,10 +13,11 @@ mod hidden;
 mod inventions;
 mod links;
 mod lost;
+mod placed;
 mod senders;
+mod sorting;
 mod stretch;
 mod unlisted;
 mod walk;
 
 pub use candidate::{Candidate, build_candidate};
-pub use links::links_of;

@@ -1,8 +1,15 @@
-//! Which send each receive of whole streams has, and which receive each send. The judge looks at
-//! both ends of a message before it believes them, so nothing has to hold of what is found here.
+//! Which send each receive of a candidate has, and which receive each send. It is known where each
+//! event stands, and each message is from the pairing, a hidden send, or what a stamp got: nothing is
+//! searched. The judge looks at both ends of a message before it believes them, so nothing has to
+//! hold of what is found here.
 
-use st_core::{Event, Sequence, Streams};
-use st_needs::is_stamp;
+use crate::asks::{Ask, Message};
+use crate::assembly::Parts;
+use crate::hidden::HiddenSend;
+use crate::inventions::Invention;
+use crate::placed::Placed;
+use st_core::{Event, Kind, Pid, Sequence, Streams};
+use st_pair::Pairing;
 use std::alloc::{AllocError, Global};
 
 /// An index in half the memory. One past what that holds is a wrong link, which the judge refuses.
@@ -10,109 +17,144 @@ pub(crate) fn short(index: usize) -> u32 {
     index.min(u32::MAX as usize) as u32
 }
 
-/// The sends and prints of a process.
+/// One end of a message: an event of the whole streams.
+#[derive(Clone, Copy, Debug)]
+struct End {
+    /// The place of its process.
+    process: usize,
+    /// Its index there.
+    index: u32,
+}
+
+/// The links of whole streams, as far as they were found.
 #[derive(Debug, Drop)]
-struct Stamps {
-    /// Their counts, which rise. A search in them alone reads far less memory than one in the events.
-    counts: Vec<u64>,
-    /// Their indexes.
-    indexes: Vec<u32>,
-    /// The number of the one behind that which was found last. Messages mostly are received as they
-    /// were sent.
-    next: usize,
+struct Linker<'a> {
+    streams: &'a Streams,
+    whole: &'a Streams,
+    /// Where the events stand in the whole streams.
+    placed: &'a Placed,
+    /// For each process, by its place, and each of its events the index of its other end.
+    rows: Vec<Vec<u32>>,
 }
 
-impl Stamps {
-    /// Those of these events.
-    fn of(alloc: Global, events: &[Event]) -> Result<Stamps, AllocError> {
-        let count = events.iter().filter(|event| is_stamp(event)).count();
-        let mut counts = Vec::with_capacity(alloc, count)?;
-        let mut indexes = Vec::with_capacity(alloc, count)?;
+impl Linker<'_> {
+    /// The end at an event of this process, by its index in the whole streams.
+    fn end_at(&self, pid: Pid, index: u32) -> Option<End> {
+        let process = self.whole.place_of(pid)?;
+        Some(End { process, index })
+    }
+
+    /// The end at a reported event.
+    fn end_at_reported(&self, pid: Pid, index: usize) -> Option<End> {
+        let process = self.streams.place_of(pid)?;
+        self.end_at(pid, self.placed.of_reported(process, index)?)
+    }
+
+    /// Notes what is at the other end of the message at this one.
+    fn note(&mut self, end: End, other: End) {
+        if let Some(row) = self.rows.get_mut(end.process) {
+            if let Some(slot) = row.get_mut(end.index as usize) {
+                *slot = other.index;
+            }
+        }
+    }
+
+    /// Links both ends of a message.
+    fn link(&mut self, send: Option<End>, receive: Option<End>) {
+        if let (Some(sent), Some(received)) = (send, receive) {
+            self.note(sent, received);
+            self.note(received, sent);
+        }
+    }
+
+    /// Links the reported sends of a process with their reported receives.
+    fn link_reported(&mut self, pairing: &Pairing, pid: Pid, events: &[Event]) {
         for (index, event) in events.iter().enumerate() {
-            if is_stamp(event) {
-                counts.push(event.serial.this)?;
-                indexes.push(short(index))?;
+            if event.kind != Kind::Send {
+                continue;
+            }
+            if let Some((to, place)) = pairing.receiver(pid, index as u64) {
+                let received = self.end_at_reported(to, place as usize);
+                self.link(self.end_at_reported(pid, index), received);
             }
         }
-        Ok(Stamps {
-            counts,
-            indexes,
-            next: 0,
-        })
     }
 
-    /// Whether the one of this number has this count.
-    fn has(&self, number: usize, count: u64) -> bool {
-        self.counts.get(number).is_some_and(|own| *own == count)
-    }
-
-    /// The index of the one with this count.
-    fn find(&mut self, count: u64) -> Option<u32> {
-        let mut number = self.next;
-        if !self.has(number, count) {
-            number = self.counts.partition_point(|other| *other < count);
-            if !self.has(number, count) {
-                return None;
+    /// Links hidden sends with their receives.
+    fn link_hidden(&mut self, hidden: &[HiddenSend]) {
+        for (send, &index) in hidden.iter().zip(self.placed.hidden()) {
+            if let Some(to) = send.event.to {
+                let received = self.end_at_reported(to, send.receipt as usize);
+                self.link(self.end_at(send.event.from, index), received);
             }
         }
-        self.next = number.saturating_add(1);
-        self.indexes.get(number).copied()
+    }
+
+    /// Links the sends whose receives were lost.
+    fn link_lost(&mut self, fed: &[Ask]) {
+        for (ask, &index) in fed.iter().zip(self.placed.fed()) {
+            if let Message::Lost(from, sent) = ask.message {
+                let received = self.end_at(ask.process, index);
+                self.link(self.end_at_reported(from, sent as usize), received);
+            }
+        }
+    }
+
+    /// Links invented sends with their receives.
+    fn link_invented(&mut self, inventions: &[Invention]) {
+        for (invention, &index) in inventions.iter().zip(self.placed.invented()) {
+            if let Some(received) = self.placed.of_fed(invention.ask as usize) {
+                let end = self.end_at(invention.to, received);
+                self.link(self.end_at(invention.sender, index), end);
+            }
+        }
+    }
+
+    /// The links.
+    fn into_links(self, alloc: Global) -> Result<Vec<Sequence<u32>>, AllocError> {
+        let Linker {
+            streams: _,
+            whole: _,
+            placed: _,
+            rows,
+        } = self;
+        let mut links = Vec::with_capacity(alloc, rows.len())?;
+        for row in rows {
+            links.push(Sequence::from_vec(row))?;
+        }
+        Ok(links)
     }
 }
 
-/// Notes where the other end of a message is.
-fn note(rows: &mut [Vec<u32>], place: usize, index: usize, link: u32) {
-    if let Some(row) = rows.get_mut(place) {
-        if let Some(slot) = row.get_mut(index) {
-            *slot = link;
-        }
+/// No links yet of the events of whole streams.
+fn no_links(alloc: Global, whole: &Streams) -> Result<Vec<Vec<u32>>, AllocError> {
+    let mut rows = Vec::with_capacity(alloc, whole.pids().len())?;
+    for &pid in whole.pids() {
+        rows.push(vec![in alloc; 0u32; whole.events(pid).len()]?)?;
     }
+    Ok(rows)
 }
 
-/// Links the receives among the events of the process at this place.
-fn link_receives(
+/// The links of the whole streams that were put together of these streams and parts, which stand there.
+pub(crate) fn links_of(
+    alloc: Global,
     streams: &Streams,
-    stamps: &mut [Stamps],
-    rows: &mut [Vec<u32>],
-    place: usize,
-    events: &[Event],
-) {
-    for (index, event) in events.iter().enumerate() {
-        if is_stamp(event) {
-            continue;
-        }
-        let Some(from) = streams.place_of(event.from) else {
-            continue;
-        };
-        let Some(sender) = stamps.get_mut(from) else {
-            continue;
-        };
-        if let Some(sent) = sender.find(event.serial.this) {
-            note(rows, place, index, sent);
-            note(rows, from, sent as usize, short(index));
-        }
-    }
-}
-
-/// The links of streams in which the counts of each process's sends and prints rise: for each
-/// process, by its place, and each of its events the index of the other end of its message, of a
-/// receive among the events of its sender, of a send among those of its receiver. That of an event
-/// without another end may be any number.
-pub fn links_of(alloc: Global, streams: &Streams) -> Result<Vec<Sequence<u32>>, AllocError> {
-    let count = streams.pids().len();
-    let mut stamps = Vec::with_capacity(alloc, count)?;
-    let mut rows = Vec::with_capacity(alloc, count)?;
+    pairing: &Pairing,
+    parts: &Parts,
+    placed: &Placed,
+    whole: &Streams,
+) -> Result<Vec<Sequence<u32>>, AllocError> {
+    let mut linker = Linker {
+        streams,
+        whole,
+        placed,
+        rows: no_links(alloc, whole)?,
+    };
     for &pid in streams.pids() {
-        let events = streams.events(pid);
-        stamps.push(Stamps::of(alloc, events)?)?;
-        rows.push(vec![in alloc; 0u32; events.len()]?)?;
+        linker.link_reported(pairing, pid, streams.events(pid));
     }
-    for (place, &pid) in streams.pids().iter().enumerate() {
-        link_receives(streams, &mut stamps, &mut rows, place, streams.events(pid));
-    }
-    let mut links = Vec::with_capacity(alloc, count)?;
-    for row in rows {
-        links.push(Sequence::from_vec(row))?;
-    }
-    Ok(links)
+    linker.link_hidden(&parts.hidden);
+    linker.link_lost(&parts.fed);
+    linker.link_invented(&parts.inventions);
+    linker.into_links(alloc)
 }

@@ -9,6 +9,7 @@ use crate::candidate::items_from;
 use crate::hidden::HiddenSend;
 use crate::inventions::Invention;
 use crate::links::short;
+use crate::sorting::sorted_by_number;
 use crate::unlisted::UnlistedPids;
 use st_core::{Event, Pid, Streams};
 use st_needs::is_stamp;
@@ -21,10 +22,56 @@ struct Stamp {
     process: Pid,
 }
 
-/// Notes the stamps among the events of a process.
-fn note_stamps(stamps: &mut Vec<Stamp>, process: Pid, events: &[Event]) -> Result<(), AllocError> {
+/// Which counts needs ask for, as far as their remainders tell: a stamp of another one stands in
+/// nobody's way, and is left out.
+#[derive(Debug, Drop)]
+struct Asked {
+    /// For each remainder whether a need asks for a count that has it. Counts are mostly lower than
+    /// twice the needs.
+    remainders: Vec<bool>,
+}
+
+impl Asked {
+    /// The counts of these needs.
+    fn of(alloc: Global, turns: &[Turn]) -> Result<Asked, AllocError> {
+        let mut asked = Asked {
+            remainders: vec![in alloc; false; turns.len().saturating_mul(2)]?,
+        };
+        for turn in turns {
+            let place = asked.place_of(turn.count);
+            if let Some(slot) = asked.remainders.get_mut(place) {
+                *slot = true;
+            }
+        }
+        Ok(asked)
+    }
+
+    /// The remainder of a count.
+    fn place_of(&self, count: u64) -> usize {
+        let places = self.remainders.len() as u64;
+        if places == 0 {
+            return 0;
+        }
+        (count % places) as usize
+    }
+
+    /// Whether a need may ask for this count.
+    fn may_have(&self, count: u64) -> bool {
+        self.remainders
+            .get(self.place_of(count))
+            .is_some_and(|asked| *asked)
+    }
+}
+
+/// Notes the stamps among the events of a process whose counts may be asked for.
+fn note_stamps(
+    stamps: &mut Vec<Stamp>,
+    asked: &Asked,
+    process: Pid,
+    events: &[Event],
+) -> Result<(), AllocError> {
     for event in events {
-        if is_stamp(event) {
+        if is_stamp(event) && asked.may_have(event.serial.this) {
             stamps.push(Stamp {
                 count: event.serial.this,
                 process,
@@ -34,21 +81,25 @@ fn note_stamps(stamps: &mut Vec<Stamp>, process: Pid, events: &[Event]) -> Resul
     Ok(())
 }
 
-/// All stamps, reported and hidden, by count and process.
-fn all_stamps(
+/// The stamps, reported and hidden, whose counts these needs may ask for, by count and process.
+fn stamps_in_the_way(
     alloc: Global,
     streams: &Streams,
     hidden: &[HiddenSend],
+    turns: &[Turn],
 ) -> Result<Vec<Stamp>, AllocError> {
+    let asked = Asked::of(alloc, turns)?;
     let mut stamps = Vec::new(alloc);
     for &pid in streams.pids() {
-        note_stamps(&mut stamps, pid, streams.events(pid))?;
+        note_stamps(&mut stamps, &asked, pid, streams.events(pid))?;
     }
     for send in hidden {
-        stamps.push(Stamp {
-            count: send.event.serial.this,
-            process: send.event.from,
-        })?;
+        if asked.may_have(send.event.serial.this) {
+            stamps.push(Stamp {
+                count: send.event.serial.this,
+                process: send.event.from,
+            })?;
+        }
     }
     stamps.sort()?;
     Ok(stamps)
@@ -58,7 +109,7 @@ fn all_stamps(
 #[derive(Debug, Drop)]
 struct Senders<'a> {
     streams: &'a Streams,
-    /// All stamps, by count and process.
+    /// The stamps whose counts may be asked for, by count and process.
     stamps: Vec<Stamp>,
     /// The number of the stamp that is looked at next.
     stamp: usize,
@@ -147,6 +198,24 @@ fn turns_of(alloc: Global, fed: &[Ask]) -> Result<Vec<Turn>, AllocError> {
             })?;
         }
     }
+    sort_turns(alloc, turns)
+}
+
+/// The turns by count. Counts are mostly no higher than a few times their number.
+fn sort_turns(alloc: Global, turns: Vec<Turn>) -> Result<Vec<Turn>, AllocError> {
+    let mut turns = turns;
+    if turns.is_sorted_by_key(|turn| turn.count) {
+        return Ok(turns);
+    }
+    let greatest = turns.iter().map(|turn| turn.count).max().unwrap_or(0);
+    if greatest <= (turns.len() as u64).saturating_mul(4) {
+        return sorted_by_number(
+            alloc,
+            &turns,
+            greatest as usize,
+            &|turn: &Turn| turn.count as usize,
+        );
+    }
     turns.sort_by_key(|turn| turn.count)?;
     Ok(turns)
 }
@@ -192,7 +261,7 @@ pub(crate) fn give_senders(
     }
     let mut senders = Senders {
         streams,
-        stamps: all_stamps(alloc, streams, hidden)?,
+        stamps: stamps_in_the_way(alloc, streams, hidden, &turns)?,
         stamp: 0,
         count: 0,
         listed: 0,

@@ -54,7 +54,7 @@ impl Next {
 
     /// The last gap for a send from which what comes next can still cost nothing; `limit` is the
     /// last place of what comes next.
-    fn last_gap_before(self, ground: &Ground, send: &Step, limit: usize) -> usize {
+    fn last_gap_before(self, ground: &mut Ground, send: &Step, limit: usize) -> usize {
         let prev = match self {
             Next::Nothing => return limit,
             Next::Send(prev) | Next::Stamp(prev) => prev,
@@ -85,7 +85,7 @@ impl Next {
 /// The walk back: gives each send its last place, the last gap from which what comes next in the
 /// stretch can still cost nothing. If there is no such gap, the send's last place is that of what
 /// comes next. No place is behind a receive that doesn't count lower than the send.
-fn walk_back(ground: &Ground, stretch: Stretch<'_>, steps: &mut [Step]) {
+fn walk_back(ground: &mut Ground, stretch: Stretch<'_>, steps: &mut [Step]) {
     let mut limit = ground.end();
     let mut next = match stretch.stamp {
         None => Next::Nothing,
@@ -126,7 +126,7 @@ impl Standing {
     /// The place of the next send, up to its last place. It goes no further than it must, since
     /// what costs nothing here costs nothing later for the sends behind it, too. Labels come first:
     /// they tell calls apart that have the same counts.
-    fn place_of(self, ground: &Ground, send: &Step) -> usize {
+    fn place_of(self, ground: &mut Ground, send: &Step) -> usize {
         if self.prev == send.prev && self.label == Some(send.label) {
             return self.gap;
         }
@@ -160,7 +160,7 @@ impl Standing {
 }
 
 /// The walk forth: gives each send its place.
-fn walk_forth(ground: &Ground, stretch: Stretch<'_>, steps: &mut [Step]) {
+fn walk_forth(ground: &mut Ground, stretch: Stretch<'_>, steps: &mut [Step]) {
     let mut standing = Standing::at_start(stretch);
     for step in steps.iter_mut() {
         step.gap = standing.place_of(ground, step);
@@ -241,8 +241,8 @@ impl Walk {
         }
         self.ground.fill(stretch)?;
         self.take_steps(hidden)?;
-        walk_back(&self.ground, stretch, &mut self.steps);
-        walk_forth(&self.ground, stretch, &mut self.steps);
+        walk_back(&mut self.ground, stretch, &mut self.steps);
+        walk_forth(&mut self.ground, stretch, &mut self.steps);
         let count = last_with_stamp(&self.ground, stretch, &self.steps);
         move_to_stamp(&self.ground, &mut self.steps, count);
         for (send, step) in hidden.iter_mut().zip(self.steps.iter()) {

@@ -13,7 +13,7 @@ ghost use Rattle.st_plan.specs.Marks.{told_events, told_streams};
 ghost use Rattle.st_needs.specs.Completions.{marked_with, wholes_with, Completes};
 ghost use Rattle.st_complete.specs.Links.{other_end, receipt_of, AreEventsFit, IsLinked};
 
-use st_candidate::{Candidate, links_of};
+use st_candidate::Candidate;
 use st_core::{Event, Kind, Pid, Sequence, Streams, is_rising};
 use st_needs::{Completion, Left, completion_of, is_marked, is_unlisted, marks_at, with_silent};
 use std::alloc::{AllocError, Global};
@@ -171,7 +171,9 @@ fn are_fit(
     true
 }
 
-/// Whether all events are fit: then nothing is needed in the streams.
+/// Whether all events are fit. Then nothing is needed in the streams: pairing accepts them, no send is
+/// hidden, and no event is late, a need or above TOP. It pairs each receive with its send by links,
+/// which are looked at from both ends.
 fn are_all_fit(streams: &Streams, links: &[Sequence<u32>], top: u64) -> bool
     ensures { result ≡ true → IsNeedless top streams.now }
 {
@@ -181,17 +183,6 @@ fn are_all_fit(streams: &Streams, links: &[Sequence<u32>], top: u64) -> bool
         }
     }
     true
-}
-
-/// Whether nothing is needed in the streams: whether pairing accepts them, no send is hidden, and
-/// no event is late, a need or above TOP. It pairs each receive with its send by links, which are
-/// looked at from both ends.
-fn is_needless<const TOP: u64>(alloc: Global, streams: &Streams) -> Result<bool, AllocError>
-    ensures { IfOk result (λ yes. yes ≡ true → IsNeedless TOP streams.now) }
-{
-    let links = links_of(alloc, streams)?;
-    let fit = are_all_fit(streams, &links, TOP);
-    Ok(fit)
 }
 
 /// Whether the streams list none of these processes, and the pids rise.
@@ -241,6 +232,7 @@ pub(crate) fn judge<const TOP: u64>(
     let Candidate {
         streams: all,
         told,
+        links,
         unlisted,
     } = candidate;
     if !are_apart(streams, &unlisted) {
@@ -249,7 +241,7 @@ pub(crate) fn judge<const TOP: u64>(
     if !tells_with(alloc, &all, &told, streams, &unlisted)? {
         return Ok(None);
     }
-    if !is_needless::<TOP>(alloc, &all)? {
+    if !are_all_fit(&all, &links, TOP) {
         return Ok(None);
     }
     Ok(Some(completion_of(streams, all, told, unlisted)))

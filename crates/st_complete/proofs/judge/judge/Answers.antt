@@ -51,6 +51,6 @@ returns g c = λ x is.
                 ∙ c.in_ok-tells_with.ensures.told c.if-not-branch.false
                 ∙ ap (with_silent given) c.deref-3.ensures.value;
             sound = subst IsStreams (sym same) c.tells_with.ensures.streams;
-            needless = subst (IsNeedless g.row.TOP) (sym same) (c.in_ok-is_needless.ensures c.if-not-branch-2.false);
+            needless = subst (IsNeedless g.row.TOP) (sym same) (c.are_all_fit.ensures c.if-not-are_all_fit.false);
           }));
     }
