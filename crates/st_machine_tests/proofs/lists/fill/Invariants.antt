@@ -1,6 +1,6 @@
 -- What the loop keeps.
 use Rattle.std.proofs.Common.{◌≡◌, length}
-use Rattle.st_machine_tests.proofs.long_lists.fill.Given as goal
+use Rattle.st_machine_tests.proofs.lists.fill.Given as goal
 
 -- the arena keeps its lists
 abbrev pub invariant-loop-item : goal.invariant-loop-item
