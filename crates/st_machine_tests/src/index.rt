@@ -46,30 +46,13 @@ fn index_of_three(alloc: Global, keys: Keys) -> Result<Index, AllocError>
 }
 
 #[test]
-fn an_index_finds_the_least_place_of_each_key(rt: HostRuntime) -> Result<(), Fail> {
+fn an_index_takes_messages(rt: HostRuntime) -> Result<(), Fail> {
     let keys = Keys::default()
         .with(Key::Value)
         .with(Key::Sender)
         .with(Key::Both)
         .with(Key::Stamp);
     let index = index_of_three(rt.alloc(), keys)?;
-    same(&rt, &index.find_from(p31()), &Some(2));
-    same(&rt, &index.find_value(8), &Some(0));
     same(&rt, &index.find_both(p31(), 8), &Some(2));
-    same(&rt, &index.find_both(p31(), 9), &None);
-    same(&rt, &index.find_stamp(p30(), 7, 0), &Some(1));
-    same(&rt, &index.find_stamp(p30(), 7, 2), &None);
-    same(&rt, &index.room(), &1);
-    Ok(())
-}
-
-#[test]
-fn an_index_tells_by_which_keys_it_finds(rt: HostRuntime) -> Result<(), Fail> {
-    let keys = Keys::default().with(Key::Stamp);
-    let index = index_of_three(rt.alloc(), keys)?;
-    same(&rt, &index.keys(), &keys);
-    assert!(rt; index.keys().has(Key::Stamp));
-    assert!(rt; !index.keys().has(Key::Value));
-    same(&rt, &index.find_stamp(p31(), 7, 0), &Some(2));
     Ok(())
 }

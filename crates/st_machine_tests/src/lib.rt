@@ -2,12 +2,12 @@
 //!
 //! | Module | Tests |
 //! |---|---|
-//! | `machine` | `st_core`: types, local steps, streams, devices |
+//! | `machine` | `st_core`: sequences, streams, devices |
 //! | `text`, `reads` | `st_text`; `reads`: if memory runs out |
 //! | `ranks` | `st_ranks` |
-//! | `lists`, `long_lists` | `st_arena`; `long_lists`: lists with a ladder |
+//! | `lists` | `st_arena` |
 //! | `index` | `st_index` |
-//! | `mailboxes`, `queues` | `st_mail`; `queues`: long queues beside a plain vector |
+//! | `mailboxes` | `st_mail` |
 //! | `world` | `st_world` |
 //! | `helpers` | none: what several of these take |
 #![tactic(auto)]
@@ -19,13 +19,9 @@ mod index;
 #[cfg(test)]
 mod lists;
 #[cfg(test)]
-mod long_lists;
-#[cfg(test)]
 mod machine;
 #[cfg(test)]
 mod mailboxes;
-#[cfg(test)]
-mod queues;
 #[cfg(test)]
 mod ranks;
 #[cfg(test)]

@@ -3,9 +3,8 @@
 ghost use Rattle.std.specs.Prelude.{◌≤◌, IfOk};
 
 use super::MANY;
-use st_core::{ByteSink, ByteSource, Failed, MemorySink, ReadFrom, Recorder, WriteTo};
+use st_core::{ByteSink, ByteSource, Failed, ReadFrom, Recorder, WriteTo};
 use std::io::{self, Error, ErrorKind, Read, Write};
-use std::test::Fail;
 
 /// A reader and writer that passes three bytes a call at most, and errs at one of its calls.
 #[derive(Drop)]
@@ -107,16 +106,6 @@ fn readers_end_and_writers_fill_up(rt: HostRuntime) {
     assert!(rt; sink.put(b"yes") == Ok(2));
     assert!(rt; sink.put(b"s") == Err(Failed));
     assert!(rt; room == *b"ye");
-}
-
-#[test]
-fn a_full_sink_fails(rt: HostRuntime) -> Result<(), Fail> {
-    let mut sink = MemorySink::new(rt.alloc(), 3, None)?;
-    assert!(rt; sink.put(b"ye") == Ok(2));
-    assert!(rt; sink.put(b"s\n") == Ok(1));
-    assert!(rt; sink.put(b"\n") == Err(Failed));
-    assert!(rt; sink.written() == b"yes".as_slice());
-    Ok(())
 }
 
 #[test]

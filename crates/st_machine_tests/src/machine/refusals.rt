@@ -1,9 +1,9 @@
 //! What comes back if memory runs out, and that the next try may succeed. A test shows something
 //! only if an allocation fails: `rt try --test --fail-alloc N` fails the N-th of each.
 
-use super::{MANY, event};
+use super::{MANY, print};
 use crate::helpers::sink_at_last;
-use st_core::{AddFault, ByteSink, Draft, Kind, MemorySink, OpenFault, Pid, Recorder, Sequence};
+use st_core::{AddFault, ByteSink, Draft, MemorySink, OpenFault, Pid, Recorder, Sequence};
 
 #[test]
 fn a_refused_push_gives_its_item_back(rt: HostRuntime) {
@@ -27,10 +27,9 @@ fn a_refused_process_or_event_may_be_added_again(rt: HostRuntime) {
             assert!(rt; fault == OpenFault::Memory);
             assert!(rt; draft.open(pid).is_ok());
         }
-        let print = event(Kind::Print, pid, None);
-        if let Err(fault) = draft.add(pid, print) {
+        if let Err(fault) = draft.add(pid, print(pid)) {
             assert!(rt; fault == AddFault::Memory && draft.events(pid).is_empty());
-            assert!(rt; draft.add(pid, print).is_ok());
+            assert!(rt; draft.add(pid, print(pid)).is_ok());
         }
     }
     assert!(rt; draft.pids().len() == 100);

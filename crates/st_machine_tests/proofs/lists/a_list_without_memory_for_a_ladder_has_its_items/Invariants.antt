@@ -1,0 +1,7 @@
+-- What the loop keeps.
+use Rattle.std.proofs.Common.{◌≡◌, length}
+use Rattle.st_machine_tests.proofs.lists.a_list_without_memory_for_a_ladder_has_its_items.Given as goal
+
+-- the arena keeps its two lists
+abbrev pub invariant-loop-item : goal.invariant-loop-item
+invariant-loop-item g l = length l.lists.lists ≡ 2
