@@ -8,7 +8,7 @@ use std::alloc::Global;
 /// All bytes of a source.
 pub(crate) fn gather<R: ByteSource>(alloc: Global, reader: &mut R) -> Result<Vec<u8>, ReadFault> {
     let mut bytes = Vec::new(alloc);
-    let mut piece = [0u8; 65_536];
+    let mut piece = [0u8; 8_192];
     for _ in 0..u64::MAX {
         match reader.take(&mut piece) {
             Err(_) => return Err(ReadFault::Device),

@@ -5,7 +5,7 @@
 
 use st_commands::run as run_seqaudit;
 use st_core::{MemorySink, MemorySource};
-use st_library::prelude::HostRuntime;
+use st_library::prelude::{AllocGlobal, HostRuntime};
 use st_pair_tasks::run_pair;
 use st_tasks::run as run_seqtool;
 use st_words::{Wanted, read_words};
@@ -14,9 +14,9 @@ use std::thread::{self, Builder};
 
 const SMALL: usize = 128 << 10;
 const AMPLE: usize = 64 << 20;
-const PROCESSES: usize = 1_000;
+const PROCESSES: usize = 400;
 const MESSAGES: usize = 10_000;
-/// The most bytes that a command writes here: the table of a chart has 80 MB.
+/// More bytes than a command writes here: the clocks for ShiViz have 100 MB.
 const ROOM: usize = 128 << 20;
 
 /// Of streams alone, as the words of the command line.
@@ -30,7 +30,7 @@ seqtool complete --as acts
 seqtool renumber
 seqtool why 0.31.0 0
 seqtool why --effects --line 3
-seqtool why --json --line 20000
+seqtool why --json --line 10000
 seqtool why --effects --json --depth 3 --line 3
 seqtool lint
 seqtool lint --json
@@ -79,18 +79,16 @@ fn sink(rt: &HostRuntime) -> MemorySink {
     MemorySink::new(rt.alloc(), ROOM, None).expect("room for the output")
 }
 
-fn seqaudit(words: &[String], text: &[u8]) -> Answer {
+fn seqaudit(words: &[&str], text: &[u8]) -> Answer {
     let rt = HostRuntime::new();
-    let words: Vec<&str> = words.iter().map(String::as_str).collect();
     let (mut reader, mut writer) = (MemorySource::new(text, None), sink(&rt));
-    let status = run_seqaudit(&rt, &words, &mut reader, &mut writer);
+    let status = run_seqaudit(&rt, words, &mut reader, &mut writer);
     (writer.written().to_vec(), status)
 }
 
-fn seqtool(words: &[String], text: &[u8]) -> Answer {
+fn seqtool(words: &[&str], text: &[u8]) -> Answer {
     let rt = HostRuntime::new();
-    let words: Vec<&str> = ["seqtool"].into_iter().chain(words.iter().map(String::as_str)).collect();
-    let request = read_words(rt.alloc(), &words).expect("words that are understood");
+    let request = read_words(rt.alloc(), words).expect("words that are understood");
     let (mut reader, mut writer, mut notes) = (MemorySource::new(text, None), sink(&rt), sink(&rt));
     let status = match request.wanted {
         Wanted::Each(task, _) => run_seqtool(&rt, task, &mut reader, &mut writer, &mut notes),
@@ -104,8 +102,8 @@ fn seqtool(words: &[String], text: &[u8]) -> Answer {
 
 /// Does what a line of words asks for in a thread with a stack of so many bytes.
 fn within(stack: usize, line: &str, text: &[u8]) -> Answer {
-    let words: Vec<String> = line.split(' ').skip(1).map(String::from).collect();
-    let call = || if line.starts_with("seqaudit") { seqaudit(&words, text) } else { seqtool(&words, text) };
+    let words: Vec<&str> = line.split(' ').collect();
+    let call = || if words[0] == "seqaudit" { seqaudit(&words, text) } else { seqtool(&words, text) };
     thread::scope(|scope| {
         let thread = Builder::new().stack_size(stack).spawn_scoped(scope, call);
         thread.expect("a thread").join().expect("a call that returns")
