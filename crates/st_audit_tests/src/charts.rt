@@ -1,51 +1,41 @@
-//! Worked reports and charts, byte for byte, what a sink that fails has by then, and what is left
-//! if memory runs out.
+//! What is left of a chart if memory runs out.
 
-mod refusals;
-mod reports;
-mod worked_charts;
-
+use crate::helpers::{same, sink_at_last, streams_at_last};
 use st_chain::Causes;
 use st_chart::{ChartFault, chart};
 use st_core::{Label, MemorySink, Streams};
 use st_order::Item;
 use st_pair::pair;
+use st_samples::{HIDDEN_SENDS_CERTIFICATE, p30, p31};
 use std::alloc::Global;
 
-/// Two processes that report no send, and one that reports nothing.
-const THREE_PROCESSES: &str = "seqtrace 1\n\
-    process <0.30.0>\n\
-    {seq_trace,17,{print,{0,1},<0.30.0>,[],7}}\n\
-    {seq_trace,17,{'receive',{2,4},<0.31.0>,<0.30.0>,6}}\n\
-    process <0.31.0>\n\
-    {seq_trace,17,{'receive',{0,2},<0.30.0>,<0.31.0>,5}}\n\
-    {seq_trace,17,{print,{2,3},<0.31.0>,[],8}}\n\
-    process <0.32.0>\n";
-
-const HIDDEN_CHART: &[u8] = b"label 17
-lane 1 <0.30.0>
-lane 2 <0.31.0>
-   P   |  print    {0,1} 7 start
-   H   .  hidden   {0,2} 5 unseen
-   .   R  receive  {0,2} 5 after hidden
-   |   P  print    {2,3} 8 after <0.31.0> 0
-   .   H  hidden   {2,4} 6 unseen
-   R   .  receive  {2,4} 6 after hidden
-";
-
-/// A chart of streams that pairing accepts.
-fn chart_of(
-    alloc: Global,
-    sink: &mut MemorySink,
-    streams: &Streams,
-    items: &[Item],
-    label: u32,
-) -> Result<(), ChartFault> {
+/// The chart of a hidden send and its receive.
+fn chart_of(alloc: Global, sink: &mut MemorySink, streams: &Streams) -> Result<(), ChartFault> {
     let Ok(pairing) = pair(alloc, streams) else {
         return Err(ChartFault::Memory);
     };
     let Ok(causes) = Causes::new(alloc, streams, &pairing) else {
         return Err(ChartFault::Memory);
     };
-    chart(alloc, sink, streams, &causes, items, Label(label))
+    let items = [
+        Item::Reported(p30(), 0),
+        Item::Hidden(p31(), 0),
+        Item::Reported(p31(), 0),
+    ];
+    chart(alloc, sink, streams, &causes, &items, Label(17))
+}
+
+/// If memory runs out nothing is written, and the same call writes the chart afterwards.
+#[test]
+fn a_chart_without_memory_writes_nothing(rt: HostRuntime) {
+    let alloc = rt.alloc();
+    let streams = streams_at_last(&rt, alloc, HIDDEN_SENDS_CERTIFICATE);
+    let mut sink = sink_at_last(&rt, alloc, 1000);
+    if let Err(fault) = chart_of(alloc, &mut sink, &streams) {
+        same(&rt, &fault, &ChartFault::Memory);
+        assert!(rt; sink.written().is_empty());
+        let again = chart_of(alloc, &mut sink, &streams);
+        same(&rt, &again, &Ok(()));
+    }
+    assert!(rt; sink.written().starts_with(b"label 17\n"));
 }

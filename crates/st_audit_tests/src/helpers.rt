@@ -1,32 +1,10 @@
 //! What the tests of several modules take.
 
 use st_core::{MemorySink, MemorySource, Streams};
-use st_order::Item;
-use st_samples::{p30, p31};
 use st_text::read;
 use std::alloc::Global;
 use std::fmt::Debug;
 use std::process::Abort;
-use std::test::Fail;
-
-/// The receives of two messages that crossed; no send was reported.
-pub(crate) const CROSSING: &str = "seqtrace 1\n\
-    process <0.30.0>\n\
-    {seq_trace,1,{'receive',{0,1},<0.31.0>,<0.30.0>,4}}\n\
-    process <0.31.0>\n\
-    {seq_trace,1,{'receive',{0,2},<0.30.0>,<0.31.0>,5}}\n";
-
-/// The items of `HIDDEN_SENDS_CERTIFICATE` in their order, by heights 1, 2, 2, 3, 4 and 4.
-pub(crate) fn certificate_items() -> [Item; 6] {
-    [
-        Item::Reported(p30(), 0),
-        Item::Hidden(p31(), 0),
-        Item::Reported(p31(), 0),
-        Item::Reported(p31(), 1),
-        Item::Hidden(p30(), 1),
-        Item::Reported(p30(), 1),
-    ]
-}
 
 /// Asserts that a value is the wanted one. A test that calls this is proved in a fourth of the time
 /// that it takes if it writes `assert_eq!` itself.
@@ -54,8 +32,4 @@ pub(crate) fn sink_at_last(rt: &impl Abort, alloc: Global, room: usize) -> Memor
         Ok(sink) => sink,
         Err(_) => MemorySink::new(alloc, room, None).expect(rt, "no sink at the second try"),
     }
-}
-
-pub(crate) fn streams(alloc: Global, text: &str) -> Result<Streams, Fail> {
-    Ok(streams_of(alloc, text).ok_or("no streams")?)
 }

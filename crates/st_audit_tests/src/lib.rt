@@ -8,16 +8,13 @@
 //! | `checks` | `st_check`: checks and replays |
 //! | `plans` | `st_plan` |
 //! | `audits` | `st_audit` |
-//! | `needs` | `st_needs`: completions by the definition, reasons |
+//! | `needs` | `st_needs` |
 //! | `completes` | `st_complete` |
-//! | `acts` | `st_complete`: how many acts completions take |
 //! | `completions` | `st_complete`: completions of 100,000 events |
-//! | `charts` | `st_chart`: charts and reports |
+//! | `charts` | `st_chart` |
 //! | `helpers` | none: what several of these take |
 #![tactic(auto)]
 
-#[cfg(test)]
-mod acts;
 #[cfg(test)]
 mod audits;
 #[cfg(test)]
