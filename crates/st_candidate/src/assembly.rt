@@ -6,7 +6,7 @@ use crate::entries::{Entries, Origin};
 use crate::hidden::HiddenSend;
 use crate::inventions::Invention;
 use crate::links::{links_of, short};
-use crate::placed::Placed;
+use crate::positions::Positions;
 use st_core::{Draft, Event, Pid, Sequence, Streams};
 use st_pair::Pairing;
 use std::alloc::{AllocError, Global};
@@ -31,7 +31,7 @@ struct Assembly<'a> {
     streams: &'a Streams,
     draft: Draft,
     /// Where the events stand that were added.
-    placed: Placed,
+    positions: Positions,
     /// The marks of the process whose events are being added.
     marks: Vec<bool>,
     hidden_left: &'a [HiddenSend],
@@ -66,7 +66,7 @@ impl Assembly<'_> {
         let Ok(()) = self.draft.add(pid, event) else {
             return Err(AllocError);
         };
-        self.placed.note(origin, short(self.marks.len()))?;
+        self.positions.note(origin, short(self.marks.len()))?;
         self.marks.push(origin.is_told())?;
         Ok(())
     }
@@ -115,7 +115,7 @@ impl Assembly<'_> {
         self.inventions_left = inventions_left;
         let reported = self.streams.events(pid);
         if self.streams.place_of(pid).is_some() {
-            self.placed.begin()?;
+            self.positions.begin()?;
         }
         let entries = Entries::new(self.streams, reported, hidden, fed);
         self.make_room(pid, entries.most().saturating_add(sends.len()))?;
@@ -124,17 +124,17 @@ impl Assembly<'_> {
     }
 
     /// The draft of all that was added, and where it stands.
-    fn into_draft(self) -> (Draft, Placed) {
+    fn into_draft(self) -> (Draft, Positions) {
         let Assembly {
             streams: _,
             draft,
-            placed,
+            positions,
             marks: _,
             hidden_left: _,
             fed_left: _,
             inventions_left: _,
         } = self;
-        (draft, placed)
+        (draft, positions)
     }
 }
 
@@ -160,7 +160,7 @@ pub(crate) fn assemble(
     let mut assembly = Assembly {
         streams,
         draft: open_draft(alloc, &pids)?,
-        placed: Placed::new(alloc, streams, &parts)?,
+        positions: Positions::new(alloc, streams, &parts)?,
         marks: Vec::new(alloc),
         hidden_left: &parts.hidden,
         fed_left: &parts.fed,
@@ -171,11 +171,11 @@ pub(crate) fn assemble(
         let marks = assembly.add_next(alloc, pid)?;
         told.push(Sequence::from_vec(marks))?;
     }
-    let (draft, placed) = assembly.into_draft();
+    let (draft, positions) = assembly.into_draft();
     let Ok(whole) = draft.close() else {
         return Ok(None);
     };
-    let links = links_of(alloc, streams, pairing, &parts, &placed, &whole)?;
+    let links = links_of(alloc, streams, pairing, &parts, &positions, &whole)?;
     let Parts {
         hidden: _,
         fed: _,

@@ -13,7 +13,7 @@ mod hidden;
 mod inventions;
 mod links;
 mod lost;
-mod placed;
+mod positions;
 mod senders;
 mod sorting;
 mod stretch;

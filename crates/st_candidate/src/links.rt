@@ -7,7 +7,7 @@ use crate::asks::{Ask, Message};
 use crate::assembly::Parts;
 use crate::hidden::HiddenSend;
 use crate::inventions::Invention;
-use crate::placed::Placed;
+use crate::positions::Positions;
 use st_core::{Event, Kind, Pid, Sequence, Streams};
 use st_pair::Pairing;
 use std::alloc::{AllocError, Global};
@@ -32,7 +32,7 @@ struct Linker<'a> {
     streams: &'a Streams,
     whole: &'a Streams,
     /// Where the events stand in the whole streams.
-    placed: &'a Placed,
+    positions: &'a Positions,
     /// For each process, by its place, and each of its events the index of its other end.
     rows: Vec<Vec<u32>>,
 }
@@ -47,7 +47,7 @@ impl Linker<'_> {
     /// The end at a reported event.
     fn end_at_reported(&self, pid: Pid, index: usize) -> Option<End> {
         let process = self.streams.place_of(pid)?;
-        self.end_at(pid, self.placed.of_reported(process, index)?)
+        self.end_at(pid, self.positions.of_reported(process, index)?)
     }
 
     /// Notes what is at the other end of the message at this one.
@@ -82,7 +82,7 @@ impl Linker<'_> {
 
     /// Links hidden sends with their receives.
     fn link_hidden(&mut self, hidden: &[HiddenSend]) {
-        for (send, &index) in hidden.iter().zip(self.placed.hidden()) {
+        for (send, &index) in hidden.iter().zip(self.positions.hidden()) {
             if let Some(to) = send.event.to {
                 let received = self.end_at_reported(to, send.receipt as usize);
                 self.link(self.end_at(send.event.from, index), received);
@@ -92,7 +92,7 @@ impl Linker<'_> {
 
     /// Links the sends whose receives were lost.
     fn link_lost(&mut self, fed: &[Ask]) {
-        for (ask, &index) in fed.iter().zip(self.placed.fed()) {
+        for (ask, &index) in fed.iter().zip(self.positions.fed()) {
             if let Message::Lost(from, sent) = ask.message {
                 let received = self.end_at(ask.process, index);
                 self.link(self.end_at_reported(from, sent as usize), received);
@@ -102,8 +102,8 @@ impl Linker<'_> {
 
     /// Links invented sends with their receives.
     fn link_invented(&mut self, inventions: &[Invention]) {
-        for (invention, &index) in inventions.iter().zip(self.placed.invented()) {
-            if let Some(received) = self.placed.of_fed(invention.ask as usize) {
+        for (invention, &index) in inventions.iter().zip(self.positions.invented()) {
+            if let Some(received) = self.positions.of_fed(invention.ask as usize) {
                 let end = self.end_at(invention.to, received);
                 self.link(self.end_at(invention.sender, index), end);
             }
@@ -115,7 +115,7 @@ impl Linker<'_> {
         let Linker {
             streams: _,
             whole: _,
-            placed: _,
+            positions: _,
             rows,
         } = self;
         let mut links = Vec::with_capacity(alloc, rows.len())?;
@@ -141,13 +141,13 @@ pub(crate) fn links_of(
     streams: &Streams,
     pairing: &Pairing,
     parts: &Parts,
-    placed: &Placed,
+    positions: &Positions,
     whole: &Streams,
 ) -> Result<Vec<Sequence<u32>>, AllocError> {
     let mut linker = Linker {
         streams,
         whole,
-        placed,
+        positions,
         rows: no_links(alloc, whole)?,
     };
     for &pid in streams.pids() {

@@ -8,7 +8,7 @@ use std::alloc::{AllocError, Global};
 /// The index of each event among all of its process, in the order in which they were added: that of
 /// what they come from.
 #[derive(Debug, Drop)]
-pub(crate) struct Placed {
+pub(crate) struct Positions {
     /// For each process of the streams, by its place, the number of its first event among the reported
     /// ones of all.
     starts: Vec<usize>,
@@ -22,14 +22,14 @@ pub(crate) struct Placed {
     invented: Vec<u32>,
 }
 
-impl Placed {
+impl Positions {
     /// None yet, with room for the events of these streams and parts.
     pub(crate) fn new(
         alloc: Global,
         streams: &Streams,
         parts: &Parts,
-    ) -> Result<Placed, AllocError> {
-        Ok(Placed {
+    ) -> Result<Positions, AllocError> {
+        Ok(Positions {
             starts: Vec::with_capacity(alloc, streams.pids().len())?,
             reported: Vec::with_capacity(alloc, streams.total() as usize)?,
             hidden: Vec::with_capacity(alloc, parts.hidden.len())?,
