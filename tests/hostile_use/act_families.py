@@ -24,6 +24,11 @@ def on_one_node(words, processes, acts=EVENTS // 10):
     return bundle([[]] * processes, [line for pair in zip(other, act(words, acts // 2, processes)) for line in pair])
 
 
+def resets(processes, acts):
+    """Resets alone, of a node of so many processes."""
+    return bundle([[]] * processes, act("reset {}", acts, processes))
+
+
 def passed_on(processes, acts):
     """Each process sends to the next one, which takes the message at once."""
     of = (f"send {pid(n % processes)} {pid((n + 1) % processes)} {n}\nreceive {pid((n + 1) % processes)} first\n"

@@ -14,7 +14,7 @@ from inspect import signature
 from one_run import run_once
 
 from . import model
-from .act_families import ACTS, CROWDS_OF_ACTS
+from .act_families import ACTS, CROWDS_OF_ACTS, looks, resets
 from .mistakes import MISTAKES
 from .program import Check
 from .stream_families import CROWDS, STREAMS, Nodes
@@ -262,6 +262,33 @@ def tried(programs, number, long=False):
             return
         for program, command in chosen(group, family, programs, long):
             yield grown(named("growth", family, program, command, group.certified), program, command, texts)
+
+
+# ---- acts of a whole node
+
+# `drive` makes a reset at each process of its node. So that many resets are some 2,000,000 steps there, each of which is
+# much shorter than an act by itself: together they may take so many times as long as half as many looks.
+RESETS, LOOKS, TIMES = 2_000, 1_000_000, 1.5
+
+
+def node_driven(program):
+    """The check that resets on a node of as many processes as `seqaudit` reads take no longer than they may."""
+    least = {}
+    with tempfile.TemporaryDirectory() as folder:
+        texts = {"resets": Text(os.path.join(folder, "resets"), resets(model.MOST_PROCESSES, RESETS)),
+                 "looks": Text(os.path.join(folder, "looks"), looks(model.MOST_PROCESSES, LOOKS))}
+        for _ in range(ROUNDS):
+            for name, text in texts.items():
+                cost, status = text.cost(program, ["drive"])
+                if status:
+                    return [Check(f"growth: {name} by drive", f"status {status} after {cost.seconds:.2f} s")]
+                least[name] = min(cost.seconds, least.get(name, cost.seconds))
+            is_right = least["resets"] <= TIMES * least["looks"]
+            if is_right:
+                break
+    note = f"{least['resets']:.2f} s, and {LOOKS:,} looks {least['looks']:.2f} s"
+    name = f"growth: {RESETS:,} resets of {model.MOST_PROCESSES:,} processes, by seqaudit drive"
+    return [Check(name, None if is_right else f"more than {TIMES} times as long: {note}", note)]
 
 
 # ---- texts of 64 MB

@@ -1,26 +1,24 @@
 -- If each process fits and each seat is that of a process, no pid is left that could be unseated.
-use Rattle.std.proofs.Common.{◌≡◌, ◌<◌, ◌+◌, ℕ, List, length, get_or, true, Some, ap, subst, ◌∙◌, arith}
+use Rattle.std.proofs.Common.{◌≡◌, ◌<◌, ◌+◌, ℕ, List, length, get_or, true, ap, subst, ◌∙◌, arith}
 use Rattle.std.proofs.lemmas.List.FromFn.{length-range_with_len, get_or-range_with_len}
-use Rattle.std.proofs.lemmas.Option.{slice_get-get_or}
 use Rattle.std.specs.List.{range_with_len}
 use Rattle.std.specs.Prelude.{All}
 use Rattle.st_core.specs.Streams.{is_among}
-use Rattle.st_runtime.specs.Joining.{FitsAt, IsWholeIfOwn}
+use Rattle.st_runtime.specs.Joining.{FitsAt}
 use Rattle.st_runtime.specs.Pcb.{Control}
 use Rattle.st_runtime.specs.Pieces.{Parts, pids_in, IsFit, IsSeated}
 use Rattle.st_runtime.specs.Seat.{Calls}
-use Rattle.st_runtime.proofs.Members.{In, In-All, All-In, In-Contains}
+use Rattle.st_runtime.proofs.Members.{In, All-In, In-Contains}
+use Rattle.st_runtime.proofs.NodeLemmas.{settled_whole}
 use Rattle.st_runtime.proofs.Seated.{seated_each}
 use Rattle.st_runtime.proofs.Sorting.{among_in}
-use Rattle.st_runtime.proofs.Wholeness.{all_whole}
 
--- what is asked at each place is asked of each process
-fits_in : (pieces : Parts) → ((k : ℕ) → k < length pieces.processes → FitsAt pieces k)
-    → (x : Control) → In x pieces.processes
-    → All (IsWholeIfOwn pieces.processes x.process.pid) x.log × IsSeated pieces x.process.pid
-fits_in pieces each x i =
+-- who is seated at each place is seated
+seated_in : (pieces : Parts) → ((k : ℕ) → k < length pieces.processes → FitsAt pieces k)
+    → (x : Control) → In x pieces.processes → IsSeated pieces x.process.pid
+seated_in pieces each x i =
     let at = In-Contains x pieces.processes i in
-    each at.0 at.1 x (slice_get-get_or pieces.processes at.0 x at.1 ∙ ap Some at.2)
+    subst (λ (y : Control). IsSeated pieces y.process.pid) at.2 ((each at.0 at.1).seated x)
 
 -- pieces fit if each process does and each seat is that of a process
 pub all_fit : (pieces : Parts) → ((k : ℕ) → k < length pieces.processes → FitsAt pieces k)
@@ -28,14 +26,13 @@ pub all_fit : (pieces : Parts) → ((k : ℕ) → k < length pieces.processes �
 all_fit pieces each listed =
     let xs = pieces.processes in
     let Listed : Calls → Type 0 = λ s. is_among (pids_in xs) s.pid ≡ true in
-    let Settles : Control → Type 0 = λ x. All (IsWholeIfOwn xs x.process.pid) x.log in
     record {
-      whole = all_whole xs (In-All Settles xs (λ x i. (fits_in pieces each x i).0));
+      whole = settled_whole xs (λ k below. (each k below).settled);
       seated = λ p. seated_each pieces (λ q. Unit {0})
-          (λ x i r. (fits_in pieces each x i).1)
+          (λ x i r. seated_in pieces each x i)
           (λ s i r.
           let y = among_in s.pid xs (All-In Listed pieces.seats s listed i) in
-          subst (IsSeated pieces) y.1.1 (fits_in pieces each y.0 y.1.0).1)
+          subst (IsSeated pieces) y.1.1 (seated_in pieces each y.0 y.1.0))
           p tt;
     }
 

@@ -18,6 +18,7 @@ pub mod Shown
 pub mod Collecting
 pub mod Searching
 pub mod Wholeness
+pub mod NodeLemmas
 pub mod Seated
 pub mod FitLemmas
 pub mod JoinLemmas

@@ -115,7 +115,7 @@ whole_of_two xs e rising narrow from to = record {
       (touches_two e.act x.process.pid narrow touched));
 }
 
-wide_receiver : (a : Act) → is_wide a ≡ true → receiver a ≡ actor a
+pub wide_receiver : (a : Act) → is_wide a ≡ true → receiver a ≡ actor a
 wide_receiver (act.Send p q v) wide = absurd (cc)
 wide_receiver a wide = refl
 

@@ -1,22 +1,23 @@
 -- The steps of joining: where an entry is, the least pid that isn't seated, and each process's
 -- own entries and reports.
-use Rattle.std.specs.Prelude.{◌≡◌, ℕ, ◌<◌, List, length, map, filter, Option, Some, None}
-use Rattle.std.specs.Prelude.{if◌then◌else◌, All, Contains, IfSome, slice_get}
+use Rattle.std.specs.Prelude.{◌≡◌, ◌≢◌, ℕ, ◌<◌, true, false, List, length, map, filter, Option}
+use Rattle.std.specs.Prelude.{Some, None, if◌then◌else◌, All, Contains, IfSome}
 use Rattle.std.specs.Borrow.{Bor}
 use Rattle.std.specs.Ordering.{is_lt}
-use Rattle.std.specs.List.{flat_map}
+use Rattle.std.specs.List.{flat_map, HoldsAt}
 use Rattle.st_core.specs.declared.types.Pid.{Pid}
 use Rattle.st_core.specs.declared.types.Act.{Act}
 use Rattle.st_core.specs.declared.types.Event.{Event}
 use Rattle.st_core.specs.declared.types.Reply.{Reply}
-use Rattle.st_core.specs.Pid.{pid_cmp, pid_eq, IsBelow}
+use Rattle.st_core.specs.Pid.{node_of, pid_cmp, pid_eq, IsBelow}
 use Rattle.st_core.specs.Step.{actor}
+use Rattle.st_core.specs.Streams.{is_among}
 use Rattle.st_runtime.specs.declared.pcb.entry.Entry.{Entry}
 use Rattle.st_runtime.specs.declared.join.record.Record.{Record}
 use Rattle.st_runtime.specs.Joined.{IsMerged, IsOneRun, streams_of}
 use Rattle.st_runtime.specs.Logs.{Logged}
-use Rattle.st_runtime.specs.Pcb.{Control}
-use Rattle.st_runtime.specs.Pieces.{Parts, IsSeated, IsWholeEntry}
+use Rattle.st_runtime.specs.Pcb.{Control, is_wide}
+use Rattle.st_runtime.specs.Pieces.{pids_in, Parts, IsSeated, IsWholeEntry}
 use Rattle.st_runtime.specs.Rows.{entry_at}
 
 -- the process of this pid is there and has the entry
@@ -31,11 +32,46 @@ pub record IsWholeIfOwn (xs : List Control) (p : Pid) (e : Entry) : Type 0 where
   pub made : HasAt xs (actor e.act) e
   pub whole : actor e.act ≡ p → IsWholeEntry xs e
 
--- if there is a process at this place, its own entries are whole, its other ones are in their
--- actors' logs, and it is seated
-abbrev pub FitsAt : Parts → ℕ → Type 0
-FitsAt pieces k = (x : Control) → slice_get pieces.processes k ≡ Some x
-    → All (IsWholeIfOwn pieces.processes x.process.pid) x.log × IsSeated pieces x.process.pid
+-- if the entry isn't of an act of a whole node, it is in its actor's log, and whole if that is p
+abbrev pub IsSharedUnlessWide : List Control → Pid → Entry → Type 0
+IsSharedUnlessWide xs p e = is_wide e.act ≡ false → IsWholeIfOwn xs p e
+
+-- the entries of acts of a whole node
+abbrev pub wide_of : List Entry → List Entry
+wide_of es = filter (λ e. is_wide e.act) es
+
+-- place j has the first process on the node
+pub record IsFirstOf (xs : List Control) (node j : ℕ) : Type 0 where
+  pub within : j < length xs
+  pub here : HoldsAt (λ x. node_of x.process.pid ≡ node) xs j
+  pub before : (i : ℕ) → i < j → HoldsAt (λ x. node_of x.process.pid ≢ node) xs i
+
+-- the actor is there, and on the node of p
+pub record IsOnNode (xs : List Control) (p : Pid) (a : Act) : Type 0 where
+  pub there : is_among (pids_in xs) (actor a) ≡ true
+  pub node : node_of (actor a) ≡ node_of p
+
+-- the actor of an act of a whole node is there, and on the node of p
+abbrev pub IsOnNodeIfWide : List Control → Pid → Act → Type 0
+IsOnNodeIfWide xs p a = is_wide a ≡ true → IsOnNode xs p a
+
+-- x, at place k, has the same entries of acts of its whole node as the first process there; if it
+-- is that one, the actors of these are there
+pub record IsAlike (xs : List Control) (k : ℕ) (x : Control) : Type 0 where
+  pub first : ℕ
+  pub is_first : IsFirstOf xs (node_of x.process.pid) first
+  pub same : HoldsAt (λ y. wide_of x.log ≡ wide_of y.log) xs first
+  pub there : first ≡ k → All (λ e. IsOnNodeIfWide xs x.process.pid e.act) x.log
+
+-- the process at this place is so, and its other entries are settled
+pub record IsSettledAt (xs : List Control) (k : ℕ) : Type 0 where
+  pub alike : HoldsAt (IsAlike xs k) xs k
+  pub settled : HoldsAt (λ x. All (IsSharedUnlessWide xs x.process.pid) x.log) xs k
+
+-- the process at this place is settled, and seated
+pub record FitsAt (pieces : Parts) (k : ℕ) : Type 0 where
+  pub settled : IsSettledAt pieces.processes k
+  pub seated : HoldsAt (λ x. IsSeated pieces x.process.pid) pieces.processes k
 
 -- the least, if there is one, isn't seated, and each of these pids that is below it is
 pub record IsLeastUnseated {X : Type 0} (pid_of : X → Pid) (pieces : Parts) (xs : List X)

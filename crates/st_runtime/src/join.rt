@@ -12,6 +12,7 @@ ghost use Rattle.st_runtime.specs.Pieces.{pids_in, AreWhole, IsFit, IsJoinFault}
 pub mod collect;
 pub mod fitting;
 pub mod merge;
+pub mod nodes;
 pub mod record;
 pub mod seating;
 pub mod whole;

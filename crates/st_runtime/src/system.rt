@@ -261,8 +261,15 @@ impl<const TOP: u64, const RANKS: u64> System<TOP, RANKS> {
             stray: false,
         };
         let first = first_on(self.pids.as_slice(), pid.node());
-        let result = match self.from_place(rt, gate, first, nothing, act, n) {
-            Ok(entry) => Ok(entry.reply),
+        let mut entry = Entry {
+            rank: 0,
+            act: *act,
+            reply: Reply::Done,
+            report: None,
+            carried: None,
+        };
+        let result = match self.from_place(rt, gate, first, nothing, &mut entry, n) {
+            Ok(()) => Ok(entry.reply),
             Err(ActFault::Memory) => return Err(ActFault::Memory),
             Err(fault) => Err(fault),
         };
@@ -270,43 +277,44 @@ impl<const TOP: u64, const RANKS: u64> System<TOP, RANKS> {
         result
     }
 
-    /// Takes the locks of the node from this place on, and writes the entry under each as it gives
-    /// them back. Each call holds one lock while the next ones are taken, so the locks of a node
-    /// need as many frames on the stack.
+    /// Takes the locks of the node from this place on, sets the rank and the reply of the act's
+    /// entry once all are held, and writes it under each as it gives them back. Each call holds one
+    /// lock while the next ones are taken, so the locks of a node need as many frames on the stack.
     fn from_place<R: Wait, G: Gate>(
         &self,
         rt: &R,
         gate: &G,
         place: usize,
         found: Found,
-        act: &Act,
+        entry: &mut Entry,
         n: u64,
-    ) -> Result<Entry, ActFault>
-        requires wide { is_wide act.now ≡ true }
-        requires actor { found.actor ≡ actor act.now }
+    ) -> Result<(), ActFault>
+        requires wide { is_wide entry.old.act ≡ true }
+        requires actor { found.actor ≡ actor entry.old.act }
         requires place { place ≤ length self.now }
         requires last { found.last ≤ RANKS }
-        ensures act { IfOk result (λ e. e.act ≡ act.now) }
-        ensures bare { IfOk result (λ e. (e.report ≡ None) × (e.carried ≡ None)) }
-        ensures above { IfOk result (λ e. (found.last < e.rank) × (e.rank ≤ RANKS)) }
+        ensures act { OnOk result (entry.new.act ≡ entry.old.act) }
+        ensures bare { OnOk result ((entry.new.report ≡ None) × (entry.new.carried ≡ None)) }
+        ensures above { OnOk result ((found.last < entry.new.rank) × (entry.new.rank ≤ RANKS)) }
         ensures stray { OnOk result (found.stray ≡ false) }
-        ensures reply { IfOk result
-            (λ e. IfSome found.was (λ was. e.reply ≡ wide_reply act.now was)) }
+        ensures reply { OnOk result
+            (IfSome found.was (λ was. entry.new.reply ≡ wide_reply entry.old.act was)) }
         ensures known { IsLockFault result }
         ensures clock { result ≢ Err ActFault.ClockFull }
     {
         if place == self.locks.len() || self.pids[place].node() != found.actor.node() {
             gate.before(found.actor, n);
-            return found.entry(act, RANKS);
+            *entry = found.entry(&entry.act, RANKS)?;
+            return Ok(());
         }
         let mut guard = take_lock(&self.locks[place], rt);
         let Ok(()) = guard.prepare() else {
             return Err(ActFault::Memory);
         };
         let next = found.with(&guard, self.pids[place]);
-        let entry = self.from_place(rt, gate, place + 1, next, act, n)?;
-        guard.commit(&entry);
-        Ok(entry)
+        self.from_place(rt, gate, place + 1, next, entry, n)?;
+        guard.commit(entry);
+        Ok(())
     }
 }
 

@@ -1,15 +1,15 @@
 //! The streams that logs tell of, collected.
 
-ghost use Rattle.std.specs.Prelude.{◌≡◌, List, true, [], ◌∷◌, ◌++◌, IfOk, OnOk};
+ghost use Rattle.std.specs.Prelude.{◌≡◌, ◌<◌, List, true, [], ◌∷◌, ◌++◌, length, IfOk, OnOk};
 ghost use Rattle.std.specs.List.{AllByRecursion};
 ghost use Rattle.std.specs.Option.{ForSome};
 ghost use Rattle.st_core.specs.Run.{Stream};
 ghost use Rattle.st_core.specs.Streams.{ComesLast, IsStreams, is_own, lists, with_report};
 ghost use Rattle.st_runtime.specs.Joined.{reports_of, streams_of};
 ghost use Rattle.st_runtime.specs.Joining.{report_at};
+ghost use Rattle.st_runtime.specs.Rows.{entry_at};
 
 use crate::pcb::Pcb;
-use crate::pcb::entry::Entry;
 use crate::pcb::log::Log;
 use st_core::{AddFault, Draft, OpenFault, Pid, Streams};
 use std::alloc::{AllocError, Global};
@@ -55,23 +55,26 @@ fn fill(draft: &mut Draft, pid: Pid, log: &Log) -> Result<(), AllocError>
         → draft.new ≡ xs ++ record { pid = pid; events = reports_of pid log.now.entries } ∷ []) }
 {
     for place in 0..log.len() {
-        add_entry(draft, pid, &log.at(place))?;
+        add_entry(draft, pid, log, place)?;
     }
     Ok(())
 }
 
-/// Adds its report, if it is the process's own and has one.
-fn add_entry(draft: &mut Draft, pid: Pid, entry: &Entry) -> Result<(), AllocError>
+/// Adds the report of the entry at this place, if it is the process's own and has one.
+fn add_entry(draft: &mut Draft, pid: Pid, log: &Log, place: usize) -> Result<(), AllocError>
+    requires place { place < length log.now.entries }
     requires listed { lists draft.old pid ≡ true }
-    requires own { ForSome (report_at pid entry.now) (λ e. is_own pid e ≡ true) }
-    ensures { OnOk result (draft.new ≡ with_report draft.old pid (report_at pid entry.now)) }
+    requires own { ForSome (report_at pid (entry_at log.now.entries place))
+        (λ e. is_own pid e ≡ true) }
+    ensures { OnOk result
+        (draft.new ≡ with_report draft.old pid (report_at pid (entry_at log.now.entries place))) }
 {
-    if entry.act.actor() != pid {
-        return Ok(());
-    }
-    let Some(event) = entry.report else {
+    let Some(event) = log.report_at(place) else {
         return Ok(());
     };
+    if log.act_at(place).actor() != pid {
+        return Ok(());
+    }
     match draft.add(pid, event) {
         Ok(()) => Ok(()),
         Err(AddFault::Memory) => Err(AllocError),

@@ -9,7 +9,7 @@ ghost use Rattle.st_runtime.specs.Pieces.{pids_in, IsFit};
 
 use crate::join::seating::is_seated;
 use crate::join::whole::place_in;
-use crate::join::whole_at_once::are_seen_whole_if_own;
+use crate::join::whole_at_once::is_settled_at;
 use crate::pcb::Pcb;
 use crate::system::seat::Seat;
 use rayon::prelude::*;
@@ -40,8 +40,7 @@ pub fn is_seen_fit<const TOP: u64, const RANKS: u64>(
     )
 }
 
-/// Whether it is seen that the entries of this process are in their actors' logs, that its own ones
-/// are whole, and that it is seated.
+/// Whether it is seen that the entries of this process are settled, and that it is seated.
 fn fits_at<const TOP: u64, const RANKS: u64>(
     alloc: Global,
     processes: &[Pcb<TOP, RANKS>],
@@ -54,9 +53,7 @@ fn fits_at<const TOP: u64, const RANKS: u64>(
     if k >= processes.len() {
         return false;
     }
-    let process = &processes[k];
-    are_seen_whole_if_own(alloc, processes, process.pid(), process.log())
-        && is_seated(processes, seats, process.pid())
+    is_settled_at(alloc, processes, k) && is_seated(processes, seats, processes[k].pid())
 }
 
 /// Whether each seat is that of a process.

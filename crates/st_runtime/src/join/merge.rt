@@ -11,7 +11,6 @@ ghost use Rattle.st_runtime.specs.Joining.{flat_of, own_of, referred, IsReadOut,
 ghost use Rattle.st_runtime.specs.Rows.{entry_at};
 
 use crate::pcb::Pcb;
-use crate::pcb::entry::Entry;
 use crate::pcb::log::Log;
 use st_core::{Act, Pid, Reply};
 use std::alloc::{AllocError, Global};
@@ -111,9 +110,8 @@ fn push_own<'a>(all: &mut Vec<Ranked<'a>>, pid: Pid, log: &'a Log) -> Result<(),
     ensures { OnOk result (all.new.items ≡ all.old.items ++ own_of pid log.now.entries) }
 {
     for place in 0..log.len() {
-        let entry = log.at(place);
-        if entry.act.actor() == pid {
-            let Ok(()) = all.push(Ranked::new(entry.rank, log, place)) else {
+        if log.act_at(place).actor() == pid {
+            let Ok(()) = all.push(Ranked::new(log.rank_at(place), log, place)) else {
                 return Err(AllocError);
             };
         }
@@ -121,13 +119,22 @@ fn push_own<'a>(all: &mut Vec<Ranked<'a>>, pid: Pid, log: &'a Log) -> Result<(),
     Ok(())
 }
 
-/// The entry that is referred to.
-fn entry_of(reference: &Reference<'_>) -> Entry
+/// The act of the entry that is referred to.
+fn act_of(reference: &Reference<'_>) -> Act
     requires { IsThere reference.now }
-    ensures { result ≡ referred reference.now }
+    ensures { result ≡ (referred reference.now).act }
 {
     let (log, place) = *reference;
-    log.at(place)
+    log.act_at(place)
+}
+
+/// What the act of the entry that is referred to returned.
+fn reply_of(reference: &Reference<'_>) -> Reply
+    requires { IsThere reference.now }
+    ensures { result ≡ (referred reference.now).reply }
+{
+    let (log, place) = *reference;
+    log.reply_at(place)
 }
 
 /// The acts of entries.
@@ -137,7 +144,7 @@ pub fn acts_of(alloc: Global, entries: &[Reference<'_>]) -> Result<Vec<Act>, All
 {
     let mut acts = Vec::with_capacity(alloc, entries.len())?;
     for reference in entries {
-        let Ok(()) = acts.push(entry_of(reference).act) else {
+        let Ok(()) = acts.push(act_of(reference)) else {
             return Err(AllocError);
         };
     }
@@ -151,7 +158,7 @@ pub fn replies_of(alloc: Global, entries: &[Reference<'_>]) -> Result<Vec<Reply>
 {
     let mut replies = Vec::with_capacity(alloc, entries.len())?;
     for reference in entries {
-        let Ok(()) = replies.push(entry_of(reference).reply) else {
+        let Ok(()) = replies.push(reply_of(reference)) else {
             return Err(AllocError);
         };
     }

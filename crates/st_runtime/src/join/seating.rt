@@ -8,7 +8,6 @@ ghost use Rattle.st_runtime.specs.Pieces.{pids_in, calls_of, seats_at, IsSeated,
 use crate::join::whole::place_in;
 use crate::pcb::Pcb;
 use crate::pcb::calls::CallLog;
-use crate::pcb::entry::Entry;
 use crate::pcb::log::Log;
 use crate::pcb::same::{is_same_act, is_same_reply};
 use crate::system::seat::Seat;
@@ -132,9 +131,9 @@ fn holds_calls(mine: &CallLog, pid: Pid, log: &Log) -> bool
 {
     let mut next = 0;
     for place in 0..log.len() {
-        let entry = log.at(place);
-        if entry.act.actor() == pid {
-            if next >= mine.len() || !is_call(&mine.at(next), &entry) {
+        let act = log.act_at(place);
+        if act.actor() == pid {
+            if next >= mine.len() || !is_call(&mine.at(next), &act, &log.reply_at(place)) {
                 return false;
             }
             next += 1;
@@ -143,9 +142,9 @@ fn holds_calls(mine: &CallLog, pid: Pid, log: &Log) -> bool
     next == mine.len()
 }
 
-/// Whether this is the entry's act with its reply.
-fn is_call(call: &(Act, Reply), entry: &Entry) -> bool
-    ensures { IsTrue result ↔ (call.now ≡ (entry.now.act, entry.now.reply)) }
+/// Whether this is the act with this reply.
+fn is_call(call: &(Act, Reply), act: &Act, reply: &Reply) -> bool
+    ensures { IsTrue result ↔ (call.now ≡ (act.now, reply.now)) }
 {
-    is_same_act(&call.0, &entry.act) && is_same_reply(&call.1, &entry.reply)
+    is_same_act(&call.0, act) && is_same_reply(&call.1, reply)
 }

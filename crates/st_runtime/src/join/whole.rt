@@ -124,7 +124,7 @@ fn is_shared<const TOP: u64, const RANKS: u64>(
 }
 
 /// Whether each process of the actor's node has an entry of this process's log.
-pub fn is_everywhere<const TOP: u64, const RANKS: u64>(
+fn is_everywhere<const TOP: u64, const RANKS: u64>(
     processes: &[Pcb<TOP, RANKS>],
     here: Pid,
     entry: &Entry,

@@ -1,21 +1,23 @@
 //! Whether it is seen at once that all entries are whole. If it isn't, nothing is known.
 //!
 //! Ranks rise in each log, so that the entries of one log that another shares are there in the
-//! same order: each is looked for from where the one before was found.
+//! same order: each is looked for from where the one before was found. Those of acts of a whole
+//! node are compared in one walk over each log (`join::nodes`).
 
-ghost use Rattle.std.specs.Prelude.{All, Contains, IsTrue};
+ghost use Rattle.std.specs.Prelude.{◌≡◌, ◌<◌, false, length, All, Contains, IsTrue};
 ghost use Rattle.st_core.specs.Pid.{IsRising};
 ghost use Rattle.st_core.specs.Step.{actor};
-ghost use Rattle.st_runtime.specs.Joining.{HasAt, IsWholeIfOwn};
+ghost use Rattle.st_runtime.specs.Joining.{HasAt, IsSharedUnlessWide, IsSettledAt};
+ghost use Rattle.st_runtime.specs.Pcb.{is_wide};
 ghost use Rattle.st_runtime.specs.Pieces.{pids_in, AreWhole, IsWholeEntry};
+ghost use Rattle.st_runtime.specs.Rows.{entry_at};
 
-use crate::join::whole::{is_everywhere, place_in};
+use crate::join::nodes::is_alike;
+use crate::join::whole::place_in;
 use crate::pcb::Pcb;
 use crate::pcb::acts::{is_wide, receiver_of};
-use crate::pcb::entry::Entry;
 use crate::pcb::log::Log;
-use crate::pcb::same::is_same;
-use st_core::Pid;
+use st_core::{Act, Pid};
 use std::alloc::Global;
 
 /// Whether it is seen that all entries are whole: those that a process made are, and each entry of
@@ -27,17 +29,32 @@ pub fn are_seen_whole<const TOP: u64, const RANKS: u64>(
     requires { IsRising (pids_in processes.now) }
     ensures { IsTrue result → AreWhole processes.now }
 {
-    for process in processes {
-        if !are_seen_whole_if_own(alloc, processes, process.pid(), process.log()) {
+    for place in 0..processes.len() {
+        if !is_settled_at(alloc, processes, place) {
             return false;
         }
     }
     true
 }
 
-/// Whether it is seen that all entries of this process's log are in their actors' logs, and that
-/// its own ones are whole. It isn't if there is no room for a place in each log.
-pub fn are_seen_whole_if_own<const TOP: u64, const RANKS: u64>(
+/// Whether it is seen of the process at this place that it has the entries of acts of its whole
+/// node, that its other ones are in their actors' logs, and that its own ones of these are whole.
+pub fn is_settled_at<const TOP: u64, const RANKS: u64>(
+    alloc: Global,
+    processes: &[Pcb<TOP, RANKS>],
+    place: usize,
+) -> bool
+    requires rising { IsRising (pids_in processes.now) }
+    requires place { place < length processes.now }
+    ensures { IsTrue result → IsSettledAt processes.now place }
+{
+    let process = &processes[place];
+    is_alike(processes, place) && are_seen_settled(alloc, processes, process.pid(), process.log())
+}
+
+/// Whether it is seen that the entries of this process's log are settled. It isn't if there is no
+/// room for a place in each log.
+fn are_seen_settled<const TOP: u64, const RANKS: u64>(
     alloc: Global,
     processes: &[Pcb<TOP, RANKS>],
     here: Pid,
@@ -45,16 +62,16 @@ pub fn are_seen_whole_if_own<const TOP: u64, const RANKS: u64>(
 ) -> bool
     requires rising { IsRising (pids_in processes.now) }
     requires here { All (HasAt processes.now here) log.now.entries }
-    ensures { IsTrue result → All (IsWholeIfOwn processes.now here) log.now.entries }
+    ensures { IsTrue result → All (IsSharedUnlessWide processes.now here) log.now.entries }
 {
     match vec![in alloc; 0; processes.len()] {
-        Ok(mut places) => are_whole_if_own(processes, &mut places, here, log),
+        Ok(mut places) => are_settled(processes, &mut places, here, log),
         Err(_) => false,
     }
 }
 
 /// The same, with room for a place in each log.
-fn are_whole_if_own<const TOP: u64, const RANKS: u64>(
+fn are_settled<const TOP: u64, const RANKS: u64>(
     processes: &[Pcb<TOP, RANKS>],
     places: &mut [usize],
     here: Pid,
@@ -62,81 +79,90 @@ fn are_whole_if_own<const TOP: u64, const RANKS: u64>(
 ) -> bool
     requires rising { IsRising (pids_in processes.now) }
     requires here { All (HasAt processes.now here) log.now.entries }
-    ensures { IsTrue result → All (IsWholeIfOwn processes.now here) log.now.entries }
+    ensures { IsTrue result → All (IsSharedUnlessWide processes.now here) log.now.entries }
 {
     for place in 0..log.len() {
-        if !is_whole_if_own(processes, places, here, &log.at(place)) {
+        if !is_settled(processes, places, here, log, place) {
             return false;
         }
     }
     true
 }
 
-/// Whether an entry of this process's log is seen in the log of its actor, and to be whole if that
-/// is this one.
-fn is_whole_if_own<const TOP: u64, const RANKS: u64>(
+/// Whether the entry at this place of this process's log is seen in the log of its actor, and to
+/// be whole if that is this one. Entries of acts of a whole node aren't asked here.
+fn is_settled<const TOP: u64, const RANKS: u64>(
     processes: &[Pcb<TOP, RANKS>],
     places: &mut [usize],
     here: Pid,
-    entry: &Entry,
+    log: &Log,
+    place: usize,
 ) -> bool
     requires rising { IsRising (pids_in processes.now) }
-    requires here { HasAt processes.now here entry.now }
-    ensures { IsTrue result → IsWholeIfOwn processes.now here entry.now }
+    requires place { place < length log.now.entries }
+    requires here { HasAt processes.now here (entry_at log.now.entries place) }
+    ensures { IsTrue result
+        → IsSharedUnlessWide processes.now here (entry_at log.now.entries place) }
 {
-    if entry.act.actor() == here {
-        sees_shared(processes, places, here, entry)
+    let act = log.act_at(place);
+    if is_wide(&act) {
+        return true;
+    }
+    if act.actor() == here {
+        sees_shared(processes, places, here, &act, log, place)
     } else {
-        sees_at(processes, places, entry.act.actor(), entry)
+        sees_at(processes, places, act.actor(), log, place)
     }
 }
 
-/// Whether an entry of this process's log that its actor has is seen to be whole.
+/// Whether the entry of this act, at this place of its actor's log, is seen to be whole.
 fn sees_shared<const TOP: u64, const RANKS: u64>(
     processes: &[Pcb<TOP, RANKS>],
     places: &mut [usize],
     here: Pid,
-    entry: &Entry,
+    act: &Act,
+    log: &Log,
+    place: usize,
 ) -> bool
     requires rising { IsRising (pids_in processes.now) }
-    requires here { HasAt processes.now here entry.now }
-    requires made { HasAt processes.now (actor entry.now.act) entry.now }
-    ensures { IsTrue result → IsWholeEntry processes.now entry.now }
+    requires place { place < length log.now.entries }
+    requires act { act.now ≡ (entry_at log.now.entries place).act }
+    requires narrow { is_wide act.now ≡ false }
+    requires mine { actor act.now ≡ here }
+    requires here { HasAt processes.now here (entry_at log.now.entries place) }
+    ensures { IsTrue result → IsWholeEntry processes.now (entry_at log.now.entries place) }
 {
-    if is_wide(&entry.act) {
-        return is_everywhere(processes, here, entry);
-    }
-    let receiver = receiver_of(&entry.act);
-    receiver == here || sees_at(processes, places, receiver, entry)
+    let receiver = receiver_of(act);
+    receiver == here || sees_at(processes, places, receiver, log, place)
 }
 
-/// Whether the process of this pid is there and is seen to have the entry.
+/// Whether the process of this pid is there and is seen to have the entry at this place of the log.
 fn sees_at<const TOP: u64, const RANKS: u64>(
     processes: &[Pcb<TOP, RANKS>],
     places: &mut [usize],
     pid: Pid,
-    entry: &Entry,
+    log: &Log,
+    place: usize,
 ) -> bool
-    requires { IsRising (pids_in processes.now) }
-    ensures { IsTrue result → HasAt processes.now pid entry.now }
+    requires rising { IsRising (pids_in processes.now) }
+    requires place { place < length log.now.entries }
+    ensures { IsTrue result → HasAt processes.now pid (entry_at log.now.entries place) }
 {
     let Some(k) = place_in(processes, pid) else {
         return false;
     };
     match places.get_mut(k) {
-        Some(place) => sees(processes[k].log(), place, entry),
+        Some(near) => sees(processes[k].log(), near, log, place),
         None => false,
     }
 }
 
-/// Whether the log is seen to have the entry, which is looked for from this place on. The place
-/// becomes that at which the search ended.
-fn sees(log: &Log, place: &mut usize, entry: &Entry) -> bool
-    ensures { IsTrue result → Contains log.now.entries entry.now }
+/// Whether a log is seen to have the entry at this place of the other one. It is looked for near a
+/// place, which becomes that at which the search ended.
+fn sees(there: &Log, near: &mut usize, log: &Log, place: usize) -> bool
+    requires { place < length log.now.entries }
+    ensures { IsTrue result → Contains there.now.entries (entry_at log.now.entries place) }
 {
-    *place = log.place_from(*place, entry.rank);
-    match log.get(*place) {
-        Some(kept) => is_same(&kept, entry),
-        None => false,
-    }
+    *near = there.place_from(*near, log.rank_at(place));
+    *near < there.len() && there.is_seen_same(*near, log, place)
 }

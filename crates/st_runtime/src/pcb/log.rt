@@ -7,14 +7,16 @@ ghost use Rattle.std.specs.List.Sorted.{IsBinarySearchResult, IsSearchInRange};
 ghost use Rattle.std.specs.Ordering.{nat_cmp};
 ghost use Rattle.std.specs.Vec.{vec_capacity};
 ghost use Rattle.st_runtime.specs.Logs.{last_rank};
-ghost use Rattle.st_runtime.specs.Rows.{without_rank_in, HasGrown, HasPlace};
+ghost use Rattle.st_runtime.specs.Rows.{entry_at, without_rank_in, HasGrown, HasPlace};
 ghost use Rattle.st_runtime.specs.TracedActs.{without_rank};
 
 use crate::fault::PcbFault;
 use crate::pcb::calls::CallLog;
 use crate::pcb::entry::Entry;
 use crate::pcb::row::{Content, Row, Unranked, content_of};
+use crate::pcb::same::is_same;
 use crate::pcb::traced_act::{TracedAct, traced_of};
+use st_core::{Act, Event, Reply};
 use std::alloc::{AllocError, Global};
 use std::marker::Model;
 
@@ -124,6 +126,61 @@ impl Log {
         row.content
             .without_rank(&self.calls, self.traced.as_slice(), self.apart.as_slice())
             .with_rank(row.rank)
+    }
+
+    /// The rank of the entry at this place.
+    pub(crate) fn rank_at(&self, place: usize) -> u64
+        requires { place < length self.now.entries }
+        ensures { result ≡ (entry_at self.now.entries place).rank }
+    {
+        self.rows[place].rank
+    }
+
+    /// The act of the entry at this place.
+    pub(crate) fn act_at(&self, place: usize) -> Act
+        requires { place < length self.now.entries }
+        ensures { result ≡ (entry_at self.now.entries place).act }
+    {
+        let content = self.rows[place].content;
+        content.act(&self.calls, self.traced.as_slice(), self.apart.as_slice())
+    }
+
+    /// What the act of the entry at this place returned.
+    pub(crate) fn reply_at(&self, place: usize) -> Reply
+        requires { place < length self.now.entries }
+        ensures { result ≡ (entry_at self.now.entries place).reply }
+    {
+        let content = self.rows[place].content;
+        content.reply(&self.calls, self.traced.as_slice(), self.apart.as_slice())
+    }
+
+    /// What the actor of the entry at this place reported, if it did.
+    pub(crate) fn report_at(&self, place: usize) -> Option<Event>
+        requires { place < length self.now.entries }
+        ensures { result ≡ (entry_at self.now.entries place).report }
+    {
+        let content = self.rows[place].content;
+        content.report(&self.calls, self.traced.as_slice(), self.apart.as_slice())
+    }
+
+    /// Whether the entry at this place is seen to be the one at that place of the other log.
+    pub(crate) fn is_seen_same(&self, place: usize, other: &Log, there: usize) -> bool
+        requires here { place < length self.now.entries }
+        requires there { there < length other.now.entries }
+        ensures { IsTrue result
+            → entry_at self.now.entries place ≡ entry_at other.now.entries there }
+    {
+        let (mine, theirs) = (self.rows[place], other.rows[there]);
+        if mine.rank != theirs.rank {
+            return false;
+        }
+        match (mine.content, theirs.content) {
+            (Content::Reset(actor), Content::Reset(same)) => actor == same,
+            (Content::Tracer(actor, on, was), Content::Tracer(same, turned, before)) => {
+                actor == same && on == turned && was == before
+            }
+            _ => is_same(&self.at(place), &other.at(there)),
+        }
     }
 
     /// The greatest rank, if ranks rise; 0 if the log is empty.

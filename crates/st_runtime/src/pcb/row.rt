@@ -86,6 +86,47 @@ impl Content {
             Content::Apart(place) => apart[place as usize],
         }
     }
+
+    /// The entry's act, if these are the calls, the acts under a token and the entries that are
+    /// kept apart.
+    pub fn act(self, calls: &CallLog, traced: &[TracedAct], apart: &[Unranked]) -> Act
+        requires { HasPlace (length calls.now.calls) (length traced.now) (length apart.now) self }
+        ensures { result ≡ (without_rank_in calls.now.calls traced.now apart.now self).act }
+    {
+        match self {
+            Content::Reset(actor) => Act::Reset(actor),
+            Content::Tracer(actor, on, _) => Act::Tracer(actor, on),
+            Content::Call(place) => calls.at(place as usize).0,
+            Content::Traced(place) => traced[place as usize].without_rank().act,
+            Content::Apart(place) => apart[place as usize].act,
+        }
+    }
+
+    /// What the entry's act returned, of the same.
+    pub fn reply(self, calls: &CallLog, traced: &[TracedAct], apart: &[Unranked]) -> Reply
+        requires { HasPlace (length calls.now.calls) (length traced.now) (length apart.now) self }
+        ensures { result ≡ (without_rank_in calls.now.calls traced.now apart.now self).reply }
+    {
+        match self {
+            Content::Reset(_) => Reply::Done,
+            Content::Tracer(_, _, was) => Reply::Was(was),
+            Content::Call(place) => calls.at(place as usize).1,
+            Content::Traced(place) => traced[place as usize].without_rank().reply,
+            Content::Apart(place) => apart[place as usize].reply,
+        }
+    }
+
+    /// What the entry's actor reported, of the same. No call among the calls was reported.
+    pub fn report(self, calls: &CallLog, traced: &[TracedAct], apart: &[Unranked]) -> Option<Event>
+        requires { HasPlace (length calls.now.calls) (length traced.now) (length apart.now) self }
+        ensures { result ≡ (without_rank_in calls.now.calls traced.now apart.now self).report }
+    {
+        match self {
+            Content::Reset(_) | Content::Tracer(..) | Content::Call(_) => None,
+            Content::Traced(place) => traced[place as usize].without_rank().report,
+            Content::Apart(place) => apart[place as usize].report,
+        }
+    }
 }
 
 impl Unranked {

@@ -11,9 +11,9 @@ commit-requires g t c =
     let pids = c.args.self.now in
     let p = c.args.found.actor in
     let k = c.args.place in
-    let e = c.in_ok-entry.entry in
+    let e = c.from_place.new.entry in
     let q = c.index-3.result.now in
-    let straight : c.with-next.result.stray ≡ false = c.in_ok-entry.ensures.stray in
+    let straight : c.with-next.result.stray ≡ false = c.in_ok-from_place.ensures.stray in
     let within : k < length pids = search rules in
     let at : q ≡ get_or pids k q = search rules in
     let at_first : c.index.result.now ≡ get_or pids k c.index.result.now = search rules in
@@ -22,7 +22,7 @@ commit-requires g t c =
     let near : node_eq q p ≡ true = ap (λ r. node_eq r p) (sym one) ∙ here in
     let held : c.deref.result.now.process.pid ≡ q = c.with-next.ensures.pid straight in
     let lent : c.deref_mut-2.result.now.process.pid ≡ q = search (rules, held) in
-    let whose : actor e.act ≡ p = ap actor c.in_ok-entry.ensures.act ∙ sym c.requires.actor in (
+    let whose : actor e.act ≡ p = ap actor c.in_ok-from_place.ensures.act ∙ sym c.requires.actor in (
       omega arith,
       (
         search rules,
