@@ -13,6 +13,11 @@ ghost use Rattle.st_arena.specs.Chain.{Appends, Unlinks, ChangesItems};
 use crate::node::{Ends, NONE, Node, set_next, set_previous, set_value};
 use slab::Slab;
 
+/// In a list of at most so many items a search from both ends looks at more items than one from the
+/// front alone, since most that are looked for lie near the front. And one from the front can't take
+/// long there.
+const FEW: u64 = 512;
+
 /// The key of the node at a place, found from the nearer end.
 pub(crate) fn key_at<T>(nodes: &Slab<Node<T>>, ends: Ends, place: u64) -> usize
     requires chained { IsChained (get nodes.now) ends }
@@ -181,8 +186,29 @@ pub(crate) fn first_answered<T, F: Fn(&T) -> bool>(
     None
 }
 
-/// A place whose item `pred` is true of, looked for from both ends at once.
+/// A place whose item `pred` is true of: looked for from the front if there are few items, and else
+/// from both ends at once.
 pub(crate) fn any_answered<T, F: Fn(&T) -> bool>(
+    nodes: &Slab<Node<T>>,
+    ends: Ends,
+    pred: &F,
+) -> Option<u64>
+    requires chained { IsChained (get nodes.now) ends }
+    requires callable { F.IsAlwaysCallable pred.now }
+    ensures found { IfSome result (λ place.
+        IsAnswered (FnReturnsAt F.Fn pred.now) (items_of (get nodes.now) ends) place true) }
+    ensures absent { IfNone result ((place : ℕ) → place < ends.len →
+        IsAnswered (FnReturnsAt F.Fn pred.now) (items_of (get nodes.now) ends) place false) }
+{
+    if ends.len <= FEW {
+        first_answered(nodes, ends, pred)
+    } else {
+        answered_from_ends(nodes, ends, pred)
+    }
+}
+
+/// The same, from both ends at once.
+fn answered_from_ends<T, F: Fn(&T) -> bool>(
     nodes: &Slab<Node<T>>,
     ends: Ends,
     pred: &F,

@@ -191,8 +191,9 @@ impl<T> Lists<T> {
         first_answered(&self.nodes, self.ends[list], pred)
     }
 
-    /// A place of a list whose item `pred` is true of: the least one from the nearer end, so that
-    /// it takes as many steps as the place is from there.
+    /// A place of a list whose item `pred` is true of. In a list of at most 512 items it is the
+    /// first, in a longer one the least from the nearer end, so that it takes as many steps as the
+    /// place is from there.
     pub fn find_any<F: Fn(&T) -> bool>(&self, list: usize, pred: &F) -> Option<u64>
         requires in_range { list < length self.now.lists }
         requires callable { F.IsAlwaysCallable pred.now }

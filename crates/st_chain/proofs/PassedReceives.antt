@@ -16,7 +16,10 @@ last_more es i e b at is =
     let next : i + 1 ≡ suc i = omega arith in
     ap (latest_receive es) next
     ∙ ap (λ (o : Option Event).
-    elim o [ None ↦ latest_receive es i | Some f ↦ if is_stamp f then latest_receive es i else Some (f.serial.this, i) ]) at
+    elim o [
+      | None ↦ latest_receive es i
+      | Some f ↦ if is_stamp f then latest_receive es i else Some (f.serial.this, i)
+    ]) at
     ∙ ap (λ (c : Bool). cond c (latest_receive es i) (Some (e.serial.this, i))) is
 
 module _ (es : List Event) (i : ℕ) (e : Event) (at : slice_get es i ≡ Some e) (passed : Passed)
@@ -43,7 +46,10 @@ Found es i last = (f : ℕ × ℕ) → last ≡ Some f → received_before es f.
 pub last_found : (es : List Event) (i : ℕ) → Found es i (latest_receive es i)
 last_found es zero = λ f h. absurd (none-some f h)
 last_found es (suc i) = elim (slice_get es i) as (λ o. (f : ℕ × ℕ)
-    → (elim o [ None ↦ latest_receive es i | Some e ↦ if is_stamp e then latest_receive es i else Some (e.serial.this, i) ])
+    → (elim o [
+      | None ↦ latest_receive es i
+      | Some e ↦ if is_stamp e then latest_receive es i else Some (e.serial.this, i)
+    ])
     ≡ Some f
     → (elim o [
       | None ↦ received_before es f.0 i

@@ -17,7 +17,7 @@ use Rattle.st_text.specs.Spelling as spelled
 use Rattle.st_text.specs.Range.{FitsAct, FitsComponent, FitsToken, FitsWant, most_label}
 use Rattle.st_text.specs.Range.{most_number}
 use Rattle.st_text.specs.Text.{named}
-use Rattle.st_column.specs.Longest.{IsAnyOf, FitsTemplate, act_templates, flag_templates}
+use Rattle.st_column.specs.Longest.{IsAnyOf, Matches, act_templates, flag_templates}
 use Rattle.st_column.specs.Longest.{message_templates, print_templates}
 use Rattle.st_column.specs.Longest.{restore_templates, restore_send_templates, token_templates}
 use Rattle.st_column.specs.Longest.{tracer_templates}
@@ -74,13 +74,14 @@ restore_flat p t =
 module _ (wide : Bool) where
   -- one of the templates
   pub at : (k : ℕ) (templates : List (List ℕ)) (text : List ℕ) → k < length templates
-      → FitsTemplate wide (get_or templates k []) text → IsAnyOf wide templates text
+      → Matches wide (get_or templates k []) text → IsAnyOf wide templates text
   at k [] text lt x = absurd (omega (arith, lt))
   at zero (t ∷ ts) text lt x = inl x
   at (suc k) (t ∷ ts) text lt x = inr (at k ts text (omega (arith, lt)) x)
 
   -- the template of an act, whose text is put together from the back
-  act_at : (k : ℕ) (text : List ℕ) {same : List ℕ} → k < 28 → text ≡ same → FitsTemplate wide (get_or act_templates k []) same
+  act_at : (k : ℕ) (text : List ℕ) {same : List ℕ} → k < 28 → text ≡ same
+      → Matches wide (get_or act_templates k []) same
       → IsAnyOf wide act_templates text
   act_at k text {same} lt e x = subst (IsAnyOf wide act_templates) (sym e) (at k act_templates same lt x)
 
@@ -154,7 +155,7 @@ module _ (wide : Bool) where
   flags_bytes false false false = refl
 
   restore_any : (s r p : Bool) (text : List ℕ)
-      → FitsTemplate wide (codes "restore <M.P.0> L " ++ (flags s r p ++ codes " N N <M.P.0>")) text
+      → Matches wide (codes "restore <M.P.0> L " ++ (flags s r p ++ codes " N N <M.P.0>")) text
       → IsAnyOf wide act_templates text
   restore_any true true true text x = at 20 act_templates text (lit< tt) x
   restore_any true true false text x = at 21 act_templates text (lit< tt) x
@@ -216,7 +217,7 @@ module _ (wide : Bool) where
     pub nodes : AllByRecursion (FitsNode wide) (named value)
     pub same : text ≡ spelled.act value
 
-  send_in : (text : List ℕ) → FitsTemplate wide (codes "send <M.P.0> <M.P.0> N") text → IsAct text
+  send_in : (text : List ℕ) → Matches wide (codes "send <M.P.0> <M.P.0> N") text → IsAct text
   send_in text x =
       let p = actor_in wide (codes "send ") (codes " <M.P.0> N") text refl x in
       let q = actor_in wide (codes " ") (codes " N") p.rest refl p.more in
@@ -240,25 +241,25 @@ module _ (wide : Bool) where
         same = e ∙ sym (spaced (codes "receive ") p (spelled.want w));
       }
 
-  first_in : (text : List ℕ) → FitsTemplate wide (codes "receive <M.P.0> first") text → IsAct text
+  first_in : (text : List ℕ) → Matches wide (codes "receive <M.P.0> first") text → IsAct text
   first_in text x =
       let p = actor_in wide (codes "receive ") (codes " first") text refl x in
       received p.value wants.First text p.fits tt (p.fits, tt)
       (p.whole _ (word_last wide (codes " first") p.rest refl p.more))
 
-  from_in : (text : List ℕ) → FitsTemplate wide (codes "receive <M.P.0> from <M.P.0>") text → IsAct text
+  from_in : (text : List ℕ) → Matches wide (codes "receive <M.P.0> from <M.P.0>") text → IsAct text
   from_in text x =
       let p = actor_in wide (codes "receive ") (codes " from <M.P.0>") text refl x in
       let q = pid_last wide (codes " from ") p.rest refl p.more in
       received p.value (wants.From q.0) text p.fits (fits_pid wide q.0 q.1) (p.fits, (q.1, tt)) (p.whole _ q.2)
 
-  value_in : (text : List ℕ) → FitsTemplate wide (codes "receive <M.P.0> value N") text → IsAct text
+  value_in : (text : List ℕ) → Matches wide (codes "receive <M.P.0> value N") text → IsAct text
   value_in text x =
       let p = actor_in wide (codes "receive ") (codes " value N") text refl x in
       let v = count_last wide (codes " value ") 78 most_number p.rest refl refl p.more in
       received p.value (wants.Value v.0) text p.fits v.1 (p.fits, tt) (p.whole _ v.2)
 
-  both_in : (text : List ℕ) → FitsTemplate wide (codes "receive <M.P.0> both <M.P.0> N") text → IsAct text
+  both_in : (text : List ℕ) → Matches wide (codes "receive <M.P.0> both <M.P.0> N") text → IsAct text
   both_in text x =
       let p = actor_in wide (codes "receive ") (codes " both <M.P.0> N") text refl x in
       let q = actor_in wide (codes " both ") (codes " N") p.rest refl p.more in
@@ -270,13 +271,13 @@ module _ (wide : Bool) where
         same = p.whole _ (q.whole _ v.2) ∙ sym (both_flat p.value q.value v.0);
       }
 
-  place_in : (text : List ℕ) → FitsTemplate wide (codes "receive <M.P.0> place N") text → IsAct text
+  place_in : (text : List ℕ) → Matches wide (codes "receive <M.P.0> place N") text → IsAct text
   place_in text x =
       let p = actor_in wide (codes "receive ") (codes " place N") text refl x in
       let v = count_last wide (codes " place ") 78 most_number p.rest refl refl p.more in
       received p.value (wants.Place v.0) text p.fits v.1 (p.fits, tt) (p.whole _ v.2)
 
-  print_in : (text : List ℕ) → FitsTemplate wide (codes "print <M.P.0> N") text → IsAct text
+  print_in : (text : List ℕ) → Matches wide (codes "print <M.P.0> N") text → IsAct text
   print_in text x =
       let p = actor_in wide (codes "print ") (codes " N") text refl x in
       let v = count_last wide (codes " ") 78 most_number p.rest refl refl p.more in
@@ -287,7 +288,7 @@ module _ (wide : Bool) where
         same = p.whole _ v.2 ∙ sym (spaced (codes "print ") p.value (decimal v.0));
       }
 
-  printat_in : (text : List ℕ) → FitsTemplate wide (codes "printat <M.P.0> L N") text → IsAct text
+  printat_in : (text : List ℕ) → Matches wide (codes "printat <M.P.0> L N") text → IsAct text
   printat_in text x =
       let p = actor_in wide (codes "printat ") (codes " L N") text refl x in
       let l = count_in wide (codes " ") 76 most_label (codes " N") p.rest refl refl p.more in
@@ -310,7 +311,7 @@ module _ (wide : Bool) where
         same = e ∙ sym (spaced (codes "set ") p (spelled.component c));
       }
 
-  label_in : (text : List ℕ) → FitsTemplate wide (codes "set <M.P.0> label L") text → IsAct text
+  label_in : (text : List ℕ) → Matches wide (codes "set <M.P.0> label L") text → IsAct text
   label_in text x =
       let p = actor_in wide (codes "set ") (codes " label L") text refl x in
       let l = count_last wide (codes " label ") 76 most_label p.rest refl refl p.more in
@@ -318,14 +319,14 @@ module _ (wide : Bool) where
 
   flag_in : (word : List ℕ) (c : Component) (text : List ℕ) → are_bytes wide word ≡ true
       → codes " " ++ spelled.component c ≡ word → FitsComponent c
-      → FitsTemplate wide (codes "set <M.P.0>" ++ word) text → IsAct text
+      → Matches wide (codes "set <M.P.0>" ++ word) text → IsAct text
   flag_in word c text bytes is fits x =
       let p = actor_in wide (codes "set ") word text refl x in
       set_to p.value c text p.fits fits (p.whole _ (word_last wide word p.rest bytes p.more ∙ sym is))
 
   alone_in : (word : List ℕ) (a : Pid → Act) (text : List ℕ) → are_bytes wide word ≡ true
       → ((p : Pid) → spelled.act (a p) ≡ word ++ spelled.pid p) → ((p : Pid) → FitsNode wide p → FitsAct (a p))
-      → ((p : Pid) → named (a p) ≡ p ∷ []) → FitsTemplate wide (word ++ codes "<M.P.0>") text → IsAct text
+      → ((p : Pid) → named (a p) ≡ p ∷ []) → Matches wide (word ++ codes "<M.P.0>") text → IsAct text
   alone_in word a text bytes is fits names x =
       let p = pid_last wide word text bytes x in
       record {
@@ -335,7 +336,7 @@ module _ (wide : Bool) where
         same = p.2 ∙ sym (is p.0);
       }
 
-  tracer_in : (b : Bool) (text : List ℕ) → FitsTemplate wide (codes "tracer <M.P.0> " ++ spelled.bool b) text → IsAct text
+  tracer_in : (b : Bool) (text : List ℕ) → Matches wide (codes "tracer <M.P.0> " ++ spelled.bool b) text → IsAct text
   tracer_in b text x =
       let p = actor_in wide (codes "tracer ") (codes " " ++ spelled.bool b) text refl x in
       record {
@@ -351,7 +352,7 @@ module _ (wide : Bool) where
       bool_bytes false = refl
 
   restore_in : (s r b : Bool) (text : List ℕ)
-      → FitsTemplate wide (codes "restore <M.P.0> L " ++ (flags s r b ++ codes " N N <M.P.0>")) text → IsAct text
+      → Matches wide (codes "restore <M.P.0> L " ++ (flags s r b ++ codes " N N <M.P.0>")) text → IsAct text
   restore_in s r b text x =
       let f3 = flags s r b in
       let p = actor_in wide (codes "restore ") (codes " L " ++ (f3 ++ codes " N N <M.P.0>")) text refl x in
@@ -446,11 +447,18 @@ module _ (wide : Bool) where
 
   pub act_in : (text : List ℕ) → IsAnyOf wide act_templates text → IsAct text
   act_in text =
-      let one = either_in restore_send_templates restore_templates text (sends_restored_in text) (others_restored_in text) in
-      let two = either_in tracer_templates (restore_send_templates ++ restore_templates) text (tracers_in text) one in
-      let three = either_in flag_templates (tracer_templates ++ restore_send_templates ++ restore_templates) text (flags_in text) two in
+      let one =
+      either_in restore_send_templates restore_templates text (sends_restored_in text)
+      (others_restored_in text) in
+      let two =
+      either_in tracer_templates (restore_send_templates ++ restore_templates) text (tracers_in text)
+      one in
+      let three =
+      either_in flag_templates (tracer_templates ++ restore_send_templates ++ restore_templates) text
+      (flags_in text) two in
       let four_groups =
-      either_in token_templates (flag_templates ++ (tracer_templates ++ (restore_send_templates ++ restore_templates))) text
+      either_in token_templates
+      (flag_templates ++ (tracer_templates ++ (restore_send_templates ++ restore_templates))) text
       (tokens_in text)
       three in
       let five =
@@ -458,5 +466,6 @@ module _ (wide : Bool) where
       ++ (flag_templates ++ (tracer_templates ++ (restore_send_templates ++ restore_templates)))) text
       (prints_in text) four_groups in
       either_in message_templates
-      (print_templates ++ (token_templates ++ (flag_templates ++ (tracer_templates ++ (restore_send_templates ++ restore_templates))))) text
+      (print_templates ++ (token_templates ++ (flag_templates
+      ++ (tracer_templates ++ (restore_send_templates ++ restore_templates))))) text
       (messages_in text) five

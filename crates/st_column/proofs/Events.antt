@@ -11,7 +11,7 @@ use Rattle.st_core.specs.declared.types.Kind.TheVariants as kinds
 use Rattle.st_core.specs.declared.types.Event.{Event}
 use Rattle.st_text.specs.Spelling as spelled
 use Rattle.st_text.specs.Range.{FitsEvent, FitsPlace, most_label, most_number}
-use Rattle.st_column.specs.Longest.{IsAnyOf, FitsTemplate, event_templates}
+use Rattle.st_column.specs.Longest.{IsAnyOf, Matches, event_templates}
 use Rattle.st_column.proofs.Pieces.{FitsNode, fits_pid, are_bytes, actor_out, count_out, last_word}
 use Rattle.st_column.proofs.Pieces.{actor_in, count_in, word_last}
 use Rattle.st_column.proofs.Acts.{at}
@@ -42,8 +42,8 @@ module _ (wide : Bool) where
   -- ---- the template of an event
 
   begun_out : (word tail rest : List ℕ) (l prev this : ℕ) (p : Pid) → are_bytes wide word ≡ true → l ≤ most_label
-      → prev ≤ most_number → this ≤ most_number → FitsNode wide p → FitsTemplate wide tail rest
-      → FitsTemplate wide (codes "{seq_trace,L" ++ (word ++ (codes "N,N},<M.P.0>" ++ tail))) (begun word l prev this p rest)
+      → prev ≤ most_number → this ≤ most_number → FitsNode wide p → Matches wide tail rest
+      → Matches wide (codes "{seq_trace,L" ++ (word ++ (codes "N,N},<M.P.0>" ++ tail))) (begun word l prev this p rest)
   begun_out word tail rest l prev this p bytes fl fp ft f x =
       let from = actor_out wide (codes "},") tail rest p refl f x in
       let second = count_out wide (codes ",") 78 most_number this (codes "},<M.P.0>" ++ tail) _ refl refl ft from in
@@ -52,13 +52,13 @@ module _ (wide : Bool) where
 
   -- what is behind an event's first pid
   to_out : (q : Pid) (v : ℕ) → FitsNode wide q → v ≤ most_number
-      → FitsTemplate wide (codes ",<M.P.0>,N}}") (codes "," ++ (spelled.pid q ++ (codes "," ++ (decimal v ++ codes "}}"))))
+      → Matches wide (codes ",<M.P.0>,N}}") (codes "," ++ (spelled.pid q ++ (codes "," ++ (decimal v ++ codes "}}"))))
   to_out q v f le =
       actor_out wide (codes ",") (codes ",N}}") _ q refl f
       (count_out wide (codes ",") 78 most_number v (codes "}}") (codes "}}") refl refl le
       (last_word wide (codes "}}") refl))
 
-  none_out : (v : ℕ) → v ≤ most_number → FitsTemplate wide (codes ",[],N}}") (codes ",[]," ++ (decimal v ++ codes "}}"))
+  none_out : (v : ℕ) → v ≤ most_number → Matches wide (codes ",[],N}}") (codes ",[]," ++ (decimal v ++ codes "}}"))
   none_out v le =
       count_out wide (codes ",[],") 78 most_number v (codes "}}") (codes "}}") refl refl le
       (last_word wide (codes "}}") refl)
@@ -68,8 +68,8 @@ module _ (wide : Bool) where
   event_out e fits n =
       subst (IsAnyOf wide event_templates) (sym (event_flat e)) (by e.kind e.to fits.to n.1)
     where
-      begins : (word tail rest : List ℕ) → are_bytes wide word ≡ true → FitsTemplate wide tail rest
-          → FitsTemplate wide (codes "{seq_trace,L" ++ (word ++ (codes "N,N},<M.P.0>" ++ tail)))
+      begins : (word tail rest : List ℕ) → are_bytes wide word ≡ true → Matches wide tail rest
+          → Matches wide (codes "{seq_trace,L" ++ (word ++ (codes "N,N},<M.P.0>" ++ tail)))
           (begun word e.label.0 e.serial.prev e.serial.this e.from rest)
       begins word tail rest bytes x =
           begun_out word tail rest e.label.0 e.serial.prev e.serial.this e.from bytes fits.label fits.serial.prev
@@ -113,10 +113,10 @@ module _ (wide : Bool) where
     fits_this : this ≤ most_number
     fits_from : FitsNode wide from
     whole : (t : List ℕ) → rest ≡ t → text ≡ begun word label prev this from t
-    more : FitsTemplate wide tail rest
+    more : Matches wide tail rest
 
   begun_in : (word tail text : List ℕ) → are_bytes wide word ≡ true
-      → FitsTemplate wide (codes "{seq_trace,L" ++ (word ++ (codes "N,N},<M.P.0>" ++ tail))) text → HasBegun word tail text
+      → Matches wide (codes "{seq_trace,L" ++ (word ++ (codes "N,N},<M.P.0>" ++ tail))) text → HasBegun word tail text
   begun_in word tail text bytes x =
       let l =
       count_in wide (codes "{seq_trace,") 76 most_label (word ++ (codes "N,N},<M.P.0>" ++ tail)) text refl refl x in
@@ -142,7 +142,7 @@ module _ (wide : Bool) where
   message_in : (word : List ℕ) (k : Kind) (text : List ℕ) → are_bytes wide word ≡ true
       → ((rest : List ℕ) → word ++ rest ≡ codes ",{" ++ (spelled.kind k ++ (codes ",{" ++ rest)))
       → ((q : Pid) → FitsNode wide q → FitsPlace k (Some q))
-      → FitsTemplate wide (codes "{seq_trace,L"
+      → Matches wide (codes "{seq_trace,L"
       ++ (word ++ (codes "N,N},<M.P.0>" ++ codes ",<M.P.0>,N}}"))) text → IsEvent text
   message_in word k text bytes is place x =
       let b = begun_in word (codes ",<M.P.0>,N}}") text bytes x in
@@ -171,7 +171,7 @@ module _ (wide : Bool) where
             ∙ ap (λ (t : List ℕ). codes "{seq_trace," ++ (decimal b.label ++ t)) (is _) ∙ sym (event_flat e);
       }
 
-  print_in : (text : List ℕ) → FitsTemplate wide (codes "{seq_trace,L,{print,{N,N},<M.P.0>,[],N}}") text → IsEvent text
+  print_in : (text : List ℕ) → Matches wide (codes "{seq_trace,L,{print,{N,N},<M.P.0>,[],N}}") text → IsEvent text
   print_in text x =
       let b = begun_in (codes ",{print,{") (codes ",[],N}}") text refl x in
       let v = count_in wide (codes ",[],") 78 most_number (codes "}}") b.rest refl refl b.more in

@@ -107,11 +107,13 @@ module _ (wide : Bool) where
 
   below_out : (l : Line) → Fits l → AllByRecursion (FitsNode wide) (names l) → is_allowed above.Process l ≡ true
       → IsAnyOf wide (event_templates ++ rare_templates) (spelled.line l)
-  below_out (lines.Event e) f n s = any_left wide event_templates rare_templates (spelled.event e) (event_out wide e f n)
+  below_out (lines.Event e) f n s =
+      any_left wide event_templates rare_templates (spelled.event e) (event_out wide e f n)
   below_out (lines.Header b) f n s = absurd cc
   below_out (lines.Process p) f n s =
       any_right wide event_templates rare_templates (spelled.line (lines.Process p)) (rare_out (lines.Process p) n s)
-  below_out lines.Acts f n s = any_right wide event_templates rare_templates (spelled.line lines.Acts) (rare_out lines.Acts n s)
+  below_out lines.Acts f n s =
+      any_right wide event_templates rare_templates (spelled.line lines.Acts) (rare_out lines.Acts n s)
   below_out (lines.Act a) f n s = absurd cc
 
   acts_out : (l : Line) → Fits l → AllByRecursion (FitsNode wide) (names l) → may_follow true None l ≡ true
@@ -150,7 +152,8 @@ module _ (wide : Bool) where
       }
   header_in text (inr (inr x)) = absurd x
 
-  rare_in : (a : Above) (text : List ℕ) → ((p : Pid) → is_allowed a (lines.Process p) ≡ true) → is_allowed a lines.Acts ≡ true
+  rare_in : (a : Above) (text : List ℕ) → ((p : Pid) → is_allowed a (lines.Process p) ≡ true)
+      → is_allowed a lines.Acts ≡ true
       → IsAnyOf wide rare_templates text → IsLine wide a text
   rare_in a text one two (inl x) =
       let p = pid_last wide (codes "process ") text refl x in
@@ -258,7 +261,8 @@ behind_out ls text x =
     (line_out (has_wide_header ls) (above_of ls) x.0 x.1 s.0 nodes)
 
 pub column_is : (a : Above) (wide : Bool) (line : List ℕ) (n : ℕ) (ls : List Line) → a ≡ above_of ls
-    → wide ≡ has_wide_header ls → IsLongest (IsAnyOf wide (templates_below a)) line n → IsLongest (IsLineBehind ls) line n
+    → wide ≡ has_wide_header ls → IsLongest (IsAnyOf wide (templates_below a)) line n
+    → IsLongest (IsLineBehind ls) line n
 column_is a wide line n ls above_is wide_is longest =
     let of_above = subst (λ (b : Above). IsLongest (IsAnyOf wide (templates_below b)) line n) above_is longest in
     let l = subst (λ (w : Bool). IsLongest (IsAnyOf w (templates_below (above_of ls))) line n) wide_is of_above in

@@ -11,7 +11,7 @@ use Rattle.st_core.specs.Pid.{node_of, number_of, pid_on}
 use Rattle.st_text.specs.Spelling as spelled
 use Rattle.st_text.specs.Range.{FitsPid, most_pid}
 use Rattle.st_text.specs.Text.{is_away}
-use Rattle.st_column.specs.Longest.{FitsTemplate, most_node, most_of}
+use Rattle.st_column.specs.Longest.{Matches, most_node, most_of}
 use Rattle.st_column.proofs.Templates.{is_byte, is_number, byte_is, number_is}
 
 -- ---- pids that the header lets in
@@ -84,20 +84,20 @@ module _ (wide : Bool) where
       by false is e = (cc, cc)
 
   -- a word's text, and the rest's
-  pub word_out : (word template rest : List ℕ) → are_bytes word ≡ true → FitsTemplate wide template rest
-      → FitsTemplate wide (word ++ template) (word ++ rest)
+  pub word_out : (word template rest : List ℕ) → are_bytes word ≡ true → Matches wide template rest
+      → Matches wide (word ++ template) (word ++ rest)
   word_out [] template rest e x = x
   word_out (c ∷ word) template rest e x =
       let b = first_byte c word e in
       (c ∷ [], word ++ rest, refl, is_byte wide c b.0, word_out word template rest b.1 x)
 
   pub number_out : (c most n : ℕ) (template rest : List ℕ) → most_of wide c ≡ Some most → n ≤ most
-      → FitsTemplate wide template rest → FitsTemplate wide (c ∷ template) (decimal n ++ rest)
+      → Matches wide template rest → Matches wide (c ∷ template) (decimal n ++ rest)
   number_out c most n template rest e le x =
       (decimal n, rest, refl, is_number wide c most (decimal n) e (n, le, refl), x)
 
-  pub pid_out : (p : Pid) (template rest : List ℕ) → FitsNode wide p → FitsTemplate wide template rest
-      → FitsTemplate wide (codes "<M.P.0>" ++ template) (spelled.pid p ++ rest)
+  pub pid_out : (p : Pid) (template rest : List ℕ) → FitsNode wide p → Matches wide template rest
+      → Matches wide (codes "<M.P.0>" ++ template) (spelled.pid p ++ rest)
   pid_out p template rest f x =
       let end = word_out (codes ".0>") template rest refl x in
       let number =
@@ -107,7 +107,7 @@ module _ (wide : Bool) where
       let node =
       number_out 77 (most_node wide) (node_of p) (codes ".P.0>" ++ template)
       (codes "." ++ (decimal (number_of p) ++ (codes ".0>" ++ rest))) refl f.node dot in
-      subst (FitsTemplate wide (codes "<M.P.0>" ++ template)) (sym (pid_parts p rest))
+      subst (Matches wide (codes "<M.P.0>" ++ template)) (sym (pid_parts p rest))
       (word_out (codes "<") (codes "M.P.0>" ++ template) _ refl node)
 
   -- the text of a value, and what is spelled behind it
@@ -116,10 +116,10 @@ module _ (wide : Bool) where
     pub fits : Fit value
     pub rest : List ℕ
     pub parts : text ≡ spell value ++ rest
-    pub more : FitsTemplate wide template rest
+    pub more : Matches wide template rest
 
-  pub word_in : (word template text : List ℕ) → are_bytes word ≡ true → FitsTemplate wide (word ++ template) text
-      → (rest : List ℕ) × (text ≡ word ++ rest) × FitsTemplate wide template rest
+  pub word_in : (word template text : List ℕ) → are_bytes word ≡ true → Matches wide (word ++ template) text
+      → (rest : List ℕ) × (text ≡ word ++ rest) × Matches wide template rest
   word_in [] template text e x = (text, refl, x)
   word_in (c ∷ word) template text e x =
       let b = first_byte c word e in
@@ -128,7 +128,7 @@ module _ (wide : Bool) where
       (more.0, x.2 ∙ ap (λ (w : List ℕ). w ++ x.1) byte ∙ ap (λ (t : List ℕ). c ∷ t) more.1, more.2)
 
   pub number_in : (c most : ℕ) (template text : List ℕ) → most_of wide c ≡ Some most
-      → FitsTemplate wide (c ∷ template) text → Front decimal (λ n. n ≤ most) template text
+      → Matches wide (c ∷ template) text → Front decimal (λ n. n ≤ most) template text
   number_in c most template text e x =
       let n = number_is wide c most x.0 e x.3 in
       record {
@@ -139,7 +139,7 @@ module _ (wide : Bool) where
         more = x.4;
       }
 
-  pub pid_in : (template text : List ℕ) → FitsTemplate wide (codes "<M.P.0>" ++ template) text
+  pub pid_in : (template text : List ℕ) → Matches wide (codes "<M.P.0>" ++ template) text
       → Front spelled.pid (FitsNode wide) template text
   pid_in template text x =
       let angle = word_in (codes "<") (codes "M.P.0>" ++ template) text refl x in
@@ -162,29 +162,29 @@ module _ (wide : Bool) where
 
   -- ---- behind a word
 
-  pub actor_out : (word tail rest : List ℕ) (p : Pid) → are_bytes word ≡ true → FitsNode wide p → FitsTemplate wide tail rest
-      → FitsTemplate wide (word ++ (codes "<M.P.0>" ++ tail)) (word ++ (spelled.pid p ++ rest))
+  pub actor_out : (word tail rest : List ℕ) (p : Pid) → are_bytes word ≡ true → FitsNode wide p → Matches wide tail rest
+      → Matches wide (word ++ (codes "<M.P.0>" ++ tail)) (word ++ (spelled.pid p ++ rest))
   actor_out word tail rest p e f x = word_out word (codes "<M.P.0>" ++ tail) _ e (pid_out p tail rest f x)
 
   pub count_out : (word : List ℕ) (c most n : ℕ) (tail rest : List ℕ) → are_bytes word ≡ true
       → most_of wide c ≡ Some most
-      → n ≤ most → FitsTemplate wide tail rest → FitsTemplate wide (word ++ (c ∷ tail)) (word ++ (decimal n ++ rest))
+      → n ≤ most → Matches wide tail rest → Matches wide (word ++ (c ∷ tail)) (word ++ (decimal n ++ rest))
   count_out word c most n tail rest e is le x =
       word_out word (c ∷ tail) _ e (number_out c most n tail rest is le x)
 
   pub last_pid : (word : List ℕ) (p : Pid) → are_bytes word ≡ true → FitsNode wide p
-      → FitsTemplate wide (word ++ codes "<M.P.0>") (word ++ spelled.pid p)
+      → Matches wide (word ++ codes "<M.P.0>") (word ++ spelled.pid p)
   last_pid word p e f =
       word_out word (codes "<M.P.0>") (spelled.pid p) e
-      (subst (FitsTemplate wide (codes "<M.P.0>")) (append-nil (spelled.pid p)) (pid_out p [] [] f refl))
+      (subst (Matches wide (codes "<M.P.0>")) (append-nil (spelled.pid p)) (pid_out p [] [] f refl))
 
   pub last_count : (word : List ℕ) (c most n : ℕ) → are_bytes word ≡ true → most_of wide c ≡ Some most → n ≤ most
-      → FitsTemplate wide (word ++ (c ∷ [])) (word ++ decimal n)
+      → Matches wide (word ++ (c ∷ [])) (word ++ decimal n)
   last_count word c most n e is le =
       word_out word (c ∷ []) (decimal n) e
-      (subst (FitsTemplate wide (c ∷ [])) (append-nil (decimal n)) (number_out c most n [] [] is le refl))
+      (subst (Matches wide (c ∷ [])) (append-nil (decimal n)) (number_out c most n [] [] is le refl))
 
-  pub last_word : (word : List ℕ) → are_bytes word ≡ true → FitsTemplate wide word word
+  pub last_word : (word : List ℕ) → are_bytes word ≡ true → Matches wide word word
   last_word [] e = refl
   last_word (c ∷ word) e =
       let b = first_byte c word e in
@@ -196,7 +196,7 @@ module _ (wide : Bool) where
     pub fits : Fit value
     pub rest : List ℕ
     pub whole : (t : List ℕ) → rest ≡ t → text ≡ word ++ (spell value ++ t)
-    pub more : FitsTemplate wide tail rest
+    pub more : Matches wide tail rest
 
   behind : {A : Type 0} (spell : A → List ℕ) (Fit : A → Type 0) (word tail text inner : List ℕ) → text ≡ word ++ inner
       → Front spell Fit tail inner → Behind spell Fit word tail text
@@ -210,13 +210,13 @@ module _ (wide : Bool) where
       }
 
   pub actor_in : (word tail text : List ℕ) → are_bytes word ≡ true
-      → FitsTemplate wide (word ++ (codes "<M.P.0>" ++ tail)) text → Behind spelled.pid (FitsNode wide) word tail text
+      → Matches wide (word ++ (codes "<M.P.0>" ++ tail)) text → Behind spelled.pid (FitsNode wide) word tail text
   actor_in word tail text e x =
       let w = word_in word (codes "<M.P.0>" ++ tail) text e x in
       behind spelled.pid (FitsNode wide) word tail text w.0 w.1 (pid_in tail w.0 w.2)
 
   pub count_in : (word : List ℕ) (c most : ℕ) (tail text : List ℕ) → are_bytes word ≡ true → most_of wide c ≡ Some most
-      → FitsTemplate wide (word ++ (c ∷ tail)) text → Behind decimal (λ n. n ≤ most) word tail text
+      → Matches wide (word ++ (c ∷ tail)) text → Behind decimal (λ n. n ≤ most) word tail text
   count_in word c most tail text e is x =
       let w = word_in word (c ∷ tail) text e x in
       behind decimal (λ n. n ≤ most) word tail text w.0 w.1 (number_in c most tail w.0 is w.2)
@@ -224,19 +224,19 @@ module _ (wide : Bool) where
   nothing_more : (word text more : List ℕ) → text ≡ word ++ (more ++ []) → text ≡ word ++ more
   nothing_more word text more e = e ∙ ap (λ (t : List ℕ). word ++ t) (append-nil more)
 
-  pub pid_last : (word text : List ℕ) → are_bytes word ≡ true → FitsTemplate wide (word ++ codes "<M.P.0>") text
+  pub pid_last : (word text : List ℕ) → are_bytes word ≡ true → Matches wide (word ++ codes "<M.P.0>") text
       → (p : Pid) × FitsNode wide p × (text ≡ word ++ spelled.pid p)
   pid_last word text e x =
       let b = actor_in word [] text e x in
       (b.value, b.fits, nothing_more word text (spelled.pid b.value) (b.whole [] b.more))
 
   pub count_last : (word : List ℕ) (c most : ℕ) (text : List ℕ) → are_bytes word ≡ true → most_of wide c ≡ Some most
-      → FitsTemplate wide (word ++ (c ∷ [])) text → (n : ℕ) × (n ≤ most) × (text ≡ word ++ decimal n)
+      → Matches wide (word ++ (c ∷ [])) text → (n : ℕ) × (n ≤ most) × (text ≡ word ++ decimal n)
   count_last word c most text e is x =
       let b = count_in word c most [] text e is x in
       (b.value, b.fits, nothing_more word text (decimal b.value) (b.whole [] b.more))
 
-  pub word_last : (word text : List ℕ) → are_bytes word ≡ true → FitsTemplate wide word text → text ≡ word
+  pub word_last : (word text : List ℕ) → are_bytes word ≡ true → Matches wide word text → text ≡ word
   word_last [] text e x = x
   word_last (c ∷ word) text e x =
       let b = first_byte c word e in

@@ -11,7 +11,7 @@ use Rattle.std.proofs.lemmas.Bool.Decides.{nat_tests}
 use Rattle.std.proofs.lemmas.List.{length-take-le, length-append, take_at, drop_at, take-take}
 use Rattle.std.proofs.lemmas.List.{take-append-drop, drop-take, length-drop}
 use Rattle.st_column.specs.Column.{Begins, IsLongest}
-use Rattle.st_column.specs.Longest.{IsAnyOf, IsNumber, IsNumberFront, IsPiece, FitsTemplate}
+use Rattle.st_column.specs.Longest.{IsAnyOf, IsNumber, IsNumberFront, IsPiece, Matches}
 use Rattle.st_column.specs.Longest.{most_of}
 use Rattle.st_column.proofs.Numbers.{number_front, number_some}
 
@@ -44,7 +44,7 @@ module _ (wide : Bool) where
   any_piece c None = (c ∷ [], refl)
   any_piece c (Some most) = (decimal 0, (0, omega arith, refl))
 
-  pub any_text : (template : List ℕ) → (text : List ℕ) × FitsTemplate wide template text
+  pub any_text : (template : List ℕ) → (text : List ℕ) × Matches wide template text
   any_text [] = ([], refl)
   any_text (c ∷ template) =
       let word = any_piece c (most_of wide c) in
@@ -53,11 +53,11 @@ module _ (wide : Bool) where
 
   -- nothing of the line goes on
   pub none_goes : (template line : List ℕ)
-      → ((m : ℕ) → m ≤ length line → Begins (FitsTemplate wide template) (take m line) → m ≤ 0)
-      → IsLongest (FitsTemplate wide template) line 0
+      → ((m : ℕ) → m ≤ length line → Begins (Matches wide template) (take m line) → m ≤ 0)
+      → IsLongest (Matches wide template) line 0
   none_goes template line most = record { within = omega arith; begins = any_text template; most = most }
 
-  pub nothing_longest : (line : List ℕ) → IsLongest (FitsTemplate wide []) line 0
+  pub nothing_longest : (line : List ℕ) → IsLongest (Matches wide []) line 0
   nothing_longest line =
       none_goes [] line
       (λ m le x. omega (arith, ap length x.1, length-append (take m line) x.0, length-take-le m line le))
@@ -73,7 +73,7 @@ module _ (wide : Bool) where
       subst (λ (o : Option ℕ). MatchOption o (c ∷ [] ≡ c ∷ []) (λ most. IsNumber most (c ∷ []))) (sym none) refl
 
   pub end_longest : (c : ℕ) (template line : List ℕ) → (0 < length line → ⊥)
-      → IsLongest (FitsTemplate wide (c ∷ template)) line 0
+      → IsLongest (Matches wide (c ∷ template)) line 0
   end_longest c template line not = none_goes (c ∷ template) line (λ m le x. none m le)
     where
       none : (m : ℕ) → m ≤ length line → m ≤ 0
@@ -82,35 +82,35 @@ module _ (wide : Bool) where
 
   -- what begins a template that begins with a byte
   behind_byte : (c b : ℕ) (template front rest : List ℕ) → most_of wide c ≡ None
-      → FitsTemplate wide (c ∷ template) (b ∷ (front ++ rest)) → (b ≡ c) × FitsTemplate wide template (front ++ rest)
+      → Matches wide (c ∷ template) (b ∷ (front ++ rest)) → (b ≡ c) × Matches wide template (front ++ rest)
   behind_byte c b template front rest none x =
       let word = byte_is c x.0 none x.3 in
       let e : b ∷ (front ++ rest) ≡ c ∷ x.1 = x.2 ∙ ap (λ (w : List ℕ). w ++ x.1) word in
-      (head_is e, subst (FitsTemplate wide template) (sym (tail_is e)) x.4)
+      (head_is e, subst (Matches wide template) (sym (tail_is e)) x.4)
 
   pub other_longest : (c b : ℕ) (template line : List ℕ) → most_of wide c ≡ None → (b ≡ c → ⊥)
-      → IsLongest (FitsTemplate wide (c ∷ template)) (b ∷ line) 0
+      → IsLongest (Matches wide (c ∷ template)) (b ∷ line) 0
   other_longest c b template line none not = none_goes (c ∷ template) (b ∷ line) most
     where
-      most : (m : ℕ) → m ≤ length (b ∷ line) → Begins (FitsTemplate wide (c ∷ template)) (take m (b ∷ line)) → m ≤ 0
+      most : (m : ℕ) → m ≤ length (b ∷ line) → Begins (Matches wide (c ∷ template)) (take m (b ∷ line)) → m ≤ 0
       most zero le x = omega arith
       most (suc m) le x = absurd (not (behind_byte c b template (take m line) x.0 none x.1).0)
 
   pub same_longest : (c : ℕ) (template line : List ℕ) (n : ℕ) → most_of wide c ≡ None
-      → IsLongest (FitsTemplate wide template) line n
-      → IsLongest (FitsTemplate wide (c ∷ template)) (c ∷ line) (1 + n)
+      → IsLongest (Matches wide template) line n
+      → IsLongest (Matches wide (c ∷ template)) (c ∷ line) (1 + n)
   same_longest c template line n none l =
       record { within = omega (arith, l.within); begins = begins; most = most }
     where
-      spelled : FitsTemplate wide (c ∷ template) (c ∷ (take n line ++ l.begins.0))
+      spelled : Matches wide (c ∷ template) (c ∷ (take n line ++ l.begins.0))
       spelled = (c ∷ [], take n line ++ l.begins.0, refl, is_byte c none, l.begins.1)
 
-      begins : Begins (FitsTemplate wide (c ∷ template)) (take (1 + n) (c ∷ line))
+      begins : Begins (Matches wide (c ∷ template)) (take (1 + n) (c ∷ line))
       begins =
           let one : 1 + n ≡ suc n = omega arith in
-          subst (λ (k : ℕ). Begins (FitsTemplate wide (c ∷ template)) (take k (c ∷ line))) (sym one) (l.begins.0, spelled)
+          subst (λ (k : ℕ). Begins (Matches wide (c ∷ template)) (take k (c ∷ line))) (sym one) (l.begins.0, spelled)
 
-      most : (m : ℕ) → m ≤ length (c ∷ line) → Begins (FitsTemplate wide (c ∷ template)) (take m (c ∷ line)) → m ≤ 1 + n
+      most : (m : ℕ) → m ≤ length (c ∷ line) → Begins (Matches wide (c ∷ template)) (take m (c ∷ line)) → m ≤ 1 + n
       most zero le x = omega arith
       most (suc m) le x =
           let more = behind_byte c c template (take m line) x.0 none x.1 in
@@ -122,8 +122,8 @@ module _ (wide : Bool) where
   pub record IsBest (template line : List ℕ) (i best : ℕ) : Type 0 where
     pub within : best ≤ length line
     pub reached : 0 < best → (k : ℕ) × (m : ℕ) × (best ≡ k + m) × (0 < k) × (k ≤ i)
-        × IsLongest (FitsTemplate wide template) (drop k line) m
-    pub most : (k : ℕ) → 0 < k → k ≤ i → (m : ℕ) × (k + m ≤ best) × IsLongest (FitsTemplate wide template) (drop k line) m
+        × IsLongest (Matches wide template) (drop k line) m
+    pub most : (k : ℕ) → 0 < k → k ≤ i → (m : ℕ) × (k + m ≤ best) × IsLongest (Matches wide template) (drop k line) m
 
   -- nothing tried yet
   pub best_none : (template line : List ℕ) → IsBest template line 0 0
@@ -136,7 +136,7 @@ module _ (wide : Bool) where
 
   -- a number of one byte more
   pub best_more : (template line : List ℕ) (i best m : ℕ) → i + 1 ≤ length line → IsBest template line i best
-      → IsLongest (FitsTemplate wide template) (drop (i + 1) line) m → IsBest template line (i + 1) (max best (i + 1 + m))
+      → IsLongest (Matches wide template) (drop (i + 1) line) m → IsBest template line (i + 1) (max best (i + 1 + m))
   best_more template line i best m le b l =
       elim (cases_lt best (i + 1 + m)) [
         | inl less ↦
@@ -148,7 +148,7 @@ module _ (wide : Bool) where
       ]
     where
       most : (best' : ℕ) → best ≤ best' → i + 1 + m ≤ best' → (k : ℕ) → 0 < k → k ≤ i + 1
-          → (m' : ℕ) × (k + m' ≤ best') × IsLongest (FitsTemplate wide template) (drop k line) m'
+          → (m' : ℕ) × (k + m' ≤ best') × IsLongest (Matches wide template) (drop k line) m'
       most best' one two k some le =
           elim (cases_lt k (i + 1)) [
             | inl below ↦
@@ -159,7 +159,7 @@ module _ (wide : Bool) where
                   m,
                   omega (arith, same, two),
                   subst
-                      (λ (j : ℕ). IsLongest (FitsTemplate wide template) (drop j line) m) (sym same) l,
+                      (λ (j : ℕ). IsLongest (Matches wide template) (drop j line) m) (sym same) l,
                 )
           ]
 
@@ -196,12 +196,12 @@ module _ (wide : Bool) where
 
   module _ (c most : ℕ) (template line : List ℕ) (n best : ℕ) (is : most_of wide c ≡ Some most) (small : most < 2 ^ 64)
       (f : IsNumberFront most line n) (b : IsBest template line n best) where
-    number_begins : Begins (FitsTemplate wide (c ∷ template)) (take best line)
+    number_begins : Begins (Matches wide (c ∷ template)) (take best line)
     number_begins = by best refl
       where
-        by : (k : ℕ) → best ≡ k → Begins (FitsTemplate wide (c ∷ template)) (take best line)
+        by : (k : ℕ) → best ≡ k → Begins (Matches wide (c ∷ template)) (take best line)
         by zero e =
-            subst (λ (k : ℕ). Begins (FitsTemplate wide (c ∷ template)) (take k line)) (sym e) (any_text (c ∷ template))
+            subst (λ (k : ℕ). Begins (Matches wide (c ∷ template)) (take k line)) (sym e) (any_text (c ∷ template))
         by (suc k) e =
             let r = b.reached (omega (arith, e)) in
             let cut = ap (λ (j : ℕ). take j line) r.2 ∙ take_sum r.0 r.1 line (omega (arith, r.2, b.within)) in
@@ -213,7 +213,7 @@ module _ (wide : Bool) where
             (rest, (front, behind ++ rest, whole, is_number c most front is (f.number r.0 r.3 r.4), r.5.begins.1))
 
     -- the line ends within the number, or the number ends within the line
-    number_most : (m : ℕ) → m ≤ length line → Begins (FitsTemplate wide (c ∷ template)) (take m line) → m ≤ best
+    number_most : (m : ℕ) → m ≤ length line → Begins (Matches wide (c ∷ template)) (take m line) → m ≤ best
     number_most zero le x = omega arith
     number_most (suc k) le x =
         elim (cases_lt (length word) (suc k)) [ inl less ↦ within less | inr more ↦ beyond more ]
@@ -240,8 +240,8 @@ module _ (wide : Bool) where
             let back : take (suc k - j) (drop j line) ≡ cut.0 =
             sym (drop-take j (suc k - j) line) ∙ ap (λ (i : ℕ). drop j (take i line)) sum ∙ ap (drop j) cut.1
             ∙ drop_length word cut.0 in
-            let behind : FitsTemplate wide template (take (suc k - j) (drop j line) ++ x.0) =
-            subst (FitsTemplate wide template) (cut.2 ∙ ap (λ (t : List ℕ). t ++ x.0) (sym back)) x.1.4 in
+            let behind : Matches wide template (take (suc k - j) (drop j line) ++ x.0) =
+            subst (Matches wide template) (cut.2 ∙ ap (λ (t : List ℕ). t ++ x.0) (sym back)) x.1.4 in
             let most = b.most j some low in
             let bound =
             most.2.most (suc k - j) (omega (arith, length-drop j line, le, less)) (x.0, behind) in
@@ -259,7 +259,7 @@ module _ (wide : Bool) where
             let most = b.most (suc k) (omega arith) low in
             omega (arith, most.1)
 
-    pub number_longest : IsLongest (FitsTemplate wide (c ∷ template)) line best
+    pub number_longest : IsLongest (Matches wide (c ∷ template)) line best
     number_longest = record { within = b.within; begins = number_begins; most = number_most }
 
   -- ---- several templates: the best of them
@@ -315,11 +315,11 @@ module _ (wide : Bool) where
               })
         ]
 
-  alone : (t text : List ℕ) → IsAnyOf wide (t ∷ []) text → FitsTemplate wide t text
+  alone : (t text : List ℕ) → IsAnyOf wide (t ∷ []) text → Matches wide t text
   alone t text (inl x) = x
   alone t text (inr x) = absurd x
 
-  pub any_one : (t line : List ℕ) (n : ℕ) → IsLongest (FitsTemplate wide t) line n → IsLongest (IsAnyOf wide (t ∷ [])) line n
+  pub any_one : (t line : List ℕ) (n : ℕ) → IsLongest (Matches wide t) line n → IsLongest (IsAnyOf wide (t ∷ [])) line n
   any_one t line n l =
       record {
         within = l.within;
@@ -327,11 +327,11 @@ module _ (wide : Bool) where
         most = λ m le x. l.most m le (x.0, alone t (take m line ++ x.0) x.1);
       }
 
-  pub any_more : (t : List ℕ) (ys : List (List ℕ)) (line : List ℕ) (n m : ℕ) → IsLongest (FitsTemplate wide t) line n
+  pub any_more : (t : List ℕ) (ys : List (List ℕ)) (line : List ℕ) (n m : ℕ) → IsLongest (Matches wide t) line n
       → IsLongest (IsAnyOf wide ys) line m → IsLongest (IsAnyOf wide (t ∷ ys)) line (max n m)
   any_more t ys line n m a b = any_both (t ∷ []) ys line n m (any_one t line n a) b
 
-  pub any_two : (t u line : List ℕ) (n m : ℕ) → IsLongest (FitsTemplate wide t) line n → IsLongest (FitsTemplate wide u) line m
+  pub any_two : (t u line : List ℕ) (n m : ℕ) → IsLongest (Matches wide t) line n → IsLongest (Matches wide u) line m
       → IsLongest (IsAnyOf wide (t ∷ u ∷ [])) line (max n m)
   any_two t u line n m a b = any_more t (u ∷ []) line n m a (any_one u line m b)
 

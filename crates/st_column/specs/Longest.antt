@@ -30,15 +30,15 @@ module _ (wide : Bool) where
   IsPiece c word = MatchOption (most_of c) (word ≡ c ∷ []) (λ most. IsNumber most word)
 
   -- the text is the template's pieces, one behind the other
-  abbrev pub FitsTemplate : List ℕ → List ℕ → Type 0
-  FitsTemplate [] text = text ≡ []
-  FitsTemplate (c ∷ template) text =
+  abbrev pub Matches : List ℕ → List ℕ → Type 0
+  Matches [] text = text ≡ []
+  Matches (c ∷ template) text =
       (word : List ℕ) × (rest : List ℕ) × (text ≡ word ++ rest) × IsPiece c word
-      × FitsTemplate template rest
+      × Matches template rest
 
   abbrev pub IsAnyOf : List (List ℕ) → List ℕ → Type 0
   IsAnyOf [] text = ⊥
-  IsAnyOf (template ∷ templates) text = FitsTemplate template text ⊎ IsAnyOf templates text
+  IsAnyOf (template ∷ templates) text = Matches template text ⊎ IsAnyOf templates text
 
 -- ---- the lines that may be below what is above them
 

@@ -5,7 +5,7 @@ ghost use Rattle.std.specs.Prelude.{◌≡◌, ◌≤◌, ◌<◌, ◌+◌, ◌-
 ghost use Rattle.std.specs.Option.{SomeIff};
 ghost use Rattle.st_text.specs.declared.line.Line.{Line};
 ghost use Rattle.st_column.specs.Column.{IsLineBehind, IsLongest, above_of, has_wide_header};
-ghost use Rattle.st_column.specs.Longest.{IsNumberFront, FitsTemplate, IsAnyOf, most_of};
+ghost use Rattle.st_column.specs.Longest.{IsNumberFront, Matches, IsAnyOf, most_of};
 ghost use Rattle.st_column.specs.Longest.{header_templates};
 ghost use Rattle.st_column.specs.Longest.{rare_templates, event_templates, act_templates};
 ghost use Rattle.st_column.specs.Longest.{templates_below};
@@ -66,7 +66,7 @@ fn most_at(wide: bool, piece: u8) -> Option<u64>
 
 /// How many bytes of the line a text of the template begins with.
 fn furthest(wide: bool, template: &[u8], line: &[u8]) -> usize
-    ensures { IsLongest (FitsTemplate wide template.now) line.now result }
+    ensures { IsLongest (Matches wide template.now) line.now result }
 {
     let Some((piece, template)) = template.split_first() else {
         return 0;

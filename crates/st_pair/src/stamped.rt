@@ -11,6 +11,11 @@ use st_core::{Event, Kind, Pid, Sequence, Streams};
 use std::alloc::{AllocError, Global};
 use std::marker::Model;
 
+/// How many rows behind the one that was found last are searched first. One process's messages
+/// reach a receiver in order mostly, with those to others between them: the rows between are few,
+/// and lie side by side in memory, which those of a binary search of all don't.
+const NEAR: usize = 128;
+
 /// A send or print of a process.
 #[derive(Clone, Copy, Debug)]
 pub struct Row {
@@ -81,13 +86,34 @@ fn row_at(rows: &[Row], number: usize, count: u64) -> Option<Row>
     }
 }
 
-/// The row with this count, and its number: `next`, or what a binary search finds.
+/// The row with this count and its number, if it is one of the `width` rows from `start` on and
+/// their counts rise.
+fn row_near(rows: &[Row], start: usize, width: usize, count: u64) -> Option<(usize, Row)>
+    ensures { IfSome result (λ found.
+        Some found.1 ≡ option_and_then (row_under count) (slice_get rows.now found.0)) }
+{
+    let end = start.saturating_add(width);
+    let first = rows.get(start)?;
+    let behind = rows.get(end)?;
+    if first.count > count || behind.count < count {
+        return None;
+    }
+    let number = start + rows[start..end].partition_point(|row| row.count < count);
+    let row = row_at(rows, number, count)?;
+    Some((number, row))
+}
+
+/// The row with this count, and its number: `next`, one soon behind it, or what a binary search
+/// of all finds.
 fn find_row(rows: &[Row], next: usize, count: u64) -> Option<(usize, Row)>
     requires { AreRising rows.now }
     ensures { option_map (λ found. found.1) result ≡ find (λ r. r.count == count) rows.now }
 {
     if let Some(row) = row_at(rows, next, count) {
         return Some((next, row));
+    }
+    if let Some(found) = row_near(rows, next, NEAR, count) {
+        return Some(found);
     }
     let number = rows.partition_point(|row| row.count < count);
     match row_at(rows, number, count) {

@@ -93,7 +93,8 @@ impl<const TOP: u64> World<TOP> {
     /// In the queue of the process the least place whose message has a token with this from and
     /// this own count: that message is from the process that stamped the token. None if there is no
     /// such message, and if the process is unknown. Until the first reset it takes as many steps as
-    /// the place is from the nearer end of the queue, then as many as it is from the front.
+    /// the place is from the nearer end of the queue (from the front in one of at most 512
+    /// messages), then as many as it is from the front.
     pub fn place_of(&self, pid: Pid, from: Pid, this: u64) -> Option<u64>
         ensures value { result ≡ place_in self.now pid from this }
         ensures stamped { IfSome (process self.now pid) (λ r. AreStamped TOP r.queue) }

@@ -5,7 +5,7 @@ use Rattle.std.specs.Borrow.{Bor}
 use Rattle.std.specs.Option.{IsSome}
 use Rattle.std.proofs.lemmas.List.{take_rest}
 use Rattle.st_column.specs.Column.{IsLongest}
-use Rattle.st_column.specs.Longest.{FitsTemplate}
+use Rattle.st_column.specs.Longest.{Matches}
 use Rattle.st_column.proofs.Templates.{same_longest, other_longest, end_longest, best_more}
 use Rattle.st_column.proofs.Templates.{number_longest, IsBest}
 use Rattle.st_column.proofs.column.+furthest.Goals as goal
@@ -46,7 +46,7 @@ loop-i-preserved t c =
     let line = c.args.line.now in
     let all = take_rest line (c.loop-i.i + 1) in
     let behind =
-    subst (λ (l : List ℕ). IsLongest (FitsTemplate c.args.wide c.in-Some.template.now) l c.furthest-in-loop-i.result) all
+    subst (λ (l : List ℕ). IsLongest (Matches c.args.wide c.in-Some.template.now) l c.furthest-in-loop-i.result) all
     c.furthest-in-loop-i.ensures in
     rw c.max-best.ensures
     (best_more c.args.wide c.in-Some.template.now line c.loop-i.i c.loop-i.best c.furthest-in-loop-i.result

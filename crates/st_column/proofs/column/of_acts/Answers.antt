@@ -22,11 +22,13 @@ returns c =
     line c.of_flags.result c.max-tracers.result c.max-flags.result
     c.max-flags.ensures c.of_flags.ensures tracers in
     let tokens =
-    better c.args.wide token_templates (flag_templates ++ tracer_templates ++ restore_send_templates ++ restore_templates)
+    better c.args.wide token_templates
+    (flag_templates ++ tracer_templates ++ restore_send_templates ++ restore_templates)
     line c.of_tokens.result c.max-flags.result c.max-tokens.result
     c.max-tokens.ensures c.of_tokens.ensures flags in
     let prints =
-    better c.args.wide print_templates (token_templates ++ flag_templates ++ tracer_templates ++ restore_send_templates ++ restore_templates)
+    better c.args.wide print_templates
+    (token_templates ++ flag_templates ++ tracer_templates ++ restore_send_templates ++ restore_templates)
     line c.of_prints.result c.max-tokens.result c.max-prints.result
     c.max-prints.ensures c.of_prints.ensures tokens in
     better c.args.wide message_templates

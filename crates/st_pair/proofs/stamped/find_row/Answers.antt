@@ -1,4 +1,5 @@
--- Counts rise, so that a row with the count is the only one, and the search by halves ends at it if there is one.
+-- Counts rise, so that a row with the count is the only one, wherever it was looked for, and the search by halves ends
+-- at it if there is one.
 use Rattle.std.proofs.Common.{ltb, rules}
 use Rattle.std.proofs.lemmas.List.Sorted.{IsPartitionPoint-from_clause, IsPartitionedBy-ltb}
 use Rattle.st_pair.specs.declared.stamped.Row.{Row}
@@ -7,6 +8,9 @@ use Rattle.st_pair.proofs.stamped.find_row.Goals as goal
 
 pub returns-in-Some : goal.returns-in-Some
 returns-in-Some c = found_at c.args.rows.now c.args.count _ _ c.requires c.in-Some.ensures
+
+pub returns-in-Some-row_near : goal.returns-in-Some-row_near
+returns-in-Some-row_near c = found_at c.args.rows.now c.args.count _ _ c.requires c.in-Some-row_near.ensures
 
 pub returns-in-None : goal.returns-in-None
 returns-in-None c =

@@ -11,7 +11,10 @@ pub returns-else-number-lt100 : goal.returns-else-number-lt100
 returns-else-number-lt100 c =
     record {
       items =
-          rw (c.put_pair.ensures.items, c.put_short-else-number-lt100.ensures.items, last_two c.args.number c.if-number-lt100.false (omega arith))
-          (simp append_assoc);
+          rw (
+            c.put_pair.ensures.items,
+            c.put_short-else-number-lt100.ensures.items,
+            last_two c.args.number c.if-number-lt100.false (omega arith),
+          ) (simp append_assoc);
       len = omega (arith, c.put_short-else-number-lt100.ensures.len, c.put_pair.ensures.len);
     }

@@ -17,5 +17,11 @@ returns-then-number-lt100000000 c =
             c.put_four-then-number-lt100000000.ensures.items,
             last_four c.args.number c.if-number-lt10000.false (omega arith),
           ) (simp append_assoc);
-      len = omega (arith, c.put_four-then-number-lt100000000.ensures.len, c.put_pair.ensures.len, c.put_pair-then-number-lt100000000.ensures.len);
+      len =
+          omega (
+            arith,
+            c.put_four-then-number-lt100000000.ensures.len,
+            c.put_pair.ensures.len,
+            c.put_pair-then-number-lt100000000.ensures.len,
+          );
     }

@@ -4,7 +4,7 @@ use Rattle.std.specs.Fn.{FnReturnsAt}
 use Rattle.slab.specs.Slab.{get}
 use Rattle.st_arena.specs.Calls.{IsAnswered}
 use Rattle.st_arena.specs.Chain.{items_of, key_after}
-use Rattle.st_arena.proofs.chain.any_answered.Given as goal
+use Rattle.st_arena.proofs.chain.answered_from_ends.Given as goal
 
 -- the keys are those of the nodes at the place and as far from the end, and each item outside was answered false
 abbrev pub invariant-loop-place : goal.invariant-loop-place
