@@ -13,14 +13,14 @@ use std::marker::Model;
 use thiserror::Error;
 
 /// The clock is at TOP, so `advance` can stamp no token (own profile).
-#[derive(Clone, Copy, Debug, PartialEq, Eq, PartialOrd, Ord, Hash, Error)]
+#[derive(Clone, Copy, Debug, PartialEq, Eq, Error)]
 #[error("the clock is full")]
 pub struct ClockFull;
 
 /// A process's token, if it has one; its trace clock, 0 to TOP; the count that was passed in the
 /// last received information with a token, or the clock at the start of a new trace, which is at
 /// most the clock; and whether a system tracer is set on its node.
-#[derive(Clone, Copy, Debug, PartialEq, Eq)]
+#[derive(Clone, Copy)]
 pub struct Local<const TOP: u64> {
     token: Option<Token>,
     clock: u64,

@@ -52,11 +52,11 @@ impl Pid {
 
 /// The label of a sequential trace, which tells it from others that go on at the same time. The
 /// manual allows any term; here a number of 32 bits (own profile). The default is 0.
-#[derive(Clone, Copy, Debug, Default, PartialEq, Eq, PartialOrd, Ord, Hash)]
+#[derive(Clone, Copy, Debug, PartialEq, Eq, PartialOrd, Ord)]
 pub struct Label(pub u32);
 
 /// The serial of a token, by which traced messages are put in order (manual).
-#[derive(Clone, Copy, Debug, Default, PartialEq, Eq, PartialOrd, Ord, Hash)]
+#[derive(Clone, Copy, Debug, PartialEq, Eq)]
 pub struct Serial {
     /// The count passed in the last received information that carried a token, or the trace clock
     /// at the start of a new trace (manual).
@@ -66,7 +66,7 @@ pub struct Serial {
 }
 
 /// Which acts under a token are reported. All are false by default (manual).
-#[derive(Clone, Copy, Debug, Default, PartialEq, Eq, Hash)]
+#[derive(Clone, Copy, Debug, PartialEq, Eq)]
 pub struct Flags {
     /// Sends.
     pub send: bool,
@@ -77,7 +77,7 @@ pub struct Flags {
 }
 
 /// A trace token. It travels with each message that its process sends (manual).
-#[derive(Clone, Copy, Debug, PartialEq, Eq, Hash)]
+#[derive(Clone, Copy, Debug, PartialEq, Eq)]
 pub struct Token {
     /// The trace that it belongs to.
     pub label: Label,
@@ -133,7 +133,7 @@ impl Token {
 }
 
 /// A message in a queue. Values are numbers; in Erlang they are any terms (own profile).
-#[derive(Clone, Copy, Debug, PartialEq, Eq, Hash)]
+#[derive(Clone, Copy, Debug, PartialEq, Eq)]
 pub struct Message {
     /// Its sender.
     pub from: Pid,
@@ -144,7 +144,7 @@ pub struct Message {
 }
 
 /// What an event reports (manual: the words `send`, `'receive'` and `print` of the tracer's tuple).
-#[derive(Clone, Copy, Debug, PartialEq, Eq, Hash)]
+#[derive(Clone, Copy, Debug, PartialEq, Eq)]
 pub enum Kind {
     /// A send, reported by its sender.
     Send,
@@ -156,7 +156,7 @@ pub enum Kind {
 
 /// What the system tracer gets (manual: `{seq_trace, Label, {Kind, Serial, From, To, Value}}`). The
 /// fields are in an order that leaves no gaps between them in memory.
-#[derive(Clone, Copy, Debug, PartialEq, Eq, Hash)]
+#[derive(Clone, Copy, Debug, PartialEq, Eq)]
 pub struct Event {
     /// The label of the token in force: the stamped one of a send or a print, the message's of a
     /// receive.
@@ -189,7 +189,7 @@ impl Event {
 
 /// A component of a token that can be set (manual; its serial is left out, which users should
 /// never set).
-#[derive(Clone, Copy, Debug, PartialEq, Eq, Hash)]
+#[derive(Clone, Copy, Debug, PartialEq, Eq)]
 pub enum Component {
     /// The label.
     Label(Label),
@@ -202,7 +202,7 @@ pub enum Component {
 }
 
 /// Which message a receive takes: the oldest that matches (own profile: these five patterns).
-#[derive(Clone, Copy, Debug, PartialEq, Eq, Hash)]
+#[derive(Clone, Copy, Debug, PartialEq, Eq)]
 pub enum Want {
     /// Any message.
     First,
@@ -217,7 +217,7 @@ pub enum Want {
 }
 
 /// One act of a process, which is first: one atomic step of the machine (own profile).
-#[derive(Clone, Copy, Debug, PartialEq, Eq, Hash)]
+#[derive(Clone, Copy, Debug, PartialEq, Eq)]
 pub enum Act {
     /// Sends the value to the second process.
     Send(Pid, Pid, u64),
@@ -262,7 +262,7 @@ impl Act {
 }
 
 /// What an act returns to its actor.
-#[derive(Clone, Copy, Debug, PartialEq, Eq, Hash)]
+#[derive(Clone, Copy, Debug, PartialEq, Eq)]
 pub enum Reply {
     /// To a send, a print and a reset.
     Done,

@@ -2,7 +2,7 @@
 //! is a call of a small function, so that the tests themselves are short to prove.
 
 use crate::helpers::same;
-use st_core::{Act, Component, Flags, Label, Pid, Reply, Serial, Token, Want};
+use st_core::{Act, Component, Label, Pid, Reply, Token, Want};
 use st_samples::{p30, p31};
 use st_world::{NewFault, Outcome, StepFault, World};
 use std::alloc::Global;
@@ -103,12 +103,8 @@ fn reset_with_a_queued_message(rt: HostRuntime) -> Result<(), Fail> {
 #[test]
 fn small_limits(rt: HostRuntime) -> Result<(), Fail> {
     let mut world = World::<3>::new(rt.alloc(), &[p30()])?;
-    let token = Token {
-        label: Label(1),
-        flags: Flags::default(),
-        serial: Serial { prev: 0, this: 3 },
-        from: p30(),
-    };
+    let mut token = Token::made_by(p30()).with(Component::Label(Label(1)));
+    token.serial.this = 3;
     let print = Act::Print(p30(), 0);
     let set = Act::Set(p30(), Component::Label(Label(1)));
     let acts = [

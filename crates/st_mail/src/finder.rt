@@ -19,7 +19,7 @@ const SHORT_WALK: u64 = 256;
 const WALKS_AN_INDEX: u64 = 16;
 
 /// A walk that looked for a message by this key.
-#[derive(Clone, Copy, Debug, PartialEq, Eq)]
+#[derive(Clone, Copy)]
 pub(crate) struct Walk {
     /// What it asked of each message.
     pub(crate) key: Key,
@@ -28,7 +28,7 @@ pub(crate) struct Walk {
 }
 
 /// How a message is searched for before a receive takes it.
-#[derive(Clone, Copy, Debug, PartialEq, Eq)]
+#[derive(Clone, Copy)]
 pub(crate) enum Search {
     /// Not at all.
     Nothing,
@@ -85,7 +85,7 @@ impl Search {
 }
 
 /// How many messages long walks have passed, by what they looked for.
-#[derive(Clone, Copy, Debug, Default)]
+#[derive(Clone, Copy, Default)]
 struct Walks {
     value: u64,
     sender: u64,

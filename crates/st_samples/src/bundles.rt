@@ -7,16 +7,6 @@ pub const ONE_MESSAGE: &str = "seqtrace 1\n\
     process <0.31.0>\n\
     {seq_trace,17,{'receive',{0,1},<0.30.0>,<0.31.0>,5}}\n";
 
-/// A print, and acts that explain it: 160 bytes.
-pub const PRINT_ONE: &str = "seqtrace 1\n\
-    process <0.30.0>\n\
-    {seq_trace,17,{print,{0,1},<0.30.0>,[],7}}\n\
-    acts\n\
-    tracer <0.30.0> true\n\
-    set <0.30.0> label 17\n\
-    set <0.30.0> print true\n\
-    print <0.30.0> 7\n";
-
 /// A print and a receive of each of two processes, with acts that explain them; no send was
 /// reported.
 pub const HIDDEN_SENDS_CERTIFICATE: &str = "seqtrace 1\n\

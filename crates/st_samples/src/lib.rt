@@ -1,4 +1,4 @@
-//! What the tests of several crates take: texts of bundles, and three processes.
+//! What the tests of several crates take: texts of bundles, and two processes.
 //!
 //! A text that the tests of one crate alone take is there. So do the helpers that assert, even
 //! if two crates have the same: they end the process, and only tests may.
@@ -7,5 +7,5 @@
 mod bundles;
 mod pids;
 
-pub use bundles::{HIDDEN_SENDS_CERTIFICATE, ONE_MESSAGE, PRINT_ONE};
-pub use pids::{p30, p31, p32};
+pub use bundles::{HIDDEN_SENDS_CERTIFICATE, ONE_MESSAGE};
+pub use pids::{p30, p31};

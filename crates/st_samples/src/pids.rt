@@ -1,4 +1,4 @@
-//! Three processes.
+//! Two processes.
 
 ghost use Rattle.std.specs.Prelude.{◌≡◌};
 ghost use Rattle.st_core.specs.Pid.{pid_on};
@@ -17,11 +17,4 @@ pub fn p31() -> Pid
     ensures { result ≡ pid_on 0 31 }
 {
     Pid::new(31)
-}
-
-/// The process 32 of node 0.
-pub fn p32() -> Pid
-    ensures { result ≡ pid_on 0 32 }
-{
-    Pid::new(32)
 }

@@ -1,34 +1,13 @@
-//! Tests of what no clause says: that the program succeeds with ample memory, and devices that fail on
-//! the way. If memory runs out they fail. The worked inputs are in `tests/`, which the built program
-//! is tested with.
+//! As many words as a command line has at most.
 
-mod devices;
-mod drives;
-mod prefixes;
-mod usage;
+use st_commands::{Refusal, read_words};
+use std::test::Fail;
 
-use st_commands::run;
-use st_core::{MemorySink, MemorySource};
-use std::alloc::AllocError;
-use std::process::Abort;
-use std::sync::Wait;
-use std::thread::Threads;
-
-/// Runs the program on the input, and compares what it wrote and its status.
-fn expect<H: Abort + AllocGlobal + Threads + Wait + Sync>(
-    rt: &H,
-    name: &str,
-    words: &[&str],
-    input: &[u8],
-    text: &[u8],
-    status: u8,
-) -> Result<(), AllocError> {
-    let mut reader = MemorySource::new(input, None);
-    // A byte more than is wanted, so that a longer text would show.
-    let room = text.len().saturating_add(1);
-    let mut writer = MemorySink::new(rt.alloc(), room, None)?;
-    let answer = run(rt, words, &mut reader, &mut writer);
-    assert!(rt; writer.written() == text, "the text of {name}");
-    assert_eq!(rt; answer, status, "the status of {name}");
+// So many aren't out of memory.
+#[test]
+fn a_hundred_thousand_words_are_told_the_usage(rt: HostRuntime) -> Result<(), Fail> {
+    let words = vec![in rt.alloc(); "check"; 100_000]?;
+    let task = read_words(rt.alloc(), words.as_slice());
+    assert!(rt; task == Err(Refusal::Usage));
     Ok(())
 }

@@ -1,13 +1,12 @@
-//! Tests of processes on threads, of whole commands, and of calls with much to do.
+//! Tests of processes on threads, and of calls with much to do.
 //!
 //! | Module | Tests |
 //! |---|---|
 //! | `runtime` | `st_runtime`: its calls; refusals, and if memory runs out |
-//! | `runs` | `st_runtime`: threads that meet, and records of driven scripts |
+//! | `runs` | `st_runtime`: threads that meet, and scripts that are driven |
 //! | `systems` | `st_runtime`: systems of 100,000 processes, by one thread |
-//! | `commands` | `st_commands`: words, and devices that fail on the way |
+//! | `commands` | `st_commands`: many words |
 //! | `sizes` | many crates: calls with 100,000 of what they take |
-//! | `interface` | all crates of `seqaudit`: a caller of each public type and call |
 //! | `helpers` | none: what several of these take |
 #![tactic(auto)]
 
@@ -15,8 +14,6 @@
 mod commands;
 #[cfg(test)]
 mod helpers;
-#[cfg(test)]
-mod interface;
 #[cfg(test)]
 mod runs;
 #[cfg(test)]

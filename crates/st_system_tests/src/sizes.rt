@@ -1,6 +1,6 @@
 //! Each call that can run out of memory, with 100,000 of what it takes. No clause can say that
 //! memory is left, so the prover accepts a body that gives up at some size; these tests don't.
-//! `text::limits` of `st_machine_tests` and `checks` of `st_audit_tests` have the reader, the check
+//! `text` of `st_machine_tests` and `checks` of `st_audit_tests` have the reader, the check
 //! and the replay.
 
 ghost use Rattle.std.specs.Prelude.{◌<◌};

@@ -220,7 +220,7 @@ impl ByteSink for MemorySink {
 }
 
 /// Gives zero bytes for ever: it never ends and never fails.
-#[derive(Clone, Copy, Debug)]
+#[derive(Clone, Copy)]
 pub struct EndlessSource {
     unit: (),
 }

@@ -1,9 +1,8 @@
 //! Threads that meet at a gate: acts on processes apart are made at once, and no act holds its
 //! locks at a gate that it has left, or lacks one at a gate that it has entered.
 
-use super::MOST;
+use super::{MOST, is_one_run};
 use crate::helpers::same;
-use st_check::{Verdict, check};
 use st_core::{Act, Pid, Sequence};
 use st_runtime::{ActFault, DriveFault, Gate, Record, Seat, System, drive};
 use st_samples::{p30, p31};
@@ -101,8 +100,7 @@ fn two_senders_at_once(rt: HostRuntime) -> Result<(), Fail> {
     let (met, record) = drive_meetings(&rt, rt.alloc())?;
     same(&rt, &met, &2);
     same(&rt, &record.acts.len(), &2);
-    let verdict = check::<MOST>(rt.alloc(), &record.streams, record.acts.as_slice())?;
-    assert!(rt; matches!(verdict, Verdict::Yes(_)));
+    assert!(rt; is_one_run(rt.alloc(), &record)?);
     Ok(())
 }
 

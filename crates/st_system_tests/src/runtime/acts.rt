@@ -3,7 +3,7 @@
 use super::{act_at_last, gather_at_last, open_at_last, room_at_last};
 use crate::helpers::{same, same_at};
 use st_core::{Act, Component, Label, Pid, Reply, Serial, Want};
-use st_runtime::{ActFault, Gate, OpenFault, OpenGate, Seat, System, WORKER_STACK};
+use st_runtime::{ActFault, Gate, OpenGate, Seat, System, WORKER_STACK};
 use std::process::Abort;
 use std::sync::Wait;
 use std::sync::atomic::{AtomicU64, Ordering};
@@ -197,38 +197,6 @@ fn a_full_rank_keeps_what_was_made(rt: HostRuntime) -> Result<(), Fail> {
     );
     same(&rt, &seat.mine().len(), &3);
     Ok(())
-}
-
-// A send reaches the other node, and the reset after it doesn't.
-#[test]
-fn a_reset_leaves_the_log_of_another_node(rt: HostRuntime) -> Result<(), Fail> {
-    let here = Pid::on(1, 30);
-    let away = Pid::on(2, 31);
-    let (system, seats) = open_at_last::<9, 9>(rt.alloc(), &[here, away])?;
-    let Some(mut seat) = seats.into_iter().next() else {
-        panic!(rt; "no seats");
-    };
-    let send = Act::Send(here, away, 5);
-    let acts = [(send, Ok(Reply::Done)), (Act::Reset(here), Ok(Reply::Done))];
-    play(&rt, &OpenGate, &system, &mut seat, &acts);
-    let pieces = gather_at_last(system, Vec::new(rt.alloc())).ok_or("not gathered")?;
-    for process in pieces.into_processes() {
-        if process.pid() == away {
-            same(&rt, &process.log().len(), &1);
-            same(
-                &rt,
-                &process.log().get(0).map(|entry| entry.act),
-                &Some(send),
-            );
-        }
-    }
-    Ok(())
-}
-
-#[test]
-fn a_system_of_falling_pids_is_refused(rt: HostRuntime) {
-    let refused = open_at_last::<9, 9>(rt.alloc(), &[Pid::new(31), Pid::new(30)]).err();
-    same(&rt, &refused, &Some(OpenFault::NotRising));
 }
 
 // A reset and a tracer change reach the processes of the actor's node, and no other.

@@ -1,35 +1,18 @@
 //! Driven scripts: refusals, and what is left if memory runs out.
 
 use crate::helpers::same;
-use st_check::{CheckFault, Verdict, check};
 use st_core::{Act, Component, Label, Pid, Sequence, Want};
-use st_runtime::{ActFault, DriveFault, Gate, OpenGate, Record, drive, drive_on};
+use st_runtime::{ActFault, DriveFault, OpenGate, Record, drive, drive_on};
 use std::alloc::Global;
 use std::process::Abort;
 use std::sync::Wait;
 use std::test::Fail;
 use std::thread::Threads;
 
-/// Drives these scripts, which are as many as the pids; once more if memory or a thread was
-/// refused.
-fn drive_at_last<
-    const TOP: u64,
-    const RANKS: u64,
-    R: Threads + Wait + Sync + Abort,
-    G: Gate + Sync,
->(rt: &R, alloc: Global, gate: &G, pids: &[Pid], scripts: &[&[Act]]) -> Result<Record, DriveFault> {
-    match drive_once::<TOP, RANKS, R, G>(rt, alloc, gate, pids, scripts) {
-        Err(DriveFault::Memory | DriveFault::Thread) => {
-            drive_once::<TOP, RANKS, R, G>(rt, alloc, gate, pids, scripts)
-        }
-        answer => answer,
-    }
-}
-
-fn drive_once<const TOP: u64, const RANKS: u64, R: Threads + Wait + Sync + Abort, G: Gate + Sync>(
+/// Drives these scripts, which are as many as the pids.
+fn drive_once<const TOP: u64, const RANKS: u64, R: Threads + Wait + Sync + Abort>(
     rt: &R,
     alloc: Global,
-    gate: &G,
     pids: &[Pid],
     scripts: &[&[Act]],
 ) -> Result<Record, DriveFault> {
@@ -41,10 +24,10 @@ fn drive_once<const TOP: u64, const RANKS: u64, R: Threads + Wait + Sync + Abort
         };
     }
     assert_eq!(rt; all.len(), pids.len());
-    drive::<TOP, RANKS, R, G>(rt, alloc, pids, all, gate)
+    drive::<TOP, RANKS, R, OpenGate>(rt, alloc, pids, all, &OpenGate)
 }
 
-/// Asserts why these scripts are not driven.
+/// Asserts why these scripts are not driven; once more if memory or a thread was refused.
 fn assert_refused<const TOP: u64, const RANKS: u64, R: Threads + Wait + Sync + Abort>(
     rt: &R,
     alloc: Global,
@@ -52,7 +35,13 @@ fn assert_refused<const TOP: u64, const RANKS: u64, R: Threads + Wait + Sync + A
     scripts: &[&[Act]],
     expected: DriveFault,
 ) {
-    match drive_at_last::<TOP, RANKS, R, OpenGate>(rt, alloc, &OpenGate, pids, scripts) {
+    let driven = match drive_once::<TOP, RANKS, R>(rt, alloc, pids, scripts) {
+        Err(DriveFault::Memory | DriveFault::Thread) => {
+            drive_once::<TOP, RANKS, R>(rt, alloc, pids, scripts)
+        }
+        answer => answer,
+    };
+    match driven {
         Ok(_) => panic!(rt; "driven"),
         Err(fault) => same(rt, &fault, &expected),
     }
@@ -80,34 +69,6 @@ fn refused_acts_and_falling_pids(rt: HostRuntime) {
     let clock = DriveFault::Act(me, 4, ActFault::ClockFull);
     let prints = [set, print, print, print, print];
     assert_refused::<3, 9, _>(&rt, alloc, &both, &[&prints, &[nobody]], clock);
-}
-
-/// What `check` says of a record.
-fn verdict_at_last(alloc: Global, record: &Record) -> Result<Verdict, CheckFault> {
-    match check::<9>(alloc, &record.streams, record.acts.as_slice()) {
-        Err(CheckFault::Memory) => check::<9>(alloc, &record.streams, record.acts.as_slice()),
-        answer => answer,
-    }
-}
-
-// The send reaches the other node, and the reset after it does not.
-#[test]
-fn a_send_to_another_node(rt: HostRuntime) -> Result<(), Fail> {
-    let here = Pid::on(1, 30);
-    let away = Pid::on(2, 31);
-    let script = [Act::Send(here, away, 5), Act::Reset(here)];
-    let record = drive_at_last::<9, 9, _, _>(
-        &rt,
-        rt.alloc(),
-        &OpenGate,
-        &[here, away],
-        &[&script, &[]],
-    )?;
-    same(&rt, &record.acts.as_slice(), &script.as_slice());
-    same(&rt, &record.streams.pids(), &[here, away].as_slice());
-    let verdict = verdict_at_last(rt.alloc(), &record)?;
-    assert!(rt; matches!(verdict, Verdict::Yes(_)));
-    Ok(())
 }
 
 /// Drives no acts of one process on so large a stack.
