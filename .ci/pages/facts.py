@@ -56,6 +56,8 @@ NUMBERS = [
     (FORMATS, r"`print`, left in (\d) places",
      length_of("crates/st_chart/specs/Chart.antt", r'^(?:item|kind)_word .*codes "([^"]*)"$')),
     (FORMATS, r"since there are more than ([\d,]+)", constant("crates/st_diff/src/align.rt", "MOST_CHANGES")),
+    (FORMATS, r"they would have more than ([\d,]+) marks", constant("crates/st_draw/src/size.rt", "MOST_MARKS")),
+    (FORMATS, r"would have more than ([\d,]+) counts", constant("crates/st_export/src/size.rt", "MOST_COUNTS")),
     (FORMATS, r"Lines are counted from (\d)", constant("crates/st_lines/src/numbers.rt", "FIRST") - 2),
     (AUDIT, r"## It fits \(status (\d)\)", sources.status_of("MeansFits")),
     (AUDIT, r"## It doesn't fit \(status (\d)\)", sources.status_of("MeansUnfit")),

@@ -159,7 +159,8 @@ arrow stands where its message was received. If the sender did something else in
 between, a note says where it sent, and the arrow is dotted. An arrow with a
 cross has no reported receive, and one from `not reported` no reported send.
 With --complete what was added is dashed or dotted, and says `added`.
-Status 1: nothing has the label, or the trace can't be paired (seqtool audit).";
+Status 1: nothing has the label, or the trace can't be paired (seqtool audit).
+Status 5: `long chart`, the tables would have more than 2,048,000,000 marks.";
 
 pub(crate) const EXPORT: &str = "Writes the trace for Perfetto, ShiViz or OpenTelemetry";
 
@@ -175,4 +176,5 @@ ShiViz (bestchai.bitbucket.io/shiviz) opens the second as it is: two lines for
 each event, the second with its process and its vector clock.
 A collector of OpenTelemetry takes the third: a line of OTLP as JSON, a span for
 each message. Spans need times, which seqaudit-node collect --times measures.
-Status 1: the trace can't be paired (seqtool audit says why).";
+Status 1: the trace can't be paired (seqtool audit says why).
+Status 5: `long clocks`, for ShiViz it is too long: take perfetto, or cut it.";

@@ -156,7 +156,7 @@ fn draw_completed<H: Threads + Sync, W: ByteSink, N: ByteSink>(
 
 /// Reads a bundle and draws its streams, with status 0. If they can't be paired, or nothing is
 /// there to be drawn, it says so with status 1; and so if they are to be completed, and no run has
-/// them. Faulty input is 2; running out of memory, and a
+/// them. Tables that would be too long are 5. Faulty input is 2; running out of memory, and a
 /// reader or a writer that fails, are 4. If memory runs out behind the first of several tables, they
 /// break off, and the notes say why. It sorts on several threads.
 pub fn run_draw<H: Threads + Sync, R: ByteSource, W: ByteSink, N: ByteSink>(

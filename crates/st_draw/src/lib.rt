@@ -12,6 +12,7 @@ mod marker;
 mod mermaid;
 mod scene;
 mod sends;
+mod size;
 mod table;
 mod words;
 

@@ -81,12 +81,6 @@ fn mark_of(scene: &Scene<'_>, item: Item) -> &'static str {
     }
 }
 
-/// Whether an item has a line in the table of a scene.
-fn has_line(scene: &Scene<'_>, item: Item) -> bool {
-    let (pid, index) = item.place();
-    scene.event(pid, index).is_some()
-}
-
 /// The marks of the lines of a table.
 fn marks_of(
     alloc: Global,
@@ -95,7 +89,7 @@ fn marks_of(
 ) -> Result<Vec<&'static str>, AllocError> {
     let mut marks = lane_marks(alloc, scene, items)?;
     for item in items {
-        if has_line(scene, *item) {
+        if scene.has_row(*item) {
             marks.push(mark_of(scene, *item))?;
         }
     }

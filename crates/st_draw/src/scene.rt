@@ -3,6 +3,7 @@
 use st_complete::Completion;
 use st_core::{Event, Kind, Label, Pid, Streams};
 use st_list::{Partner, partner_at};
+use st_order::Item;
 use st_pair::Pairing;
 
 /// The events of paired streams that have a label, or all of them.
@@ -68,6 +69,12 @@ impl<'a> Scene<'a> {
     pub(crate) fn event(&self, pid: Pid, index: u64) -> Option<Event> {
         let event = self.streams.event(pid, index)?;
         if self.has(&event) { Some(event) } else { None }
+    }
+
+    /// Whether an item has a row in a table of the scene.
+    pub(crate) fn has_row(&self, item: Item) -> bool {
+        let (pid, index) = item.place();
+        self.event(pid, index).is_some()
     }
 
     /// Whether one of these events is drawn.

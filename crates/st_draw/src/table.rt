@@ -6,14 +6,20 @@ ghost use Rattle.st_pair.specs.Links.{IsPairing};
 
 use crate::marker::marked_chart;
 use crate::scene::Scene;
+use crate::size::{are_long_tables, is_long_table};
+use crate::words::send_long;
 use st_chain::Causes;
 use st_chart::{ChartFault, chart};
+use st_commands::status_of;
 use st_core::{ByteSink, Label, Sequence, Streams};
 use st_order::{Item, by_label};
 use st_pair::Pairing;
 use st_say::send_words;
 use std::alloc::{AllocError, Global};
 use std::thread::Threads;
+
+/// The status of tables that would be too long.
+const LONG: u8 = 5;
 
 /// Writes the table of a label's items, with what a completion adds marked.
 fn write_table<W: ByteSink>(
@@ -77,7 +83,7 @@ fn status_of_fault<N: ByteSink>(fault: ChartFault, notes: &mut N) -> u8 {
 }
 
 /// Writes the table of a label that an item has, or those of all labels, by rising label, and
-/// returns the status.
+/// returns the status; or that they would be too long, with status 5.
 pub(crate) fn tell_tables<H: Threads + Sync, W: ByteSink, N: ByteSink>(
     rt: &H,
     alloc: Global,
@@ -93,9 +99,17 @@ pub(crate) fn tell_tables<H: Threads + Sync, W: ByteSink, N: ByteSink>(
 {
     let causes = Causes::new(alloc, streams, pairing)?;
     let written = match label {
-        Some(label) => write_table(alloc, streams, scene, &causes, items, label, writer),
+        Some(label) => {
+            if is_long_table(alloc, scene, items)? {
+                return Ok(status_of(send_long(writer), LONG));
+            }
+            write_table(alloc, streams, scene, &causes, items, label, writer)
+        }
         None => {
             let groups = by_label(rt, alloc, streams, items)?;
+            if are_long_tables(alloc, scene, items, groups.as_slice())? {
+                return Ok(status_of(send_long(writer), LONG));
+            }
             write_groups(alloc, streams, scene, &causes, groups.as_slice(), writer)
         }
     };

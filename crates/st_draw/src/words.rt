@@ -30,6 +30,11 @@ pub(crate) fn say_content<W: ByteSink>(
     Ok(())
 }
 
+/// Sends that the tables would be too long.
+pub(crate) fn send_long<W: ByteSink>(writer: &mut W) -> Result<(), Device> {
+    send_words(writer, "long chart\n")
+}
+
 /// Sends that nothing has the label, or that there are no events at all.
 pub(crate) fn send_nothing<W: ByteSink>(
     writer: &mut W,

@@ -68,7 +68,7 @@ fn export_streams<H: Threads + Sync, W: ByteSink, N: ByteSink>(
 }
 
 /// Reads a bundle and writes its streams for another tool, with status 0. If they can't be paired,
-/// it says so with status 1. Faulty input is 2; running out of memory, and a reader or a writer that
+/// it says so with status 1, and if a log for ShiViz would be too long, with status 5. Faulty input is 2; running out of memory, and a reader or a writer that
 /// fails, are 4. If memory runs out behind the first event of a log for ShiViz, that breaks off, and
 /// the notes say why. It sorts on several threads.
 pub fn run_export<H: Threads + Sync, R: ByteSource, W: ByteSink, N: ByteSink>(

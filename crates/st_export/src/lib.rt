@@ -18,6 +18,7 @@ mod numbering;
 mod otlp;
 mod perfetto;
 mod shiviz;
+mod size;
 mod times;
 
 pub use audit::run_audit_json;

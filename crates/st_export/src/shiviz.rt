@@ -2,12 +2,17 @@
 //! JSON.
 
 use crate::clock::{Clock, Clocks};
+use crate::size::is_long;
+use st_commands::status_of;
 use st_core::{ByteSink, Event, Pid, Streams};
 use st_order::Item;
 use st_pair::Pairing;
 use st_say::{TextWriter, kind_word, send_words};
 use st_text::Device;
 use std::alloc::{AllocError, Global};
+
+/// The status of a log that would be too long.
+const LONG: u8 = 5;
 
 /// Why a log breaks off.
 #[derive(Clone, Copy, Debug)]
@@ -108,8 +113,14 @@ fn note_memory<N: ByteSink>(notes: &mut N) {
     let _ = send_words(notes, "error: memory ran out\n");
 }
 
-/// Writes paired streams, whose items these are in their order, and returns the status. If memory
-/// runs out in the midst, the lines break off, and the notes say why.
+/// Sends that the log would be too long.
+fn send_long<W: ByteSink>(writer: &mut W) -> Result<(), Device> {
+    send_words(writer, "long clocks\n")
+}
+
+/// Writes paired streams, whose items these are in their order, and returns the status; or that their
+/// log would be too long, with status 5. If memory runs out in the midst, the lines break off, and the
+/// notes say why.
 pub(crate) fn tell_shiviz<W: ByteSink, N: ByteSink>(
     alloc: Global,
     streams: &Streams,
@@ -118,6 +129,9 @@ pub(crate) fn tell_shiviz<W: ByteSink, N: ByteSink>(
     writer: &mut W,
     notes: &mut N,
 ) -> Result<u8, AllocError> {
+    if is_long(alloc, streams, pairing, items)? {
+        return Ok(status_of(send_long(writer), LONG));
+    }
     let mut clocks = Clocks::new(alloc, streams)?;
     let mut out = TextWriter::new(writer);
     match write_log(&mut out, streams, pairing, &mut clocks, items) {

@@ -24,6 +24,10 @@ pub(crate) enum No<'a> {
     NoEvents,
     /// There is a completion, but it is too long to be read.
     Long,
+    /// The tables of a chart would be too long.
+    LongChart,
+    /// The clocks of a log for ShiViz would be too long.
+    LongClocks,
 }
 
 /// The pid that a text writes, with its angle brackets or without.
@@ -113,6 +117,16 @@ fn no_of_object(text: &str) -> Option<No<'_>> {
     }
 }
 
+/// What is too long.
+fn no_of_length(text: &str) -> Option<No<'_>> {
+    match text {
+        "" => Some(No::Long),
+        "chart" => Some(No::LongChart),
+        "clocks" => Some(No::LongClocks),
+        _ => None,
+    }
+}
+
 /// The no whose first line this is, if it is one.
 pub(crate) fn no_of(line: &str) -> Option<No<'_>> {
     if let Some(object) = line.strip_prefix("{") {
@@ -122,7 +136,7 @@ pub(crate) fn no_of(line: &str) -> Option<No<'_>> {
     match first {
         "unfit" | "never" => return no_of_event(text),
         "no" => {}
-        "long" => return Some(No::Long),
+        "long" => return no_of_length(text),
         _ => return None,
     }
     let (second, rest) = split_word(text);

@@ -78,6 +78,14 @@ impl<'a> Known<'a> {
 const LONG: &str =
     "it has a completion, but with more acts or processes than seqtool reads; if its counts begin high, complete what seqtool renumber writes";
 
+/// What is said of tables that would be too long.
+const LONG_CHART: &str =
+    "its tables would have more than 2048000000 marks, lanes times rows; draw one label (--label) or a part (seqtool cut), or take --mermaid, --dot or seqtool export --as perfetto";
+
+/// What is said of a log for ShiViz that would be too long.
+const LONG_CLOCKS: &str =
+    "the clocks of its events would have more than 100000000 counts; export a part (seqtool cut), or take --as perfetto";
+
 /// Writes a line of the text, in front of what is there.
 fn say_line<W: ByteSink>(out: &mut TextWriter<'_, W>, line: u64) -> Result<(), Device> {
     out.say_part("line ", line)?;
@@ -210,13 +218,15 @@ fn say_no<W: ByteSink>(
         No::NoLabel(label) => say_no_label(out, label),
         No::NoEvents => out.say("there is no event to be drawn"),
         No::Long => out.say(LONG),
+        No::LongChart => out.say(LONG_CHART),
+        No::LongClocks => out.say(LONG_CLOCKS),
     }
 }
 
-/// What stands before the name of the text and behind it. That a completion is too long is no no.
+/// What stands before the name of the text and behind it. What is too long is no no.
 fn marks_of(no: No<'_>) -> (&'static str, &'static str) {
     match no {
-        No::Long => ("note: ", ": "),
+        No::Long | No::LongChart | No::LongClocks => ("note: ", ": "),
         No::NoEvents => ("no: ", ": "),
         _ => ("no: ", ", "),
     }

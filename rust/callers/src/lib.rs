@@ -1,0 +1,1 @@
+//! Only tests: callers of the libraries beneath both programs.
