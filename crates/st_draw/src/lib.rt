@@ -8,10 +8,10 @@
 mod command;
 mod dot;
 mod lanes;
-mod marked;
+mod marker;
 mod mermaid;
-mod overtaken;
 mod scene;
+mod sends;
 mod size;
 mod table;
 mod words;

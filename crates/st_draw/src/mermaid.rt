@@ -8,14 +8,14 @@
 //! An arrow with an end that a completion adds is dotted too, and says which end that is.
 
 use crate::lanes::Lanes;
-use crate::overtaken::Sends;
 use crate::scene::Scene;
-use crate::words::{say_bare_pid, say_content, say_part};
+use crate::sends::Sends;
+use crate::words::{say_bare_pid, say_content};
 use st_core::{ByteSink, Event, Pid};
 use st_list::Partner;
 use st_order::Item;
-use st_say::say;
-use st_text::{Buffer, Device, flush};
+use st_say::TextWriter;
+use st_text::Device;
 
 /// What a diagram is drawn from.
 #[derive(Drop)]
@@ -37,23 +37,22 @@ impl<'a> Diagram<'a> {
     /// Writes a line for each process, by rising pid, and for what nobody reported.
     fn say_participants<W: ByteSink>(
         &self,
-        writer: &mut W,
-        buffer: &mut Buffer,
+        out: &mut TextWriter<'_, W>,
         items: &[Item],
     ) -> Result<(), Device> {
         for (place, pid) in self.scene.streams.pids().iter().enumerate() {
             if let Some(number) = self.lanes.at(place) {
-                say_part(writer, buffer, "    participant P", number)?;
-                say(writer, buffer, b" as ")?;
-                say_bare_pid(writer, buffer, *pid)?;
+                out.say_part("    participant P", number)?;
+                out.say(" as ")?;
+                say_bare_pid(out, *pid)?;
                 if self.scene.is_unlisted(*pid) {
-                    say(writer, buffer, b" (unlisted)")?;
+                    out.say(" (unlisted)")?;
                 }
-                say(writer, buffer, b"\n")?;
+                out.say("\n")?;
             }
         }
         if items.iter().any(|item| is_hidden(self.scene, *item)) {
-            say(writer, buffer, b"    participant U as not reported\n")?;
+            out.say("    participant U as not reported\n")?;
         }
         Ok(())
     }
@@ -61,51 +60,48 @@ impl<'a> Diagram<'a> {
     /// Writes a note at a process: words, and what the event carries.
     fn say_note<W: ByteSink>(
         &self,
-        writer: &mut W,
-        buffer: &mut Buffer,
+        out: &mut TextWriter<'_, W>,
         event: &Event,
-        words: &[u8],
+        words: &str,
         is_added: bool,
     ) -> Result<(), Device> {
         let number = self.lanes.number(event.from);
-        say_part(writer, buffer, "    Note over P", number)?;
-        say(writer, buffer, words)?;
-        say_content(writer, buffer, self.scene, event)?;
+        out.say_part("    Note over P", number)?;
+        out.say(words)?;
+        say_content(out, self.scene, event)?;
         if let Some(to) = event.to {
-            say(writer, buffer, b" to ")?;
-            say_bare_pid(writer, buffer, to)?;
+            out.say(" to ")?;
+            say_bare_pid(out, to)?;
         }
         if is_added {
-            say(writer, buffer, b" (added)")?;
+            out.say(" (added)")?;
         }
-        say(writer, buffer, b"\n")
+        out.say("\n")
     }
 
     /// Writes the arrow of a message from its sender to its receiver, with words behind it, and a line
     /// end.
     fn say_arrow<W: ByteSink>(
         &self,
-        writer: &mut W,
-        buffer: &mut Buffer,
+        out: &mut TextWriter<'_, W>,
         event: &Event,
         arrow: &str,
-        words: &[u8],
+        words: &str,
     ) -> Result<(), Device> {
         let from = self.lanes.number(event.from);
         let to = event.to.map(|to| self.lanes.number(to)).unwrap_or(0);
-        say_part(writer, buffer, "    P", from)?;
-        say_part(writer, buffer, arrow, to)?;
-        say(writer, buffer, b": ")?;
-        say_content(writer, buffer, self.scene, event)?;
-        say(writer, buffer, words)?;
-        say(writer, buffer, b"\n")
+        out.say_part("    P", from)?;
+        out.say_part(arrow, to)?;
+        out.say(": ")?;
+        say_content(out, self.scene, event)?;
+        out.say(words)?;
+        out.say("\n")
     }
 
     /// Writes the arrow of a message of which both ends are there, at its receive.
     fn say_received<W: ByteSink>(
         &self,
-        writer: &mut W,
-        buffer: &mut Buffer,
+        out: &mut TextWriter<'_, W>,
         event: &Event,
         receive: (Pid, u64),
         sent: (Pid, u64),
@@ -114,64 +110,62 @@ impl<'a> Diagram<'a> {
         // A send that is told above has its mark there.
         let send_added = !is_above && self.scene.is_added(sent.0, sent.1);
         let receive_added = self.scene.is_added(receive.0, receive.1);
-        let words: &[u8] = match (is_above, send_added, receive_added) {
-            (true, _, false) => b" (sent above)",
-            (true, _, true) => b" (sent above, receive added)",
-            (false, false, false) => b"",
-            (false, true, false) => b" (send added)",
-            (false, false, true) => b" (receive added)",
-            (false, true, true) => b" (send and receive added)",
+        let words: &str = match (is_above, send_added, receive_added) {
+            (true, _, false) => " (sent above)",
+            (true, _, true) => " (sent above, receive added)",
+            (false, false, false) => "",
+            (false, true, false) => " (send added)",
+            (false, false, true) => " (receive added)",
+            (false, true, true) => " (send and receive added)",
         };
         let arrow = if words.is_empty() { "->>P" } else { "-->>P" };
-        self.say_arrow(writer, buffer, event, arrow, words)
+        self.say_arrow(out, event, arrow, words)
     }
 
     /// Writes the arrow of a receive whose send nobody reported.
     fn say_unsent<W: ByteSink>(
         &self,
-        writer: &mut W,
-        buffer: &mut Buffer,
+        out: &mut TextWriter<'_, W>,
         pid: Pid,
         event: &Event,
     ) -> Result<(), Device> {
-        say_part(writer, buffer, "    U->>P", self.lanes.number(pid))?;
-        say(writer, buffer, b": ")?;
-        say_content(writer, buffer, self.scene, event)?;
-        say(writer, buffer, b" from ")?;
-        say_bare_pid(writer, buffer, event.from)?;
-        say(writer, buffer, b"\n")
+        out.say_part("    U->>P", self.lanes.number(pid))?;
+        out.say(": ")?;
+        say_content(out, self.scene, event)?;
+        out.say(" from ")?;
+        say_bare_pid(out, event.from)?;
+        out.say("\n")
     }
 
     /// Writes the line of an event. A send whose arrow is in its place has none.
     fn say_event<W: ByteSink>(
         &self,
-        writer: &mut W,
-        buffer: &mut Buffer,
+        out: &mut TextWriter<'_, W>,
         pid: Pid,
         index: u64,
         event: &Event,
     ) -> Result<(), Device> {
         let is_added = self.scene.is_added(pid, index);
         match self.scene.partner(pid, index, event.kind) {
-            Partner::Nobody => self.say_note(writer, buffer, event, b": print ", is_added),
+            Partner::Nobody => self.say_note(out, event, ": print ", is_added),
             Partner::Receive(..) => {
                 if self.overtaken.contains(&(pid, index)) {
-                    return self.say_note(writer, buffer, event, b": sends ", is_added);
+                    return self.say_note(out, event, ": sends ", is_added);
                 }
                 Ok(())
             }
             Partner::NoReceive => {
-                let words: &[u8] = if is_added {
-                    b" (send added, no receive reported)"
+                let words: &str = if is_added {
+                    " (send added, no receive reported)"
                 } else {
-                    b" (no receive reported)"
+                    " (no receive reported)"
                 };
-                self.say_arrow(writer, buffer, event, "-xP", words)
+                self.say_arrow(out, event, "-xP", words)
             }
             Partner::Send(from, sent) => {
-                self.say_received(writer, buffer, event, (pid, index), (from, sent))
+                self.say_received(out, event, (pid, index), (from, sent))
             }
-            Partner::NoSend => self.say_unsent(writer, buffer, pid, event),
+            Partner::NoSend => self.say_unsent(out, pid, event),
         }
     }
 }
@@ -185,20 +179,20 @@ pub(crate) fn send_mermaid<'a, W: ByteSink>(
     lanes: &'a Lanes<'a>,
     overtaken: &'a Sends,
 ) -> Result<(), Device> {
-    let mut buffer = Buffer::new();
+    let mut out = TextWriter::new(writer);
     let diagram = Diagram {
         scene,
         lanes,
         overtaken,
     };
-    say(writer, &mut buffer, b"sequenceDiagram\n")?;
-    diagram.say_participants(writer, &mut buffer, items)?;
+    out.say("sequenceDiagram\n")?;
+    diagram.say_participants(&mut out, items)?;
     for item in items {
         if let Item::Reported(pid, index) = *item {
             if let Some(event) = scene.event(pid, index) {
-                diagram.say_event(writer, &mut buffer, pid, index, &event)?;
+                diagram.say_event(&mut out, pid, index, &event)?;
             }
         }
     }
-    flush(writer, &mut buffer)
+    out.flush()
 }

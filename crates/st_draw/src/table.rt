@@ -4,16 +4,17 @@
 ghost use Rattle.std.specs.Prelude.{◌≡◌};
 ghost use Rattle.st_pair.specs.Links.{IsPairing};
 
-use crate::marked::marked_chart;
+use crate::marker::marked_chart;
 use crate::scene::Scene;
 use crate::size::{are_long_tables, is_long_table};
-use crate::words::{send_long, send_words};
+use crate::words::send_long;
 use st_chain::Causes;
 use st_chart::{ChartFault, chart};
 use st_commands::status_of;
 use st_core::{ByteSink, Label, Sequence, Streams};
 use st_order::{Item, by_label};
 use st_pair::Pairing;
+use st_say::send_words;
 use std::alloc::{AllocError, Global};
 use std::thread::Threads;
 
@@ -49,7 +50,7 @@ fn write_groups<W: ByteSink>(
 ) -> Result<(), ChartFault>
     requires { causes.now ≡ streams.now }
 {
-    let mut between: &[u8] = b"";
+    let mut between = "";
     for (label, items) in groups {
         if send_words(writer, between).is_err() {
             return Err(ChartFault::Device);
@@ -63,7 +64,7 @@ fn write_groups<W: ByteSink>(
             *label,
             writer,
         )?;
-        between = b"\n";
+        between = "\n";
     }
     Ok(())
 }
@@ -73,7 +74,7 @@ fn write_groups<W: ByteSink>(
 fn status_of_fault<N: ByteSink>(fault: ChartFault, notes: &mut N) -> u8 {
     match fault {
         ChartFault::Memory => {
-            let _ = send_words(notes, b"error: memory ran out\n");
+            let _ = send_words(notes, "error: memory ran out\n");
             4
         }
         ChartFault::Device => 4,

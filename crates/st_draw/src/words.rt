@@ -2,57 +2,37 @@
 
 use crate::scene::Scene;
 use st_core::{ByteSink, Event, Label, Pid};
-use st_say::{say, say_count, say_number, say_serial};
-use st_text::{Buffer, Device, flush};
-
-/// Writes words and a number.
-pub(crate) fn say_part<W: ByteSink>(
-    writer: &mut W,
-    buffer: &mut Buffer,
-    words: &str,
-    number: u64,
-) -> Result<(), Device> {
-    say(writer, buffer, words.as_bytes())?;
-    say_number(writer, buffer, number)
-}
+use st_say::{TextWriter, send_words};
+use st_text::Device;
 
 /// Writes a pid without its brackets, which have a meaning in Mermaid's language.
 pub(crate) fn say_bare_pid<W: ByteSink>(
-    writer: &mut W,
-    buffer: &mut Buffer,
+    out: &mut TextWriter<'_, W>,
     pid: Pid,
 ) -> Result<(), Device> {
-    say_number(writer, buffer, u64::from(pid.node()))?;
-    say_part(writer, buffer, ".", u64::from(pid.number()))?;
-    say(writer, buffer, b".0")
+    out.say_number(u64::from(pid.node()))?;
+    out.say_part(".", u64::from(pid.number()))?;
+    out.say(".0")
 }
 
 /// Writes what an event carries: its value, its serial, and its label if the drawing has several.
 pub(crate) fn say_content<W: ByteSink>(
-    writer: &mut W,
-    buffer: &mut Buffer,
+    out: &mut TextWriter<'_, W>,
     scene: &Scene<'_>,
     event: &Event,
 ) -> Result<(), Device> {
-    say_number(writer, buffer, event.value)?;
-    say(writer, buffer, b" ")?;
-    say_serial(writer, buffer, event.serial)?;
+    out.say_number(event.value)?;
+    out.say(" ")?;
+    out.say_serial(event.serial)?;
     if scene.names_labels {
-        say_part(writer, buffer, " label ", u64::from(event.label.0))?;
+        out.say_part(" label ", u64::from(event.label.0))?;
     }
     Ok(())
 }
 
-/// Sends words alone.
-pub(crate) fn send_words<W: ByteSink>(writer: &mut W, words: &[u8]) -> Result<(), Device> {
-    let mut buffer = Buffer::new();
-    say(writer, &mut buffer, words)?;
-    flush(writer, &mut buffer)
-}
-
 /// Sends that the tables would be too long.
 pub(crate) fn send_long<W: ByteSink>(writer: &mut W) -> Result<(), Device> {
-    send_words(writer, b"long chart\n")
+    send_words(writer, "long chart\n")
 }
 
 /// Sends that nothing has the label, or that there are no events at all.
@@ -61,9 +41,9 @@ pub(crate) fn send_nothing<W: ByteSink>(
     label: Option<Label>,
 ) -> Result<(), Device> {
     let Some(label) = label else {
-        return send_words(writer, b"no events\n");
+        return send_words(writer, "no events\n");
     };
-    let mut buffer = Buffer::new();
-    say_count(writer, &mut buffer, b"no label ", u64::from(label.0))?;
-    flush(writer, &mut buffer)
+    let mut out = TextWriter::new(writer);
+    out.say_count("no label ", u64::from(label.0))?;
+    out.flush()
 }

@@ -1,12 +1,12 @@
 //! The finding of `audit` as JSON.
 
 use crate::check::{TOP, say_pairs, say_verdict};
-use crate::json::{say_field, say_first, say_name, say_placed, say_word_field};
+use crate::json::say_placed;
 use st_audit::{AuditFault, Finding, Reason, audit};
 use st_commands::{status_of, tell_fault};
 use st_core::{Act, ByteSink, ByteSource, Pid, Streams};
-use st_say::{say, say_act, say_number};
-use st_text::{Buffer, Device, Limits, ReadFault, flush, read_within};
+use st_say::TextWriter;
+use st_text::{Device, Limits, ReadFault, read_within};
 use std::alloc::Global;
 use std::thread::Threads;
 
@@ -35,53 +35,50 @@ fn other_place(pid: Pid, reason: &Reason) -> Option<(Pid, u64)> {
 }
 
 /// Writes an object for each act.
-fn say_acts<W: ByteSink>(writer: &mut W, buffer: &mut Buffer, acts: &[Act]) -> Result<(), Device> {
+fn say_acts<W: ByteSink>(out: &mut TextWriter<'_, W>, acts: &[Act]) -> Result<(), Device> {
     for (number, act) in acts.iter().enumerate() {
-        say(writer, buffer, b"{\"act\":")?;
-        say_number(writer, buffer, number as u64)?;
-        say_name(writer, buffer, "text")?;
-        say(writer, buffer, b"\"")?;
-        say_act(writer, buffer, act)?;
-        say(writer, buffer, b"\"}\n")?;
+        out.say_part("{\"act\":", number as u64)?;
+        out.say_name("text")?;
+        out.say("\"")?;
+        out.say_act(act)?;
+        out.say("\"}\n")?;
     }
     Ok(())
 }
 
 /// Writes a field with the event at a place.
 pub(crate) fn say_event_field<W: ByteSink>(
-    writer: &mut W,
-    buffer: &mut Buffer,
+    out: &mut TextWriter<'_, W>,
     name: &str,
     streams: &Streams,
     pid: Pid,
     index: u64,
 ) -> Result<(), Device> {
-    say_name(writer, buffer, name)?;
-    say_placed(writer, buffer, pid, index, streams.event(pid, index))
+    out.say_name(name)?;
+    say_placed(out, pid, index, streams.event(pid, index))
 }
 
 /// Writes a reason against the event at this place.
 fn say_unfit<W: ByteSink>(
-    writer: &mut W,
-    buffer: &mut Buffer,
+    out: &mut TextWriter<'_, W>,
     streams: &Streams,
     pid: Pid,
     index: u64,
     reason: &Reason,
 ) -> Result<(), Device> {
-    say_first(writer, buffer, "result", "unfit")?;
-    say_word_field(writer, buffer, "reason", reason_word(reason))?;
-    say_event_field(writer, buffer, "event", streams, pid, index)?;
+    out.say_first("result", "unfit")?;
+    out.say_word_field("reason", reason_word(reason))?;
+    say_event_field(out, "event", streams, pid, index)?;
     if let Some((other, at)) = other_place(pid, reason) {
-        say_event_field(writer, buffer, "other", streams, other, at)?;
+        say_event_field(out, "other", streams, other, at)?;
     }
     let Reason::NotReplayed(acts, verdict) = reason else {
-        return say(writer, buffer, b"}\n");
+        return out.say("}\n");
     };
-    say_name(writer, buffer, "verdict")?;
-    say_verdict(writer, buffer, verdict)?;
-    say(writer, buffer, b"}\n")?;
-    say_acts(writer, buffer, acts.as_slice())
+    out.say_name("verdict")?;
+    say_verdict(out, verdict)?;
+    out.say("}\n")?;
+    say_acts(out, acts.as_slice())
 }
 
 /// Sends what was found of streams.
@@ -90,21 +87,21 @@ fn send_finding<W: ByteSink>(
     streams: &Streams,
     finding: &Finding,
 ) -> Result<(), Device> {
-    let mut buffer = Buffer::new();
+    let mut out = TextWriter::new(writer);
     match finding {
         Finding::Fits(acts, pairs) => {
-            say_first(writer, &mut buffer, "result", "fits")?;
-            say_field(writer, &mut buffer, "acts", acts.len() as u64)?;
-            say_field(writer, &mut buffer, "pairs", pairs.len() as u64)?;
-            say(writer, &mut buffer, b"}\n")?;
-            say_acts(writer, &mut buffer, acts.as_slice())?;
-            say_pairs(writer, &mut buffer, pairs.as_slice())?;
+            out.say_first("result", "fits")?;
+            out.say_field("acts", acts.len() as u64)?;
+            out.say_field("pairs", pairs.len() as u64)?;
+            out.say("}\n")?;
+            say_acts(&mut out, acts.as_slice())?;
+            say_pairs(&mut out, pairs.as_slice())?;
         }
         Finding::Unfit(pid, index, reason) => {
-            say_unfit(writer, &mut buffer, streams, *pid, *index, reason)?;
+            say_unfit(&mut out, streams, *pid, *index, reason)?;
         }
     }
-    flush(writer, &mut buffer)
+    out.flush()
 }
 
 /// The status of a finding.

@@ -1,11 +1,10 @@
 //! The verdict of `check` as JSON.
 
-use crate::json::{say_field, say_first, say_pid_field, say_word_field};
 use st_check::{CheckFault, Verdict, check};
 use st_commands::{status_of, tell_fault};
 use st_core::{ByteSink, ByteSource};
-use st_say::{say, say_number};
-use st_text::{Buffer, Bundle, Device, Limits, ReadFault, flush, read_within};
+use st_say::{TextWriter, send_words};
+use st_text::{Bundle, Device, Limits, ReadFault, read_within};
 use std::alloc::Global;
 
 /// The greatest count that a clock of the program can have.
@@ -13,65 +12,55 @@ pub(crate) const TOP: u64 = u64::MAX;
 
 /// Writes an object for each pair of a receive's act and its send's.
 pub(crate) fn say_pairs<W: ByteSink>(
-    writer: &mut W,
-    buffer: &mut Buffer,
+    out: &mut TextWriter<'_, W>,
     pairs: &[(u64, u64)],
 ) -> Result<(), Device> {
     for (receive, sent) in pairs {
-        say(writer, buffer, b"{\"receive\":")?;
-        say_number(writer, buffer, *receive)?;
-        say_field(writer, buffer, "send", *sent)?;
-        say(writer, buffer, b"}\n")?;
+        out.say_part("{\"receive\":", *receive)?;
+        out.say_field("send", *sent)?;
+        out.say("}\n")?;
     }
     Ok(())
 }
 
 /// Writes the object of a verdict.
 pub(crate) fn say_verdict<W: ByteSink>(
-    writer: &mut W,
-    buffer: &mut Buffer,
+    out: &mut TextWriter<'_, W>,
     verdict: &Verdict,
 ) -> Result<(), Device> {
     match verdict {
         Verdict::Yes(pairs) => {
-            say_first(writer, buffer, "result", "yes")?;
-            say_field(writer, buffer, "pairs", pairs.len() as u64)?;
+            out.say_first("result", "yes")?;
+            out.say_field("pairs", pairs.len() as u64)?;
         }
         Verdict::Stuck(act) => {
-            say_first(writer, buffer, "result", "no")?;
-            say_word_field(writer, buffer, "reason", "stuck")?;
-            say_field(writer, buffer, "act", *act)?;
+            out.say_first("result", "no")?;
+            out.say_word_field("reason", "stuck")?;
+            out.say_field("act", *act)?;
         }
         Verdict::Differs(act) => {
-            say_first(writer, buffer, "result", "no")?;
-            say_word_field(writer, buffer, "reason", "differs")?;
-            say_field(writer, buffer, "act", *act)?;
+            out.say_first("result", "no")?;
+            out.say_word_field("reason", "differs")?;
+            out.say_field("act", *act)?;
         }
         Verdict::Left(pid) => {
-            say_first(writer, buffer, "result", "no")?;
-            say_word_field(writer, buffer, "reason", "left")?;
-            say_pid_field(writer, buffer, "pid", *pid)?;
+            out.say_first("result", "no")?;
+            out.say_word_field("reason", "left")?;
+            out.say_pid_field("pid", *pid)?;
         }
     }
-    say(writer, buffer, b"}")
+    out.say("}")
 }
 
 /// Sends a verdict, and of a yes its pairs.
 fn send_verdict<W: ByteSink>(writer: &mut W, verdict: &Verdict) -> Result<(), Device> {
-    let mut buffer = Buffer::new();
-    say_verdict(writer, &mut buffer, verdict)?;
-    say(writer, &mut buffer, b"\n")?;
+    let mut out = TextWriter::new(writer);
+    say_verdict(&mut out, verdict)?;
+    out.say("\n")?;
     if let Verdict::Yes(pairs) = verdict {
-        say_pairs(writer, &mut buffer, pairs.as_slice())?;
+        say_pairs(&mut out, pairs.as_slice())?;
     }
-    flush(writer, &mut buffer)
-}
-
-/// Sends that a bundle has no acts, in the words of `check`.
-fn send_no_acts<W: ByteSink>(writer: &mut W) -> Result<(), Device> {
-    let mut buffer = Buffer::new();
-    say(writer, &mut buffer, b"fault no acts\n")?;
-    flush(writer, &mut buffer)
+    out.flush()
 }
 
 /// The status of a verdict.
@@ -85,7 +74,7 @@ fn verdict_status(verdict: &Verdict) -> u8 {
 /// Writes the verdict of a bundle, and returns its status.
 fn check_bundle<W: ByteSink>(alloc: Global, bundle: &Bundle, writer: &mut W) -> u8 {
     let Some(acts) = &bundle.acts else {
-        return status_of(send_no_acts(writer), 2);
+        return status_of(send_words(writer, "fault no acts\n"), 2);
     };
     match check::<TOP>(alloc, &bundle.streams, acts.as_slice()) {
         Ok(verdict) => {

@@ -10,7 +10,7 @@ use st_audit::unfit_by;
 use st_commands::{status_of, tell_fault, tell_finding};
 use st_core::{ByteSink, ByteSource, Streams};
 use st_order::order;
-use st_pair::{PairFault, Pairing, pair};
+use st_pair::{Pairing, pair};
 use st_text::{Limits, ReadFault, read_within};
 use std::alloc::{AllocError, Global};
 use std::thread::Threads;

@@ -2,12 +2,12 @@
 
 use crate::audit::say_event_field;
 use crate::check::TOP;
-use crate::json::{say_field, say_first, say_name, say_pid_word, say_placed, say_word_field};
+use crate::json::say_placed;
 use st_commands::{status_of, tell_fault};
 use st_complete::{Answer, CompleteFault, Completion, Never, complete};
 use st_core::{ByteSink, ByteSource, Pid, Streams};
-use st_say::say;
-use st_text::{Buffer, Device, Limits, ReadFault, flush, read_within};
+use st_say::TextWriter;
+use st_text::{Device, Limits, ReadFault, read_within};
 use std::alloc::Global;
 
 /// The word for a reason, which `complete` writes too.
@@ -34,34 +34,32 @@ fn other_place(pid: Pid, never: Never) -> Option<(Pid, u64)> {
 
 /// Writes the next field, a list of pids.
 fn say_pids<W: ByteSink>(
-    writer: &mut W,
-    buffer: &mut Buffer,
+    out: &mut TextWriter<'_, W>,
     name: &str,
     pids: &[Pid],
 ) -> Result<(), Device> {
-    say_name(writer, buffer, name)?;
-    let mut mark: &[u8] = b"[";
+    out.say_name(name)?;
+    let mut mark = "[";
     for pid in pids {
-        say(writer, buffer, mark)?;
-        say_pid_word(writer, buffer, *pid)?;
-        mark = b",";
+        out.say(mark)?;
+        out.say_pid_word(*pid)?;
+        mark = ",";
     }
     let end = if pids.is_empty() { "[]" } else { "]" };
-    say(writer, buffer, end.as_bytes())
+    out.say(end)
 }
 
 /// Writes an object for each added event of a process.
 fn say_added<W: ByteSink>(
-    writer: &mut W,
-    buffer: &mut Buffer,
+    out: &mut TextWriter<'_, W>,
     completion: &Completion,
     pid: Pid,
 ) -> Result<(), Device> {
     let events = completion.streams().events(pid);
     for (index, event) in events.iter().enumerate() {
         if completion.told(pid, index as u64) == Some(false) {
-            say_placed(writer, buffer, pid, index as u64, Some(*event))?;
-            say(writer, buffer, b"\n")?;
+            say_placed(out, pid, index as u64, Some(*event))?;
+            out.say("\n")?;
         }
     }
     Ok(())
@@ -69,36 +67,34 @@ fn say_added<W: ByteSink>(
 
 /// Writes what a completion adds.
 fn say_completion<W: ByteSink>(
-    writer: &mut W,
-    buffer: &mut Buffer,
+    out: &mut TextWriter<'_, W>,
     completion: &Completion,
 ) -> Result<(), Device> {
-    say_first(writer, buffer, "result", "completed")?;
-    say_field(writer, buffer, "added", completion.added())?;
-    say_pids(writer, buffer, "unlisted", completion.unlisted())?;
-    say(writer, buffer, b"}\n")?;
+    out.say_first("result", "completed")?;
+    out.say_field("added", completion.added())?;
+    say_pids(out, "unlisted", completion.unlisted())?;
+    out.say("}\n")?;
     for pid in completion.streams().pids() {
-        say_added(writer, buffer, completion, *pid)?;
+        say_added(out, completion, *pid)?;
     }
     Ok(())
 }
 
 /// Writes a reason against the event at this place.
 fn say_never<W: ByteSink>(
-    writer: &mut W,
-    buffer: &mut Buffer,
+    out: &mut TextWriter<'_, W>,
     streams: &Streams,
     pid: Pid,
     index: u64,
     never: Never,
 ) -> Result<(), Device> {
-    say_first(writer, buffer, "result", "never")?;
-    say_word_field(writer, buffer, "reason", never_word(never))?;
-    say_event_field(writer, buffer, "event", streams, pid, index)?;
+    out.say_first("result", "never")?;
+    out.say_word_field("reason", never_word(never))?;
+    say_event_field(out, "event", streams, pid, index)?;
     if let Some((other, at)) = other_place(pid, never) {
-        say_event_field(writer, buffer, "other", streams, other, at)?;
+        say_event_field(out, "other", streams, other, at)?;
     }
-    say(writer, buffer, b"}\n")
+    out.say("}\n")
 }
 
 /// Sends what was found out about streams.
@@ -107,14 +103,14 @@ fn send_answer<W: ByteSink>(
     streams: &Streams,
     answer: &Answer,
 ) -> Result<(), Device> {
-    let mut buffer = Buffer::new();
+    let mut out = TextWriter::new(writer);
     match answer {
-        Answer::Whole(completion) => say_completion(writer, &mut buffer, completion)?,
+        Answer::Whole(completion) => say_completion(&mut out, completion)?,
         Answer::Never(pid, index, never) => {
-            say_never(writer, &mut buffer, streams, *pid, *index, *never)?;
+            say_never(&mut out, streams, *pid, *index, *never)?;
         }
     }
-    flush(writer, &mut buffer)
+    out.flush()
 }
 
 /// The status of what was found out.

@@ -1,11 +1,10 @@
 //! What `lint` says as JSON, which is read from its lines.
 
-use crate::json::{say_name, say_word};
 use st_commands::{status_of, tell_fault};
 use st_core::{ByteSink, ByteSource, WriteTo};
 use st_lint::run_lint;
-use st_say::{say, say_number};
-use st_text::{Buffer, Device, ReadFault, flush};
+use st_say::{TextWriter, send_words};
+use st_text::{Device, ReadFault};
 use std::alloc::Global;
 use std::str;
 
@@ -35,41 +34,37 @@ fn mistake_of(words: &str) -> Option<Mistake<'_>> {
 }
 
 /// Writes a byte of a string.
-fn say_byte<W: ByteSink>(writer: &mut W, buffer: &mut Buffer, byte: u8) -> Result<(), Device> {
+fn say_byte<W: ByteSink>(out: &mut TextWriter<'_, W>, byte: u8) -> Result<(), Device> {
     match byte {
-        b'"' | b'\\' => say(writer, buffer, &[b'\\', byte]),
-        _ => say(writer, buffer, &[byte]),
+        b'"' | b'\\' => out.say_bytes(&[b'\\', byte]),
+        _ => out.say_bytes(&[byte]),
     }
 }
 
 /// Writes a string, words of `lint`, which have no control characters.
-fn say_words<W: ByteSink>(writer: &mut W, buffer: &mut Buffer, words: &str) -> Result<(), Device> {
-    say(writer, buffer, b"\"")?;
+fn say_words<W: ByteSink>(out: &mut TextWriter<'_, W>, words: &str) -> Result<(), Device> {
+    out.say("\"")?;
     for byte in words.as_bytes() {
-        say_byte(writer, buffer, *byte)?;
+        say_byte(out, *byte)?;
     }
-    say(writer, buffer, b"\"")
+    out.say("\"")
 }
 
 /// Writes the object of a mistake, which isn't closed: its remedy may follow.
 fn say_mistake<W: ByteSink>(
-    writer: &mut W,
-    buffer: &mut Buffer,
+    out: &mut TextWriter<'_, W>,
     mistake: &Mistake<'_>,
 ) -> Result<(), Device> {
-    say(writer, buffer, b"{\"line\":")?;
-    say_number(writer, buffer, mistake.line)?;
-    say(writer, buffer, b",\"column\":")?;
-    say_number(writer, buffer, mistake.column)?;
-    say_name(writer, buffer, "expected")?;
-    say_words(writer, buffer, mistake.expected)
+    out.say_part("{\"line\":", mistake.line)?;
+    out.say_part(",\"column\":", mistake.column)?;
+    out.say_name("expected")?;
+    say_words(out, mistake.expected)
 }
 
 /// Writes what a line of a report tells, and says whether an object is open behind it. Lines that show
 /// the text begin with blanks and are left out.
 fn say_report_line<W: ByteSink>(
-    writer: &mut W,
-    buffer: &mut Buffer,
+    out: &mut TextWriter<'_, W>,
     words: &str,
     is_open: bool,
 ) -> Result<bool, Device> {
@@ -78,71 +73,69 @@ fn say_report_line<W: ByteSink>(
     }
     if let Some(mistake) = mistake_of(words) {
         if is_open {
-            say(writer, buffer, b"}\n")?;
+            out.say("}\n")?;
         }
-        say_mistake(writer, buffer, &mistake)?;
+        say_mistake(out, &mistake)?;
         return Ok(true);
     }
     if is_open {
-        say_name(writer, buffer, "remedy")?;
-        say_words(writer, buffer, words)?;
-        say(writer, buffer, b"}\n")?;
+        out.say_name("remedy")?;
+        say_words(out, words)?;
+        out.say("}\n")?;
     }
     Ok(false)
 }
 
 /// Writes an object of one field, a number whose digits these are.
 fn say_count<W: ByteSink>(
-    writer: &mut W,
-    buffer: &mut Buffer,
+    out: &mut TextWriter<'_, W>,
     name: &str,
     digits: &str,
 ) -> Result<(), Device> {
-    say(writer, buffer, b"{")?;
-    say_word(writer, buffer, name)?;
-    say(writer, buffer, b":")?;
-    say(writer, buffer, digits.as_bytes())?;
-    say(writer, buffer, b"}\n")
+    out.say("{")?;
+    out.say_word(name)?;
+    out.say(":")?;
+    out.say(digits)?;
+    out.say("}\n")
 }
 
 /// Writes what a line tells of a text that the reader takes.
-fn say_fact<W: ByteSink>(writer: &mut W, buffer: &mut Buffer, words: &str) -> Result<(), Device> {
+fn say_fact<W: ByteSink>(out: &mut TextWriter<'_, W>, words: &str) -> Result<(), Device> {
     if words == "ok" {
-        return say(writer, buffer, b"{\"result\":\"ok\"}\n");
+        return out.say("{\"result\":\"ok\"}\n");
     }
     if words == "no acts" {
-        return say(writer, buffer, b"{\"acts\":null}\n");
+        return out.say("{\"acts\":null}\n");
     }
     match words.split_once(" ") {
-        Some((name, count)) => say_number_of(writer, buffer, name, count),
+        Some((name, count)) => say_number_of(out, name, count),
         None => Ok(()),
     }
 }
 
 /// Writes a count of a text: `label 17, events 2` is two numbers, the others are one.
 fn say_number_of<W: ByteSink>(
-    writer: &mut W,
-    buffer: &mut Buffer,
+    out: &mut TextWriter<'_, W>,
     name: &str,
     count: &str,
 ) -> Result<(), Device> {
     let Some((label, events)) = count.split_once(", events ") else {
-        return say_count(writer, buffer, name, count);
+        return say_count(out, name, count);
     };
-    say(writer, buffer, b"{\"label\":")?;
-    say(writer, buffer, label.as_bytes())?;
-    say_name(writer, buffer, "events")?;
-    say(writer, buffer, events.as_bytes())?;
-    say(writer, buffer, b"}\n")
+    out.say("{\"label\":")?;
+    out.say(label)?;
+    out.say_name("events")?;
+    out.say(events)?;
+    out.say("}\n")
 }
 
 /// Sends the objects of what was said of a text that the reader takes.
 fn send_facts<W: ByteSink>(writer: &mut W, said: &str) -> Result<(), Device> {
-    let mut buffer = Buffer::new();
+    let mut out = TextWriter::new(writer);
     for words in said.lines() {
-        say_fact(writer, &mut buffer, words)?;
+        say_fact(&mut out, words)?;
     }
-    flush(writer, &mut buffer)
+    out.flush()
 }
 
 /// How many mistakes a text has, and how many of them `--fix` mends.
@@ -167,45 +160,33 @@ fn counts_of(words: &str) -> Option<Counts> {
 }
 
 /// Writes the counts of a text's mistakes.
-fn say_counts<W: ByteSink>(
-    writer: &mut W,
-    buffer: &mut Buffer,
-    counts: Counts,
-) -> Result<(), Device> {
-    say(writer, buffer, b"{\"mistakes\":")?;
-    say_number(writer, buffer, counts.mistakes)?;
-    say_name(writer, buffer, "by_fix")?;
-    say_number(writer, buffer, counts.by_fix)?;
-    say(writer, buffer, b"}\n")
+fn say_counts<W: ByteSink>(out: &mut TextWriter<'_, W>, counts: Counts) -> Result<(), Device> {
+    out.say_part("{\"mistakes\":", counts.mistakes)?;
+    out.say_name("by_fix")?;
+    out.say_number(counts.by_fix)?;
+    out.say("}\n")
 }
 
 /// Sends the objects of what was said of a text with mistakes.
 fn send_report<W: ByteSink>(writer: &mut W, said: &str, is_faulty: bool) -> Result<(), Device> {
-    let mut buffer = Buffer::new();
+    let mut out = TextWriter::new(writer);
     let mut is_open = false;
     let mut counts = Counts {
         mistakes: 1,
         by_fix: 0,
     };
     let result = if is_faulty { "faulty" } else { "unfit" };
-    say(writer, &mut buffer, b"{\"result\":")?;
-    say_word(writer, &mut buffer, result)?;
-    say(writer, &mut buffer, b"}\n")?;
+    out.say("{\"result\":")?;
+    out.say_word(result)?;
+    out.say("}\n")?;
     for words in said.lines() {
         match counts_of(words) {
             Some(found) if !is_open => counts = found,
-            _ => is_open = say_report_line(writer, &mut buffer, words, is_open)?,
+            _ => is_open = say_report_line(&mut out, words, is_open)?,
         }
     }
-    say_counts(writer, &mut buffer, counts)?;
-    flush(writer, &mut buffer)
-}
-
-/// Sends words as they are.
-fn send_words<W: ByteSink>(writer: &mut W, words: &str) -> Result<(), Device> {
-    let mut buffer = Buffer::new();
-    say(writer, &mut buffer, words.as_bytes())?;
-    flush(writer, &mut buffer)
+    say_counts(&mut out, counts)?;
+    out.flush()
 }
 
 /// Reads a text and writes what `run_lint` of `st_lint` does, but as JSON, with the same status. A

@@ -6,8 +6,7 @@
 
 ghost use Rattle.st_pair.specs.Links.{IsPairing};
 
-use crate::json::{say_name, say_pid_word, say_word};
-use crate::measured::{Measured, TimesFault};
+use crate::measurements::{Measurements, TimesFault};
 use sha2::{Digest, Sha256};
 use st_audit::unfit_by;
 use st_chain::{Cause, Causes};
@@ -15,8 +14,8 @@ use st_commands::{status_of, tell_finding};
 use st_core::{ByteSink, ByteSource, Event, Label, Pid, Streams};
 use st_list::{Partner, partner_at};
 use st_pair::{Pairing, pair};
-use st_say::{say, say_number, say_pid, say_place};
-use st_text::{Buffer, Device, Limits, ReadFault, flush, read_within};
+use st_say::TextWriter;
+use st_text::{Device, Limits, ReadFault, read_within};
 use std::alloc::{AllocError, Global};
 
 /// Why spans weren't written.
@@ -38,7 +37,7 @@ const HEAD: &str = "{\"resourceSpans\":[{\"resource\":{\"attributes\":[{\"key\":
 \"value\":{\"stringValue\":\"seqtool\"}}]},\"scopeSpans\":[{\"scope\":{\"name\":\"seqtool\"},\
 \"spans\":[";
 
-const TAIL: &[u8] = b"]}]}]}\n";
+const TAIL: &str = "]}]}]}\n";
 
 /// What a span is named after.
 #[derive(Clone, Copy, Debug, PartialEq, Eq)]
@@ -63,7 +62,7 @@ struct Spans<'a> {
     streams: &'a Streams,
     pairing: &'a Pairing,
     causes: &'a Causes<'a>,
-    measured: &'a Measured<'a>,
+    measurements: &'a Measurements<'a>,
 }
 
 /// The hexadecimal digit of a number below 16.
@@ -77,117 +76,97 @@ fn hex_digit(number: u8) -> u8 {
 
 /// Writes so many bytes of a digest in hexadecimal digits, as a string.
 fn say_name_of<W: ByteSink>(
-    writer: &mut W,
-    buffer: &mut Buffer,
+    out: &mut TextWriter<'_, W>,
     digest: Sha256,
     count: usize,
 ) -> Result<(), Device> {
     let bytes = digest.finalize();
-    say(writer, buffer, b"\"")?;
+    out.say("\"")?;
     for byte in bytes.iter().take(count) {
-        say(
-            writer,
-            buffer,
-            &[hex_digit(*byte / 16), hex_digit(*byte % 16)],
-        )?;
+        out.say_bytes(&[hex_digit(*byte / 16), hex_digit(*byte % 16)])?;
     }
-    say(writer, buffer, b"\"")
+    out.say("\"")
 }
 
 /// Writes an attribute, a text.
 fn say_attribute<W: ByteSink>(
-    writer: &mut W,
-    buffer: &mut Buffer,
+    out: &mut TextWriter<'_, W>,
     key: &str,
     is_first: bool,
 ) -> Result<(), Device> {
     if !is_first {
-        say(writer, buffer, b",")?;
+        out.say(",")?;
     }
-    say(writer, buffer, b"{\"key\":")?;
-    say_word(writer, buffer, key)?;
-    say(writer, buffer, b",\"value\":{")
+    out.say("{\"key\":")?;
+    out.say_word(key)?;
+    out.say(",\"value\":{")
 }
 
 /// Writes the end of an attribute.
-fn end_attribute<W: ByteSink>(writer: &mut W, buffer: &mut Buffer) -> Result<(), Device> {
-    say(writer, buffer, b"}}")
+fn end_attribute<W: ByteSink>(out: &mut TextWriter<'_, W>) -> Result<(), Device> {
+    out.say("}}")
 }
 
 /// Writes an attribute, a pid.
 fn say_pid_attribute<W: ByteSink>(
-    writer: &mut W,
-    buffer: &mut Buffer,
+    out: &mut TextWriter<'_, W>,
     key: &str,
     pid: Pid,
     is_first: bool,
 ) -> Result<(), Device> {
-    say_attribute(writer, buffer, key, is_first)?;
-    say(writer, buffer, b"\"stringValue\":")?;
-    say_pid_word(writer, buffer, pid)?;
-    end_attribute(writer, buffer)
+    say_attribute(out, key, is_first)?;
+    out.say("\"stringValue\":")?;
+    out.say_pid_word(pid)?;
+    end_attribute(out)
 }
 
 /// Writes an attribute, a number, as a string: it may be greater than a reader keeps of a number.
 fn say_number_attribute<W: ByteSink>(
-    writer: &mut W,
-    buffer: &mut Buffer,
+    out: &mut TextWriter<'_, W>,
     key: &str,
     number: u64,
 ) -> Result<(), Device> {
-    say_attribute(writer, buffer, key, false)?;
-    say(writer, buffer, b"\"stringValue\":\"")?;
-    say_number(writer, buffer, number)?;
-    say(writer, buffer, b"\"")?;
-    end_attribute(writer, buffer)
+    say_attribute(out, key, false)?;
+    out.say_part("\"stringValue\":\"", number)?;
+    out.say("\"")?;
+    end_attribute(out)
 }
 
 /// Writes an attribute, a truth value.
 fn say_bool_attribute<W: ByteSink>(
-    writer: &mut W,
-    buffer: &mut Buffer,
+    out: &mut TextWriter<'_, W>,
     key: &str,
     value: bool,
 ) -> Result<(), Device> {
-    say_attribute(writer, buffer, key, false)?;
+    say_attribute(out, key, false)?;
     let text = if value { "true" } else { "false" };
-    say(writer, buffer, b"\"boolValue\":")?;
-    say(writer, buffer, text.as_bytes())?;
-    end_attribute(writer, buffer)
+    out.say("\"boolValue\":")?;
+    out.say(text)?;
+    end_attribute(out)
 }
 
 /// Writes a field that has a time.
-fn say_time<W: ByteSink>(
-    writer: &mut W,
-    buffer: &mut Buffer,
-    name: &str,
-    time: u64,
-) -> Result<(), Device> {
-    say_name(writer, buffer, name)?;
-    say(writer, buffer, b"\"")?;
-    say_number(writer, buffer, time)?;
-    say(writer, buffer, b"\"")
+fn say_time<W: ByteSink>(out: &mut TextWriter<'_, W>, name: &str, time: u64) -> Result<(), Device> {
+    out.say_name(name)?;
+    out.say_part("\"", time)?;
+    out.say("\"")
 }
 
 /// Writes what is sent to whom, or printed.
-fn say_title<W: ByteSink>(
-    writer: &mut W,
-    buffer: &mut Buffer,
-    event: &Event,
-) -> Result<(), Device> {
-    say_name(writer, buffer, "name")?;
-    say(writer, buffer, b"\"")?;
-    say_pid(writer, buffer, event.from)?;
+fn say_title<W: ByteSink>(out: &mut TextWriter<'_, W>, event: &Event) -> Result<(), Device> {
+    out.say_name("name")?;
+    out.say("\"")?;
+    out.say_pid(event.from)?;
     match event.to {
         Some(to) => {
-            say(writer, buffer, b" -> ")?;
-            say_pid(writer, buffer, to)?;
-            say(writer, buffer, b": ")?;
+            out.say(" -> ")?;
+            out.say_pid(to)?;
+            out.say(": ")?;
         }
-        None => say(writer, buffer, b" prints ")?,
+        None => out.say(" prints ")?,
     }
-    say_number(writer, buffer, event.value)?;
-    say(writer, buffer, b"\"")
+    out.say_number(event.value)?;
+    out.say("\"")
 }
 
 impl<'a> Spans<'a> {
@@ -210,12 +189,12 @@ impl<'a> Spans<'a> {
     /// may seem to come first.
     fn times(&self, span: &Span) -> Option<(u64, u64)> {
         let sent = match span.origin {
-            Origin::Event(pid, index) => self.measured.time(pid, index),
+            Origin::Event(pid, index) => self.measurements.time(pid, index),
             Origin::Hidden(..) => None,
         };
         let got = span
             .receive
-            .and_then(|(pid, index)| self.measured.time(pid, index));
+            .and_then(|(pid, index)| self.measurements.time(pid, index));
         let begin = sent.or(got)?;
         Some((begin, got.unwrap_or(begin).max(begin)))
     }
@@ -255,7 +234,7 @@ impl<'a> Spans<'a> {
     /// The digest that names the trace of a label.
     fn trace_digest(&self, label: Label) -> Sha256 {
         let mut digest = Sha256::new();
-        digest.update(&self.measured.begin.to_le_bytes());
+        digest.update(&self.measurements.begin.to_le_bytes());
         digest.update(&label.0.to_le_bytes());
         digest
     }
@@ -267,7 +246,7 @@ impl<'a> Spans<'a> {
             Origin::Hidden(pid, index) => (1u8, pid, index),
         };
         let mut digest = Sha256::new();
-        digest.update(&self.measured.begin.to_le_bytes());
+        digest.update(&self.measurements.begin.to_le_bytes());
         digest.update(&[kind]);
         digest.update(&pid.node().to_le_bytes());
         digest.update(&pid.number().to_le_bytes());
@@ -278,42 +257,39 @@ impl<'a> Spans<'a> {
     /// Writes the names of the trace and of a span.
     fn say_names<W: ByteSink>(
         &self,
-        writer: &mut W,
-        buffer: &mut Buffer,
+        out: &mut TextWriter<'_, W>,
         span: &Span,
     ) -> Result<(), Device> {
-        say(writer, buffer, b"{\"traceId\":")?;
+        out.say("{\"traceId\":")?;
         let trace = self.trace_digest(span.event.label);
-        say_name_of(writer, buffer, trace, TRACE_BYTES)?;
-        say_name(writer, buffer, "spanId")?;
-        say_name_of(writer, buffer, self.span_digest(span.origin), SPAN_BYTES)
+        say_name_of(out, trace, TRACE_BYTES)?;
+        out.say_name("spanId")?;
+        say_name_of(out, self.span_digest(span.origin), SPAN_BYTES)
     }
 
     /// Writes the span that a span is below, or with which it is linked if that is of another label.
     fn say_parent<W: ByteSink>(
         &self,
-        writer: &mut W,
-        buffer: &mut Buffer,
+        out: &mut TextWriter<'_, W>,
         span: &Span,
     ) -> Result<(), Device> {
         let Some(parent) = self.parent(span) else {
             return Ok(());
         };
         if parent.event.label.0 == span.event.label.0 {
-            say_name(writer, buffer, "parentSpanId")?;
-            return say_name_of(writer, buffer, self.span_digest(parent.origin), SPAN_BYTES);
+            out.say_name("parentSpanId")?;
+            return say_name_of(out, self.span_digest(parent.origin), SPAN_BYTES);
         }
-        say_name(writer, buffer, "links")?;
-        say(writer, buffer, b"[")?;
-        self.say_names(writer, buffer, &parent)?;
-        say(writer, buffer, b"}]")
+        out.say_name("links")?;
+        out.say("[")?;
+        self.say_names(out, &parent)?;
+        out.say("}]")
     }
 
     /// Writes what else the trace tells of a span.
     fn say_attributes<W: ByteSink>(
         &self,
-        writer: &mut W,
-        buffer: &mut Buffer,
+        out: &mut TextWriter<'_, W>,
         span: &Span,
     ) -> Result<(), Device> {
         let event = &span.event;
@@ -321,57 +297,55 @@ impl<'a> Spans<'a> {
             Origin::Event(pid, index) => (true, (pid, index)),
             Origin::Hidden(pid, index) => (false, (pid, index)),
         };
-        say_name(writer, buffer, "attributes")?;
-        say(writer, buffer, b"[")?;
-        say_pid_attribute(writer, buffer, "erlang.from", event.from, true)?;
+        out.say_name("attributes")?;
+        out.say("[")?;
+        say_pid_attribute(out, "erlang.from", event.from, true)?;
         if let Some(to) = event.to {
-            say_pid_attribute(writer, buffer, "erlang.to", to, false)?;
-            say_bool_attribute(writer, buffer, "seqaudit.send_reported", is_sent)?;
+            say_pid_attribute(out, "erlang.to", to, false)?;
+            say_bool_attribute(out, "seqaudit.send_reported", is_sent)?;
             let is_received = span.receive.is_some();
-            say_bool_attribute(writer, buffer, "seqaudit.receive_reported", is_received)?;
+            say_bool_attribute(out, "seqaudit.receive_reported", is_received)?;
         }
-        say_number_attribute(writer, buffer, "erlang.message", event.value)?;
-        say_number_attribute(writer, buffer, "erlang.label", u64::from(event.label.0))?;
-        say_attribute(writer, buffer, "seqaudit.event", false)?;
-        say(writer, buffer, b"\"stringValue\":\"")?;
-        say_place(writer, buffer, place.0, place.1)?;
-        say(writer, buffer, b"\"")?;
-        end_attribute(writer, buffer)?;
-        say(writer, buffer, b"]")
+        say_number_attribute(out, "erlang.message", event.value)?;
+        say_number_attribute(out, "erlang.label", u64::from(event.label.0))?;
+        say_attribute(out, "seqaudit.event", false)?;
+        out.say("\"stringValue\":\"")?;
+        out.say_place(place.0, place.1)?;
+        out.say("\"")?;
+        end_attribute(out)?;
+        out.say("]")
     }
 
     /// Writes a span with these times.
     fn say_span<W: ByteSink>(
         &self,
-        writer: &mut W,
-        buffer: &mut Buffer,
+        out: &mut TextWriter<'_, W>,
         span: &Span,
         times: (u64, u64),
     ) -> Result<(), Device> {
-        self.say_names(writer, buffer, span)?;
-        self.say_parent(writer, buffer, span)?;
-        say(writer, buffer, b",\"kind\":1")?;
-        say_title(writer, buffer, &span.event)?;
-        say_time(writer, buffer, "startTimeUnixNano", times.0)?;
-        say_time(writer, buffer, "endTimeUnixNano", times.1)?;
-        self.say_attributes(writer, buffer, span)?;
-        say(writer, buffer, b"}")
+        self.say_names(out, span)?;
+        self.say_parent(out, span)?;
+        out.say(",\"kind\":1")?;
+        say_title(out, &span.event)?;
+        say_time(out, "startTimeUnixNano", times.0)?;
+        say_time(out, "endTimeUnixNano", times.1)?;
+        self.say_attributes(out, span)?;
+        out.say("}")
     }
 
     /// Writes the spans that the events of a process begin, and says whether there are some before.
     fn say_process<W: ByteSink>(
         &self,
-        writer: &mut W,
-        buffer: &mut Buffer,
+        out: &mut TextWriter<'_, W>,
         pid: Pid,
         mut is_first: bool,
     ) -> Result<bool, Device> {
         for (index, event) in self.streams.events(pid).iter().enumerate() {
             if let Some((span, times)) = self.timed_at(pid, index as u64, event) {
                 if !is_first {
-                    say(writer, buffer, b",")?;
+                    out.say(",")?;
                 }
-                self.say_span(writer, buffer, &span, times)?;
+                self.say_span(out, &span, times)?;
                 is_first = false;
             }
         }
@@ -380,14 +354,14 @@ impl<'a> Spans<'a> {
 
     /// Sends all spans.
     fn send<W: ByteSink>(&self, writer: &mut W) -> Result<(), Device> {
-        let mut buffer = Buffer::new();
+        let mut out = TextWriter::new(writer);
         let mut is_first = true;
-        say(writer, &mut buffer, HEAD.as_bytes())?;
+        out.say(HEAD)?;
         for pid in self.streams.pids() {
-            is_first = self.say_process(writer, &mut buffer, *pid, is_first)?;
+            is_first = self.say_process(&mut out, *pid, is_first)?;
         }
-        say(writer, &mut buffer, TAIL)?;
-        flush(writer, &mut buffer)
+        out.say(TAIL)?;
+        out.flush()
     }
 }
 
@@ -396,7 +370,7 @@ fn export_paired<W: ByteSink>(
     alloc: Global,
     streams: &Streams,
     pairing: &Pairing,
-    measured: &Measured<'_>,
+    measurements: &Measurements<'_>,
     writer: &mut W,
 ) -> Result<u8, AllocError>
     requires { IsPairing streams.now pairing.now }
@@ -406,7 +380,7 @@ fn export_paired<W: ByteSink>(
         streams,
         pairing,
         causes: &causes,
-        measured,
+        measurements,
     };
     Ok(status_of(spans.send(writer), 0))
 }
@@ -424,13 +398,19 @@ pub fn run_otlp<R: ByteSource, S: ByteSource, W: ByteSink>(
         Ok(bundle) => bundle,
         Err(fault) => return Err(OtlpFault::Trace(fault)),
     };
-    let measured = match Measured::read(alloc, &bundle.streams, times) {
-        Ok(measured) => measured,
+    let measurements = match Measurements::read(alloc, &bundle.streams, times) {
+        Ok(measurements) => measurements,
         Err(fault) => return Err(OtlpFault::Times(fault)),
     };
     let memory = OtlpFault::Trace(ReadFault::Memory);
     match pair(alloc, &bundle.streams) {
-        Ok(pairing) => match export_paired(alloc, &bundle.streams, &pairing, &measured, writer) {
+        Ok(pairing) => match export_paired(
+            alloc,
+            &bundle.streams,
+            &pairing,
+            &measurements,
+            writer,
+        ) {
             Ok(status) => Ok(status),
             Err(AllocError) => Err(memory),
         },

@@ -2,14 +2,13 @@
 //! JSON.
 
 use crate::clock::{Clock, Clocks};
-use crate::json::{kind_word, say_pid_word};
 use crate::size::is_long;
 use st_commands::status_of;
-use st_core::{ByteSink, Event, Kind, Pid, Streams};
+use st_core::{ByteSink, Event, Pid, Streams};
 use st_order::Item;
 use st_pair::Pairing;
-use st_say::{say, say_number, say_pid, say_serial};
-use st_text::{Buffer, Device, flush};
+use st_say::{TextWriter, kind_word, send_words};
+use st_text::Device;
 use std::alloc::{AllocError, Global};
 
 /// The status of a log that would be too long.
@@ -24,71 +23,51 @@ enum Broken {
 
 /// Writes a clock as an object with a field for each process that it counts.
 fn say_clock<W: ByteSink>(
-    writer: &mut W,
-    buffer: &mut Buffer,
+    out: &mut TextWriter<'_, W>,
     streams: &Streams,
     clock: &Clock,
 ) -> Result<(), Device> {
-    let mut mark: &[u8] = b"{";
+    let mut mark = "{";
     for (place, count) in clock {
         if let Some(pid) = streams.pids().get(*place) {
-            say(writer, buffer, mark)?;
-            say_pid_word(writer, buffer, *pid)?;
-            say(writer, buffer, b":")?;
-            say_number(writer, buffer, *count)?;
-            mark = b",";
+            out.say(mark)?;
+            out.say_pid_word(*pid)?;
+            out.say_part(":", *count)?;
+            mark = ",";
         }
     }
-    say(writer, buffer, b"}")
+    out.say("}")
 }
 
 /// Writes what an event is.
-fn say_words<W: ByteSink>(
-    writer: &mut W,
-    buffer: &mut Buffer,
-    event: &Event,
-) -> Result<(), Device> {
-    say(writer, buffer, kind_word(event.kind).as_bytes())?;
-    say(writer, buffer, b" ")?;
-    say_number(writer, buffer, event.value)?;
-    say(writer, buffer, b" ")?;
-    say_serial(writer, buffer, event.serial)?;
-    say(writer, buffer, b" label ")?;
-    say_number(writer, buffer, u64::from(event.label.0))?;
-    match (event.kind, event.to) {
-        (Kind::Send, Some(to)) => {
-            say(writer, buffer, b" to ")?;
-            say_pid(writer, buffer, to)
-        }
-        (Kind::Receive, _) => {
-            say(writer, buffer, b" from ")?;
-            say_pid(writer, buffer, event.from)
-        }
-        _ => Ok(()),
-    }
+fn say_words<W: ByteSink>(out: &mut TextWriter<'_, W>, event: &Event) -> Result<(), Device> {
+    out.say(kind_word(event.kind))?;
+    out.say_part(" ", event.value)?;
+    out.say(" ")?;
+    out.say_serial(event.serial)?;
+    out.say_part(" label ", u64::from(event.label.0))?;
+    out.say_other(event)
 }
 
 /// Writes the two lines of an event, whose process has this clock then.
 fn say_lines<W: ByteSink>(
-    writer: &mut W,
-    buffer: &mut Buffer,
+    out: &mut TextWriter<'_, W>,
     streams: &Streams,
     pid: Pid,
     event: &Event,
     clock: &Clock,
 ) -> Result<(), Device> {
-    say_words(writer, buffer, event)?;
-    say(writer, buffer, b"\n")?;
-    say_pid(writer, buffer, pid)?;
-    say(writer, buffer, b" ")?;
-    say_clock(writer, buffer, streams, clock)?;
-    say(writer, buffer, b"\n")
+    say_words(out, event)?;
+    out.say("\n")?;
+    out.say_pid(pid)?;
+    out.say(" ")?;
+    say_clock(out, streams, clock)?;
+    out.say("\n")
 }
 
 /// Takes an event and writes its lines.
 fn write_event<W: ByteSink>(
-    writer: &mut W,
-    buffer: &mut Buffer,
+    out: &mut TextWriter<'_, W>,
     streams: &Streams,
     pairing: &Pairing,
     clocks: &mut Clocks,
@@ -104,7 +83,7 @@ fn write_event<W: ByteSink>(
     let Some(clock) = clocks.of(place) else {
         return Ok(());
     };
-    match say_lines(writer, buffer, streams, pid, &event, clock) {
+    match say_lines(out, streams, pid, &event, clock) {
         Ok(()) => Ok(()),
         Err(Device) => Err(Broken::Device),
     }
@@ -112,8 +91,7 @@ fn write_event<W: ByteSink>(
 
 /// Writes the lines of all events, in the order of their items.
 fn write_log<W: ByteSink>(
-    writer: &mut W,
-    buffer: &mut Buffer,
+    out: &mut TextWriter<'_, W>,
     streams: &Streams,
     pairing: &Pairing,
     clocks: &mut Clocks,
@@ -121,10 +99,10 @@ fn write_log<W: ByteSink>(
 ) -> Result<(), Broken> {
     for item in items {
         if let Item::Reported(pid, index) = *item {
-            write_event(writer, buffer, streams, pairing, clocks, pid, index)?;
+            write_event(out, streams, pairing, clocks, pid, index)?;
         }
     }
-    match flush(writer, buffer) {
+    match out.flush() {
         Ok(()) => Ok(()),
         Err(Device) => Err(Broken::Device),
     }
@@ -132,16 +110,12 @@ fn write_log<W: ByteSink>(
 
 /// Says that memory ran out, as far as it can be said.
 fn note_memory<N: ByteSink>(notes: &mut N) {
-    let mut buffer = Buffer::new();
-    let _ = say(notes, &mut buffer, b"error: memory ran out\n");
-    let _ = flush(notes, &mut buffer);
+    let _ = send_words(notes, "error: memory ran out\n");
 }
 
 /// Sends that the log would be too long.
 fn send_long<W: ByteSink>(writer: &mut W) -> Result<(), Device> {
-    let mut buffer = Buffer::new();
-    say(writer, &mut buffer, b"long clocks\n")?;
-    flush(writer, &mut buffer)
+    send_words(writer, "long clocks\n")
 }
 
 /// Writes paired streams, whose items these are in their order, and returns the status; or that their
@@ -159,8 +133,8 @@ pub(crate) fn tell_shiviz<W: ByteSink, N: ByteSink>(
         return Ok(status_of(send_long(writer), LONG));
     }
     let mut clocks = Clocks::new(alloc, streams)?;
-    let mut buffer = Buffer::new();
-    match write_log(writer, &mut buffer, streams, pairing, &mut clocks, items) {
+    let mut out = TextWriter::new(writer);
+    match write_log(&mut out, streams, pairing, &mut clocks, items) {
         Ok(()) => Ok(0),
         Err(Broken::Device) => Ok(4),
         Err(Broken::Memory) => {

@@ -5,6 +5,7 @@
 //! its send, it is one more than the later of them: a receive may have a lower count than what its
 //! process did before.
 
+use crate::numbering::Numbering;
 use st_core::{Event, Kind, Pid, Streams};
 use st_order::Item;
 use st_pair::{Pairing, Source};
@@ -13,11 +14,9 @@ use std::alloc::{AllocError, Global};
 /// The times of all events of streams.
 #[derive(Drop)]
 pub(crate) struct Times<'a> {
-    streams: &'a Streams,
+    numbering: Numbering<'a>,
     /// All counts, each once, rising.
     counts: Vec<u64>,
-    /// How many events the processes before the one at each place have.
-    starts: Vec<usize>,
     times: Vec<u64>,
 }
 
@@ -43,25 +42,18 @@ fn counts_of(alloc: Global, streams: &Streams) -> Result<Vec<u64>, AllocError> {
 impl<'a> Times<'a> {
     /// All times 0.
     fn new(alloc: Global, streams: &'a Streams) -> Result<Times<'a>, AllocError> {
-        let mut starts = Vec::new(alloc);
-        let mut start: usize = 0;
-        for pid in streams.pids() {
-            starts.push(start)?;
-            start = start.saturating_add(streams.events(*pid).len());
-        }
+        let numbering = Numbering::of(alloc, streams)?;
+        let times = vec![in alloc; 0; numbering.count]?;
         Ok(Times {
-            streams,
             counts: counts_of(alloc, streams)?,
-            starts,
-            times: vec![in alloc; 0; start]?,
+            numbering,
+            times,
         })
     }
 
     /// The number of the event at this place among all events, process by process.
     pub(crate) fn number(&self, pid: Pid, index: u64) -> usize {
-        let place = self.streams.place_of(pid);
-        let start = place.and_then(|place| self.starts.get(place).copied());
-        start.unwrap_or(0).saturating_add(index as usize)
+        self.numbering.number(pid, index).unwrap_or(0)
     }
 
     /// The time of the event at this place.
@@ -95,7 +87,7 @@ impl<'a> Times<'a> {
 
     /// Sets the time of the event at this place, behind those that lead to it.
     fn take(&mut self, pairing: &Pairing, pid: Pid, index: u64) {
-        let Some(event) = self.streams.event(pid, index) else {
+        let Some(event) = self.numbering.streams.event(pid, index) else {
             return;
         };
         let mut least = self.by_count(event.serial.this);

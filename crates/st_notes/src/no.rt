@@ -6,8 +6,8 @@
 use crate::kind::{No, no_of};
 use st_core::{Act, ByteSink, Event, MemorySource, Pid};
 use st_lines::LineNumbers;
-use st_say::{say, say_act, say_event, say_number, say_pid, say_place};
-use st_text::{Buffer, Bundle, Device, Limits, flush, read_within};
+use st_say::TextWriter;
+use st_text::{Bundle, Device, Limits, read_within};
 use std::alloc::Global;
 
 /// What the word of a reason says of an event, in front of the second event's place and behind it.
@@ -87,168 +87,139 @@ const LONG_CLOCKS: &str =
     "the clocks of its events would have more than 100000000 counts; export a part (seqtool cut), or take --as perfetto";
 
 /// Writes a line of the text, in front of what is there.
-fn say_line<W: ByteSink>(writer: &mut W, buffer: &mut Buffer, line: u64) -> Result<(), Device> {
-    say(writer, buffer, b"line ")?;
-    say_number(writer, buffer, line)?;
-    say(writer, buffer, b", ")
+fn say_line<W: ByteSink>(out: &mut TextWriter<'_, W>, line: u64) -> Result<(), Device> {
+    out.say_part("line ", line)?;
+    out.say(", ")
 }
 
 /// Writes where an event is, with its line if that is known.
 fn say_event_place<W: ByteSink>(
-    writer: &mut W,
-    buffer: &mut Buffer,
+    out: &mut TextWriter<'_, W>,
     known: Option<&Known<'_>>,
     place: (Pid, u64),
 ) -> Result<(), Device> {
     if let Some((line, _)) = known.and_then(|known| known.event(place)) {
-        say_line(writer, buffer, line)?;
+        say_line(out, line)?;
     }
-    say_place(writer, buffer, place.0, place.1)
+    out.say_place(place.0, place.1)
 }
 
 /// Writes an event, where it is, and the reason.
 fn say_unfit<W: ByteSink>(
-    writer: &mut W,
-    buffer: &mut Buffer,
+    out: &mut TextWriter<'_, W>,
     known: Option<&Known<'_>>,
     place: (Pid, u64),
     word: &str,
     other: Option<(Pid, u64)>,
 ) -> Result<(), Device> {
-    say_event_place(writer, buffer, known, place)?;
-    say(writer, buffer, b": ")?;
+    say_event_place(out, known, place)?;
+    out.say(": ")?;
     if let Some((_, event)) = known.and_then(|known| known.event(place)) {
-        say_event(writer, buffer, &event)?;
-        say(writer, buffer, b": ")?;
+        out.say_event(&event)?;
+        out.say(": ")?;
     }
     let (front, back) = clause_of(word);
-    say(writer, buffer, front.as_bytes())?;
+    out.say(front)?;
     if let Some(other) = other {
-        say_event_place(writer, buffer, known, other)?;
+        say_event_place(out, known, other)?;
     }
-    say(writer, buffer, back.as_bytes())?;
-    say(writer, buffer, conclusion_of(word).as_bytes())
+    out.say(back)?;
+    out.say(conclusion_of(word))
 }
 
 /// Writes an act, where it is, and what is said of it.
 fn say_refused<W: ByteSink>(
-    writer: &mut W,
-    buffer: &mut Buffer,
+    out: &mut TextWriter<'_, W>,
     known: Option<&Known<'_>>,
     number: u64,
-    words: &[u8],
+    words: &str,
 ) -> Result<(), Device> {
     let act = known.and_then(|known| known.act(number));
     if let Some((line, _)) = act {
-        say_line(writer, buffer, line)?;
+        say_line(out, line)?;
     }
-    say(writer, buffer, b"act ")?;
-    say_number(writer, buffer, number)?;
-    say(writer, buffer, b": ")?;
+    out.say_part("act ", number)?;
+    out.say(": ")?;
     if let Some((_, act)) = act {
-        say_act(writer, buffer, &act)?;
-        say(writer, buffer, b": ")?;
+        out.say_act(&act)?;
+        out.say(": ")?;
     }
-    say(writer, buffer, words)?;
-    say(writer, buffer, b"; see seqtool explain")
+    out.say(words)?;
+    out.say("; see seqtool explain")
 }
 
 /// Writes that events of a process are left, with the line of the process.
 fn say_left<W: ByteSink>(
-    writer: &mut W,
-    buffer: &mut Buffer,
+    out: &mut TextWriter<'_, W>,
     known: Option<&Known<'_>>,
     pid: Pid,
 ) -> Result<(), Device> {
     if let Some((line, _)) = known.and_then(|known| known.event((pid, 0))) {
-        say_line(writer, buffer, line.saturating_sub(1))?;
+        say_line(out, line.saturating_sub(1))?;
     }
-    say(writer, buffer, b"process ")?;
-    say_pid(writer, buffer, pid)?;
-    say(
-        writer,
-        buffer,
-        b": the acts end before all its events are reported; see seqtool explain",
-    )
+    out.say("process ")?;
+    out.say_pid(pid)?;
+    out.say(": the acts end before all its events are reported; see seqtool explain")
 }
 
 /// Writes that a process has no such event, and which it has.
 fn say_no_event<W: ByteSink>(
-    writer: &mut W,
-    buffer: &mut Buffer,
+    out: &mut TextWriter<'_, W>,
     known: Option<&Known<'_>>,
     pid: Pid,
     index: u64,
 ) -> Result<(), Device> {
-    say_place(writer, buffer, pid, index)?;
-    say(writer, buffer, b": there is no such event")?;
+    out.say_place(pid, index)?;
+    out.say(": there is no such event")?;
     let Some(known) = known else {
         return Ok(());
     };
     let count = known.bundle.streams.len(pid);
     match known.event((pid, 0)) {
-        None => say(writer, buffer, b": this process has none"),
+        None => out.say(": this process has none"),
         Some((first, _)) => {
-            say(writer, buffer, b": this process has ")?;
-            say_number(writer, buffer, count)?;
-            say(writer, buffer, b", from line ")?;
-            say_number(writer, buffer, first)?;
-            say(writer, buffer, b" on")
+            out.say_part(": this process has ", count)?;
+            out.say_part(", from line ", first)?;
+            out.say(" on")
         }
     }
 }
 
 /// Writes that a line has no event.
-fn say_no_line<W: ByteSink>(writer: &mut W, buffer: &mut Buffer, line: u64) -> Result<(), Device> {
-    say(writer, buffer, b"line ")?;
-    say_number(writer, buffer, line)?;
-    say(
-        writer,
-        buffer,
-        b": there is no event; seqtool list has the line of each",
-    )
+fn say_no_line<W: ByteSink>(out: &mut TextWriter<'_, W>, line: u64) -> Result<(), Device> {
+    out.say_part("line ", line)?;
+    out.say(": there is no event; seqtool list has the line of each")
 }
 
 /// Writes that no event has this label.
-fn say_no_label<W: ByteSink>(
-    writer: &mut W,
-    buffer: &mut Buffer,
-    label: u64,
-) -> Result<(), Device> {
-    say(writer, buffer, b"label ")?;
-    say_number(writer, buffer, label)?;
-    say(
-        writer,
-        buffer,
-        b": no event has it; seqtool stats has the labels",
-    )
+fn say_no_label<W: ByteSink>(out: &mut TextWriter<'_, W>, label: u64) -> Result<(), Device> {
+    out.say_part("label ", label)?;
+    out.say(": no event has it; seqtool stats has the labels")
 }
 
 /// Writes what a no says.
 fn say_no<W: ByteSink>(
-    writer: &mut W,
-    buffer: &mut Buffer,
+    out: &mut TextWriter<'_, W>,
     known: Option<&Known<'_>>,
     no: No<'_>,
 ) -> Result<(), Device> {
     match no {
-        No::Event(place, word, other) => say_unfit(writer, buffer, known, place, word, other),
-        No::Stuck(number) => say_refused(writer, buffer, known, number, b"it has no step"),
+        No::Event(place, word, other) => say_unfit(out, known, place, word, other),
+        No::Stuck(number) => say_refused(out, known, number, "it has no step"),
         No::Differs(number) => say_refused(
-            writer,
-            buffer,
+            out,
             known,
             number,
-            b"it reports something else than the next event of its process",
+            "it reports something else than the next event of its process",
         ),
-        No::Left(pid) => say_left(writer, buffer, known, pid),
-        No::NoEvent(pid, index) => say_no_event(writer, buffer, known, pid, index),
-        No::NoLine(line) => say_no_line(writer, buffer, line),
-        No::NoLabel(label) => say_no_label(writer, buffer, label),
-        No::NoEvents => say(writer, buffer, b"there is no event to be drawn"),
-        No::Long => say(writer, buffer, LONG.as_bytes()),
-        No::LongChart => say(writer, buffer, LONG_CHART.as_bytes()),
-        No::LongClocks => say(writer, buffer, LONG_CLOCKS.as_bytes()),
+        No::Left(pid) => say_left(out, known, pid),
+        No::NoEvent(pid, index) => say_no_event(out, known, pid, index),
+        No::NoLine(line) => say_no_line(out, line),
+        No::NoLabel(label) => say_no_label(out, label),
+        No::NoEvents => out.say("there is no event to be drawn"),
+        No::Long => out.say(LONG),
+        No::LongChart => out.say(LONG_CHART),
+        No::LongClocks => out.say(LONG_CLOCKS),
     }
 }
 
@@ -268,14 +239,14 @@ fn send_no<N: ByteSink>(
     no: No<'_>,
     notes: &mut N,
 ) -> Result<(), Device> {
-    let mut buffer = Buffer::new();
+    let mut out = TextWriter::new(notes);
     let (front, mark) = marks_of(no);
-    say(notes, &mut buffer, front.as_bytes())?;
-    say(notes, &mut buffer, name.as_bytes())?;
-    say(notes, &mut buffer, mark.as_bytes())?;
-    say_no(notes, &mut buffer, known, no)?;
-    say(notes, &mut buffer, b"\n")?;
-    flush(notes, &mut buffer)
+    out.say(front)?;
+    out.say(name)?;
+    out.say(mark)?;
+    say_no(&mut out, known, no)?;
+    out.say("\n")?;
+    out.flush()
 }
 
 /// The bundle whose text this is, if there is memory for it.

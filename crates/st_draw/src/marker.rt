@@ -11,26 +11,25 @@ use st_chain::Causes;
 use st_chart::{ChartFault, chart};
 use st_core::{ByteSink, Label, Pid, Streams, WriteTo};
 use st_order::Item;
-use st_say::say;
-use st_text::{Buffer, Device, flush};
+use st_say::TextWriter;
+use st_text::Device;
 use std::alloc::{AllocError, Global};
 use std::io;
 use std::io::{Error, ErrorKind, Write};
 
 /// What is behind the line of a process or of an event that nobody listed or reported.
-const UNLISTED: &[u8] = b"  (unlisted)";
+const UNLISTED: &str = "  (unlisted)";
 
-const ADDED: &[u8] = b"  (added)";
+const ADDED: &str = "  (added)";
 
-const NO_MARK: &[u8] = b"";
+const NO_MARK: &str = "";
 
 /// A writer over another one that puts a mark before the ends of some lines.
 #[derive(Drop)]
 struct Marker<'a, W> {
-    writer: &'a mut W,
-    buffer: Buffer,
+    out: TextWriter<'a, W>,
     /// Of each line, from the first on, what its end is marked with.
-    marks: Vec<&'static [u8]>,
+    marks: Vec<&'static str>,
     /// How many lines have ended.
     ended: usize,
 }
@@ -40,8 +39,8 @@ impl<'a, W: ByteSink> Marker<'a, W> {
     fn end_line(&mut self) -> Result<(), Device> {
         let mark = self.marks.get(self.ended).copied().unwrap_or(NO_MARK);
         self.ended = self.ended.saturating_add(1);
-        say(&mut *self.writer, &mut self.buffer, mark)?;
-        say(&mut *self.writer, &mut self.buffer, b"\n")
+        self.out.say(mark)?;
+        self.out.say("\n")
     }
 
     /// Passes bytes on.
@@ -52,7 +51,7 @@ impl<'a, W: ByteSink> Marker<'a, W> {
                 self.end_line()?;
             }
             is_first = false;
-            say(&mut *self.writer, &mut self.buffer, piece)?;
+            self.out.say_bytes(piece)?;
         }
         Ok(())
     }
@@ -67,7 +66,7 @@ impl<W: ByteSink> Write for Marker<'_, W> {
     }
 
     fn flush(&mut self) -> io::Result<()> {
-        match flush(&mut *self.writer, &mut self.buffer) {
+        match self.out.flush() {
             Ok(()) => Ok(()),
             Err(Device) => Err(Error::new(ErrorKind::WriteZero, "the writer failed")),
         }
@@ -75,7 +74,7 @@ impl<W: ByteSink> Write for Marker<'_, W> {
 }
 
 /// The mark of an item's line.
-fn mark_of(scene: &Scene<'_>, item: Item) -> &'static [u8] {
+fn mark_of(scene: &Scene<'_>, item: Item) -> &'static str {
     match item {
         Item::Reported(pid, index) if scene.is_added(pid, index) => ADDED,
         Item::Reported(..) | Item::Hidden(..) => NO_MARK,
@@ -87,7 +86,7 @@ fn marks_of(
     alloc: Global,
     scene: &Scene<'_>,
     items: &[Item],
-) -> Result<Vec<&'static [u8]>, AllocError> {
+) -> Result<Vec<&'static str>, AllocError> {
     let mut marks = lane_marks(alloc, scene, items)?;
     for item in items {
         if scene.has_row(*item) {
@@ -98,7 +97,7 @@ fn marks_of(
 }
 
 /// The mark of a process's line.
-fn lane_mark(scene: &Scene<'_>, pid: Pid) -> &'static [u8] {
+fn lane_mark(scene: &Scene<'_>, pid: Pid) -> &'static str {
     if scene.is_unlisted(pid) {
         UNLISTED
     } else {
@@ -111,9 +110,9 @@ fn lane_marks(
     alloc: Global,
     scene: &Scene<'_>,
     items: &[Item],
-) -> Result<Vec<&'static [u8]>, AllocError> {
+) -> Result<Vec<&'static str>, AllocError> {
     let ends = ends_of(alloc, scene, items)?;
-    let mut marks: Vec<&'static [u8]> = Vec::new(alloc);
+    let mut marks: Vec<&'static str> = Vec::new(alloc);
     marks.push(NO_MARK)?;
     for pid in &ends {
         marks.push(lane_mark(scene, *pid))?;
@@ -137,8 +136,7 @@ pub(crate) fn marked_chart<W: ByteSink>(
         return Err(ChartFault::Memory);
     };
     let mut marker = Marker {
-        writer,
-        buffer: Buffer::new(),
+        out: TextWriter::new(writer),
         marks,
         ended: 0,
     };

@@ -1,6 +1,7 @@
 //! `NAME.times`, as the Erlang application writes it: when each event of a trace happened, by the clock
 //! of its node.
 
+use crate::numbering::Numbering;
 use st_core::{ByteSource, Pid, Streams};
 use st_text::{Limits, ReadFault};
 use std::alloc::{AllocError, Global};
@@ -31,12 +32,10 @@ impl From<AllocError> for TimesFault {
 
 /// The times of the events of streams.
 #[derive(Drop)]
-pub(crate) struct Measured<'a> {
-    streams: &'a Streams,
+pub(crate) struct Measurements<'a> {
+    numbering: Numbering<'a>,
     /// When the first event happened, in nanoseconds since 1970.
     pub(crate) begin: u64,
-    /// How many events the processes before the one at each place have.
-    starts: Vec<usize>,
     /// Of each event, process by process, how much later it happened.
     times: Vec<Option<u64>>,
 }
@@ -116,29 +115,22 @@ fn entry_of(line: &str) -> Option<Entry> {
     }
 }
 
-impl<'a> Measured<'a> {
+impl<'a> Measurements<'a> {
     /// No times yet.
-    fn new(alloc: Global, streams: &'a Streams) -> Result<Measured<'a>, AllocError> {
-        let mut starts = Vec::new(alloc);
-        let mut start: usize = 0;
-        for pid in streams.pids() {
-            starts.push(start)?;
-            start = start.saturating_add(streams.events(*pid).len());
-        }
-        Ok(Measured {
-            streams,
+    fn new(alloc: Global, streams: &'a Streams) -> Result<Measurements<'a>, AllocError> {
+        let numbering = Numbering::of(alloc, streams)?;
+        let times = vec![in alloc; None; numbering.count]?;
+        Ok(Measurements {
+            numbering,
             begin: 0,
-            starts,
-            times: vec![in alloc; None; start]?,
+            times,
         })
     }
 
     /// The number of the event at this place among all events, if it is there.
     fn number(&self, pid: Pid, index: u64) -> Option<usize> {
-        let _event = self.streams.event(pid, index)?;
-        let place = self.streams.place_of(pid)?;
-        let start = self.starts.get(place)?;
-        Some(start.saturating_add(index as usize))
+        let _event = self.numbering.streams.event(pid, index)?;
+        self.numbering.number(pid, index)
     }
 
     /// When the event at this place happened, in nanoseconds since 1970, if that is known.
@@ -204,19 +196,19 @@ impl<'a> Measured<'a> {
         alloc: Global,
         streams: &'a Streams,
         reader: &mut R,
-    ) -> Result<Measured<'a>, TimesFault> {
+    ) -> Result<Measurements<'a>, TimesFault> {
         let bytes = match gather(alloc, reader) {
             Ok(bytes) => bytes,
             Err(fault) => return Err(TimesFault::Read(fault)),
         };
-        let mut measured = Measured::new(alloc, streams)?;
+        let mut measurements = Measurements::new(alloc, streams)?;
         match str::from_utf8(bytes.as_slice()) {
-            Ok(text) => measured.take_text(text)?,
+            Ok(text) => measurements.take_text(text)?,
             Err(_) => return Err(TimesFault::Line(1)),
         }
-        if measured.times.iter().all(|time| time.is_none()) {
+        if measurements.times.iter().all(|time| time.is_none()) {
             return Err(TimesFault::Empty);
         }
-        Ok(measured)
+        Ok(measurements)
     }
 }
