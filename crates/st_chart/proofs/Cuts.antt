@@ -101,7 +101,10 @@ cut e ps m n rise within only =
           get_or-take m (take n ps) i d (omega (arith, below, left_len))
           ∙ get_or-take n ps i d (omega (arith, below, left_len, rise))
           ∙ ap (λ j. get_or ps j d) (let e : i ≡ 0 + i = omega arith in e))
-          (λ i below. (λ same. omega (arith, same, below, left_len), λ same. omega (arith, same, below, left_len, rise)));
+          (λ i below. (
+            λ same. omega (arith, same, below, left_len),
+            λ same. omega (arith, same, below, left_len, rise),
+          ));
       middle =
           part_clear e ps (drop m (take n ps)) m m n only (omega (arith, middle_len, rise, within))
           (λ i d below.
