@@ -1,6 +1,7 @@
--- Why the reasons hold, and why they are final: each is one of the open question's, at its place. And
--- why acts show the streams otherwise: a completion needs nothing.
-use Rattle.std.proofs.Common.{◌≡◌, ◌↔◌, ℕ, ◌<◌, zero, suc, ◌&&◌, nat_lt, not, Bool, true, false, List, [], ◌∷◌}
+-- Why the reasons hold, and why they are final: each is one of the open question's, at its place.
+-- And why acts show the streams otherwise: a completion needs nothing.
+use Rattle.std.proofs.Common.{◌≡◌, ◌↔◌, ℕ, ◌<◌, zero, suc, ◌&&◌, nat_lt, not, Bool, true, false}
+use Rattle.std.proofs.Common.{List, [], ◌∷◌}
 use Rattle.std.proofs.Common.{slice_get, take, Some, None, refl, sym, ◌∙◌, subst, arith}
 use Rattle.std.proofs.lemmas.Bool.{false≢true}
 use Rattle.std.proofs.lemmas.Bool.Decides.{nat_tests}
@@ -21,7 +22,8 @@ use Rattle.st_completions.specs.Completed.{IsCompleted, IsShownInOneTrace}
 use Rattle.st_completions.specs.Local.{IsNeedless}
 use Rattle.st_completions.specs.Needs.{is_late}
 use Rattle.st_completions.specs.Reasons.{HoldsAt}
-use Rattle.st_open.specs.OpenReasons.{Late, OpenReason, Refused, StandsAgainstOpen, TooHigh, Unfounded}
+use Rattle.st_open.specs.OpenReasons.{Late, OpenReason, Refused, StandsAgainstOpen, TooHigh}
+use Rattle.st_open.specs.OpenReasons.{Unfounded}
 use Rattle.st_open.specs.Silent.{with_silent}
 use Rattle.st_open.proofs.ForCallers.{silent_sound}
 use Rattle.st_needs.specs.Completions.{Completed}
@@ -48,7 +50,8 @@ receive_if stamp never_is = elim stamp as
     (λ b. IsNot b → b ≡ false) [ true ↦ λ h. absurd (h refl) | false ↦ λ h. refl ] never_is
 
 -- in streams that pairing accepts it is a receive
-pub last_higher : (streams : List Stream) (p : Pid) (i j this : ℕ) (e : Event) → refusal streams ≡ None
+pub last_higher : (streams : List Stream) (p : Pid) (i j this : ℕ) (e : Event)
+    → refusal streams ≡ None
     → HoldsAt is_late streams p i → event_at streams p i ≡ Some e → this ≡ e.serial.this
     → IsHigher (events_of streams p) i this j → IsLastHigherAt streams p i j
 last_higher streams p i j this e accepted late at is higher =
@@ -67,7 +70,8 @@ last_higher streams p i j this e accepted late at is higher =
           let high = higher.high in
           omega (arith, below, high, is));
       high = let high = higher.high in omega (arith, high, is);
-      last = λ k f after before there. let low = higher.last k f after before there in omega (arith, low, is);
+      last = λ k f after before there. let low = higher.last k f after before there in
+          omega (arith, low, is);
     }
 
 -- THE REASONS ARE FINAL
@@ -88,10 +92,12 @@ reason_final top streams p i (never.Repeated q j) law sound is =
     λ most. law most streams sound (Refused (fault.Repeated p i q j)) is
 reason_final top streams p i (never.Mismatch q j) law sound is =
     λ most. law most streams sound (Refused (fault.Mismatch p i q j)) is
-reason_final top streams p i (never.Late j) law sound is = λ most. law most streams sound (Late p i) is.least.holds
+reason_final top streams p i (never.Late j) law sound is = λ most.
+    law most streams sound (Late p i) is.least.holds
 reason_final top streams p i never.Unfounded law sound is =
     λ most. law most streams sound (Unfounded p i) is.least.holds
-reason_final top streams p i never.TooHigh law sound is = law top streams sound (TooHigh p i) is.least.holds
+reason_final top streams p i never.TooHigh law sound is =
+    law top streams sound (TooHigh p i) is.least.holds
 
 -- STREAMS THAT ARE SHOWN
 
@@ -133,7 +139,8 @@ answered top streams (answer.Never p i reason) final shown needless sound is =
 -- AN EVENT THAT IS LATE
 
 greatest_below : (es : List Event) (this : ℕ) → 0 < this
-    → ((k : ℕ) (f : Event) → slice_get es k ≡ Some f → f.serial.this < this) → greatest_count es < this
+    → ((k : ℕ) (f : Event) → slice_get es k ≡ Some f → f.serial.this < this)
+    → greatest_count es < this
 greatest_below [] this high each = high
 greatest_below (e ∷ es) this high each =
     let first = each 0 e refl in
@@ -162,8 +169,10 @@ pub some_higher : (streams : List Stream) (p : Pid) (i : ℕ) (e : Event) → re
 some_higher streams p i e accepted late at lower =
     let es = events_of streams p in
     let same = same_Some late.event e (sym late.at ∙ at) in
-    let holds : is_late (take i es) e ≡ true = subst (λ (x : Event). is_late (take i es) x ≡ true) same late.holds in
+    let holds : is_late (take i es) e ≡ true = subst (λ (x : Event). is_late (take i es) x ≡ true)
+    same late.holds in
     let rises = serial_rises streams (paired streams accepted) p i e at in
     let low = greatest_below (take i es) e.serial.this (omega (arith, rises))
     (λ k f there. let t = taken_at es i k f there in lower k f t.0 t.1) in
-    none_if (is_stamp e) (nat_lt (greatest_count (take i es)) e.serial.this) (grind (arith, nat_tests, low)) holds
+    none_if (is_stamp e) (nat_lt (greatest_count (take i es)) e.serial.this)
+    (grind (arith, nat_tests, low)) holds

@@ -1,5 +1,6 @@
 -- What the judge compares: the told events of the processes, one place more.
-use Rattle.std.proofs.Common.{◌≡◌, ℕ, ◌+◌, ◌<◌, ◌⊎◌, inl, inr, zero, suc, Bool, List, [], ◌∷◌, slice_get, take}
+use Rattle.std.proofs.Common.{◌≡◌, ℕ, ◌+◌, ◌<◌, ◌⊎◌, inl, inr, zero, suc, Bool, List, [], ◌∷◌}
+use Rattle.std.proofs.Common.{slice_get, take}
 use Rattle.std.proofs.Common.{get_or, Some, refl, sym, ◌∙◌, ap, subst, arith}
 use Rattle.std.specs.List.{AllByRecursion}
 use Rattle.std.proofs.lemmas.Option.{none-some, same_Some}
@@ -17,7 +18,8 @@ below_or : (k n : ℕ) → k < suc n → (k < n) ⊎ (k ≡ n)
 below_or zero zero less = inr refl
 below_or zero (suc n) less = inl (omega arith)
 below_or (suc k) zero less = absurd (omega arith)
-below_or (suc k) (suc n) less = elim (below_or k n (omega arith)) [ inl x ↦ inl (omega arith) | inr e ↦ inr (ap suc e) ]
+below_or (suc k) (suc n) less = elim (below_or k n (omega arith))
+    [ inl x ↦ inl (omega arith) | inr e ↦ inr (ap suc e) ]
 
 -- one more place
 pub told_next : (all : List Stream) (lists : List (List Bool)) (streams : List Stream) (n : ℕ)
@@ -30,7 +32,8 @@ told_next all lists streams n each here k less =
     ]
 
 -- the processes at one place, from their pids
-pub told_here : (all : List Stream) (lists : List (List Bool)) (streams : List Stream) (k : ℕ) (p q : Pid)
+pub told_here : (all : List Stream) (lists : List (List Bool)) (streams : List Stream) (k : ℕ)
+    (p q : Pid)
     (es fs : List Event) (ms : List Bool) → IsRising (pids_of all) → IsRising (pids_of streams)
     → slice_get (pids_of all) k ≡ Some q → slice_get (pids_of streams) k ≡ Some p → q ≡ p
     → es ≡ events_of all p → fs ≡ events_of streams p → ms ≡ get_or lists k []
@@ -38,7 +41,8 @@ pub told_here : (all : List Stream) (lists : List (List Bool)) (streams : List S
 told_here all lists streams k p q es fs ms rises rising at_all at same is are marks told =
     let a = is_at all k q rises at_all in
     let b = is_at streams k p rising at in
-    let inside : a.stream.events ≡ es = sym (ap events_in a.found) ∙ ap (events_of all) same ∙ sym is in
+    let inside : a.stream.events ≡ es = sym (ap events_in a.found) ∙ ap (events_of all) same
+    ∙ sym is in
     let own : fs ≡ b.stream.events = are ∙ ap events_in b.found in
     record {
       whole = a.stream;
@@ -51,13 +55,15 @@ told_here all lists streams k p q es fs ms rises rising at_all at same is are ma
     }
 
 -- one more of which it holds
-all_one_more : {X : Type 0} (P : X → Type 0) (xs : List X) (i : ℕ) (x : X) → slice_get xs i ≡ Some x → P x
+all_one_more : {X : Type 0} (P : X → Type 0) (xs : List X) (i : ℕ) (x : X) → slice_get xs i ≡ Some x
+    → P x
     → AllByRecursion P (take i xs) → AllByRecursion P (take (suc i) xs)
 all_one_more P [] i x at holds all = absurd (none-some x at)
 all_one_more P (y ∷ xs) zero x at holds all = (subst P (sym (same_Some y x at)) holds, tt)
 all_one_more P (y ∷ xs) (suc i) x at holds all = (all.0, all_one_more P xs i x at holds all.1)
 
-pub all_taken : {X : Type 0} (P : X → Type 0) (xs : List X) (i : ℕ) (x : X) → slice_get xs i ≡ Some x → P x
+pub all_taken : {X : Type 0} (P : X → Type 0) (xs : List X) (i : ℕ) (x : X)
+    → slice_get xs i ≡ Some x → P x
     → AllByRecursion P (take i xs) → AllByRecursion P (take (i + 1) xs)
 all_taken P xs i x at holds all =
     let next : suc i ≡ i + 1 = omega arith in

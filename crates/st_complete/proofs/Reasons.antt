@@ -23,10 +23,12 @@ use Rattle.st_pair.specs.declared.answer.PairFault.TheVariants as fault
 use Rattle.st_pair.specs.declared.answer.Source.{Source}
 use Rattle.st_pair.specs.declared.answer.Source.TheVariants as source
 use Rattle.st_pair.specs.Laws.{IsEarlier, IsLeast}
-use Rattle.st_pair.specs.Pairing.{agrees, first_rule, is_send, mismatch, not_rising, prev_not_before}
+use Rattle.st_pair.specs.Pairing.{agrees, first_rule, is_send, mismatch, not_rising}
+use Rattle.st_pair.specs.Pairing.{prev_not_before}
 use Rattle.st_pair.specs.Pairing.{receive_of, refusal, repeated, stamp_before, stamp_of, to_eq}
 use Rattle.st_pair.specs.Places.{event_at, first, is_stamp}
-use Rattle.st_pair.proofs.ForCallers.{cond_none, event_none, first_least, got_rule, paired, pid_total, Rule}
+use Rattle.st_pair.proofs.ForCallers.{cond_none, event_none, first_least, got_rule, paired}
+use Rattle.st_pair.proofs.ForCallers.{pid_total, Rule}
 use Rattle.st_order.specs.Items.{is_hidden}
 use Rattle.st_completions.specs.Needs.{HoldsOfNone, is_late}
 use Rattle.st_completions.specs.Reasons.{is_too_high}
@@ -39,7 +41,8 @@ use Rattle.st_complete.specs.Found.{IsFoundReason}
 
 -- TESTS
 
-some_unless : {X : Type 0} (b : Bool) (x y : X) → cond b None (Some x) ≡ Some y → (b ≡ false) × (x ≡ y)
+some_unless : {X : Type 0} (b : Bool) (x y : X) → cond b None (Some x) ≡ Some y → (b ≡ false)
+    × (x ≡ y)
 some_unless true x y h = absurd (none-some y h)
 some_unless false x y h = (refl, same_Some x y h)
 
@@ -47,7 +50,8 @@ some_if : {X : Type 0} (b : Bool) (x y : X) → cond b (Some x) None ≡ Some y 
 some_if true x y h = (refl, same_Some x y h)
 some_if false x y h = absurd (none-some y h)
 
-under_unless : {X : Type 0} (b : Bool) (o : Option X) (y : X) → cond b None o ≡ Some y → (b ≡ false) × (o ≡ Some y)
+under_unless : {X : Type 0} (b : Bool) (o : Option X) (y : X) → cond b None o ≡ Some y → (b ≡ false)
+    × (o ≡ Some y)
 under_unless true o y h = absurd (none-some y h)
 under_unless false o y h = (refl, h)
 
@@ -68,22 +72,23 @@ stamps_low false less h = absurd (false≢true (sym h))
 
 module _ (q p : Pid) (j i : ℕ) where
   in_order : ((pid_eq q p && j == i) ≡ false) → IsEarlier q j p i ⊎ IsEarlier p i q j
-  in_order other = elim (pid_cmp q p) as (λ o. pid_cmp q p ≡ o → IsEarlier q j p i ⊎ IsEarlier p i q j) [
-    | Less ↦ λ is. inl (inl is)
-    | Equal ↦ λ is.
-        let same = pid_cmp-Equal q p is in
-        elim (cases_lt j i) [
-          | inl less ↦ inl (inr (same, less))
-          | inr high ↦ elim (cases_lt i j) [
-            | inl less ↦ inr (inr (sym same, less))
-            | inr low ↦
-                let index : j ≡ i = omega arith in
-                absurd (false≢true (sym other ∙ and_from (pid_eq q p) (j == i)
-                (ap (λ (x : Pid). pid_eq x p) same ∙ pid_eq-refl p) (eq-eqb j i index)))
-          ]
-        ]
-    | Greater ↦ λ is. inr (inl (pid_total.antisymm p q ∙ ap ordering_reverse is))
-  ] refl
+  in_order other = elim (pid_cmp q p) as (λ o. pid_cmp q p ≡ o → IsEarlier q j p i
+      ⊎ IsEarlier p i q j) [
+        | Less ↦ λ is. inl (inl is)
+        | Equal ↦ λ is.
+            let same = pid_cmp-Equal q p is in
+            elim (cases_lt j i) [
+              | inl less ↦ inl (inr (same, less))
+              | inr high ↦ elim (cases_lt i j) [
+                | inl less ↦ inr (inr (sym same, less))
+                | inr low ↦
+                    let index : j ≡ i = omega arith in
+                    absurd (false≢true (sym other ∙ and_from (pid_eq q p) (j == i)
+                    (ap (λ (x : Pid). pid_eq x p) same ∙ pid_eq-refl p) (eq-eqb j i index)))
+              ]
+            ]
+        | Greater ↦ λ is. inr (inl (pid_total.antisymm p q ∙ ap ordering_reverse is))
+      ] refl
 
 -- WHAT PAIRING ASKS
 
@@ -149,7 +154,8 @@ module _ (streams : List Stream) (p : Pid) where
   some_stamp : (i j : ℕ) (f : Event) → j < i → event_at streams p j ≡ Some f → is_stamp f ≡ true
       → stamp_before (events_of streams p) i ≡ None → ⊥
   some_stamp zero j f less at stamps none = omega (arith, less)
-  some_stamp (suc i) j f less at stamps none = elim (event_at streams p i) as (λ o. event_at streams p i ≡ o
+  some_stamp (suc i) j f less at stamps none = elim (event_at streams p i)
+      as (λ o. event_at streams p i ≡ o
       → (let last : Option (ℕ × Event) = elim o [
         | None ↦ stamp_before (events_of streams p) i
         | Some d ↦ if is_stamp d then Some (i, d) else stamp_before (events_of streams p) i
@@ -159,7 +165,8 @@ module _ (streams : List Stream) (p : Pid) where
               | inl below ↦ below
               | inr high ↦
                   let same : j ≡ i = omega (arith, less, high) in
-                  absurd (none-some f (sym nothing ∙ subst (λ n. event_at streams p n ≡ Some f) same at))
+                  absurd (none-some f (sym nothing ∙ subst (λ n. event_at streams p n ≡ Some f) same
+                  at))
             ]) at stamps none
         | Some d ↦ λ there none. elim (is_stamp d) as (λ b. is_stamp d ≡ b
             → cond b (Some (i, d)) (stamp_before (events_of streams p) i) ≡ None → ⊥) [
@@ -169,7 +176,8 @@ module _ (streams : List Stream) (p : Pid) where
                     | inl below ↦ below
                     | inr high ↦
                         let same : j ≡ i = omega (arith, less, high) in
-                        let event = same_Some d f (sym there ∙ subst (λ n. event_at streams p n ≡ Some f) same at) in
+                        let event = same_Some d f (sym there
+                        ∙ subst (λ n. event_at streams p n ≡ Some f) same at) in
                         absurd (false≢true (sym receives ∙ ap is_stamp event ∙ stamps))
                   ]) at stamps none
             ] refl none
@@ -183,10 +191,12 @@ record Receives (q : Pid) (this : ℕ) (p : Pid) (i : ℕ) (e : Event) (x : Pid 
   pid : p ≡ x.0
   index : i ≡ x.1
 
-got_says : (q : Pid) (this : ℕ) (p : Pid) (i : ℕ) (e : Event) (x : Pid × ℕ) → got_rule q this p i e ≡ Some x
+got_says : (q : Pid) (this : ℕ) (p : Pid) (i : ℕ) (e : Event) (x : Pid × ℕ)
+    → got_rule q this p i e ≡ Some x
     → Receives q this p i e x
 got_says q this p i e x h =
-    let rest = under_unless (is_stamp e) (cond (pid_eq e.from q && e.serial.this == this) (Some (p, i)) None) x h in
+    let rest = under_unless (is_stamp e) (cond (pid_eq e.from q && e.serial.this == this)
+    (Some (p, i)) None) x h in
     let parts = some_if (pid_eq e.from q && e.serial.this == this) (p, i) x rest.1 in
     let tests = and_parts (pid_eq e.from q) (e.serial.this == this) parts.0 in
     record {
@@ -197,11 +207,13 @@ got_says q this p i e x h =
       index = ap (λ (y : Pid × ℕ). y.1) parts.1;
     }
 
-got : (q : Pid) (this : ℕ) (p : Pid) (i : ℕ) (e : Event) → is_stamp e ≡ false → e.from ≡ q → e.serial.this ≡ this
+got : (q : Pid) (this : ℕ) (p : Pid) (i : ℕ) (e : Event) → is_stamp e ≡ false → e.from ≡ q
+    → e.serial.this ≡ this
     → got_rule q this p i e ≡ Some (p, i)
 got q this p i e receives from count =
     let place : Pid × ℕ = (p, i) in
-    ap (λ b. cond b None (cond (pid_eq e.from q && e.serial.this == this) (Some place) None)) receives
+    ap (λ b. cond b None (cond (pid_eq e.from q && e.serial.this == this) (Some place) None))
+    receives
     ∙ ap (λ b. cond b (Some place) None) (and_from (pid_eq e.from q) (e.serial.this == this)
     (ap (λ (x : Pid). pid_eq x q) from ∙ pid_eq-refl q) (eq-eqb e.serial.this this count))
 
@@ -254,7 +266,8 @@ hidden_as true q o = refl
 hidden_as false q None = refl
 hidden_as false q (Some f) = refl
 
-some_as : (stamp : Bool) (q : Pid) (o : Option (ℕ × Event)) → cond stamp false (hides (source_in q o)) ≡ false
+some_as : (stamp : Bool) (q : Pid) (o : Option (ℕ × Event))
+    → cond stamp false (hides (source_in q o)) ≡ false
     → (stamp || is_some o) ≡ true
 some_as true q o h = refl
 some_as false q None h = absurd (false≢true (sym h))
@@ -298,10 +311,12 @@ module _ (top : ℕ) (streams : List Stream) (sound : IsStreams streams) where
 
   not_falling : (p : Pid) (i : ℕ) (e : Event) (j : ℕ) → not_rising streams p i e ≡ None
       → IsAgainst top streams p i e (never.NotRising j) → ⊥
-  not_falling p i e j quiet against = let stamps = against.0 in let l = against.1 in let high = against.2 in
+  not_falling p i e j quiet against = let stamps = against.0 in let l = against.1 in let high =
+      against.2 in
       elim (stamp_before (events_of streams p) i)
       as (λ o. stamp_before (events_of streams p) i ≡ o → option_and_then (λ (f : ℕ × Event).
-      if not (is_stamp e) || nat_lt f.1.serial.this e.serial.this then None else Some (fault.NotRising p i f.0)) o
+      if not (is_stamp e) || nat_lt f.1.serial.this e.serial.this then None else Some
+      (fault.NotRising p i f.0)) o
       ≡ None → ⊥) [
         | None ↦ λ none quiet. some_stamp streams p i j l.event l.before l.at l.is none
         | Some f ↦ λ is quiet.
@@ -339,13 +354,16 @@ module _ (top : ℕ) (streams : List Stream) (sound : IsStreams streams) where
       let place : Pid × ℕ = (q, j) in
       elim (receive_of streams e.from e.serial.this)
       as (λ o. receive_of streams e.from e.serial.this ≡ o → option_and_then (λ (x : Pid × ℕ).
-      if is_stamp e || (pid_eq x.0 p && x.1 == i) then None else Some (fault.Repeated p i x.0 x.1)) o ≡ None
+      if is_stamp e || (pid_eq x.0 p && x.1 == i) then None else Some (fault.Repeated p i x.0 x.1))
+      o ≡ None
       → ⊥) [
         | None ↦ λ none quiet.
-            none-some place (sym (event_none (got_rule e.from e.serial.this) streams none q j f there)
+            none-some place (sym (event_none (got_rule e.from e.serial.this) streams none q j f
+            there)
             ∙ got e.from e.serial.this q j f receipt from count)
         | Some x ↦ λ is quiet.
-            let tests = cond_none (is_stamp e || (pid_eq x.0 p && x.1 == i)) (fault.Repeated p i x.0 x.1) quiet in
+            let tests = cond_none (is_stamp e || (pid_eq x.0 p && x.1 == i))
+            (fault.Repeated p i x.0 x.1) quiet in
             let both = and_parts (pid_eq x.0 p) (x.1 == i)
             (ap (λ b. b || (pid_eq x.0 p && x.1 == i)) (sym receives) ∙ tests) in
             let l = first_least (got_rule e.from e.serial.this) streams x pids_rise is in
@@ -355,7 +373,8 @@ module _ (top : ℕ) (streams : List Stream) (sound : IsStreams streams) where
             let before : IsEarlier q j l.pid l.index =
             subst (λ (r : Pid). IsEarlier q j r l.index) pid
             (subst (λ (n : ℕ). IsEarlier q j p n) index earlier) in
-            none-some place (sym (l.least q j f there before) ∙ got e.from e.serial.this q j f receipt from count)
+            none-some place (sym (l.least q j f there before)
+            ∙ got e.from e.serial.this q j f receipt from count)
       ] refl quiet
 
   not_other : (p : Pid) (i : ℕ) (e : Event) (q : Pid) (j : ℕ) → mismatch streams p i e ≡ None
@@ -372,7 +391,8 @@ module _ (top : ℕ) (streams : List Stream) (sound : IsStreams streams) where
       let tests = cond_none (is_stamp e || agrees f e) (fault.Mismatch p i e.from j) given in
       against.4 (send_of f e (ap (λ b. b || agrees f e) (sym receives) ∙ tests))
 
-  not_late : (p : Pid) (i : ℕ) (e : Event) (j : ℕ) → is_late (take i (events_of streams p)) e ≡ false
+  not_late : (p : Pid) (i : ℕ) (e : Event) (j : ℕ) → is_late (take i (events_of streams p)) e
+      ≡ false
       → IsAgainst top streams p i e (never.Late j) → ⊥
   not_late p i e j quiet against =
       let stamps = against.0 in
@@ -436,7 +456,8 @@ module _ (top : ℕ) (streams : List Stream) (sound : IsStreams streams) where
   AreQuiet n = (q : Pid) (j : ℕ) (f : Event) → event_at streams q j ≡ Some f → IsQuiet n q j f
 
   abbrev AreQuietBefore : Pid → ℕ → ℕ → Type 0
-  AreQuietBefore p i n = (q : Pid) (j : ℕ) (f : Event) → event_at streams q j ≡ Some f → IsEarlier q j p i
+  AreQuietBefore p i n = (q : Pid) (j : ℕ) (f : Event) → event_at streams q j ≡ Some f
+      → IsEarlier q j p i
       → IsQuiet n q j f
 
   reason_if : (p : Pid) (i : ℕ) (e : Event) (reason : Never) → event_at streams p i ≡ Some e
@@ -447,7 +468,8 @@ module _ (top : ℕ) (streams : List Stream) (sound : IsStreams streams) where
     at = at;
     holds = holds;
     first = λ other q j f there against. elim (cases_lt (reason_rank other) (reason_rank reason)) [
-      | inl less ↦ absurd (not_against other q j f there (before (reason_rank other) less q j f there) against)
+      | inl less ↦ absurd (not_against other q j f there
+          (before (reason_rank other) less q j f there) against)
       | inr high ↦ high
     ];
     least = λ other q j f there against same is_earlier.
@@ -479,12 +501,14 @@ module _ (top : ℕ) (streams : List Stream) (sound : IsStreams streams) where
       event_none (repeated streams) streams (none.once (omega (arith, less))) q j f at
   quiet_before n (suc (suc (suc zero))) small none less q j f at =
       event_none (mismatch streams) streams (none.matched (omega (arith, less))) q j f at
-  quiet_before n (suc (suc (suc (suc m)))) small none less q j f at = absurd (omega (arith, less, small))
+  quiet_before n (suc (suc (suc (suc m)))) small none less q j f at =
+      absurd (omega (arith, less, small))
 
   prev_meant : (x : PairFault) → IsLeast prev_not_before streams x → IsMeant x
   prev_meant x l =
       let e = l.event in
-      let parts = some_unless (nat_lt e.serial.prev e.serial.this) (fault.PrevNotBefore l.pid l.index) x l.gives in
+      let parts = some_unless (nat_lt e.serial.prev e.serial.this)
+      (fault.PrevNotBefore l.pid l.index) x l.gives in
       let high = ltb-false e.serial.prev e.serial.this parts.0 in
       subst IsMeant parts.1 (reason_if l.pid l.index e never.PrevNotBefore l.at high
       (λ n less. absurd (omega (arith, less))) l.least)
@@ -493,7 +517,8 @@ module _ (top : ℕ) (streams : List Stream) (sound : IsStreams streams) where
   rising_meant x none l =
       let e = l.event in
       elim (stamp_before (events_of streams l.pid) l.index)
-      as (λ o. stamp_before (events_of streams l.pid) l.index ≡ o → option_and_then (λ (f : ℕ × Event).
+      as (λ o. stamp_before (events_of streams l.pid) l.index ≡ o
+      → option_and_then (λ (f : ℕ × Event).
       if not (is_stamp e) || nat_lt f.1.serial.this e.serial.this then None
       else Some (fault.NotRising l.pid l.index f.0)) o ≡ Some x → IsMeant x) [
         | None ↦ λ nothing gives. absurd (none-some x gives)
@@ -526,7 +551,8 @@ module _ (top : ℕ) (streams : List Stream) (sound : IsStreams streams) where
             let there : event_at streams y.0 y.1 ≡ Some m.event =
             subst (λ (r : Pid). event_at streams r y.1 ≡ Some m.event) says.pid
             (subst (λ (n : ℕ). event_at streams m.pid n ≡ Some m.event) says.index m.at) in
-            let earlier : IsEarlier y.0 y.1 l.pid l.index = elim (in_order y.0 l.pid y.1 l.index tests.1) [
+            let earlier : IsEarlier y.0 y.1 l.pid l.index =
+            elim (in_order y.0 l.pid y.1 l.index tests.1) [
               | inl before ↦ before
               | inr after ↦
                   let place : IsEarlier l.pid l.index m.pid m.index =
@@ -546,11 +572,13 @@ module _ (top : ℕ) (streams : List Stream) (sound : IsStreams streams) where
       let e = l.event in
       elim (stamp_of streams e.from e.serial.this)
       as (λ o. stamp_of streams e.from e.serial.this ≡ o → option_and_then (λ (f : ℕ × Event).
-      if is_stamp e || agrees f.1 e then None else Some (fault.Mismatch l.pid l.index e.from f.0)) o ≡ Some x
+      if is_stamp e || agrees f.1 e then None else Some (fault.Mismatch l.pid l.index e.from f.0)) o
+      ≡ Some x
       → IsMeant x) [
         | None ↦ λ nothing gives. absurd (none-some x gives)
         | Some f ↦ λ is gives.
-            let parts = some_unless (is_stamp e || agrees f.1 e) (fault.Mismatch l.pid l.index e.from f.0) x gives in
+            let parts = some_unless (is_stamp e || agrees f.1 e)
+            (fault.Mismatch l.pid l.index e.from f.0) x gives in
             let tests = neither (is_stamp e) (agrees f.1 e) parts.0 in
             subst IsMeant parts.1 (reason_if l.pid l.index e (never.Mismatch e.from f.0) l.at
             (tests.0, refl, f.1, is, λ send. false≢true (sym tests.1 ∙ agrees_if f.1 e send))
@@ -563,7 +591,11 @@ module _ (top : ℕ) (streams : List Stream) (sound : IsStreams streams) where
       → (first rule streams ≡ None → first_rule streams rules ≡ Some x → IsMeant x)
       → first_rule streams (rule ∷ rules) ≡ Some x → IsMeant x
   by_rule x rule rules here rest h = elim (first rule streams) as (λ o. first rule streams ≡ o
-      → (let all : Option PairFault = elim o [ None ↦ first_rule streams rules | Some g ↦ Some g ] in all) ≡ Some x
+      → (let all : Option PairFault = elim o [
+        | None ↦ first_rule streams rules
+        | Some g ↦
+            Some g
+      ] in all) ≡ Some x
       → IsMeant x) [
         | None ↦ λ none h. rest none h
         | Some g ↦ λ is h. here (first_least rule streams x pids_rise (is ∙ h))
@@ -571,8 +603,10 @@ module _ (top : ℕ) (streams : List Stream) (sound : IsStreams streams) where
 
   pair_meant : (x : PairFault) → refusal streams ≡ Some x → IsMeant x
   pair_meant x =
-      by_rule x prev_not_before (not_rising streams ∷ repeated streams ∷ mismatch streams ∷ []) (prev_meant x) (λ none.
-      by_rule x (not_rising streams) (repeated streams ∷ mismatch streams ∷ []) (rising_meant x (record {
+      by_rule x prev_not_before (not_rising streams ∷ repeated streams ∷ mismatch streams ∷ [])
+      (prev_meant x) (λ none.
+      by_rule x (not_rising streams) (repeated streams ∷ mismatch streams ∷ [])
+      (rising_meant x (record {
         prev = λ less. none;
         rising = λ less. absurd (omega (arith, less));
         once = λ less. absurd (omega (arith, less));
@@ -614,11 +648,16 @@ module _ (top : ℕ) (streams : List Stream) (sound : IsStreams streams) where
       → ((q : Pid) (j : ℕ) → IsUnfounded streams q j → ⊥) → (n : ℕ) → n < 6 → AreQuiet n
   founded_quiet accepted timely founded zero less = late_quiet accepted timely 0 (omega arith)
   founded_quiet accepted timely founded (suc zero) less = late_quiet accepted timely 1 (omega arith)
-  founded_quiet accepted timely founded (suc (suc zero)) less = late_quiet accepted timely 2 (omega arith)
-  founded_quiet accepted timely founded (suc (suc (suc zero))) less = late_quiet accepted timely 3 (omega arith)
-  founded_quiet accepted timely founded (suc (suc (suc (suc zero)))) less = late_quiet accepted timely 4 (omega arith)
-  founded_quiet accepted timely founded (suc (suc (suc (suc (suc zero))))) less = λ q j f at. founded q j
-  founded_quiet accepted timely founded (suc (suc (suc (suc (suc (suc n)))))) less = absurd (omega (arith, less))
+  founded_quiet accepted timely founded (suc (suc zero)) less =
+      late_quiet accepted timely 2 (omega arith)
+  founded_quiet accepted timely founded (suc (suc (suc zero))) less =
+      late_quiet accepted timely 3 (omega arith)
+  founded_quiet accepted timely founded (suc (suc (suc (suc zero)))) less =
+      late_quiet accepted timely 4 (omega arith)
+  founded_quiet accepted timely founded (suc (suc (suc (suc (suc zero))))) less = λ q j f at.
+      founded q j
+  founded_quiet accepted timely founded (suc (suc (suc (suc (suc (suc n)))))) less =
+      absurd (omega (arith, less))
 
   pub reason_means : (p : Pid) (i : ℕ) (reason : Never) → IsFoundReason top streams p i reason
       → IsReason top streams p i reason

@@ -88,7 +88,8 @@ pub record IsReason (top : ℕ) (streams : List Stream) (p : Pid) (i : ℕ) (rea
   pub first : (other : Never) (q : Pid) (j : ℕ) (f : Event) → event_at streams q j ≡ Some f
       → IsAgainst top streams q j f other → reason_rank reason ≤ reason_rank other
   pub least : (other : Never) (q : Pid) (j : ℕ) (f : Event) → event_at streams q j ≡ Some f
-      → IsAgainst top streams q j f other → reason_rank reason ≡ reason_rank other → ¬ IsEarlier q j p i
+      → IsAgainst top streams q j f other → reason_rank reason ≡ reason_rank other
+      → ¬ IsEarlier q j p i
 
 -- THE RESULTS
 
@@ -125,8 +126,8 @@ pub record IsNever (top : ℕ) (streams : List Stream) (p : Pid) (i : ℕ) (reas
   pub holds : IsReason top streams p i reason
   pub final : IsFinal top streams reason
 
--- these acts show the streams without a reset and are at most so many, and the checker's yes has these
--- pairs
+-- these acts show the streams without a reset and are at most so many, and the checker's yes has
+-- these pairs
 pub record IsCertificate (top : ℕ) (streams : List Stream) (most : ℕ) (found : Certificate)
     : Type 0 where
   pub verdict : IsVerdict top streams found.acts (Yes found.pairs)

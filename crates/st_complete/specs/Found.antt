@@ -28,7 +28,8 @@ pub record IsLastHigherAt (streams : List Stream) (p : Pid) (i j : ℕ) : Type 0
   pub last : (k : ℕ) (f : Event) → j < k → k < i → event_at streams p k ≡ Some f
       → f.serial.this < event.serial.this
 
--- event i of p is the first that is late, and event j the last receive before it that counts no lower
+-- event i of p is the first that is late, and event j the last receive before it that counts no
+-- lower
 pub record IsFirstLate (streams : List Stream) (p : Pid) (i j : ℕ) : Type 0 where
   pub accepted : refusal streams ≡ None
   pub least : IsLeastPlace (HoldsAt is_late streams) p i

@@ -1,6 +1,7 @@
--- A worked run: the premises of the law, computed. Nothing cites this file; it shows that the definitions say what is
--- meant.
-use Rattle.std.specs.Prelude.{◌≡◌, ℕ, ◌&&◌, ◌||◌, Bool, true, false, not, List, [], ◌∷◌, ◌++◌, Option, Some, None}
+-- A worked run: the premises of the law, computed. Nothing cites this file; it shows that the
+-- definitions say what is meant.
+use Rattle.std.specs.Prelude.{◌≡◌, ℕ, ◌&&◌, ◌||◌, Bool, true, false, not, List, [], ◌∷◌, ◌++◌}
+use Rattle.std.specs.Prelude.{Option, Some, None}
 use Rattle.std.specs.Prelude.{is_some}
 use Rattle.std.proofs.Common.{refl, sym, ◌∙◌, ap, arith, sum_by}
 use Rattle.std.specs.List.{count_by}
@@ -29,7 +30,8 @@ use Rattle.st_plan.specs.Marks.{all_streams, Marked, Whole}
 use Rattle.st_completions.specs.Completion.{completion}
 use Rattle.st_completions.specs.Needs.{is_late, is_need, is_rootless}
 use Rattle.st_completions.specs.Reasons.{Late, StandsAgainst, TooHigh, Unfounded, Unsent}
-use Rattle.st_completions.specs.Renumbering.{count_of_rank, counts_of, renumbered_streams, with_counts}
+use Rattle.st_completions.specs.Renumbering.{count_of_rank, counts_of, renumbered_streams}
+use Rattle.st_completions.specs.Renumbering.{with_counts}
 use Rattle.st_completions.specs.Supply.{excess, is_free}
 use Rattle.st_completions.specs.Wholes.{wholes_of}
 use Rattle.st_completions.proofs.ReasonsOfCompletions.{shown_nothing}
@@ -197,8 +199,8 @@ is_plain : IsPlain 9 streams
 unfolding shown
 is_plain = full_plain 9 streams acts shown ((refl, tt), (tt, tt)) no_reset everything
 
--- Without 'every stamp' it doesn't hold: two processes send before they receive, and don't report the sends. The worked
--- cases of st_plan show that a move of theirs is uncaused.
+-- Without 'every stamp' it doesn't hold: two processes send before they receive, and don't report
+-- the sends. The worked cases of st_plan show that a move of theirs is uncaused.
 abbrev crossing : List Stream
 crossing =
     of a (got 1 0 1 b a 4 ∷ [])
@@ -225,7 +227,8 @@ crossing_shown : Shows 9 crossing crossing_acts
 crossing_shown = (
   crossing_outcomes,
   refl,
-  All-from_recursion (λ (x : Stream). stream crossing_acts crossing_outcomes x.pid ≡ x.events) crossing
+  All-from_recursion (λ (x : Stream). stream crossing_acts crossing_outcomes x.pid ≡ x.events)
+      crossing
       (refl, (refl, tt)),
 )
 
@@ -304,7 +307,8 @@ added e = record { event = e; told = false }
 abbrev whole : Pid → List Marked → Whole
 whole p ms = record { pid = p; marked = ms }
 
--- The reported send that nobody received serves the need of 3: its receive is put right before the need.
+-- The reported send that nobody received serves the need of 3: its receive is put right before the
+-- need.
 own_completed : completion own_streams
     ≡ whole a (
     told_event (printed 1 0 3 a 1)
@@ -357,7 +361,8 @@ twice =
     ∷ of b []
     ∷ []
 
-twice_needs : (sum_by (excess twice 3) (pids_of twice) ≡ 2) × (count_by (is_free twice 3) (pids_of twice) ≡ 1)
+twice_needs : (sum_by (excess twice 3) (pids_of twice) ≡ 2)
+    × (count_by (is_free twice 3) (pids_of twice) ≡ 1)
 twice_needs = (refl, refl)
 
 twice_unsent : StandsAgainst 9 twice (Unsent 3)
@@ -379,8 +384,8 @@ late = record { event = printed 1 0 2 a 5; at = refl; holds = refl }
 too_high : StandsAgainst 2 (after_receive (printed 1 3 5 a 5)) (TooHigh a 0)
 too_high = record { event = got 1 0 3 b a 4; at = refl; holds = refl }
 
--- The print of b begins a trace at clock 2. A send of 3 before it would lift the clock above 2, so it is the send that
--- begins the trace.
+-- The print of b begins a trace at clock 2. A send of 3 before it would lift the clock above 2, so
+-- it is the send that begins the trace.
 abbrev begun : List Stream
 begun =
     of a alone
@@ -417,7 +422,8 @@ itself_completed = refl
 -- Computed of each of these: pairing accepts all events, and none of them is late or a need.
 abbrev is_clean : List Event → List Event → Bool
 is_clean before [] = true
-is_clean before (e ∷ es) = not (is_late before e || is_need before e) && is_clean (before ++ e ∷ []) es
+is_clean before (e ∷ es) = not (is_late before e || is_need before e)
+    && is_clean (before ++ e ∷ []) es
 
 abbrev are_clean : List Stream → Bool
 are_clean [] = true

@@ -1,8 +1,11 @@
--- Streams have a run without a reset exactly if their hidden sends have places at which no reason holds. From a run:
--- its full completion has each hidden send somewhere, and with these alone told its streams are shown too, so that no
--- reason holds of them. To a run: what has no reason has a completion, which completes the streams as well.
-use Rattle.std.proofs.Common.{◌≡◌, ◌↔◌, ℕ, zero, suc, ◌&&◌, ◌||◌, Bool, true, false, cond, List, [], ◌∷◌, map, filter}
-use Rattle.std.proofs.Common.{◌+◌, ◌==◌, Option, Some, None, find, is_some, option_and_then, slice_get}
+-- Streams have a run without a reset exactly if their hidden sends have places at which no reason
+-- holds. From a run: its full completion has each hidden send somewhere, and with these alone told
+-- its streams are shown too, so that no reason holds of them. To a run: what has no reason has a
+-- completion, which completes the streams as well.
+use Rattle.std.proofs.Common.{◌≡◌, ◌↔◌, ℕ, zero, suc, ◌&&◌, ◌||◌, Bool, true, false, cond, List, []}
+use Rattle.std.proofs.Common.{◌∷◌, map, filter}
+use Rattle.std.proofs.Common.{◌+◌, ◌==◌, Option, Some, None, find, is_some, option_and_then}
+use Rattle.std.proofs.Common.{slice_get}
 use Rattle.std.proofs.Common.{refl, sym, ◌∙◌, ap, subst, take}
 use Rattle.std.proofs.lemmas.Bool.{false≢true, and_from, and_parts, eq-eqb, eqb-true, or_parts}
 use Rattle.std.proofs.lemmas.Option.{none-some, same_Some}
@@ -17,8 +20,10 @@ use Rattle.st_pair.specs.declared.answer.PairFault.TheVariants as fault
 use Rattle.st_pair.specs.declared.answer.Source.{Source}
 use Rattle.st_pair.specs.declared.answer.Source.TheVariants as source
 use Rattle.st_pair.specs.Places.{event_at, is_stamp}
-use Rattle.st_pair.specs.Pairing.{agrees, is_send, mismatch, receive_of, refusal, source_of, stamp_of}
-use Rattle.st_pair.proofs.ForCallers.{cond_none, event_none, from_none, given_from, once_place, own_rule, paired}
+use Rattle.st_pair.specs.Pairing.{agrees, is_send, mismatch, receive_of, refusal, source_of}
+use Rattle.st_pair.specs.Pairing.{stamp_of}
+use Rattle.st_pair.proofs.ForCallers.{cond_none, event_none, from_none, given_from, once_place}
+use Rattle.st_pair.proofs.ForCallers.{own_rule, paired}
 use Rattle.st_pair.proofs.ForCallers.{refused_never_shown}
 use Rattle.st_order.specs.Items.{is_hidden}
 use Rattle.st_plan.specs.Marks.{all_streams, Marked, told_events, told_streams, Whole}
@@ -48,13 +53,15 @@ pub record IsSomewhere {X : Type 0} (xs : List X) (x : X) : Type 0 where
 pub later : {X : Type 0} (y : X) (xs : List X) (x : X) → IsSomewhere xs x → IsSomewhere (y ∷ xs) x
 later y xs x s = record { index = suc s.index; at = s.at }
 
-filtered : {X : Type 0} (test : X → Bool) (xs : List X) (k : ℕ) (x : X) → slice_get xs k ≡ Some x → test x ≡ true
+filtered : {X : Type 0} (test : X → Bool) (xs : List X) (k : ℕ) (x : X) → slice_get xs k ≡ Some x
+    → test x ≡ true
     → IsSomewhere (filter test xs) x
 filtered test [] k x at passes = absurd (none-some x at)
 filtered {X} test (y ∷ xs) zero x at passes =
     let same = same_Some y x at in
     let here : test y ≡ true = ap test same ∙ passes in
-    subst (λ (ys : List X). IsSomewhere ys x) (ap (λ b. cond b (y ∷ filter test xs) (filter test xs)) (sym here))
+    subst (λ (ys : List X). IsSomewhere ys x) (ap (λ b.
+    cond b (y ∷ filter test xs) (filter test xs)) (sym here))
     (record { index = 0; at = at })
 filtered {X} test (y ∷ xs) (suc k) x at passes =
     let rest = filtered test xs k x at passes in
@@ -69,32 +76,38 @@ record IsKept {X : Type 0} (test : X → Bool) (xs : List X) (x : X) : Type 0 wh
   at : slice_get xs index ≡ Some x
   passes : test x ≡ true
 
-kept_later : {X : Type 0} (test : X → Bool) (y : X) (xs : List X) (x : X) → IsKept test xs x → IsKept test (y ∷ xs) x
+kept_later : {X : Type 0} (test : X → Bool) (y : X) (xs : List X) (x : X) → IsKept test xs x
+    → IsKept test (y ∷ xs) x
 kept_later test y xs x s = record { index = suc s.index; at = s.at; passes = s.passes }
 
-unfiltered : {X : Type 0} (test : X → Bool) (xs : List X) (k : ℕ) (x : X) → slice_get (filter test xs) k ≡ Some x
+unfiltered : {X : Type 0} (test : X → Bool) (xs : List X) (k : ℕ) (x : X)
+    → slice_get (filter test xs) k ≡ Some x
     → IsKept test xs x
 unfiltered test [] k x at = absurd (none-some x at)
 unfiltered {X} test (y ∷ xs) k x at =
-    elim (test y) as (λ b. test y ≡ b → slice_get (cond b (y ∷ filter test xs) (filter test xs)) k ≡ Some x
+    elim (test y) as (λ b. test y ≡ b → slice_get (cond b (y ∷ filter test xs) (filter test xs)) k
+    ≡ Some x
     → IsKept test (y ∷ xs) x) [
       | false ↦ λ _ at. kept_later test y xs x (unfiltered test xs k x at)
-      | true ↦ λ passes at. elim k as (λ k. slice_get (y ∷ filter test xs) k ≡ Some x → IsKept test (y ∷ xs) x) [
-        | zero ↦ λ at.
-            let same = same_Some y x at in
-            record { index = 0; at = at; passes = ap test (sym same) ∙ passes }
-        | suc j ↦ λ at. kept_later test y xs x (unfiltered test xs j x at)
-      ] at
+      | true ↦ λ passes at. elim k as (λ k. slice_get (y ∷ filter test xs) k ≡ Some x
+          → IsKept test (y ∷ xs) x) [
+            | zero ↦ λ at.
+                let same = same_Some y x at in
+                record { index = 0; at = at; passes = ap test (sym same) ∙ passes }
+            | suc j ↦ λ at. kept_later test y xs x (unfiltered test xs j x at)
+          ] at
     ] refl at
 
 -- a told one is among the told events
-pub told_somewhere : (ms : List Marked) (k : ℕ) (m : Marked) → slice_get ms k ≡ Some m → m.told ≡ true
+pub told_somewhere : (ms : List Marked) (k : ℕ) (m : Marked) → slice_get ms k ≡ Some m
+    → m.told ≡ true
     → IsSomewhere (told_events ms) m.event
 told_somewhere [] k m at told = absurd (none-some m at)
 told_somewhere (n ∷ ms) zero m at told =
     let same = same_Some n m at in
     let here : n.told ≡ true = ap (λ (x : Marked). x.told) same ∙ told in
-    subst (λ es. IsSomewhere es m.event) (ap (λ b. cond b (n.event ∷ told_events ms) (told_events ms)) (sym here))
+    subst (λ es. IsSomewhere es m.event) (ap (λ b. cond b (n.event ∷ told_events ms)
+    (told_events ms)) (sym here))
     (record { index = 0; at = ap (λ (x : Marked). Some x.event) same })
 told_somewhere (n ∷ ms) (suc k) m at told =
     let rest = told_somewhere ms k m at told in
@@ -109,7 +122,8 @@ pub record IsMarkedAt (ms : List Marked) (k : ℕ) (e : Event) : Type 0 where
   pub at : slice_get ms k ≡ Some mark
   pub is : mark.event ≡ e
 
-pub mark_at : (ms : List Marked) (k : ℕ) (e : Event) → slice_get (events ms) k ≡ Some e → IsMarkedAt ms k e
+pub mark_at : (ms : List Marked) (k : ℕ) (e : Event) → slice_get (events ms) k ≡ Some e
+    → IsMarkedAt ms k e
 mark_at [] k e at = absurd (none-some e at)
 mark_at (m ∷ ms) zero e at = record { mark = m; at = refl; is = same_Some m.event e at }
 mark_at (m ∷ ms) (suc k) e at =
@@ -134,10 +148,12 @@ module _ (streams : List Stream) where
   abbrev retold : List Whole → List Whole
   retold wholes = map (λ w. record { pid = w.pid; marked = map (mark w.pid) w.marked }) wholes
 
-  marked_retold : (wholes : List Whole) (p : Pid) → marked_of (retold wholes) p ≡ map (mark p) (marked_of wholes p)
+  marked_retold : (wholes : List Whole) (p : Pid) → marked_of (retold wholes) p
+      ≡ map (mark p) (marked_of wholes p)
   marked_retold [] p = refl
   marked_retold (w ∷ wholes) p =
-      let out = λ (o : Option Whole). let ms : List Marked = elim o [ None ↦ [] | Some x ↦ x.marked ] in ms in
+      let out = λ (o : Option Whole). let ms : List Marked =
+      elim o [ None ↦ [] | Some x ↦ x.marked ] in ms in
       let again : Whole = record { pid = w.pid; marked = map (mark w.pid) w.marked } in
       elim (pid_eq w.pid p) as (λ b. pid_eq w.pid p ≡ b
       → out (cond b (Some again) (find (λ (x : Whole). pid_eq x.pid p) (retold wholes)))
@@ -147,7 +163,8 @@ module _ (streams : List Stream) where
       ] refl
 
   -- what is marked anew was marked before
-  marked_before : (p : Pid) (ms : List Marked) (k : ℕ) (n : Marked) → slice_get (map (mark p) ms) k ≡ Some n
+  marked_before : (p : Pid) (ms : List Marked) (k : ℕ) (n : Marked)
+      → slice_get (map (mark p) ms) k ≡ Some n
       → (m : Marked) × ((slice_get ms k ≡ Some m) × (mark p m ≡ n))
   marked_before p [] k n at = absurd (none-some n at)
   marked_before p (m ∷ ms) zero n at = (m, (refl, same_Some (mark p m) n at))
@@ -157,10 +174,12 @@ module _ (streams : List Stream) where
   told_kept p [] = refl
   told_kept p (m ∷ ms) =
       elim m.told as (λ b. m.told ≡ b
-      → told_events (cond (b || is_taken streams p m.event) (m ∷ filter (keep p) ms) (filter (keep p) ms))
+      → told_events (cond (b || is_taken streams p m.event) (m ∷ filter (keep p) ms)
+      (filter (keep p) ms))
       ≡ cond b (m.event ∷ told_events ms) (told_events ms)) [
         | true ↦ λ told.
-            ap (λ b. cond b (m.event ∷ told_events (filter (keep p) ms)) (told_events (filter (keep p) ms))) told
+            ap (λ b. cond b (m.event ∷ told_events (filter (keep p) ms))
+            (told_events (filter (keep p) ms))) told
             ∙ ap (λ es. m.event ∷ es) (told_kept p ms)
         | false ↦ λ untold. elim (is_taken streams p m.event) as (λ b.
             told_events (cond b (m ∷ filter (keep p) ms) (filter (keep p) ms)) ≡ told_events ms) [
@@ -175,14 +194,18 @@ module _ (streams : List Stream) where
   told_chosen : (wholes : List Whole) → told_streams (chosen wholes) ≡ told_streams wholes
   told_chosen [] = refl
   told_chosen (w ∷ wholes) =
-      ap (λ es. let s : Stream = record { pid = w.pid; events = es } in s ∷ told_streams (chosen wholes))
+      ap (λ es. let s : Stream = record { pid = w.pid; events = es } in
+      s ∷ told_streams (chosen wholes))
       (told_kept w.pid w.marked)
-      ∙ ap (λ ss. let s : Stream = record { pid = w.pid; events = told_events w.marked } in s ∷ ss) (told_chosen wholes)
+      ∙ ap (λ ss. let s : Stream = record { pid = w.pid; events = told_events w.marked } in s ∷ ss)
+      (told_chosen wholes)
 
-  kept_told : (p : Pid) (ms : List Marked) → told_events (map (mark p) ms) ≡ events (filter (keep p) ms)
+  kept_told : (p : Pid) (ms : List Marked) → told_events (map (mark p) ms)
+      ≡ events (filter (keep p) ms)
   kept_told p [] = refl
   kept_told p (m ∷ ms) =
-      elim (keep p m) as (λ b. cond b (m.event ∷ told_events (map (mark p) ms)) (told_events (map (mark p) ms))
+      elim (keep p m) as (λ b. cond b (m.event ∷ told_events (map (mark p) ms))
+      (told_events (map (mark p) ms))
       ≡ events (cond b (m ∷ filter (keep p) ms) (filter (keep p) ms))) [
         | true ↦ ap (λ es. m.event ∷ es) (kept_told p ms)
         | false ↦ kept_told p ms
@@ -191,9 +214,14 @@ module _ (streams : List Stream) where
   told_retold : (wholes : List Whole) → told_streams (retold wholes) ≡ all_streams (chosen wholes)
   told_retold [] = refl
   told_retold (w ∷ wholes) =
-      ap (λ es. let s : Stream = record { pid = w.pid; events = es } in s ∷ told_streams (retold wholes))
+      ap (λ es. let s : Stream = record { pid = w.pid; events = es } in
+      s ∷ told_streams (retold wholes))
       (kept_told w.pid w.marked)
-      ∙ ap (λ ss. let s : Stream = record { pid = w.pid; events = events (filter (keep w.pid) w.marked) } in s ∷ ss)
+      ∙ ap (λ ss. let s : Stream = record {
+        pid = w.pid;
+        events =
+            events (filter (keep w.pid) w.marked);
+      } in s ∷ ss)
       (told_retold wholes)
 
   events_marked : (p : Pid) (ms : List Marked) → events (map (mark p) ms) ≡ events ms
@@ -203,14 +231,18 @@ module _ (streams : List Stream) where
   all_retold : (wholes : List Whole) → all_streams (retold wholes) ≡ all_streams wholes
   all_retold [] = refl
   all_retold (w ∷ wholes) =
-      ap (λ es. let s : Stream = record { pid = w.pid; events = es } in s ∷ all_streams (retold wholes))
+      ap (λ es. let s : Stream = record { pid = w.pid; events = es } in
+      s ∷ all_streams (retold wholes))
       (events_marked w.pid w.marked)
-      ∙ ap (λ ss. let s : Stream = record { pid = w.pid; events = events w.marked } in s ∷ ss) (all_retold wholes)
+      ∙ ap (λ ss. let s : Stream = record { pid = w.pid; events = events w.marked } in s ∷ ss)
+      (all_retold wholes)
 
-  marked_chosen : (wholes : List Whole) (p : Pid) → marked_of (chosen wholes) p ≡ filter (keep p) (marked_of wholes p)
+  marked_chosen : (wholes : List Whole) (p : Pid) → marked_of (chosen wholes) p
+      ≡ filter (keep p) (marked_of wholes p)
   marked_chosen [] p = refl
   marked_chosen (w ∷ wholes) p =
-      let out = λ (o : Option Whole). let ms : List Marked = elim o [ None ↦ [] | Some x ↦ x.marked ] in ms in
+      let out = λ (o : Option Whole). let ms : List Marked =
+      elim o [ None ↦ [] | Some x ↦ x.marked ] in ms in
       let cut : Whole = record { pid = w.pid; marked = filter (keep w.pid) w.marked } in
       elim (pid_eq w.pid p) as (λ b. pid_eq w.pid p ≡ b
       → out (cond b (Some cut) (find (λ (x : Whole). pid_eq x.pid p) (chosen wholes)))
@@ -239,7 +271,8 @@ send_stamps e send = elim e.kind as (λ k.
       | kind.Print ↦ λ _. refl
     ] send
 
-told_alone : (told send : Bool) (more : Bool) → send ≡ false → (told || (send && more)) ≡ true → told ≡ true
+told_alone : (told send : Bool) (more : Bool) → send ≡ false → (told || (send && more)) ≡ true
+    → told ≡ true
 told_alone true send more none h = refl
 told_alone false true more none h = absurd (false≢true (sym none))
 told_alone false false more none h = h
@@ -261,22 +294,27 @@ stamp_found streams q j f at stamps none =
     (eq-eqb f.serial.this f.serial.this refl) in
     none-some (0 + j, f) (sym given ∙ ap (λ b. cond b (Some (0 + j, f)) None) test)
 
-pub not_hidden : (streams : List Stream) (e : Event) → (stamp_of streams e.from e.serial.this ≡ None → ⊥)
+pub not_hidden : (streams : List Stream) (e : Event)
+    → (stamp_of streams e.from e.serial.this ≡ None → ⊥)
     → is_hidden streams e ≡ false
 not_hidden streams e there =
     let from = λ (o : Option (ℕ × Event)). let s : Source =
     elim o [ None ↦ source.Hidden | Some f ↦ source.Event e.from f.0 ] in s in
     let test = λ (o : Option (ℕ × Event)). let is : Bool =
-    cond (is_stamp e) false (elim (from o) [ source.Hidden ↦ true | source.Event q j ↦ false ]) in is in
+    cond (is_stamp e) false (elim (from o) [ source.Hidden ↦ true | source.Event q j ↦ false ]) in
+    is in
     elim (stamp_of streams e.from e.serial.this) as (λ o. stamp_of streams e.from e.serial.this ≡ o
     → test o ≡ false) [
       | None ↦ λ is. absurd (there is)
-      | Some f ↦ λ _. elim (is_stamp e) as (λ b. cond b false false ≡ false) [ true ↦ refl | false ↦ refl ]
+      | Some f ↦ λ _. elim (is_stamp e) as (λ b. cond b false false ≡ false)
+          [ true ↦ refl | false ↦ refl ]
     ] refl
 
-pub hidden_stamp : (streams : List Stream) (e : Event) → is_stamp e ≡ true → is_hidden streams e ≡ false
+pub hidden_stamp : (streams : List Stream) (e : Event) → is_stamp e ≡ true
+    → is_hidden streams e ≡ false
 hidden_stamp streams e stamps =
-    let receive = λ (s : Source). let is : Bool = elim s [ source.Hidden ↦ true | source.Event q j ↦ false ] in is in
+    let receive = λ (s : Source). let is : Bool = elim s
+    [ source.Hidden ↦ true | source.Event q j ↦ false ] in is in
     ap (λ b. cond b false (receive (source_of streams e))) stamps
 
 -- the send of a receive that isn't hidden: its place, and that it is the receive's
@@ -289,25 +327,31 @@ record IsSent (streams : List Stream) (e : Event) : Type 0 where
   send : is_send event ≡ true
 
 sent_of : (streams : List Stream) → refusal streams ≡ None → (p : Pid) (i : ℕ) (e : Event)
-    → event_at streams p i ≡ Some e → is_stamp e ≡ false → is_hidden streams e ≡ false → IsSent streams e
+    → event_at streams p i ≡ Some e → is_stamp e ≡ false → is_hidden streams e ≡ false
+    → IsSent streams e
 sent_of streams accepted p i e at receive shown =
     let sought = stamp_of streams e.from e.serial.this in
     let hidden = λ (o : Option (ℕ × Event)). let s : Source =
     elim o [ None ↦ source.Hidden | Some f ↦ source.Event e.from f.0 ] in
     let is : Bool = elim s [ source.Hidden ↦ true | source.Event q j ↦ false ] in is in
-    let shows : hidden sought ≡ false = ap (λ b. cond b false (hidden sought)) (sym receive) ∙ shown in
-    let matched = event_none (mismatch streams) streams (paired streams accepted).matched p i e at in
+    let shows : hidden sought ≡ false = ap (λ b. cond b false (hidden sought)) (sym receive)
+    ∙ shown in
+    let matched = event_none (mismatch streams) streams (paired streams accepted).matched p i e
+    at in
     elim sought as (λ o. sought ≡ o → hidden o ≡ false
     → option_and_then (λ (f : ℕ × Event). cond (is_stamp e || agrees f.1 e) None
     (Some (fault.Mismatch p i e.from f.0))) o
     ≡ None → IsSent streams e) [
       | None ↦ λ _ h _. absurd (false≢true (sym h))
       | Some f ↦ λ is _ matched.
-          let given = given_from (own_rule e.serial.this) e.from 0 (events_of streams e.from) f is in
+          let given = given_from (own_rule e.serial.this) e.from 0 (events_of streams e.from) f
+          is in
           let g = given.1 in
-          let says = given_if (is_stamp g && g.serial.this == e.serial.this) (0 + given.0, g) f given.3 in
+          let says = given_if (is_stamp g && g.serial.this == e.serial.this) (0 + given.0, g) f
+          given.3 in
           let parts = and_parts (is_stamp g) (g.serial.this == e.serial.this) says.0 in
-          let fits = cond_none (is_stamp e || agrees f.1 e) (fault.Mismatch p i e.from f.0) matched in
+          let fits = cond_none (is_stamp e || agrees f.1 e) (fault.Mismatch p i e.from f.0)
+          matched in
           let agree : agrees f.1 e ≡ true = ap (λ b. b || agrees f.1 e) (sym receive) ∙ fits in
           let same : f.1 ≡ g = ap (λ (z : ℕ × Event). z.1) (sym says.1) in
           record {
@@ -324,7 +368,8 @@ pids_all : (wholes : List Whole) → pids_of (all_streams wholes) ≡ pids_of (t
 pids_all [] = refl
 pids_all (w ∷ wholes) = ap (λ ps. w.pid ∷ ps) (pids_all wholes)
 
-module _ (top : ℕ) (streams : List Stream) (rising : IsRising (pids_of streams)) (accepted : refusal streams ≡ None)
+module _ (top : ℕ) (streams : List Stream) (rising : IsRising (pids_of streams))
+    (accepted : refusal streams ≡ None)
     (full : IsCompleted IsFull top streams) where
   abbrev wholes : List Whole
   wholes = full.wholes
@@ -333,12 +378,13 @@ module _ (top : ℕ) (streams : List Stream) (rising : IsRising (pids_of streams
   picked = chosen streams wholes
 
   shown_chosen : IsShownInOneTrace top (all_streams picked)
-  shown_chosen = settled_shown top (all_streams picked) (full_settled top (all_streams picked) (record {
-    wholes = retold streams wholes;
-    told = told_retold streams wholes;
-    sound = subst IsStreams (sym (all_retold streams wholes)) full.sound;
-    is = subst (IsFull top) (sym (all_retold streams wholes)) full.is;
-  }))
+  shown_chosen = settled_shown top (all_streams picked)
+      (full_settled top (all_streams picked) (record {
+        wholes = retold streams wholes;
+        told = told_retold streams wholes;
+        sound = subst IsStreams (sym (all_retold streams wholes)) full.sound;
+        is = subst (IsFull top) (sym (all_retold streams wholes)) full.is;
+      }))
 
   told_picked : told_streams picked ≡ streams
   told_picked = told_chosen streams wholes ∙ full.told
@@ -347,12 +393,14 @@ module _ (top : ℕ) (streams : List Stream) (rising : IsRising (pids_of streams
   rising_picked = subst IsRising (sym (pids_all picked ∙ ap pids_of told_picked)) rising
 
   accepted_picked : refusal (all_streams picked) ≡ None
-  accepted_picked = elim (refusal (all_streams picked)) as (λ o. refusal (all_streams picked) ≡ o → o ≡ None) [
-    | None ↦ λ _. refl
-    | Some f ↦ λ is.
-        absurd (refused_never_shown (all_streams picked) f is top shown_chosen.acts shown_chosen.one_trace
-        shown_chosen.shows)
-  ] refl
+  accepted_picked = elim (refusal (all_streams picked))
+      as (λ o. refusal (all_streams picked) ≡ o → o ≡ None) [
+        | None ↦ λ _. refl
+        | Some f ↦ λ is.
+            absurd (refused_never_shown (all_streams picked) f is top shown_chosen.acts
+            shown_chosen.one_trace
+            shown_chosen.shows)
+      ] refl
 
   -- an event of the chosen ones, with its mark among all
   record IsPicked (p : Pid) (e : Event) : Type 0 where
@@ -362,12 +410,14 @@ module _ (top : ℕ) (streams : List Stream) (rising : IsRising (pids_of streams
     is : mark.event ≡ e
     kept : keep streams p mark ≡ true
 
-  of_picked : (p : Pid) (i : ℕ) (e : Event) → event_at (all_streams picked) p i ≡ Some e → IsPicked p e
+  of_picked : (p : Pid) (i : ℕ) (e : Event) → event_at (all_streams picked) p i ≡ Some e
+      → IsPicked p e
   of_picked p i e at =
       let ms = marked_of wholes p in
       let cut = filter (keep streams p) ms in
       let there : slice_get (events cut) i ≡ Some e =
-      ap (λ es. slice_get es i) (sym (events_all picked p ∙ ap events (marked_chosen streams wholes p))) ∙ at in
+      ap (λ es. slice_get es i) (sym (events_all picked p
+      ∙ ap events (marked_chosen streams wholes p))) ∙ at in
       let m = mark_at cut i e there in
       let k = unfiltered (keep streams p) ms i m.mark m.at in
       record { index = k.index; mark = m.mark; at = k.at; is = m.is; kept = k.passes }
@@ -375,11 +425,15 @@ module _ (top : ℕ) (streams : List Stream) (rising : IsRising (pids_of streams
   to_picked : (p : Pid) (k : ℕ) (m : Marked) → slice_get (marked_of wholes p) k ≡ Some m
       → keep streams p m ≡ true → (j : ℕ) × (event_at (all_streams picked) p j ≡ Some m.event)
   to_picked p k m at kept =
-      let s = filtered (keep streams p) (marked_of wholes p) k m at kept in
-      (s.index, at_mark picked p s.index m (ap (λ ms. slice_get ms s.index) (marked_chosen streams wholes p) ∙ s.at))
+      let s = filtered (keep streams p) (marked_of wholes p) k m at kept in (
+        s.index,
+        at_mark picked p s.index m (ap (λ ms. slice_get ms s.index)
+            (marked_chosen streams wholes p) ∙ s.at),
+      )
 
   -- a receive of the chosen ones is one of the streams, and its send is kept
-  received : (p : Pid) (i : ℕ) (e : Event) → event_at (all_streams picked) p i ≡ Some e → is_stamp e ≡ false
+  received : (p : Pid) (i : ℕ) (e : Event) → event_at (all_streams picked) p i ≡ Some e
+      → is_stamp e ≡ false
       → is_hidden (all_streams picked) e ≡ false
   received p i e at receive =
       let o = of_picked p i e at in
@@ -404,25 +458,30 @@ module _ (top : ℕ) (streams : List Stream) (rising : IsRising (pids_of streams
       let got : is_some (receive_of streams e.from g.mark.event.serial.this) ≡ true =
       ap (λ n. is_some (receive_of streams e.from n)) count ∙ ap is_some taken in
       let kept = or_right g.mark.told (is_taken streams e.from g.mark.event)
-      (and_from (is_send g.mark.event) (is_some (receive_of streams e.from g.mark.event.serial.this)) send got) in
+      (and_from (is_send g.mark.event) (is_some (receive_of streams e.from
+      g.mark.event.serial.this)) send got) in
       let there = to_picked e.from sent.index g.mark g.at kept in
-      not_hidden (all_streams picked) e (λ none. stamp_found (all_streams picked) e.from there.0 g.mark.event there.1
-      (ap is_stamp g.is ∙ sent.stamps) (ap (λ n. stamp_of (all_streams picked) e.from n) count ∙ none))
+      not_hidden (all_streams picked) e (λ none. stamp_found (all_streams picked) e.from there.0
+      g.mark.event there.1
+      (ap is_stamp g.is ∙ sent.stamps) (ap (λ n. stamp_of (all_streams picked) e.from n) count
+      ∙ none))
 
   is_choice : IsChoice streams picked
   is_choice = record {
     told = told_picked;
-    sound = shown_are_streams top (all_streams picked) shown_chosen.acts rising_picked shown_chosen.shows;
+    sound = shown_are_streams top (all_streams picked) shown_chosen.acts rising_picked
+        shown_chosen.shows;
     taken = λ p k m at untold.
         let from = unfiltered (keep streams p) (marked_of wholes p) k m
         (ap (λ ms. slice_get ms k) (sym (marked_chosen streams wholes p)) ∙ at) in
         untold_taken m.told (is_taken streams p m.event) untold from.passes;
     each = record {
       accepted = accepted_picked;
-      reported = λ p i e at. elim (is_stamp e) as (λ b. is_stamp e ≡ b → is_hidden (all_streams picked) e ≡ false) [
-        | true ↦ λ stamps. hidden_stamp (all_streams picked) e stamps
-        | false ↦ λ receive. received p i e at receive
-      ] refl;
+      reported = λ p i e at. elim (is_stamp e) as (λ b. is_stamp e ≡ b
+          → is_hidden (all_streams picked) e ≡ false) [
+            | true ↦ λ stamps. hidden_stamp (all_streams picked) e stamps
+            | false ↦ λ receive. received p i e at receive
+          ] refl;
     };
   }
 
@@ -436,7 +495,8 @@ module _ (top : ℕ) (streams : List Stream) (rising : IsRising (pids_of streams
             let same = told_retold streams wholes in
             let there = ap (λ ss. event_at ss p i) same ∙ at in
             let again = subst (IsFull top) (sym (all_retold streams wholes)) full.is in
-            let fed = (needs_fed top (retold streams wholes) again p i e there (ap test same ∙ need)).fed in
+            let fed = (needs_fed top (retold streams wholes) again p i e there
+            (ap test same ∙ need)).fed in
             let before = marked_before streams p (marked_of wholes p) fed.index _
             (ap (λ ms. slice_get ms fed.index) (sym (marked_retold streams wholes p)) ∙ fed.at) in
             let m = before.0 in
@@ -457,13 +517,17 @@ module _ (top : ℕ) (streams : List Stream) (rising : IsRising (pids_of streams
 
 -- THE EQUIVALENCE
 
-pub accepted_if_shown : (top : ℕ) (streams : List Stream) → IsShownInOneTrace top streams → refusal streams ≡ None
-accepted_if_shown top streams shown = elim (refusal streams) as (λ o. refusal streams ≡ o → o ≡ None) [
-  | None ↦ λ _. refl
-  | Some f ↦ λ is. absurd (refused_never_shown streams f is top shown.acts shown.one_trace shown.shows)
-] refl
+pub accepted_if_shown : (top : ℕ) (streams : List Stream) → IsShownInOneTrace top streams
+    → refusal streams ≡ None
+accepted_if_shown top streams shown = elim (refusal streams)
+    as (λ o. refusal streams ≡ o → o ≡ None) [
+      | None ↦ λ _. refl
+      | Some f ↦ λ is. absurd (refused_never_shown streams f is top shown.acts shown.one_trace
+          shown.shows)
+    ] refl
 
-pub shown_if_chosen : (top : ℕ) (streams : List Stream) → HasChoice top streams → IsShownInOneTrace top streams
+pub shown_if_chosen : (top : ℕ) (streams : List Stream) → HasChoice top streams
+    → IsShownInOneTrace top streams
 shown_if_chosen top streams has =
     let done = decided top (all_streams has.wholes) has.choice.sound has.choice.each has.none in
     subst (IsShownInOneTrace top) has.choice.told
@@ -472,6 +536,7 @@ shown_if_chosen top streams has =
 pub exactly_chosen : (top : ℕ) (streams : List Stream) → IsRising (pids_of streams)
     → IsShownInOneTrace top streams ↔ HasChoice top streams
 exactly_chosen top streams rising = (
-  λ shown. has_choice top streams rising (accepted_if_shown top streams shown) (shown_full top streams rising shown),
+  λ shown. has_choice top streams rising (accepted_if_shown top streams shown)
+      (shown_full top streams rising shown),
   shown_if_chosen top streams,
 )

@@ -1,6 +1,6 @@
--- The receives of the completion: if the send of each supply is told of, no two are of one sender and count, and
--- there are as many supplies of each count to each process as it has needs, the streams with all receives are good
--- and have no need.
+-- The receives of the completion: if the send of each supply is told of, no two are of one sender
+-- and count, and there are as many supplies of each count to each process as it has needs, the
+-- streams with all receives are good and have no need.
 use Rattle.std.proofs.Common.{◌≡◌, ℕ, suc, ◌+◌, ◌<◌, ◌==◌, ◌&&◌, Bool, true, false, cond, List, []}
 use Rattle.std.proofs.Common.{◌∷◌, ◌++◌, map, take, Option, Some, None, slice_get, refl, sym, ◌∙◌}
 use Rattle.std.proofs.Common.{ap, subst, arith, append-nil, append_assoc}
@@ -25,7 +25,8 @@ use Rattle.st_completions.proofs.GoodStreams.{IsGood, IsLack}
 use Rattle.st_completions.proofs.InsertedEvents.{more}
 use Rattle.st_completions.proofs.InsertedReceives.{fed, good_fed, IsSupply, needs_less}
 use Rattle.st_completions.proofs.InsertedReceives.{needs_others, own_else, supply_of}
-use Rattle.st_completions.proofs.CompletionSends.{AllApart, Apart, differs, differs_swap, IsOwn, own_stamp}
+use Rattle.st_completions.proofs.CompletionSends.{AllApart, Apart, differs, differs_swap, IsOwn}
+use Rattle.st_completions.proofs.CompletionSends.{own_stamp}
 
 -- THE FIRST NEED OF A COUNT
 
@@ -55,12 +56,14 @@ first_need v before (e ∷ es) some =
       | false ↦ λ is some.
           let rest = first_need v (before ++ e ∷ []) es (omega arith) in
           let there : place_of_need v before (e ∷ es) ≡ suc later =
-          ap (λ b. cond b 0 (1 + later)) is ∙ (let one : 1 + later ≡ suc later = omega arith in one) in
+          ap (λ b. cond b 0 (1 + later)) is ∙ (let one : 1 + later ≡ suc later = omega arith in
+          one) in
           record {
             event = rest.event;
             at = ap (slice_get (e ∷ es)) there ∙ rest.at;
             need = ap (λ n. is_need (before ++ take n (e ∷ es)) rest.event) there
-                ∙ ap (λ xs. is_need xs rest.event) (sym (append_assoc before (e ∷ []) (take later es))) ∙ rest.need;
+                ∙ ap (λ xs. is_need xs rest.event) (sym
+                (append_assoc before (e ∷ []) (take later es))) ∙ rest.need;
             prev = rest.prev;
           }
     ] refl some
@@ -77,9 +80,11 @@ one_if b = cond b 1 0
 record IsStep (top : ℕ) (before after : List Stream) (s : Supply) : Type 0 where
   good : IsGood top after
   needs_are : (w : ℕ) (z : Pid) → needs after w z + one_if (is_for w z s) ≡ needs before w z
-  own_else : (w : ℕ) (z y : Pid) → differs y w s ≡ false → is_own_supply after w z y ≡ is_own_supply before w z y
+  own_else : (w : ℕ) (z y : Pid) → differs y w s ≡ false
+      → is_own_supply after w z y ≡ is_own_supply before w z y
 
-module _ (top : ℕ) (s : Supply) (streams : List Stream) (good : IsGood top streams) (own : IsOwn streams s)
+module _ (top : ℕ) (s : Supply) (streams : List Stream) (good : IsGood top streams)
+    (own : IsOwn streams s)
     (some : 0 < needs streams (count_of s) s.to) where
   abbrev v : ℕ
   v = count_of s
@@ -91,10 +96,16 @@ module _ (top : ℕ) (s : Supply) (streams : List Stream) (good : IsGood top str
   e = first.event
 
   abbrev lack : IsLack streams s.to e
-  lack = record { index = place_of_need v [] (events_of streams s.to); at = first.at; need = first.need }
+  lack = record {
+    index = place_of_need v [] (events_of streams s.to);
+    at = first.at;
+    need =
+        first.need;
+  }
 
   supply : IsSupply streams e.serial.prev s.to s.from
-  supply = subst (λ w. IsSupply streams w s.to s.from) (sym first.prev) (supply_of streams v s.to s.from own)
+  supply = subst (λ w. IsSupply streams w s.to s.from) (sym first.prev)
+      (supply_of streams v s.to s.from own)
 
   abbrev after : List Stream
   after = fed top streams good s.to e lack s.from supply
@@ -107,7 +118,8 @@ module _ (top : ℕ) (s : Supply) (streams : List Stream) (good : IsGood top str
             (ap (λ n. needs after w s.to + one_if (n == w)) (sym first.prev)
             ∙ needs_less top streams good s.to e lack s.from supply w)
         | false ↦ λ other.
-            let same = needs_others top streams good s.to e lack s.from supply w z (pid_eq-swap z s.to ∙ other) in
+            let same = needs_others top streams good s.to e lack s.from supply w z
+            (pid_eq-swap z s.to ∙ other) in
             omega arith
       ] refl
 
@@ -149,7 +161,8 @@ module _ (top : ℕ) (s : Supply) where
       let stamp = own_stamp top s streams own in
       subst (λ o. IsStep top streams (all_streams (fed_in o)) s) (sym stamp.1)
       (subst (λ ss. IsStep top streams ss s)
-      (sym (put_more s.to i (receive_for stamp.0.1) ws ∙ is_after top s streams good own some stamp.0 stamp.1))
+      (sym (put_more s.to i (receive_for stamp.0.1) ws
+      ∙ is_after top s streams good own some stamp.0 stamp.1))
       (fed_step top s streams good own some))
 
 -- ALL RECEIVES
@@ -163,8 +176,10 @@ pub record AreMet (top : ℕ) (after : List Stream) : Type 0 where
   pub none : (w : ℕ) (z : Pid) → needs after w z ≡ 0
 
 module _ (top : ℕ) where
-  own_still : (before after : List Stream) (s : Supply) → IsStep top before after s → (ss : List Supply)
-      → Apart s.from (count_of s) ss → AllByRecursion (IsOwn before) ss → AllByRecursion (IsOwn after) ss
+  own_still : (before after : List Stream) (s : Supply) → IsStep top before after s
+      → (ss : List Supply)
+      → Apart s.from (count_of s) ss → AllByRecursion (IsOwn before) ss
+      → AllByRecursion (IsOwn after) ss
   own_still before next s done [] apart all = tt
   own_still before next s done (t ∷ ss) apart all = (
     done.own_else (count_of t) t.to t.from (differs_swap s t apart.0) ∙ all.0,
@@ -185,7 +200,8 @@ module _ (top : ℕ) where
       let some : 0 < needs (all_streams ws) v s.to = omega arith in
       let one = step top s ws good own.0 some in
       all_met ss (with_receive_of s ws) one.good
-      (own_still (all_streams ws) (all_streams (with_receive_of s ws)) s one ss apart.0 own.1) apart.1
+      (own_still (all_streams ws) (all_streams (with_receive_of s ws)) s one ss apart.0 own.1)
+      apart.1
       (λ w z.
       let before = many w z in
       let change = one.needs_are w z in

@@ -1,8 +1,9 @@
--- The sends of the completion: if each supply is told of or its sender is free for it, and no two are of one sender
--- and count, the streams with the sends that they lack are good, need what they needed, and have the send of each
--- supply.
+-- The sends of the completion: if each supply is told of or its sender is free for it, and no two
+-- are of one sender and count, the streams with the sends that they lack are good, need what they
+-- needed, and have the send of each supply.
 use Rattle.std.proofs.Common.{◌≡◌, ◌⊎◌, inl, inr, ℕ, ◌==◌, ◌&&◌, Bool, true, false, List, []}
-use Rattle.std.proofs.Common.{◌∷◌, map, take, Option, Some, None, is_none, slice_get, refl, sym, ◌∙◌, ap, subst}
+use Rattle.std.proofs.Common.{◌∷◌, map, take, Option, Some, None, is_none, slice_get, refl, sym}
+use Rattle.std.proofs.Common.{◌∙◌, ap, subst}
 use Rattle.std.specs.List.{AllByRecursion}
 use Rattle.std.proofs.lemmas.Bool.{false≢true}
 use Rattle.st_core.specs.declared.types.Pid.{Pid}
@@ -13,7 +14,8 @@ use Rattle.st_core.specs.Streams.{events_of, lists, is_among}
 use Rattle.st_core.proofs.ForCallers.{and_false, eqb-swap, pid_eq-swap}
 use Rattle.st_pair.specs.Pairing.{receive_of, stamp_of}
 use Rattle.st_plan.specs.Marks.{all_streams, Whole}
-use Rattle.st_completions.specs.Completion.{count_of, place_below, prev_between, put, send_among, send_for, Supply}
+use Rattle.st_completions.specs.Completion.{count_of, place_below, prev_between, put, send_among}
+use Rattle.st_completions.specs.Completion.{send_for, Supply}
 use Rattle.st_completions.specs.Completion.{with_send_of, with_sends}
 use Rattle.st_completions.specs.Supply.{is_free, is_own_supply, needs}
 use Rattle.st_completions.proofs.Lookups.{stamp_passes}
@@ -38,7 +40,8 @@ abbrev pub AllApart : List Supply → Type 0
 AllApart [] = Unit {0}
 AllApart (s ∷ ss) = Apart s.from (count_of s) ss × AllApart ss
 
-pub differs_swap : (s t : Supply) → differs s.from (count_of s) t ≡ false → differs t.from (count_of t) s ≡ false
+pub differs_swap : (s t : Supply) → differs s.from (count_of s) t ≡ false
+    → differs t.from (count_of t) s ≡ false
 differs_swap s t h =
     ap (λ b. b && count_of s == count_of t) (pid_eq-swap t.from s.from)
     ∙ ap (λ b. pid_eq s.from t.from && b) (eqb-swap (count_of s) (count_of t))
@@ -51,7 +54,8 @@ IsOwn streams s = is_own_supply streams (count_of s) s.to s.from ≡ true
 abbrev pub IsReady : List Stream → Supply → Type 0
 IsReady streams s = IsOwn streams s ⊎ (is_free streams (count_of s) s.from ≡ true)
 
-pub same_lists : (xs ys : List Stream) → pids_of xs ≡ pids_of ys → (q : Pid) → lists xs q ≡ lists ys q
+pub same_lists : (xs ys : List Stream) → pids_of xs ≡ pids_of ys → (q : Pid)
+    → lists xs q ≡ lists ys q
 same_lists xs ys pids q = lists_among xs q ∙ ap (λ ps. is_among ps q) pids ∙ sym (lists_among ys q)
 
 -- ONE SEND
@@ -62,11 +66,13 @@ record IsStep (top : ℕ) (before after : List Stream) (s : Supply) : Type 0 whe
   pids : pids_of after ≡ pids_of before
   needs_are : (w : ℕ) (p : Pid) → needs after w p ≡ needs before w p
   own : IsOwn after s
-  own_else : (w : ℕ) (z y : Pid) → differs y w s ≡ false → is_own_supply after w z y ≡ is_own_supply before w z y
+  own_else : (w : ℕ) (z y : Pid) → differs y w s ≡ false
+      → is_own_supply after w z y ≡ is_own_supply before w z y
   free_else : (w : ℕ) (y : Pid) → differs y w s ≡ false → is_free after w y ≡ is_free before w y
 
 module _ (top : ℕ) (s : Supply) where
-  no_step : (streams : List Stream) → IsGood top streams → IsOwn streams s → IsStep top streams streams s
+  no_step : (streams : List Stream) → IsGood top streams → IsOwn streams s
+      → IsStep top streams streams s
   no_step streams good own = record {
     good = good;
     pids = refl;
@@ -101,7 +107,8 @@ module _ (top : ℕ) (s : Supply) where
     is_after : more s.from (place_below v es) (send_among s es) streams ≡ after
     is_after =
         let put = place top streams good s served free in
-        ap (λ i. more s.from i (send_for s (prev_between v (take i es) (slice_get es i))) streams) put.index_is
+        ap (λ i. more s.from i (send_for s (prev_between v (take i es) (slice_get es i))) streams)
+        put.index_is
         ∙ ap (λ prev. more s.from put.index (send_for s prev) streams) put.prev_is
 
   pub own_stamp : (streams : List Stream) → IsOwn streams s → (f : ℕ × Event)
@@ -114,7 +121,8 @@ module _ (top : ℕ) (s : Supply) where
         | Some f ↦ λ _. (f, refl)
       ] own
 
-  step : (ws : List Whole) → IsGood top (all_streams ws) → IsServed top (all_streams ws) s → IsReady (all_streams ws) s
+  step : (ws : List Whole) → IsGood top (all_streams ws) → IsServed top (all_streams ws) s
+      → IsReady (all_streams ws) s
       → IsStep top (all_streams ws) (all_streams (with_send_of s ws)) s
   step ws good served ready =
       let streams = all_streams ws in
@@ -127,9 +135,11 @@ module _ (top : ℕ) (s : Supply) where
       elim ready [
         | inl own ↦
             let stamp = own_stamp streams own in
-            subst (λ o. IsStep top streams (all_streams (sent_in o)) s) (sym stamp.1) (no_step streams good own)
+            subst (λ o. IsStep top streams (all_streams (sent_in o)) s) (sym stamp.1)
+            (no_step streams good own)
         | inr free ↦
-            subst (λ o. IsStep top streams (all_streams (sent_in o)) s) (sym (unstamped top streams good s served free))
+            subst (λ o. IsStep top streams (all_streams (sent_in o)) s)
+            (sym (unstamped top streams good s served free))
             (subst (λ ss. IsStep top streams ss s)
             (sym (put_more s.from i (send_among s es) ws ∙ is_after streams good served free))
             (sent_step streams good served free))
@@ -143,7 +153,8 @@ pub record AreSent (top : ℕ) (before after : List Stream) (ss : List Supply) :
   pub pids : pids_of after ≡ pids_of before
   pub needs_are : (w : ℕ) (p : Pid) → needs after w p ≡ needs before w p
   pub own : AllByRecursion (IsOwn after) ss
-  pub own_else : (w : ℕ) (z y : Pid) → Apart y w ss → is_own_supply after w z y ≡ is_own_supply before w z y
+  pub own_else : (w : ℕ) (z y : Pid) → Apart y w ss
+      → is_own_supply after w z y ≡ is_own_supply before w z y
 
 module _ (top : ℕ) where
   served_still : (xs ys : List Stream) → pids_of xs ≡ pids_of ys → (ss : List Supply)
@@ -159,8 +170,10 @@ module _ (top : ℕ) where
     served_still xs ys pids ss all.1,
   )
 
-  ready_still : (before after : List Stream) (s : Supply) → IsStep top before after s → (ss : List Supply)
-      → Apart s.from (count_of s) ss → AllByRecursion (IsReady before) ss → AllByRecursion (IsReady after) ss
+  ready_still : (before after : List Stream) (s : Supply) → IsStep top before after s
+      → (ss : List Supply)
+      → Apart s.from (count_of s) ss → AllByRecursion (IsReady before) ss
+      → AllByRecursion (IsReady after) ss
   ready_still before next s done [] apart all = tt
   ready_still before next s done (t ∷ ss) apart all =
       let other = differs_swap s t apart.0 in (
@@ -172,7 +185,8 @@ module _ (top : ℕ) where
       )
 
   pub all_sent : (ss : List Supply) (ws : List Whole) → IsGood top (all_streams ws)
-      → AllByRecursion (IsServed top (all_streams ws)) ss → AllByRecursion (IsReady (all_streams ws)) ss → AllApart ss
+      → AllByRecursion (IsServed top (all_streams ws)) ss
+      → AllByRecursion (IsReady (all_streams ws)) ss → AllApart ss
       → AreSent top (all_streams ws) (all_streams (with_sends ss ws)) ss
   all_sent [] ws good served ready apart = record {
     good = good;

@@ -1,4 +1,5 @@
--- A completion of all of a completion is one of what the first tells: what the second tells is told of the first.
+-- A completion of all of a completion is one of what the first tells: what the second tells is told
+-- of the first.
 use Rattle.std.proofs.Common.{◌≡◌, ℕ, true, false, cond, List, [], ◌∷◌, drop, slice_get}
 use Rattle.std.proofs.Common.{refl, sym, ◌∙◌, ap, subst}
 use Rattle.std.proofs.lemmas.Option.{none-some, same_Some}
@@ -13,7 +14,8 @@ abbrev overlay : List Marked → List Marked → List Marked
 overlay [] ns = []
 overlay (m ∷ ms) [] = record { event = m.event; told = false } ∷ overlay ms []
 overlay (m ∷ ms) (n ∷ ns) =
-    record { event = m.event; told = cond m.told n.told false } ∷ overlay ms (cond m.told ns (n ∷ ns))
+    record { event = m.event; told = cond m.told n.told false }
+    ∷ overlay ms (cond m.told ns (n ∷ ns))
 
 overlay_all : (ms ns : List Marked) → events (overlay ms ns) ≡ events ms
 overlay_all [] ns = refl
@@ -24,7 +26,8 @@ overlay_none : (ms : List Marked) → told_events (overlay ms []) ≡ []
 overlay_none [] = refl
 overlay_none (m ∷ ms) = overlay_none ms
 
-overlay_told : (ms ns : List Marked) → told_events ms ≡ events ns → told_events (overlay ms ns) ≡ told_events ns
+overlay_told : (ms ns : List Marked) → told_events ms ≡ events ns
+    → told_events (overlay ms ns) ≡ told_events ns
 overlay_told [] [] same = refl
 overlay_told [] (n ∷ ns) same = absurd (none-some n.event (ap (λ es. slice_get es 0) same))
 overlay_told (m ∷ ms) [] same = overlay_none ms
@@ -35,9 +38,11 @@ overlay_told (m ∷ ms) (n ∷ ns) same =
     (told_events (overlay ms (cond b ns all))) ≡ told_events all) [
       | false ↦ λ same. overlay_told ms all same
       | true ↦ λ same.
-          let event : m.event ≡ n.event = same_Some m.event n.event (ap (λ es. slice_get es 0) same) in
+          let event : m.event ≡ n.event = same_Some m.event n.event
+          (ap (λ es. slice_get es 0) same) in
           let rest = overlay_told ms ns (ap (drop 1) same) in
-          elim n.told as (λ b. cond b (m.event ∷ told_events (overlay ms ns)) (told_events (overlay ms ns))
+          elim n.told as (λ b. cond b (m.event ∷ told_events (overlay ms ns))
+          (told_events (overlay ms ns))
           ≡ cond b (n.event ∷ told_events ns) (told_events ns)) [
             | true ↦ ap (λ e. e ∷ told_events (overlay ms ns)) event ∙ ap (λ es. n.event ∷ es) rest
             | false ↦ rest
@@ -47,13 +52,16 @@ overlay_told (m ∷ ms) (n ∷ ns) same =
 abbrev composed : List Whole → List Whole → List Whole
 composed [] us = []
 composed (w ∷ ws) [] = []
-composed (w ∷ ws) (u ∷ us) = record { pid = w.pid; marked = overlay w.marked u.marked } ∷ composed ws us
+composed (w ∷ ws) (u ∷ us) = record { pid = w.pid; marked = overlay w.marked u.marked }
+    ∷ composed ws us
 
-composed_all : (ws us : List Whole) → told_streams ws ≡ all_streams us → all_streams (composed ws us) ≡ all_streams ws
+composed_all : (ws us : List Whole) → told_streams ws ≡ all_streams us
+    → all_streams (composed ws us) ≡ all_streams ws
 composed_all [] us same = refl
 composed_all (w ∷ ws) [] same = absurd (none-some _ (sym (ap (λ xs. slice_get xs 0) same)))
 composed_all (w ∷ ws) (u ∷ us) same =
-    ap (λ es. let x : Stream = record { pid = w.pid; events = es } in x ∷ all_streams (composed ws us))
+    ap (λ es. let x : Stream = record { pid = w.pid; events = es } in
+    x ∷ all_streams (composed ws us))
     (overlay_all w.marked u.marked)
     ∙ ap (λ xs. let x : Stream = record { pid = w.pid; events = events w.marked } in x ∷ xs)
     (composed_all ws us (ap (drop 1) same))
@@ -68,9 +76,14 @@ composed_told (w ∷ ws) (u ∷ us) same =
     ≡ (let x : Stream = record { pid = u.pid; events = events u.marked } in x) =
     same_Some _ _ (ap (λ xs. slice_get xs 0) same) in
     let told = overlay_told w.marked u.marked (ap (λ (x : Stream). x.events) first) in
-    ap (λ p. let x : Stream = record { pid = p; events = told_events (overlay w.marked u.marked) } in
+    ap (λ p. let x : Stream = record {
+      pid = p;
+      events =
+          told_events (overlay w.marked u.marked);
+    } in
     x ∷ told_streams (composed ws us)) (ap (λ (x : Stream). x.pid) first)
-    ∙ ap (λ es. let x : Stream = record { pid = u.pid; events = es } in x ∷ told_streams (composed ws us)) told
+    ∙ ap (λ es. let x : Stream = record { pid = u.pid; events = es } in
+    x ∷ told_streams (composed ws us)) told
     ∙ ap (λ xs. let x : Stream = record { pid = u.pid; events = told_events u.marked } in x ∷ xs)
     (composed_told ws us (ap (drop 1) same))
 

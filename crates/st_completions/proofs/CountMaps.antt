@@ -1,6 +1,6 @@
--- A map that keeps the order of counts: each test of one count against another comes out as before, the greatest of
--- mapped events is the mapped greatest, and so it is of what events leave. So each event is late, or a need, exactly as
--- it was.
+-- A map that keeps the order of counts: each test of one count against another comes out as before,
+-- the greatest of mapped events is the mapped greatest, and so it is of what events leave. So each
+-- event is late, or a need, exactly as it was.
 use Rattle.std.proofs.Common.{◌≡◌, ℕ, ◌≤◌, ◌==◌, ◌&&◌, max, nat_lt, true, false, not}
 use Rattle.std.proofs.Common.{List, [], ◌∷◌, map, refl, sym, ◌∙◌, ap, arith}
 use Rattle.std.proofs.lemmas.Bool.{eq-eqb, eqb-true, ltb-true, ltb-false, le-ltb}
@@ -67,10 +67,12 @@ module _ (f : ℕ → ℕ) (keeps : KeepsOrder f) where
 
   -- WHAT EVENTS LEAVE
 
-  pub greatest_kept : (es : List Event) → greatest_count (map (event_with f) es) ≡ f (greatest_count es)
+  pub greatest_kept : (es : List Event) → greatest_count (map (event_with f) es)
+      ≡ f (greatest_count es)
   greatest_kept [] = sym keeps.from_zero
   greatest_kept (e ∷ es) =
-      ap (λ n. max (f e.serial.this) n) (greatest_kept es) ∙ max_kept e.serial.this (greatest_count es)
+      ap (λ n. max (f e.serial.this) n) (greatest_kept es)
+      ∙ max_kept e.serial.this (greatest_count es)
 
   pub left_kept : (es : List Event) → prev_after (map (event_with f) es) ≡ f (prev_after es)
   left_kept [] = sym keeps.from_zero
@@ -84,19 +86,25 @@ module _ (f : ℕ → ℕ) (keeps : KeepsOrder f) where
 
   -- REASONS AT AN EVENT
 
-  pub late_same : (es : List Event) (e : Event) → is_late (map (event_with f) es) (event_with f e) ≡ is_late es e
+  pub late_same : (es : List Event) (e : Event) → is_late (map (event_with f) es) (event_with f e)
+      ≡ is_late es e
   late_same es e =
       ap (λ n. is_stamp e && not (nat_lt n (f e.serial.this))) (greatest_kept es)
       ∙ ap (λ b. is_stamp e && not b) (lt_same (greatest_count es) e.serial.this)
 
-  pub need_same : (es : List Event) (e : Event) → is_need (map (event_with f) es) (event_with f e) ≡ is_need es e
+  pub need_same : (es : List Event) (e : Event) → is_need (map (event_with f) es) (event_with f e)
+      ≡ is_need es e
   need_same es e =
       let prev = e.serial.prev in
-      ap (λ n. is_stamp e && (not (f prev == n) && nat_lt (f prev) (greatest_count (map (event_with f) es))))
+      ap (λ n. is_stamp e && (not (f prev == n) && nat_lt (f prev)
+      (greatest_count (map (event_with f) es))))
       (left_kept es)
-      ∙ ap (λ n. is_stamp e && (not (f prev == f (prev_after es)) && nat_lt (f prev) n)) (greatest_kept es)
-      ∙ ap (λ b. is_stamp e && (not b && nat_lt (f prev) (f (greatest_count es)))) (eq_same prev (prev_after es))
-      ∙ ap (λ b. is_stamp e && (not (prev == prev_after es) && b)) (lt_same prev (greatest_count es))
+      ∙ ap (λ n. is_stamp e && (not (f prev == f (prev_after es)) && nat_lt (f prev) n))
+      (greatest_kept es)
+      ∙ ap (λ b. is_stamp e && (not b && nat_lt (f prev) (f (greatest_count es))))
+      (eq_same prev (prev_after es))
+      ∙ ap (λ b. is_stamp e && (not (prev == prev_after es) && b))
+      (lt_same prev (greatest_count es))
 
   zero_same : (n : ℕ) → (f n == 0) ≡ (n == 0)
   zero_same n = ap (λ z. f n == z) (sym keeps.from_zero) ∙ eq_same n 0

@@ -1,6 +1,8 @@
--- The reasons decide if each receive has its send: without one streams have a needless completion, which acts show; and
--- no reason holds of streams that acts without a reset show, since it would hold of each completion.
-use Rattle.std.proofs.Common.{◌≡◌, ◌↔◌, ◌⊎◌, inl, inr, ℕ, ◌≤◌, true, List, Some, slice_get, sym, ◌∙◌, ap, subst, arith}
+-- The reasons decide if each receive has its send: without one streams have a needless completion,
+-- which acts show; and no reason holds of streams that acts without a reset show, since it would
+-- hold of each completion.
+use Rattle.std.proofs.Common.{◌≡◌, ◌↔◌, ◌⊎◌, inl, inr, ℕ, ◌≤◌, true, List, Some, slice_get, sym}
+use Rattle.std.proofs.Common.{◌∙◌, ap, subst, arith}
 use Rattle.std.proofs.lemmas.Bool.{false≢true, ltb-true}
 use Rattle.st_core.specs.declared.types.Act.{Act}
 use Rattle.st_core.specs.declared.types.Pid.{Pid}
@@ -25,16 +27,21 @@ use Rattle.st_completions.proofs.ReasonSearch.{none_or_some}
 use Rattle.st_completions.proofs.Needs.{at_mark, events_told}
 
 AreWithin : ℕ → List Stream → Type 0
-AreWithin top streams = (p : Pid) (i : ℕ) (e : Event) → event_at streams p i ≡ Some e → e.serial.this ≤ top
+AreWithin top streams = (p : Pid) (i : ℕ) (e : Event) → event_at streams p i ≡ Some e
+    → e.serial.this ≤ top
 
 -- each told event is one of all
-within_told : (top : ℕ) (wholes : List Whole) → IsFull top (all_streams wholes) → AreWithin top (told_streams wholes)
+within_told : (top : ℕ) (wholes : List Whole) → IsFull top (all_streams wholes)
+    → AreWithin top (told_streams wholes)
 unfolding AreWithin
 within_told top wholes full p i e at =
-    let place = told_at (marked_of wholes p) i e (ap (λ es. slice_get es i) (sym (events_told wholes p)) ∙ at) in
-    full.within p place.index e (at_mark wholes p place.index (record { event = e; told = true }) place.at)
+    let place = told_at (marked_of wholes p) i e (ap (λ es. slice_get es i)
+    (sym (events_told wholes p)) ∙ at) in
+    full.within p place.index e (at_mark wholes p place.index (record { event = e; told = true })
+    place.at)
 
-pub no_reason : (top : ℕ) (streams : List Stream) → IsRising (pids_of streams) → IsShownInOneTrace top streams
+pub no_reason : (top : ℕ) (streams : List Stream) → IsRising (pids_of streams)
+    → IsShownInOneTrace top streams
     → HasNoReason top streams
 unfolding AreWithin
 no_reason top streams rising shown =

@@ -1,12 +1,15 @@
--- Why the hidden sends of a process do at their earliest places. All stamps stand by rising count then,
--- so none is late if no reported one is. And a hidden send is right behind a stamp, or at the start:
--- so what is right before a stamp with prev 0 is a stamp of a lower count or, if the stamp is
--- reported, a receive. If neither a receive nor a stamp with another prev is before one with prev 0,
--- 0 is left there, or nothing is before it.
-use Rattle.std.proofs.Common.{◌≡◌, ◌⊎◌, inl, inr, ℕ, zero, suc, ◌<◌, ◌≤◌, ◌==◌, ◌&&◌, max, nat_lt, Bool, true}
-use Rattle.std.proofs.Common.{false, not, cond, List, [], ◌∷◌, ◌++◌, Some, None, slice_get, refl, sym, ◌∙◌}
+-- Why the hidden sends of a process do at their earliest places. All stamps stand by rising count
+-- then, so none is late if no reported one is. And a hidden send is right behind a stamp, or at the
+-- start: so what is right before a stamp with prev 0 is a stamp of a lower count or, if the stamp
+-- is reported, a receive. If neither a receive nor a stamp with another prev is before one with
+-- prev 0, 0 is left there, or nothing is before it.
+use Rattle.std.proofs.Common.{◌≡◌, ◌⊎◌, inl, inr, ℕ, zero, suc, ◌<◌, ◌≤◌, ◌==◌, ◌&&◌, max, nat_lt}
+use Rattle.std.proofs.Common.{Bool, true}
+use Rattle.std.proofs.Common.{false, not, cond, List, [], ◌∷◌, ◌++◌, Some, None, slice_get, refl}
+use Rattle.std.proofs.Common.{sym, ◌∙◌}
 use Rattle.std.proofs.Common.{ap, subst, arith}
-use Rattle.std.proofs.lemmas.Bool.{and_parts, cases_lt, eq-eqb, eqb-true, false≢true, le-ltb, lt-ltb, ltb-false}
+use Rattle.std.proofs.lemmas.Bool.{and_parts, cases_lt, eq-eqb, eqb-true, false≢true, le-ltb}
+use Rattle.std.proofs.lemmas.Bool.{lt-ltb, ltb-false}
 use Rattle.std.proofs.lemmas.Bool.{ltb-true, not-true}
 use Rattle.std.proofs.lemmas.Option.{none-some, same_Some}
 use Rattle.st_core.specs.declared.types.Pid.{Pid}
@@ -23,7 +26,8 @@ use Rattle.st_plan.proofs.ForCallers.{leaves}
 use Rattle.st_completions.specs.FinalReasons.{HasZeroBehindReceive, HasZeroBehindStamp, IsStampOf}
 use Rattle.st_completions.specs.HiddenSends.{hidden_from, hidden_send, hidden_sends}
 use Rattle.st_completions.specs.Needs.{HoldsOfNone, is_late, is_need}
-use Rattle.st_completions.specs.Placed.{AreTimely, comes_first, earliest, earliest_of, IsPlacing, untold_events}
+use Rattle.st_completions.specs.Placed.{AreTimely, comes_first, earliest, earliest_of, IsPlacing}
+use Rattle.st_completions.specs.Placed.{untold_events}
 use Rattle.st_completions.specs.Supply.{needs_from}
 use Rattle.st_completions.proofs.EventsBefore.{no_stamp}
 use Rattle.st_completions.proofs.FedNeeds.{events}
@@ -32,7 +36,8 @@ use Rattle.st_completions.proofs.Lookups.{none_stamped}
 use Rattle.st_completions.proofs.MetNeeds.{timely_alike}
 use Rattle.st_completions.proofs.ReasonlessStreams.{fit_together, timely_from}
 use Rattle.st_completions.proofs.Supplies.{highest}
-use Rattle.st_completions.proofs.UntoldEvents.{first_of, hidden_is, rises_all, rises_lower, RisesFrom}
+use Rattle.st_completions.proofs.UntoldEvents.{first_of, hidden_is, rises_all, rises_lower}
+use Rattle.st_completions.proofs.UntoldEvents.{RisesFrom}
 
 abbrev mark : Bool → Event → Marked
 mark told e = record { event = e; told = told }
@@ -45,7 +50,8 @@ told_earliest [] (h ∷ hs) = told_earliest [] hs
 told_earliest (e ∷ es) [] = ap (λ xs. e ∷ xs) (told_earliest es [])
 told_earliest (e ∷ es) (h ∷ hs) =
     elim (comes_first h.serial.this (e ∷ es)) as (λ b.
-    told_events (cond b (mark false h ∷ earliest (e ∷ es) hs) (mark true e ∷ earliest es (h ∷ hs))) ≡ e ∷ es) [
+    told_events (cond b (mark false h ∷ earliest (e ∷ es) hs) (mark true e ∷ earliest es (h ∷ hs)))
+    ≡ e ∷ es) [
       | true ↦ told_earliest (e ∷ es) hs
       | false ↦ ap (λ xs. e ∷ xs) (told_earliest es (h ∷ hs))
     ]
@@ -56,7 +62,8 @@ untold_earliest [] (h ∷ hs) = ap (λ xs. h ∷ xs) (untold_earliest [] hs)
 untold_earliest (e ∷ es) [] = untold_earliest es []
 untold_earliest (e ∷ es) (h ∷ hs) =
     elim (comes_first h.serial.this (e ∷ es)) as (λ b.
-    untold_events (cond b (mark false h ∷ earliest (e ∷ es) hs) (mark true e ∷ earliest es (h ∷ hs))) ≡ h ∷ hs) [
+    untold_events (cond b (mark false h ∷ earliest (e ∷ es) hs)
+    (mark true e ∷ earliest es (h ∷ hs))) ≡ h ∷ hs) [
       | true ↦ ap (λ xs. h ∷ xs) (untold_earliest (e ∷ es) hs)
       | false ↦ untold_earliest es (h ∷ hs)
     ]
@@ -83,7 +90,8 @@ below_stamps n (d ∷ es) first rise zero e at stamps =
     let count = ap (λ (x : Event). x.serial.this) same in
     omega arith
 below_stamps n (d ∷ es) first rise (suc j) e at stamps =
-    elim (is_stamp d) as (λ b. is_stamp d ≡ b → cond b (nat_lt n d.serial.this) (comes_first n es) ≡ true
+    elim (is_stamp d) as (λ b. is_stamp d ≡ b → cond b (nat_lt n d.serial.this) (comes_first n es)
+    ≡ true
     → n < e.serial.this) [
       | true ↦ λ is low.
           let below = ltb-true n d.serial.this low in
@@ -93,7 +101,8 @@ below_stamps n (d ∷ es) first rise (suc j) e at stamps =
     ] refl first
 
 -- what counts higher than one that doesn't come first doesn't either
-later_too : (m n : ℕ) (es : List Event) → m ≤ n → comes_first m es ≡ false → comes_first n es ≡ false
+later_too : (m n : ℕ) (es : List Event) → m ≤ n → comes_first m es ≡ false
+    → comes_first n es ≡ false
 later_too m n [] low later = absurd (false≢true (sym later))
 later_too m n (e ∷ es) low later =
     elim (is_stamp e) as (λ b. cond b (nat_lt m e.serial.this) (comes_first m es) ≡ false
@@ -123,12 +132,14 @@ above_not_late before e above =
 
 -- behind a higher count that comes first nothing becomes late
 still_timely : (n : ℕ) (xs ys es : List Event) → greatest_count xs ≤ greatest_count ys
-    → greatest_count ys ≤ max (greatest_count xs) n → comes_first n es ≡ true → AreTimely xs es → AreTimely ys es
+    → greatest_count ys ≤ max (greatest_count xs) n → comes_first n es ≡ true → AreTimely xs es
+    → AreTimely ys es
 still_timely n xs ys [] low high first timely = tt
 still_timely n xs ys (e ∷ es) low high first timely =
     let old = greatest_push xs e in
     let new = greatest_push ys e in
-    elim (is_stamp e) as (λ b. is_stamp e ≡ b → cond b (nat_lt n e.serial.this) (comes_first n es) ≡ true
+    elim (is_stamp e) as (λ b. is_stamp e ≡ b → cond b (nat_lt n e.serial.this) (comes_first n es)
+    ≡ true
     → AreTimely ys (e ∷ es)) [
       | true ↦ λ stamps below.
           let count = ltb-true n e.serial.this below in
@@ -153,7 +164,8 @@ module _ (Stamps : Event → Type 0) where
     above : RisesFrom from hs
     sends : (k : ℕ) (h : Event) → slice_get hs k ≡ Some h → is_stamp h ≡ true
     hidden : (k : ℕ) (h : Event) → slice_get hs k ≡ Some h → Stamps h
-    apart : (i k : ℕ) (e h : Event) → slice_get es i ≡ Some e → slice_get hs k ≡ Some h → is_stamp e ≡ true
+    apart : (i k : ℕ) (e h : Event) → slice_get es i ≡ Some e → slice_get hs k ≡ Some h
+        → is_stamp e ≡ true
         → e.serial.this ≡ h.serial.this → ⊥
 
   behind_event : (e : Event) (es hs : List Event) → IsRest (e ∷ es) hs → IsRest es hs
@@ -187,9 +199,11 @@ module _ (Stamps : Event → Type 0) where
 
   -- none of them comes before the next event
   abbrev AreLater : List Event → List Event → Type 0
-  AreLater es hs = (k : ℕ) (h : Event) → slice_get hs k ≡ Some h → comes_first h.serial.this es ≡ false
+  AreLater es hs = (k : ℕ) (h : Event) → slice_get hs k ≡ Some h
+      → comes_first h.serial.this es ≡ false
 
-  all_later : (h : Event) (es hs : List Event) → IsRest es (h ∷ hs) → comes_first h.serial.this es ≡ false
+  all_later : (h : Event) (es hs : List Event) → IsRest es (h ∷ hs)
+      → comes_first h.serial.this es ≡ false
       → AreLater es (h ∷ hs)
   all_later h es hs all later zero g at =
       ap (λ (x : Event). comes_first x.serial.this es) (sym (same_Some h g at)) ∙ later
@@ -198,11 +212,13 @@ module _ (Stamps : Event → Type 0) where
       later_too h.serial.this g.serial.this es (omega arith) later
 
   -- then they count above it, if it is a stamp
-  above_event : (e : Event) (es hs : List Event) → IsRest (e ∷ es) hs → AreLater (e ∷ es) hs → is_stamp e ≡ true
+  above_event : (e : Event) (es hs : List Event) → IsRest (e ∷ es) hs → AreLater (e ∷ es) hs
+      → is_stamp e ≡ true
       → (k : ℕ) (h : Event) → slice_get hs k ≡ Some h → e.serial.this < h.serial.this
   above_event e es hs all later stamps k h at =
       let low = ltb-false h.serial.this e.serial.this
-      (ap (λ b. cond b (nat_lt h.serial.this e.serial.this) (comes_first h.serial.this es)) (sym stamps)
+      (ap (λ b. cond b (nat_lt h.serial.this e.serial.this) (comes_first h.serial.this es))
+      (sym stamps)
       ∙ later k h at) in
       elim (cases_lt e.serial.this h.serial.this) [
         | inl less ↦ less
@@ -221,7 +237,8 @@ module _ (Stamps : Event → Type 0) where
   high_event before e es hs all later timely k h at =
       elim (is_stamp e) as (λ b. is_stamp e ≡ b
       → cond b (nat_lt h.serial.this e.serial.this) (comes_first h.serial.this es) ≡ false
-      → (greatest_count (before ++ e ∷ []) < h.serial.this) ⊎ (comes_first h.serial.this es ≡ false)) [
+      → (greatest_count (before ++ e ∷ []) < h.serial.this)
+      ⊎ (comes_first h.serial.this es ≡ false)) [
         | true ↦ λ stamps _.
             let push = greatest_push before e in
             let low = not_late before e stamps timely in
@@ -244,17 +261,20 @@ module _ (Stamps : Event → Type 0) where
     | inr later ↦ absurd (false≢true (sym later ∙ first))
   ]
 
-  timely_earliest : (before es hs : List Event) → IsRest es hs → AreHigh before es hs → AreTimely before es
+  timely_earliest : (before es hs : List Event) → IsRest es hs → AreHigh before es hs
+      → AreTimely before es
       → AreTimely before (events (earliest es hs))
   timely_earliest before [] [] all high timely = tt
   timely_earliest before [] (h ∷ hs) all high timely =
       let low = first_high before h [] hs high refl in (
         above_not_late before h low,
-        timely_earliest (before ++ h ∷ []) [] hs (behind_send h [] hs all) (high_send before h [] hs all low) tt,
+        timely_earliest (before ++ h ∷ []) [] hs (behind_send h [] hs all)
+            (high_send before h [] hs all low) tt,
       )
   timely_earliest before (e ∷ es) [] all high timely = (
     timely.0,
-    timely_earliest (before ++ e ∷ []) es [] (behind_event e es [] all) (λ k h at. absurd (none-some h at)) timely.1,
+    timely_earliest (before ++ e ∷ []) es [] (behind_event e es [] all)
+        (λ k h at. absurd (none-some h at)) timely.1,
   )
   timely_earliest before (e ∷ es) (h ∷ hs) all high timely =
       let here = comes_first h.serial.this (e ∷ es) in
@@ -266,13 +286,15 @@ module _ (Stamps : Event → Type 0) where
               above_not_late before h low,
               timely_earliest (before ++ h ∷ []) (e ∷ es) hs (behind_send h (e ∷ es) hs all)
                   (high_send before h (e ∷ es) hs all low)
-                  (still_timely h.serial.this before (before ++ h ∷ []) (e ∷ es) (omega arith) (omega arith) first
+                  (still_timely h.serial.this before (before ++ h ∷ []) (e ∷ es) (omega arith)
+                  (omega arith) first
                   timely),
             )
         | false ↦ λ later. (
           timely.0,
           timely_earliest (before ++ e ∷ []) es (h ∷ hs) (behind_event e es (h ∷ hs) all)
-              (high_event before e es (h ∷ hs) all (all_later h (e ∷ es) hs all later) timely.0) timely.1,
+              (high_event before e es (h ∷ hs) all (all_later h (e ∷ es) hs all later) timely.0)
+              timely.1,
         )
       ] refl
 
@@ -281,7 +303,8 @@ module _ (Stamps : Event → Type 0) where
   stamp_leaves : (before : List Event) (e : Event) → is_stamp e ≡ true
       → prev_after (before ++ e ∷ []) ≡ e.serial.prev
   stamp_leaves before e stamps =
-      prev_push before e ∙ sym (leaves e) ∙ ap (λ b. cond (not b) e.serial.this e.serial.prev) stamps
+      prev_push before e ∙ sym (leaves e) ∙ ap (λ b. cond (not b) e.serial.this e.serial.prev)
+      stamps
 
   abbrev one_if : Bool → ℕ
   one_if b = cond b 1 0
@@ -317,7 +340,8 @@ module _ (Stamps : Event → Type 0) where
   rooted_rest : (e : Event) (es : List Event) → AreRooted (e ∷ es) → AreRooted es
   rooted_rest e es rooted = record {
     stamps = rooted.stamps;
-    receives = λ i j d f less at_d at_f. rooted.receives (suc i) (suc j) d f (omega arith) at_d at_f;
+    receives = λ i j d f less at_d at_f. rooted.receives (suc i) (suc j) d f (omega arith) at_d
+        at_f;
   }
 
   -- if a stamp with prev 0 is to come, 0 is left, or it is a hidden send that doesn't come yet
@@ -327,30 +351,37 @@ module _ (Stamps : Event → Type 0) where
     hidden : (k : ℕ) (h : Event) → slice_get hs k ≡ Some h → h.serial.prev ≡ 0
         → (prev_after before ≡ 0) ⊎ (comes_first h.serial.this es ≡ false)
 
-  left_event : (before : List Event) (e : Event) (es hs : List Event) → IsRest (e ∷ es) hs → AreRooted (e ∷ es)
+  left_event : (before : List Event) (e : Event) (es hs : List Event) → IsRest (e ∷ es) hs
+      → AreRooted (e ∷ es)
       → AreLater (e ∷ es) hs → IsLeft (before ++ e ∷ []) es hs
   left_event before e es hs all rooted later = record {
-    reported = λ j f at stamps root. elim (is_stamp e) as (λ b. is_stamp e ≡ b → prev_after (before ++ e ∷ []) ≡ 0) [
-      | true ↦ λ is. stamp_leaves before e is ∙ rooted.stamps e f (all.reported 0 e refl is)
-          (all.reported (suc j) f at stamps) (all.rise 0 (suc j) e f (omega arith) refl at is stamps) root
-      | false ↦ λ receives. absurd (rooted.receives 0 (suc j) e f (omega arith) refl at receives stamps root)
-    ] refl;
+    reported = λ j f at stamps root. elim (is_stamp e)
+        as (λ b. is_stamp e ≡ b → prev_after (before ++ e ∷ []) ≡ 0) [
+          | true ↦ λ is. stamp_leaves before e is ∙ rooted.stamps e f (all.reported 0 e refl is)
+              (all.reported (suc j) f at stamps) (all.rise 0 (suc j) e f (omega arith) refl at is
+              stamps) root
+          | false ↦ λ receives. absurd (rooted.receives 0 (suc j) e f (omega arith) refl at receives
+              stamps root)
+        ] refl;
     hidden = λ k h at root. elim (is_stamp e) as (λ b. is_stamp e ≡ b
         → cond b (nat_lt h.serial.this e.serial.this) (comes_first h.serial.this es) ≡ false
         → (prev_after (before ++ e ∷ []) ≡ 0) ⊎ (comes_first h.serial.this es ≡ false)) [
-          | true ↦ λ is _. inl (stamp_leaves before e is ∙ rooted.stamps e h (all.reported 0 e refl is)
+          | true ↦ λ is _. inl (stamp_leaves before e is
+              ∙ rooted.stamps e h (all.reported 0 e refl is)
               (all.hidden k h at) (above_event e es hs all later is k h at) root)
           | false ↦ λ _ rest. inr rest
         ] refl (later k h at);
   }
 
-  left_send : (before : List Event) (h : Event) (es hs : List Event) → IsRest es (h ∷ hs) → AreRooted es
+  left_send : (before : List Event) (h : Event) (es hs : List Event) → IsRest es (h ∷ hs)
+      → AreRooted es
       → comes_first h.serial.this es ≡ true → IsLeft (before ++ h ∷ []) es hs
   left_send before h es hs all rooted first =
       let leaves_prev = stamp_leaves before h (all.sends 0 h refl) in
       let own = all.hidden 0 h refl in
       record {
-        reported = λ j e at stamps root. leaves_prev ∙ rooted.stamps h e own (all.reported j e at stamps)
+        reported = λ j e at stamps root. leaves_prev
+            ∙ rooted.stamps h e own (all.reported j e at stamps)
             (below_stamps h.serial.this es first all.rise j e at stamps) root;
         hidden = λ k g at root. inl (leaves_prev ∙ rooted.stamps h g own (all.hidden (suc k) g at)
             (hidden_above h es hs all k g at) root);
@@ -358,10 +389,11 @@ module _ (Stamps : Event → Type 0) where
 
   send_free : (before : List Event) (h : Event) (es hs : List Event) → IsLeft before es (h ∷ hs)
       → comes_first h.serial.this es ≡ true → cost before h ≡ 0
-  send_free before h es hs left first = no_cost before h (λ _ root. elim (left.hidden 0 h refl root) [
-    | inl is ↦ is
-    | inr later ↦ absurd (false≢true (sym later ∙ first))
-  ])
+  send_free before h es hs left first = no_cost before h
+      (λ _ root. elim (left.hidden 0 h refl root) [
+        | inl is ↦ is
+        | inr later ↦ absurd (false≢true (sym later ∙ first))
+      ])
 
   rooted_earliest : (before es hs : List Event) → IsRest es hs → AreRooted es → IsLeft before es hs
       → needs_from 0 before (events (earliest es hs)) ≡ 0
@@ -373,7 +405,8 @@ module _ (Stamps : Event → Type 0) where
       omega arith
   rooted_earliest before (e ∷ es) [] all rooted left =
       let here = no_cost before e (left.reported 0 e refl) in
-      let rest = rooted_earliest (before ++ e ∷ []) es [] (behind_event e es [] all) (rooted_rest e es rooted)
+      let rest = rooted_earliest (before ++ e ∷ []) es [] (behind_event e es [] all)
+      (rooted_rest e es rooted)
       (left_event before e es [] all rooted (λ k h at. absurd (none-some h at))) in
       omega arith
   rooted_earliest before (e ∷ es) (h ∷ hs) all rooted left =
@@ -382,12 +415,14 @@ module _ (Stamps : Event → Type 0) where
       (cond b (mark false h ∷ earliest (e ∷ es) hs) (mark true e ∷ earliest es (h ∷ hs)))) ≡ 0) [
         | true ↦ λ first.
             let here = send_free before h (e ∷ es) hs left first in
-            let rest = rooted_earliest (before ++ h ∷ []) (e ∷ es) hs (behind_send h (e ∷ es) hs all) rooted
+            let rest = rooted_earliest (before ++ h ∷ []) (e ∷ es) hs
+            (behind_send h (e ∷ es) hs all) rooted
             (left_send before h (e ∷ es) hs all rooted first) in
             omega arith
         | false ↦ λ later.
             let here = no_cost before e (left.reported 0 e refl) in
-            let rest = rooted_earliest (before ++ e ∷ []) es (h ∷ hs) (behind_event e es (h ∷ hs) all)
+            let rest = rooted_earliest (before ++ e ∷ []) es (h ∷ hs)
+            (behind_event e es (h ∷ hs) all)
             (rooted_rest e es rooted)
             (left_event before e es (h ∷ hs) all rooted (all_later h (e ∷ es) hs all later)) in
             omega arith
@@ -395,12 +430,14 @@ module _ (Stamps : Event → Type 0) where
 
 -- IN THE STREAMS
 
-module _ (streams : List Stream) (sound : IsStreams streams) (accepted : refusal streams ≡ None) (p : Pid) where
+module _ (streams : List Stream) (sound : IsStreams streams) (accepted : refusal streams ≡ None)
+    (p : Pid) where
   hidden_rises : (v n : ℕ) → RisesFrom v (hidden_from streams p v n)
   hidden_rises v zero = tt
   hidden_rises v (suc n) =
       let rest = hidden_from streams p (suc v) n in
-      elim (hidden_send streams p v) as (λ o. hidden_send streams p v ≡ o → RisesFrom v (first_of o rest)) [
+      elim (hidden_send streams p v) as (λ o. hidden_send streams p v ≡ o
+      → RisesFrom v (first_of o rest)) [
         | None ↦ λ _. rises_lower v (suc v) rest (omega arith) (hidden_rises (suc v) n)
         | Some h ↦ λ is.
             let count = hidden_count streams sound.draft.rising p v h is in (
@@ -417,7 +454,8 @@ module _ (streams : List Stream) (sound : IsStreams streams) (accepted : refusal
   rest_of =
       let fit = fit_together streams (paired streams accepted) in
       record {
-        rise = λ i j d e less at_d at_e stamps_d stamps_e. fit.grows p i j d e less at_d at_e stamps_d stamps_e;
+        rise = λ i j d e less at_d at_e stamps_d stamps_e.
+            fit.grows p i j d e less at_d at_e stamps_d stamps_e;
         reported = λ i e at stamps. inl (record { index = i; at = at; stamps = stamps });
         from = 0;
         above = hidden_rises 0 (suc (highest streams));
@@ -436,7 +474,8 @@ module _ (streams : List Stream) (sound : IsStreams streams) (accepted : refusal
   counted k h at =
       let is = hidden_is streams p h.serial.this h sound.draft.rising (hidden_at k h at) in
       let t = is.taken in
-      let rise = (fit_together streams (paired streams accepted)).rises t.pid t.index t.event t.at in
+      let rise = (fit_together streams (paired streams accepted)).rises t.pid t.index t.event
+      t.at in
       let count = t.count in
       inl (omega arith)
 
@@ -480,7 +519,8 @@ module _ (streams : List Stream) (sound : IsStreams streams) (accepted : refusal
 
   pub earliest_zero : ¬ (HasZeroBehindStamp streams p ⊎ HasZeroBehindReceive streams p)
       → needs_from 0 [] (events (earliest_of streams p)) ≡ 0
-  earliest_zero none = rooted_earliest (IsStampOf streams p) [] (events_of streams p) (hidden_sends streams p) rest_of
+  earliest_zero none = rooted_earliest (IsStampOf streams p) [] (events_of streams p)
+      (hidden_sends streams p) rest_of
       (rooted none) (record {
         reported = λ j e at stamps root. refl;
         hidden = λ k h at root. inl refl;

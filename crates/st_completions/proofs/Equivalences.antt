@@ -1,5 +1,5 @@
--- A run without a reset has a full completion, a full one is settled, and a settled one is shown by acts that report
--- what is told of it.
+-- A run without a reset has a full completion, a full one is settled, and a settled one is shown by
+-- acts that report what is told of it.
 use Rattle.std.proofs.Common.{◌↔◌, ℕ, List, subst}
 use Rattle.st_core.specs.Pid.{IsRising}
 use Rattle.st_core.specs.Run.{Shows, Stream, pids_of}
@@ -12,10 +12,17 @@ use Rattle.st_completions.proofs.RunCompletions.{run_completed}
 use Rattle.st_plan.proofs.ForCallers.{full_streams_plain}
 
 module _ (top : ℕ) (streams : List Stream) where
-  pub shown_full : IsRising (pids_of streams) → IsShownInOneTrace top streams → IsCompleted IsFull top streams
+  pub shown_full : IsRising (pids_of streams) → IsShownInOneTrace top streams
+      → IsCompleted IsFull top streams
   shown_full rising shown =
       let done = run_completed top streams shown.acts shown.shows shown.one_trace rising in
-      record { wholes = wholes_of top streams shown.acts shown.shows.0; told = done.0; sound = done.1; is = done.2 }
+      record {
+        wholes = wholes_of top streams shown.acts shown.shows.0;
+        told = done.0;
+        sound =
+            done.1;
+        is = done.2;
+      }
 
   pub full_settled : IsCompleted IsFull top streams → IsCompleted IsSettled top streams
   full_settled done = record {

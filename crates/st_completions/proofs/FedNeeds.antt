@@ -1,7 +1,9 @@
--- A need is fed: back from it to the told event before it, each untold stamp passes the prev on that it has, so that it
--- came from an untold receive.
-use Rattle.std.proofs.Common.{◌≡◌, ◌≢◌, ℕ, zero, suc, ◌<◌, ◌≤◌, ◌==◌, ◌&&◌, max, nat_lt, Bool, true, false, not}
-use Rattle.std.proofs.Common.{cond, List, [], ◌∷◌, ◌++◌, map, take, Some, inl, inr, slice_get, append-nil}
+-- A need is fed: back from it to the told event before it, each untold stamp passes the prev on
+-- that it has, so that it came from an untold receive.
+use Rattle.std.proofs.Common.{◌≡◌, ◌≢◌, ℕ, zero, suc, ◌<◌, ◌≤◌, ◌==◌, ◌&&◌, max, nat_lt, Bool, true}
+use Rattle.std.proofs.Common.{false, not}
+use Rattle.std.proofs.Common.{cond, List, [], ◌∷◌, ◌++◌, map, take, Some, inl, inr, slice_get}
+use Rattle.std.proofs.Common.{append-nil}
 use Rattle.std.proofs.Common.{refl, sym, ◌∙◌, ap, arith}
 use Rattle.std.proofs.lemmas.Bool.{eq-eqb, false≢true, ltb-true, and_parts}
 use Rattle.std.proofs.lemmas.Bool.Decides.{nat_tests}
@@ -23,35 +25,46 @@ events ms = map (λ m. m.event) ms
 
 -- TOLD EVENTS AMONG ALL
 
-told_more : (m : Marked) (ms : List Marked) (i : ℕ) (e : Event) (b : Bool) → m.told ≡ b → IsToldAt ms i e
+told_more : (m : Marked) (ms : List Marked) (i : ℕ) (e : Event) (b : Bool) → m.told ≡ b
+    → IsToldAt ms i e
     → IsToldAt (m ∷ ms) (cond b (suc i) i) e
 told_more m ms i e true is at = record {
   index = suc at.index;
   at = at.at;
-  before = ap (λ b. cond b (m.event ∷ told_events (take at.index ms)) (told_events (take at.index ms))) is
+  before = ap (λ b. cond b (m.event ∷ told_events (take at.index ms))
+      (told_events (take at.index ms))) is
       ∙ ap (λ es. m.event ∷ es) at.before
       ∙ ap (λ b. take (suc i) (cond b (m.event ∷ told_events ms) (told_events ms))) (sym is);
 }
 told_more m ms i e false is at = record {
   index = suc at.index;
   at = at.at;
-  before = ap (λ b. cond b (m.event ∷ told_events (take at.index ms)) (told_events (take at.index ms))) is
+  before = ap (λ b. cond b (m.event ∷ told_events (take at.index ms))
+      (told_events (take at.index ms))) is
       ∙ at.before
       ∙ ap (λ b. take i (cond b (m.event ∷ told_events ms) (told_events ms))) (sym is);
 }
 
-pub told_at : (ms : List Marked) (i : ℕ) (e : Event) → slice_get (told_events ms) i ≡ Some e → IsToldAt ms i e
+pub told_at : (ms : List Marked) (i : ℕ) (e : Event) → slice_get (told_events ms) i ≡ Some e
+    → IsToldAt ms i e
 told_at [] i e at = absurd (none-some e at)
 told_at (m ∷ ms) i e at =
-    elim m.told as (λ b. m.told ≡ b → slice_get (cond b (m.event ∷ told_events ms) (told_events ms)) i ≡ Some e
+    elim m.told as (λ b. m.told ≡ b → slice_get (cond b (m.event ∷ told_events ms) (told_events ms))
+    i ≡ Some e
     → IsToldAt (m ∷ ms) i e) [
       | false ↦ λ is at. told_more m ms i e false is (told_at ms i e at)
-      | true ↦ λ is at. elim i as (λ i. slice_get (m.event ∷ told_events ms) i ≡ Some e → IsToldAt (m ∷ ms) i e) [
-        | zero ↦ λ at.
-            let event = same_Some m.event e at in
-            record { index = 0; at = λ k. Some (record { event = event k; told = is k }); before = refl }
-        | suc j ↦ λ at. told_more m ms j e true is (told_at ms j e at)
-      ] at
+      | true ↦ λ is at. elim i as (λ i. slice_get (m.event ∷ told_events ms) i ≡ Some e
+          → IsToldAt (m ∷ ms) i e) [
+            | zero ↦ λ at.
+                let event = same_Some m.event e at in
+                record {
+                  index = 0;
+                  at = λ k. Some (record { event = event k; told = is k });
+                  before =
+                      refl;
+                }
+            | suc j ↦ λ at. told_more m ms j e true is (told_at ms j e at)
+          ] at
     ] refl at
 
 pub take_events : (ms : List Marked) (k : ℕ) → take k (events ms) ≡ events (take k ms)
@@ -96,7 +109,8 @@ pub record Misses (ms : List Marked) (k v : ℕ) : Type 0 where
   below : v < greatest_count (told_events (take k ms))
   other : v ≢ prev_after (told_events (take k ms))
 
-fed_later : (ms : List Marked) (k v : ℕ) → told_events (take k ms) ≡ told_events (take (suc k) ms) → IsFed ms k v
+fed_later : (ms : List Marked) (k v : ℕ) → told_events (take k ms) ≡ told_events (take (suc k) ms)
+    → IsFed ms k v
     → IsFed ms (suc k) v
 fed_later ms k v same fed =
     let low = fed.below in
@@ -110,7 +124,8 @@ fed_later ms k v same fed =
       between = fed.between ∙ same;
     }
 
-pub walk_back : (ms : List Marked) (k v : ℕ) (m : Marked) → GoOn ms → slice_get ms k ≡ Some m → Misses ms k v
+pub walk_back : (ms : List Marked) (k v : ℕ) (m : Marked) → GoOn ms → slice_get ms k ≡ Some m
+    → Misses ms k v
     → IsFed ms k v
 walk_back ms zero v m go_on at miss = let low = miss.below in absurd (omega arith)
 walk_back ms (suc k) v m go_on at miss =
@@ -141,7 +156,8 @@ walk_back ms (suc k) v m go_on at miss =
               below = omega arith;
               at = found.1 ∙ (λ j. Some (record { event = e; told = is j }));
               receives = receives;
-              feeds = ap (λ b. cond (not b) e.serial.this e.serial.prev) (sym receives) ∙ leaves e ∙ left;
+              feeds = ap (λ b. cond (not b) e.serial.this e.serial.prev) (sym receives) ∙ leaves e
+                  ∙ left;
               between = same;
             }
             | true ↦ λ stamps.
@@ -168,13 +184,16 @@ walk_back ms (suc k) v m go_on at miss =
 
 -- one that needs what the told events before it don't leave
 pub need_fed : (ms : List Marked) (k : ℕ) (e : Event) → GoOn ms
-    → slice_get ms k ≡ Some (record { event = e; told = true }) → is_need (told_events (take k ms)) e ≡ true
+    → slice_get ms k ≡ Some (record { event = e; told = true })
+    → is_need (told_events (take k ms)) e ≡ true
     → IsFed ms k e.serial.prev
 need_fed ms k e go_on at need =
     let v = e.serial.prev in
     let before = told_events (take k ms) in
-    let stamp = and_parts (is_stamp e) (not (v == prev_after before) && nat_lt v (greatest_count before)) need in
-    let tests = and_parts (not (v == prev_after before)) (nat_lt v (greatest_count before)) stamp.1 in
+    let stamp = and_parts (is_stamp e) (not (v == prev_after before)
+    && nat_lt v (greatest_count before)) need in
+    let tests = and_parts (not (v == prev_after before)) (nat_lt v (greatest_count before))
+    stamp.1 in
     let low = ltb-true v (greatest_count before) tests.1 in
     let least = told_below (take k ms) in
     walk_back ms k v (record { event = e; told = true }) go_on at (record {
@@ -187,7 +206,8 @@ need_fed ms k e go_on at need =
     })
 
 pub never_late : (ms : List Marked) (k : ℕ) (e : Event) → GoOn ms
-    → slice_get ms k ≡ Some (record { event = e; told = true }) → is_late (told_events (take k ms)) e ≡ false
+    → slice_get ms k ≡ Some (record { event = e; told = true })
+    → is_late (told_events (take k ms)) e ≡ false
 never_late ms k e go_on at =
     let before = told_events (take k ms) in
     elim (is_stamp e) as (λ b. is_stamp e ≡ b

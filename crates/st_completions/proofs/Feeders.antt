@@ -1,8 +1,10 @@
--- A process has as many untold receives of a count as needs of it: between a need and the told event before it stands
--- one, and so they are different ones.
-use Rattle.std.proofs.Common.{◌≡◌, ℕ, zero, suc, ◌+◌, ◌<◌, ◌≤◌, ◌==◌, ◌&&◌, ◌||◌, Bool, true, false, not, cond}
+-- A process has as many untold receives of a count as needs of it: between a need and the told
+-- event before it stands one, and so they are different ones.
+use Rattle.std.proofs.Common.{◌≡◌, ℕ, zero, suc, ◌+◌, ◌<◌, ◌≤◌, ◌==◌, ◌&&◌, ◌||◌, Bool, true, false}
+use Rattle.std.proofs.Common.{not, cond}
 use Rattle.std.proofs.Common.{List, []}
-use Rattle.std.proofs.Common.{◌∷◌, ◌++◌, take, drop, length, Some, inl, inr, slice_get, append-nil, refl}
+use Rattle.std.proofs.Common.{◌∷◌, ◌++◌, take, drop, length, Some, inl, inr, slice_get, append-nil}
+use Rattle.std.proofs.Common.{refl}
 use Rattle.std.proofs.Common.{sym, ◌∙◌, ap, subst, arith, length-append}
 use Rattle.std.specs.Set.{is_member}
 use Rattle.std.proofs.lemmas.Bool.{eqb-true, eq-eqb, false≢true, and_parts, and_from, cases_lt}
@@ -34,7 +36,8 @@ any q = true
 
 -- those that pass and those that don't are all
 pub feeders_split : (test : Pid → Bool) (v : ℕ) (ms : List Marked)
-    → length (feeders any v ms) ≡ length (feeders test v ms) + length (feeders (λ q. not (test q)) v ms)
+    → length (feeders any v ms) ≡ length (feeders test v ms)
+    + length (feeders (λ q. not (test q)) v ms)
 feeders_split test v [] = refl
 feeders_split test v (m ∷ ms) =
     let from = m.event.from in
@@ -43,14 +46,17 @@ feeders_split test v (m ∷ ms) =
     let some = feeders test v ms in
     let others = feeders (λ q. not (test q)) v ms in
     elim (feeds v m) as (λ b. length (cond b (from ∷ all) all)
-    ≡ length (cond (test from && b) (from ∷ some) some) + length (cond (not (test from) && b) (from ∷ others) others)) [
+    ≡ length (cond (test from && b) (from ∷ some) some)
+    + length (cond (not (test from) && b) (from ∷ others) others)) [
       | true ↦ elim (test from) as (λ t. length (from ∷ all)
-          ≡ length (cond (t && true) (from ∷ some) some) + length (cond (not t && true) (from ∷ others) others)) [
+          ≡ length (cond (t && true) (from ∷ some) some)
+          + length (cond (not t && true) (from ∷ others) others)) [
             | true ↦ omega arith
             | false ↦ omega arith
           ]
       | false ↦ elim (test from) as (λ t. length all
-          ≡ length (cond (t && false) (from ∷ some) some) + length (cond (not t && false) (from ∷ others) others)) [
+          ≡ length (cond (t && false) (from ∷ some) some)
+          + length (cond (not t && false) (from ∷ others) others)) [
             | true ↦ rest
             | false ↦ rest
           ]
@@ -65,7 +71,8 @@ pub record IsFeeder (test : Pid → Bool) (v : ℕ) (ms : List Marked) (q : Pid)
   pub from : mark.event.from ≡ q
   pub passes : test q ≡ true
 
-feeder_later : (test : Pid → Bool) (v : ℕ) (m : Marked) (ms : List Marked) (q : Pid) → IsFeeder test v ms q
+feeder_later : (test : Pid → Bool) (v : ℕ) (m : Marked) (ms : List Marked) (q : Pid)
+    → IsFeeder test v ms q
     → IsFeeder test v (m ∷ ms) q
 feeder_later test v m ms q f = record {
   index = suc f.index;
@@ -114,7 +121,8 @@ told_grows (m ∷ ms) (suc i) (suc k) le =
     let rest = told_grows ms i k (omega arith) in
     let low = told_events (take i ms) in
     let high = told_events (take k ms) in
-    elim m.told as (λ b. length (cond b (m.event ∷ low) low) ≤ length (cond b (m.event ∷ high) high)) [
+    elim m.told as (λ b. length (cond b (m.event ∷ low) low)
+    ≤ length (cond b (m.event ∷ high) high)) [
       | true ↦ omega arith
       | false ↦ rest
     ]
@@ -127,9 +135,11 @@ module _ (all : List Marked) (v : ℕ) (fed : (k : ℕ) (e : Event)
   told_next k m at = ap told_events (take_more all k m at) ∙ told_push (take k all) m
 
   -- nothing is between a told event and the next place
-  told_starves : (k : ℕ) (m : Marked) → slice_get all k ≡ Some m → m.told ≡ true → IsFed all (suc k) v → ⊥
+  told_starves : (k : ℕ) (m : Marked) → slice_get all k ≡ Some m → m.told ≡ true
+      → IsFed all (suc k) v → ⊥
   told_starves k m at told f =
-      let next = told_next k m at ∙ ap (λ b. told_events (take k all) ++ cond b (m.event ∷ []) []) told in
+      let next = told_next k m at ∙ ap (λ b. told_events (take k all) ++ cond b (m.event ∷ []) [])
+      told in
       let sum = ap length next ∙ length-append (told_events (take k all)) (m.event ∷ []) in
       let same = ap length f.between in
       let low = f.below in
@@ -140,7 +150,8 @@ module _ (all : List Marked) (v : ℕ) (fed : (k : ℕ) (e : Event)
   fed_before : (k : ℕ) (m : Marked) → slice_get all k ≡ Some m → m.told ≡ false → feeds v m ≡ false
       → IsFed all (suc k) v → IsFed all k v
   fed_before k m at told none f =
-      let next = told_next k m at ∙ ap (λ b. told_events (take k all) ++ cond b (m.event ∷ []) []) told
+      let next = told_next k m at ∙ ap (λ b. told_events (take k all) ++ cond b (m.event ∷ []) [])
+      told
       ∙ append-nil (told_events (take k all)) in
       let low = f.below in
       elim (cases_lt f.index k) [
@@ -177,13 +188,15 @@ module _ (all : List Marked) (v : ℕ) (fed : (k : ℕ) (e : Event)
       → needs_from v before (cond b (e ∷ told_rest) told_rest)
       ≤ t + length (cond (not b && (not (is_stamp e) && e.serial.this == v)) (e.from ∷ here) here)) [
         | true ↦ λ told.
-            let later = enough (suc k) 0 rest front.1 (λ f. absurd (told_starves k m front.0 told f)) in
+            let later = enough (suc k) 0 rest front.1
+            (λ f. absurd (told_starves k m front.0 told f)) in
             let same : told_events (take (suc k) all) ≡ before ++ e ∷ [] =
             next ∙ ap (λ b. before ++ cond b (e ∷ []) []) told in
             let tail : needs_from v (before ++ e ∷ []) told_rest ≤ 0 + length here =
             subst (λ es. needs_from v es told_rest ≤ 0 + length here) same later in
             let need = is_need before e && e.serial.prev == v in
-            elim need as (λ b. need ≡ b → cond b 1 0 + needs_from v (before ++ e ∷ []) told_rest ≤ t + length here) [
+            elim need as (λ b. need ≡ b → cond b 1 0 + needs_from v (before ++ e ∷ []) told_rest ≤ t
+            + length here) [
               | false ↦ λ _. omega arith
               | true ↦ λ is.
                   let parts = and_parts (is_need before e) (e.serial.prev == v) is in
@@ -200,11 +213,13 @@ module _ (all : List Marked) (v : ℕ) (fed : (k : ℕ) (e : Event)
             → needs_from v before told_rest ≤ t + length (cond b (e.from ∷ here) here)) [
               | true ↦ λ is.
                   let later = enough (suc k) (t + 1) rest front.1 (λ f. omega arith) in
-                  let tail = subst (λ es. needs_from v es told_rest ≤ t + 1 + length here) same later in
+                  let tail = subst (λ es. needs_from v es told_rest ≤ t + 1 + length here) same
+                  later in
                   omega arith
               | false ↦ λ is.
                   let none : feeds v m ≡ false = ap (λ b. not b && is_feeder) told ∙ is in
-                  let later = enough (suc k) t rest front.1 (λ f. some (fed_before k m front.0 told none f)) in
+                  let later = enough (suc k) t rest front.1
+                  (λ f. some (fed_before k m front.0 told none f)) in
                   subst (λ es. needs_from v es told_rest ≤ t + length here) same later
             ] refl
       ] refl

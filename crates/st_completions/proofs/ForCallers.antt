@@ -1,6 +1,6 @@
--- The lemmas that proofs of the crates above may cite: on streams, and what pairing says of them; on
--- whole streams, their events and what is told of them; on reasons and completions; and on hidden
--- sends, their places and the choices of these.
+-- The lemmas that proofs of the crates above may cite: on streams, and what pairing says of them;
+-- on whole streams, their events and what is told of them; on reasons and completions; and on
+-- hidden sends, their places and the choices of these.
 
 -- ---- streams, and what pairing says of them
 pub use Rattle.st_completions.proofs.ShownStreams.{lists_among}
@@ -24,7 +24,8 @@ pub use Rattle.st_completions.proofs.NeedlessStreams.{needless_shown}
 pub use Rattle.st_completions.proofs.CompletionsOfCompletions.{completed_again}
 pub use Rattle.st_completions.proofs.FreeSenders.{sum_low}
 -- ---- hidden sends, and needs of 0 that stay wherever they stand
-pub use Rattle.st_completions.proofs.UntoldEvents.{count_at, HasCount, hidden_all, hidden_is, RisesFrom}
+pub use Rattle.st_completions.proofs.UntoldEvents.{count_at, HasCount, hidden_all, hidden_is}
+pub use Rattle.st_completions.proofs.UntoldEvents.{RisesFrom}
 pub use Rattle.st_completions.proofs.Zeros.{zeros_final}
 -- ---- the earliest places
 pub use Rattle.st_completions.proofs.EarliestPlaces.{earliest_placing, earliest_zero}

@@ -1,5 +1,5 @@
--- Who is free to send what needs ask for is the same in each choice as in the streams: a hidden send
--- has its receive, so its process isn't free for its count in either.
+-- Who is free to send what needs ask for is the same in each choice as in the streams: a hidden
+-- send has its receive, so its process isn't free for its count in either.
 use Rattle.std.proofs.Common.{◌≡◌, ℕ, ◌≤◌, ◌&&◌, Bool, true, false, not}
 use Rattle.std.proofs.Common.{List, [], ◌∷◌, Option, Some, None, is_none, is_some, sum_by}
 use Rattle.std.proofs.Common.{slice_get, refl, sym, ◌∙◌, ap, arith}
@@ -20,10 +20,12 @@ use Rattle.st_completions.proofs.Lookups.{stamp_passes, taken_alike}
 use Rattle.st_completions.proofs.Choices.{mark_at, send_stamps, told_somewhere}
 use Rattle.st_completions.proofs.GoodStreams.{any_event, free_is}
 use Rattle.st_completions.proofs.Needs.{events_all, events_told}
-use Rattle.st_completions.proofs.UntoldEvents.{fit, rising, same_pids, stamp_all, taken_all, untold_got}
+use Rattle.st_completions.proofs.UntoldEvents.{fit, rising, same_pids, stamp_all, taken_all}
+use Rattle.st_completions.proofs.UntoldEvents.{untold_got}
 use Rattle.st_completions.proofs.UntoldEvents.{untold_mark, untold_sends}
 
-pub sum_low : (f g : Pid → ℕ) → ((p : Pid) → f p ≤ g p) → (ps : List Pid) → sum_by f ps ≤ sum_by g ps
+pub sum_low : (f g : Pid → ℕ) → ((p : Pid) → f p ≤ g p) → (ps : List Pid)
+    → sum_by f ps ≤ sum_by g ps
 sum_low f g low [] = omega arith
 sum_low f g low (p ∷ ps) =
     let first = sum_by-cons f p ps in
@@ -48,7 +50,8 @@ module _ (streams : List Stream) (wholes : List Whole) (choice : IsChoice stream
   taken_told : (q : Pid) (v : ℕ) → IsTaken all q v → IsTaken streams q v
   taken_told q v t =
       let ms = marked_of wholes t.pid in
-      let m = mark_at ms t.index t.event (ap (λ es. slice_get es t.index) (sym (events_all wholes t.pid)) ∙ t.at) in
+      let m = mark_at ms t.index t.event (ap (λ es. slice_get es t.index)
+      (sym (events_all wholes t.pid)) ∙ t.at) in
       elim m.mark.told as (λ b. m.mark.told ≡ b → IsTaken streams q v) [
         | true ↦ λ told.
             let r = told_somewhere ms t.index m.mark m.at told in
@@ -66,18 +69,22 @@ module _ (streams : List Stream) (wholes : List Whole) (choice : IsChoice stream
         | false ↦ λ told.
             let sends = untold_sends streams wholes choice t.pid m.mark.event
             (record { index = t.index; at = m.at ∙ untold_mark m.mark told }) in
-            absurd (false≢true (sym t.receives ∙ ap is_stamp (sym m.is) ∙ send_stamps m.mark.event sends))
+            absurd (false≢true (sym t.receives ∙ ap is_stamp (sym m.is)
+            ∙ send_stamps m.mark.event sends))
       ] refl
 
   got_alike : (q : Pid) (v : ℕ) → is_none (receive_of all q v) ≡ is_none (receive_of streams q v)
-  got_alike q v = taken_alike all streams q v choice.sound.draft.rising (rising streams wholes choice) (taken_told q v)
+  got_alike q v = taken_alike all streams q v choice.sound.draft.rising
+      (rising streams wholes choice) (taken_told q v)
       (taken_all streams wholes choice q v)
 
   -- a stamp of all is told, if its message isn't received
-  stamp_told : (q : Pid) (v : ℕ) → is_none (receive_of streams q v) ≡ true → HasStamp all q v → HasStamp streams q v
+  stamp_told : (q : Pid) (v : ℕ) → is_none (receive_of streams q v) ≡ true → HasStamp all q v
+      → HasStamp streams q v
   stamp_told q v none s =
       let ms = marked_of wholes q in
-      let m = mark_at ms s.index s.event (ap (λ es. slice_get es s.index) (sym (events_all wholes q)) ∙ s.at) in
+      let m = mark_at ms s.index s.event (ap (λ es. slice_get es s.index)
+      (sym (events_all wholes q)) ∙ s.at) in
       let count : m.mark.event.serial.this ≡ v = ap (λ (x : Event). x.serial.this) m.is ∙ s.count in
       elim m.mark.told as (λ b. m.mark.told ≡ b → HasStamp streams q v) [
         | true ↦ λ told.
@@ -106,20 +113,23 @@ module _ (streams : List Stream) (wholes : List Whole) (choice : IsChoice stream
             let s = stamp_if streams q v f is in
             let t = stamp_all streams wholes choice q v s.0 in
             stamp_is all (fit streams wholes choice) q v t.0 test ∙ ap test (t.1 ∙ sym s.1)
-        | None ↦ λ unstamped. elim (stamp_of all q v) as (λ o. stamp_of all q v ≡ o → stamp_passes test o ≡ false) [
-          | None ↦ λ _. refl
-          | Some f ↦ λ is. absurd (none_stamped streams q v unstamped
-              (stamp_told q v none (stamp_if all q v f is).0))
-        ] refl
+        | None ↦ λ unstamped. elim (stamp_of all q v)
+            as (λ o. stamp_of all q v ≡ o → stamp_passes test o ≡ false) [
+              | None ↦ λ _. refl
+              | Some f ↦ λ is. absurd (none_stamped streams q v unstamped
+                  (stamp_told q v none (stamp_if all q v f is).0))
+            ] refl
       ] refl
 
   free_alike : (v : ℕ) (q : Pid) → is_free all v q ≡ is_free streams v q
   free_alike v q = free_is all v q
       ∙ and_alike (is_none (receive_of all q v)) (is_none (receive_of streams q v))
-      (not (stamp_passes any_event (stamp_of all q v))) (not (stamp_passes any_event (stamp_of streams q v)))
+      (not (stamp_passes any_event (stamp_of all q v)))
+      (not (stamp_passes any_event (stamp_of streams q v)))
       (got_alike q v) (λ none. ap not (stamps_alike any_event q v none))
       ∙ sym (free_is streams v q)
 
-  pub frees : (v : ℕ) → count_by (is_free all v) (pids_of all) ≡ count_by (is_free streams v) (pids_of streams)
+  pub frees : (v : ℕ) → count_by (is_free all v) (pids_of all)
+      ≡ count_by (is_free streams v) (pids_of streams)
   frees v = ap (λ (t : Pid → Bool). count_by t (pids_of all)) (λ k q. free_alike v q k)
       ∙ ap (count_by (is_free streams v)) (sym (same_pids streams wholes choice))

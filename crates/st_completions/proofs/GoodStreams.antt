@@ -1,5 +1,5 @@
--- Streams that law D goes through: no reason holds of them, and each receive's send is there. What one more event
--- leaves of this, wherever it fits.
+-- Streams that law D goes through: no reason holds of them, and each receive's send is there. What
+-- one more event leaves of this, wherever it fits.
 use Rattle.std.proofs.Common.{◌≡◌, ℕ, ◌≤◌, ◌&&◌, Bool, true, false, List, []}
 use Rattle.std.proofs.Common.{take, length, inl, inr, Option, Some, None, is_none, not}
 use Rattle.std.proofs.Common.{refl, ◌∙◌, ap, subst}
@@ -46,7 +46,8 @@ none_passes (Some f) = refl
 
 pub free_is : (streams : List Stream) (v : ℕ) (q : Pid) → is_free streams v q
     ≡ (is_none (receive_of streams q v) && not (stamp_passes any_event (stamp_of streams q v)))
-free_is streams v q = ap (λ b. is_none (receive_of streams q v) && b) (none_passes (stamp_of streams q v))
+free_is streams v q = ap (λ b. is_none (receive_of streams q v) && b)
+    (none_passes (stamp_of streams q v))
 
 -- ONE MORE EVENT
 
@@ -60,12 +61,14 @@ module _ (p : Pid) (i : ℕ) (r : Event) (streams : List Stream) where
       → ((q : Pid) (k : ℕ) (e : Event) → event_at streams q k ≡ Some e → is_stamp e ≡ false
       → HasStamp streams e.from e.serial.this)
       → (is_stamp r ≡ false → HasStamp streams r.from r.serial.this)
-      → (q : Pid) (k : ℕ) (e : Event) → event_at (more p i r streams) q k ≡ Some e → is_stamp e ≡ false
+      → (q : Pid) (k : ℕ) (e : Event) → event_at (more p i r streams) q k ≡ Some e
+      → is_stamp e ≡ false
       → HasStamp (more p i r streams) e.from e.serial.this
   sent_with within sent mine q k e at receives = elim (is_placed p i r streams within q k e at) [
     | inl new ↦
         let same = new.1.1 in
-        stamp_stays e.from e.serial.this (subst (λ (x : Event). HasStamp streams x.from x.serial.this) same
+        stamp_stays e.from e.serial.this (subst (λ (x : Event).
+        HasStamp streams x.from x.serial.this) same
         (mine (ap is_stamp same ∙ receives)))
     | inr old ↦ stamp_stays e.from e.serial.this (sent q old.index e old.at receives)
   ]
@@ -73,8 +76,10 @@ module _ (p : Pid) (i : ℕ) (r : Event) (streams : List Stream) where
   pub within_with : (top : ℕ) → i ≤ length (events_of streams p)
       → ((q : Pid) (k : ℕ) (e : Event) → event_at streams q k ≡ Some e → e.serial.this ≤ top)
       → r.serial.this ≤ top
-      → (q : Pid) (k : ℕ) (e : Event) → event_at (more p i r streams) q k ≡ Some e → e.serial.this ≤ top
-  within_with top within each_within mine q k e at = elim (is_placed p i r streams within q k e at) [
-    | inl new ↦ subst (λ (x : Event). x.serial.this ≤ top) new.1.1 mine
-    | inr old ↦ each_within q old.index e old.at
-  ]
+      → (q : Pid) (k : ℕ) (e : Event) → event_at (more p i r streams) q k ≡ Some e
+      → e.serial.this ≤ top
+  within_with top within each_within mine q k e at =
+      elim (is_placed p i r streams within q k e at) [
+        | inl new ↦ subst (λ (x : Event). x.serial.this ≤ top) new.1.1 mine
+        | inr old ↦ each_within q old.index e old.at
+      ]

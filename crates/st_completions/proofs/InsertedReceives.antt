@@ -1,7 +1,9 @@
--- The receive of an unpaired send, put right before a need of its count: the streams stay good, with one need less, and
--- what else is told of messages stays.
-use Rattle.std.proofs.Common.{◌≡◌, ℕ, zero, suc, ◌+◌, ◌≤◌, ◌==◌, ◌&&◌, Bool, true, false, cond, List, []}
-use Rattle.std.proofs.Common.{◌∷◌, ◌++◌, take, drop, length, Option, Some, None, is_none, is_some, slice_get}
+-- The receive of an unpaired send, put right before a need of its count: the streams stay good,
+-- with one need less, and what else is told of messages stays.
+use Rattle.std.proofs.Common.{◌≡◌, ℕ, zero, suc, ◌+◌, ◌≤◌, ◌==◌, ◌&&◌, Bool, true, false, cond}
+use Rattle.std.proofs.Common.{List, []}
+use Rattle.std.proofs.Common.{◌∷◌, ◌++◌, take, drop, length, Option, Some, None, is_none, is_some}
+use Rattle.std.proofs.Common.{slice_get}
 use Rattle.std.proofs.Common.{refl, sym, ◌∙◌, ap, subst, arith}
 use Rattle.std.specs.Option.{option_map_or}
 use Rattle.std.proofs.lemmas.Bool.{eq-eqb, false≢true, and_parts, and_from}
@@ -19,7 +21,8 @@ use Rattle.st_pair.specs.Places.{event_at, is_stamp}
 use Rattle.st_pair.specs.Pairing.{agrees, is_send, receive_of, stamp_of, to_eq}
 use Rattle.st_completions.specs.Completion.{receive_for}
 use Rattle.st_completions.specs.Supply.{is_own_supply, needs, needs_from}
-use Rattle.st_completions.proofs.Lookups.{events_with, HasStamp, none_taken, one_stamp, passes_with, stamp_if}
+use Rattle.st_completions.proofs.Lookups.{events_with, HasStamp, none_taken, one_stamp, passes_with}
+use Rattle.st_completions.proofs.Lookups.{stamp_if}
 use Rattle.st_completions.proofs.Lookups.{stamp_passes, taken_with}
 use Rattle.st_completions.specs.Placed.{AreTimely}
 use Rattle.st_completions.proofs.GoodStreams.{IsGood, IsLack, sends_to, sent_with, within_with}
@@ -43,8 +46,10 @@ to_same (Some q) p h = ap (λ (x : Pid). Some x) (pid_same q p h)
 pub supply_of : (streams : List Stream) (v : ℕ) (p q : Pid) → is_own_supply streams v p q ≡ true
     → IsSupply streams v p q
 supply_of streams v p q own =
-    let parts = and_parts (is_none (receive_of streams q v)) (stamp_passes (sends_to p) (stamp_of streams q v)) own in
-    elim (stamp_of streams q v) as (λ o. stamp_of streams q v ≡ o → stamp_passes (sends_to p) o ≡ true
+    let parts = and_parts (is_none (receive_of streams q v))
+    (stamp_passes (sends_to p) (stamp_of streams q v)) own in
+    elim (stamp_of streams q v) as (λ o. stamp_of streams q v ≡ o
+    → stamp_passes (sends_to p) o ≡ true
     → IsSupply streams v p q) [
       | None ↦ λ _ h. absurd (false≢true h)
       | Some f ↦ λ is h.
@@ -59,9 +64,11 @@ supply_of streams v p q own =
     ] refl parts.1
 
 pub sent_from : (k : Kind) (from : Pid) (to : Option Pid) (p : Pid)
-    → (let b : Bool = elim k [ kind.Send ↦ true | kind.Receive ↦ false | kind.Print ↦ false ] in b) ≡ true
+    → (let b : Bool = elim k [ kind.Send ↦ true | kind.Receive ↦ false | kind.Print ↦ false ] in b)
+    ≡ true
     → is_of k from to p ≡ true → from ≡ p
-sent_from kind.Send from to p sends own = pid_same from p (and_parts (pid_eq from p) (is_some to) own).0
+sent_from kind.Send from to p sends own = pid_same from p
+    (and_parts (pid_eq from p) (is_some to) own).0
 sent_from kind.Receive from to p sends own = absurd (false≢true sends)
 sent_from kind.Print from to p sends own = absurd (false≢true sends)
 
@@ -69,7 +76,8 @@ to_refl : (to : Option Pid) → to_eq to to ≡ true
 to_refl None = refl
 to_refl (Some p) = pid_eq-refl p
 
-pub drop_is : (es : List Event) (i : ℕ) (e : Event) → slice_get es i ≡ Some e → drop i es ≡ e ∷ drop (suc i) es
+pub drop_is : (es : List Event) (i : ℕ) (e : Event) → slice_get es i ≡ Some e
+    → drop i es ≡ e ∷ drop (suc i) es
 drop_is [] i e at = absurd (none-some e at)
 drop_is (d ∷ es) zero e at = ap (λ x. x ∷ es) (same_Some d e at)
 drop_is (d ∷ es) (suc i) e at = drop_is es i e at
@@ -105,13 +113,16 @@ module _ (top : ℕ) (streams : List Stream) (good : IsGood top streams) (p : Pi
   agree =
       and_from (is_send f) (f.label.0 == f.label.0 && (f.serial.prev == f.serial.prev
       && (to_eq f.to f.to && f.value == f.value))) supply.sends
-      (and_from (f.label.0 == f.label.0) (f.serial.prev == f.serial.prev && (to_eq f.to f.to && f.value == f.value))
+      (and_from (f.label.0 == f.label.0) (f.serial.prev == f.serial.prev
+      && (to_eq f.to f.to && f.value == f.value))
       (eq-eqb f.label.0 f.label.0 refl)
       (and_from (f.serial.prev == f.serial.prev) (to_eq f.to f.to && f.value == f.value)
       (eq-eqb f.serial.prev f.serial.prev refl)
-      (and_from (to_eq f.to f.to) (f.value == f.value) (to_refl f.to) (eq-eqb f.value f.value refl))))
+      (and_from (to_eq f.to f.to) (f.value == f.value) (to_refl f.to)
+      (eq-eqb f.value f.value refl))))
 
-  not_taken : (x : Pid) (j : ℕ) (d : Event) → event_at streams x j ≡ Some d → is_stamp d ≡ false → d.from ≡ q
+  not_taken : (x : Pid) (j : ℕ) (d : Event) → event_at streams x j ≡ Some d → is_stamp d ≡ false
+      → d.from ≡ q
       → d.serial.this ≡ v → ⊥
   not_taken x j d at receives sender count = none_taken streams q v supply.untaken (record {
     pid = x;
@@ -139,13 +150,15 @@ module _ (top : ℕ) (streams : List Stream) (good : IsGood top streams) (p : Pi
           stamps = stamps;
           count = count ∙ supply.stamp.count;
         } in
-        subst (λ (x : Event). agrees x r ≡ true) (one_stamp streams good.fit q v supply.stamp other) agree;
+        subst (λ (x : Event). agrees x r ≡ true) (one_stamp streams good.fit q v supply.stamp other)
+        agree;
   }
 
   report : IsReportAmong (pids_of streams) p r
   report = record {
     own = ap (λ to. option_map_or (λ x. pid_eq x p) to false) supply.to ∙ pid_eq-refl p;
-    names = sym (names_among_listed streams f) ∙ named streams good.sound q supply.stamp.index f supply.stamp.at;
+    names = sym (names_among_listed streams f) ∙ named streams good.sound q supply.stamp.index f
+        supply.stamp.at;
   }
 
   -- THE EVENTS OF p
@@ -158,24 +171,28 @@ module _ (top : ℕ) (streams : List Stream) (good : IsGood top streams) (p : Pi
 
   before_is : front ++ e ∷ rest ≡ events_of streams p
   before_is =
-      ap (λ xs. front ++ xs) (sym (drop_is (events_of streams p) i e lack.at)) ∙ take_drop i (events_of streams p)
+      ap (λ xs. front ++ xs) (sym (drop_is (events_of streams p) i e lack.at))
+      ∙ take_drop i (events_of streams p)
 
   after_is : events_of fed p ≡ front ++ r ∷ e ∷ rest
   after_is =
       events_with p i r streams there inside p
-      ∙ ap (λ b. cond b (front ++ r ∷ drop i (events_of streams p)) (events_of streams p)) (pid_eq-refl p)
+      ∙ ap (λ b. cond b (front ++ r ∷ drop i (events_of streams p)) (events_of streams p))
+      (pid_eq-refl p)
       ∙ ap (λ xs. front ++ r ∷ xs) (drop_is (events_of streams p) i e lack.at)
 
   others_are : (x : Pid) → pid_eq x p ≡ false → events_of fed x ≡ events_of streams x
   others_are x other =
       events_with p i r streams there inside x
-      ∙ ap (λ b. cond b (take i (events_of streams x) ++ r ∷ drop i (events_of streams x)) (events_of streams x)) other
+      ∙ ap (λ b. cond b (take i (events_of streams x) ++ r ∷ drop i (events_of streams x))
+      (events_of streams x)) other
 
   timely_fed : (x : Pid) → AreTimely [] (events_of fed x)
   timely_fed x = elim (pid_eq x p) as (λ b. pid_eq x p ≡ b → AreTimely [] (events_of fed x)) [
     | false ↦ λ other. subst (AreTimely []) (sym (others_are x other)) (good.timely x)
     | true ↦ λ same. subst (λ y. AreTimely [] (events_of fed y)) (sym (pid_same x p same))
-        (subst (AreTimely []) (sym after_is) (timely_met r e refl supply.stamp.count [] front rest lack.need
+        (subst (AreTimely []) (sym after_is) (timely_met r e refl supply.stamp.count [] front rest
+        lack.need
         (subst (AreTimely []) (sym before_is) (good.timely p))))
   ] refl
 
@@ -207,7 +224,8 @@ module _ (top : ℕ) (streams : List Stream) (good : IsGood top streams) (p : Pi
   good_fed = record {
     sound = sound_with p i r streams good.sound report;
     fit = fit_with p i r streams inside good.fit fits;
-    sent = sent_with p i r streams inside good.sent (λ _. subst (λ x. HasStamp streams x f.serial.this) (sym from)
+    sent = sent_with p i r streams inside good.sent
+        (λ _. subst (λ x. HasStamp streams x f.serial.this) (sym from)
         (subst (HasStamp streams q) (sym supply.stamp.count) supply.stamp));
     timely = timely_fed;
     within = within_with p i r streams top inside good.within

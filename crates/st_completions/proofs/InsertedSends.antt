@@ -1,5 +1,6 @@
--- The send of a process that is free for a count: put in where its counts pass this one, it leaves the streams good,
--- with the needs that they had. No reported receive takes it, and what else is told of messages stays.
+-- The send of a process that is free for a count: put in where its counts pass this one, it leaves
+-- the streams good, with the needs that they had. No reported receive takes it, and what else is
+-- told of messages stays.
 use Rattle.std.proofs.Common.{◌≡◌, ◌≢◌, ◌≤◌, ℕ, ◌<◌, ◌==◌, ◌&&◌, Bool, true, false, cond, List, []}
 use Rattle.std.proofs.Common.{◌∷◌, ◌++◌, take, drop, Option, Some, None, is_none, not}
 use Rattle.std.proofs.Common.{refl, sym, ◌∙◌, ap, subst}
@@ -20,9 +21,12 @@ use Rattle.st_completions.proofs.Lookups.{events_with, HasStamp, none_stamped, n
 use Rattle.st_completions.proofs.Lookups.{passes_with, stamp_is, stamp_passes, taken_with}
 use Rattle.st_completions.proofs.FedNeeds.{events}
 use Rattle.st_completions.specs.Placed.{AreTimely}
-use Rattle.st_completions.proofs.GoodStreams.{any_event, free_is, IsGood, sends_to, sent_with, within_with}
-use Rattle.st_completions.proofs.InventedSends.{HasNo, IsSend, Keeps, send_keeps, send_told, with_send}
-use Rattle.st_completions.proofs.InventedPlaces.{AllRise, IsPlaced, keeps_needs, keeps_timely, placed_at}
+use Rattle.st_completions.proofs.GoodStreams.{any_event, free_is, IsGood, sends_to, sent_with}
+use Rattle.st_completions.proofs.GoodStreams.{within_with}
+use Rattle.st_completions.proofs.InventedSends.{HasNo, IsSend, Keeps, send_keeps, send_told}
+use Rattle.st_completions.proofs.InventedSends.{with_send}
+use Rattle.st_completions.proofs.InventedPlaces.{AllRise, IsPlaced, keeps_needs, keeps_timely}
+use Rattle.st_completions.proofs.InventedPlaces.{placed_at}
 use Rattle.st_completions.proofs.InsertedEvents.{fit_with, FitsAt, more, new_there, with_pids}
 use Rattle.st_completions.proofs.LongerStreams.{all_from, sound_with}
 use Rattle.st_completions.proofs.ShownStreams.{lists_among}
@@ -38,7 +42,8 @@ pub record IsServed (top : ℕ) (streams : List Stream) (s : Supply) : Type 0 wh
   pub to : lists streams s.to ≡ true
   pub from : lists streams s.from ≡ true
 
-module _ (top : ℕ) (streams : List Stream) (good : IsGood top streams) (s : Supply) (served : IsServed top streams s)
+module _ (top : ℕ) (streams : List Stream) (good : IsGood top streams) (s : Supply)
+    (served : IsServed top streams s)
     (free : is_free streams (count_of s) s.from ≡ true) where
   abbrev v : ℕ
   v = count_of s
@@ -91,7 +96,8 @@ module _ (top : ℕ) (streams : List Stream) (good : IsGood top streams) (s : Su
   abbrev pub sent : List Stream
   sent = more q k x streams
 
-  not_taken : (y : Pid) (j : ℕ) (d : Event) → event_at streams y j ≡ Some d → is_stamp d ≡ false → d.from ≡ q
+  not_taken : (y : Pid) (j : ℕ) (d : Event) → event_at streams y j ≡ Some d → is_stamp d ≡ false
+      → d.from ≡ q
       → d.serial.this ≡ v → ⊥
   not_taken y j d at receives sender count = none_taken streams q v untaken (record {
     pid = y;
@@ -108,7 +114,8 @@ module _ (top : ℕ) (streams : List Stream) (good : IsGood top streams) (s : Su
     rises = place.low;
     above = λ _ j d less at _. place.below j d less at;
     below = λ _ j d less at stamps. place.above j d less at stamps;
-    taken = λ _ y j d at receives sender count. absurd (not_taken y j d at receives sender (sym count));
+    taken = λ _ y j d at receives sender count. absurd
+        (not_taken y j d at receives sender (sym count));
     fresh = λ receives. absurd (false≢true (sym receives));
     sent = λ receives. absurd (false≢true (sym receives));
   }
@@ -135,7 +142,8 @@ module _ (top : ℕ) (streams : List Stream) (good : IsGood top streams) (s : Su
   others_are : (y : Pid) → pid_eq y q ≡ false → events_of sent y ≡ events_of streams y
   others_are y other =
       events_with q k x streams served.from place.within y
-      ∙ ap (λ b. cond b (take k (events_of streams y) ++ x ∷ drop k (events_of streams y)) (events_of streams y)) other
+      ∙ ap (λ b. cond b (take k (events_of streams y) ++ x ∷ drop k (events_of streams y))
+      (events_of streams y)) other
 
   timely_sent : (y : Pid) → AreTimely [] (events_of sent y)
   timely_sent y = elim (pid_eq y q) as (λ b. pid_eq y q ≡ b → AreTimely [] (events_of sent y)) [
@@ -188,7 +196,8 @@ module _ (top : ℕ) (streams : List Stream) (good : IsGood top streams) (s : Su
       ap (λ b. b && stamp_passes (sends_to z) (stamp_of sent y w)) (taken_same w y)
       ∙ ap (λ b. is_none (receive_of streams y w) && b) (passes_else (sends_to z) w y else_one)
 
-  pub free_else : (w : ℕ) (y : Pid) → (pid_eq y q && v == w) ≡ false → is_free sent w y ≡ is_free streams w y
+  pub free_else : (w : ℕ) (y : Pid) → (pid_eq y q && v == w) ≡ false
+      → is_free sent w y ≡ is_free streams w y
   free_else w y else_one =
       free_is sent w y
       ∙ ap (λ b. b && not (stamp_passes any_event (stamp_of sent y w))) (taken_same w y)
@@ -199,14 +208,16 @@ module _ (top : ℕ) (streams : List Stream) (good : IsGood top streams) (s : Su
   untaken_still = taken_same v q ∙ untaken
 
   pub own_now : is_own_supply sent v p q ≡ true
-  own_now = and_from (is_none (receive_of sent q v)) (stamp_passes (sends_to p) (stamp_of sent q v)) untaken_still
+  own_now = and_from (is_none (receive_of sent q v)) (stamp_passes (sends_to p) (stamp_of sent q v))
+      untaken_still
       (stamp_is sent fit_sent q v stamp (sends_to p) ∙ pid_eq-refl p)
 
   pub good_sent : IsGood top sent
   good_sent = record {
     sound = sound_with q k x streams good.sound report;
     fit = fit_sent;
-    sent = sent_with q k x streams place.within good.sent (λ receives. absurd (false≢true (sym receives)));
+    sent = sent_with q k x streams place.within good.sent
+        (λ receives. absurd (false≢true (sym receives)));
     timely = timely_sent;
     within = within_with q k x streams top place.within good.within served.high;
     founded = λ y. needs_same 0 y ∙ good.founded y;

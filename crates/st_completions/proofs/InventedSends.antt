@@ -1,5 +1,5 @@
--- The other part of law D for one process: an untold send of a count that it never stamped can be put in where its
--- counts pass this one, and no event of its own becomes late or a need by it.
+-- The other part of law D for one process: an untold send of a count that it never stamped can be
+-- put in where its counts pass this one, and no event of its own becomes late or a need by it.
 use Rattle.std.proofs.Common.{◌≡◌, ◌≢◌, ℕ, ◌<◌, ◌==◌, ◌&&◌, max, nat_lt, Bool, true, false, not}
 use Rattle.std.proofs.Common.{cond, List, [], ◌∷◌, ◌++◌, map, refl, sym, ◌∙◌, ap, arith}
 use Rattle.std.specs.List.{AllByRecursion}
@@ -20,8 +20,8 @@ use Rattle.st_plan.proofs.ForCallers.{leaves}
 abbrev marked : Bool → Event → Marked
 marked told e = record { event = e; told = told }
 
--- after all of these, of which those before are told: none of these events is late, and only a told one is a need,
--- if it is one after the told ones
+-- after all of these, of which those before are told: none of these events is late, and only a told
+-- one is a need, if it is one after the told ones
 abbrev pub Keeps : List Event → List Event → List Marked → Type 0
 Keeps all before [] = Unit {0}
 Keeps all before (m ∷ ms) =
@@ -32,17 +32,20 @@ Keeps all before (m ∷ ms) =
 abbrev pub told_only : List Event → List Marked
 told_only es = map (λ e. record { event = e; told = true }) es
 
-keeps_told : (all before es : List Event) → Alike all before → AreTimely before es → Keeps all before (told_only es)
+keeps_told : (all before es : List Event) → Alike all before → AreTimely before es
+    → Keeps all before (told_only es)
 keeps_told all before [] alike timely = tt
 keeps_told all before (e ∷ es) alike timely = (
   alike_late all before e alike.greatest ∙ timely.0,
   alike_need all before e alike,
-  keeps_told (all ++ e ∷ []) (before ++ e ∷ []) es (alike_push all before e alike.greatest) timely.1,
+  keeps_told (all ++ e ∷ []) (before ++ e ∷ []) es (alike_push all before e alike.greatest)
+      timely.1,
 )
 
 -- the prev of the send of v that is put before e
 abbrev pub prev_for : ℕ → List Event → Event → ℕ
-prev_for v before e = cond (begins v (greatest_count before) (prev_after before) e) e.serial.prev (prev_after before)
+prev_for v before e = cond (begins v (greatest_count before) (prev_after before) e) e.serial.prev
+    (prev_after before)
 
 -- these events, after those before, with the send of v put in before the first that reaches v
 abbrev pub with_send : (ℕ → Event) → ℕ → List Event → List Event → List Marked
@@ -59,11 +62,13 @@ told_all : (es : List Event) → told_events (told_only es) ≡ es
 told_all [] = refl
 told_all (e ∷ es) = ap (λ xs. e ∷ xs) (told_all es)
 
-pub send_told : (send : ℕ → Event) (v : ℕ) (before es : List Event) → told_events (with_send send v before es) ≡ es
+pub send_told : (send : ℕ → Event) (v : ℕ) (before es : List Event)
+    → told_events (with_send send v before es) ≡ es
 send_told send v before [] = refl
 send_told send v before (e ∷ es) =
     let later = ap (λ xs. e ∷ xs) (send_told send v (before ++ e ∷ []) es) in
-    elim (nat_lt e.serial.this v) as (λ b. told_events (cond b (marked true e ∷ with_send send v (before ++ e ∷ []) es)
+    elim (nat_lt e.serial.this v) as (λ b. told_events
+    (cond b (marked true e ∷ with_send send v (before ++ e ∷ []) es)
     (marked false (send (prev_for v before e)) ∷ marked true e ∷ told_only es)) ≡ e ∷ es) [
       | true ↦ later
       | false ↦ ap (λ xs. e ∷ xs) (told_all es)
@@ -80,7 +85,8 @@ abbrev pub HasNo : ℕ → List Event → Type 0
 HasNo v es = AllByRecursion (λ e. is_stamp e ≡ true → e.serial.this ≢ v) es
 
 module _ (send : ℕ → Event) (v : ℕ) (is : IsSend send v) where
-  send_late : (before : List Event) (prev : ℕ) → greatest_count before < v → is_late before (send prev) ≡ false
+  send_late : (before : List Event) (prev : ℕ) → greatest_count before < v
+      → is_late before (send prev) ≡ false
   send_late before prev low =
       let count = is.count prev in
       ap (λ n. is_stamp (send prev) && not (nat_lt (greatest_count before) n)) count
@@ -116,14 +122,16 @@ same_need true v c prev left low =
     (not (prev == left) && (not (nat_lt prev c) && nat_lt prev v)) prev left) && nat_lt prev n)
     all
     ∙ elim (prev == left) as (λ b. prev == left ≡ b
-    → (not (prev == cond (not b && (not (nat_lt prev c) && nat_lt prev v)) prev left) && nat_lt prev v)
+    → (not (prev == cond (not b && (not (nat_lt prev c) && nat_lt prev v)) prev left)
+    && nat_lt prev v)
     ≡ (not b && nat_lt prev c)) [
       | true ↦ λ same. ap (λ b. not b && nat_lt prev v) same
       | false ↦ λ other. elim (nat_lt prev c) as (λ b. nat_lt prev c ≡ b
           → (not (prev == cond (not b && nat_lt prev v) prev left) && nat_lt prev v) ≡ b) [
             | true ↦ λ less.
                 let below = ltb-true prev c less in
-                ap (λ b. not b && nat_lt prev v) other ∙ (let t : nat_lt prev v ≡ true = grind (arith, nat_tests) in t)
+                ap (λ b. not b && nat_lt prev v) other
+                ∙ (let t : nat_lt prev v ≡ true = grind (arith, nat_tests) in t)
             | false ↦ λ _. elim (nat_lt prev v) as (λ b.
                 (not (prev == cond b prev left) && b) ≡ false) [
                   | true ↦ ap (λ b. not b && true) (eq-eqb prev prev refl)
@@ -141,11 +149,13 @@ no_need false v c prev left = ap (λ b. not b && nat_lt left c) (eq-eqb left lef
 no_need true v c prev left =
     let own : (not (left == left) && nat_lt left c)
     ≡ false = ap (λ b. not b && nat_lt left c) (eq-eqb left left refl) in
-    elim (prev == left) as (λ b. (let p : ℕ = cond (not b && (not (nat_lt prev c) && nat_lt prev v)) prev left in
+    elim (prev == left) as (λ b. (let p : ℕ = cond (not b && (not (nat_lt prev c) && nat_lt prev v))
+    prev left in
     (not (p == left) && nat_lt p c) ≡ false)) [
       | true ↦ own
       | false ↦ elim (nat_lt prev c) as (λ b. nat_lt prev c ≡ b
-          → (let p : ℕ = cond (not b && nat_lt prev v) prev left in (not (p == left) && nat_lt p c) ≡ false)) [
+          → (let p : ℕ = cond (not b && nat_lt prev v) prev left in
+          (not (p == left) && nat_lt p c) ≡ false)) [
             | true ↦ λ _. own
             | false ↦ λ above. elim (nat_lt prev v) as (λ b. (let p : ℕ = cond b prev left in
                 (not (p == left) && nat_lt p c) ≡ false)) [
@@ -161,7 +171,8 @@ not_late false c v this above = refl
 not_late true c v this above = let less = above refl in grind (arith, nat_tests)
 
 module _ (send : ℕ → Event) (v : ℕ) (is : IsSend send v) where
-  pub send_keeps : (before es : List Event) → greatest_count before < v → AreTimely before es → HasNo v es
+  pub send_keeps : (before es : List Event) → greatest_count before < v → AreTimely before es
+      → HasNo v es
       → Keeps before before (with_send send v before es)
   send_keeps before [] low timely none = (
     send_late send v is before (prev_after before) low,
@@ -196,12 +207,16 @@ module _ (send : ℕ → Event) (v : ℕ) (is : IsSend send v) where
               prev = prev_push front e ∙ sym (prev_push before e);
             } in (
               send_late send v is before prev low,
-              send_need send v is before prev (no_need (is_stamp e) v c e.serial.prev (prev_after before)),
+              send_need send v is before prev (no_need (is_stamp e) v c e.serial.prev
+                  (prev_after before)),
               (
                 ap (λ n. is_stamp e && not (nat_lt n this)) greatest
-                    ∙ not_late (is_stamp e) c v this (λ stamps. let apart = stamped stamps in omega arith),
-                ap (λ n. is_stamp e && (not (e.serial.prev == n) && nat_lt e.serial.prev (greatest_count front))) left
-                    ∙ ap (λ n. is_stamp e && (not (e.serial.prev == prev) && nat_lt e.serial.prev n)) greatest
+                    ∙ not_late (is_stamp e) c v this
+                    (λ stamps. let apart = stamped stamps in omega arith),
+                ap (λ n. is_stamp e && (not (e.serial.prev == n)
+                    && nat_lt e.serial.prev (greatest_count front))) left
+                    ∙ ap (λ n. is_stamp e && (not (e.serial.prev == prev)
+                    && nat_lt e.serial.prev n)) greatest
                     ∙ same_need (is_stamp e) v c e.serial.prev (prev_after before) low,
                 keeps_told (front ++ e ∷ []) (before ++ e ∷ []) es alike timely.1,
               ),

@@ -25,7 +25,8 @@ use Rattle.st_plan.specs.Marks.{all_streams, Marked, told_events, told_streams, 
 use Rattle.st_completions.specs.Choice.{IsChoice, is_taken}
 use Rattle.st_completions.specs.HiddenSends.{hidden_from, hidden_send, send_of}
 use Rattle.st_completions.specs.Needs.{HoldsOfNone, is_late, marked_of}
-use Rattle.st_completions.specs.Placed.{AreTimely, IsPlacing, IsTimelyChoice, placed_wholes, untold_events}
+use Rattle.st_completions.specs.Placed.{AreTimely, IsPlacing, IsTimelyChoice, placed_wholes}
+use Rattle.st_completions.specs.Placed.{untold_events}
 use Rattle.st_completions.specs.Reasons.{HasEachSend}
 use Rattle.st_completions.proofs.AcceptedStreams.{accepted_if, FitTogether}
 use Rattle.st_completions.proofs.Lookups.{HasStamp, none_stamped, none_taken, stamp_if}
@@ -40,7 +41,8 @@ use Rattle.st_completions.proofs.ShownStreams.{AreReports, names_among_listed}
 use Rattle.st_completions.proofs.ReasonlessStreams.{fit_together}
 use Rattle.st_completions.proofs.Supplies.{greatest_among, highest}
 use Rattle.st_completions.proofs.Suppliers.{named, own_at, received_to}
-use Rattle.st_completions.proofs.UntoldEvents.{above_if, count_at, first_of, hidden_is, IsHiddenSend, untold_at}
+use Rattle.st_completions.proofs.UntoldEvents.{above_if, count_at, first_of, hidden_is}
+use Rattle.st_completions.proofs.UntoldEvents.{IsHiddenSend, untold_at}
 
 -- MARKED EVENTS
 
@@ -380,7 +382,8 @@ module _ (streams : List Stream) (sound : IsStreams streams) (accepted : refusal
       → event_at all p i ≡ Some e
       → is_stamp d ≡ true → is_stamp e ≡ true → d.serial.this < e.serial.this
   grows_all p j i d e less at_d at_e _ stamps =
-      timely_rises (placed p) (placing p).timely j i d e less (in_placed p j d at_d) (in_placed p i e at_e)
+      timely_rises (placed p) (placing p).timely j i d e less (in_placed p j d at_d)
+      (in_placed p i e at_e)
       stamps
 
   -- a mark of a receive is told

@@ -1,5 +1,7 @@
--- Streams with one more event are streams still, if it is one that its process may report among all of them.
-use Rattle.std.proofs.Common.{◌≡◌, ℕ, zero, suc, true, false, cond, List, [], ◌∷◌, ◌++◌, take, drop, Some, slice_get}
+-- Streams with one more event are streams still, if it is one that its process may report among all
+-- of them.
+use Rattle.std.proofs.Common.{◌≡◌, ℕ, zero, suc, true, false, cond, List, [], ◌∷◌, ◌++◌, take, drop}
+use Rattle.std.proofs.Common.{Some, slice_get}
 use Rattle.std.proofs.Common.{refl, sym, ◌∙◌, ap, subst}
 use Rattle.std.specs.List.{AllByRecursion}
 use Rattle.st_core.specs.declared.types.Pid.{Pid}
@@ -12,10 +14,12 @@ use Rattle.st_core.proofs.ForCallers.{pid_same}
 use Rattle.st_pair.specs.Places.{event_at}
 use Rattle.st_order.proofs.ForCallers.{all_found, AreFound}
 use Rattle.st_completions.proofs.InsertedEvents.{more, with_pids}
-use Rattle.st_completions.proofs.ShownStreams.{are_own, AreReports, names_among_listed, unlisted_none}
+use Rattle.st_completions.proofs.ShownStreams.{are_own, AreReports, names_among_listed}
+use Rattle.st_completions.proofs.ShownStreams.{unlisted_none}
 use Rattle.st_completions.proofs.Suppliers.{named, own_at}
 
-pub all_from : {X : Type 0} (P : X → Type 0) (xs : List X) → ((k : ℕ) (x : X) → slice_get xs k ≡ Some x → P x)
+pub all_from : {X : Type 0} (P : X → Type 0) (xs : List X)
+    → ((k : ℕ) (x : X) → slice_get xs k ≡ Some x → P x)
     → AllByRecursion P xs
 all_from P [] each = tt
 all_from P (x ∷ xs) each = (each 0 x refl, all_from P xs (λ k y at. each (suc k) y at))
@@ -29,7 +33,8 @@ all_put P (suc i) x (y ∷ xs) all here = (all.0, all_put P i x xs all.1 here)
 pub reports_of : (streams : List Stream) → IsStreams streams → AreReports (pids_of streams) streams
 reports_of streams sound = along streams (all_found streams sound.draft.rising)
   where
-    each : (p : Pid) (i : ℕ) (e : Event) → event_at streams p i ≡ Some e → IsReportAmong (pids_of streams) p e
+    each : (p : Pid) (i : ℕ) (e : Event) → event_at streams p i ≡ Some e
+        → IsReportAmong (pids_of streams) p e
     each p i e at = record {
       own = own_at streams p i e sound.draft.own at;
       names = sym (names_among_listed streams e) ∙ named streams sound p i e at;
@@ -43,7 +48,8 @@ reports_of streams sound = along streams (all_found streams sound.draft.rising)
       along some found.1,
     )
 
-pub sound_of : (streams : List Stream) → IsRising (pids_of streams) → AreReports (pids_of streams) streams
+pub sound_of : (streams : List Stream) → IsRising (pids_of streams)
+    → AreReports (pids_of streams) streams
     → IsStreams streams
 sound_of streams rising reports = record {
   draft = record { rising = rising; own = are_own (pids_of streams) streams reports };
@@ -51,7 +57,8 @@ sound_of streams rising reports = record {
 }
 
 module _ (p : Pid) (i : ℕ) (r : Event) (pids : List Pid) (report : IsReportAmong pids p r) where
-  put_reports : (streams : List Stream) → AreReports pids streams → AreReports pids (more p i r streams)
+  put_reports : (streams : List Stream) → AreReports pids streams
+      → AreReports pids (more p i r streams)
   put_reports [] all = tt
   put_reports (x ∷ streams) all = (
     elim (pid_eq x.pid p) as (λ b. pid_eq x.pid p ≡ b → AllByRecursion (IsReportAmong pids x.pid)

@@ -1,7 +1,10 @@
--- Law D: if no reason holds of streams, their completion is needless. With the sends that its supplies lack it
--- needs what the streams needed; each of these needs gets its receive; and neither makes anything late.
-use Rattle.std.proofs.Common.{◌≡◌, ℕ, zero, suc, ◌<◌, ◌==◌, ◌&&◌, ◌||◌, Bool, true, false, cond, List, [], ◌∷◌, ◌++◌}
-use Rattle.std.proofs.Common.{take, Option, Some, None, slice_get, append-nil, append_assoc, refl, sym, ◌∙◌, ap, subst}
+-- Law D: if no reason holds of streams, their completion is needless. With the sends that its
+-- supplies lack it needs what the streams needed; each of these needs gets its receive; and neither
+-- makes anything late.
+use Rattle.std.proofs.Common.{◌≡◌, ℕ, zero, suc, ◌<◌, ◌==◌, ◌&&◌, ◌||◌, Bool, true, false, cond}
+use Rattle.std.proofs.Common.{List, [], ◌∷◌, ◌++◌}
+use Rattle.std.proofs.Common.{take, Option, Some, None, slice_get, append-nil, append_assoc, refl}
+use Rattle.std.proofs.Common.{sym, ◌∙◌, ap, subst}
 use Rattle.std.proofs.Common.{arith}
 use Rattle.std.specs.List.{AllByRecursion}
 use Rattle.std.proofs.lemmas.Bool.{and_from, eq-eqb}
@@ -41,11 +44,13 @@ use Rattle.st_completions.proofs.CompletionReceives.{all_met, AreMet, AsMany}
 -- WITHOUT A NEED
 
 -- said by places
-timely_at : (before es : List Event) → AreTimely before es → (i : ℕ) (e : Event) → slice_get es i ≡ Some e
+timely_at : (before es : List Event) → AreTimely before es → (i : ℕ) (e : Event)
+    → slice_get es i ≡ Some e
     → is_late (before ++ take i es) e ≡ false
 timely_at before [] timely i e at = absurd (none-some e at)
 timely_at before (d ∷ es) timely zero e at =
-    ap (is_late (before ++ [])) (sym (same_Some d e at)) ∙ ap (λ xs. is_late xs d) (append-nil before) ∙ timely.0
+    ap (is_late (before ++ [])) (sym (same_Some d e at))
+    ∙ ap (λ xs. is_late xs d) (append-nil before) ∙ timely.0
 timely_at before (d ∷ es) timely (suc i) e at =
     ap (λ xs. is_late xs e) (sym (append_assoc before (d ∷ []) (take i es)))
     ∙ timely_at (before ++ d ∷ []) es timely.1 i e at
@@ -70,12 +75,14 @@ needs_some before (d ∷ es) (suc i) e at need =
     omega arith
 
 -- a receive that has its send isn't one of a hidden send
-seen_if : (streams : List Stream) (e : Event) → (is_stamp e ≡ false → HasStamp streams e.from e.serial.this)
+seen_if : (streams : List Stream) (e : Event) → (is_stamp e ≡ false
+    → HasStamp streams e.from e.serial.this)
     → is_hidden streams e ≡ false
 seen_if streams e sent =
     let source_in = λ (o : Option (ℕ × Event)). let s : Source =
     elim o [ None ↦ source.Hidden | Some f ↦ source.Event e.from f.0 ] in s in
-    let hides = λ (s : Source). let b : Bool = elim s [ source.Hidden ↦ true | source.Event q j ↦ false ] in b in
+    let hides = λ (s : Source). let b : Bool = elim s
+    [ source.Hidden ↦ true | source.Event q j ↦ false ] in b in
     elim (is_stamp e) as (λ b. is_stamp e ≡ b
     → cond b false (hides (source_in (stamp_of streams e.from e.serial.this))) ≡ false) [
       | true ↦ λ _. refl
@@ -86,7 +93,8 @@ seen_if streams e sent =
           ] refl
     ] refl
 
-needless_if : (top : ℕ) (streams : List Stream) → IsGood top streams → ((v : ℕ) (p : Pid) → needs streams v p ≡ 0)
+needless_if : (top : ℕ) (streams : List Stream) → IsGood top streams
+    → ((v : ℕ) (p : Pid) → needs streams v p ≡ 0)
     → IsNeedless top streams
 needless_if top streams good none = record {
   accepted = accepted_if streams good.sound.draft.rising good.fit;
@@ -106,7 +114,8 @@ needless_if top streams good none = record {
 
 -- THE COMPLETION
 
-each_listed : (streams : List Stream) → AllByRecursion (λ q. lists streams q ≡ true) (pids_of streams)
+each_listed : (streams : List Stream) → AllByRecursion (λ q. lists streams q ≡ true)
+    (pids_of streams)
 each_listed streams = all_from (λ q. lists streams q ≡ true) (pids_of streams) (λ k q at.
     lists_among streams q ∙ among_at (pids_of streams) k q at)
   where
@@ -130,10 +139,12 @@ module _ (top : ℕ) (streams : List Stream) (sound : IsStreams streams) (sends 
   all_told : all_streams told ≡ streams
   all_told = all_same streams
 
-  sent : AreSent top (all_streams told) (all_streams (with_sends (supplies streams) told)) (supplies streams)
+  sent : AreSent top (all_streams told) (all_streams (with_sends (supplies streams) told))
+      (supplies streams)
   sent = all_sent top (supplies streams) told (subst (IsGood top) (sym all_told) good)
       (subst (λ ss. AllByRecursion (IsServed top ss) (supplies streams)) (sym all_told)
-      (all_served streams sound.draft.rising good.founded none.supplied (each_listed streams) top none.within))
+      (all_served streams sound.draft.rising good.founded none.supplied (each_listed streams) top
+      none.within))
       (subst (λ ss. AllByRecursion (IsReady ss) (supplies streams)) (sym all_told)
       (all_ready streams sound.draft.rising good.founded none.supplied (each_listed streams)))
       (are_apart streams sound.draft.rising good.founded none.supplied (each_listed streams))
@@ -148,7 +159,8 @@ module _ (top : ℕ) (streams : List Stream) (sound : IsStreams streams) (sends 
   met = all_met top (supplies streams) (with_sends (supplies streams) told) sent.good sent.own
       (are_apart streams sound.draft.rising good.founded none.supplied (each_listed streams)) many
 
-  pub completed : (told_streams (completion streams) ≡ streams) × IsStreams (all_streams (completion streams))
+  pub completed : (told_streams (completion streams) ≡ streams)
+      × IsStreams (all_streams (completion streams))
       × IsNeedless top (all_streams (completion streams))
   completed = (
     receives_told (supplies streams) (with_sends (supplies streams) told)
@@ -159,4 +171,10 @@ module _ (top : ℕ) (streams : List Stream) (sound : IsStreams streams) (sends 
   )
 
   pub decided : IsCompleted IsNeedless top streams
-  decided = record { wholes = completion streams; told = completed.0; sound = completed.1; is = completed.2 }
+  decided = record {
+    wholes = completion streams;
+    told = completed.0;
+    sound = completed.1;
+    is =
+        completed.2;
+  }

@@ -1,6 +1,8 @@
--- If whole streams are full, no reason holds of what is told of them: the counts of all events are above those of the
--- told ones alone, and each need is fed by a receive, whose this is above its prev.
-use Rattle.std.proofs.Common.{◌≡◌, ℕ, ◌<◌, ◌==◌, ◌&&◌, true, false, cond, List, [], ◌∷◌, take, Option, Some}
+-- If whole streams are full, no reason holds of what is told of them: the counts of all events are
+-- above those of the told ones alone, and each need is fed by a receive, whose this is above its
+-- prev.
+use Rattle.std.proofs.Common.{◌≡◌, ℕ, ◌<◌, ◌==◌, ◌&&◌, true, false, cond, List, [], ◌∷◌, take}
+use Rattle.std.proofs.Common.{Option, Some}
 use Rattle.std.proofs.Common.{None, find, slice_get, refl, sym, ◌∙◌, ap, subst, arith}
 use Rattle.std.proofs.lemmas.Bool.{eqb-true, and_parts}
 use Rattle.st_core.specs.declared.types.Pid.{Pid}
@@ -13,8 +15,10 @@ use Rattle.st_pair.specs.Places.{event_at}
 use Rattle.st_pair.proofs.ForCallers.{events_in, paired, serial_rises}
 use Rattle.st_plan.specs.Marks.{all_streams, Marked, told_events, told_streams, Whole}
 use Rattle.st_plan.specs.Full.{IsFull}
-use Rattle.st_completions.specs.Needs.{HoldsOfNone, is_late, is_need, is_rootless, IsFed, IsFedAt, marked_of}
-use Rattle.st_completions.proofs.FedNeeds.{event_of_mark, events, GoOn, need_fed, never_late, told_at}
+use Rattle.st_completions.specs.Needs.{HoldsOfNone, is_late, is_need, is_rootless, IsFed, IsFedAt}
+use Rattle.st_completions.specs.Needs.{marked_of}
+use Rattle.st_completions.proofs.FedNeeds.{event_of_mark, events, GoOn, need_fed, never_late}
+use Rattle.st_completions.proofs.FedNeeds.{told_at}
 
 abbrev marked_in : Option Whole → List Marked
 marked_in o = elim o [ None ↦ [] | Some w ↦ w.marked ]
@@ -25,10 +29,12 @@ all_of w = record { pid = w.pid; events = events w.marked }
 abbrev told_of : Whole → Stream
 told_of w = record { pid = w.pid; events = told_events w.marked }
 
-pub events_all : (wholes : List Whole) (p : Pid) → events_of (all_streams wholes) p ≡ events (marked_of wholes p)
+pub events_all : (wholes : List Whole) (p : Pid) → events_of (all_streams wholes) p
+    ≡ events (marked_of wholes p)
 events_all [] p = refl
 events_all (w ∷ wholes) p =
-    elim (pid_eq w.pid p) as (λ b. events_in (cond b (Some (all_of w)) (stream_of (all_streams wholes) p))
+    elim (pid_eq w.pid p) as (λ b. events_in (cond b (Some (all_of w))
+    (stream_of (all_streams wholes) p))
     ≡ events (marked_in (cond b (Some w) (find (λ (x : Whole). pid_eq x.pid p) wholes)))) [
       | true ↦ refl
       | false ↦ events_all wholes p
@@ -38,16 +44,19 @@ pub events_told : (wholes : List Whole) (p : Pid)
     → events_of (told_streams wholes) p ≡ told_events (marked_of wholes p)
 events_told [] p = refl
 events_told (w ∷ wholes) p =
-    elim (pid_eq w.pid p) as (λ b. events_in (cond b (Some (told_of w)) (stream_of (told_streams wholes) p))
+    elim (pid_eq w.pid p) as (λ b. events_in (cond b (Some (told_of w))
+    (stream_of (told_streams wholes) p))
     ≡ told_events (marked_in (cond b (Some w) (find (λ (x : Whole). pid_eq x.pid p) wholes)))) [
       | true ↦ refl
       | false ↦ events_told wholes p
     ]
 
 -- a marked event of p is in its whole stream
-pub at_mark : (wholes : List Whole) (p : Pid) (k : ℕ) (m : Marked) → slice_get (marked_of wholes p) k ≡ Some m
+pub at_mark : (wholes : List Whole) (p : Pid) (k : ℕ) (m : Marked)
+    → slice_get (marked_of wholes p) k ≡ Some m
     → event_at (all_streams wholes) p k ≡ Some m.event
-at_mark wholes p k m at = ap (λ es. slice_get es k) (events_all wholes p) ∙ event_of_mark (marked_of wholes p) k m at
+at_mark wholes p k m at = ap (λ es. slice_get es k) (events_all wholes p)
+    ∙ event_of_mark (marked_of wholes p) k m at
 
 module _ (top : ℕ) (wholes : List Whole) (full : IsFull top (all_streams wholes)) where
   pub go_on : (p : Pid) → GoOn (marked_of wholes p)
@@ -67,7 +76,8 @@ module _ (top : ℕ) (wholes : List Whole) (full : IsFull top (all_streams whole
       ∙ never_late (marked_of wholes p) place.index e (go_on p) place.at
 
   pub needs_fed : (p : Pid) (i : ℕ) (e : Event) → event_at (told_streams wholes) p i ≡ Some e
-      → is_need (take i (events_of (told_streams wholes) p)) e ≡ true → IsFedAt (marked_of wholes p) i e
+      → is_need (take i (events_of (told_streams wholes) p)) e ≡ true
+      → IsFedAt (marked_of wholes p) i e
   needs_fed p i e at need =
       let place = told_at (marked_of wholes p) i e (told_there p i e at) in
       record {
@@ -80,7 +90,8 @@ module _ (top : ℕ) (wholes : List Whole) (full : IsFull top (all_streams whole
   -- the receive that feeds a need has a count above 0
   fed_above : (p : Pid) (k this : ℕ) → IsFed (marked_of wholes p) k this → 0 < this
   fed_above p k this fed =
-      let rise = serial_rises (all_streams wholes) (paired (all_streams wholes) full.accepted) p fed.index fed.event
+      let rise = serial_rises (all_streams wholes) (paired (all_streams wholes) full.accepted) p
+      fed.index fed.event
       (at_mark wholes p fed.index (record { event = fed.event; told = false }) fed.at) in
       let feeds = fed.feeds in
       omega arith

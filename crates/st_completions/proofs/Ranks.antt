@@ -1,7 +1,8 @@
--- The counts of streams are in a rising list that begins with 0. The rank of one of them is its place there, and what
--- stands at that place is the count again; and a later place has a greater count. So streams are their renumbered
--- streams with the counts put back, in order.
-use Rattle.std.proofs.Common.{◌≡◌, ℕ, ◌+◌, zero, suc, ◌<◌, ◌≤◌, ◌⊎◌, inl, inr, nat_lt, true, false, cond}
+-- The counts of streams are in a rising list that begins with 0. The rank of one of them is its
+-- place there, and what stands at that place is the count again; and a later place has a greater
+-- count. So streams are their renumbered streams with the counts put back, in order.
+use Rattle.std.proofs.Common.{◌≡◌, ℕ, ◌+◌, zero, suc, ◌<◌, ◌≤◌, ◌⊎◌, inl, inr, nat_lt, true, false}
+use Rattle.std.proofs.Common.{cond}
 use Rattle.std.proofs.Common.{List, [], ◌∷◌, map, refl, sym, ◌∙◌, ap, subst, arith}
 use Rattle.std.specs.List.{AllByRecursion}
 use Rattle.std.proofs.lemmas.Bool.{ltb-true, ltb-false, le-ltb}
@@ -40,7 +41,8 @@ above_lower b c (d ∷ ds) low all = (let high = all.0 in omega arith, above_low
 insert_above : (b c : ℕ) (ds : List ℕ) → b < c → AllAbove b ds → AllAbove b (insert_count c ds)
 insert_above b c [] low all = (low, all)
 insert_above b c (d ∷ ds) low all =
-    elim (nat_lt c d) as (λ x. AllAbove b (cond x (c ∷ d ∷ ds) (cond (nat_lt d c) (d ∷ insert_count c ds) (d ∷ ds)))) [
+    elim (nat_lt c d) as (λ x. AllAbove b (cond x (c ∷ d ∷ ds)
+    (cond (nat_lt d c) (d ∷ insert_count c ds) (d ∷ ds)))) [
       | true ↦ (low, all)
       | false ↦ elim (nat_lt d c) as (λ y. AllAbove b (cond y (d ∷ insert_count c ds) (d ∷ ds))) [
         | true ↦ (all.0, insert_above b c ds low all.1)
@@ -56,7 +58,11 @@ insert_climbs c (d ∷ ds) all =
       | true ↦ λ less. let low = ltb-true c d less in ((low, above_lower c d ds low all.0), all)
       | false ↦ λ _. elim (nat_lt d c) as (λ y. nat_lt d c ≡ y
           → Climbs (cond y (d ∷ insert_count c ds) (d ∷ ds))) [
-            | true ↦ λ more. (insert_above d c ds (ltb-true d c more) all.0, insert_climbs c ds all.1)
+            | true ↦ λ more. (
+              insert_above d c ds (ltb-true d c more) all.0,
+              insert_climbs c ds
+                  all.1,
+            )
             | false ↦ λ _. all
           ] refl
     ] refl
@@ -105,7 +111,8 @@ insert_counted c cs are =
     record {
       rest = next;
       is = ap (insert_count c) are.is
-          ∙ ap (λ x. cond x (c ∷ 0 ∷ are.rest) (cond (nat_lt 0 c) (0 ∷ insert_count c are.rest) (0 ∷ are.rest))) low
+          ∙ ap (λ x. cond x (c ∷ 0 ∷ are.rest) (cond (nat_lt 0 c) (0 ∷ insert_count c are.rest)
+          (0 ∷ are.rest))) low
           ∙ (elim (nat_lt 0 c) as (λ y. cond y (0 ∷ insert_count c are.rest) (0 ∷ are.rest)
           ≡ 0 ∷ cond y (insert_count c are.rest) are.rest) [ true ↦ refl | false ↦ refl ]);
       climb = climb;
@@ -131,7 +138,8 @@ kept_by_all b (e ∷ es) cs here =
 abbrev AreIn : List ℕ → Event → Type 0
 AreIn cs e = IsIn e.serial.prev cs × IsIn e.serial.this cs
 
-all_weaken : (P Q : Event → Type 0) (es : List Event) → ((e : Event) → P e → Q e) → AllByRecursion P es
+all_weaken : (P Q : Event → Type 0) (es : List Event) → ((e : Event) → P e → Q e)
+    → AllByRecursion P es
     → AllByRecursion Q es
 all_weaken P Q [] to all = all
 all_weaken P Q (e ∷ es) to all = (to e all.0, all_weaken P Q es to all.1)
@@ -143,7 +151,11 @@ inserted_in (e ∷ es) cs =
     let more = insert_count e.serial.this rest in
     let keep = λ (b : ℕ) (here : IsIn b rest).
     insert_keeps b e.serial.prev more (insert_keeps b e.serial.this rest here) in (
-      (insert_has e.serial.prev more, insert_keeps e.serial.this e.serial.prev more (insert_has e.serial.this rest)),
+      (
+        insert_has e.serial.prev more,
+        insert_keeps e.serial.this e.serial.prev more
+            (insert_has e.serial.this rest),
+      ),
       all_weaken (AreIn rest) (AreIn (insert_count e.serial.prev more)) es
           (λ d at. (keep d.serial.prev at.0, keep d.serial.this at.1)) (inserted_in es cs),
     )
@@ -161,8 +173,11 @@ streams_weaken cs es (s ∷ streams) all = (
 all_in : (streams : List Stream)
     → AllByRecursion (λ (s : Stream). AllByRecursion (AreIn (counts_of streams)) s.events) streams
 all_in [] = tt
-all_in (s ∷ streams) =
-    (inserted_in s.events (counts_of streams), streams_weaken (counts_of streams) s.events streams (all_in streams))
+all_in (s ∷ streams) = (
+  inserted_in s.events (counts_of streams),
+  streams_weaken (counts_of streams) s.events streams
+      (all_in streams),
+)
 
 -- RANKS AND BACK
 
@@ -249,21 +264,25 @@ module _ (cs : List ℕ) (climb : Climbs cs) where
           this = count_of_rank cs (rank cs e.serial.this);
         };
       }) (back e.serial.prev cs climb at.0)
-      ∙ ap (λ n. record e { serial = record { prev = e.serial.prev; this = n } }) (back e.serial.this cs climb at.1)
+      ∙ ap (λ n. record e { serial = record { prev = e.serial.prev; this = n } })
+      (back e.serial.this cs climb at.1)
 
   events_back : (es : List Event) → AllByRecursion (AreIn cs) es
       → map (event_with (count_of_rank cs)) (map (event_with (rank cs)) es) ≡ es
   events_back [] all = refl
   events_back (e ∷ es) all =
-      ap (λ d. d ∷ map (event_with (count_of_rank cs)) (map (event_with (rank cs)) es)) (event_back e all.0)
+      ap (λ d. d ∷ map (event_with (count_of_rank cs)) (map (event_with (rank cs)) es))
+      (event_back e all.0)
       ∙ ap (λ ds. e ∷ ds) (events_back es all.1)
 
-  streams_back : (streams : List Stream) → AllByRecursion (λ (s : Stream). AllByRecursion (AreIn cs) s.events) streams
+  streams_back : (streams : List Stream) → AllByRecursion
+      (λ (s : Stream). AllByRecursion (AreIn cs) s.events) streams
       → with_counts (count_of_rank cs) (with_counts (rank cs) streams) ≡ streams
   streams_back [] all = refl
   streams_back (s ∷ streams) all =
       ap (λ es. let t : Stream = record { pid = s.pid; events = es } in
-      t ∷ with_counts (count_of_rank cs) (with_counts (rank cs) streams)) (events_back s.events all.0)
+      t ∷ with_counts (count_of_rank cs) (with_counts (rank cs) streams))
+      (events_back s.events all.0)
       ∙ ap (λ ss. s ∷ ss) (streams_back streams all.1)
 
 -- put back, the ranks are the counts again
@@ -291,7 +310,8 @@ shown_higher top high streams rising le shown =
     })
 
 pub renumbered_shown : (top rank_top : ℕ) (streams : List Stream) → IsRising (pids_of streams)
-    → count_of_rank (counts_of streams) rank_top ≤ top → IsShownInOneTrace rank_top (renumbered_streams streams)
+    → count_of_rank (counts_of streams) rank_top ≤ top
+    → IsShownInOneTrace rank_top (renumbered_streams streams)
     → IsShownInOneTrace top streams
 renumbered_shown top rank_top streams rising fits shown =
     let cs = counts_of streams in
@@ -299,4 +319,5 @@ renumbered_shown top rank_top streams rising fits shown =
     let rising' = subst IsRising (sym (pids_with (rank cs) streams)) rising in
     shown_higher (back rank_top) top streams rising fits
     (subst (IsShownInOneTrace (back rank_top)) (counts_put_back streams)
-    (shown_with back (ranks_keep_order streams) rank_top (renumbered_streams streams) rising' shown))
+    (shown_with back (ranks_keep_order streams) rank_top (renumbered_streams streams) rising'
+    shown))

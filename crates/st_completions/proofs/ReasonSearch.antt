@@ -1,8 +1,10 @@
--- A reason holds of streams, or none does: the events are finitely many, and of counts that are above all of theirs
--- there are no needs.
-use Rattle.std.proofs.Common.{◌≡◌, ◌⊎◌, inl, inr, ℕ, zero, suc, ◌<◌, ◌≤◌, ◌||◌, Bool, true, false, List, [], ◌∷◌}
+-- A reason holds of streams, or none does: the events are finitely many, and of counts that are
+-- above all of theirs there are no needs.
+use Rattle.std.proofs.Common.{◌≡◌, ◌⊎◌, inl, inr, ℕ, zero, suc, ◌<◌, ◌≤◌, ◌||◌, Bool, true, false}
+use Rattle.std.proofs.Common.{List, [], ◌∷◌}
 use Rattle.std.proofs.Common.{◌++◌, take}
-use Rattle.std.proofs.Common.{Some, slice_get, sum_by, append-nil, append_assoc, refl, sym, ◌∙◌, ap, subst, arith}
+use Rattle.std.proofs.Common.{Some, slice_get, sum_by, append-nil, append_assoc, refl, sym, ◌∙◌, ap}
+use Rattle.std.proofs.Common.{subst, arith}
 use Rattle.std.proofs.lemmas.Bool.{cases_lt, false≢true, ltb-false}
 use Rattle.std.proofs.lemmas.List.Sums.{sum_by-cons}
 use Rattle.std.proofs.lemmas.Option.{none-some, same_Some}
@@ -15,7 +17,8 @@ use Rattle.st_core.specs.Streams.{events_of, is_among}
 use Rattle.st_core.proofs.ForCallers.{pid_same}
 use Rattle.st_pair.specs.Places.{event_at}
 use Rattle.st_completions.specs.Needs.{HoldsOfNone, is_late, is_rootless}
-use Rattle.st_completions.specs.Reasons.{HasNoReason, HasReason, HoldsAt, is_too_high, Late, TooHigh, Unfounded}
+use Rattle.st_completions.specs.Reasons.{HasNoReason, HasReason, HoldsAt, is_too_high, Late}
+use Rattle.st_completions.specs.Reasons.{TooHigh, Unfounded}
 use Rattle.st_completions.specs.Reasons.{Unsent}
 use Rattle.st_completions.specs.Supply.{excess, is_free, IsSupplied}
 use Rattle.st_completions.proofs.InsertedEvents.{listed_at}
@@ -32,23 +35,27 @@ record IsFound (test : List Event → Event → Bool) (before es : List Event) :
   holds : test (before ++ take index es) event ≡ true
 
 HoldsNowhere : (List Event → Event → Bool) → List Event → List Event → Type 0
-HoldsNowhere test before es = (i : ℕ) (e : Event) → slice_get es i ≡ Some e → test (before ++ take i es) e ≡ false
+HoldsNowhere test before es = (i : ℕ) (e : Event) → slice_get es i ≡ Some e
+    → test (before ++ take i es) e ≡ false
 
 module _ (test : List Event → Event → Bool) where
-  found_later : (before : List Event) (d : Event) (es : List Event) → IsFound test (before ++ d ∷ []) es
+  found_later : (before : List Event) (d : Event) (es : List Event)
+      → IsFound test (before ++ d ∷ []) es
       → IsFound test before (d ∷ es)
   found_later before d es f = record {
     index = suc f.index;
     event = f.event;
     at = f.at;
-    holds = ap (λ xs. test xs f.event) (sym (append_assoc before (d ∷ []) (take f.index es))) ∙ f.holds;
+    holds = ap (λ xs. test xs f.event) (sym (append_assoc before (d ∷ []) (take f.index es)))
+        ∙ f.holds;
   }
 
   nowhere_more : (before : List Event) (d : Event) (es : List Event) → test before d ≡ false
       → HoldsNowhere test (before ++ d ∷ []) es → HoldsNowhere test before (d ∷ es)
   unfolding HoldsNowhere
   nowhere_more before d es here later zero e at =
-      ap (test (before ++ [])) (sym (same_Some d e at)) ∙ ap (λ xs. test xs d) (append-nil before) ∙ here
+      ap (test (before ++ [])) (sym (same_Some d e at)) ∙ ap (λ xs. test xs d) (append-nil before)
+      ∙ here
   nowhere_more before d es here later (suc i) e at =
       ap (λ xs. test xs e) (sym (append_assoc before (d ∷ []) (take i es))) ∙ later i e at
 
@@ -94,9 +101,11 @@ module _ (test : List Event → Event → Bool) where
       → AllByRecursion (λ q. HoldsNowhere test [] (events_of streams q)) ps → is_among ps p ≡ true
       → HoldsNowhere test [] (events_of streams p)
   nowhere_of streams [] p all among = absurd (false≢true among)
-  nowhere_of streams (q ∷ ps) p all among = elim (pid_eq q p) as (λ b. pid_eq q p ≡ b → (b || is_among ps p) ≡ true
+  nowhere_of streams (q ∷ ps) p all among = elim (pid_eq q p)
+      as (λ b. pid_eq q p ≡ b → (b || is_among ps p) ≡ true
       → HoldsNowhere test [] (events_of streams p)) [
-        | true ↦ λ same _. subst (λ x. HoldsNowhere test [] (events_of streams x)) (pid_same q p same) all.0
+        | true ↦ λ same _. subst (λ x. HoldsNowhere test [] (events_of streams x))
+            (pid_same q p same) all.0
         | false ↦ λ _ among. nowhere_of streams ps p all.1 among
       ] refl among
 
@@ -121,11 +130,13 @@ no_sum f none (p ∷ ps) =
 module _ (streams : List Stream) where
   supplied_high : (v : ℕ) → highest streams ≤ v → IsSupplied streams v
   supplied_high v high =
-      let sum = no_sum (excess streams v) (λ p. let none = none_high streams v p high in omega arith)
+      let sum = no_sum (excess streams v) (λ p. let none = none_high streams v p high in
+      omega arith)
       (pids_of streams) in
       omega arith
 
-  seek_count : (n : ℕ) → ((v : ℕ) × (¬ IsSupplied streams v)) ⊎ ((v : ℕ) → v < n → IsSupplied streams v)
+  seek_count : (n : ℕ) → ((v : ℕ) × (¬ IsSupplied streams v))
+      ⊎ ((v : ℕ) → v < n → IsSupplied streams v)
   seek_count zero = inr (λ v low. absurd (omega arith))
   seek_count (suc n) = elim (seek_count n) [
     | inl found ↦ inl found
@@ -153,7 +164,8 @@ module _ (streams : List Stream) where
 -- REASONS
 
 module _ (top : ℕ) (streams : List Stream) where
-  pub within_if : HoldsOfNone (is_too_high top) streams → (p : Pid) (i : ℕ) (e : Event) → event_at streams p i ≡ Some e
+  pub within_if : HoldsOfNone (is_too_high top) streams → (p : Pid) (i : ℕ) (e : Event)
+      → event_at streams p i ≡ Some e
       → e.serial.this ≤ top
   within_if none p i e at = ltb-false top e.serial.this (none p i e at)
 

@@ -1,7 +1,9 @@
--- Streams of which no reason holds are good: what pairing accepts fits together, two events at a time, and what
--- holds of no event at its place holds of none along its process.
-use Rattle.std.proofs.Common.{◌≡◌, ℕ, suc, ◌+◌, ◌<◌, ◌==◌, ◌&&◌, ◌||◌, Bool, true, false, cond, List, [], ◌∷◌}
-use Rattle.std.proofs.Common.{◌++◌, take, Option, Some, None, inl, inr, slice_get, append-nil, append_assoc, refl, sym}
+-- Streams of which no reason holds are good: what pairing accepts fits together, two events at a
+-- time, and what holds of no event at its place holds of none along its process.
+use Rattle.std.proofs.Common.{◌≡◌, ℕ, suc, ◌+◌, ◌<◌, ◌==◌, ◌&&◌, ◌||◌, Bool, true, false, cond}
+use Rattle.std.proofs.Common.{List, [], ◌∷◌}
+use Rattle.std.proofs.Common.{◌++◌, take, Option, Some, None, inl, inr, slice_get, append-nil}
+use Rattle.std.proofs.Common.{append_assoc, refl, sym}
 use Rattle.std.proofs.Common.{◌∙◌, ap, arith, option_and_then}
 use Rattle.std.proofs.lemmas.Bool.{and_from, and_parts, cases_lt, eq-eqb, eqb-true, false≢true}
 use Rattle.std.proofs.lemmas.Option.{same_Some}
@@ -14,7 +16,8 @@ use Rattle.st_pair.specs.declared.answer.Source.{Source}
 use Rattle.st_pair.specs.declared.answer.Source.TheVariants as source
 use Rattle.st_pair.specs.Places.{event_at, is_stamp}
 use Rattle.st_pair.specs.Pairing.{agrees, mismatch, receive_of, stamp_of}
-use Rattle.st_pair.proofs.ForCallers.{cond_none, event_none, IsPaired, once_place, paired, serial_rises}
+use Rattle.st_pair.proofs.ForCallers.{cond_none, event_none, IsPaired, once_place, paired}
+use Rattle.st_pair.proofs.ForCallers.{serial_rises}
 use Rattle.st_pair.proofs.ForCallers.{stamp_counts_rise, stamp_once}
 use Rattle.st_order.specs.Items.{is_hidden}
 use Rattle.st_completions.specs.Needs.{is_late, is_need}
@@ -28,7 +31,8 @@ use Rattle.st_completions.proofs.GoodStreams.{IsGood}
 -- WHAT PAIRING ACCEPTS
 
 module _ (streams : List Stream) (ok : IsPaired streams) where
-  once_together : (p q : Pid) (i j : ℕ) (d e : Event) → event_at streams p i ≡ Some d → event_at streams q j ≡ Some e
+  once_together : (p q : Pid) (i j : ℕ) (d e : Event) → event_at streams p i ≡ Some d
+      → event_at streams q j ≡ Some e
       → is_stamp d ≡ false → is_stamp e ≡ false → d.from ≡ e.from → d.serial.this ≡ e.serial.this
       → (p ≡ q) × (i ≡ j)
   once_together p q i j d e at_d at_e receives_d receives_e from count =
@@ -38,8 +42,10 @@ module _ (streams : List Stream) (ok : IsPaired streams) where
       ∙ once_place streams ok q j e at_e receives_e) in
       (ap (λ (y : Pid × ℕ). y.0) same, ap (λ (y : Pid × ℕ). y.1) same)
 
-  agree_together : (p : Pid) (i j : ℕ) (e f : Event) → event_at streams p i ≡ Some e → is_stamp e ≡ false
-      → event_at streams e.from j ≡ Some f → is_stamp f ≡ true → f.serial.this ≡ e.serial.this → agrees f e ≡ true
+  agree_together : (p : Pid) (i j : ℕ) (e f : Event) → event_at streams p i ≡ Some e
+      → is_stamp e ≡ false
+      → event_at streams e.from j ≡ Some f → is_stamp f ≡ true → f.serial.this ≡ e.serial.this
+      → agrees f e ≡ true
   agree_together p i j e f at_e receives at_f stamps count =
       let stamp : stamp_of streams e.from e.serial.this ≡ Some (j, f) =
       ap (stamp_of streams e.from) (sym count) ∙ stamp_once streams ok e.from j f at_f stamps in
@@ -64,9 +70,11 @@ pub sent_if : (streams : List Stream) (e : Event) → is_hidden streams e ≡ fa
 sent_if streams e seen receives =
     let source_in = λ (o : Option (ℕ × Event)). let s : Source =
     elim o [ None ↦ source.Hidden | Some f ↦ source.Event e.from f.0 ] in s in
-    let hides = λ (s : Source). let b : Bool = elim s [ source.Hidden ↦ true | source.Event q j ↦ false ] in b in
+    let hides = λ (s : Source). let b : Bool = elim s
+    [ source.Hidden ↦ true | source.Event q j ↦ false ] in b in
     let shown : hides (source_in (stamp_of streams e.from e.serial.this)) ≡ false =
-    ap (λ b. cond b false (hides (source_in (stamp_of streams e.from e.serial.this)))) (sym receives) ∙ seen in
+    ap (λ b. cond b false (hides (source_in (stamp_of streams e.from e.serial.this))))
+    (sym receives) ∙ seen in
     elim (stamp_of streams e.from e.serial.this) as (λ o. stamp_of streams e.from e.serial.this ≡ o
     → hides (source_in o) ≡ false → HasStamp streams e.from e.serial.this) [
       | None ↦ λ _ h. absurd (false≢true (sym h))
@@ -113,7 +121,8 @@ need_of v before (e ∷ es) some =
             index = suc later.index;
             event = later.event;
             at = later.at;
-            need = ap (λ xs. is_need xs later.event) (sym (append_assoc before (e ∷ []) (take later.index es)))
+            need = ap (λ xs. is_need xs later.event)
+                (sym (append_assoc before (e ∷ []) (take later.index es)))
                 ∙ later.need;
             prev = later.prev;
           }
@@ -128,7 +137,8 @@ module _ (top : ℕ) (streams : List Stream) (sound : IsStreams streams) (sends 
         let n = need_of 0 [] (events_of streams p) less in
         let before = take n.index (events_of streams p) in
         absurd (false≢true (sym (none.founded p n.index n.event n.at)
-        ∙ and_from (is_need before n.event) (n.event.serial.prev == 0) n.need (eq-eqb n.event.serial.prev 0 n.prev)))
+        ∙ and_from (is_need before n.event) (n.event.serial.prev == 0) n.need
+        (eq-eqb n.event.serial.prev 0 n.prev)))
   ]
 
   pub good_if : IsGood top streams

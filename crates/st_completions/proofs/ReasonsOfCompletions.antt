@@ -1,4 +1,5 @@
--- A reason that holds of streams holds of each of their completions, so no run without a reset has them.
+-- A reason that holds of streams holds of each of their completions, so no run without a reset has
+-- them.
 use Rattle.std.proofs.Common.{ℕ, List, subst}
 use Rattle.st_core.specs.declared.types.Act.{Act}
 use Rattle.st_core.specs.Laws.{NoReset}
@@ -23,8 +24,10 @@ pub completed_nothing : (top : ℕ) (wholes : List Whole) → IsStreams (all_str
 completed_nothing top wholes sound full =
     (none_late top wholes full, none_rootless top wholes full, all_supplied top wholes sound full)
 
-pub shown_nothing : (top : ℕ) (streams : List Stream) (acts : List Act) → Shows top streams acts → NoReset acts
+pub shown_nothing : (top : ℕ) (streams : List Stream) (acts : List Act) → Shows top streams acts
+    → NoReset acts
     → IsRising (pids_of streams) → NothingAgainst streams
 shown_nothing top streams acts shows none rising =
     let done = run_completed top streams acts shows none rising in
-    subst NothingAgainst done.0 (completed_nothing top (wholes_of top streams acts shows.0) done.1 done.2)
+    subst NothingAgainst done.0 (completed_nothing top (wholes_of top streams acts shows.0) done.1
+    done.2)

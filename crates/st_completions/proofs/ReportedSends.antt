@@ -1,5 +1,6 @@
--- If all sends were reported, no need has a sender that is free: its message was received, so it was sent,
--- and that is told. So each need has a reported send of its count to its process, another for each.
+-- If all sends were reported, no need has a sender that is free: its message was received, so it
+-- was sent, and that is told. So each need has a reported send of its count to its process, another
+-- for each.
 use Rattle.std.proofs.Common.{◌≡◌, ℕ, ◌≤◌, ◌==◌, ◌&&◌, ◌||◌, true, false, List, [], ◌∷◌}
 use Rattle.std.proofs.Common.{length, slice_get, Option, Some}
 use Rattle.std.proofs.Common.{None, is_none, sym, ◌∙◌, ap, subst, arith, refl}
@@ -40,7 +41,8 @@ none_if (Some x) is = absurd (false≢true is)
 
 module _ (top : ℕ) (wholes : List Whole) (sound : IsStreams (all_streams wholes))
     (full : IsFull top (all_streams wholes)) (sends : AreSendsTold wholes) (v : ℕ) where
-  none_free : (p q : Pid) → is_member pid_eq (feeders (is_free (told_streams wholes) v) v (marked_of wholes p)) q ≡ true
+  none_free : (p q : Pid) → is_member pid_eq (feeders (is_free (told_streams wholes) v) v
+      (marked_of wholes p)) q ≡ true
       → ⊥
   none_free p q among =
       let one = one_of top wholes sound full v (is_free (told_streams wholes) v) p q among in
@@ -52,13 +54,15 @@ module _ (top : ℕ) (wholes : List Whole) (sound : IsStreams (all_streams whole
       let f = s.event in
       let m = mark_at (marked_of wholes e.from) s.index f
       (ap (λ es. slice_get es s.index) (sym (events_all wholes e.from)) ∙ s.at) in
-      let agree = (fit_together all (paired all full.accepted)).agree p one.index s.index e f u.there u.receives s.at
+      let agree = (fit_together all (paired all full.accepted)).agree p one.index s.index e f
+      u.there u.receives s.at
       s.stamps s.count in
       let is = and_parts (is_send f) (f.label.0 == e.label.0
       && (f.serial.prev == e.serial.prev && (to_eq f.to e.to && f.value == e.value))) agree in
       let r = told_somewhere (marked_of wholes e.from) s.index m.mark m.at
       (sends e.from s.index m.mark m.at (ap is_send m.is ∙ is.0)) in
-      let free = and_parts (is_none (receive_of told q v)) (is_none (stamp_of told q v)) one.passes in
+      let free = and_parts (is_none (receive_of told q v)) (is_none (stamp_of told q v))
+      one.passes in
       none_stamped told e.from e.serial.this
       (ap (λ x. stamp_of told x e.serial.this) u.from ∙ ap (stamp_of told q) u.count
       ∙ none_if (stamp_of told q v) free.1)
@@ -75,11 +79,14 @@ module _ (top : ℕ) (wholes : List Whole) (sound : IsStreams (all_streams whole
       ≤ count_by (is_own_supply (told_streams wholes) v p) (pids_of (told_streams wholes))
   enough_sends p =
       let few = excess_within top wholes sound full v p in
-      let none = no_member (feeders (is_free (told_streams wholes) v) v (marked_of wholes p)) (none_free p) in
+      let none = no_member (feeders (is_free (told_streams wholes) v) v (marked_of wholes p))
+      (none_free p) in
       omega arith
 
-pub sends_enough : (top : ℕ) (streams : List Stream) (acts : List Act) (shows : Shows top streams acts) → NoReset acts
-    → AreSendsTold (wholes_of top streams acts shows.0) → IsRising (pids_of streams) → (v : ℕ) (p : Pid)
+pub sends_enough : (top : ℕ) (streams : List Stream) (acts : List Act)
+    (shows : Shows top streams acts) → NoReset acts
+    → AreSendsTold (wholes_of top streams acts shows.0) → IsRising (pids_of streams)
+    → (v : ℕ) (p : Pid)
     → needs streams v p ≤ count_by (is_own_supply streams v p) (pids_of streams)
 sends_enough top streams acts shows none sends rising v p =
     let done = run_completed top streams acts shows none rising in

@@ -1,7 +1,9 @@
--- Each run without a reset has a full completion: after a tracer on each node the loud run begins, and its streams are
--- all the run's events, of which the run's streams are told.
-use Rattle.std.proofs.Common.{◌≡◌, ℕ, zero, suc, Bool, true, false, cond, List, [], ◌∷◌, ◌++◌, map, Option, Some, None}
-use Rattle.std.proofs.Common.{is_some, option_map, option_and_then, get_or, refl, sym, ◌∙◌, ap, subst}
+-- Each run without a reset has a full completion: after a tracer on each node the loud run begins,
+-- and its streams are all the run's events, of which the run's streams are told.
+use Rattle.std.proofs.Common.{◌≡◌, ℕ, zero, suc, Bool, true, false, cond, List, [], ◌∷◌, ◌++◌, map}
+use Rattle.std.proofs.Common.{Option, Some, None}
+use Rattle.std.proofs.Common.{is_some, option_map, option_and_then, get_or, refl, sym, ◌∙◌, ap}
+use Rattle.std.proofs.Common.{subst}
 use Rattle.std.specs.Prelude.{All}
 use Rattle.std.specs.List.{slice_get}
 use Rattle.std.proofs.lemmas.Bool.{eq-eqb, false≢true}
@@ -17,14 +19,16 @@ use Rattle.st_core.specs.Step.{Acted, Outcome, answers, changed, outcome_of, ste
 use Rattle.st_core.specs.Run.{Shows, Stream, pids_of, run, run_from, stream}
 use Rattle.st_core.specs.Streams.{IsStreams}
 use Rattle.st_core.specs.Laws.{NoReset, ReportsEverything}
-use Rattle.st_core.proofs.ForCallers.{changed_pid, pid_eq-refl, pid_same, process-map, process_pid, some_of}
+use Rattle.st_core.proofs.ForCallers.{changed_pid, pid_eq-refl, pid_same, process-map, process_pid}
+use Rattle.st_core.proofs.ForCallers.{some_of}
 use Rattle.st_core.proofs.ForCallers.{step_done}
 use Rattle.st_plan.specs.Build.{state_after}
 use Rattle.st_plan.specs.Marks.{all_streams, Marked, told_events, told_streams, Whole}
 use Rattle.st_plan.proofs.ForCallers.{run_append, Silent, stream_append, stream_silent}
 use Rattle.st_plan.specs.Full.{IsFull}
 use Rattle.st_completions.specs.Wholes.{loud, whole_from, wholes_of}
-use Rattle.st_completions.proofs.LoudRuns.{are_heard, AreHeard, IsLoud, no_reset_append, whole_append, whole_told}
+use Rattle.st_completions.proofs.LoudRuns.{are_heard, AreHeard, IsLoud, no_reset_append}
+use Rattle.st_completions.proofs.LoudRuns.{whole_append, whole_told}
 use Rattle.st_completions.proofs.ShownStreams.{shown_are_streams}
 use Rattle.st_plan.proofs.ForCallers.{run_full}
 
@@ -55,10 +59,13 @@ module _ (top : ℕ) (s : State) (p : Pid) (r : Process) (at : process s p ≡ S
   abbrev switched : Acted
   switched = answers r r.local (reply.Was r.local.traced)
 
-  one_traced : (x : Pid) (y : Process) → process s x ≡ Some y → changed (act.Tracer p true) switched y ≡ traced_by p y
+  one_traced : (x : Pid) (y : Process) → process s x ≡ Some y
+      → changed (act.Tracer p true) switched y ≡ traced_by p y
   one_traced x y is =
-      let made = λ (z : Process). let own : Process = record y { local = z.local; queue = z.queue } in own in
-      let same : cond (pid_eq y.pid p) (made r) y ≡ y = elim (pid_eq y.pid p) as (λ b. pid_eq y.pid p ≡ b
+      let made = λ (z : Process). let own : Process =
+      record y { local = z.local; queue = z.queue } in own in
+      let same : cond (pid_eq y.pid p) (made r) y ≡ y =
+      elim (pid_eq y.pid p) as (λ b. pid_eq y.pid p ≡ b
       → cond b (made r) y ≡ y) [
         | true ↦ λ mine.
             let who : p ≡ x = sym (pid_same y.pid p mine) ∙ process_pid s x y is in
@@ -93,7 +100,13 @@ mapped_there f (Some r) = refl
 
 traced : (top : ℕ) (ps : List Pid) (s : State) → AreThere s ps → IsTraced top s ps
 unfolding AreThere
-traced top [] s there = record { os = []; runs = refl; silent = tt; after = λ x. mapped_same (process s x) }
+traced top [] s there = record {
+  os = [];
+  runs = refl;
+  silent = tt;
+  after = λ x.
+      mapped_same (process s x);
+}
 traced top (p ∷ ps) s there =
     let at = some_of (process s p) (there 0 p refl) in
     let r = at.0 in
@@ -106,7 +119,8 @@ traced top (p ∷ ps) s there =
     ∙ mapped_there (traced_by p) (process s x) ∙ there (suc k) x h) in
     record {
       os = o ∷ rest.os;
-      runs = ap (option_and_then (λ (o : Outcome). option_map (λ os. o ∷ os) (run_from top o.after (tracers ps)))) first
+      runs = ap (option_and_then (λ (o : Outcome). option_map (λ os. o ∷ os)
+          (run_from top o.after (tracers ps)))) first
           ∙ ap (option_map (λ os. o ∷ os)) rest.runs;
       silent = (refl, rest.silent);
       after = λ x. rest.after x ∙ ap (option_map (traced_by_all ps)) (here x)
@@ -121,7 +135,8 @@ zeroes b x = record { pid = x; local = record zero_local { traced = b }; queue =
 stays_traced : (ps : List Pid) (x : Pid) → traced_by_all ps (zeroes true x) ≡ zeroes true x
 stays_traced [] x = refl
 stays_traced (p ∷ ps) x =
-    ap (traced_by_all ps) (elim (node_eq x p) as (λ b. cond b (zeroes true x) (zeroes true x) ≡ zeroes true x) [
+    ap (traced_by_all ps) (elim (node_eq x p) as (λ b.
+    cond b (zeroes true x) (zeroes true x) ≡ zeroes true x) [
       | true ↦ refl
       | false ↦ refl
     ])
@@ -134,7 +149,8 @@ traced_among (p ∷ ps) x k h =
     let next = λ (b : Bool). traced_by_all ps (cond b (zeroes true x) (zeroes false x)) in
     elim k as (λ k. slice_get (p ∷ ps) k ≡ Some x → next (node_eq x p) ≡ zeroes true x) [
       | zero ↦ λ h.
-          let near : node_eq x p ≡ true = eq-eqb x.node p.node (ap (λ (q : Pid). q.node) (sym (same_Some p x h))) in
+          let near : node_eq x p ≡ true = eq-eqb x.node p.node
+          (ap (λ (q : Pid). q.node) (sym (same_Some p x h))) in
           ap next near ∙ stays_traced ps x
       | suc j ↦ λ h. elim (node_eq x p) as (λ b. next b ≡ zeroes true x) [
         | true ↦ stays_traced ps x
@@ -146,7 +162,8 @@ zero_at : (pids : List Pid) (x : Pid) (r : Process) → process (zero_state pids
     → (r ≡ zeroes false x) × (k : ℕ) × (slice_get pids k ≡ Some x)
 zero_at [] x r h = absurd (none-some r h)
 zero_at (p ∷ pids) x r h =
-    elim (pid_eq p x) as (λ b. pid_eq p x ≡ b → cond b (Some (zeroes false p)) (process (zero_state pids) x) ≡ Some r
+    elim (pid_eq p x) as (λ b. pid_eq p x ≡ b → cond b (Some (zeroes false p))
+    (process (zero_state pids) x) ≡ Some r
     → (r ≡ zeroes false x) × (k : ℕ) × (slice_get (p ∷ pids) k ≡ Some x)) [
       | true ↦ λ e h.
           let who = pid_same p x e in
@@ -161,7 +178,8 @@ zero_there (p ∷ pids) zero x h =
     ap (λ b. is_some (cond b (Some (zeroes false p)) (process (zero_state pids) x)))
     (ap (λ q. pid_eq q x) (same_Some p x h) ∙ pid_eq-refl x)
 zero_there (p ∷ pids) (suc k) x h =
-    elim (pid_eq p x) as (λ b. is_some (cond b (Some (zeroes false p)) (process (zero_state pids) x)) ≡ true) [
+    elim (pid_eq p x) as (λ b. is_some (cond b (Some (zeroes false p))
+    (process (zero_state pids) x)) ≡ true) [
       | true ↦ refl
       | false ↦ zero_there pids k x h
     ]
@@ -183,10 +201,15 @@ tracers_plain : (ps : List Pid) → NoReset (tracers ps)
 tracers_plain [] = tt
 tracers_plain (p ∷ ps) = (refl, tracers_plain ps)
 
-tracers_whole : (s : State) (ps : List Pid) (os : List Outcome) → ReportsEverything s (tracers ps) os
+tracers_whole : (s : State) (ps : List Pid) (os : List Outcome)
+    → ReportsEverything s (tracers ps) os
 tracers_whole s [] os = tt
 tracers_whole s (p ∷ ps) [] = tt
-tracers_whole s (p ∷ ps) (o ∷ os) = (λ r at moves. absurd (false≢true moves), tracers_whole o.after ps os)
+tracers_whole s (p ∷ ps) (o ∷ os) = (
+  λ r at moves. absurd (false≢true moves),
+  tracers_whole o.after
+      ps os,
+)
 
 -- THE COMPLETION
 
@@ -213,7 +236,8 @@ module _ (top : ℕ) (streams : List Stream) (acts : List Act) (shows : Shows to
       let whole = λ (y : Stream). stream acts shows.0 y.pid ≡ y.events in
       let one : told_events (marks x.pid) ≡ x.events =
       whole_told top start acts shows.0 x.pid shows.1 ∙ All-head whole x some shown in
-      ap (λ es. let y : Stream = record { pid = x.pid; events = es } in y ∷ told_streams (map whole_by some)) one
+      ap (λ es. let y : Stream = record { pid = x.pid; events = es } in
+      y ∷ told_streams (map whole_by some)) one
       ∙ ap (λ ys. x ∷ ys) (told_each some (All-tail whole x some shown))
 
   pub told_are : told_streams wholes ≡ streams
@@ -228,7 +252,8 @@ module _ (top : ℕ) (streams : List Stream) (acts : List Act) (shows : Shows to
     begun = traced top pids start (zero_there pids)
 
     then_heard : AreHeard top start (state_after start begun.os) acts shows.0
-    then_heard = are_heard top start (state_after start begun.os) acts shows.0 shows.1 none (zero_loud top pids begun)
+    then_heard = are_heard top start (state_after start begun.os) acts shows.0 shows.1 none
+        (zero_loud top pids begun)
 
     abbrev heard : List Act
     heard = tracers pids ++ then_heard.heard
@@ -237,12 +262,14 @@ module _ (top : ℕ) (streams : List Stream) (acts : List Act) (shows : Shows to
     outcomes = begun.os ++ then_heard.outcomes
 
     heard_runs : run top pids heard ≡ Some outcomes
-    heard_runs = run_append top start (tracers pids) then_heard.heard begun.os then_heard.outcomes begun.runs
+    heard_runs = run_append top start (tracers pids) then_heard.heard begun.os then_heard.outcomes
+        begun.runs
         then_heard.runs
 
     heard_tells : (p : Pid) → stream heard outcomes p ≡ map (λ m. m.event) (marks p)
     heard_tells p =
-        stream_append top start (tracers pids) then_heard.heard begun.os then_heard.outcomes p begun.runs
+        stream_append top start (tracers pids) then_heard.heard begun.os then_heard.outcomes p
+        begun.runs
         ∙ ap (λ es. es ++ stream then_heard.heard then_heard.outcomes p)
         (stream_silent (tracers pids) begun.os p begun.silent)
         ∙ then_heard.tells p
@@ -252,17 +279,25 @@ module _ (top : ℕ) (streams : List Stream) (acts : List Act) (shows : Shows to
       outcomes,
       ap (λ ps. run top ps heard) (same_pids streams) ∙ heard_runs,
       All-map (λ (x : Stream). stream heard outcomes x.pid ≡ x.events)
-          (λ (w : Whole). let x : Stream = record { pid = w.pid; events = map (λ m. m.event) w.marked } in x) wholes
-          (All-map (λ (w : Whole). stream heard outcomes w.pid ≡ map (λ m. m.event) w.marked) whole_by streams
+          (λ (w : Whole). let x : Stream = record {
+            pid = w.pid;
+            events =
+                map (λ m. m.event) w.marked;
+          } in x) wholes
+          (All-map (λ (w : Whole). stream heard outcomes w.pid ≡ map (λ m. m.event) w.marked)
+          whole_by streams
           (λ k d within. heard_tells (get_or streams k d).pid)),
     )
 
     heard_plain : NoReset heard
-    heard_plain = no_reset_append (tracers pids) then_heard.heard (tracers_plain pids) then_heard.one_trace
+    heard_plain = no_reset_append (tracers pids) then_heard.heard (tracers_plain pids)
+        then_heard.one_trace
 
     heard_whole : ReportsEverything (zero_state (pids_of (all_streams wholes))) heard outcomes
-    heard_whole = subst (λ ps. ReportsEverything (zero_state ps) heard outcomes) (sym (same_pids streams))
-        (whole_append top start (tracers pids) then_heard.heard begun.os then_heard.outcomes begun.runs
+    heard_whole = subst (λ ps. ReportsEverything (zero_state ps) heard outcomes)
+        (sym (same_pids streams))
+        (whole_append top start (tracers pids) then_heard.heard begun.os then_heard.outcomes
+        begun.runs
         (tracers_whole start pids begun.os) then_heard.whole)
 
     pub wholes_full : IsFull top (all_streams wholes)
@@ -274,7 +309,8 @@ module _ (top : ℕ) (streams : List Stream) (acts : List Act) (shows : Shows to
         (subst IsRising (sym (same_pids streams)) rising) heard_shows
 
 -- in every run without a reset
-pub run_completed : (top : ℕ) (streams : List Stream) (acts : List Act) (shows : Shows top streams acts) → NoReset acts
+pub run_completed : (top : ℕ) (streams : List Stream) (acts : List Act)
+    (shows : Shows top streams acts) → NoReset acts
     → IsRising (pids_of streams)
     → (told_streams (wholes_of top streams acts shows.0) ≡ streams)
     × IsStreams (all_streams (wholes_of top streams acts shows.0))

@@ -13,7 +13,8 @@ use Rattle.st_order.proofs.ForCallers.{all_found}
 abbrev pub stream_by : (Pid → List Event) → Pid → Stream
 stream_by f p = record { pid = p; events = f p }
 
-pub streams_by : (f : Pid → List Event) (xs : List Stream) → AllByRecursion (λ (x : Stream). f x.pid ≡ x.events) xs
+pub streams_by : (f : Pid → List Event) (xs : List Stream)
+    → AllByRecursion (λ (x : Stream). f x.pid ≡ x.events) xs
     → xs ≡ map (stream_by f) (pids_of xs)
 streams_by f [] all = refl
 streams_by f (x ∷ xs) all =

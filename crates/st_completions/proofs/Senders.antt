@@ -1,8 +1,10 @@
--- Who sends what: the supplies of one count. Each need gets a sender, since own ones and free ones are enough; each
--- is told of a send to this process or is free; and no process sends twice, since it is told of one receiver at most,
--- isn't free then, and is taken from the free ones once.
-use Rattle.std.proofs.Common.{◌≡◌, inl, inr, ℕ, zero, suc, ◌+◌, ◌-◌, ◌≤◌, ◌==◌, ◌&&◌, ◌||◌, Bool, true, false, cond}
-use Rattle.std.proofs.Common.{List, [], ◌∷◌, ◌++◌, filter, length, take, drop, Option, Some, None, is_none, sum_by}
+-- Who sends what: the supplies of one count. Each need gets a sender, since own ones and free ones
+-- are enough; each is told of a send to this process or is free; and no process sends twice, since
+-- it is told of one receiver at most, isn't free then, and is taken from the free ones once.
+use Rattle.std.proofs.Common.{◌≡◌, inl, inr, ℕ, zero, suc, ◌+◌, ◌-◌, ◌≤◌, ◌==◌, ◌&&◌, ◌||◌, Bool}
+use Rattle.std.proofs.Common.{true, false, cond}
+use Rattle.std.proofs.Common.{List, [], ◌∷◌, ◌++◌, filter, length, take, drop, Option, Some, None}
+use Rattle.std.proofs.Common.{is_none, sum_by}
 use Rattle.std.proofs.Common.{refl, sym, ◌∙◌, ap, subst, arith, length-append, length-drop}
 use Rattle.std.specs.List.{AllByRecursion, count_by}
 use Rattle.std.proofs.lemmas.Bool.{and_parts, eq-eqb, eqb-true, false≢true}
@@ -14,7 +16,8 @@ use Rattle.st_core.specs.Run.{Stream, pids_of}
 use Rattle.st_core.specs.Streams.{events_of, lists, is_among}
 use Rattle.st_core.proofs.ForCallers.{and_false, IsBelow-apart, pid_eq-swap, pid_same}
 use Rattle.st_pair.specs.Pairing.{is_send, receive_of, stamp_of, to_eq}
-use Rattle.st_completions.specs.Completion.{count_of, needs_of, own, supplied_by, supplies_of, Supply}
+use Rattle.st_completions.specs.Completion.{count_of, needs_of, own, supplied_by, supplies_of}
+use Rattle.st_completions.specs.Completion.{Supply}
 use Rattle.st_completions.specs.Needs.{is_need}
 use Rattle.st_completions.specs.Supply.{excess, is_free, is_own_supply, needs, needs_from}
 use Rattle.st_completions.proofs.Lookups.{stamp_passes}
@@ -43,7 +46,8 @@ all_filter P test (x ∷ xs) all =
     ]
 
 -- each passes
-pub passes_filter : {X : Type 0} (test : X → Bool) (xs : List X) → AllByRecursion (λ x. test x ≡ true) (filter test xs)
+pub passes_filter : {X : Type 0} (test : X → Bool) (xs : List X)
+    → AllByRecursion (λ x. test x ≡ true) (filter test xs)
 passes_filter test [] = tt
 passes_filter test (x ∷ xs) =
     let rest = passes_filter test xs in
@@ -53,31 +57,37 @@ passes_filter test (x ∷ xs) =
       | false ↦ λ _. rest
     ] refl
 
-pub all_map : {X : Type 0} (P Q : X → Type 0) → ((x : X) → P x → Q x) → (xs : List X) → AllByRecursion P xs
+pub all_map : {X : Type 0} (P Q : X → Type 0) → ((x : X) → P x → Q x) → (xs : List X)
+    → AllByRecursion P xs
     → AllByRecursion Q xs
 all_map P Q each [] all = tt
 all_map P Q each (x ∷ xs) all = (each x all.0, all_map P Q each xs all.1)
 
-pub all_both : {X : Type 0} (P : X → Type 0) (xs ys : List X) → AllByRecursion P xs → AllByRecursion P ys
+pub all_both : {X : Type 0} (P : X → Type 0) (xs ys : List X) → AllByRecursion P xs
+    → AllByRecursion P ys
     → AllByRecursion P (xs ++ ys)
 all_both P [] ys one two = two
 all_both P (x ∷ xs) ys one two = (one.0, all_both P xs ys one.1 two)
 
-all_drop : {X : Type 0} (P : X → Type 0) (n : ℕ) (xs : List X) → AllByRecursion P xs → AllByRecursion P (drop n xs)
+all_drop : {X : Type 0} (P : X → Type 0) (n : ℕ) (xs : List X) → AllByRecursion P xs
+    → AllByRecursion P (drop n xs)
 all_drop P zero xs all = all
 all_drop P (suc n) [] all = tt
 all_drop P (suc n) (x ∷ xs) all = all_drop P n xs all.1
 
-all_take : {X : Type 0} (P : X → Type 0) (n : ℕ) (xs : List X) → AllByRecursion P xs → AllByRecursion P (take n xs)
+all_take : {X : Type 0} (P : X → Type 0) (n : ℕ) (xs : List X) → AllByRecursion P xs
+    → AllByRecursion P (take n xs)
 all_take P zero xs all = tt
 all_take P (suc n) [] all = tt
 all_take P (suc n) (x ∷ xs) all = (all.0, all_take P n xs all.1)
 
-pub different_filter : (test : Pid → Bool) (ps : List Pid) → IsRising ps → Different (filter test ps)
+pub different_filter : (test : Pid → Bool) (ps : List Pid) → IsRising ps
+    → Different (filter test ps)
 different_filter test [] rising = tt
 different_filter test (p ∷ ps) rising =
     let rest = different_filter test ps rising.1 in
-    let none = all_map (IsBelow p) (λ y. pid_eq p y ≡ false) (λ y below. IsBelow-apart p y below) (filter test ps)
+    let none = all_map (IsBelow p) (λ y. pid_eq p y ≡ false) (λ y below. IsBelow-apart p y below)
+    (filter test ps)
     (all_filter (IsBelow p) test ps rising.0) in
     elim (test p) as (λ b. Different (cond b (p ∷ filter test ps) (filter test ps))) [
       | true ↦ (none, rest)
@@ -90,13 +100,15 @@ different_drop (suc n) [] all = tt
 different_drop (suc n) (q ∷ qs) all = different_drop n qs all.1
 
 -- the first and the others
-different_parts : (n : ℕ) (qs : List Pid) → Different qs → AllByRecursion (λ q. IsNone q (drop n qs)) (take n qs)
+different_parts : (n : ℕ) (qs : List Pid) → Different qs
+    → AllByRecursion (λ q. IsNone q (drop n qs)) (take n qs)
 different_parts zero qs all = tt
 different_parts (suc n) [] all = tt
 different_parts (suc n) (q ∷ qs) all =
     (all_drop (λ y. pid_eq q y ≡ false) n qs all.0, different_parts n qs all.1)
 
-different_both : (xs ys : List Pid) → Different xs → Different ys → AllByRecursion (λ x. IsNone x ys) xs
+different_both : (xs ys : List Pid) → Different xs → Different ys
+    → AllByRecursion (λ x. IsNone x ys) xs
     → Different (xs ++ ys)
 different_both [] ys one two apart = two
 different_both (x ∷ xs) ys one two apart =
@@ -109,25 +121,32 @@ apart_by test x y fails passes = elim (pid_eq x y) as (λ b. pid_eq x y ≡ b �
   | true ↦ λ same. absurd (false≢true (sym fails ∙ ap test (pid_same x y same) ∙ passes))
 ] refl
 
-none_of : (test : Pid → Bool) (x : Pid) → test x ≡ false → (ys : List Pid) → AllByRecursion (λ y. test y ≡ true) ys
+none_of : (test : Pid → Bool) (x : Pid) → test x ≡ false → (ys : List Pid)
+    → AllByRecursion (λ y. test y ≡ true) ys
     → IsNone x ys
 none_of test x fails ys all = all_map (λ y. test y ≡ true) (λ y. pid_eq x y ≡ false)
     (λ y passes. apart_by test x y fails passes) ys all
 
 -- THE NEEDS OF ONE PROCESS
 
-needs_prev : (v : ℕ) (before es : List Event) → AllByRecursion (λ e. e.serial.prev ≡ v) (needs_of v before es)
+needs_prev : (v : ℕ) (before es : List Event) → AllByRecursion (λ e. e.serial.prev ≡ v)
+    (needs_of v before es)
 needs_prev v before [] = tt
 needs_prev v before (e ∷ es) =
     let rest = needs_of v (before ++ e ∷ []) es in
     let later = needs_prev v (before ++ e ∷ []) es in
     let test = is_need before e && e.serial.prev == v in
     elim test as (λ b. test ≡ b → AllByRecursion (λ d. d.serial.prev ≡ v) (cond b (e ∷ rest) rest)) [
-      | true ↦ λ is. (eqb-true e.serial.prev v (and_parts (is_need before e) (e.serial.prev == v) is).1, later)
+      | true ↦ λ is. (
+        eqb-true e.serial.prev v (and_parts (is_need before e) (e.serial.prev == v)
+            is).1,
+        later,
+      )
       | false ↦ λ _. later
     ] refl
 
-needs_length : (v : ℕ) (before es : List Event) → length (needs_of v before es) ≡ needs_from v before es
+needs_length : (v : ℕ) (before es : List Event) → length (needs_of v before es)
+    ≡ needs_from v before es
 needs_length v before [] = refl
 needs_length v before (e ∷ es) =
     let rest = needs_of v (before ++ e ∷ []) es in
@@ -145,7 +164,8 @@ Serves P v p q = (e : Event) → e.serial.prev ≡ v → P (record { need = e; t
 -- what holds with the own ones, and with so many free ones as are taken, holds of all supplies
 supplied_all : (P : Supply → Type 0) (v : ℕ) (p : Pid) (es : List Event) (os fs : List Pid)
     → AllByRecursion (λ e. e.serial.prev ≡ v) es → AllByRecursion (Serves P v p) os
-    → AllByRecursion (Serves P v p) (take (length es - length os) fs) → AllByRecursion P (supplied_by p es (os ++ fs))
+    → AllByRecursion (Serves P v p) (take (length es - length os) fs)
+    → AllByRecursion P (supplied_by p es (os ++ fs))
 supplied_all P v p [] os fs prevs owns frees = tt
 supplied_all P v p (e ∷ es) [] [] prevs owns frees = tt
 supplied_all P v p (e ∷ es) [] (f ∷ fs) prevs owns frees =
@@ -154,12 +174,14 @@ supplied_all P v p (e ∷ es) [] (f ∷ fs) prevs owns frees =
     let all : length es ≡ length es - length nobody = omega arith in
     let both = subst (λ n. AllByRecursion (Serves P v p) (take n (f ∷ fs))) one frees in (
       both.0 e prevs.0,
-      supplied_all P v p es [] fs prevs.1 tt (subst (λ n. AllByRecursion (Serves P v p) (take n fs)) all both.1),
+      supplied_all P v p es [] fs prevs.1 tt (subst (λ n. AllByRecursion (Serves P v p) (take n fs))
+          all both.1),
     )
 supplied_all P v p (e ∷ es) (o ∷ os) fs prevs owns frees =
     let same : length (e ∷ es) - length (o ∷ os) ≡ length es - length os = omega arith in (
       owns.0 e prevs.0,
-      supplied_all P v p es os fs prevs.1 owns.1 (subst (λ n. AllByRecursion (Serves P v p) (take n fs)) same frees),
+      supplied_all P v p es os fs prevs.1 owns.1 (subst
+          (λ n. AllByRecursion (Serves P v p) (take n fs)) same frees),
     )
 
 supplied_none : (q p : Pid) (es : List Event) (qs : List Pid) → IsNone q qs
@@ -168,11 +190,13 @@ supplied_none q p [] qs none = tt
 supplied_none q p (e ∷ es) [] none = tt
 supplied_none q p (e ∷ es) (x ∷ qs) none = (none.0, supplied_none q p es qs none.1)
 
-apart_if : (q : Pid) (w : ℕ) (ss : List Supply) → AllByRecursion (λ s. pid_eq q s.from ≡ false) ss → Apart q w ss
+apart_if : (q : Pid) (w : ℕ) (ss : List Supply) → AllByRecursion (λ s. pid_eq q s.from ≡ false) ss
+    → Apart q w ss
 apart_if q w ss all = all_map (λ s. pid_eq q s.from ≡ false) (λ s. differs q w s ≡ false)
     (λ s other. ap (λ b. b && count_of s == w) other) ss all
 
-supplied_apart : (p : Pid) (es : List Event) (qs : List Pid) → Different qs → AllApart (supplied_by p es qs)
+supplied_apart : (p : Pid) (es : List Event) (qs : List Pid) → Different qs
+    → AllApart (supplied_by p es qs)
 supplied_apart p [] qs different = tt
 supplied_apart p (e ∷ es) [] different = tt
 supplied_apart p (e ∷ es) (q ∷ qs) different = (
@@ -226,7 +250,8 @@ pub record IsPart (streams : List Stream) (v : ℕ) (s : Supply) : Type 0 where
   pub from : lists streams s.from ≡ true
   pub to : lists streams s.to ≡ true
 
-to_other : (to : Option Pid) (p z : Pid) (sends : Bool) → (sends && to_eq to (Some p)) ≡ true → pid_eq p z ≡ false
+to_other : (to : Option Pid) (p z : Pid) (sends : Bool) → (sends && to_eq to (Some p)) ≡ true
+    → pid_eq p z ≡ false
     → (sends && to_eq to (Some z)) ≡ false
 to_other None p z sends h other = and_false sends false refl
 to_other (Some q) p z sends h other =
@@ -246,7 +271,8 @@ module _ (streams : List Stream) (rising : IsRising (pids_of streams)) (v : ℕ)
   -- who is told of a send of v isn't free
   own_not_free : (p q : Pid) → is_own_supply streams v p q ≡ true → is_free streams v q ≡ false
   own_not_free p q own =
-      let parts = and_parts (is_none (receive_of streams q v)) (stamp_passes (sends_to p) (stamp_of streams q v)) own in
+      let parts = and_parts (is_none (receive_of streams q v))
+      (stamp_passes (sends_to p) (stamp_of streams q v)) own in
       ap (λ b. is_none (receive_of streams q v) && b) (elim (stamp_of streams q v) as (λ o.
       stamp_passes (sends_to p) o ≡ true → is_none o ≡ false) [
         | None ↦ λ h. absurd (false≢true h)
@@ -255,16 +281,18 @@ module _ (streams : List Stream) (rising : IsRising (pids_of streams)) (v : ℕ)
       ∙ and_false (is_none (receive_of streams q v)) false refl
 
   free_not_own : (p q : Pid) → IsFree q → is_own_supply streams v p q ≡ false
-  free_not_own p q free = elim (is_own_supply streams v p q) as (λ b. is_own_supply streams v p q ≡ b → b ≡ false) [
-    | false ↦ λ _. refl
-    | true ↦ λ own. absurd (false≢true (sym (own_not_free p q own) ∙ free))
-  ] refl
+  free_not_own p q free = elim (is_own_supply streams v p q)
+      as (λ b. is_own_supply streams v p q ≡ b → b ≡ false) [
+        | false ↦ λ _. refl
+        | true ↦ λ own. absurd (false≢true (sym (own_not_free p q own) ∙ free))
+      ] refl
 
   -- nor of one to another
   own_once : (p z q : Pid) → is_own_supply streams v p q ≡ true → pid_eq p z ≡ false
       → is_own_supply streams v z q ≡ false
   own_once p z q own other =
-      let parts = and_parts (is_none (receive_of streams q v)) (stamp_passes (sends_to p) (stamp_of streams q v)) own in
+      let parts = and_parts (is_none (receive_of streams q v))
+      (stamp_passes (sends_to p) (stamp_of streams q v)) own in
       ap (λ b. is_none (receive_of streams q v) && b) (elim (stamp_of streams q v) as (λ o.
       stamp_passes (sends_to p) o ≡ true → stamp_passes (sends_to z) o ≡ false) [
         | None ↦ λ _. refl
@@ -272,7 +300,8 @@ module _ (streams : List Stream) (rising : IsRising (pids_of streams)) (v : ℕ)
       ] parts.1)
       ∙ and_false (is_none (receive_of streams q v)) false refl
 
-  owns_listed : (p : Pid) → AllByRecursion IsListed (pids_of streams) → AllByRecursion IsListed (own streams v p)
+  owns_listed : (p : Pid) → AllByRecursion IsListed (pids_of streams)
+      → AllByRecursion IsListed (own streams v p)
   owns_listed p listed = all_filter IsListed (is_own_supply streams v p) (pids_of streams) listed
 
   owns_own : (p : Pid) → AllByRecursion (λ q. is_own_supply streams v p q ≡ true) (own streams v p)
@@ -283,21 +312,25 @@ module _ (streams : List Stream) (rising : IsRising (pids_of streams)) (v : ℕ)
   both_all P Q [] one two = tt
   both_all P Q (q ∷ qs) one two = ((one.0, two.0), both_all P Q qs one.1 two.1)
 
-  pub all_parts : (fs ps : List Pid) → AllByRecursion IsListed (pids_of streams) → AllByRecursion IsFree fs
+  pub all_parts : (fs ps : List Pid) → AllByRecursion IsListed (pids_of streams)
+      → AllByRecursion IsFree fs
       → AllByRecursion IsListed fs → AllByRecursion IsListed ps
       → AllByRecursion (IsPart streams v) (supplies_of streams v fs ps)
   all_parts fs [] all free listed to = tt
   all_parts fs (p ∷ ps) all free listed to =
       let n = length (mine p) - length (own streams v p) in
-      let owns = all_map (λ q. (is_own_supply streams v p q ≡ true) × IsListed q) (Serves (IsPart streams v) v p)
+      let owns = all_map (λ q. (is_own_supply streams v p q ≡ true) × IsListed q)
+      (Serves (IsPart streams v) v p)
       (λ q is e prev. record {
         count = prev;
         ready = inl (subst (λ w. is_own_supply streams w p q ≡ true) (sym prev) is.0);
         from = is.1;
         to = to.0;
-      }) (own streams v p) (both_all (λ q. is_own_supply streams v p q ≡ true) IsListed (own streams v p) (owns_own p)
+      }) (own streams v p) (both_all (λ q. is_own_supply streams v p q ≡ true) IsListed
+      (own streams v p) (owns_own p)
       (owns_listed p all)) in
-      let frees = all_map (λ q. IsFree q × IsListed q) (Serves (IsPart streams v) v p) (λ q is e prev. record {
+      let frees = all_map (λ q. IsFree q × IsListed q) (Serves (IsPart streams v) v p)
+      (λ q is e prev. record {
         count = prev;
         ready = inr (subst (λ w. is_free streams w q ≡ true) (sym prev) is.0);
         from = is.1;
@@ -306,12 +339,15 @@ module _ (streams : List Stream) (rising : IsRising (pids_of streams)) (v : ℕ)
       (all_take IsListed n fs listed)) in
       all_both (IsPart streams v) (supplied_by p (mine p) (own streams v p ++ fs))
       (supplies_of streams v (drop n fs) ps)
-      (supplied_all (IsPart streams v) v p (mine p) (own streams v p) fs (needs_prev v [] (events_of streams p)) owns
+      (supplied_all (IsPart streams v) v p (mine p) (own streams v p) fs
+      (needs_prev v [] (events_of streams p)) owns
       frees)
-      (all_parts (drop n fs) ps all (all_drop IsFree n fs free) (all_drop IsListed n fs listed) to.1)
+      (all_parts (drop n fs) ps all (all_drop IsFree n fs free) (all_drop IsListed n fs listed)
+      to.1)
 
   -- who serves none of these, and isn't among the free ones, sends none of their supplies
-  from_none : (q : Pid) (fs ps : List Pid) → AllByRecursion (λ z. is_own_supply streams v z q ≡ false) ps → IsNone q fs
+  from_none : (q : Pid) (fs ps : List Pid) → AllByRecursion
+      (λ z. is_own_supply streams v z q ≡ false) ps → IsNone q fs
       → AllByRecursion (λ s. pid_eq q s.from ≡ false) (supplies_of streams v fs ps)
   from_none q fs [] owns none = tt
   from_none q fs (p ∷ ps) owns none =
@@ -338,32 +374,41 @@ module _ (streams : List Stream) (rising : IsRising (pids_of streams)) (v : ℕ)
       (own streams v p) (owns_own p) in
       let frees = all_map (λ q. IsFree q × IsNone q (drop n fs)) (Serves Later v p)
       (λ q is e _. from_none q (drop n fs) ps
-      (all_map (IsBelow p) (λ z. is_own_supply streams v z q ≡ false) (λ z _. free_not_own z q is.0) ps up.0) is.1)
-      (take n fs) (both_all IsFree (λ q. IsNone q (drop n fs)) (take n fs) (all_take IsFree n fs free)
+      (all_map (IsBelow p) (λ z. is_own_supply streams v z q ≡ false) (λ z _. free_not_own z q is.0)
+      ps up.0) is.1)
+      (take n fs) (both_all IsFree (λ q. IsNone q (drop n fs)) (take n fs)
+      (all_take IsFree n fs free)
       (different_parts n fs different)) in
       apart_both (supplied_by p (mine p) (own streams v p ++ fs)) later
       (supplied_apart p (mine p) (own streams v p ++ fs)
-      (different_both (own streams v p) fs (different_filter (is_own_supply streams v p) (pids_of streams) rising)
+      (different_both (own streams v p) fs (different_filter (is_own_supply streams v p)
+      (pids_of streams) rising)
       different (all_map (λ q. is_own_supply streams v p q ≡ true) (λ q. IsNone q fs)
-      (λ q is. none_of (is_free streams v) q (own_not_free p q is) fs free) (own streams v p) (owns_own p))))
+      (λ q is. none_of (is_free streams v) q (own_not_free p q is) fs free) (own streams v p)
+      (owns_own p))))
       (all_apart (drop n fs) ps (all_drop IsFree n fs free) (different_drop n fs different) up.1)
-      (all_map Later (λ s. Apart s.from (count_of s) later) (λ s all. apart_if s.from (count_of s) later all)
+      (all_map Later (λ s. Apart s.from (count_of s) later)
+      (λ s all. apart_if s.from (count_of s) later all)
       (supplied_by p (mine p) (own streams v p ++ fs))
-      (supplied_all Later v p (mine p) (own streams v p) fs (needs_prev v [] (events_of streams p)) owns frees))
+      (supplied_all Later v p (mine p) (own streams v p) fs (needs_prev v [] (events_of streams p))
+      owns frees))
 
   -- as many as needs
   count_mine : (z p : Pid) (fs : List Pid) → excess streams v p ≤ length fs
-      → count_by (is_for v z) (supplied_by p (mine p) (own streams v p ++ fs)) ≡ cond (pid_eq p z) (length (mine p)) 0
+      → count_by (is_for v z) (supplied_by p (mine p) (own streams v p ++ fs))
+      ≡ cond (pid_eq p z) (length (mine p)) 0
   count_mine z p fs enough =
       let all = length-append (own streams v p) fs in
       let owns = length-filter (is_own_supply streams v p) (pids_of streams) in
       let few = needs_length v [] (events_of streams p) in
-      supplied_count v p z (mine p) (own streams v p ++ fs) (omega arith) (needs_prev v [] (events_of streams p))
+      supplied_count v p z (mine p) (own streams v p ++ fs) (omega arith)
+      (needs_prev v [] (events_of streams p))
 
   -- and each takes as many free ones as it lacks
   enough_left : (p : Pid) (fs ps : List Pid) → sum_by (excess streams v) (p ∷ ps) ≤ length fs
       → (excess streams v p ≤ length fs)
-      × (sum_by (excess streams v) ps ≤ length (drop (length (mine p) - length (own streams v p)) fs))
+      × (sum_by (excess streams v) ps ≤ length (drop (length (mine p) - length (own streams v p))
+      fs))
   enough_left p fs ps enough =
       let n = length (mine p) - length (own streams v p) in
       let sum = sum_by-cons (excess streams v) p ps in
@@ -373,14 +418,16 @@ module _ (streams : List Stream) (rising : IsRising (pids_of streams)) (v : ℕ)
       (omega arith, omega arith)
 
   pub count_none : (z : Pid) (fs ps : List Pid) → AllByRecursion (λ p. pid_eq p z ≡ false) ps
-      → sum_by (excess streams v) ps ≤ length fs → count_by (is_for v z) (supplies_of streams v fs ps) ≡ 0
+      → sum_by (excess streams v) ps ≤ length fs → count_by (is_for v z)
+      (supplies_of streams v fs ps) ≡ 0
   count_none z fs [] others enough = refl
   count_none z fs (p ∷ ps) others enough =
       let n = length (mine p) - length (own streams v p) in
       let parts = enough_left p fs ps enough in
       let here = count_mine z p fs parts.0 ∙ ap (λ b. cond b (length (mine p)) 0) others.0 in
       let rest = count_none z (drop n fs) ps others.1 parts.1 in
-      let sum = sum_by-append (λ t. one_if (is_for v z t)) (supplied_by p (mine p) (own streams v p ++ fs))
+      let sum = sum_by-append (λ t. one_if (is_for v z t))
+      (supplied_by p (mine p) (own streams v p ++ fs))
       (supplies_of streams v (drop n fs) ps) in
       omega arith
 
@@ -392,7 +439,8 @@ module _ (streams : List Stream) (rising : IsRising (pids_of streams)) (v : ℕ)
       let n = length (mine p) - length (own streams v p) in
       let parts = enough_left p fs ps enough in
       let later = supplies_of streams v (drop n fs) ps in
-      let sum = sum_by-append (λ t. one_if (is_for v z t)) (supplied_by p (mine p) (own streams v p ++ fs)) later in
+      let sum = sum_by-append (λ t. one_if (is_for v z t))
+      (supplied_by p (mine p) (own streams v p ++ fs)) later in
       elim (pid_eq p z) as (λ b. pid_eq p z ≡ b → (b || is_among ps z) ≡ true
       → count_by (is_for v z) (supplies_of streams v fs (p ∷ ps)) ≡ needs streams v z) [
         | true ↦ λ same _.
@@ -401,7 +449,8 @@ module _ (streams : List Stream) (rising : IsRising (pids_of streams)) (v : ℕ)
             let mine_are : length (mine p) ≡ needs streams v z =
             needs_length v [] (events_of streams p) ∙ ap (needs streams v) who in
             let rest = count_none z (drop n fs) ps (all_map (IsBelow p) (λ x. pid_eq x z ≡ false)
-            (λ x below. pid_eq-swap x z ∙ ap (λ y. pid_eq y x) (sym who) ∙ IsBelow-apart p x below) ps up.0) parts.1 in
+            (λ x below. pid_eq-swap x z ∙ ap (λ y. pid_eq y x) (sym who) ∙ IsBelow-apart p x below)
+            ps up.0) parts.1 in
             omega arith
         | false ↦ λ other among.
             let here = count_mine z p fs parts.0 ∙ ap (λ b. cond b (length (mine p)) 0) other in
@@ -415,6 +464,8 @@ module _ (streams : List Stream) (rising : IsRising (pids_of streams)) (v : ℕ)
   no_supplies P none fs [] = tt
   no_supplies P none fs (p ∷ ps) =
       let n = length (mine p) - length (own streams v p) in
-      all_both P (supplied_by p (mine p) (own streams v p ++ fs)) (supplies_of streams v (drop n fs) ps)
-      (without_needs P p (mine p) (own streams v p ++ fs) (needs_length v [] (events_of streams p) ∙ none p))
+      all_both P (supplied_by p (mine p) (own streams v p ++ fs))
+      (supplies_of streams v (drop n fs) ps)
+      (without_needs P p (mine p) (own streams v p ++ fs)
+      (needs_length v [] (events_of streams p) ∙ none p))
       (no_supplies P none (drop n fs) ps)

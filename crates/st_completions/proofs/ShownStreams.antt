@@ -1,6 +1,7 @@
--- Streams by rising pid that acts show can be collected: each event is its process's own and names only processes that
--- are there.
-use Rattle.std.proofs.Common.{◌≡◌, ℕ, true, false, cond, not, ◌&&◌, ◌||◌, if◌then◌else◌, List, [], ◌∷◌}
+-- Streams by rising pid that acts show can be collected: each event is its process's own and names
+-- only processes that are there.
+use Rattle.std.proofs.Common.{◌≡◌, ℕ, true, false, cond, not, ◌&&◌, ◌||◌, if◌then◌else◌, List, []}
+use Rattle.std.proofs.Common.{◌∷◌}
 use Rattle.std.proofs.Common.{◌++◌, Option, Some, None, is_some, refl, ◌∙◌, ap, subst}
 use Rattle.std.specs.Prelude.{All, option_to_list}
 use Rattle.std.specs.Option.{ForSome, option_map_or}
@@ -12,12 +13,14 @@ use Rattle.st_core.specs.declared.types.Act.{Act}
 use Rattle.st_core.specs.Pid.{pid_eq, IsRising}
 use Rattle.st_core.specs.Step.{Outcome, actor}
 use Rattle.st_core.specs.Run.{Shows, Stream, pids_of, stream}
-use Rattle.st_core.specs.Streams.{stream_of, lists, names_listed, unlisted_among, is_own, AreOwn, IsStreams}
+use Rattle.st_core.specs.Streams.{stream_of, lists, names_listed, unlisted_among, is_own, AreOwn}
+use Rattle.st_core.specs.Streams.{IsStreams}
 use Rattle.st_core.specs.Streams.{is_among, names_among}
 use Rattle.st_core.specs.Laws.{IsReportAmong, ReportsAmong}
 use Rattle.st_core.proofs.ForCallers.{pid_eq-true, position-none, run_named}
 
-stream_among : (pids : List Pid) (acts : List Act) (os : List Outcome) (p : Pid) → AllZip (ReportsAmong pids) acts os
+stream_among : (pids : List Pid) (acts : List Act) (os : List Outcome) (p : Pid)
+    → AllZip (ReportsAmong pids) acts os
     → AllByRecursion (IsReportAmong pids p) (stream acts os p)
 stream_among pids [] os p all = tt
 stream_among pids (a ∷ acts) [] p all = tt
@@ -30,7 +33,11 @@ stream_among pids (a ∷ acts) (o ∷ os) p all =
           ((if b then [] else []) ++ stream acts os p)) [ true ↦ rest | false ↦ rest ]
       | Some e ↦ λ one. elim (pid_eq (actor a) p) as (λ b. pid_eq (actor a) p ≡ b
           → AllByRecursion (IsReportAmong pids p) ((if b then e ∷ [] else []) ++ stream acts os p)) [
-            | true ↦ λ is. (subst (λ q. IsReportAmong pids q e) (pid_eq-true (actor a) p is) (one e refl), rest)
+            | true ↦ λ is. (
+              subst (λ q. IsReportAmong pids q e) (pid_eq-true (actor a) p is)
+                  (one e refl),
+              rest,
+            )
             | false ↦ λ is. rest
           ] refl
     ] all.0
@@ -41,7 +48,8 @@ lists_among (x ∷ streams) p =
     elim (pid_eq x.pid p) as (λ b. is_some (cond b (Some x) (stream_of streams p)) ≡
     (b || is_among (pids_of streams) p)) [ true ↦ refl | false ↦ lists_among streams p ]
 
-pub names_among_listed : (streams : List Stream) (e : Event) → names_listed streams e ≡ names_among (pids_of streams) e
+pub names_among_listed : (streams : List Stream) (e : Event)
+    → names_listed streams e ≡ names_among (pids_of streams) e
 names_among_listed streams e =
     ap (λ b. b && option_map_or (lists streams) e.to true) (lists_among streams e.from)
     ∙ ap (λ b. is_among (pids_of streams) e.from && b) (to_same e.to)
@@ -53,9 +61,11 @@ names_among_listed streams e =
 
 -- each event is one that its process may report among all
 abbrev pub AreReports : List Pid → List Stream → Type 0
-AreReports pids streams = AllByRecursion (λ (x : Stream). AllByRecursion (IsReportAmong pids x.pid) x.events) streams
+AreReports pids streams = AllByRecursion (λ (x : Stream).
+    AllByRecursion (IsReportAmong pids x.pid) x.events) streams
 
-all_false : (all : List Stream) (p : Pid) (es : List Event) → AllByRecursion (IsReportAmong (pids_of all) p) es
+all_false : (all : List Stream) (p : Pid) (es : List Event)
+    → AllByRecursion (IsReportAmong (pids_of all) p) es
     → AllByRecursion (λ e. not (names_listed all e) ≡ false) es
 all_false all p [] h = tt
 all_false all p (e ∷ es) h = (ap not (names_among_listed all e ∙ h.0.names), all_false all p es h.1)
@@ -65,7 +75,8 @@ all_own : (pids : List Pid) (p : Pid) (es : List Event) → AllByRecursion (IsRe
 all_own pids p [] h = tt
 all_own pids p (e ∷ es) h = (h.0.own, all_own pids p es h.1)
 
-pub unlisted_none : (all rest : List Stream) → AreReports (pids_of all) rest → unlisted_among all rest ≡ None
+pub unlisted_none : (all rest : List Stream) → AreReports (pids_of all) rest
+    → unlisted_among all rest ≡ None
 unlisted_none all [] h = refl
 unlisted_none all (x ∷ rest) h =
     let test = λ (e : Event). not (names_listed all e) in
@@ -79,16 +90,20 @@ are_own pids [] h = tt
 are_own pids (x ∷ streams) h = (all_own pids x.pid x.events h.0, are_own pids streams h.1)
 
 are_reports : (pids : List Pid) (acts : List Act) (os : List Outcome) (streams : List Stream)
-    → AllZip (ReportsAmong pids) acts os → All (λ (x : Stream). stream acts os x.pid ≡ x.events) streams
+    → AllZip (ReportsAmong pids) acts os → All (λ (x : Stream). stream acts os x.pid ≡ x.events)
+    streams
     → AreReports pids streams
 are_reports pids acts os [] all same = tt
 are_reports pids acts os (x ∷ streams) all same = (
   subst (AllByRecursion (IsReportAmong pids x.pid)) (All-head
-      (λ (y : Stream). stream acts os y.pid ≡ y.events) x streams same) (stream_among pids acts os x.pid all),
-  are_reports pids acts os streams all (All-tail (λ (y : Stream). stream acts os y.pid ≡ y.events) x streams same),
+      (λ (y : Stream). stream acts os y.pid ≡ y.events) x streams same)
+      (stream_among pids acts os x.pid all),
+  are_reports pids acts os streams all (All-tail (λ (y : Stream). stream acts os y.pid ≡ y.events) x
+      streams same),
 )
 
-pub shown_are_streams : (top : ℕ) (streams : List Stream) (acts : List Act) → IsRising (pids_of streams)
+pub shown_are_streams : (top : ℕ) (streams : List Stream) (acts : List Act)
+    → IsRising (pids_of streams)
     → Shows top streams acts → IsStreams streams
 shown_are_streams top streams acts rising shows =
     let reports = are_reports (pids_of streams) acts shows.0 streams

@@ -1,9 +1,12 @@
--- A full completion supplies all needs: of one count each process has sent one message at most, so that the untold
--- receives of it, as many as needs, are of different senders, and each of these reported that it sent it there or is
--- free.
-use Rattle.std.proofs.Common.{◌≡◌, ℕ, zero, suc, ◌+◌, ◌≤◌, ◌⊎◌, ◌==◌, ◌&&◌, ◌||◌, Bool, true, false, not}
-use Rattle.std.proofs.Common.{cond, List, [], ◌∷◌, ◌++◌, drop, filter, length, Option, Some, None, is_none, inl}
-use Rattle.std.proofs.Common.{inr, slice_get, sum_by, refl, sym, ◌∙◌, ap, subst, arith, length-append, option_and_then}
+-- A full completion supplies all needs: of one count each process has sent one message at most, so
+-- that the untold receives of it, as many as needs, are of different senders, and each of these
+-- reported that it sent it there or is free.
+use Rattle.std.proofs.Common.{◌≡◌, ℕ, zero, suc, ◌+◌, ◌≤◌, ◌⊎◌, ◌==◌, ◌&&◌, ◌||◌, Bool, true, false}
+use Rattle.std.proofs.Common.{not}
+use Rattle.std.proofs.Common.{cond, List, [], ◌∷◌, ◌++◌, drop, filter, length, Option, Some, None}
+use Rattle.std.proofs.Common.{is_none, inl}
+use Rattle.std.proofs.Common.{inr, slice_get, sum_by, refl, sym, ◌∙◌, ap, subst, arith}
+use Rattle.std.proofs.Common.{length-append, option_and_then}
 use Rattle.std.specs.Cmp.{IsEquivalence}
 use Rattle.std.specs.List.{AllByRecursion, IsDistinct, count_by}
 use Rattle.std.specs.Option.{MatchOption, option_map_or}
@@ -19,20 +22,25 @@ use Rattle.st_core.specs.declared.types.Event.{Event}
 use Rattle.st_core.specs.Pid.{pid_eq, IsBelow, IsRising}
 use Rattle.st_core.specs.Laws.{AreAllListed, IsLeastUnlisted}
 use Rattle.st_core.specs.Run.{Stream, pids_of}
-use Rattle.st_core.specs.Streams.{events_of, is_own, is_of, lists, stream_of, AreOwn, IsStreams, is_among}
-use Rattle.st_core.proofs.ForCallers.{all_at, IsBelow-apart, pid_eq-refl, pid_eq-swap, pid_same, unlisted_is_least}
+use Rattle.st_core.specs.Streams.{events_of, is_own, is_of, lists, stream_of, AreOwn, IsStreams}
+use Rattle.st_core.specs.Streams.{is_among}
+use Rattle.st_core.proofs.ForCallers.{all_at, IsBelow-apart, pid_eq-refl, pid_eq-swap, pid_same}
+use Rattle.st_core.proofs.ForCallers.{unlisted_is_least}
 use Rattle.st_pair.specs.declared.answer.PairFault.TheVariants as fault
 use Rattle.st_pair.specs.Places.{event_at, is_stamp}
 use Rattle.st_pair.specs.Pairing.{agrees, is_send, mismatch, receive_of, stamp_of, to_eq}
-use Rattle.st_pair.proofs.ForCallers.{cond_none, event_none, events_in, given_at, given_from, got_rule, IsPaired}
+use Rattle.st_pair.proofs.ForCallers.{cond_none, event_none, events_in, given_at, given_from}
+use Rattle.st_pair.proofs.ForCallers.{got_rule, IsPaired}
 use Rattle.st_pair.proofs.ForCallers.{once_place, own_rule, paired, stamp_once}
 use Rattle.st_order.proofs.ForCallers.{drop_front}
 use Rattle.st_plan.specs.Marks.{all_streams, Marked, told_streams, Whole}
 use Rattle.st_plan.specs.Full.{IsFull}
 use Rattle.st_completions.specs.Needs.{IsFed, marked_of}
-use Rattle.st_completions.specs.Supply.{excess, is_free, is_own_supply, IsSupplied, needs, needs_from}
+use Rattle.st_completions.specs.Supply.{excess, is_free, is_own_supply, IsSupplied, needs}
+use Rattle.st_completions.specs.Supply.{needs_from}
 use Rattle.st_completions.proofs.FedNeeds.{need_fed, told_at}
-use Rattle.st_completions.proofs.Feeders.{any, feeder_at, feeders, feeders_split, feeds, needs_within}
+use Rattle.st_completions.proofs.Feeders.{any, feeder_at, feeders, feeders_split, feeds}
+use Rattle.st_completions.proofs.Feeders.{needs_within}
 use Rattle.st_completions.proofs.Needs.{at_mark, events_told, go_on}
 use Rattle.st_completions.proofs.ShownStreams.{lists_among}
 
@@ -45,24 +53,28 @@ pid_laws = record {
   congr = λ x y z same. ap (λ q. pid_eq q z) (pid_same x y same);
 }
 
-all_apart : (x : Pid) (ys : List Pid) → ((y : Pid) → is_member pid_eq ys y ≡ true → pid_eq x y ≡ false)
+all_apart : (x : Pid) (ys : List Pid) → ((y : Pid) → is_member pid_eq ys y ≡ true
+    → pid_eq x y ≡ false)
     → AllByRecursion (λ y. pid_eq x y ≡ false) ys
 all_apart x [] apart = tt
 all_apart x (y ∷ ys) apart = (
   apart y (ap (λ b. b || is_member pid_eq ys y) (pid_eq-refl y)),
-  all_apart x ys (λ z in_ys. apart z (elim (pid_eq z y) as (λ b. (b || is_member pid_eq ys z) ≡ true) [
-    | true ↦ refl
-    | false ↦ in_ys
-  ])),
+  all_apart x ys (λ z in_ys. apart z (elim (pid_eq z y)
+      as (λ b. (b || is_member pid_eq ys z) ≡ true) [
+        | true ↦ refl
+        | false ↦ in_ys
+      ])),
 )
 
 all_both : (x : Pid) (ys zs : List Pid) → AllByRecursion (λ y. pid_eq x y ≡ false) ys
-    → AllByRecursion (λ y. pid_eq x y ≡ false) zs → AllByRecursion (λ y. pid_eq x y ≡ false) (ys ++ zs)
+    → AllByRecursion (λ y. pid_eq x y ≡ false) zs → AllByRecursion (λ y. pid_eq x y ≡ false)
+    (ys ++ zs)
 all_both x [] zs one two = two
 all_both x (y ∷ ys) zs one two = (one.0, all_both x ys zs one.1 two)
 
 distinct_both : (xs ys : List Pid) → IsDistinct pid_eq xs → IsDistinct pid_eq ys
-    → ((x y : Pid) → is_member pid_eq xs x ≡ true → is_member pid_eq ys y ≡ true → pid_eq x y ≡ false)
+    → ((x y : Pid) → is_member pid_eq xs x ≡ true → is_member pid_eq ys y ≡ true
+    → pid_eq x y ≡ false)
     → IsDistinct pid_eq (xs ++ ys)
 unfolding IsDistinct
 distinct_both [] ys one two apart = two
@@ -70,7 +82,8 @@ distinct_both (x ∷ xs) ys one two apart = (
   all_both x xs ys one.0 (all_apart x ys (λ y in_ys. apart x y
       (ap (λ b. b || is_member pid_eq xs x) (pid_eq-refl x)) in_ys)),
   distinct_both xs ys one.1 two (λ z y in_xs in_ys. apart z y
-      (elim (pid_eq z x) as (λ b. (b || is_member pid_eq xs z) ≡ true) [ true ↦ refl | false ↦ in_xs ]) in_ys),
+      (elim (pid_eq z x) as (λ b. (b || is_member pid_eq xs z) ≡ true)
+      [ true ↦ refl | false ↦ in_xs ]) in_ys),
 )
 
 member_of_both : (xs ys : List Pid) (q : Pid) → is_member pid_eq (xs ++ ys) q ≡ true
@@ -86,9 +99,11 @@ member_of_both (x ∷ xs) ys q h =
 member_among : (ps : List Pid) (q : Pid) → is_member pid_eq ps q ≡ is_among ps q
 member_among [] q = refl
 member_among (p ∷ ps) q =
-    ap (λ b. b || is_member pid_eq ps q) (pid_eq-swap q p) ∙ ap (λ b. pid_eq p q || b) (member_among ps q)
+    ap (λ b. b || is_member pid_eq ps q) (pid_eq-swap q p)
+    ∙ ap (λ b. pid_eq p q || b) (member_among ps q)
 
-drop_at : {A : Type 0} (xs : List A) (n i j : ℕ) → n + i ≡ j → slice_get (drop n xs) i ≡ slice_get xs j
+drop_at : {A : Type 0} (xs : List A) (n i j : ℕ) → n + i ≡ j
+    → slice_get (drop n xs) i ≡ slice_get xs j
 drop_at xs zero i j e = let same : i ≡ j = omega arith in ap (slice_get xs) same
 drop_at [] (suc n) zero j e = refl
 drop_at [] (suc n) (suc i) j e = refl
@@ -97,7 +112,8 @@ drop_at (x ∷ xs) (suc n) i (suc j) e = drop_at xs n i j (omega arith)
 
 -- WHAT RULES SAY
 
-pub given_if : {X : Type 0} (b : Bool) (y x : X) → cond b (Some y) None ≡ Some x → (b ≡ true) × (y ≡ x)
+pub given_if : {X : Type 0} (b : Bool) (y x : X) → cond b (Some y) None ≡ Some x → (b ≡ true)
+    × (y ≡ x)
 given_if true y x h = (refl, same_Some y x h)
 given_if false y x h = absurd (none-some x h)
 
@@ -108,14 +124,16 @@ given_unless false true y x h = (refl, refl, same_Some y x h)
 given_unless false false y x h = absurd (none-some x h)
 
 pub received_to : (k : Kind) (from : Pid) (to : Option Pid) (p : Pid)
-    → (let b : Bool = elim k [ kind.Send ↦ true | kind.Receive ↦ false | kind.Print ↦ true ] in b) ≡ false
+    → (let b : Bool = elim k [ kind.Send ↦ true | kind.Receive ↦ false | kind.Print ↦ true ] in b)
+    ≡ false
     → is_of k from to p ≡ true → to ≡ Some p
 received_to kind.Send from to p receives own = absurd (false≢true (sym receives))
 received_to kind.Print from to p receives own = absurd (false≢true (sym receives))
 received_to kind.Receive from None p receives own = absurd (false≢true own)
 received_to kind.Receive from (Some q) p receives own = ap (λ (x : Pid). Some x) (pid_same q p own)
 
-pub own_at : (streams : List Stream) (p : Pid) (i : ℕ) (e : Event) → AreOwn streams → event_at streams p i ≡ Some e
+pub own_at : (streams : List Stream) (p : Pid) (i : ℕ) (e : Event) → AreOwn streams
+    → event_at streams p i ≡ Some e
     → is_own p e ≡ true
 own_at [] p i e own at = absurd (none-some e at)
 own_at (x ∷ streams) p i e own at =
@@ -128,7 +146,8 @@ own_at (x ∷ streams) p i e own at =
 
 pub named : (streams : List Stream) → IsStreams streams → AreAllListed streams
 named streams s =
-    subst (λ (o : Option (Pid × ℕ)). MatchOption o (AreAllListed streams) (λ x. IsLeastUnlisted streams x.0 x.1))
+    subst (λ (o : Option (Pid × ℕ)). MatchOption o (AreAllListed streams)
+    (λ x. IsLeastUnlisted streams x.0 x.1))
     s.listed (unlisted_is_least streams s.draft.rising)
 
 told_pids : (wholes : List Whole) → pids_of (told_streams wholes) ≡ pids_of (all_streams wholes)
@@ -167,13 +186,15 @@ module _ (top : ℕ) (wholes : List Whole) (sound : IsStreams (all_streams whole
     pub there : event_at all p i ≡ Some event
     pub place : receive_of all q v ≡ Some (p, i)
 
-  received_at : (p q : Pid) (i : ℕ) (e : Event) → event_at all p i ≡ Some e → is_stamp e ≡ false → e.from ≡ q
+  received_at : (p q : Pid) (i : ℕ) (e : Event) → event_at all p i ≡ Some e → is_stamp e ≡ false
+      → e.from ≡ q
       → e.serial.this ≡ v → receive_of all q v ≡ Some (p, i)
   received_at p q i e at receives from count =
       ap (λ x. receive_of all x v) (sym from) ∙ ap (receive_of all e.from) (sym count)
       ∙ once_place all ok p i e at receives
 
-  untold_at : (p q : Pid) (i : ℕ) (m : Marked) → slice_get (marks p) i ≡ Some m → feeds v m ≡ true → m.event.from ≡ q
+  untold_at : (p q : Pid) (i : ℕ) (m : Marked) → slice_get (marks p) i ≡ Some m → feeds v m ≡ true
+      → m.event.from ≡ q
       → IsUntold p q i
   untold_at p q i m at feeds_it from =
       let e = m.event in
@@ -194,7 +215,8 @@ module _ (top : ℕ) (wholes : List Whole) (sound : IsStreams (all_streams whole
       }
 
   -- there is one such receive
-  one_place : (p x q : Pid) (i j : ℕ) → receive_of all q v ≡ Some (p, i) → receive_of all q v ≡ Some (x, j)
+  one_place : (p x q : Pid) (i j : ℕ) → receive_of all q v ≡ Some (p, i)
+      → receive_of all q v ≡ Some (x, j)
       → (p ≡ x) × (i ≡ j)
   one_place p x q i j one two =
       let same = same_Some (p, i) (x, j) (sym one ∙ two) in
@@ -206,25 +228,29 @@ module _ (top : ℕ) (wholes : List Whole) (sound : IsStreams (all_streams whole
     | Some x ↦ λ is.
         let given = given_at (got_rule q v) told x told_rising is in
         let e = given.event in
-        let tests = given_unless (is_stamp e) (pid_eq e.from q && e.serial.this == v) (given.pid, given.index) x
+        let tests = given_unless (is_stamp e) (pid_eq e.from q && e.serial.this == v)
+        (given.pid, given.index) x
         given.gives in
         let parts = and_parts (pid_eq e.from q) (e.serial.this == v) tests.1 in
         let place = told_at (marks given.pid) given.index e
         (ap (λ es. slice_get es given.index) (sym (events_told wholes given.pid)) ∙ given.at) in
-        let there = at_mark wholes given.pid place.index (record { event = e; told = true }) place.at in
+        let there = at_mark wholes given.pid place.index (record { event = e; told = true })
+        place.at in
         let got = received_at given.pid q place.index e there tests.0 (pid_same e.from q parts.0)
         (eqb-true e.serial.this v parts.1) in
         let same = one_place p given.pid q i place.index u.place got in
         let marked : Some (let m : Marked = record { event = u.event; told = false } in m)
         ≡ Some (let m : Marked = record { event = e; told = true } in m) =
-        sym u.at ∙ ap (slice_get (marks p)) same.1 ∙ ap (λ x. slice_get (marks x) place.index) same.0 ∙ place.at in
+        sym u.at ∙ ap (slice_get (marks p)) same.1 ∙ ap (λ x. slice_get (marks x) place.index)
+        same.0 ∙ place.at in
         absurd (false≢true (ap (λ (m : Marked). m.told) (same_Some _ _ marked)))
   ] refl
 
   listed : (p q : Pid) (i : ℕ) → IsUntold p q i → is_member pid_eq pids q ≡ true
   listed p q i u =
       let e = u.event in
-      let names = and_parts (lists all e.from) (option_map_or (lists all) e.to true) (named all sound p i e u.there) in
+      let names = and_parts (lists all e.from) (option_map_or (lists all) e.to true)
+      (named all sound p i e u.there) in
       member_among pids q
       ∙ ap (λ ps. is_among ps q) (told_pids wholes)
       ∙ ap (is_among (pids_of all)) (sym u.from)
@@ -257,7 +283,8 @@ module _ (top : ℕ) (wholes : List Whole) (sound : IsStreams (all_streams whole
       && (to_eq g.to e.to && g.value == e.value))) agree in
       let label = and_parts (g.label.0 == e.label.0) (g.serial.prev == e.serial.prev
       && (to_eq g.to e.to && g.value == e.value)) send.1 in
-      let prev = and_parts (g.serial.prev == e.serial.prev) (to_eq g.to e.to && g.value == e.value) label.1 in
+      let prev = and_parts (g.serial.prev == e.serial.prev) (to_eq g.to e.to && g.value == e.value)
+      label.1 in
       let to = and_parts (to_eq g.to e.to) (g.value == e.value) prev.1 in
       let mine : e.to ≡ Some p =
       received_to e.kind e.from e.to p u.receives (own_at all p i e sound.draft.own u.there) in
@@ -265,16 +292,19 @@ module _ (top : ℕ) (wholes : List Whole) (sound : IsStreams (all_streams whole
       ap (λ (x : Event). is_send x && to_eq x.to (Some p)) same
       ∙ and_from (is_send g) (to_eq g.to (Some p)) send.0 (ap (to_eq g.to) (sym mine) ∙ to.0)
 
-  own_if : (p q : Pid) (i : ℕ) → IsUntold p q i → not (is_free told v q) ≡ true → is_own_supply told v p q ≡ true
+  own_if : (p q : Pid) (i : ℕ) → IsUntold p q i → not (is_free told v q) ≡ true
+      → is_own_supply told v p q ≡ true
   own_if p q i u bound =
       let none = untaken p q i u in
       let own = λ (o : Option (ℕ × Event)). option_map_or
       (λ (f : ℕ × Event). is_send f.1 && to_eq f.1.to (Some p)) o false in
       elim (stamp_of told q v) as (λ o. stamp_of told q v ≡ o
-      → not (is_none (receive_of told q v) && is_none o) ≡ true → (is_none (receive_of told q v) && own o) ≡ true) [
+      → not (is_none (receive_of told q v) && is_none o) ≡ true
+      → (is_none (receive_of told q v) && own o) ≡ true) [
         | None ↦ λ is bound. absurd (false≢true
             (sym (ap (λ (r : Option (Pid × ℕ)). not (is_none r && true)) none) ∙ bound))
-        | Some f ↦ λ is bound. and_from (is_none (receive_of told q v)) (is_send f.1 && to_eq f.1.to (Some p))
+        | Some f ↦ λ is bound. and_from (is_none (receive_of told q v))
+            (is_send f.1 && to_eq f.1.to (Some p))
             (ap (λ (r : Option (Pid × ℕ)). is_none r) none) (sent_to p q i u f is)
       ] refl bound
 
@@ -289,12 +319,18 @@ module _ (top : ℕ) (wholes : List Whole) (sound : IsStreams (all_streams whole
     pub untold : IsUntold p q index
     pub passes : test q ≡ true
 
-  pub one_of : (test : Pid → Bool) (p q : Pid) → is_member pid_eq (feeders_of test p) q ≡ true → IsOne test p q
+  pub one_of : (test : Pid → Bool) (p q : Pid) → is_member pid_eq (feeders_of test p) q ≡ true
+      → IsOne test p q
   one_of test p q h =
       let f = feeder_at test v (marks p) q h in
-      record { index = f.index; untold = untold_at p q f.index f.mark f.at f.feeds_it f.from; passes = f.passes }
+      record {
+        index = f.index;
+        untold = untold_at p q f.index f.mark f.at f.feeds_it f.from;
+        passes = f.passes;
+      }
 
-  distinct_from : (test : Pid → Bool) (p : Pid) (k : ℕ) (rest : List Marked) → drop k (marks p) ≡ rest
+  distinct_from : (test : Pid → Bool) (p : Pid) (k : ℕ) (rest : List Marked)
+      → drop k (marks p) ≡ rest
       → IsDistinct pid_eq (feeders test v rest)
   unfolding IsDistinct
   distinct_from test p k [] left = tt
@@ -308,20 +344,22 @@ module _ (top : ℕ) (wholes : List Whole) (sound : IsStreams (all_streams whole
         | false ↦ λ _. later
         | true ↦ λ is.
             let here = untold_at p from k m front.0 (and_parts (test from) (feeds v m) is).1 refl in (
-              all_apart from tail (λ y in_tail. elim (pid_eq from y) as (λ b. pid_eq from y ≡ b → b ≡ false) [
-                | false ↦ λ _. refl
-                | true ↦ λ same.
-                    let f = feeder_at test v rest y in_tail in
-                    let j = suc k + f.index in
-                    let at : slice_get (marks p) j ≡ Some f.mark =
-                    sym (drop_at (marks p) (suc k) f.index j refl)
-                    ∙ ap (λ xs. slice_get xs f.index) front.1 ∙ f.at in
-                    let there = untold_at p y j f.mark at f.feeds_it f.from in
-                    let one = one_place p p y k j
-                    (ap (λ x. receive_of all x v) (sym (pid_same from y same)) ∙ here.place) there.place in
-                    let index = one.1 in
-                    absurd (omega arith)
-              ] refl),
+              all_apart from tail (λ y in_tail. elim (pid_eq from y)
+                  as (λ b. pid_eq from y ≡ b → b ≡ false) [
+                    | false ↦ λ _. refl
+                    | true ↦ λ same.
+                        let f = feeder_at test v rest y in_tail in
+                        let j = suc k + f.index in
+                        let at : slice_get (marks p) j ≡ Some f.mark =
+                        sym (drop_at (marks p) (suc k) f.index j refl)
+                        ∙ ap (λ xs. slice_get xs f.index) front.1 ∙ f.at in
+                        let there = untold_at p y j f.mark at f.feeds_it f.from in
+                        let one = one_place p p y k j
+                        (ap (λ x. receive_of all x v) (sym (pid_same from y same)) ∙ here.place)
+                        there.place in
+                        let index = one.1 in
+                        absurd (omega arith)
+                  ] refl),
               later,
             )
       ] refl
@@ -337,7 +375,8 @@ module _ (top : ℕ) (wholes : List Whole) (sound : IsStreams (all_streams whole
     at : slice_get ps place ≡ Some pid
     one : IsOne test pid q
 
-  gathered_at : (test : Pid → Bool) (ps : List Pid) (q : Pid) → is_member pid_eq (gathered test ps) q ≡ true
+  gathered_at : (test : Pid → Bool) (ps : List Pid) (q : Pid)
+      → is_member pid_eq (gathered test ps) q ≡ true
       → IsGathered test ps q
   gathered_at test [] q h = absurd (false≢true h)
   gathered_at test (p ∷ ps) q h = elim (member_of_both (feeders_of test p) (gathered test ps) q h) [
@@ -347,7 +386,8 @@ module _ (top : ℕ) (wholes : List Whole) (sound : IsStreams (all_streams whole
         record { pid = later.pid; place = suc later.place; at = later.at; one = later.one }
   ]
 
-  gathered_distinct : (test : Pid → Bool) (ps : List Pid) → IsRising ps → IsDistinct pid_eq (gathered test ps)
+  gathered_distinct : (test : Pid → Bool) (ps : List Pid) → IsRising ps
+      → IsDistinct pid_eq (gathered test ps)
   unfolding IsDistinct
   gathered_distinct test [] rising = tt
   gathered_distinct test (p ∷ ps) rising =
@@ -359,15 +399,19 @@ module _ (top : ℕ) (wholes : List Whole) (sound : IsStreams (all_streams whole
             let here = one_of test p x in_one in
             let there = gathered_at test ps y in_rest in
             let place = one_place p there.pid y here.index there.one.index
-            (ap (λ z. receive_of all z v) (sym (pid_same x y same)) ∙ here.untold.place) there.one.untold.place in
-            let below : IsBelow p there.pid = all_at (IsBelow p) ps there.place there.pid rising.0 there.at in
-            absurd (false≢true (sym (IsBelow-apart p there.pid below) ∙ ap (pid_eq p) (sym place.0) ∙ pid_eq-refl p))
+            (ap (λ z. receive_of all z v) (sym (pid_same x y same)) ∙ here.untold.place)
+            there.one.untold.place in
+            let below : IsBelow p there.pid = all_at (IsBelow p) ps there.place there.pid rising.0
+            there.at in
+            absurd (false≢true (sym (IsBelow-apart p there.pid below) ∙ ap (pid_eq p) (sym place.0)
+            ∙ pid_eq-refl p))
       ] refl)
 
   -- COUNTS
 
   within : (xs : List Pid) (test : Pid → Bool) → IsDistinct pid_eq xs
-      → ((q : Pid) → is_member pid_eq xs q ≡ true → (is_member pid_eq pids q ≡ true) × (test q ≡ true))
+      → ((q : Pid) → is_member pid_eq xs q ≡ true → (is_member pid_eq pids q ≡ true)
+      × (test q ≡ true))
       → length xs ≤ count_by test pids
   within xs test distinct each =
       let few = length-le_from_is_member pid_laws xs (filter test pids) distinct (λ q in_xs.
@@ -384,7 +428,8 @@ module _ (top : ℕ) (wholes : List Whole) (sound : IsStreams (all_streams whole
   bound q = not (free q)
 
   own_within : (p : Pid) → length (feeders_of bound p) ≤ count_by (is_own_supply told v p) pids
-  own_within p = within (feeders_of bound p) (is_own_supply told v p) (distinct_from bound p 0 (marks p) refl)
+  own_within p = within (feeders_of bound p) (is_own_supply told v p)
+      (distinct_from bound p 0 (marks p) refl)
       (λ q in_bound.
       let one = one_of bound p q in_bound in
       (listed p q one.index one.untold, own_if p q one.index one.untold one.passes))
@@ -414,7 +459,8 @@ module _ (top : ℕ) (wholes : List Whole) (sound : IsStreams (all_streams whole
   pub all_supplied : IsSupplied told v
   all_supplied =
       let sum = sum_within pids in
-      let few = within (gathered free pids) free (gathered_distinct free pids told_rising) (λ q in_all.
+      let few = within (gathered free pids) free (gathered_distinct free pids told_rising)
+      (λ q in_all.
       let g = gathered_at free pids q in_all in
       (listed g.pid q g.one.index g.one.untold, g.one.passes)) in
       omega arith

@@ -1,6 +1,7 @@
 -- In a choice the untold events of a process are its hidden sends: each is the send of a receive in
 -- the streams, of whose count they report no stamp, and each such send is there.
-use Rattle.std.proofs.Common.{◌≡◌, inl, inr, ℕ, zero, suc, ◌+◌, ◌<◌, ◌≤◌, ◌==◌, ◌&&◌, Bool, true, false, not}
+use Rattle.std.proofs.Common.{◌≡◌, inl, inr, ℕ, zero, suc, ◌+◌, ◌<◌, ◌≤◌, ◌==◌, ◌&&◌, Bool, true}
+use Rattle.std.proofs.Common.{false, not}
 use Rattle.std.proofs.Common.{cond, List, [], ◌∷◌, Option, Some, None, is_none, is_some, option_map}
 use Rattle.std.proofs.Common.{option_and_then, slice_get, refl, sym, ◌∙◌, ap, subst, arith}
 use Rattle.std.proofs.lemmas.Bool.{and_parts, cases_lt, eqb-true, false≢true}
@@ -40,20 +41,23 @@ to_is (Some p) None h = absurd (false≢true h)
 to_is (Some p) (Some q) h = ap (λ (x : Pid). Some x) (pid_same p q h)
 
 kind_is : (k : Kind)
-    → (let b : Bool = elim k [ kind.Send ↦ true | kind.Receive ↦ false | kind.Print ↦ false ] in b) ≡ true
+    → (let b : Bool = elim k [ kind.Send ↦ true | kind.Receive ↦ false | kind.Print ↦ false ] in b)
+    ≡ true
     → kind.Send ≡ k
 kind_is kind.Send h = refl
 kind_is kind.Receive h = absurd (false≢true h)
 kind_is kind.Print h = absurd (false≢true h)
 
 -- a send that agrees with a receive, and has its count and sender, is its send
-send_is : (f e : Event) → agrees f e ≡ true → f.serial.this ≡ e.serial.this → f.from ≡ e.from → send_of e ≡ f
+send_is : (f e : Event) → agrees f e ≡ true → f.serial.this ≡ e.serial.this → f.from ≡ e.from
+    → send_of e ≡ f
 send_is f e agree this from =
     let a = and_parts (is_send f) (f.label.0 == e.label.0
     && (f.serial.prev == e.serial.prev && (to_eq f.to e.to && f.value == e.value))) agree in
     let b = and_parts (f.label.0 == e.label.0)
     (f.serial.prev == e.serial.prev && (to_eq f.to e.to && f.value == e.value)) a.1 in
-    let c = and_parts (f.serial.prev == e.serial.prev) (to_eq f.to e.to && f.value == e.value) b.1 in
+    let c = and_parts (f.serial.prev == e.serial.prev) (to_eq f.to e.to && f.value == e.value)
+    b.1 in
     let d = and_parts (to_eq f.to e.to) (f.value == e.value) c.1 in
     let label = sym (eqb-true f.label.0 e.label.0 b.0) in
     let prev = sym (eqb-true f.serial.prev e.serial.prev c.0) in
@@ -109,18 +113,21 @@ send_stamps e send = elim e.kind as (λ k.
 -- the receive of a count, and that the hidden send of the count is its send if no stamp is reported
 pub record IsGot (streams : List Stream) (q : Pid) (v : ℕ) : Type 0 where
   pub taken : IsTaken streams q v
-  pub sends : option_and_then (λ (at : Pid × ℕ). event_at streams at.0 at.1) (receive_of streams q v) ≡ Some taken.event
+  pub sends : option_and_then (λ (at : Pid × ℕ). event_at streams at.0 at.1)
+      (receive_of streams q v) ≡ Some taken.event
 
 pub got_if : (streams : List Stream) (q : Pid) (v : ℕ) → IsRising (pids_of streams)
     → is_some (receive_of streams q v) ≡ true → IsGot streams q v
 got_if streams q v rising some =
     let find = option_and_then (λ (at : Pid × ℕ). event_at streams at.0 at.1) in
-    elim (receive_of streams q v) as (λ o. receive_of streams q v ≡ o → is_some o ≡ true → IsGot streams q v) [
+    elim (receive_of streams q v) as (λ o. receive_of streams q v ≡ o → is_some o ≡ true
+    → IsGot streams q v) [
       | None ↦ λ _ h. absurd (false≢true h)
       | Some x ↦ λ is _.
           let g = given_at (got_rule q v) streams x rising is in
           let e = g.event in
-          let says = given_unless (is_stamp e) (pid_eq e.from q && e.serial.this == v) (g.pid, g.index) x g.gives in
+          let says = given_unless (is_stamp e) (pid_eq e.from q && e.serial.this == v)
+          (g.pid, g.index) x g.gives in
           let parts = and_parts (pid_eq e.from q) (e.serial.this == v) says.1 in
           record {
             taken = record {
@@ -151,7 +158,8 @@ hidden_is streams q v f rising is =
     → IsHiddenSend streams q v f) [
       | Some s ↦ λ _ h. absurd (none-some f h)
       | None ↦ λ unstamped h.
-          elim (receive_of streams q v) as (λ o. receive_of streams q v ≡ o → option_map send_of (find o) ≡ Some f
+          elim (receive_of streams q v) as (λ o. receive_of streams q v ≡ o
+          → option_map send_of (find o) ≡ Some f
           → IsHiddenSend streams q v f) [
             | None ↦ λ _ h. absurd (none-some f h)
             | Some x ↦ λ there _.
@@ -160,7 +168,8 @@ hidden_is streams q v f rising is =
                 record {
                   unstamped = unstamped;
                   taken = got.taken;
-                  is = same_Some (send_of got.taken.event) f (ap (option_map send_of) (sym got.sends) ∙ h);
+                  is = same_Some (send_of got.taken.event) f
+                      (ap (option_map send_of) (sym got.sends) ∙ h);
                 }
           ] refl h
     ] refl is
@@ -183,7 +192,8 @@ pub rises_lower : (m n : ℕ) (es : List Event) → m ≤ n → RisesFrom n es �
 rises_lower m n [] low rises = tt
 rises_lower m n (e ∷ es) low rises = let first = rises.0 in (omega arith, rises.1)
 
-pub rises_all : (n : ℕ) (es : List Event) → RisesFrom n es → (k : ℕ) (e : Event) → slice_get es k ≡ Some e
+pub rises_all : (n : ℕ) (es : List Event) → RisesFrom n es → (k : ℕ) (e : Event)
+    → slice_get es k ≡ Some e
     → n ≤ e.serial.this
 rises_all n [] rises k e at = absurd (none-some e at)
 rises_all n (d ∷ es) rises zero e at =
@@ -199,7 +209,8 @@ first_of o es = elim o [ None ↦ es | Some f ↦ f ∷ es ]
 
 module _ (streams : List Stream) (q : Pid) where
   abbrev pub AreHidden : List Event → Type 0
-  AreHidden es = (k : ℕ) (f : Event) → slice_get es k ≡ Some f → hidden_send streams q f.serial.this ≡ Some f
+  AreHidden es = (k : ℕ) (f : Event) → slice_get es k ≡ Some f
+      → hidden_send streams q f.serial.this ≡ Some f
 
   abbrev pub HaveHidden : ℕ → List Event → Type 0
   HaveHidden v es = (w : ℕ) (f : Event) → v ≤ w → hidden_send streams q w ≡ Some f → HasCount es w
@@ -214,15 +225,19 @@ module _ (streams : List Stream) (q : Pid) where
       absurd (omega arith)
 
   -- without the first, whose count is lower
-  later_has : (v w : ℕ) (e : Event) (es : List Event) → e.serial.this < w → HasCount (e ∷ es) w → HasCount es w
-  later_has v w e es low has = elim has.index as (λ k. slice_get (e ∷ es) k ≡ Some has.event → HasCount es w) [
-    | zero ↦ λ at.
-        let same : e.serial.this ≡ w = ap (λ (x : Event). x.serial.this) (same_Some e has.event at) ∙ has.count in
-        absurd (omega arith)
-    | suc k ↦ λ at. record { index = k; event = has.event; at = at; count = has.count }
-  ] has.at
+  later_has : (v w : ℕ) (e : Event) (es : List Event) → e.serial.this < w → HasCount (e ∷ es) w
+      → HasCount es w
+  later_has v w e es low has = elim has.index as (λ k. slice_get (e ∷ es) k ≡ Some has.event
+      → HasCount es w) [
+        | zero ↦ λ at.
+            let same : e.serial.this ≡ w = ap (λ (x : Event). x.serial.this) (same_Some e has.event at)
+            ∙ has.count in
+            absurd (omega arith)
+        | suc k ↦ λ at. record { index = k; event = has.event; at = at; count = has.count }
+      ] has.at
 
-  pub hidden_all : (v n : ℕ) (es : List Event) → RisesFrom v es → AreBelow (v + n) es → AreHidden es → HaveHidden v es
+  pub hidden_all : (v n : ℕ) (es : List Event) → RisesFrom v es → AreBelow (v + n) es → AreHidden es
+      → HaveHidden v es
       → es ≡ hidden_from streams q v n
   hidden_all v zero [] rises below hidden have = refl
   hidden_all v zero (e ∷ es) rises below hidden have =
@@ -232,7 +247,8 @@ module _ (streams : List Stream) (q : Pid) where
   hidden_all v (suc n) [] rises below hidden have =
       elim (hidden_send streams q v) as (λ o. hidden_send streams q v ≡ o
       → ◌≡◌ {A = List Event} [] (first_of o (hidden_from streams q (suc v) n))) [
-        | None ↦ λ _. hidden_all (suc v) n [] tt (λ k f at. absurd (none-some f at)) (λ k f at. absurd (none-some f at))
+        | None ↦ λ _. hidden_all (suc v) n [] tt (λ k f at. absurd (none-some f at))
+            (λ k f at. absurd (none-some f at))
             (λ w f high is. have w f (omega arith) is)
         | Some f ↦ λ is. let has = have v f (omega arith) is in absurd (none-some has.event has.at)
       ] refl
@@ -241,21 +257,26 @@ module _ (streams : List Stream) (q : Pid) where
       → e ∷ es ≡ first_of o (hidden_from streams q (suc v) n)) [
         | None ↦ λ none. elim (cases_lt v e.serial.this) [
           | inl above ↦ hidden_all (suc v) n (e ∷ es) (omega arith, rises.1)
-              (λ k f at. let low = below k f at in omega arith) hidden (λ w f high is. have w f (omega arith) is)
+              (λ k f at. let low = below k f at in omega arith) hidden
+              (λ w f high is. have w f (omega arith) is)
           | inr not_above ↦
               let first = rises.0 in
               let same : e.serial.this ≡ v = omega arith in
-              absurd (none-some e (sym none ∙ ap (hidden_send streams q) (sym same) ∙ hidden 0 e refl))
+              absurd (none-some e (sym none ∙ ap (hidden_send streams q) (sym same)
+              ∙ hidden 0 e refl))
         ]
         | Some f ↦ λ is. elim (cases_lt v e.serial.this) [
-          | inl above ↦ absurd (one_count v (e ∷ es) (omega arith, rises.1) (have v f (omega arith) is))
+          | inl above ↦ absurd (one_count v (e ∷ es) (omega arith, rises.1)
+              (have v f (omega arith) is))
           | inr not_above ↦
               let first = rises.0 in
               let same : e.serial.this ≡ v = omega arith in
-              let here : e ≡ f = same_Some e f (sym (hidden 0 e refl) ∙ ap (hidden_send streams q) same ∙ is) in
+              let here : e ≡ f = same_Some e f (sym (hidden 0 e refl)
+              ∙ ap (hidden_send streams q) same ∙ is) in
               let rest : es ≡ hidden_from streams q (suc v) n =
               hidden_all (suc v) n es (subst (λ m. RisesFrom (suc m) es) same rises.1)
-              (λ k d at. let low = below (suc k) d at in omega arith) (λ k d at. hidden (suc k) d at)
+              (λ k d at. let low = below (suc k) d at in omega arith)
+              (λ k d at. hidden (suc k) d at)
               (λ w d high is. later_has v w e es (omega arith) (have w d (omega arith) is)) in
               ap (λ x. x ∷ es) here ∙ ap (λ xs. f ∷ xs) rest
         ]
@@ -271,17 +292,20 @@ pub record IsUntoldAt (ms : List Marked) (e : Event) : Type 0 where
 untold_later : (m : Marked) (ms : List Marked) (e : Event) → IsUntoldAt ms e → IsUntoldAt (m ∷ ms) e
 untold_later m ms e u = record { index = suc u.index; at = u.at }
 
-pub untold_at : (ms : List Marked) (k : ℕ) (e : Event) → slice_get (untold_events ms) k ≡ Some e → IsUntoldAt ms e
+pub untold_at : (ms : List Marked) (k : ℕ) (e : Event) → slice_get (untold_events ms) k ≡ Some e
+    → IsUntoldAt ms e
 untold_at [] k e at = absurd (none-some e at)
 untold_at (m ∷ ms) k e at = elim m.told as (λ b. m.told ≡ b
-    → slice_get (cond b (untold_events ms) (m.event ∷ untold_events ms)) k ≡ Some e → IsUntoldAt (m ∷ ms) e) [
+    → slice_get (cond b (untold_events ms) (m.event ∷ untold_events ms)) k ≡ Some e
+    → IsUntoldAt (m ∷ ms) e) [
       | true ↦ λ _ at. untold_later m ms e (untold_at ms k e at)
       | false ↦ λ told at. elim k as (λ j. slice_get (m.event ∷ untold_events ms) j ≡ Some e
           → IsUntoldAt (m ∷ ms) e) [
             | zero ↦ λ at. record {
               index = 0;
               at = ap (λ b. let x : Marked = record { event = m.event; told = b } in Some x) told
-                  ∙ ap (λ d. let x : Marked = record { event = d; told = false } in Some x) (same_Some m.event e at);
+                  ∙ ap (λ d. let x : Marked = record { event = d; told = false } in Some x)
+                  (same_Some m.event e at);
             }
             | suc j ↦ λ at. untold_later m ms e (untold_at ms j e at)
           ] at
@@ -302,9 +326,16 @@ untold_there (n ∷ ms) zero m at told =
     })
 untold_there (n ∷ ms) (suc k) m at told =
     let rest = untold_there ms k m at told in
-    elim n.told as (λ b. HasCount (cond b (untold_events ms) (n.event ∷ untold_events ms)) m.event.serial.this) [
+    elim n.told as (λ b. HasCount (cond b (untold_events ms) (n.event ∷ untold_events ms))
+    m.event.serial.this) [
       | true ↦ rest
-      | false ↦ record { index = suc rest.index; event = rest.event; at = rest.at; count = rest.count }
+      | false ↦ record {
+        index = suc rest.index;
+        event = rest.event;
+        at = rest.at;
+        count =
+            rest.count;
+      }
     ]
 
 -- a stamp that isn't late has a count above those before it
@@ -313,10 +344,12 @@ above_if true true s h = refl
 above_if true false s h = sym h
 above_if false low s h = absurd (false≢true s)
 
-pub untold_mark : (m : Marked) → m.told ≡ false → Some m ≡ Some (record { event = m.event; told = false })
+pub untold_mark : (m : Marked) → m.told ≡ false → Some m
+    ≡ Some (record { event = m.event; told = false })
 untold_mark m told = ap (λ b. let x : Marked = record { event = m.event; told = b } in Some x) told
 
-pub count_at : (es : List Event) (k : ℕ) (e : Event) → slice_get es k ≡ Some e → e.serial.this ≤ greatest_count es
+pub count_at : (es : List Event) (k : ℕ) (e : Event) → slice_get es k ≡ Some e
+    → e.serial.this ≤ greatest_count es
 count_at [] k e at = absurd (none-some e at)
 count_at (d ∷ es) zero e at =
     let same = ap (λ (x : Event). x.serial.this) (same_Some d e at) in
@@ -350,7 +383,8 @@ module _ (streams : List Stream) (wholes : List Whole) (choice : IsChoice stream
   pub among : (p : Pid) (i : ℕ) (e : Event) → event_at streams p i ≡ Some e → IsAmong p e
   among p i e at =
       let there : slice_get (told_events (marked_of wholes p)) i ≡ Some e =
-      ap (λ es. slice_get es i) (sym (events_told wholes p)) ∙ ap (λ ss. event_at ss p i) choice.told ∙ at in
+      ap (λ es. slice_get es i) (sym (events_told wholes p))
+      ∙ ap (λ ss. event_at ss p i) choice.told ∙ at in
       let place = told_at (marked_of wholes p) i e there in
       record { index = place.index; at = place.at }
 
@@ -367,7 +401,8 @@ module _ (streams : List Stream) (wholes : List Whole) (choice : IsChoice stream
         count = t.count;
       }
 
-  pub stamp_all : (q : Pid) (v : ℕ) (s : HasStamp streams q v) → (t : HasStamp all q v) × (t.event ≡ s.event)
+  pub stamp_all : (q : Pid) (v : ℕ) (s : HasStamp streams q v) → (t : HasStamp all q v)
+      × (t.event ≡ s.event)
   stamp_all q v s =
       let a = among q s.index s.event s.at in (
         record {
@@ -381,7 +416,8 @@ module _ (streams : List Stream) (wholes : List Whole) (choice : IsChoice stream
       )
 
   -- an untold event of p is a send that a reported receive took
-  untold_taken : (p : Pid) (f : Event) → IsUntoldAt (marked_of wholes p) f → is_taken streams p f ≡ true
+  untold_taken : (p : Pid) (f : Event) → IsUntoldAt (marked_of wholes p) f
+      → is_taken streams p f ≡ true
   untold_taken p f u = choice.taken p u.index (record { event = f; told = false }) u.at refl
 
   pub untold_sends : (p : Pid) (f : Event) → IsUntoldAt (marked_of wholes p) f → is_send f ≡ true
@@ -393,11 +429,13 @@ module _ (streams : List Stream) (wholes : List Whole) (choice : IsChoice stream
   untold_got p f u =
       (and_parts (is_send f) (is_some (receive_of streams p f.serial.this)) (untold_taken p f u)).1
 
-  pub untold_in : (p : Pid) (f : Event) (u : IsUntoldAt (marked_of wholes p) f) → event_at all p u.index ≡ Some f
+  pub untold_in : (p : Pid) (f : Event) (u : IsUntoldAt (marked_of wholes p) f)
+      → event_at all p u.index ≡ Some f
   untold_in p f u = at_mark wholes p u.index (record { event = f; told = false }) u.at
 
   -- so p reported no stamp of its count
-  unstamped : (p : Pid) (f : Event) → IsUntoldAt (marked_of wholes p) f → HasStamp streams p f.serial.this → ⊥
+  unstamped : (p : Pid) (f : Event) → IsUntoldAt (marked_of wholes p) f
+      → HasStamp streams p f.serial.this → ⊥
   unstamped p f u s =
       let a = among p s.index s.event s.at in
       let there = at_mark wholes p a.index (record { event = s.event; told = true }) a.at in
@@ -405,11 +443,13 @@ module _ (streams : List Stream) (wholes : List Whole) (choice : IsChoice stream
       let count = s.count in
       elim (cases_lt a.index u.index) [
         | inl less ↦
-            let rise = fit.grows p a.index u.index s.event f less there (untold_in p f u) s.stamps stamps in
+            let rise = fit.grows p a.index u.index s.event f less there (untold_in p f u) s.stamps
+            stamps in
             absurd (omega arith)
         | inr not_less ↦ elim (cases_lt u.index a.index) [
           | inl less ↦
-              let rise = fit.grows p u.index a.index f s.event less (untold_in p f u) there stamps s.stamps in
+              let rise = fit.grows p u.index a.index f s.event less (untold_in p f u) there stamps
+              s.stamps in
               absurd (omega arith)
           | inr not_more ↦
               let same : u.index ≡ a.index = omega arith in
@@ -420,11 +460,13 @@ module _ (streams : List Stream) (wholes : List Whole) (choice : IsChoice stream
         ]
       ]
 
-  none_here : (p : Pid) (f : Event) → IsUntoldAt (marked_of wholes p) f → stamp_of streams p f.serial.this ≡ None
-  none_here p f u = elim (stamp_of streams p f.serial.this) as (λ o. stamp_of streams p f.serial.this ≡ o → o ≡ None) [
-    | None ↦ λ _. refl
-    | Some s ↦ λ is. absurd (unstamped p f u (stamp_if streams p f.serial.this s is).0)
-  ] refl
+  none_here : (p : Pid) (f : Event) → IsUntoldAt (marked_of wholes p) f
+      → stamp_of streams p f.serial.this ≡ None
+  none_here p f u = elim (stamp_of streams p f.serial.this)
+      as (λ o. stamp_of streams p f.serial.this ≡ o → o ≡ None) [
+        | None ↦ λ _. refl
+        | Some s ↦ λ is. absurd (unstamped p f u (stamp_if streams p f.serial.this s is).0)
+      ] refl
 
   -- it is the hidden send of its count
   pub untold_is : (p : Pid) (f : Event) → IsUntoldAt (marked_of wholes p) f
@@ -436,13 +478,15 @@ module _ (streams : List Stream) (wholes : List Whole) (choice : IsChoice stream
       let at : event_at all t.event.from u.index ≡ Some f =
       ap (λ x. event_at all x u.index) t.from ∙ untold_in p f u in
       let stamps = send_stamps f (untold_sends p f u) in
-      let agree = fit.agree t.pid t.index u.index t.event f t.at t.receives at stamps (sym t.count) in
+      let agree = fit.agree t.pid t.index u.index t.event f t.at t.receives at stamps
+      (sym t.count) in
       let from = sent_from f.kind f.from f.to p (untold_sends p f u)
       (own_at all p u.index f choice.sound.draft.own (untold_in p f u)) in
       let is = send_is f t.event agree (sym t.count) (from ∙ sym t.from) in
       let sought = option_and_then (λ (at : Pid × ℕ). event_at streams at.0 at.1)
       (receive_of streams p f.serial.this) in
-      ap (λ (o : Option (ℕ × Event)). cond (is_none o) (option_map send_of sought) None) (none_here p f u)
+      ap (λ (o : Option (ℕ × Event)). cond (is_none o) (option_map send_of sought) None)
+      (none_here p f u)
       ∙ ap (option_map send_of) got.sends
       ∙ ap (λ (x : Event). Some x) is
 
@@ -453,7 +497,8 @@ module _ (streams : List Stream) (wholes : List Whole) (choice : IsChoice stream
       let h = hidden_is streams p v f rising is in
       let t = taken_all p v h.taken in
       let s = sent_if all t.event (choice.each.reported t.pid t.index t.event t.at) t.receives in
-      let at : event_at all p s.index ≡ Some s.event = ap (λ x. event_at all x s.index) (sym t.from) ∙ s.at in
+      let at : event_at all p s.index ≡ Some s.event = ap (λ x. event_at all x s.index) (sym t.from)
+      ∙ s.at in
       let m = mark_at (marked_of wholes p) s.index s.event
       (ap (λ es. slice_get es s.index) (sym (events_all wholes p)) ∙ at) in
       let count : m.mark.event.serial.this ≡ v =
@@ -475,5 +520,6 @@ module _ (streams : List Stream) (wholes : List Whole) (choice : IsChoice stream
       ] refl
 
   -- its receive is reported
-  pub untold_within : (p : Pid) (f : Event) → IsUntoldAt (marked_of wholes p) f → IsTaken streams p f.serial.this
+  pub untold_within : (p : Pid) (f : Event) → IsUntoldAt (marked_of wholes p) f
+      → IsTaken streams p f.serial.this
   untold_within p f u = (got_if streams p f.serial.this rising (untold_got p f u)).taken

@@ -1,10 +1,12 @@
--- Once there is a stamp with another prev, or a receive, what is left isn't 0; so the next stamp with prev 0
--- is a need of it. Stamps stand by rising counts at each placing, and reported events in turn, so a stamp
--- with prev 0 behind such a one stays behind it wherever hidden sends are.
-use Rattle.std.proofs.Common.{◌≡◌, ◌⊎◌, inl, inr, ℕ, zero, suc, ◌+◌, ◌<◌, ◌==◌, ◌&&◌, nat_lt, Bool, true, false, not}
+-- Once there is a stamp with another prev, or a receive, what is left isn't 0; so the next stamp
+-- with prev 0 is a need of it. Stamps stand by rising counts at each placing, and reported events
+-- in turn, so a stamp with prev 0 behind such a one stays behind it wherever hidden sends are.
+use Rattle.std.proofs.Common.{◌≡◌, ◌⊎◌, inl, inr, ℕ, zero, suc, ◌+◌, ◌<◌, ◌==◌, ◌&&◌, nat_lt, Bool}
+use Rattle.std.proofs.Common.{true, false, not}
 use Rattle.std.proofs.Common.{if◌then◌else◌, List, [], ◌∷◌, ◌++◌, take, Some, slice_get, refl, sym}
 use Rattle.std.proofs.Common.{◌∙◌, ap, subst, arith}
-use Rattle.std.proofs.lemmas.Bool.{and_from, and_parts, cases_lt, eq-eqb, eqb-true, false≢true, lt-ltb}
+use Rattle.std.proofs.lemmas.Bool.{and_from, and_parts, cases_lt, eq-eqb, eqb-true, false≢true}
+use Rattle.std.proofs.lemmas.Bool.{lt-ltb}
 use Rattle.std.proofs.lemmas.Option.{none-some, same_Some}
 use Rattle.st_core.specs.declared.types.Act.{Act}
 use Rattle.st_core.specs.declared.types.Pid.{Pid}
@@ -28,7 +30,8 @@ use Rattle.st_completions.proofs.Choices.{exactly_chosen, send_stamps}
 use Rattle.st_completions.proofs.Decision.{no_reason}
 use Rattle.st_completions.proofs.Needs.{at_mark}
 use Rattle.st_completions.proofs.ReasonlessStreams.{founded_at, need_of}
-use Rattle.st_completions.proofs.UntoldEvents.{among, fit, stamp_all, untold_at, untold_has, untold_in}
+use Rattle.st_completions.proofs.UntoldEvents.{among, fit, stamp_all, untold_at, untold_has}
+use Rattle.st_completions.proofs.UntoldEvents.{untold_in}
 use Rattle.st_completions.proofs.UntoldEvents.{untold_is, untold_sends}
 
 -- WHAT IS LEFT
@@ -37,7 +40,8 @@ use Rattle.st_completions.proofs.UntoldEvents.{untold_is, untold_sends}
 abbrev pub AreCounted : List Event → Type 0
 AreCounted es = (k : ℕ) (e : Event) → slice_get es k ≡ Some e → 0 < e.serial.this
 
-zero_need : (before : List Event) (d : Event) → is_stamp d ≡ true → d.serial.prev ≡ 0 → 0 < prev_after before
+zero_need : (before : List Event) (d : Event) → is_stamp d ≡ true → d.serial.prev ≡ 0
+    → 0 < prev_after before
     → 0 < greatest_count before → (is_need before d && d.serial.prev == 0) ≡ true
 zero_need before d stamps is left high =
     let prev = d.serial.prev in
@@ -49,7 +53,8 @@ zero_need before d stamps is left high =
     ] refl in
     and_from (is_need before d) (prev == 0)
     (and_from (is_stamp d) (not (prev == prev_after before) && low) stamps
-    (and_from (not (prev == prev_after before)) low other (lt-ltb prev (greatest_count before) (omega arith))))
+    (and_from (not (prev == prev_after before)) low other
+    (lt-ltb prev (greatest_count before) (omega arith))))
     (eq-eqb prev 0 is)
 
 above_zero : (n : ℕ) → n == 0 ≡ false → 0 < n
@@ -59,9 +64,11 @@ above_zero n other = elim (cases_lt 0 n) [
 ]
 
 -- an event that isn't a stamp with prev 0 leaves another
-leaves_some : (d : Event) → 0 < d.serial.this → (is_stamp d && d.serial.prev == 0) ≡ false → 0 < prev_after (d ∷ [])
+leaves_some : (d : Event) → 0 < d.serial.this → (is_stamp d && d.serial.prev == 0) ≡ false
+    → 0 < prev_after (d ∷ [])
 leaves_some d counted other = elim d.kind as (λ k.
-    ((let b : Bool = elim k [ kind.Send ↦ true | kind.Receive ↦ false | kind.Print ↦ true ] in b) && d.serial.prev == 0)
+    ((let b : Bool = elim k [ kind.Send ↦ true | kind.Receive ↦ false | kind.Print ↦ true ] in b)
+    && d.serial.prev == 0)
     ≡ false → 0 < (let n : ℕ = elim k [
       | kind.Send ↦ d.serial.prev
       | kind.Receive ↦ d.serial.this
@@ -99,15 +106,18 @@ lost before (d ∷ es) counted left high i e at stamps root =
                 let push = greatest_push before d in
                 let leaves = leaves_some d (counted 0 d refl) other in
                 let goes = prev_push before d in
-                lost (before ++ d ∷ []) es (λ k x there. counted (suc k) x there) (omega arith) (omega arith) n e at
+                lost (before ++ d ∷ []) es (λ k x there. counted (suc k) x there) (omega arith)
+                (omega arith) n e at
                 stamps root
           ] at in
           omega arith
     ] refl
 
 -- so it is behind an event that leaves another
-pub zero_behind : (before es : List Event) → AreCounted es → (j i : ℕ) (f e : Event) → j < i → slice_get es j ≡ Some f
-    → (is_stamp f && f.serial.prev == 0) ≡ false → slice_get es i ≡ Some e → is_stamp e ≡ true → e.serial.prev ≡ 0
+pub zero_behind : (before es : List Event) → AreCounted es → (j i : ℕ) (f e : Event) → j < i
+    → slice_get es j ≡ Some f
+    → (is_stamp f && f.serial.prev == 0) ≡ false → slice_get es i ≡ Some e → is_stamp e ≡ true
+    → e.serial.prev ≡ 0
     → 0 < needs_from 0 before es
 zero_behind before [] counted j i f e less at_f other at stamps root = absurd (none-some e at)
 zero_behind before (d ∷ es) counted j zero f e less at_f other at stamps root = absurd (omega arith)
@@ -158,7 +168,8 @@ module _ (streams : List Stream) (wholes : List Whole) (choice : IsChoice stream
   stamp_there p e (inr hidden) =
       let h = untold_has streams wholes choice p e.serial.this e hidden in
       let u = untold_at (marked_of wholes p) h.index h.event h.at in
-      let same : h.event ≡ e = same_Some h.event e (sym (untold_is streams wholes choice p h.event u)
+      let same : h.event ≡ e = same_Some h.event e (sym
+      (untold_is streams wholes choice p h.event u)
       ∙ ap (hidden_send streams p) h.count ∙ hidden) in (
         record {
           index = u.index;
@@ -195,7 +206,8 @@ module _ (streams : List Stream) (wholes : List Whole) (choice : IsChoice stream
       ] in
       let other = and_false_right (is_stamp s.event) (s.event.serial.prev == 0)
       (ap (λ (x : Event). x.serial.prev == 0) f.1 ∙ not_zero z.first.serial.prev z.some) in
-      zero_behind [] (events_of all p) (counted p) s.index t.index s.event t.event in_turn s.at other t.at t.stamps
+      zero_behind [] (events_of all p) (counted p) s.index t.index s.event t.event in_turn s.at
+      other t.at t.stamps
       (ap (λ (x : Event). x.serial.prev) e.1 ∙ z.is_zero)
 
   -- each reported event is there
@@ -205,25 +217,36 @@ module _ (streams : List Stream) (wholes : List Whole) (choice : IsChoice stream
       counted p a.index e (at_mark wholes p a.index (record { event = e; told = true }) a.at)
 
   receives_needed : (p : Pid) → HasZeroBehindReceive streams p → 0 < needs streams 0 p
-  receives_needed p z = zero_behind [] (events_of streams p) (reported_counted p) z.index z.stamped.index z.received
-      z.later z.behind z.received_at (ap (λ b. b && z.received.serial.prev == 0) z.receives) z.stamped.at
+  receives_needed p z = zero_behind [] (events_of streams p) (reported_counted p) z.index
+      z.stamped.index z.received
+      z.later z.behind z.received_at (ap (λ b. b && z.received.serial.prev == 0) z.receives)
+      z.stamped.at
       z.stamped.stamps z.is_zero
 
 -- SO NO ACTS SHOW THEM
 
 pub zeros_final : (top : ℕ) (streams : List Stream) → IsRising (pids_of streams) → (p : Pid)
-    → HasZeroBehindStamp streams p ⊎ HasZeroBehindReceive streams p → (acts : List Act) → NoReset acts
+    → HasZeroBehindStamp streams p ⊎ HasZeroBehindReceive streams p → (acts : List Act)
+    → NoReset acts
     → ¬ Shows top streams acts
 zeros_final top streams rising p (inl z) acts one_trace shows =
     let has = (exactly_chosen top streams rising).0
     (record { acts = acts; shows = shows; one_trace = one_trace }) in
     let some = stamps_needed streams has.wholes has.choice p z in
-    let none = founded_at top (all_streams has.wholes) has.choice.sound has.choice.each has.none p in
+    let none = founded_at top (all_streams has.wholes) has.choice.sound has.choice.each has.none
+    p in
     absurd (omega arith)
 zeros_final top streams rising p (inr z) acts one_trace shows =
-    let shown : IsShownInOneTrace top streams = record { acts = acts; shows = shows; one_trace = one_trace } in
+    let shown : IsShownInOneTrace top streams = record {
+      acts = acts;
+      shows = shows;
+      one_trace =
+          one_trace;
+    } in
     let has = (exactly_chosen top streams rising).0 shown in
-    let n = need_of 0 [] (events_of streams p) (receives_needed streams has.wholes has.choice p z) in
+    let n = need_of 0 [] (events_of streams p) (receives_needed streams has.wholes has.choice p
+    z) in
     let before = take n.index (events_of streams p) in
     false≢true (sym ((no_reason top streams rising shown).founded p n.index n.event n.at)
-    ∙ and_from (is_need before n.event) (n.event.serial.prev == 0) n.need (eq-eqb n.event.serial.prev 0 n.prev))
+    ∙ and_from (is_need before n.event) (n.event.serial.prev == 0) n.need
+    (eq-eqb n.event.serial.prev 0 n.prev))

@@ -1,8 +1,11 @@
 -- Why the whole streams that are built are those of the definition: each step changes what the
 -- definition changes, and a loop over processes, events or supplies takes one after the other.
-use Rattle.std.proofs.Common.{◌≡◌, ℕ, ◌+◌, zero, suc, ◌<◌, ◌≤◌, ◌==◌, ◌&&◌, nat_lt, Bool, true, false, cond}
-use Rattle.std.proofs.Common.{List, [], ◌∷◌, ◌++◌, map, find, length, drop, take, get_or, set, slice_get, Option, Some}
-use Rattle.std.proofs.Common.{None, is_some, append-nil, option_map, refl, sym, ◌∙◌, ap, subst, arith}
+use Rattle.std.proofs.Common.{◌≡◌, ℕ, ◌+◌, zero, suc, ◌<◌, ◌≤◌, ◌==◌, ◌&&◌, nat_lt, Bool, true}
+use Rattle.std.proofs.Common.{false, cond}
+use Rattle.std.proofs.Common.{List, [], ◌∷◌, ◌++◌, map, find, length, drop, take, get_or, set}
+use Rattle.std.proofs.Common.{slice_get, Option, Some}
+use Rattle.std.proofs.Common.{None, is_some, append-nil, option_map, refl, sym, ◌∙◌, ap, subst}
+use Rattle.std.proofs.Common.{arith}
 use Rattle.std.specs.List.{AllByRecursion}
 use Rattle.std.proofs.lemmas.Bool.{false≢true}
 use Rattle.std.proofs.lemmas.Bool.Decides.{nat_tests}
@@ -29,7 +32,8 @@ use Rattle.st_needs.proofs.Supplied.{has, stamp_found}
 abbrev event_in : Marked → Event
 event_in m = m.event
 
-pub found_here : (ws : List Whole) (k : ℕ) (w : Whole) (p : Pid) → slice_get ws k ≡ Some w → pid_eq w.pid p ≡ true
+pub found_here : (ws : List Whole) (k : ℕ) (w : Whole) (p : Pid) → slice_get ws k ≡ Some w
+    → pid_eq w.pid p ≡ true
     → events_of (all_streams (drop k ws)) p ≡ map event_in w.marked
 found_here [] k w p at is = absurd (cc)
 found_here (v ∷ ws) zero w p at is =
@@ -39,7 +43,8 @@ found_here (v ∷ ws) zero w p at is =
     (stream_of (all_streams ws) p))) is
 found_here (v ∷ ws) (suc k) w p at is = found_here ws k w p at is
 
-past_next : (ws : List Whole) (k : ℕ) (w : Whole) (p : Pid) → slice_get ws k ≡ Some w → pid_eq w.pid p ≡ false
+past_next : (ws : List Whole) (k : ℕ) (w : Whole) (p : Pid) → slice_get ws k ≡ Some w
+    → pid_eq w.pid p ≡ false
     → events_of (all_streams (drop k ws)) p ≡ events_of (all_streams (drop (suc k) ws)) p
 past_next [] k w p at is = absurd (cc)
 past_next (v ∷ ws) zero w p at is =
@@ -49,14 +54,17 @@ past_next (v ∷ ws) zero w p at is =
     (stream_of (all_streams ws) p))) is
 past_next (v ∷ ws) (suc k) w p at is = past_next ws k w p at is
 
-pub found_past : (ws : List Whole) (k : ℕ) (w : Whole) (p : Pid) → slice_get ws k ≡ Some w → pid_eq w.pid p ≡ false
+pub found_past : (ws : List Whole) (k : ℕ) (w : Whole) (p : Pid) → slice_get ws k ≡ Some w
+    → pid_eq w.pid p ≡ false
     → events_of (all_streams (drop k ws)) p ≡ events_of (all_streams (drop (k + 1) ws)) p
 found_past ws k w p at is =
     let next : suc k ≡ k + 1 = omega arith in
     past_next ws k w p at is ∙ ap (λ n. events_of (all_streams (drop n ws)) p) next
 
-pub found_nowhere : (ws : List Whole) (k : ℕ) (p : Pid) → length ws ≤ k → events_of (all_streams (drop k ws)) p ≡ []
-found_nowhere ws k p past = ap (λ (vs : List Whole). events_of (all_streams vs) p) (drop_all k ws past)
+pub found_nowhere : (ws : List Whole) (k : ℕ) (p : Pid) → length ws ≤ k
+    → events_of (all_streams (drop k ws)) p ≡ []
+found_nowhere ws k p past = ap (λ (vs : List Whole). events_of (all_streams vs) p)
+    (drop_all k ws past)
 
 -- AN UNTOLD EVENT IS PUT
 
@@ -67,13 +75,15 @@ read_on f [] (suc i) = refl
 read_on f (x ∷ old) zero = refl
 read_on f (x ∷ old) (suc i) = read_on f old i
 
-changed_next : {A : Type 0} (f : A → A) (old : List A) (i : ℕ) (x v : A) → slice_get old i ≡ Some x → v ≡ f x
+changed_next : {A : Type 0} (f : A → A) (old : List A) (i : ℕ) (x v : A) → slice_get old i ≡ Some x
+    → v ≡ f x
     → set (map f (take i old) ++ drop i old) i v ≡ map f (take (suc i) old) ++ drop (suc i) old
 changed_next f [] i x v at is = absurd (cc)
 changed_next f (y ∷ old) zero x v at is = ap (λ z. z ∷ old) (is ∙ ap f (sym (same_Some y x at)))
 changed_next f (y ∷ old) (suc i) x v at is = ap (λ zs. f y ∷ zs) (changed_next f old i x v at is)
 
-changed_more : {A : Type 0} (f : A → A) (old : List A) (i : ℕ) (x v : A) → slice_get old i ≡ Some x → v ≡ f x
+changed_more : {A : Type 0} (f : A → A) (old : List A) (i : ℕ) (x v : A) → slice_get old i ≡ Some x
+    → v ≡ f x
     → set (map f (take i old) ++ drop i old) i v ≡ map f (take (i + 1) old) ++ drop (i + 1) old
 changed_more f old i x v at is =
     let next : suc i ≡ i + 1 = omega arith in
@@ -90,7 +100,8 @@ put_next f old now next k d v within is step writes =
 
 -- PLACES
 
-pub place_here : (v : ℕ) (es : List Event) (i : ℕ) → i < length es → v ≤ (get_or es i blank).serial.this
+pub place_here : (v : ℕ) (es : List Event) (i : ℕ) → i < length es
+    → v ≤ (get_or es i blank).serial.this
     → place_below v (drop i es) ≡ 0
 place_here v es i within high =
     let e = get_or es i blank in
@@ -98,7 +109,8 @@ place_here v es i within high =
     ap (place_below v) (drop_more es i blank within)
     ∙ ap (λ b. cond b (1 + place_below v (drop (i + 1) es)) 0) test
 
-pub place_past : (v : ℕ) (es : List Event) (i : ℕ) → i < length es → (get_or es i blank).serial.this < v
+pub place_past : (v : ℕ) (es : List Event) (i : ℕ) → i < length es
+    → (get_or es i blank).serial.this < v
     → place_below v (drop i es) ≡ 1 + place_below v (drop (i + 1) es)
 place_past v es i within low =
     let e = get_or es i blank in
@@ -120,14 +132,17 @@ place_bound v (e ∷ es) =
 
 pub need_at : (v : ℕ) (es : List Event) (i : ℕ) (b : Bool) → i < length es
     → (is_need (take i es) (get_or es i blank) && (get_or es i blank).serial.prev == v) ≡ b
-    → place_of_need v (take i es) (drop i es) ≡ cond b 0 (1 + place_of_need v (take (i + 1) es) (drop (i + 1) es))
+    → place_of_need v (take i es) (drop i es) ≡ cond b 0
+    (1 + place_of_need v (take (i + 1) es) (drop (i + 1) es))
 need_at v es i b within is =
     let e = get_or es i blank in
     ap (place_of_need v (take i es)) (drop_more es i blank within)
     ∙ ap (λ c. cond c 0 (1 + place_of_need v (take i es ++ e ∷ []) (drop (i + 1) es))) is
-    ∙ sym (ap (λ before. cond b 0 (1 + place_of_need v before (drop (i + 1) es))) (take_more es i blank within))
+    ∙ sym (ap (λ before. cond b 0 (1 + place_of_need v before (drop (i + 1) es)))
+    (take_more es i blank within))
 
-pub need_end : (v : ℕ) (es : List Event) (i : ℕ) → length es ≤ i → place_of_need v (take i es) (drop i es) ≡ 0
+pub need_end : (v : ℕ) (es : List Event) (i : ℕ) → length es ≤ i
+    → place_of_need v (take i es) (drop i es) ≡ 0
 need_end v es i past = ap (place_of_need v (take i es)) (drop_all i es past)
 
 -- SENDS AND RECEIVES
@@ -146,7 +161,8 @@ sent_if s wholes o = elim o [
       (send_among s (events_of (all_streams wholes) s.from))) wholes
 ]
 
-sent_some : (s : Supply) (wholes : List Whole) (o : Option (ℕ × Event)) (e : Event) → taken o ≡ Some e
+sent_some : (s : Supply) (wholes : List Whole) (o : Option (ℕ × Event)) (e : Event)
+    → taken o ≡ Some e
     → sent_if s wholes o ≡ wholes
 sent_some s wholes None e is = absurd (cc)
 sent_some s wholes (Some f) e is = refl
@@ -166,17 +182,22 @@ none_is (Some x) is = absurd (false≢true (sym is))
 
 -- the stamp is there
 pub send_there : (s : Supply) (wholes : List Whole) (es : List Event) (found : Option Event)
-    → es ≡ events_of (all_streams wholes) s.from → found ≡ find (has (count_of s)) es → is_some found ≡ true
+    → es ≡ events_of (all_streams wholes) s.from → found ≡ find (has (count_of s)) es
+    → is_some found ≡ true
     → wholes ≡ with_send_of s wholes
 send_there s wholes es found are is there =
     let e = some_is found there in
     sym (sent_some s wholes (stamp wholes s.from (count_of s)) e.0
-    (stamp_found (count_of s) s.from (all_streams wholes) ∙ ap (find (has (count_of s))) (sym are) ∙ sym is ∙ e.1))
+    (stamp_found (count_of s) s.from (all_streams wholes) ∙ ap (find (has (count_of s))) (sym are)
+    ∙ sym is ∙ e.1))
 
 -- or the send is put
-pub send_put : (s : Supply) (wholes next : List Whole) (es : List Event) (found : Option Event) (i : ℕ) (sent : Event)
-    → es ≡ events_of (all_streams wholes) s.from → found ≡ find (has (count_of s)) es → is_some found ≡ false
-    → i ≡ place_below (count_of s) es → sent ≡ send_among s es → next ≡ map (put s.from i sent) wholes
+pub send_put : (s : Supply) (wholes next : List Whole) (es : List Event) (found : Option Event)
+    (i : ℕ) (sent : Event)
+    → es ≡ events_of (all_streams wholes) s.from → found ≡ find (has (count_of s)) es
+    → is_some found ≡ false
+    → i ≡ place_below (count_of s) es → sent ≡ send_among s es
+    → next ≡ map (put s.from i sent) wholes
     → next ≡ with_send_of s wholes
 send_put s wholes next es found i sent are is missing place send step =
     step
@@ -184,7 +205,8 @@ send_put s wholes next es found i sent are is missing place send step =
     ∙ ap (λ f. map (put s.from (place_below (count_of s) es) f) wholes) send
     ∙ ap (λ fs. map (put s.from (place_below (count_of s) fs) (send_among s fs)) wholes) are
     ∙ sym (sent_none s wholes (stamp wholes s.from (count_of s))
-    (stamp_found (count_of s) s.from (all_streams wholes) ∙ ap (find (has (count_of s))) (sym are) ∙ sym is
+    (stamp_found (count_of s) s.from (all_streams wholes) ∙ ap (find (has (count_of s))) (sym are)
+    ∙ sym is
     ∙ none_is found missing))
 
 abbrev received_if : Supply → List Whole → Option (ℕ × Event) → List Whole
@@ -199,12 +221,15 @@ received_none : (s : Supply) (wholes : List Whole) (o : Option (ℕ × Event)) �
 received_none s wholes None is = refl
 received_none s wholes (Some f) is = absurd (cc)
 
-received_some : (s : Supply) (wholes : List Whole) (o : Option (ℕ × Event)) (e : Event) → taken o ≡ Some e
+received_some : (s : Supply) (wholes : List Whole) (o : Option (ℕ × Event)) (e : Event)
+    → taken o ≡ Some e
     → received_if s wholes o
-    ≡ map (put s.to (place_of_need (count_of s) [] (events_of (all_streams wholes) s.to)) (receive_for e)) wholes
+    ≡ map (put s.to (place_of_need (count_of s) [] (events_of (all_streams wholes) s.to))
+    (receive_for e)) wholes
 received_some s wholes None e is = absurd (cc)
 received_some s wholes (Some f) e is =
-    ap (λ (g : Event). map (put s.to (place_of_need (count_of s) [] (events_of (all_streams wholes) s.to))
+    ap (λ (g : Event). map (put s.to (place_of_need (count_of s) []
+    (events_of (all_streams wholes) s.to))
     (receive_for g)) wholes) (same_Some f.1 e is)
 
 -- no send is there
@@ -213,14 +238,16 @@ pub receive_lacks : (s : Supply) (wholes : List Whole) (es : List Event) (found 
     → wholes ≡ with_receive_of s wholes
 receive_lacks s wholes es found are is missing =
     sym (received_none s wholes (stamp wholes s.from (count_of s))
-    (stamp_found (count_of s) s.from (all_streams wholes) ∙ ap (find (has (count_of s))) (sym are) ∙ sym is ∙ missing))
+    (stamp_found (count_of s) s.from (all_streams wholes) ∙ ap (find (has (count_of s))) (sym are)
+    ∙ sym is ∙ missing))
 
 -- or its receive is put
 pub receive_put : (s : Supply) (wholes next : List Whole) (es fs : List Event)
     (found : Option Event) (e : Event) (i : ℕ)
     (received : Event) → es ≡ events_of (all_streams wholes) s.from
     → found ≡ find (has (count_of s)) es → found ≡ Some e
-    → fs ≡ events_of (all_streams wholes) s.to → i ≡ place_of_need (count_of s) [] fs → received ≡ receive_for e
+    → fs ≡ events_of (all_streams wholes) s.to → i ≡ place_of_need (count_of s) [] fs
+    → received ≡ receive_for e
     → next ≡ map (put s.to i received) wholes → next ≡ with_receive_of s wholes
 receive_put s wholes next es fs found e i received are is there own place receives step =
     step
@@ -228,21 +255,27 @@ receive_put s wholes next es fs found e i received are is there own place receiv
     ∙ ap (λ f. map (put s.to (place_of_need (count_of s) [] fs) f) wholes) receives
     ∙ ap (λ gs. map (put s.to (place_of_need (count_of s) [] gs) (receive_for e)) wholes) own
     ∙ sym (received_some s wholes (stamp wholes s.from (count_of s)) e
-    (stamp_found (count_of s) s.from (all_streams wholes) ∙ ap (find (has (count_of s))) (sym are) ∙ sym is ∙ there))
+    (stamp_found (count_of s) s.from (all_streams wholes) ∙ ap (find (has (count_of s))) (sym are)
+    ∙ sym is ∙ there))
 
 -- AS STREAMS
 
 abbrev stream_in : Whole → Stream
 stream_in w = record { pid = w.pid; events = map event_in w.marked }
 
-last_of : (streams : List Stream) (k : ℕ) (x : Stream) → IsRising (pids_of streams) → slice_get streams k ≡ Some x
+last_of : (streams : List Stream) (k : ℕ) (x : Stream) → IsRising (pids_of streams)
+    → slice_get streams k ≡ Some x
     → ComesLast (take k streams) x.pid
 last_of [] k x rising at = absurd (cc)
 last_of (y ∷ streams) zero x rising at = tt
 last_of (y ∷ streams) (suc k) x rising at =
     let there : slice_get (pids_of streams) k ≡ Some x.pid =
-    slice_get-map (λ (s : Stream). s.pid) streams k ∙ ap (λ o. option_map (λ (s : Stream). s.pid) o) at in
-    (all_at (IsBelow y.pid) (pids_of streams) k x.pid rising.0 there, last_of streams k x rising.1 at)
+    slice_get-map (λ (s : Stream). s.pid) streams k
+    ∙ ap (λ o. option_map (λ (s : Stream). s.pid) o) at in (
+      all_at (IsBelow y.pid) (pids_of streams) k x.pid rising.0 there,
+      last_of streams k x rising.1
+          at,
+    )
 
 take_all_streams : (ws : List Whole) (k : ℕ) → all_streams (take k ws) ≡ take k (all_streams ws)
 take_all_streams ws zero = refl
@@ -254,7 +287,8 @@ stream_at : (ws : List Whole) (k : ℕ) (w : Whole) → slice_get ws k ≡ Some 
 stream_at ws k w at = slice_get-map stream_in ws k ∙ ap (λ o. option_map stream_in o) at
 
 -- the next process comes last
-pub whole_last : (ws : List Whole) (k : ℕ) (w : Whole) (now : List Stream) → IsRising (pids_of (all_streams ws))
+pub whole_last : (ws : List Whole) (k : ℕ) (w : Whole) (now : List Stream)
+    → IsRising (pids_of (all_streams ws))
     → slice_get ws k ≡ Some w → now ≡ all_streams (take k ws) → ComesLast now w.pid
 whole_last ws k w now rising at is =
     subst (λ xs. ComesLast xs w.pid) (sym (is ∙ take_all_streams ws k))
@@ -262,10 +296,12 @@ whole_last ws k w now rising at is =
 
 -- with its own events
 pub whole_own : (ws : List Whole) (k : ℕ) (w : Whole) (es : List Event) → AreOwn (all_streams ws)
-    → slice_get ws k ≡ Some w → es ≡ map event_in w.marked → AllByRecursion (λ e. is_own w.pid e ≡ true) es
+    → slice_get ws k ≡ Some w → es ≡ map event_in w.marked
+    → AllByRecursion (λ e. is_own w.pid e ≡ true) es
 whole_own ws k w es own at is =
     subst (AllByRecursion (λ e. is_own w.pid e ≡ true)) (sym is)
-    (all_at (λ (x : Stream). AllByRecursion (λ e. is_own x.pid e ≡ true) x.events) (all_streams ws) k (stream_in w) own
+    (all_at (λ (x : Stream). AllByRecursion (λ e. is_own x.pid e ≡ true) x.events) (all_streams ws)
+    k (stream_in w) own
     (stream_at ws k w at))
 
 -- one process more
@@ -281,8 +317,10 @@ whole_more ws k w es now next at is so_far step =
     ∙ ap (λ n. all_streams (take n ws)) one
 
 -- one event more
-pub event_more : (old now next : List Stream) (p : Pid) (es : List Event) (i : ℕ) → ComesLast old p → i < length es
-    → now ≡ old ++ record { pid = p; events = take i es } ∷ [] → next ≡ added now p (get_or es i blank)
+pub event_more : (old now next : List Stream) (p : Pid) (es : List Event) (i : ℕ) → ComesLast old p
+    → i < length es
+    → now ≡ old ++ record { pid = p; events = take i es } ∷ []
+    → next ≡ added now p (get_or es i blank)
     → next ≡ old ++ record { pid = p; events = take (i + 1) es } ∷ []
 event_more old now next p es i last within is step =
     step
@@ -306,12 +344,14 @@ marks_of ws = map (λ (w : Whole). map mark_in w.marked) ws
 pub wholes_back : (ws : List Whole) → wholes_with (all_streams ws) (marks_of ws) ≡ ws
 wholes_back [] = refl
 wholes_back (w ∷ ws) =
-    ap (λ ms. let v : Whole = record { pid = w.pid; marked = ms } in v ∷ wholes_with (all_streams ws) (marks_of ws))
+    ap (λ ms. let v : Whole = record { pid = w.pid; marked = ms } in
+    v ∷ wholes_with (all_streams ws) (marks_of ws))
     (marked_back w.marked)
     ∙ ap (λ vs. w ∷ vs) (wholes_back ws)
 
 -- an element that a loop takes
-pub item_at : (ws : List Whole) (k : ℕ) (w : Whole) → k < length ws → w ≡ get_or ws k w → slice_get ws k ≡ Some w
+pub item_at : (ws : List Whole) (k : ℕ) (w : Whole) → k < length ws → w ≡ get_or ws k w
+    → slice_get ws k ≡ Some w
 item_at ws k w within is = at_get_or ws k w within ∙ ap (λ (x : Whole). Some x) (sym is)
 
 -- whole streams, built as events and marks
@@ -324,7 +364,8 @@ tells_back streams all lists ws tells events marks =
     ∙ ap told_streams (wholes_back ws)
     ∙ tells
 
-pub completes_back : (top : ℕ) (streams all : List Stream) (lists : List (List Bool)) (ws built : List Whole)
+pub completes_back : (top : ℕ) (streams all : List Stream) (lists : List (List Bool))
+    (ws built : List Whole)
     → IsCompletionOf top streams ws → all ≡ all_streams ws → lists ≡ marks_of ws
     → built ≡ wholes_with all lists → IsCompletionOf top streams built
 completes_back top streams all lists ws built completes events marks is =
@@ -342,8 +383,10 @@ written_back xs ys n same len =
     ∙ take_all n ys (omega (arith, same, len))
 
 -- the marks of one process more
-pub marks_more : (ws : List Whole) (k : ℕ) (w : Whole) (ms : List Bool) (now next : List (List Bool))
-    → slice_get ws k ≡ Some w → ms ≡ map mark_in w.marked → now ≡ marks_of (take k ws) → next ≡ now ++ ms ∷ []
+pub marks_more : (ws : List Whole) (k : ℕ) (w : Whole) (ms : List Bool)
+    (now next : List (List Bool))
+    → slice_get ws k ≡ Some w → ms ≡ map mark_in w.marked → now ≡ marks_of (take k ws)
+    → next ≡ now ++ ms ∷ []
     → next ≡ marks_of (take (k + 1) ws)
 marks_more ws k w ms now next at is so_far step =
     let one : suc k ≡ k + 1 = omega arith in

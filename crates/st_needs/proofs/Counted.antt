@@ -29,7 +29,8 @@ drop_stream (y ∷ streams) (suc k) x at = drop_stream streams k x at
 
 -- the stream of a process, by its place
 pub stream_here : (streams : List Stream) (pids : List Pid) (k : ℕ) (d : Pid) (es : List Event)
-    → IsRising (pids_of streams) → pids ≡ pids_of streams → k < length pids → es ≡ events_of streams (get_or pids k d)
+    → IsRising (pids_of streams) → pids ≡ pids_of streams → k < length pids
+    → es ≡ events_of streams (get_or pids k d)
     → slice_get streams k ≡ Some (record { pid = get_or pids k d; events = es })
 stream_here streams pids k d es rising are within is =
     let p = get_or pids k d in
@@ -40,7 +41,8 @@ stream_here streams pids k d es rising are within is =
     ∙ ap (λ fs. Some (record { pid = p; events = fs })) same
 
 -- one process more
-pub process_noted : (old now more : List ℕ) (streams : List Stream) (pids : List Pid) (k : ℕ) (d : Pid)
+pub process_noted : (old now more : List ℕ) (streams : List Stream) (pids : List Pid) (k : ℕ)
+    (d : Pid)
     (es : List Event) → IsRising (pids_of streams) → pids ≡ pids_of streams → k < length pids
     → es ≡ events_of streams (get_or pids k d) → more ≡ now ++ counts_in es
     → now ++ all_counts (drop k streams) ≡ old → more ++ all_counts (drop (k + 1) streams) ≡ old
@@ -90,7 +92,8 @@ rest_in x xs ys above are c here = elim (are c (inr here)) [
 ]
 
 -- the first of two lists that rise, with the same members
-first_same : (x y : ℕ) (xs ys : List ℕ) → AllAbove x xs → AllAbove y ys → IsIn x (y ∷ ys) → IsIn y (x ∷ xs) → x ≡ y
+first_same : (x y : ℕ) (xs ys : List ℕ) → AllAbove x xs → AllAbove y ys → IsIn x (y ∷ ys)
+    → IsIn y (x ∷ xs) → x ≡ y
 first_same x y xs ys above below here there = elim here [
   | inl same ↦ same
   | inr later ↦ elim there [
@@ -112,14 +115,16 @@ one_list (x ∷ xs) (y ∷ ys) up down to from =
     let here : AreIn (x ∷ xs) (x ∷ ys) = subst (λ n. AreIn (x ∷ xs) (n ∷ ys)) (sym same) to in
     let there : AreIn (x ∷ ys) (x ∷ xs) = subst (λ n. AreIn (n ∷ ys) (x ∷ xs)) (sym same) from in
     ap (λ n. n ∷ xs) same
-    ∙ ap (λ zs. y ∷ zs) (one_list xs ys up.1 down.1 (rest_in x xs ys up.0 here) (rest_in x ys xs above there))
+    ∙ ap (λ zs. y ∷ zs) (one_list xs ys up.1 down.1 (rest_in x xs ys up.0 here)
+    (rest_in x ys xs above there))
 
 -- THE COUNTS OF STREAMS
 
 insert_above : (b c : ℕ) (ds : List ℕ) → b < c → AllAbove b ds → AllAbove b (insert_count c ds)
 insert_above b c [] low all = (low, all)
 insert_above b c (d ∷ ds) low all =
-    elim (nat_lt c d) as (λ x. AllAbove b (cond x (c ∷ d ∷ ds) (cond (nat_lt d c) (d ∷ insert_count c ds) (d ∷ ds)))) [
+    elim (nat_lt c d) as (λ x. AllAbove b (cond x (c ∷ d ∷ ds)
+    (cond (nat_lt d c) (d ∷ insert_count c ds) (d ∷ ds)))) [
       | true ↦ (low, all)
       | false ↦ elim (nat_lt d c) as (λ y. AllAbove b (cond y (d ∷ insert_count c ds) (d ∷ ds))) [
         | true ↦ (all.0, insert_above b c ds low all.1)
@@ -135,7 +140,11 @@ insert_climbs c (d ∷ ds) all =
       | true ↦ λ less. let low = ltb-true c d less in ((low, above_lower c d ds low all.0), all)
       | false ↦ λ _. elim (nat_lt d c) as (λ y. nat_lt d c ≡ y
           → Climbs (cond y (d ∷ insert_count c ds) (d ∷ ds))) [
-            | true ↦ λ more. (insert_above d c ds (ltb-true d c more) all.0, insert_climbs c ds all.1)
+            | true ↦ λ more. (
+              insert_above d c ds (ltb-true d c more) all.0,
+              insert_climbs c ds
+                  all.1,
+            )
             | false ↦ λ _. all
           ] refl
     ] refl
@@ -151,7 +160,11 @@ insert_in b c (d ∷ ds) here =
           → IsIn b (cond y (d ∷ insert_count c ds) (d ∷ ds))) [
             | true ↦ λ _. elim here [
               | inl same ↦ inr (insert_in b c ds (inl same))
-              | inr rest ↦ elim rest [ inl first ↦ inl first | inr later ↦ inr (insert_in b c ds (inr later)) ]
+              | inr rest ↦ elim rest [
+                | inl first ↦ inl first
+                | inr later ↦
+                    inr (insert_in b c ds (inr later))
+              ]
             ]
             | false ↦ λ high. elim here [
               | inl same ↦
@@ -167,15 +180,18 @@ in_insert : (b c : ℕ) (ds : List ℕ) → IsIn b (insert_count c ds) → IsIn 
 in_insert b c [] here = here
 in_insert b c (d ∷ ds) here =
     (elim (nat_lt c d) as (λ x.
-    IsIn b (cond x (c ∷ d ∷ ds) (cond (nat_lt d c) (d ∷ insert_count c ds) (d ∷ ds))) → IsIn b (c ∷ d ∷ ds)) [
+    IsIn b (cond x (c ∷ d ∷ ds) (cond (nat_lt d c) (d ∷ insert_count c ds) (d ∷ ds)))
+    → IsIn b (c ∷ d ∷ ds)) [
       | true ↦ λ here. here
-      | false ↦ elim (nat_lt d c) as (λ y. IsIn b (cond y (d ∷ insert_count c ds) (d ∷ ds)) → IsIn b (c ∷ d ∷ ds)) [
-        | true ↦ λ here. elim here [
-          | inl first ↦ inr (inl first)
-          | inr later ↦ elim (in_insert b c ds later) [ inl same ↦ inl same | inr rest ↦ inr (inr rest) ]
-        ]
-        | false ↦ λ here. inr here
-      ]
+      | false ↦ elim (nat_lt d c) as (λ y. IsIn b (cond y (d ∷ insert_count c ds) (d ∷ ds))
+          → IsIn b (c ∷ d ∷ ds)) [
+            | true ↦ λ here. elim here [
+              | inl first ↦ inr (inl first)
+              | inr later ↦ elim (in_insert b c ds later)
+                  [ inl same ↦ inl same | inr rest ↦ inr (inr rest) ]
+            ]
+            | false ↦ λ here. inr here
+          ]
     ]) here
 
 insert_all_climbs : (es : List Event) (cs : List ℕ) → Climbs cs → Climbs (insert_counts es cs)
@@ -215,7 +231,8 @@ in_insert_all b (e ∷ es) cs here =
       | inl prev ↦ inl (inl prev)
       | inr more ↦ elim (in_insert b e.serial.this rest more) [
         | inl this ↦ inl (inr (inl this))
-        | inr later ↦ elim (in_insert_all b es cs later) [ inl own ↦ inl (inr (inr own)) | inr other ↦ inr other ]
+        | inr later ↦ elim (in_insert_all b es cs later)
+            [ inl own ↦ inl (inr (inr own)) | inr other ↦ inr other ]
       ]
     ]
 
@@ -268,19 +285,28 @@ in_contains : (xs : List ℕ) (c : ℕ) → IsIn c xs → Contains xs c
 in_contains [] c here = absurd here
 in_contains (x ∷ xs) c here = elim here [
   | inl same ↦ (0, (omega arith), sym same)
-  | inr later ↦ let at = in_contains xs c later in (suc at.0, (let within = at.1 in omega arith), at.2)
+  | inr later ↦ let at = in_contains xs c later in (
+    suc at.0,
+    (let within = at.1 in omega arith),
+    at.2,
+  )
 ]
 
-increasing_above : (b : ℕ) (xs : List ℕ) → ((k d : ℕ) → k < length xs → b < get_or xs k d) → AllAbove b xs
+increasing_above : (b : ℕ) (xs : List ℕ) → ((k d : ℕ) → k < length xs → b < get_or xs k d)
+    → AllAbove b xs
 increasing_above b [] each = tt
-increasing_above b (x ∷ xs) each =
-    (each 0 0 (omega arith), increasing_above b xs (λ k d within. each (suc k) d (omega (arith, within))))
+increasing_above b (x ∷ xs) each = (
+  each 0 0 (omega arith),
+  increasing_above b xs (λ k d within.
+      each (suc k) d (omega (arith, within))),
+)
 
 increasing_climbs : (xs : List ℕ) → AllPairs (λ x y. x < y) xs → Climbs xs
 increasing_climbs [] pairs = tt
 increasing_climbs (x ∷ xs) pairs = (
   increasing_above x xs (λ k d within. pairs 0 (suc k) d (omega arith) (omega (arith, within))),
-  increasing_climbs xs (λ i j d less within. pairs (suc i) (suc j) d (omega (arith, less)) (omega (arith, within))),
+  increasing_climbs xs (λ i j d less within. pairs (suc i) (suc j) d (omega (arith, less))
+      (omega (arith, within))),
 )
 
 -- noted counts that were sorted, each kept once
@@ -288,15 +314,18 @@ pub counts_are : (streams : List Stream) (noted counts : List ℕ) → noted ≡
     → IsStrictlyIncreasing counts → ((c : ℕ) → Contains noted c → Contains counts c)
     → ((c : ℕ) → Contains counts c → Contains noted c) → counts ≡ counts_of streams
 counts_are streams noted counts is rises keeps adds_none =
-    one_list counts (counts_of streams) (increasing_climbs counts (AllPairs-from_increasing counts rises))
+    one_list counts (counts_of streams) (increasing_climbs counts
+    (AllPairs-from_increasing counts rises))
     (counts_climb streams)
     (λ c here. counts_has streams c (let at = adds_none c (in_contains counts c here) in
     subst (IsIn c) is (contains_in noted c at.0 at.1 at.2)))
-    (λ c here. let at = keeps c (in_contains noted c (subst (IsIn c) (sym is) (has_counts streams c here))) in
+    (λ c here. let at = keeps c (in_contains noted c
+    (subst (IsIn c) (sym is) (has_counts streams c here))) in
     contains_in counts c at.0 at.1 at.2)
 
 -- the prev of an event is one of the counts
-prev_in : (es : List Event) (i : ℕ) (e : Event) → slice_get es i ≡ Some e → IsIn e.serial.prev (counts_in es)
+prev_in : (es : List Event) (i : ℕ) (e : Event) → slice_get es i ≡ Some e
+    → IsIn e.serial.prev (counts_in es)
 prev_in [] i e at = absurd (none-some e at)
 prev_in (d ∷ es) zero e at = inl (ap (λ (x : Event). x.serial.prev) (sym (same_Some d e at)))
 prev_in (d ∷ es) (suc i) e at = inr (inr (prev_in es i e at))
@@ -305,13 +334,16 @@ prev_among : (streams : List Stream) (p : Pid) (i : ℕ) (e : Event) → event_a
     → IsIn e.serial.prev (all_counts streams)
 prev_among [] p i e at = absurd (none-some e at)
 prev_among (x ∷ rest) p i e at =
-    elim (pid_eq x.pid p) as (λ b. slice_get (events_in (cond b (Some x) (stream_of rest p))) i ≡ Some e
+    elim (pid_eq x.pid p) as (λ b. slice_get (events_in (cond b (Some x) (stream_of rest p))) i
+    ≡ Some e
     → IsIn e.serial.prev (counts_in x.events ++ all_counts rest)) [
-      | true ↦ λ here. either_in e.serial.prev (counts_in x.events) (all_counts rest) (inl (prev_in x.events i e here))
+      | true ↦ λ here. either_in e.serial.prev (counts_in x.events) (all_counts rest)
+          (inl (prev_in x.events i e here))
       | false ↦ λ later. either_in e.serial.prev (counts_in x.events) (all_counts rest)
           (inr (prev_among rest p i e later))
     ] at
 
-pub prev_counted : (streams : List Stream) (p : Pid) (i : ℕ) (e : Event) → event_at streams p i ≡ Some e
+pub prev_counted : (streams : List Stream) (p : Pid) (i : ℕ) (e : Event)
+    → event_at streams p i ≡ Some e
     → IsIn e.serial.prev (counts_of streams)
 prev_counted streams p i e at = counts_has streams e.serial.prev (inr (prev_among streams p i e at))

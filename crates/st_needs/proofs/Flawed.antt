@@ -31,9 +31,11 @@ pub left_more : (es : List Event) (i : ℕ) (e : Event) → slice_get es i ≡ S
     → left_by (take i es ++ e ∷ []) ≡ left_by (take (i + 1) es)
 left_more es i e at = ap left_by (sym (rw add-one (take_more es i e at)))
 
-pub left_push : (es : List Event) (e : Event) (greatest prev : ℕ) → greatest ≡ max (greatest_count es) e.serial.this
+pub left_push : (es : List Event) (e : Event) (greatest prev : ℕ)
+    → greatest ≡ max (greatest_count es) e.serial.this
     → prev ≡ prev_after (e ∷ [])
-    → (let left : Left = record { greatest = greatest; prev = prev } in left) ≡ left_by (es ++ e ∷ [])
+    → (let left : Left = record { greatest = greatest; prev = prev } in left)
+    ≡ left_by (es ++ e ∷ [])
 left_push es e greatest prev is leaves =
     let high = is ∙ sym (greatest_push es e) in
     let last = leaves ∙ sym (prev_push es e) in
@@ -47,18 +49,21 @@ module _ (rule : Pid → ℕ → Event → Option (Pid × ℕ)) (p : Pid) (es : 
       ∙ ap (λ (o : Option (Pid × ℕ)). or_else o (first_from rule p (i + 1) (drop (suc i) es))) gives
 
   -- or nothing
-  pub passed : rule p i e ≡ None → first_from rule p i (drop i es) ≡ first_from rule p (i + 1) (drop (i + 1) es)
+  pub passed : rule p i e ≡ None → first_from rule p i (drop i es)
+      ≡ first_from rule p (i + 1) (drop (i + 1) es)
   passed none =
       let next : suc i ≡ i + 1 = omega arith in
       first_from-at rule p i i es e at
       ∙ ap (λ (o : Option (Pid × ℕ)). or_else o (first_from rule p (i + 1) (drop (suc i) es))) none
       ∙ ap (λ (n : ℕ). first_from rule p (i + 1) (drop n es)) next
 
-pub if_true : (b : Bool) (p : Pid) (i : ℕ) → b ≡ true → (let o : Option (Pid × ℕ) = cond b (Some (p, i)) None in o)
+pub if_true : (b : Bool) (p : Pid) (i : ℕ) → b ≡ true
+    → (let o : Option (Pid × ℕ) = cond b (Some (p, i)) None in o)
     ≡ Some (p, i)
 if_true b p i is = ap (λ (c : Bool). cond c (Some (p, i)) None) is
 
-pub if_false : (b : Bool) (p : Pid) (i : ℕ) → b ≡ false → (let o : Option (Pid × ℕ) = cond b (Some (p, i)) None in o)
+pub if_false : (b : Bool) (p : Pid) (i : ℕ) → b ≡ false
+    → (let o : Option (Pid × ℕ) = cond b (Some (p, i)) None in o)
     ≡ None
 if_false b p i is = ap (λ (c : Bool). cond c (Some (p, i)) None) is
 
@@ -70,22 +75,27 @@ hidden_by streams e true from = refl
 hidden_by streams e false source.Hidden = refl
 hidden_by streams e false (source.Event q j) = refl
 
-pub hidden_at : (streams : List Stream) (p : Pid) (i : ℕ) (e : Event) → event_at streams p i ≡ Some e
+pub hidden_at : (streams : List Stream) (p : Pid) (i : ℕ) (e : Event)
+    → event_at streams p i ≡ Some e
     → is_hidden_in (source_at streams p i) ≡ is_hidden streams e
 hidden_at streams p i e at =
     ap (λ (o : Option Event). is_hidden_in (option_and_then
     (λ f. if is_stamp f then None else Some (source_of streams f)) o)) at
     ∙ hidden_by streams e (is_stamp e) (source_of streams e)
 
-same_from : (r t : Pid → ℕ → Event → Option (Pid × ℕ)) (p : Pid) → ((i : ℕ) (e : Event) → r p i e ≡ t p i e)
+same_from : (r t : Pid → ℕ → Event → Option (Pid × ℕ)) (p : Pid)
+    → ((i : ℕ) (e : Event) → r p i e ≡ t p i e)
     → (i : ℕ) (es : List Event) → first_from r p i es ≡ first_from t p i es
 same_from r t p same i [] = refl
-same_from r t p same i (e ∷ es) = ap (λ (o : Option (Pid × ℕ)). or_else o (first_from r p (i + 1) es)) (same i e)
+same_from r t p same i (e ∷ es) = ap (λ (o : Option (Pid × ℕ)).
+    or_else o (first_from r p (i + 1) es)) (same i e)
     ∙ ap (or_else (t p i e)) (same_from r t p same (i + 1) es)
 
 -- the events of a process are those of its stream
-pub in_streams : (test : List Event → Event → Bool) (streams : List Stream) (p : Pid) (es : List Event)
-    → es ≡ events_of streams p → first_from (place_where test es) p 0 es ≡ first_from (flaw_place test streams) p 0 es
+pub in_streams : (test : List Event → Event → Bool) (streams : List Stream) (p : Pid)
+    (es : List Event)
+    → es ≡ events_of streams p → first_from (place_where test es) p 0 es
+    ≡ first_from (flaw_place test streams) p 0 es
 in_streams test streams p es is =
     same_from (place_where test es) (flaw_place test streams) p
     (λ i e. ap (λ (l : List Event). place_where test l p i e) is) 0 es
@@ -93,19 +103,25 @@ in_streams test streams p es is =
 module _ (rule : Pid → ℕ → Event
     → Option (Pid × ℕ)) (streams : List Stream) (rising : IsRising (pids_of streams)) where
   -- a process that gives something
-  pub given : (pids : List Pid) (k : ℕ) (d : Pid) (es : List Event) (x : Pid × ℕ) → pids ≡ pids_of streams
-      → k < length pids → es ≡ events_of streams (get_or pids k d) → Some x ≡ first_from rule (get_or pids k d) 0 es
+  pub given : (pids : List Pid) (k : ℕ) (d : Pid) (es : List Event) (x : Pid × ℕ)
+      → pids ≡ pids_of streams
+      → k < length pids → es ≡ events_of streams (get_or pids k d)
+      → Some x ≡ first_from rule (get_or pids k d) 0 es
       → first rule streams ≡ first rule (drop k streams) → Some x ≡ first rule streams
   given pids k d es x are within events gives far =
-      let from : first_from rule (get_or pids k d) 0 (events_of streams (get_or pids k d)) ≡ Some x =
-      subst (λ (l : List Event). first_from rule (get_or pids k d) 0 l ≡ Some x) events (sym gives) in
+      let from : first_from rule (get_or pids k d) 0 (events_of streams (get_or pids k d))
+      ≡ Some x =
+      subst (λ (l : List Event). first_from rule (get_or pids k d) 0 l ≡ Some x) events
+      (sym gives) in
       sym (far ∙ first-loop rule streams rising pids k d are within
       ∙ ap (λ (o : Option (Pid × ℕ)). or_else o (first rule (drop (k + 1) streams))) from)
 
   -- a process that gives nothing
-  pub none_given : (pids : List Pid) (k : ℕ) (d : Pid) (es : List Event) → pids ≡ pids_of streams → k < length pids
+  pub none_given : (pids : List Pid) (k : ℕ) (d : Pid) (es : List Event) → pids ≡ pids_of streams
+      → k < length pids
       → es ≡ events_of streams (get_or pids k d) → None ≡ first_from rule (get_or pids k d) 0 es
-      → first rule streams ≡ first rule (drop k streams) → first rule streams ≡ first rule (drop (k + 1) streams)
+      → first rule streams ≡ first rule (drop k streams)
+      → first rule streams ≡ first rule (drop (k + 1) streams)
   none_given pids k d es are within events gives far =
       let from : first_from rule (get_or pids k d) 0 (events_of streams (get_or pids k d)) ≡ None =
       subst (λ (l : List Event). first_from rule (get_or pids k d) 0 l ≡ None) events (sym gives) in
@@ -135,10 +151,12 @@ pub least_there : (test : List Event → Event → Bool) (streams : List Stream)
     → IsLeastPlace (HoldsAt test streams) p i
 least_there test streams p i rising is =
     let l = first_least (flaw_place test streams) streams (p, i) rising is in
-    let given = gives_true (test (take l.index (events_of streams l.pid)) l.event) p l.pid i l.index l.gives in
+    let given = gives_true (test (take l.index (events_of streams l.pid)) l.event) p l.pid i l.index
+    l.gives in
     subst (λ (x : Pid × ℕ). IsLeastPlace (HoldsAt test streams) x.0 x.1) given.1 (record {
       holds = record { event = l.event; at = l.at; holds = given.0 };
-      least = λ q j earlier h. false≢true (sym (none_false (test (take j (events_of streams q)) h.event) (q, j)
+      least = λ q j earlier h. false≢true (sym (none_false
+          (test (take j (events_of streams q)) h.event) (q, j)
           (l.least q j h.event h.at earlier)) ∙ h.holds);
     })
 

@@ -1,10 +1,13 @@
--- Why the hidden sends that are found are those of the definition, by rising count. Each is the send of a receive whose
--- send isn't reported, so it is the hidden send of its count, since no other receive has this
--- sender and count; and each hidden send has its receive. Two lists that rise and have the same
--- counts are one list.
-use Rattle.std.proofs.Common.{◌≡◌, ◌⊎◌, inl, inr, ℕ, zero, suc, ◌+◌, ◌<◌, ◌≤◌, ◌&&◌, nat_lt, Bool, true, false}
-use Rattle.std.proofs.Common.{cond, List, [], ◌∷◌, ◌++◌, length, drop, get_or, slice_get, Option, Some, None, is_none}
-use Rattle.std.proofs.Common.{option_map, option_and_then, refl, sym, ◌∙◌, ap, subst, arith, append_assoc}
+-- Why the hidden sends that are found are those of the definition, by rising count. Each is the
+-- send of a receive whose send isn't reported, so it is the hidden send of its count, since no
+-- other receive has this sender and count; and each hidden send has its receive. Two lists that
+-- rise and have the same counts are one list.
+use Rattle.std.proofs.Common.{◌≡◌, ◌⊎◌, inl, inr, ℕ, zero, suc, ◌+◌, ◌<◌, ◌≤◌, ◌&&◌, nat_lt, Bool}
+use Rattle.std.proofs.Common.{true, false}
+use Rattle.std.proofs.Common.{cond, List, [], ◌∷◌, ◌++◌, length, drop, get_or, slice_get, Option}
+use Rattle.std.proofs.Common.{Some, None, is_none}
+use Rattle.std.proofs.Common.{option_map, option_and_then, refl, sym, ◌∙◌, ap, subst, arith}
+use Rattle.std.proofs.Common.{append_assoc}
 use Rattle.std.specs.List.{Contains}
 use Rattle.std.specs.List.Sorted.{IsPermutation}
 use Rattle.std.proofs.lemmas.Bool.{and_from, and_parts, cases_lt, false≢true, ltb-false, ltb-true}
@@ -34,20 +37,24 @@ use Rattle.st_needs.specs.Hidden.{hidden_among, hidden_in, rising_from}
 
 pub hidden_more : (streams : List Stream) (q : Pid) (es : List Event) (i : ℕ) → i < length es
     → (let e = get_or es i blank in hidden_in streams q (drop i es)
-    ≡ cond (is_hidden streams e && pid_eq e.from q) (send_of e ∷ hidden_in streams q (drop (i + 1) es))
+    ≡ cond (is_hidden streams e && pid_eq e.from q)
+    (send_of e ∷ hidden_in streams q (drop (i + 1) es))
     (hidden_in streams q (drop (i + 1) es)))
 hidden_more streams q es i within = ap (hidden_in streams q) (drop_more es i blank within)
 
-pub process_hidden : (q : Pid) (old now more : List Event) (streams : List Stream) (pids : List Pid) (k : ℕ) (d : Pid)
+pub process_hidden : (q : Pid) (old now more : List Event) (streams : List Stream) (pids : List Pid)
+    (k : ℕ) (d : Pid)
     (es : List Event) → IsRising (pids_of streams) → pids ≡ pids_of streams → k < length pids
     → es ≡ events_of streams (get_or pids k d) → more ≡ now ++ hidden_in streams q es
-    → now ++ hidden_among streams q (drop k streams) ≡ old → more ++ hidden_among streams q (drop (k + 1) streams) ≡ old
+    → now ++ hidden_among streams q (drop k streams) ≡ old
+    → more ++ hidden_among streams q (drop (k + 1) streams) ≡ old
 process_hidden q old now more streams pids k d es rising are within is noted so_far =
     let at = stream_here streams pids k d es rising are within is in
     let next : suc k ≡ k + 1 = omega arith in
     ap (λ fs. fs ++ hidden_among streams q (drop (k + 1) streams)) noted
     ∙ append_assoc now (hidden_in streams q es) (hidden_among streams q (drop (k + 1) streams))
-    ∙ ap (λ n. now ++ (hidden_in streams q es ++ hidden_among streams q (drop n streams))) (sym next)
+    ∙ ap (λ n. now ++ (hidden_in streams q es ++ hidden_among streams q (drop n streams)))
+    (sym next)
     ∙ sym (ap (λ xs. now ++ hidden_among streams q xs) (drop_stream streams k _ at))
     ∙ so_far
 
@@ -67,7 +74,8 @@ among_either (e ∷ es) fs f a = elim a [
   | inr there ↦ later e (es ++ fs) f (among_either es fs f (inr there))
   | inl here ↦ elim here.index as (λ k. slice_get (e ∷ es) k ≡ Some f → IsAmong (e ∷ es ++ fs) f) [
     | zero ↦ λ at. record { index = 0; at = at }
-    | suc k ↦ λ at. later e (es ++ fs) f (among_either es fs f (inl (record { index = k; at = at })))
+    | suc k ↦ λ at. later e (es ++ fs) f (among_either es fs f
+        (inl (record { index = k; at = at })))
   ] here.at
 ]
 
@@ -84,14 +92,16 @@ either_among (e ∷ es) fs f a = elim a.index as (λ k. slice_get (e ∷ es ++ f
 
 among_contains : (es : List Event) (f : Event) → IsAmong es f → Contains es f
 among_contains [] f a = absurd (none-some f a.at)
-among_contains (e ∷ es) f a = elim a.index as (λ k. slice_get (e ∷ es) k ≡ Some f → Contains (e ∷ es) f) [
-  | zero ↦ λ at. (0, (omega arith), same_Some e f at)
-  | suc k ↦ λ at.
-      let rest = among_contains es f (record { index = k; at = at }) in
-      (suc rest.0, (let low = rest.1 in omega arith), rest.2)
-] a.at
+among_contains (e ∷ es) f a = elim a.index as (λ k. slice_get (e ∷ es) k ≡ Some f
+    → Contains (e ∷ es) f) [
+      | zero ↦ λ at. (0, (omega arith), same_Some e f at)
+      | suc k ↦ λ at.
+          let rest = among_contains es f (record { index = k; at = at }) in
+          (suc rest.0, (let low = rest.1 in omega arith), rest.2)
+    ] a.at
 
-contains_among : (es : List Event) (f : Event) (k : ℕ) → k < length es → get_or es k f ≡ f → IsAmong es f
+contains_among : (es : List Event) (f : Event) (k : ℕ) → k < length es → get_or es k f ≡ f
+    → IsAmong es f
 contains_among [] f k within is = absurd (omega arith)
 contains_among (e ∷ es) f zero within is = record { index = 0; at = ap Some is }
 contains_among (e ∷ es) f (suc k) within is = later e es f (contains_among es f k (omega arith) is)
@@ -106,7 +116,8 @@ abbrev pub NeverFalls : List Event → Type 0
 NeverFalls [] = Unit {0}
 NeverFalls (e ∷ es) = ((f : Event) → IsAmong es f → e.serial.this ≤ f.serial.this) × NeverFalls es
 
-at_or : (es : List Event) (k : ℕ) (d f : Event) → slice_get es k ≡ Some f → (k < length es) × (get_or es k d ≡ f)
+at_or : (es : List Event) (k : ℕ) (d f : Event) → slice_get es k ≡ Some f → (k < length es)
+    × (get_or es k d ≡ f)
 at_or [] k d f at = absurd (none-some f at)
 at_or (e ∷ es) zero d f at = ((omega arith), same_Some e f at)
 at_or (e ∷ es) (suc k) d f at =
@@ -137,51 +148,58 @@ rising_rises n (e ∷ es) =
       | false ↦ λ high. (ltb-false e.serial.this n high, rising_rises (suc e.serial.this) es)
     ] refl
 
-pub rising_among : (n : ℕ) (es : List Event) (k : ℕ) (f : Event) → slice_get (rising_from n es) k ≡ Some f
+pub rising_among : (n : ℕ) (es : List Event) (k : ℕ) (f : Event)
+    → slice_get (rising_from n es) k ≡ Some f
     → IsAmong es f
 rising_among n [] k f at = absurd (none-some f at)
 rising_among n (e ∷ es) k f at =
     (elim (nat_lt e.serial.this n) as (λ b.
-    slice_get (cond b (rising_from n es) (e ∷ rising_from (suc e.serial.this) es)) k ≡ Some f → IsAmong (e ∷ es) f) [
+    slice_get (cond b (rising_from n es) (e ∷ rising_from (suc e.serial.this) es)) k ≡ Some f
+    → IsAmong (e ∷ es) f) [
       | true ↦ λ at. later e es f (rising_among n es k f at)
-      | false ↦ elim k as (λ k. slice_get (e ∷ rising_from (suc e.serial.this) es) k ≡ Some f → IsAmong (e ∷ es) f) [
-        | zero ↦ λ at. record { index = 0; at = at }
-        | suc j ↦ λ at. later e es f (rising_among (suc e.serial.this) es j f at)
-      ]
+      | false ↦ elim k as (λ k. slice_get (e ∷ rising_from (suc e.serial.this) es) k ≡ Some f
+          → IsAmong (e ∷ es) f) [
+            | zero ↦ λ at. record { index = 0; at = at }
+            | suc j ↦ λ at. later e es f (rising_among (suc e.serial.this) es j f at)
+          ]
     ]) at
 
 has_later : (e : Event) (es : List Event) (v : ℕ) → HasCount es v → HasCount (e ∷ es) v
 has_later e es v h = record { index = suc h.index; event = h.event; at = h.at; count = h.count }
 
-pub rising_has : (n : ℕ) (es : List Event) → NeverFalls es → (f : Event) → IsAmong es f → n ≤ f.serial.this
+pub rising_has : (n : ℕ) (es : List Event) → NeverFalls es → (f : Event) → IsAmong es f
+    → n ≤ f.serial.this
     → HasCount (rising_from n es) f.serial.this
 rising_has n [] falls f a high = absurd (none-some f a.at)
 rising_has n (e ∷ es) falls f a high =
     let kept = rising_from (suc e.serial.this) es in
     elim (nat_lt e.serial.this n) as (λ b. nat_lt e.serial.this n ≡ b
     → HasCount (cond b (rising_from n es) (e ∷ kept)) f.serial.this) [
-      | true ↦ λ low. elim a.index as (λ k. slice_get (e ∷ es) k ≡ Some f → HasCount (rising_from n es) f.serial.this) [
-        | zero ↦ λ at.
-            let less = ltb-true e.serial.this n low in
-            let same = ap (λ (x : Event). x.serial.this) (same_Some e f at) in
-            absurd (omega arith)
-        | suc k ↦ λ at. rising_has n es falls.1 f (record { index = k; at = at }) high
-      ] a.at
-      | false ↦ λ _. elim a.index as (λ k. slice_get (e ∷ es) k ≡ Some f → HasCount (e ∷ kept) f.serial.this) [
-        | zero ↦ λ at. record {
-          index = 0;
-          event = e;
-          at = refl;
-          count = ap (λ (x : Event). x.serial.this) (same_Some e f at);
-        }
-        | suc k ↦ λ at. elim (cases_lt e.serial.this f.serial.this) [
-          | inl above ↦ has_later e kept f.serial.this
-              (rising_has (suc e.serial.this) es falls.1 f (record { index = k; at = at }) (omega arith))
-          | inr not_above ↦
-              let least = falls.0 f (record { index = k; at = at }) in
-              record { index = 0; event = e; at = refl; count = omega arith }
-        ]
-      ] a.at
+      | true ↦ λ low. elim a.index as (λ k. slice_get (e ∷ es) k ≡ Some f
+          → HasCount (rising_from n es) f.serial.this) [
+            | zero ↦ λ at.
+                let less = ltb-true e.serial.this n low in
+                let same = ap (λ (x : Event). x.serial.this) (same_Some e f at) in
+                absurd (omega arith)
+            | suc k ↦ λ at. rising_has n es falls.1 f (record { index = k; at = at }) high
+          ] a.at
+      | false ↦ λ _. elim a.index as (λ k. slice_get (e ∷ es) k ≡ Some f
+          → HasCount (e ∷ kept) f.serial.this) [
+            | zero ↦ λ at. record {
+              index = 0;
+              event = e;
+              at = refl;
+              count = ap (λ (x : Event). x.serial.this) (same_Some e f at);
+            }
+            | suc k ↦ λ at. elim (cases_lt e.serial.this f.serial.this) [
+              | inl above ↦ has_later e kept f.serial.this
+                  (rising_has (suc e.serial.this) es falls.1 f (record { index = k; at = at })
+                  (omega arith))
+              | inr not_above ↦
+                  let least = falls.0 f (record { index = k; at = at }) in
+                  record { index = 0; event = e; at = refl; count = omega arith }
+            ]
+          ] a.at
     ] refl
 
 -- one event more
@@ -211,19 +229,31 @@ record IsHiddenIn (streams : List Stream) (q : Pid) (es : List Event) (f : Event
   from : event.from ≡ q
   is : send_of event ≡ f
 
-in_later : (streams : List Stream) (q : Pid) (e : Event) (es : List Event) (f : Event) → IsHiddenIn streams q es f
+in_later : (streams : List Stream) (q : Pid) (e : Event) (es : List Event) (f : Event)
+    → IsHiddenIn streams q es f
     → IsHiddenIn streams q (e ∷ es) f
 in_later streams q e es f h =
-    record { index = suc h.index; event = h.event; at = h.at; hides = h.hides; from = h.from; is = h.is }
+    record {
+      index = suc h.index;
+      event = h.event;
+      at = h.at;
+      hides = h.hides;
+      from = h.from;
+      is =
+          h.is;
+    }
 
-hidden_here : (streams : List Stream) (q : Pid) (es : List Event) (f : Event) → IsAmong (hidden_in streams q es) f
+hidden_here : (streams : List Stream) (q : Pid) (es : List Event) (f : Event)
+    → IsAmong (hidden_in streams q es) f
     → IsHiddenIn streams q es f
 hidden_here streams q [] f a = absurd (none-some f a.at)
 hidden_here streams q (e ∷ es) f a =
     let rest = hidden_in streams q es in
-    elim (is_hidden streams e && pid_eq e.from q) as (λ b. (is_hidden streams e && pid_eq e.from q) ≡ b
+    elim (is_hidden streams e && pid_eq e.from q) as (λ b.
+    (is_hidden streams e && pid_eq e.from q) ≡ b
     → slice_get (cond b (send_of e ∷ rest) rest) a.index ≡ Some f → IsHiddenIn streams q (e ∷ es) f) [
-      | false ↦ λ _ at. in_later streams q e es f (hidden_here streams q es f (record { index = a.index; at = at }))
+      | false ↦ λ _ at. in_later streams q e es f (hidden_here streams q es f
+          (record { index = a.index; at = at }))
       | true ↦ λ is at. elim a.index as (λ k. slice_get (send_of e ∷ rest) k ≡ Some f
           → IsHiddenIn streams q (e ∷ es) f) [
             | zero ↦ λ at.
@@ -236,11 +266,13 @@ hidden_here streams q (e ∷ es) f a =
                   from = pid_same e.from q parts.1;
                   is = same_Some (send_of e) f at;
                 }
-            | suc k ↦ λ at. in_later streams q e es f (hidden_here streams q es f (record { index = k; at = at }))
+            | suc k ↦ λ at. in_later streams q e es f
+                (hidden_here streams q es f (record { index = k; at = at }))
           ] at
     ] refl a.at
 
-here_hidden : (streams : List Stream) (q : Pid) (es : List Event) (k : ℕ) (e : Event) → slice_get es k ≡ Some e
+here_hidden : (streams : List Stream) (q : Pid) (es : List Event) (k : ℕ) (e : Event)
+    → slice_get es k ≡ Some e
     → is_hidden streams e ≡ true → e.from ≡ q → IsAmong (hidden_in streams q es) (send_of e)
 here_hidden streams q [] k e at hides from = absurd (none-some e at)
 here_hidden streams q (d ∷ es) zero e at hides from =
@@ -248,7 +280,8 @@ here_hidden streams q (d ∷ es) zero e at hides from =
     let test : (is_hidden streams d && pid_eq d.from q) ≡ true =
     and_from (is_hidden streams d) (pid_eq d.from q) (ap (is_hidden streams) same ∙ hides)
     (ap (λ (x : Event). pid_eq x.from q) same ∙ ap (λ p. pid_eq p q) from ∙ pid_eq-refl q) in
-    subst (λ fs. IsAmong fs (send_of e)) (ap (λ b. cond b (send_of d ∷ hidden_in streams q es) (hidden_in streams q es))
+    subst (λ fs. IsAmong fs (send_of e)) (ap (λ b. cond b (send_of d ∷ hidden_in streams q es)
+    (hidden_in streams q es))
     (sym test)) (record { index = 0; at = ap (λ x. Some (send_of x)) same })
 here_hidden streams q (d ∷ es) (suc k) e at hides from =
     let rest = here_hidden streams q es k e at hides from in
@@ -258,7 +291,8 @@ here_hidden streams q (d ∷ es) (suc k) e at hides from =
       | false ↦ rest
     ]
 
-among_hidden : (streams : List Stream) (q : Pid) (some : List Stream) → AreFound streams some → (f : Event)
+among_hidden : (streams : List Stream) (q : Pid) (some : List Stream) → AreFound streams some
+    → (f : Event)
     → IsAmong (hidden_among streams q some) f → IsHiddenOf streams q f
 among_hidden streams q [] found f a = absurd (none-some f a.at)
 among_hidden streams q (x ∷ some) found f a =
@@ -284,10 +318,13 @@ hidden_amid streams q [] p k e at hides from = absurd (none-some e at)
 hidden_amid streams q (x ∷ some) p k e at hides from =
     let own = hidden_in streams q x.events in
     let rest = hidden_among streams q some in
-    (elim (pid_eq x.pid p) as (λ b. slice_get (events_in (cond b (Some x) (stream_of some p))) k ≡ Some e
+    (elim (pid_eq x.pid p) as (λ b. slice_get (events_in (cond b (Some x) (stream_of some p))) k
+    ≡ Some e
     → IsAmong (own ++ rest) (send_of e)) [
-      | true ↦ λ at. among_either own rest (send_of e) (inl (here_hidden streams q x.events k e at hides from))
-      | false ↦ λ at. among_either own rest (send_of e) (inr (hidden_amid streams q some p k e at hides from))
+      | true ↦ λ at. among_either own rest (send_of e)
+          (inl (here_hidden streams q x.events k e at hides from))
+      | false ↦ λ at. among_either own rest (send_of e)
+          (inr (hidden_amid streams q some p k e at hides from))
     ]) at
 
 -- it is a receive, and its stamp isn't reported
@@ -299,7 +336,8 @@ hides_if streams e hides =
     let test = λ (b : Bool) (o : Option (ℕ × Event)). let is : Bool =
     cond b false (elim (from o) [ source.Hidden ↦ true | source.Event q j ↦ false ]) in is in
     let sought = stamp_of streams e.from e.serial.this in
-    elim (is_stamp e) as (λ b. is_stamp e ≡ b → test b sought ≡ true → (is_stamp e ≡ false) × (sought ≡ None)) [
+    elim (is_stamp e) as (λ b. is_stamp e ≡ b → test b sought ≡ true → (is_stamp e ≡ false)
+    × (sought ≡ None)) [
       | true ↦ λ _ h. absurd (false≢true h)
       | false ↦ λ receives h. elim sought as (λ o. sought ≡ o → test false o ≡ true
           → (is_stamp e ≡ false) × (sought ≡ None)) [
@@ -308,7 +346,8 @@ hides_if streams e hides =
           ] refl h
     ] refl hides
 
-pub if_hides : (streams : List Stream) (e : Event) → is_stamp e ≡ false → stamp_of streams e.from e.serial.this ≡ None
+pub if_hides : (streams : List Stream) (e : Event) → is_stamp e ≡ false
+    → stamp_of streams e.from e.serial.this ≡ None
     → is_hidden streams e ≡ true
 if_hides streams e receives none =
     let from = λ (o : Option (ℕ × Event)). let s : Source =
@@ -317,32 +356,39 @@ if_hides streams e receives none =
     cond b false (elim (from o) [ source.Hidden ↦ true | source.Event q j ↦ false ]) in is in
     ap (λ b. test b (stamp_of streams e.from e.serial.this)) receives ∙ ap (test false) none
 
-module _ (streams : List Stream) (q : Pid) (rising : IsRising (pids_of streams)) (accepted : refusal streams ≡ None)
+module _ (streams : List Stream) (q : Pid) (rising : IsRising (pids_of streams))
+    (accepted : refusal streams ≡ None)
   where
-    is_hidden_send : (f : Event) → IsHiddenOf streams q f → hidden_send streams q f.serial.this ≡ Some f
+    is_hidden_send : (f : Event) → IsHiddenOf streams q f
+        → hidden_send streams q f.serial.this ≡ Some f
     is_hidden_send f h =
         let e = h.event in
         let says = hides_if streams e h.hides in
         let count : e.serial.this ≡ f.serial.this = ap (λ (x : Event). x.serial.this) h.is in
         let find = λ (o : Option (Pid × ℕ)). option_map send_of
         (option_and_then (λ at. event_at streams at.0 at.1) o) in
-        let once = only_receive streams h.pid h.index e h.at says.0 (paired streams accepted).once in
+        let once = only_receive streams h.pid h.index e h.at says.0
+        (paired streams accepted).once in
         ap (λ p. hidden_send streams p f.serial.this) (sym h.from)
         ∙ ap (hidden_send streams e.from) (sym count)
-        ∙ ap (λ (o : Option (ℕ × Event)). cond (is_none o) (find (receive_of streams e.from e.serial.this)) None) says.1
+        ∙ ap (λ (o : Option (ℕ × Event)). cond (is_none o)
+        (find (receive_of streams e.from e.serial.this)) None) says.1
         ∙ ap find once
         ∙ ap (option_map send_of) h.at
         ∙ ap Some h.is
 
-    pub sends_are : (sorted : List Event) → IsPermutation (hidden_among streams q streams) sorted → NeverFalls sorted
+    pub sends_are : (sorted : List Event) → IsPermutation (hidden_among streams q streams) sorted
+        → NeverFalls sorted
         → rising_from 0 sorted ≡ hidden_sends streams q
     sends_are sorted moved falls =
         let all = hidden_among streams q streams in
         let found = all_found streams rising in
         let of = λ (k : ℕ) (f : Event) (at : slice_get (rising_from 0 sorted) k ≡ Some f).
         among_hidden streams q streams found f
-        (permuted sorted all f (IsPermutation-sym all sorted moved) (rising_among 0 sorted k f at)) in
-        hidden_all streams q 0 (suc (highest streams)) (rising_from 0 sorted) (rising_rises 0 sorted)
+        (permuted sorted all f (IsPermutation-sym all sorted moved)
+        (rising_among 0 sorted k f at)) in
+        hidden_all streams q 0 (suc (highest streams)) (rising_from 0 sorted)
+        (rising_rises 0 sorted)
         (λ k f at.
         let h = of k f at in
         let here = count_at (events_of streams h.pid) h.index h.event h.at in
@@ -354,8 +400,10 @@ module _ (streams : List Stream) (q : Pid) (rising : IsRising (pids_of streams))
         let h = hidden_is streams q w f rising is in
         let t = h.taken in
         let none : stamp_of streams t.event.from t.event.serial.this ≡ None =
-        ap (λ p. stamp_of streams p t.event.serial.this) t.from ∙ ap (stamp_of streams q) t.count ∙ h.unstamped in
+        ap (λ p. stamp_of streams p t.event.serial.this) t.from ∙ ap (stamp_of streams q) t.count
+        ∙ h.unstamped in
         let there = hidden_amid streams q streams t.pid t.index t.event t.at
         (if_hides streams t.event t.receives none) t.from in
         subst (HasCount (rising_from 0 sorted)) t.count
-        (rising_has 0 sorted falls (send_of t.event) (permuted all sorted (send_of t.event) moved there) (omega arith)))
+        (rising_has 0 sorted falls (send_of t.event)
+        (permuted all sorted (send_of t.event) moved there) (omega arith)))

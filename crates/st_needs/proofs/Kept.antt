@@ -1,7 +1,9 @@
 -- Streams and the marks beside them are whole streams: their events are those of the streams, and
 -- the marks of a process are those at its place.
-use Rattle.std.proofs.Common.{◌≡◌, ℕ, zero, suc, ◌≤◌, Bool, true, false, cond, List, [], ◌∷◌, map, length}
-use Rattle.std.proofs.Common.{slice_get, get_or, find, Option, Some, None, option_map, refl, sym, ◌∙◌, ap, arith}
+use Rattle.std.proofs.Common.{◌≡◌, ℕ, zero, suc, ◌≤◌, Bool, true, false, cond, List, [], ◌∷◌, map}
+use Rattle.std.proofs.Common.{length}
+use Rattle.std.proofs.Common.{slice_get, get_or, find, Option, Some, None, option_map, refl, sym}
+use Rattle.std.proofs.Common.{◌∙◌, ap, arith}
 use Rattle.std.specs.List.{AllByRecursion}
 use Rattle.std.specs.Option.{option_map_or}
 use Rattle.std.proofs.lemmas.Option.{same_Some}
@@ -16,20 +18,24 @@ use Rattle.st_plan.specs.Marks.{all_streams, marks_of, Marked, Whole}
 use Rattle.st_completions.specs.Needs.{marked_of}
 use Rattle.st_needs.specs.Completions.{marked_with, wholes_with}
 
-all_events : (es : List Event) (ms : List Bool) → map (λ (m : Marked). m.event) (marked_with es ms) ≡ es
+all_events : (es : List Event) (ms : List Bool) → map (λ (m : Marked). m.event) (marked_with es ms)
+    ≡ es
 all_events [] ms = refl
 all_events (e ∷ es) [] = ap (λ xs. e ∷ xs) (all_events es [])
 all_events (e ∷ es) (b ∷ ms) = ap (λ xs. e ∷ xs) (all_events es ms)
 
 -- all events are those of the streams
-pub all_kept : (streams : List Stream) (lists : List (List Bool)) → all_streams (wholes_with streams lists) ≡ streams
+pub all_kept : (streams : List Stream) (lists : List (List Bool))
+    → all_streams (wholes_with streams lists) ≡ streams
 all_kept [] lists = refl
 all_kept (x ∷ streams) [] =
-    ap (λ es. let y : Stream = record { pid = x.pid; events = es } in y ∷ all_streams (wholes_with streams []))
+    ap (λ es. let y : Stream = record { pid = x.pid; events = es } in
+    y ∷ all_streams (wholes_with streams []))
     (all_events x.events [])
     ∙ ap (λ ys. x ∷ ys) (all_kept streams [])
 all_kept (x ∷ streams) (ms ∷ lists) =
-    ap (λ es. let y : Stream = record { pid = x.pid; events = es } in y ∷ all_streams (wholes_with streams lists))
+    ap (λ es. let y : Stream = record { pid = x.pid; events = es } in
+    y ∷ all_streams (wholes_with streams lists))
     (all_events x.events ms)
     ∙ ap (λ ys. x ∷ ys) (all_kept streams lists)
 
@@ -50,17 +56,21 @@ abbrev found : Pid → List Whole → Option Whole
 found p wholes = find (λ (w : Whole). pid_eq w.pid p) wholes
 
 -- the marked events of the process at a place
-pub marked_kept : (streams : List Stream) (lists : List (List Bool)) (k : ℕ) (p : Pid) → IsRising (pids_of streams)
+pub marked_kept : (streams : List Stream) (lists : List (List Bool)) (k : ℕ) (p : Pid)
+    → IsRising (pids_of streams)
     → slice_get (pids_of streams) k ≡ Some p
-    → marked_of (wholes_with streams lists) p ≡ marked_with (events_of streams p) (get_or lists k [])
+    → marked_of (wholes_with streams lists) p ≡ marked_with (events_of streams p)
+    (get_or lists k [])
 marked_kept [] lists k p rising at = absurd (cc)
 marked_kept (x ∷ streams) [] zero p rising at =
-    let same : pid_eq x.pid p ≡ true = ap (λ q. pid_eq q p) (same_Some x.pid p at) ∙ pid_eq-refl p in
+    let same : pid_eq x.pid p ≡ true = ap (λ q. pid_eq q p) (same_Some x.pid p at)
+    ∙ pid_eq-refl p in
     ap (λ b. marked_in (cond b (Some (record { pid = x.pid; marked = marked_with x.events [] }))
     (found p (wholes_with streams [])))) same
     ∙ sym (ap (λ b. marked_with (events_in (cond b (Some x) (stream_of streams p))) []) same)
 marked_kept (x ∷ streams) (ms ∷ lists) zero p rising at =
-    let same : pid_eq x.pid p ≡ true = ap (λ q. pid_eq q p) (same_Some x.pid p at) ∙ pid_eq-refl p in
+    let same : pid_eq x.pid p ≡ true = ap (λ q. pid_eq q p) (same_Some x.pid p at)
+    ∙ pid_eq-refl p in
     ap (λ b. marked_in (cond b (Some (record { pid = x.pid; marked = marked_with x.events ms }))
     (found p (wholes_with streams lists)))) same
     ∙ sym (ap (λ b. marked_with (events_in (cond b (Some x) (stream_of streams p))) ms) same)
@@ -75,10 +85,12 @@ marked_kept (x ∷ streams) (ms ∷ lists) (suc k) p rising at =
     ap (λ b. marked_in (cond b (Some (record { pid = x.pid; marked = marked_with x.events ms }))
     (found p (wholes_with streams lists)))) other
     ∙ marked_kept streams lists k p rising.1 at
-    ∙ sym (ap (λ b. marked_with (events_in (cond b (Some x) (stream_of streams p))) (get_or lists k [])) other)
+    ∙ sym (ap (λ b. marked_with (events_in (cond b (Some x) (stream_of streams p)))
+    (get_or lists k [])) other)
 
 pub marked_missing : (streams : List Stream) (lists : List (List Bool)) (p : Pid)
-    → AllByRecursion (λ q. pid_eq q p ≡ false) (pids_of streams) → marked_of (wholes_with streams lists) p ≡ []
+    → AllByRecursion (λ q. pid_eq q p ≡ false) (pids_of streams)
+    → marked_of (wholes_with streams lists) p ≡ []
 marked_missing [] lists p missing = refl
 marked_missing (x ∷ streams) [] p missing =
     ap (λ b. marked_in (cond b (Some (record { pid = x.pid; marked = marked_with x.events [] }))
@@ -96,11 +108,16 @@ past_end (e ∷ es) zero past = absurd (omega arith)
 past_end (e ∷ es) (suc i) past = past_end es i (omega arith)
 
 abbrev mark_by : Option Whole → ℕ → Bool
-mark_by o i = elim o [ None ↦ false | Some w ↦ option_map_or (λ (m : Marked). m.told) (slice_get w.marked i) false ]
+mark_by o i = elim o [
+  | None ↦ false
+  | Some w ↦ option_map_or (λ (m : Marked). m.told)
+      (slice_get w.marked i) false
+]
 
 -- the marks by place
 pub mark_of : (wholes : List Whole) (p : Pid) (i : ℕ)
-    → marks_of wholes p i ≡ option_map_or (λ (m : Marked). m.told) (slice_get (marked_of wholes p) i) false
+    → marks_of wholes p i ≡ option_map_or (λ (m : Marked). m.told)
+    (slice_get (marked_of wholes p) i) false
 mark_of wholes p i = elim (find (λ (w : Whole). pid_eq w.pid p) wholes)
     as (λ o. mark_by o i ≡ option_map_or (λ (m : Marked). m.told) (slice_get (marked_in o) i) false)
     [ None ↦ refl | Some w ↦ refl ]

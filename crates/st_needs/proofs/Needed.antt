@@ -1,9 +1,12 @@
 -- Why the supplies are those of the definition. A count that no event needs has none, and each
 -- count that is needed is in the streams, below the greatest. So the supplies of the counts
 -- that are there, by rising count, are those of all numbers below the greatest.
-use Rattle.std.proofs.Common.{◌≡◌, ℕ, ◌+◌, ◌-◌, zero, suc, ◌<◌, ◌≤◌, ◌==◌, ◌&&◌, ◌⊎◌, inl, inr, nat_lt, not}
-use Rattle.std.proofs.Common.{Bool, true, false, cond, List, [], ◌∷◌, ◌++◌, map, filter, length, drop, take, get_or}
-use Rattle.std.proofs.Common.{Some, slice_get, refl, sym, ◌∙◌, ap, subst, arith, append_assoc, append-nil}
+use Rattle.std.proofs.Common.{◌≡◌, ℕ, ◌+◌, ◌-◌, zero, suc, ◌<◌, ◌≤◌, ◌==◌, ◌&&◌, ◌⊎◌, inl, inr}
+use Rattle.std.proofs.Common.{nat_lt, not}
+use Rattle.std.proofs.Common.{Bool, true, false, cond, List, [], ◌∷◌, ◌++◌, map, filter, length}
+use Rattle.std.proofs.Common.{drop, take, get_or}
+use Rattle.std.proofs.Common.{Some, slice_get, refl, sym, ◌∙◌, ap, subst, arith, append_assoc}
+use Rattle.std.proofs.Common.{append-nil}
 use Rattle.std.proofs.lemmas.Bool.Decides.{nat_tests}
 use Rattle.std.proofs.lemmas.Option.{same_Some}
 use Rattle.std.proofs.lemmas.Bool.{and_parts, cases_lt, eqb-true, false≢true, ltb-true}
@@ -17,21 +20,24 @@ use Rattle.st_core.specs.Streams.{events_of, stream_of}
 use Rattle.st_pair.specs.Places.{is_stamp}
 use Rattle.st_pair.proofs.ForCallers.{at_get_or, events_in}
 use Rattle.st_order.specs.Items.{greatest}
-use Rattle.st_completions.specs.Completion.{needs_of, own, supplied_by, supplies, supplies_below, supplies_of, Supply}
+use Rattle.st_completions.specs.Completion.{needs_of, own, supplied_by, supplies, supplies_below}
+use Rattle.st_completions.specs.Completion.{supplies_of, Supply}
 use Rattle.st_completions.specs.Needs.{is_need}
 use Rattle.st_completions.specs.Renumbering.{counts_of}
 use Rattle.st_completions.specs.Supply.{is_free, is_own_supply}
 use Rattle.st_needs.specs.declared.told.Told.{Told}
 use Rattle.st_needs.specs.Counts.{all_counts, counts_in}
 use Rattle.st_needs.specs.Told.{is_untaken, is_unused, told_of}
-use Rattle.st_needs.proofs.Counted.{above_in, AllAbove, Climbs, IsIn, counts_climb, counts_has, either_in}
+use Rattle.st_needs.proofs.Counted.{above_in, AllAbove, Climbs, IsIn, counts_climb, counts_has}
+use Rattle.st_needs.proofs.Counted.{either_in}
 use Rattle.st_needs.proofs.Supplied.{untaken_here, unused_here}
 
 -- ONE COUNT
 
 -- the supplies of a count
 abbrev pub of_count : List Stream → ℕ → List Supply
-of_count streams v = supplies_of streams v (filter (is_free streams v) (pids_of streams)) (pids_of streams)
+of_count streams v = supplies_of streams v (filter (is_free streams v) (pids_of streams))
+    (pids_of streams)
 
 -- those of these counts
 abbrev pub supplies_of_all : List Stream → List ℕ → List Supply
@@ -41,7 +47,8 @@ supplies_of_all streams (v ∷ vs) = of_count streams v ++ supplies_of_all strea
 -- those of these that are below n
 abbrev low_of : List Stream → ℕ → List ℕ → List Supply
 low_of streams n [] = []
-low_of streams n (v ∷ vs) = cond (nat_lt v n) (of_count streams v ++ low_of streams n vs) (low_of streams n vs)
+low_of streams n (v ∷ vs) = cond (nat_lt v n) (of_count streams v ++ low_of streams n vs)
+    (low_of streams n vs)
 
 -- WHERE COUNTS THAT ARE NEEDED STAND
 
@@ -61,14 +68,17 @@ needed_in v before [] = inl refl
 needed_in v before (e ∷ es) =
     let rest = needs_of v (before ++ e ∷ []) es in
     let same : (before ++ e ∷ []) ++ es ≡ before ++ e ∷ es = append_assoc before (e ∷ []) es in
-    elim (is_need before e && e.serial.prev == v) as (λ b. (is_need before e && e.serial.prev == v) ≡ b
-    → (cond b (e ∷ rest) rest ≡ []) ⊎ ((v < greatest_count (before ++ e ∷ es)) × IsIn v (counts_in (e ∷ es)))) [
+    elim (is_need before e && e.serial.prev == v) as (λ b.
+    (is_need before e && e.serial.prev == v) ≡ b
+    → (cond b (e ∷ rest) rest ≡ []) ⊎ ((v < greatest_count (before ++ e ∷ es))
+    × IsIn v (counts_in (e ∷ es)))) [
       | true ↦ λ is.
           let parts = and_parts (is_need before e) (e.serial.prev == v) is in
           let count : e.serial.prev ≡ v = eqb-true e.serial.prev v parts.1 in
           let low : e.serial.prev < greatest_count before =
           ltb-true e.serial.prev (greatest_count before)
-          (and_parts (not (e.serial.prev == prev_after before)) (nat_lt e.serial.prev (greatest_count before))
+          (and_parts (not (e.serial.prev == prev_after before))
+          (nat_lt e.serial.prev (greatest_count before))
           (and_parts (is_stamp e) _ parts.0).1).1 in
           let front = greatest_front before (e ∷ es) in
           inr ((omega (arith, low, front, count)), inl (sym count))
@@ -84,7 +94,8 @@ events_low : (streams : List Stream) (p : Pid)
 events_low [] p = omega arith
 events_low (x ∷ streams) p =
     let rest = events_low streams p in
-    elim (pid_eq x.pid p) as (λ b. greatest_count (events_in (cond b (Some x) (stream_of streams p)))
+    elim (pid_eq x.pid p) as (λ b. greatest_count (events_in
+    (cond b (Some x) (stream_of streams p)))
     ≤ greatest (map (λ y. greatest_count y.events) (x ∷ streams))) [
       | true ↦ omega arith
       | false ↦ omega (arith, rest)
@@ -94,10 +105,12 @@ events_among : (streams : List Stream) (p : Pid) (v : ℕ) → IsIn v (counts_in
     → IsIn v (all_counts streams)
 events_among [] p v here = here
 events_among (x ∷ streams) p v here =
-    (elim (pid_eq x.pid p) as (λ b. IsIn v (counts_in (events_in (cond b (Some x) (stream_of streams p))))
+    (elim (pid_eq x.pid p) as (λ b. IsIn v (counts_in
+    (events_in (cond b (Some x) (stream_of streams p))))
     → IsIn v (counts_in x.events ++ all_counts streams)) [
       | true ↦ λ own. either_in v (counts_in x.events) (all_counts streams) (inl own)
-      | false ↦ λ other. either_in v (counts_in x.events) (all_counts streams) (inr (events_among streams p v other))
+      | false ↦ λ other. either_in v (counts_in x.events) (all_counts streams)
+          (inr (events_among streams p v other))
     ]) here
 
 -- so a count has no supplies, or it is there
@@ -115,14 +128,16 @@ none_or_there streams v free (p ∷ ps) =
       | inl none ↦ elim (none_or_there streams v (left (needs_of v [] es)) ps) [
         | inr there ↦ inr there
         | inl nothing ↦ inl
-            (ap (λ ns. supplied_by p ns (own streams v p ++ free) ++ supplies_of streams v (left (needs_of v [] es)) ps)
+            (ap (λ ns. supplied_by p ns (own streams v p ++ free)
+            ++ supplies_of streams v (left (needs_of v [] es)) ps)
             none ∙ nothing)
       ]
     ]
 
 -- ALL COUNTS
 
-nothing_low : (streams : List Stream) (n c : ℕ) (vs : List ℕ) → AllAbove c vs → n ≤ suc c → low_of streams n vs ≡ []
+nothing_low : (streams : List Stream) (n c : ℕ) (vs : List ℕ) → AllAbove c vs → n ≤ suc c
+    → low_of streams n vs ≡ []
 nothing_low streams n c [] above low = refl
 nothing_low streams n c (v ∷ vs) above low =
     let high = above.0 in
@@ -139,7 +154,8 @@ not_below : (a b : ℕ) → b ≤ a → nat_lt a b ≡ false
 not_below a b more = grind (arith, nat_tests, more)
 
 -- those below the next number are those below n and then those of n
-one_more : (streams : List Stream) (n : ℕ) (vs : List ℕ) → Climbs vs → (of_count streams n ≡ []) ⊎ IsIn n vs
+one_more : (streams : List Stream) (n : ℕ) (vs : List ℕ) → Climbs vs → (of_count streams n ≡ [])
+    ⊎ IsIn n vs
     → low_of streams n vs ++ of_count streams n ≡ low_of streams (suc n) vs
 one_more streams n [] climbs there = elim there [ inl none ↦ none | inr here ↦ absurd here ]
 one_more streams n (v ∷ vs) climbs there =
@@ -166,7 +182,8 @@ one_more streams n (v ∷ vs) climbs there =
               | inl none ↦ none
               | inr here ↦ elim here [
                 | inl same ↦ absurd (omega (arith, same, more))
-                | inr later ↦ let high = above_in v n vs climbs.0 later in absurd (omega (arith, high, more))
+                | inr later ↦ let high = above_in v n vs climbs.0 later in
+                    absurd (omega (arith, high, more))
               ]
             ])
             ∙ sym (nothing_low streams (suc n) v vs climbs.0 (omega (arith, more)))
@@ -177,7 +194,8 @@ one_more streams n (v ∷ vs) climbs there =
             ∙ ap (λ ss. ss ++ of n) (nothing_low streams n v vs climbs.0 (omega (arith, same)))
             ∙ ap of (sym same)
             ∙ sym (append-nil (of v))
-            ∙ sym (ap (λ ss. of v ++ ss) (nothing_low streams (suc n) v vs climbs.0 (omega (arith, same))))
+            ∙ sym (ap (λ ss. of v ++ ss) (nothing_low streams (suc n) v vs climbs.0
+            (omega (arith, same))))
             ∙ sym (ap (λ b. if_low b (suc n)) (is_below v (suc n) (omega (arith, same))))
       ]
     ]
@@ -185,10 +203,12 @@ one_more streams n (v ∷ vs) climbs there =
 low_zero : (streams : List Stream) (vs : List ℕ) → low_of streams 0 vs ≡ []
 low_zero streams [] = refl
 low_zero streams (v ∷ vs) =
-    ap (λ b. cond b (of_count streams v ++ low_of streams 0 vs) (low_of streams 0 vs)) (not_below v 0 (omega arith))
+    ap (λ b. cond b (of_count streams v ++ low_of streams 0 vs) (low_of streams 0 vs))
+    (not_below v 0 (omega arith))
     ∙ low_zero streams vs
 
-below_low : (streams : List Stream) (n : ℕ) → supplies_below streams n ≡ low_of streams n (counts_of streams)
+below_low : (streams : List Stream) (n : ℕ) → supplies_below streams n
+    ≡ low_of streams n (counts_of streams)
 below_low streams zero = sym (low_zero streams (counts_of streams))
 below_low streams (suc n) =
     ap (λ ss. ss ++ of_count streams n) (below_low streams n)
@@ -199,7 +219,8 @@ below_low streams (suc n) =
     ])
 
 all_low : (streams : List Stream) (vs : List ℕ)
-    → supplies_of_all streams vs ≡ low_of streams (greatest (map (λ x. greatest_count x.events) streams)) vs
+    → supplies_of_all streams vs ≡ low_of streams (greatest
+    (map (λ x. greatest_count x.events) streams)) vs
 all_low streams [] = refl
 all_low streams (v ∷ vs) =
     let n = greatest (map (λ x. greatest_count x.events) streams) in
@@ -217,7 +238,8 @@ all_low streams (v ∷ vs) =
     ] refl)
 
 -- the supplies of all counts that are in the streams are all
-pub supplies_are : (streams : List Stream) → supplies_of_all streams (counts_of streams) ≡ supplies streams
+pub supplies_are : (streams : List Stream) → supplies_of_all streams (counts_of streams)
+    ≡ supplies streams
 supplies_are streams =
     all_low streams (counts_of streams)
     ∙ sym (below_low streams (greatest (map (λ x. greatest_count x.events) streams)))
@@ -230,7 +252,8 @@ filter_next test [] i x at = absurd (cc)
 filter_next test (y ∷ xs) zero x at = ap (λ z. cond (test z) (z ∷ []) []) (same_Some y x at)
 filter_next test (y ∷ xs) (suc i) x at =
     let rest = filter_next test xs i x at in
-    elim (test y) as (λ b. cond b (y ∷ filter test (take (suc i) xs)) (filter test (take (suc i) xs))
+    elim (test y) as (λ b. cond b (y ∷ filter test (take (suc i) xs))
+    (filter test (take (suc i) xs))
     ≡ cond b (y ∷ filter test (take i xs)) (filter test (take i xs)) ++ cond (test x) (x ∷ []) []) [
       | true ↦ ap (λ zs. y ∷ zs) rest
       | false ↦ rest
@@ -248,10 +271,12 @@ length_map f (x ∷ xs) = ap suc (length_map f xs)
 
 -- one process more of which something is told
 told_more : (streams : List Stream) (v : ℕ) (test : Told → Bool) (passes : Pid → Bool)
-    → ((q : Pid) → test (told_of streams v q) ≡ passes q) → (all : List Told) (pids : List Pid) (k : ℕ) (d : Told)
+    → ((q : Pid) → test (told_of streams v q) ≡ passes q)
+    → (all : List Told) (pids : List Pid) (k : ℕ) (d : Told)
     (e : Pid) (b : Bool) (before after : List Pid) → all ≡ map (told_of streams v) (pids_of streams)
     → pids ≡ pids_of streams → k < length all → b ≡ test (get_or all k d)
-    → before ≡ filter passes (take k (pids_of streams)) → after ≡ before ++ cond b (get_or pids k e ∷ []) []
+    → before ≡ filter passes (take k (pids_of streams))
+    → after ≡ before ++ cond b (get_or pids k e ∷ []) []
     → after ≡ filter passes (take (k + 1) (pids_of streams))
 told_more streams v test passes same all pids k d e b before after are named within is so_far step =
     let ps = pids_of streams in
@@ -259,7 +284,8 @@ told_more streams v test passes same all pids k d e b before after are named wit
     let count = ap length are ∙ length_map (told_of streams v) ps in
     let inside : k < length ps = omega (arith, count, within) in
     let here : b ≡ passes q =
-    is ∙ ap (λ ts. test (get_or ts k d)) are ∙ ap test (read_map (told_of streams v) ps k d e inside)
+    is ∙ ap (λ ts. test (get_or ts k d)) are ∙ ap test
+    (read_map (told_of streams v) ps k d e inside)
     ∙ same (get_or ps k e) ∙ sym (ap (λ qs. passes (get_or qs k e)) named) in
     let at : slice_get ps k ≡ Some q =
     at_get_or ps k e inside ∙ sym (ap (λ qs. Some (get_or qs k e)) named) in
@@ -277,9 +303,11 @@ pub own_more : (streams : List Stream) (v : ℕ) (p : Pid) (all : List Told) (pi
     → before ≡ filter (is_own_supply streams v p) (take k (pids_of streams))
     → after ≡ before ++ cond b (get_or pids k e ∷ []) []
     → after ≡ filter (is_own_supply streams v p) (take (k + 1) (pids_of streams))
-own_more streams v p = told_more streams v (is_untaken p) (is_own_supply streams v p) (untaken_here streams v p)
+own_more streams v p = told_more streams v (is_untaken p) (is_own_supply streams v p)
+    (untaken_here streams v p)
 
-pub free_more : (streams : List Stream) (v : ℕ) (all : List Told) (pids : List Pid) (k : ℕ) (d : Told) (e : Pid)
+pub free_more : (streams : List Stream) (v : ℕ) (all : List Told) (pids : List Pid) (k : ℕ)
+    (d : Told) (e : Pid)
     (b : Bool) (before after : List Pid) → all ≡ map (told_of streams v) (pids_of streams)
     → pids ≡ pids_of streams → k < length all → b ≡ is_unused (get_or all k d)
     → before ≡ filter (is_free streams v) (take k (pids_of streams))
@@ -292,7 +320,8 @@ no_senders : (p : Pid) (es : List Event) → supplied_by p es [] ≡ []
 no_senders p [] = refl
 no_senders p (e ∷ es) = refl
 
-pub senders_end : (p : Pid) (es : List Event) (qs : List Pid) (i : ℕ) (now all : List Supply) → length qs ≤ i
+pub senders_end : (p : Pid) (es : List Event) (qs : List Pid) (i : ℕ) (now all : List Supply)
+    → length qs ≤ i
     → now ++ supplied_by p (drop i es) (drop i qs) ≡ all → now ≡ all
 senders_end p es qs i now all past is =
     sym (append-nil now)
@@ -302,23 +331,27 @@ senders_end p es qs i now all past is =
 
 -- the supplies of v to p and those behind it
 abbrev to_one : List Stream → ℕ → List Pid → Pid → List Supply
-to_one streams v free p = supplied_by p (needs_of v [] (events_of streams p)) (own streams v p ++ free)
+to_one streams v free p = supplied_by p (needs_of v [] (events_of streams p))
+    (own streams v p ++ free)
 
 abbrev left_by_one : List Stream → ℕ → List Pid → Pid → List Pid
 left_by_one streams v free p =
     drop (length (needs_of v [] (events_of streams p)) - length (own streams v p)) free
 
 -- one process more
-pub process_supplied : (streams : List Stream) (v : ℕ) (pids : List Pid) (k : ℕ) (d : Pid) (now next all : List Supply)
+pub process_supplied : (streams : List Stream) (v : ℕ) (pids : List Pid) (k : ℕ) (d : Pid)
+    (now next all : List Supply)
     (free left : List Pid) → pids ≡ pids_of streams → k < length pids
-    → next ≡ now ++ to_one streams v free (get_or pids k d) → left ≡ left_by_one streams v free (get_or pids k d)
+    → next ≡ now ++ to_one streams v free (get_or pids k d)
+    → left ≡ left_by_one streams v free (get_or pids k d)
     → now ++ supplies_of streams v free (drop k (pids_of streams)) ≡ all
     → next ++ supplies_of streams v left (drop (k + 1) (pids_of streams)) ≡ all
 process_supplied streams v pids k d now next all free left named within step rest so_far =
     let p = get_or pids k d in
     let behind = drop (k + 1) pids in
     ap (λ ss. ss ++ supplies_of streams v left (drop (k + 1) (pids_of streams))) step
-    ∙ sym (ap (λ qs. (now ++ to_one streams v free p) ++ supplies_of streams v left (drop (k + 1) qs)) named)
+    ∙ sym (ap (λ qs. (now ++ to_one streams v free p)
+    ++ supplies_of streams v left (drop (k + 1) qs)) named)
     ∙ append_assoc now (to_one streams v free p) (supplies_of streams v left behind)
     ∙ ap (λ qs. now ++ (to_one streams v free p ++ supplies_of streams v qs behind)) rest
     ∙ sym (ap (λ qs. now ++ supplies_of streams v free qs) (drop_more pids k d within))
@@ -326,7 +359,8 @@ process_supplied streams v pids k d now next all free left named within step res
     ∙ so_far
 
 -- one count more
-pub count_supplied : (streams : List Stream) (counts : List ℕ) (k d : ℕ) (now next all : List Supply)
+pub count_supplied : (streams : List Stream) (counts : List ℕ) (k d : ℕ)
+    (now next all : List Supply)
     → k < length counts → next ≡ now ++ of_count streams (get_or counts k d)
     → now ++ supplies_of_all streams (drop k counts) ≡ all
     → next ++ supplies_of_all streams (drop (k + 1) counts) ≡ all
@@ -337,8 +371,10 @@ count_supplied streams counts k d now next all within step so_far =
     ∙ sym (ap (λ cs. now ++ supplies_of_all streams cs) (drop_more counts k d within))
     ∙ so_far
 
-pub all_supplied : (streams : List Stream) (counts : List ℕ) (k : ℕ) (now : List Supply) → length counts ≤ k
-    → counts ≡ counts_of streams → now ++ supplies_of_all streams (drop k counts) ≡ supplies_of_all streams counts
+pub all_supplied : (streams : List Stream) (counts : List ℕ) (k : ℕ) (now : List Supply)
+    → length counts ≤ k
+    → counts ≡ counts_of streams → now ++ supplies_of_all streams (drop k counts)
+    ≡ supplies_of_all streams counts
     → now ≡ supplies streams
 all_supplied streams counts k now past are is =
     sym (append-nil now)

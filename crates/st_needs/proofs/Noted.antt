@@ -1,7 +1,9 @@
--- What is noted of each process at its place. An event tells of a stamp of one process, so its count
--- alone changes; and the lowest of events is that of those before with the one of the last.
-use Rattle.std.proofs.Common.{◌≡◌, ◌≢◌, ℕ, zero, suc, ◌+◌, ◌<◌, ◌≤◌, ◌&&◌, ◌||◌, not, nat_lt, Bool, true, false, cond}
-use Rattle.std.proofs.Common.{List, [], ◌∷◌, ◌++◌, length, take, get_or, slice_get, slice_set, Option, Some, None}
+-- What is noted of each process at its place. An event tells of a stamp of one process, so its
+-- count alone changes; and the lowest of events is that of those before with the one of the last.
+use Rattle.std.proofs.Common.{◌≡◌, ◌≢◌, ℕ, zero, suc, ◌+◌, ◌<◌, ◌≤◌, ◌&&◌, ◌||◌, not, nat_lt, Bool}
+use Rattle.std.proofs.Common.{true, false, cond}
+use Rattle.std.proofs.Common.{List, [], ◌∷◌, ◌++◌, length, take, get_or, slice_get, slice_set}
+use Rattle.std.proofs.Common.{Option, Some, None}
 use Rattle.std.proofs.Common.{inl, inr, refl, sym, ◌∙◌, ap, subst, arith}
 use Rattle.std.specs.List.{AllByRecursion}
 use Rattle.std.proofs.lemmas.List.{length-append}
@@ -11,10 +13,12 @@ use Rattle.st_core.specs.declared.types.Pid.{Pid}
 use Rattle.st_core.specs.declared.types.Event.{Event}
 use Rattle.st_core.specs.Pid.{pid_eq, IsBelow, IsRising}
 use Rattle.st_core.specs.Run.{Stream}
-use Rattle.st_core.proofs.ForCallers.{all_at, and_false, not_below_itself, pid_eq-refl, pid_eq-swap, pid_same}
+use Rattle.st_core.proofs.ForCallers.{all_at, and_false, not_below_itself, pid_eq-refl, pid_eq-swap}
+use Rattle.st_core.proofs.ForCallers.{pid_same}
 use Rattle.st_pair.specs.Places.{is_stamp}
 use Rattle.st_plan.proofs.ForCallers.{take_more}
-use Rattle.st_needs.specs.Unfounded.{has_receive, lower_count, lowest_from, lowest_in, lowest_with, IsNoted}
+use Rattle.st_needs.specs.Unfounded.{has_receive, lower_count, lowest_from, lowest_in, lowest_with}
+use Rattle.st_needs.specs.Unfounded.{IsNoted}
 
 -- ONE EVENT MORE
 
@@ -26,7 +30,8 @@ or_none : (a : Bool) → (a || false) ≡ a
 or_none true = refl
 or_none false = refl
 
-receive_push : (es : List Event) (e : Event) → has_receive (es ++ e ∷ []) ≡ (has_receive es || not (is_stamp e))
+receive_push : (es : List Event) (e : Event) → has_receive (es ++ e ∷ [])
+    ≡ (has_receive es || not (is_stamp e))
 receive_push [] e = or_none (not (is_stamp e))
 receive_push (d ∷ es) e =
     ap (λ b. not (is_stamp d) || b) (receive_push es e)
@@ -42,14 +47,16 @@ lowest_stream : (q : Pid) (low : Option ℕ) (xs : List Stream) (x : Stream)
 lowest_stream q low [] x = refl
 lowest_stream q low (y ∷ xs) x = lowest_stream q (lowest_in q low y.events) xs x
 
-pub lowest_more : (q : Pid) (low : Option ℕ) (es : List Event) (i : ℕ) (e : Event) → slice_get es i ≡ Some e
+pub lowest_more : (q : Pid) (low : Option ℕ) (es : List Event) (i : ℕ) (e : Event)
+    → slice_get es i ≡ Some e
     → lowest_with q (lowest_in q low (take i es)) e ≡ lowest_in q low (take (i + 1) es)
 lowest_more q low es i e at =
     let next : suc i ≡ i + 1 = omega arith in
     sym (lowest_push q low (take i es) e) ∙ ap (lowest_in q low) (sym (take_more es i e at))
     ∙ ap (λ n. lowest_in q low (take n es)) next
 
-pub lowest_next : (q : Pid) (low : Option ℕ) (xs : List Stream) (k : ℕ) (x : Stream) → slice_get xs k ≡ Some x
+pub lowest_next : (q : Pid) (low : Option ℕ) (xs : List Stream) (k : ℕ) (x : Stream)
+    → slice_get xs k ≡ Some x
     → lowest_in q (lowest_from q low (take k xs)) x.events ≡ lowest_from q low (take (k + 1) xs)
 lowest_next q low xs k x at =
     let next : suc k ≡ k + 1 = omega arith in
@@ -65,14 +72,16 @@ receive_more es i e at =
 
 -- STORES
 
-set_other : {X : Type 0} (xs : List X) (i k : ℕ) (x : X) → k ≢ i → slice_get (slice_set xs i x) k ≡ slice_get xs k
+set_other : {X : Type 0} (xs : List X) (i k : ℕ) (x : X) → k ≢ i
+    → slice_get (slice_set xs i x) k ≡ slice_get xs k
 set_other [] i k x apart = refl
 set_other (y ∷ xs) zero zero x apart = absurd (apart refl)
 set_other (y ∷ xs) zero (suc k) x apart = refl
 set_other (y ∷ xs) (suc i) zero x apart = refl
 set_other (y ∷ xs) (suc i) (suc k) x apart = set_other xs i k x (λ same. apart (ap suc same))
 
-set_same : {X : Type 0} (xs : List X) (i : ℕ) (x : X) → i < length xs → slice_get (slice_set xs i x) i ≡ Some x
+set_same : {X : Type 0} (xs : List X) (i : ℕ) (x : X) → i < length xs
+    → slice_get (slice_set xs i x) i ≡ Some x
 set_same [] i x within = absurd (omega arith)
 set_same (y ∷ xs) zero x within = refl
 set_same (y ∷ xs) (suc i) x within = set_same xs i x (omega arith)
@@ -93,9 +102,11 @@ one_place (q ∷ ps) zero (suc j) p rising at_i at_j =
 one_place (q ∷ ps) (suc i) zero p rising at_i at_j =
     absurd (not_below_itself p (subst (λ x. IsBelow x p) (same_Some q p at_j)
     (all_at (IsBelow q) ps i p rising.0 at_i)))
-one_place (q ∷ ps) (suc i) (suc j) p rising at_i at_j = ap suc (one_place ps i j p rising.1 at_i at_j)
+one_place (q ∷ ps) (suc i) (suc j) p rising at_i at_j =
+    ap suc (one_place ps i j p rising.1 at_i at_j)
 
-get_first : {X : Type 0} (xs ys : List X) (j : ℕ) → j < length xs → slice_get (xs ++ ys) j ≡ slice_get xs j
+get_first : {X : Type 0} (xs ys : List X) (j : ℕ) → j < length xs
+    → slice_get (xs ++ ys) j ≡ slice_get xs j
 get_first [] ys j within = absurd (omega arith)
 get_first (x ∷ xs) ys zero within = refl
 get_first (x ∷ xs) ys (suc j) within = get_first xs ys j (omega arith)
@@ -110,12 +121,14 @@ only_none (x ∷ xs) (suc j) past within = only_none xs j (omega arith) (omega a
 -- WHAT IS NOTED
 
 -- an event with prev 0 changes nothing
-pub noted_zero : (ps : List Pid) (low : Pid → Option ℕ) (lows : List (Option ℕ)) (e : Event) → e.serial.prev ≡ 0
+pub noted_zero : (ps : List Pid) (low : Pid → Option ℕ) (lows : List (Option ℕ)) (e : Event)
+    → e.serial.prev ≡ 0
     → IsNoted ps low lows → IsNoted ps (λ q. lowest_with q (low q) e) lows
 noted_zero ps low lows e is_zero noted = record {
   long = noted.long;
   each = λ k p at. noted.each k p at
-      ∙ sym (ap (λ n. Some (cond (pid_eq e.from p && nat_lt 0 n) (Some (lower_count (low p) e.serial.this)) (low p)))
+      ∙ sym (ap (λ n. Some (cond (pid_eq e.from p && nat_lt 0 n)
+      (Some (lower_count (low p) e.serial.this)) (low p)))
       is_zero
       ∙ ap (λ b. Some (cond b (Some (lower_count (low p) e.serial.this)) (low p)))
       (and_false (pid_eq e.from p) false refl));
@@ -135,9 +148,11 @@ noted_missing ps low lows e missing noted = record {
       (Some (lower_count (low p) e.serial.this)) (low p))) other);
 }
 
-pub noted_here : (ps : List Pid) (low : Pid → Option ℕ) (lows new : List (Option ℕ)) (e : Event) (place : ℕ)
+pub noted_here : (ps : List Pid) (low : Pid → Option ℕ) (lows new : List (Option ℕ)) (e : Event)
+    (place : ℕ)
     → IsRising ps → slice_get ps place ≡ Some e.from → (e.serial.prev ≡ 0 → ⊥) → (was : Option ℕ)
-    → was ≡ get_or lows place was → new ≡ slice_set lows place (Some (lower_count was e.serial.this))
+    → was ≡ get_or lows place was → new ≡ slice_set lows place
+    (Some (lower_count was e.serial.this))
     → IsNoted ps low lows → IsNoted ps (λ q. lowest_with q (low q) e) new
 noted_here ps low lows new e place rising here some was read put noted =
     let long = noted.long in
@@ -153,12 +168,14 @@ noted_here ps low lows new e place rising here some was read put noted =
       long = set_long lows place (Some (lower_count was e.serial.this)) ∙ noted.long;
       each = λ k p at. elim (pid_eq e.from p) as (λ b. pid_eq e.from p ≡ b
           → slice_get (slice_set lows place (Some (lower_count was e.serial.this))) k
-          ≡ Some (cond (b && nat_lt 0 e.serial.prev) (Some (lower_count (low p) e.serial.this)) (low p))) [
+          ≡ Some (cond (b && nat_lt 0 e.serial.prev) (Some (lower_count (low p) e.serial.this))
+          (low p))) [
             | true ↦ λ is.
                 let same = pid_same e.from p is in
                 let at_place : k ≡ place = one_place ps k place e.from rising
                 (at ∙ ap (λ (x : Pid). Some x) (sym same)) here in
-                ap (slice_get (slice_set lows place (Some (lower_count was e.serial.this)))) at_place
+                ap (slice_get (slice_set lows place (Some (lower_count was e.serial.this))))
+                at_place
                 ∙ set_same lows place (Some (lower_count was e.serial.this)) within
                 ∙ ap (λ l. Some (Some (lower_count l e.serial.this))) (low_here ∙ ap low same)
                 ∙ sym (ap (λ b. Some (cond b (Some (lower_count (low p) e.serial.this)) (low p)))
@@ -166,14 +183,17 @@ noted_here ps low lows new e place rising here some was read put noted =
             | false ↦ λ other.
                 set_other lows place k (Some (lower_count was e.serial.this))
                 (λ same. false≢true (sym other ∙ ap (pid_eq e.from)
-                (sym (same_Some e.from p (sym here ∙ ap (slice_get ps) (sym same) ∙ at))) ∙ pid_eq-refl e.from))
+                (sym (same_Some e.from p (sym here ∙ ap (slice_get ps) (sym same) ∙ at)))
+                ∙ pid_eq-refl e.from))
                 ∙ noted.each k p at
           ] refl;
     })
 
 -- one process more of which nothing is known
-pub noted_none : (ps : List Pid) (k : ℕ) (p : Pid) (lows : List (Option ℕ)) → slice_get ps k ≡ Some p
-    → IsNoted (take k ps) (λ q. None) lows → IsNoted (take (k + 1) ps) (λ q. None) (lows ++ None ∷ [])
+pub noted_none : (ps : List Pid) (k : ℕ) (p : Pid) (lows : List (Option ℕ))
+    → slice_get ps k ≡ Some p
+    → IsNoted (take k ps) (λ q. None) lows → IsNoted (take (k + 1) ps) (λ q. None)
+    (lows ++ None ∷ [])
 noted_none ps k p lows at noted =
     let next : suc k ≡ k + 1 = omega arith in
     subst (λ n. IsNoted (take n ps) (λ q. None) (lows ++ None ∷ [])) next

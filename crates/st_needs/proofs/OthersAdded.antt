@@ -1,6 +1,7 @@
--- Why processes are put in where they belong, one below the other; and why no reason is left if there are
--- as many as events.
-use Rattle.std.proofs.Common.{◌≡◌, ℕ, zero, suc, ◌+◌, ◌<◌, ◌≤◌, Bool, true, false, cond, List, [], ◌∷◌, ◌++◌}
+-- Why processes are put in where they belong, one below the other; and why no reason is left if
+-- there are as many as events.
+use Rattle.std.proofs.Common.{◌≡◌, ℕ, zero, suc, ◌+◌, ◌<◌, ◌≤◌, Bool, true, false, cond, List, []}
+use Rattle.std.proofs.Common.{◌∷◌, ◌++◌}
 use Rattle.std.proofs.Common.{take, drop, length, get_or, slice_get, Some}
 use Rattle.std.proofs.Common.{sum_by, refl, sym, ◌∙◌, ap, subst, arith}
 use Rattle.std.specs.List.{AllByRecursion}
@@ -32,7 +33,8 @@ place_bound q (w ∷ ws) =
     ]
 
 pub put_in : (q : Pid) (ws : List Whole)
-    → take (place_above q ws) ws ++ silent_whole q ∷ drop (place_above q ws) ws ≡ whole_inserted q ws
+    → take (place_above q ws) ws ++ silent_whole q ∷ drop (place_above q ws) ws
+    ≡ whole_inserted q ws
 put_in q [] = refl
 put_in q (w ∷ ws) = elim (is_lt (pid_cmp q w.pid)) as (λ b.
     take (cond b 0 (suc (place_above q ws))) (w ∷ ws) ++ silent_whole q ∷ drop
@@ -52,7 +54,8 @@ place_here q (v ∷ ws) zero w at first =
 place_here q (v ∷ ws) (suc i) w at first = place_here q ws i w at first
 
 pub place_past : (q : Pid) (ws : List Whole) (i : ℕ) (w : Whole) → slice_get ws i ≡ Some w
-    → is_lt (pid_cmp q w.pid) ≡ false → place_above q (drop i ws) ≡ suc (place_above q (drop (suc i) ws))
+    → is_lt (pid_cmp q w.pid) ≡ false → place_above q (drop i ws)
+    ≡ suc (place_above q (drop (suc i) ws))
 place_past q [] i w at later = absurd (none-some w at)
 place_past q (v ∷ ws) zero w at later =
     ap (λ b. cond b 0 (suc (place_above q ws)))
@@ -66,14 +69,16 @@ place_end q (w ∷ ws) zero past = absurd (omega arith)
 place_end q (w ∷ ws) (suc i) past = place_end q ws i (omega arith)
 
 -- below the first of rising pids is below all of them
-pub below_all : (q p : Pid) (ps : List Pid) → IsBelow q p → IsRising (p ∷ ps) → AllByRecursion (IsBelow q) (p ∷ ps)
+pub below_all : (q p : Pid) (ps : List Pid) → IsBelow q p → IsRising (p ∷ ps)
+    → AllByRecursion (IsBelow q) (p ∷ ps)
 below_all q p ps below rising = (below, above ps rising.0)
   where
     above : (qs : List Pid) → AllByRecursion (IsBelow p) qs → AllByRecursion (IsBelow q) qs
     above [] all = tt
     above (r ∷ rs) all = (IsBelow-trans q p r below all.0, above rs all.1)
 
-pub below_first : (q : Pid) (ps : List Pid) (d : Pid) → IsRising ps → is_lt (pid_cmp q (get_or ps 0 d)) ≡ true
+pub below_first : (q : Pid) (ps : List Pid) (d : Pid) → IsRising ps
+    → is_lt (pid_cmp q (get_or ps 0 d)) ≡ true
     → AllByRecursion (IsBelow q) ps
 below_first q [] d rising below = tt
 below_first q (p ∷ ps) d rising below = below_all q p ps (is_lt-true (pid_cmp q p) below) rising
@@ -91,13 +96,15 @@ silent_more streams sound old now next others q below unlisted put before = reco
   apart = (unlisted, before.apart);
   rising = (below, before.rising);
   put = put ∙ ap (whole_inserted q) before.put
-      ∙ sym (ap (λ b. cond b (whole_with streams old others) (whole_inserted q (whole_with streams old others)))
+      ∙ sym (ap (λ b. cond b (whole_with streams old others)
+      (whole_inserted q (whole_with streams old others)))
       (unlisted_with streams sound q others unlisted below));
 }
 
 -- the events of one process more
 pub count_more : (ws : List Whole) (i : ℕ) (w : Whole) → slice_get ws i ≡ Some w
-    → sum_by (λ x. length x.marked) (take i ws) + length w.marked ≡ sum_by (λ x. length x.marked) (take (i + 1) ws)
+    → sum_by (λ x. length x.marked) (take i ws) + length w.marked
+    ≡ sum_by (λ x. length x.marked) (take (i + 1) ws)
 count_more ws i w at =
     let next : suc i ≡ i + 1 = omega arith in
     let all = sum_by-append (λ (x : Whole). length x.marked) (take i ws) (w ∷ []) in
@@ -111,15 +118,18 @@ count_more ws i w at =
 -- the earliest places, with so many processes, leave no reason
 pub open_with : (top : ℕ) (streams : List Stream) → IsStreams streams → HasNoOpenReason top streams
     → (old new : List Whole) (count : ℕ) (others : List Pid) → old ≡ earliest_wholes streams
-    → count ≡ sum_by (λ w. length w.marked) old → AreAdded streams old new count others → IsOpenTo top (all_streams new)
+    → count ≡ sum_by (λ w. length w.marked) old → AreAdded streams old new count others
+    → IsOpenTo top (all_streams new)
 open_with top streams sound none old new count others is many added =
     let enough = added.many in
     let all = ap (sum_by (λ (w : Whole). length w.marked)) is in
     subst (λ ws. IsOpenTo top (all_streams ws))
     (sym (added.silent.put ∙ ap (λ ws. whole_with streams ws others) is))
-    (earliest_open top streams sound none others added.silent.apart added.silent.rising (omega arith))
+    (earliest_open top streams sound none others added.silent.apart added.silent.rising
+    (omega arith))
 
-pub told_of_all : (top : ℕ) (streams : List Stream) → IsStreams streams → HasNoOpenReason top streams
+pub told_of_all : (top : ℕ) (streams : List Stream) → IsStreams streams
+    → HasNoOpenReason top streams
     → (old new : List Whole) (count : ℕ) (others : List Pid) → old ≡ earliest_wholes streams
     → AreAdded streams old new count others → told_streams new ≡ with_silent streams others
 told_of_all top streams sound none old new count others is added =

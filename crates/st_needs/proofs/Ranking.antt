@@ -22,7 +22,8 @@ use Rattle.st_needs.proofs.Counted.{stream_here}
 -- RANKS
 
 -- none of these is less
-none_less : (xs : List ℕ) (c : ℕ) → ((k d : ℕ) → k < length xs → nat_lt (get_or xs k d) c ≡ false) → rank xs c ≡ 0
+none_less : (xs : List ℕ) (c : ℕ) → ((k d : ℕ) → k < length xs → nat_lt (get_or xs k d) c ≡ false)
+    → rank xs c ≡ 0
 none_less [] c each = refl
 none_less (x ∷ xs) c each =
     let rest = none_less xs c (λ k d within. each (suc k) d (omega (arith, within))) in
@@ -32,7 +33,8 @@ none_less (x ∷ xs) c each =
 pub rank_is : (xs : List ℕ) (c i : ℕ) → i ≤ length xs
     → ((k d : ℕ) → k < i → nat_lt (get_or xs k d) c ≡ true)
     → ((k d : ℕ) → i ≤ k → k < length xs → nat_lt (get_or xs k d) c ≡ false) → rank xs c ≡ i
-rank_is xs c zero bound before behind = none_less xs c (λ k d within. behind k d (omega arith) within)
+rank_is xs c zero bound before behind = none_less xs c
+    (λ k d within. behind k d (omega arith) within)
 rank_is [] c (suc i) bound before behind = absurd (omega arith)
 rank_is (x ∷ xs) c (suc i) bound before behind =
     let rest = rank_is xs c i (omega arith) (λ k d less. before (suc k) d (omega (arith, less)))
@@ -45,7 +47,8 @@ rank_is (x ∷ xs) c (suc i) bound before behind =
 pub lists_last : (xs : List Stream) (p : Pid) (es : List Event)
     → lists (xs ++ record { pid = p; events = es } ∷ []) p ≡ true
 lists_last [] p es =
-    ap (λ b. let o : Option Stream = cond b (Some (record { pid = p; events = es })) None in is_some o) (pid_eq-refl p)
+    ap (λ b. let o : Option Stream = cond b (Some (record { pid = p; events = es })) None in
+    is_some o) (pid_eq-refl p)
 lists_last (x ∷ xs) p es =
     elim (pid_eq x.pid p) as (λ b. let o : Option Stream =
     cond b (Some x) (stream_of (xs ++ record { pid = p; events = es } ∷ []) p) in is_some o ≡ true)
@@ -53,9 +56,11 @@ lists_last (x ∷ xs) p es =
 
 -- an event of it is behind its others
 pub added_last : (xs : List Stream) (p : Pid) (es : List Event) (e : Event) → ComesLast xs p
-    → added (xs ++ record { pid = p; events = es } ∷ []) p e ≡ xs ++ record { pid = p; events = es ++ e ∷ [] } ∷ []
+    → added (xs ++ record { pid = p; events = es } ∷ []) p e ≡ xs
+    ++ record { pid = p; events = es ++ e ∷ [] } ∷ []
 added_last [] p es e last =
-    ap (λ b. let x : Stream = cond b (record { pid = p; events = es ++ e ∷ [] }) (record { pid = p; events = es }) in
+    ap (λ b. let x : Stream = cond b (record { pid = p; events = es ++ e ∷ [] })
+    (record { pid = p; events = es }) in
     x ∷ []) (pid_eq-refl p)
 added_last (x ∷ xs) p es e last =
     ap (λ b. let y : Stream = cond b (record x { events = x.events ++ e ∷ [] }) x in
@@ -63,7 +68,8 @@ added_last (x ∷ xs) p es e last =
     ∙ ap (λ ys. x ∷ ys) (added_last xs p es e last.1)
 
 -- one event more
-pub ranked_more : (counts : List ℕ) (old now next : List Stream) (p : Pid) (es : List Event) (i : ℕ) → ComesLast old p
+pub ranked_more : (counts : List ℕ) (old now next : List Stream) (p : Pid) (es : List Event) (i : ℕ)
+    → ComesLast old p
     → i < length es → now ≡ old ++ ranked_stream counts p (take i es) ∷ []
     → next ≡ added now p (event_with (rank counts) (get_or es i blank))
     → next ≡ old ++ ranked_stream counts p (take (i + 1) es) ∷ []
@@ -77,21 +83,27 @@ ranked_more counts old now next p es i last within is step =
 -- THE STREAMS SO FAR
 
 module _ (f : ℕ → ℕ) where
-  last_of : (streams : List Stream) (k : ℕ) (x : Stream) → IsRising (pids_of streams) → slice_get streams k ≡ Some x
+  last_of : (streams : List Stream) (k : ℕ) (x : Stream) → IsRising (pids_of streams)
+      → slice_get streams k ≡ Some x
       → ComesLast (with_counts f (take k streams)) x.pid
   last_of [] k x rising at = absurd (cc)
   last_of (y ∷ streams) zero x rising at = tt
   last_of (y ∷ streams) (suc k) x rising at =
       let there : slice_get (pids_of streams) k ≡ Some x.pid =
-      slice_get-map (λ (s : Stream). s.pid) streams k ∙ ap (λ o. option_map (λ (s : Stream). s.pid) o) at in
-      (all_at (IsBelow y.pid) (pids_of streams) k x.pid rising.0 there, last_of streams k x rising.1 at)
+      slice_get-map (λ (s : Stream). s.pid) streams k
+      ∙ ap (λ o. option_map (λ (s : Stream). s.pid) o) at in (
+        all_at (IsBelow y.pid) (pids_of streams) k x.pid rising.0 there,
+        last_of streams k x rising.1
+            at,
+      )
 
   -- the next process comes last
   pub comes_last : (streams : List Stream) (pids : List Pid) (k : ℕ) (d : Pid) (now : List Stream)
       → IsRising (pids_of streams) → pids ≡ pids_of streams → k < length pids
       → now ≡ with_counts f (take k streams) → ComesLast now (get_or pids k d)
   comes_last streams pids k d now rising are within is =
-      let at = stream_here streams pids k d (events_of streams (get_or pids k d)) rising are within refl in
+      let at = stream_here streams pids k d (events_of streams (get_or pids k d)) rising are within
+      refl in
       subst (λ xs. ComesLast xs (get_or pids k d)) (sym is) (last_of streams k _ rising at)
 
 -- THE EVENTS OF A PROCESS
@@ -99,13 +111,15 @@ module _ (f : ℕ → ℕ) where
 -- they are its own
 pub own_events : (streams : List Stream) (pids : List Pid) (k : ℕ) (d : Pid) (es : List Event)
     → IsRising (pids_of streams) → AreOwn streams → pids ≡ pids_of streams → k < length pids
-    → es ≡ events_of streams (get_or pids k d) → AllByRecursion (λ e. is_own (get_or pids k d) e ≡ true) es
+    → es ≡ events_of streams (get_or pids k d) → AllByRecursion
+    (λ e. is_own (get_or pids k d) e ≡ true) es
 own_events streams pids k d es rising own are within is =
     let at = stream_here streams pids k d es rising are within is in
     all_at (λ (x : Stream). AllByRecursion (λ e. is_own x.pid e ≡ true) x.events) streams k _ own at
 
 -- one process more
-pub streams_more : (counts : List ℕ) (streams : List Stream) (pids : List Pid) (k : ℕ) (d : Pid) (es : List Event)
+pub streams_more : (counts : List ℕ) (streams : List Stream) (pids : List Pid) (k : ℕ) (d : Pid)
+    (es : List Event)
     (now next : List Stream) → IsRising (pids_of streams) → pids ≡ pids_of streams → k < length pids
     → es ≡ events_of streams (get_or pids k d) → now ≡ with_counts (rank counts) (take k streams)
     → next ≡ now ++ ranked_stream counts (get_or pids k d) es ∷ []

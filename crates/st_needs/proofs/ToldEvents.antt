@@ -1,4 +1,5 @@
--- The told events of whole streams: one event more, all processes place by place, and how many are untold.
+-- The told events of whole streams: one event more, all processes place by place, and how many are
+-- untold.
 use Rattle.std.proofs.Common.{◌≡◌, ℕ, ◌+◌, ◌<◌, zero, suc, Bool, true, false, not, cond, List, []}
 use Rattle.std.proofs.Common.{◌∷◌, length, drop, slice_get, get_or, map, Some, refl, sym, ◌∙◌, ap}
 use Rattle.std.proofs.Common.{arith}
@@ -42,7 +43,8 @@ told_end (d ∷ es) [] (suc i) len = told_end es [] i (omega arith)
 told_end (d ∷ es) (b ∷ ms) (suc i) len = told_end es ms i (omega arith)
 
 -- at this place both have one process, and its told events are the stream's
-pub record IsToldAt (all : List Stream) (lists : List (List Bool)) (streams : List Stream) (k : ℕ) : Type 0 where
+pub record IsToldAt (all : List Stream) (lists : List (List Bool)) (streams : List Stream) (k : ℕ) :
+    Type 0 where
   pub whole : Stream
   pub at : slice_get all k ≡ Some whole
   pub stream : Stream
@@ -51,7 +53,8 @@ pub record IsToldAt (all : List Stream) (lists : List (List Bool)) (streams : Li
   pub told : told_events (marked_with whole.events (get_or lists k [])) ≡ stream.events
 
 -- so at each place, so of all
-pub all_told : (all : List Stream) (lists : List (List Bool)) (streams : List Stream) → length all ≡ length streams
+pub all_told : (all : List Stream) (lists : List (List Bool)) (streams : List Stream)
+    → length all ≡ length streams
     → ((k : ℕ) → k < length streams → IsToldAt all lists streams k)
     → told_streams (wholes_with all lists) ≡ streams
 all_told [] lists [] len each = refl
@@ -61,25 +64,43 @@ all_told (x ∷ all) [] (y ∷ streams) len each =
     let t = each 0 (omega arith) in
     let whole = same_Some x t.whole t.at in
     let stream = same_Some y t.stream t.there in
-    let pid : x.pid ≡ y.pid = ap (λ (s : Stream). s.pid) whole ∙ t.pid ∙ sym (ap (λ (s : Stream). s.pid) stream) in
+    let pid : x.pid ≡ y.pid = ap (λ (s : Stream). s.pid) whole ∙ t.pid
+    ∙ sym (ap (λ (s : Stream). s.pid) stream) in
     let told : told_events (marked_with x.events []) ≡ y.events =
     ap (λ (s : Stream). told_events (marked_with s.events [])) whole ∙ t.told
     ∙ sym (ap (λ (s : Stream). s.events) stream) in
     let rest = all_told all [] streams (omega arith) (λ k less.
     let n = each (suc k) (omega arith) in
-    record { whole = n.whole; at = n.at; stream = n.stream; there = n.there; pid = n.pid; told = n.told }) in
+    record {
+      whole = n.whole;
+      at = n.at;
+      stream = n.stream;
+      there = n.there;
+      pid = n.pid;
+      told =
+          n.told;
+    }) in
     λ i. record { pid = pid i; events = told i } ∷ rest i
 all_told (x ∷ all) (ms ∷ lists) (y ∷ streams) len each =
     let t = each 0 (omega arith) in
     let whole = same_Some x t.whole t.at in
     let stream = same_Some y t.stream t.there in
-    let pid : x.pid ≡ y.pid = ap (λ (s : Stream). s.pid) whole ∙ t.pid ∙ sym (ap (λ (s : Stream). s.pid) stream) in
+    let pid : x.pid ≡ y.pid = ap (λ (s : Stream). s.pid) whole ∙ t.pid
+    ∙ sym (ap (λ (s : Stream). s.pid) stream) in
     let told : told_events (marked_with x.events ms) ≡ y.events =
     ap (λ (s : Stream). told_events (marked_with s.events ms)) whole ∙ t.told
     ∙ sym (ap (λ (s : Stream). s.events) stream) in
     let rest = all_told all lists streams (omega arith) (λ k less.
     let n = each (suc k) (omega arith) in
-    record { whole = n.whole; at = n.at; stream = n.stream; there = n.there; pid = n.pid; told = n.told }) in
+    record {
+      whole = n.whole;
+      at = n.at;
+      stream = n.stream;
+      there = n.there;
+      pid = n.pid;
+      told =
+          n.told;
+    }) in
     λ i. record { pid = pid i; events = told i } ∷ rest i
 
 -- THE NUMBER OF UNTOLD EVENTS
@@ -89,11 +110,13 @@ untold_step : (b : Bool) (e : Event) (es : List Event) (n all : ℕ) → n + len
 untold_step true e es n all is = omega arith
 untold_step false e es n all is = omega arith
 
-untold_count : (ms : List Marked) → count_by (λ (m : Marked). not m.told) ms + length (told_events ms)
+untold_count : (ms : List Marked) → count_by (λ (m : Marked). not m.told) ms
+    + length (told_events ms)
     ≡ length (map (λ (m : Marked). m.event) ms)
 untold_count [] = refl
 untold_count (m ∷ ms) =
-    ap (λ n. n + length (told_events (m ∷ ms))) (sum_by-cons (λ (x : Marked). cond (not x.told) 1 0) m ms)
+    ap (λ n. n + length (told_events (m ∷ ms))) (sum_by-cons (λ (x : Marked). cond (not x.told) 1 0)
+    m ms)
     ∙ untold_step m.told m.event (told_events ms) (count_by (λ (x : Marked). not x.told) ms)
     (length (map (λ (x : Marked). x.event) ms)) (untold_count ms)
 
@@ -103,11 +126,13 @@ added_count [] = refl
 added_count (w ∷ wholes) =
     let here = untold_count w.marked in
     let rest = added_count wholes in
-    let added = sum_by-cons (λ (v : Whole). count_by (λ (m : Marked). not m.told) v.marked) w wholes in
+    let added = sum_by-cons (λ (v : Whole). count_by (λ (m : Marked). not m.told) v.marked) w
+    wholes in
     let told = sum_by-cons (λ (x : Stream). length x.events)
     (record { pid = w.pid; events = told_events w.marked }) (told_streams wholes) in
     let all = sum_by-cons (λ (x : Stream). length x.events)
-    (record { pid = w.pid; events = map (λ (m : Marked). m.event) w.marked }) (all_streams wholes) in
+    (record { pid = w.pid; events = map (λ (m : Marked). m.event) w.marked })
+    (all_streams wholes) in
     omega (arith, here, rest, added, told, all)
 
 pub pids_length : (xs : List Stream) → length (pids_of xs) ≡ length xs

@@ -1,10 +1,13 @@
--- Which events are unfounded. A count that is less than n is the lowest of some events exactly if one
--- of these events tells of one. So an event with prev 0 counts higher than the lowest of its process
--- exactly if some event tells of a lower count of this process with another prev.
-use Rattle.std.proofs.Common.{◌≡◌, inl, inr, ℕ, ◌+◌, zero, suc, ◌<◌, ◌==◌, ◌&&◌, ◌||◌, nat_lt, min, Bool}
-use Rattle.std.proofs.Common.{true, false, not, cond, List, [], ◌∷◌, take, slice_get, Option, Some, None, is_some}
+-- Which events are unfounded. A count that is less than n is the lowest of some events exactly if
+-- one of these events tells of one. So an event with prev 0 counts higher than the lowest of its
+-- process exactly if some event tells of a lower count of this process with another prev.
+use Rattle.std.proofs.Common.{◌≡◌, inl, inr, ℕ, ◌+◌, zero, suc, ◌<◌, ◌==◌, ◌&&◌, ◌||◌, nat_lt, min}
+use Rattle.std.proofs.Common.{Bool}
+use Rattle.std.proofs.Common.{true, false, not, cond, List, [], ◌∷◌, take, slice_get, Option, Some}
+use Rattle.std.proofs.Common.{None, is_some}
 use Rattle.std.proofs.Common.{if◌then◌else◌, refl, sym, ◌∙◌, ap, arith}
-use Rattle.std.proofs.lemmas.Bool.{and_from, and_parts, eq-eqb, eqb-true, false≢true, le-ltb, lt-ltb}
+use Rattle.std.proofs.lemmas.Bool.{and_from, and_parts, eq-eqb, eqb-true, false≢true, le-ltb}
+use Rattle.std.proofs.lemmas.Bool.{lt-ltb}
 use Rattle.std.proofs.lemmas.Bool.{ltb-false, ltb-true}
 use Rattle.std.proofs.lemmas.Option.{none-some, same_Some}
 use Rattle.st_core.specs.declared.types.Pid.{Pid}
@@ -18,7 +21,8 @@ use Rattle.st_pair.proofs.ForCallers.{event_none, given_at}
 use Rattle.st_order.specs.Items.{is_hidden}
 use Rattle.st_completions.specs.Reasons.{HoldsAt}
 use Rattle.st_open.specs.OpenReasons.{IsLeastPlace, IsUnfounded}
-use Rattle.st_needs.specs.Unfounded.{has_receive, is_below, is_unfounded, lower_count, lowest_count, lowest_from}
+use Rattle.st_needs.specs.Unfounded.{has_receive, is_below, is_unfounded, lower_count, lowest_count}
+use Rattle.st_needs.specs.Unfounded.{lowest_from}
 use Rattle.st_needs.specs.Unfounded.{lowest_in, lowest_with, tells_of}
 
 -- A LOWER COUNT IS TOLD
@@ -35,20 +39,23 @@ or_assoc true b c = refl
 or_assoc false b c = refl
 
 min_below : (k m n : ℕ) → nat_lt (min k m) n ≡ (nat_lt k n || nat_lt m n)
-min_below k m n = elim (nat_lt k n) as (λ b. nat_lt k n ≡ b → nat_lt (min k m) n ≡ (b || nat_lt m n)) [
-  | true ↦ λ is. let less = ltb-true k n is in lt-ltb (min k m) n (omega arith)
-  | false ↦ λ is. let high = ltb-false k n is in
-      elim (nat_lt m n) as (λ b. nat_lt m n ≡ b → nat_lt (min k m) n ≡ b) [
-        | true ↦ λ is_m. let less = ltb-true m n is_m in lt-ltb (min k m) n (omega arith)
-        | false ↦ λ is_m. let high_m = ltb-false m n is_m in le-ltb (min k m) n (omega arith)
-      ] refl
-] refl
+min_below k m n = elim (nat_lt k n) as (λ b. nat_lt k n ≡ b
+    → nat_lt (min k m) n ≡ (b || nat_lt m n)) [
+      | true ↦ λ is. let less = ltb-true k n is in lt-ltb (min k m) n (omega arith)
+      | false ↦ λ is. let high = ltb-false k n is in
+          elim (nat_lt m n) as (λ b. nat_lt m n ≡ b → nat_lt (min k m) n ≡ b) [
+            | true ↦ λ is_m. let less = ltb-true m n is_m in lt-ltb (min k m) n (omega arith)
+            | false ↦ λ is_m. let high_m = ltb-false m n is_m in le-ltb (min k m) n (omega arith)
+          ] refl
+    ] refl
 
-lower_below : (low : Option ℕ) (m n : ℕ) → is_below (Some (lower_count low m)) n ≡ (is_below low n || nat_lt m n)
+lower_below : (low : Option ℕ) (m n : ℕ) → is_below (Some (lower_count low m)) n
+    ≡ (is_below low n || nat_lt m n)
 lower_below None m n = refl
 lower_below (Some k) m n = min_below k m n
 
-or_given : {X : Type 0} (o later : Option X) → is_some (or_else o later) ≡ (is_some o || is_some later)
+or_given : {X : Type 0} (o later : Option X) → is_some (or_else o later)
+    ≡ (is_some o || is_some later)
 or_given None later = refl
 or_given (Some x) later = refl
 
@@ -73,13 +80,15 @@ in_below q p n i low (e ∷ es) =
     let here = tells_below q n e in
     let rest : Option (Pid × ℕ) = first_from (below q n) p (i + 1) es in
     in_below q p n (i + 1) (lowest_with q low e) es
-    ∙ ap (λ b. b || is_some rest) (below_step (tells_of q e) (nat_lt e.serial.this n) low e.serial.this n refl)
+    ∙ ap (λ b. b || is_some rest) (below_step (tells_of q e) (nat_lt e.serial.this n) low
+    e.serial.this n refl)
     ∙ or_assoc (is_below low n) here (is_some rest)
     ∙ sym (ap (λ b. is_below low n || b) (or_given (cond here (Some (p, i)) None) rest
     ∙ ap (λ b. b || is_some rest) (some_if here (p, i))))
 
 all_below : (q : Pid) (n : ℕ) (low : Option ℕ) (streams : List Stream)
-    → is_below (lowest_from q low streams) n ≡ (is_below low n || is_some (first (below q n) streams))
+    → is_below (lowest_from q low streams) n ≡ (is_below low n
+    || is_some (first (below q n) streams))
 all_below q n low [] = sym (or_false (is_below low n))
 all_below q n low (x ∷ rest) =
     let here : Option (Pid × ℕ) = first_from (below q n) x.pid 0 x.events in
@@ -101,7 +110,8 @@ none_false false x is = refl
 
 -- if a count is higher than the lowest, one of the lower ones is there
 lower_there : (streams : List Stream) (rising : IsRising (pids_of streams)) (q : Pid) (n : ℕ)
-    → is_below (lowest_count streams q) n ≡ true → (x : Pid × ℕ) × (first (below q n) streams ≡ Some x)
+    → is_below (lowest_count streams q) n ≡ true → (x : Pid × ℕ)
+    × (first (below q n) streams ≡ Some x)
 lower_there streams rising q n is =
     elim (first (below q n) streams) as (λ o. is_some o ≡ true → (x : Pid × ℕ) × (o ≡ Some x)) [
       | None ↦ λ h. absurd (false≢true h)
@@ -149,7 +159,8 @@ or_right : (b : Bool) → (b || true) ≡ true
 or_right true = refl
 or_right false = refl
 
-there_receive : (es : List Event) (i j : ℕ) (d : Event) → slice_get es j ≡ Some d → is_stamp d ≡ false → j < i
+there_receive : (es : List Event) (i j : ℕ) (d : Event) → slice_get es j ≡ Some d
+    → is_stamp d ≡ false → j < i
     → has_receive (take i es) ≡ true
 there_receive es zero j d at receives before = absurd (omega arith)
 there_receive [] (suc i) j d at receives before = absurd (none-some d at)
@@ -160,13 +171,15 @@ there_receive (e ∷ es) (suc i) (suc j) d at receives before =
     ∙ or_right (not (is_stamp e))
 
 module _ (streams : List Stream) (rising : IsRising (pids_of streams)) where
-  pub found_unfounded : (p : Pid) (i : ℕ) → HoldsAt (is_unfounded streams) streams p i → IsUnfounded streams p i
+  pub found_unfounded : (p : Pid) (i : ℕ) → HoldsAt (is_unfounded streams) streams p i
+      → IsUnfounded streams p i
   found_unfounded p i h =
       let e = h.event in
       let before = take i (events_of streams p) in
       let own = is_stamp e || is_hidden streams e in
       let low = is_below (lowest_count streams e.from) e.serial.this in
-      let parts = and_parts (e.serial.prev == 0) ((is_stamp e && has_receive before) || (own && low)) h.holds in
+      let parts = and_parts (e.serial.prev == 0) ((is_stamp e && has_receive before)
+      || (own && low)) h.holds in
       let zero = eqb-true e.serial.prev 0 parts.0 in
       elim (is_stamp e && has_receive before) as (λ b. (is_stamp e && has_receive before) ≡ b
       → (b || (own && low)) ≡ true → IsUnfounded streams p i) [
@@ -189,7 +202,8 @@ module _ (streams : List Stream) (rising : IsRising (pids_of streams)) where
             let there = lower_there streams rising e.from e.serial.this both.1 in
             let f = given_at (below e.from e.serial.this) streams there.0 rising there.1 in
             let d = f.event in
-            let tells = gives_true (tells_below e.from e.serial.this d) there.0 (f.pid, f.index) f.gives in
+            let tells = gives_true (tells_below e.from e.serial.this d) there.0 (f.pid, f.index)
+            f.gives in
             let less = and_parts (tells_of e.from d) (nat_lt d.serial.this e.serial.this) tells.0 in
             let of = and_parts (pid_eq d.from e.from) (nat_lt 0 d.serial.prev) less.0 in
             inr (record {
@@ -218,22 +232,27 @@ module _ (streams : List Stream) (rising : IsRising (pids_of streams)) where
       (and_from (pid_eq d.from e.from) (nat_lt 0 d.serial.prev)
       (ap (λ q. pid_eq q e.from) same ∙ pid_eq-refl e.from) (lt-ltb 0 d.serial.prev above))
       (lt-ltb d.serial.this e.serial.this lower) in
-      elim (first (below e.from e.serial.this) streams) as (λ o. first (below e.from e.serial.this) streams ≡ o
+      elim (first (below e.from e.serial.this) streams)
+      as (λ o. first (below e.from e.serial.this) streams ≡ o
       → is_below (lowest_count streams e.from) e.serial.this ≡ true) [
-        | None ↦ λ nobody. absurd (false≢true (sym (none_false (tells_below e.from e.serial.this d) (p, i)
+        | None ↦ λ nobody. absurd (false≢true (sym (none_false (tells_below e.from e.serial.this d)
+            (p, i)
             (event_none (below e.from e.serial.this) streams nobody p i d at)) ∙ tells))
         | Some x ↦ λ some. all_below e.from e.serial.this None streams
             ∙ ap (λ (o : Option (Pid × ℕ)). is_some o) some
       ] refl
 
-  pub unfounded_found : (p : Pid) (i : ℕ) → IsUnfounded streams p i → HoldsAt (is_unfounded streams) streams p i
+  pub unfounded_found : (p : Pid) (i : ℕ) → IsUnfounded streams p i
+      → HoldsAt (is_unfounded streams) streams p i
   unfounded_found p i (inl z) =
       let e = z.event in
       let before = take i (events_of streams p) in
-      let behind = (is_stamp e || is_hidden streams e) && is_below (lowest_count streams e.from) e.serial.this in
+      let behind = (is_stamp e || is_hidden streams e)
+      && is_below (lowest_count streams e.from) e.serial.this in
       let here : (is_stamp e && has_receive before) ≡ true =
       and_from (is_stamp e) (has_receive before) z.stamps
-      (there_receive (events_of streams p) i z.index z.received z.received_at z.receives z.behind) in
+      (there_receive (events_of streams p) i z.index z.received z.received_at z.receives
+      z.behind) in
       record {
         event = e;
         at = z.at;
@@ -253,10 +272,12 @@ module _ (streams : List Stream) (rising : IsRising (pids_of streams)) where
         at = z.at;
         holds = and_from (e.serial.prev == 0) ((is_stamp e && has_receive before) || (own && low))
             (eq-eqb e.serial.prev 0 z.is_zero)
-            (ap (λ b. (is_stamp e && has_receive before) || b) behind ∙ or_right (is_stamp e && has_receive before));
+            (ap (λ b. (is_stamp e && has_receive before) || b) behind
+            ∙ or_right (is_stamp e && has_receive before));
       }
 
-  pub least_unfounded : (p : Pid) (i : ℕ) → IsLeastPlace (HoldsAt (is_unfounded streams) streams) p i
+  pub least_unfounded : (p : Pid) (i : ℕ) → IsLeastPlace (HoldsAt (is_unfounded streams) streams) p
+      i
       → IsLeastPlace (IsUnfounded streams) p i
   least_unfounded p i is = record {
     holds = found_unfounded p i is.holds;

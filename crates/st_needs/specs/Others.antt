@@ -15,13 +15,15 @@ place_above q [] = 0
 place_above q (w ∷ ws) = if is_lt (pid_cmp q w.pid) then 0 else suc (place_above q ws)
 
 -- the whole streams have these further processes, by rising pid, which the streams don't list
-pub record AreSilent (streams : List Stream) (old new : List Whole) (others : List Pid) : Type 0 where
-  pub apart : AllByRecursion (λ q. lists streams q ≡ false) others
-  pub rising : IsRising others
-  pub put : new ≡ whole_with streams old others
+pub record AreSilent (streams : List Stream) (old new : List Whole) (others : List Pid) : Type 0
+  where
+    pub apart : AllByRecursion (λ q. lists streams q ≡ false) others
+    pub rising : IsRising others
+    pub put : new ≡ whole_with streams old others
 
 -- and there are so many of them, or more
-pub record AreAdded (streams : List Stream) (old new : List Whole) (count : ℕ) (others : List Pid) : Type 0
+pub record AreAdded (streams : List Stream) (old new : List Whole) (count : ℕ) (others : List Pid) :
+    Type 0
   where
     pub silent : AreSilent streams old new others
     pub many : count ≤ length others

@@ -1,6 +1,6 @@
 -- For the parts alone: the lowest count of a send or print with another prev than 0, of which
--- events tell, process by process, and which events are unfounded by it. Each event tells of a stamp
--- of the process that it is from: its own one, or the send of its message.
+-- events tell, process by process, and which events are unfounded by it. Each event tells of a
+-- stamp of the process that it is from: its own one, or the send of its message.
 use Rattle.std.specs.Prelude.{◌≡◌, ℕ, ◌==◌, ◌&&◌, ◌||◌, not, nat_lt, min, length, slice_get, Bool}
 use Rattle.std.specs.Prelude.{false, List, [], ◌∷◌, Option, Some, None, if◌then◌else◌}
 use Rattle.std.specs.List.{list_any}
@@ -51,10 +51,11 @@ is_below (Some m) n = nat_lt m n
 abbrev pub has_receive : List Event → Bool
 has_receive es = list_any (λ d. not (is_stamp d)) es
 
--- The event, after these of its process, tells of a stamp with prev 0, its own or a hidden send; and
--- it is its own and a receive comes before it, or some event tells of a stamp of the same process
--- with a lower count and another prev.
+-- The event, after these of its process, tells of a stamp with prev 0, its own or a hidden send;
+-- and it is its own and a receive comes before it, or some event tells of a stamp of the same
+-- process with a lower count and another prev.
 abbrev pub is_unfounded : List Stream → List Event → Event → Bool
 is_unfounded streams es e = e.serial.prev == 0
     && ((is_stamp e && has_receive es)
-    || ((is_stamp e || is_hidden streams e) && is_below (lowest_count streams e.from) e.serial.this))
+    || ((is_stamp e || is_hidden streams e) && is_below (lowest_count streams e.from)
+    e.serial.this))

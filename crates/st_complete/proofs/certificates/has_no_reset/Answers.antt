@@ -1,11 +1,13 @@
 -- One act more, and none at the end.
-use Rattle.std.proofs.Common.{◌≡◌, ℕ, ◌+◌, ◌≤◌, ◌<◌, zero, suc, false, List, [], ◌∷◌, drop, get_or, length, sym, ◌∙◌}
+use Rattle.std.proofs.Common.{◌≡◌, ℕ, ◌+◌, ◌≤◌, ◌<◌, zero, suc, false, List, [], ◌∷◌, drop, get_or}
+use Rattle.std.proofs.Common.{length, sym, ◌∙◌}
 use Rattle.std.proofs.Common.{subst, arith}
 use Rattle.st_core.specs.declared.types.Act.{Act}
 use Rattle.st_core.specs.Laws.{is_reset, NoReset}
 use Rattle.st_complete.proofs.certificates.has_no_reset.Goals as goal
 
-one_more : (acts : List Act) (k : ℕ) (d : Act) → k < length acts → is_reset (get_or acts k d) ≡ false
+one_more : (acts : List Act) (k : ℕ) (d : Act) → k < length acts
+    → is_reset (get_or acts k d) ≡ false
     → NoReset (drop (suc k) acts) → NoReset (drop k acts)
 one_more [] k d less none rest = absurd (omega arith)
 one_more (a ∷ acts) zero d less none rest = (none, rest)
@@ -25,4 +27,5 @@ loop-act-preserved c = λ rest.
     (sym c.is_reset.ensures ∙ c.if-is_reset.false) (subst (λ n. NoReset (drop n acts)) next rest))
 
 pub returns : goal.returns
-returns c = λ yes. c.loop-act.invariant (at_end c.args.acts.now c.loop-act.act-index c.loop-act-test.false)
+returns c = λ yes. c.loop-act.invariant (at_end c.args.acts.now c.loop-act.act-index
+    c.loop-act-test.false)

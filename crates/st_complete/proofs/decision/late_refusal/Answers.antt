@@ -11,18 +11,22 @@ unreachable-requires-in_default-last_higher g c =
     some_higher c.args.streams.now c.args.pid i e c.requires.accepted c.requires.late.holds
     (sym c.event.ensures ∙ c.in-Some.is)
     (subst (λ es. LastHigher es e.serial.this i None) c.events-events.ensures.value
-    (subst (LastHigher c.events-events.result.now e.serial.this i) c.in_default-last_higher.is c.last_higher.ensures))
+    (subst (LastHigher c.events-events.result.now e.serial.this i) c.in_default-last_higher.is
+    c.last_higher.ensures))
 
 pub returns : goal.returns
 returns g c =
     let e = c.in-Some.event in
     let i = c.args.index in
-    let higher = subst (LastHigher c.events-events.result.now e.serial.this i) c.in-Some-last_higher.is
+    let higher = subst (LastHigher c.events-events.result.now e.serial.this i)
+    c.in-Some-last_higher.is
     c.last_higher.ensures in
     record {
       accepted = c.requires.accepted;
       least = c.requires.late;
-      higher = last_higher c.args.streams.now c.args.pid i _ _ e c.requires.accepted c.requires.late.holds
+      higher = last_higher c.args.streams.now c.args.pid i _ _ e c.requires.accepted
+          c.requires.late.holds
           (sym c.event.ensures ∙ c.in-Some.is) refl
-          (subst (λ es. IsHigher es i e.serial.this c.in-Some-last_higher.higher) c.events-events.ensures.value higher);
+          (subst (λ es. IsHigher es i e.serial.this c.in-Some-last_higher.higher)
+          c.events-events.ensures.value higher);
     }

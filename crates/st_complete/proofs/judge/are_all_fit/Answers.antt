@@ -14,7 +14,8 @@ loop-place-preserved c =
     let p = get_or c.pids-pid-items.result.now k none in
     let at = sym (ap (λ ps. slice_get ps k) c.pids-pid-items.ensures.value)
     ∙ at_get_or _ k none c.loop-place-test.true in
-    fit_next c.args.top c.args.streams.now c.args.links.now k p _ at c.events.ensures.value c.loop-place.invariant
+    fit_next c.args.top c.args.streams.now c.args.links.now k p _ at c.events.ensures.value
+    c.loop-place.invariant
     (c.are_fit.ensures c.if-not-are_fit.false)
 
 pub returns : goal.returns
@@ -23,4 +24,5 @@ returns c = λ yes.
     let all = ap length c.pids-pid-items.ensures.value in
     let past = c.loop-place-test.false in
     needless c.args.top streams c.args.links.now c.pids-pid-items.ensures.streams
-    (all_fit c.args.top streams c.args.links.now c.loop-place.place (omega (arith, all, past)) c.loop-place.invariant)
+    (all_fit c.args.top streams c.args.links.now c.loop-place.place (omega (arith, all, past))
+    c.loop-place.invariant)

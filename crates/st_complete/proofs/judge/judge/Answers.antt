@@ -1,4 +1,5 @@
--- The completion is the candidate, of which the told events are the streams with its unlisted processes.
+-- The completion is the candidate, of which the told events are the streams with its unlisted
+-- processes.
 use Rattle.std.proofs.Common.{◌≡◌, false, List, ap, sym, ◌∙◌, subst}
 use Rattle.std.specs.List.{AllByRecursion}
 use Rattle.std.proofs.lemmas.Option.{same_Some}
@@ -39,18 +40,22 @@ returns g c = λ x is.
     let wholes : x.wholes ≡ wholes_with streams marks =
     ap (λ (y : Completed). y.wholes) (sym (same_Some _ x is)) ∙ c.completion_of.ensures.wholes in
     let others : x.unlisted ≡ unlisted =
-    ap (λ (y : Completed). y.unlisted) (sym (same_Some _ x is)) ∙ c.completion_of.ensures.unlisted in
+    ap (λ (y : Completed). y.unlisted) (sym (same_Some _ x is))
+    ∙ c.completion_of.ensures.unlisted in
     record {
-      apart = subst (AllByRecursion (λ q. lists given q ≡ false)) (c.deref.ensures.value ∙ sym others)
+      apart = subst (AllByRecursion (λ q. lists given q ≡ false))
+          (c.deref.ensures.value ∙ sym others)
           (c.are_apart.ensures.apart c.if-not-are_apart.false);
       rising = subst IsRising (c.deref.ensures.value ∙ sym others)
           (c.are_apart.ensures.rising c.if-not-are_apart.false);
-      is = subst (λ (qs : List Pid). IsCompletionOf g.row.TOP (with_silent given qs) x.wholes) (sym others)
+      is = subst (λ (qs : List Pid). IsCompletionOf g.row.TOP (with_silent given qs) x.wholes)
+          (sym others)
           (subst (IsCompletionOf g.row.TOP (with_silent given unlisted)) (sym wholes) (record {
             told = ap (λ ls. told_streams (wholes_with streams ls)) (sym c.deref-2.ensures.value)
                 ∙ c.in_ok-tells_with.ensures.told c.if-not-branch.false
                 ∙ ap (with_silent given) c.deref-3.ensures.value;
             sound = subst IsStreams (sym same) c.tells_with.ensures.streams;
-            needless = subst (IsNeedless g.row.TOP) (sym same) (c.are_all_fit.ensures c.if-not-are_all_fit.false);
+            needless = subst (IsNeedless g.row.TOP) (sym same)
+                (c.are_all_fit.ensures c.if-not-are_all_fit.false);
           }));
     }

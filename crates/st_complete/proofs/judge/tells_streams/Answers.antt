@@ -18,14 +18,16 @@ loop-place-preserved c =
     let within = c.loop-place-test.true in
     let p = get_or c.pids-pids.result.now k none in
     let q = get_or c.pids-all_pids.result.now k none in
-    let at = sym (ap (λ ps. slice_get ps k) c.pids-pids.ensures.value) ∙ at_get_or _ k none within in
+    let at = sym (ap (λ ps. slice_get ps k) c.pids-pids.ensures.value)
+    ∙ at_get_or _ k none within in
     let at_all = sym (ap (λ ps. slice_get ps k) c.pids-all_pids.ensures.value)
     ∙ at_get_or _ k none (omega arith) in
     told_next all c.args.lists.now streams k c.loop-place.invariant
     (told_here all c.args.lists.now streams k p q _ _ _ c.pids-all_pids.ensures.streams.draft.rising
     c.pids-pids.ensures.streams.draft.rising at_all at
     (c.is_same_pid.ensures.0 c.if-not-is_same_pid.false) c.events.ensures.value
-    c.events-in-loop-place.ensures.value c.marks_at-marks.ensures (c.tells_events.ensures c.if-not-tells_events.false))
+    c.events-in-loop-place.ensures.value c.marks_at-marks.ensures
+    (c.tells_events.ensures c.if-not-tells_events.false))
 
 pub returns-clause-told : goal.returns-clause-told
 returns-clause-told c = λ yes.

@@ -12,7 +12,8 @@ returns-then-index-event_count c = λ es len. sym (mark_read es c.args.marks.now
 
 pub returns : goal.returns
 returns c = λ es len.
-    let within : c.args.index < length es = let below = c.if-index-event_count.false in omega arith in
+    let within : c.args.index < length es = let below = c.if-index-event_count.false in
+    omega arith in
     ap Some c.is_marked.ensures
     ∙ sym (mark_read es c.args.marks.now c.args.index
     ∙ ap (option_map (λ (e : Event). get_or c.args.marks.now c.args.index false))

@@ -12,4 +12,5 @@ add_own-requires-clause-listed c =
 pub loop-event-preserved : goal.loop-event-preserved
 loop-event-preserved c =
     event_more c.args.draft.now c.loop-event.draft c.add_own.new.draft c.args.pid c.args.events.now
-    c.loop-event.event-index c.requires.last c.loop-event-test.true c.loop-event.invariant (search rules)
+    c.loop-event.event-index c.requires.last c.loop-event-test.true c.loop-event.invariant
+    (search rules)

@@ -4,5 +4,9 @@ use Rattle.st_core.specs.Run.{Stream}
 use Rattle.st_needs.proofs.construction.add_process.Given as goal
 
 abbrev pub invariant-loop-event : goal.invariant-loop-event
-invariant-loop-event l = let x : Stream = record { pid = l.fn.pid; events = take l.event-index l.fn.events } in
+invariant-loop-event l = let x : Stream = record {
+  pid = l.fn.pid;
+  events =
+      take l.event-index l.fn.events;
+} in
     l.draft ≡ l.fn.draft ++ x ∷ []

@@ -26,10 +26,13 @@ returns c =
     let s : Supply = record { need = i.need; to = i.to; from = i.from } in
     let ws = c.args.wholes.now.items in
     let next = c.put.new.wholes in
-    subst (λ t. take c.args.wholes.now.len (next ++ drop (length next) ws) ≡ with_receive_of t ws) c.supply.view_is
-    (written_back ws next c.args.wholes.now.len (c.put.auto.wholes ∙ ap length c.deref_mut.ensures.value)
+    subst (λ t. take c.args.wholes.now.len (next ++ drop (length next) ws) ≡ with_receive_of t ws)
+    c.supply.view_is
+    (written_back ws next c.args.wholes.now.len (c.put.auto.wholes
+    ∙ ap length c.deref_mut.ensures.value)
     (let ok = c.args.wholes.now.ok.0 in omega (arith, ok))
-    ∙ receive_put s ws next c.in_ok-senders.senders.items c.in_ok-events.events.items c.stamp_in.result c.in-Some.sent
+    ∙ receive_put s ws next c.in_ok-senders.senders.items c.in_ok-events.events.items
+    c.stamp_in.result c.in-Some.sent
     c.place_of_need.result c.receive_for.result
     (c.in_ok-senders.ensures ∙ ap (λ vs. events_of (all_streams vs) i.from) c.deref.ensures.value)
     (c.stamp_in.ensures ∙ ap (find (has (count_of s))) c.deref-2.ensures.value)
@@ -37,4 +40,5 @@ returns c =
     (c.in_ok-events.ensures ∙ ap (λ vs. events_of (all_streams vs) i.to) c.deref-3.ensures.value)
     (c.place_of_need.ensures ∙ ap (place_of_need (count_of s) []) c.deref-4.ensures.value)
     c.receive_for.ensures
-    (c.in_ok-put.ensures ∙ ap (map (put i.to c.place_of_need.result c.receive_for.result)) c.deref_mut.ensures.value))
+    (c.in_ok-put.ensures ∙ ap (map (put i.to c.place_of_need.result c.receive_for.result))
+    c.deref_mut.ensures.value))

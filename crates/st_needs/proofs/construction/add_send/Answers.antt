@@ -27,8 +27,10 @@ returns c =
     let ws = c.args.wholes.now.items in
     let next = c.put.new.wholes in
     let es = c.in_ok-events.events.items in
-    subst (λ t. take c.args.wholes.now.len (next ++ drop (length next) ws) ≡ with_send_of t ws) c.supply.view_is
-    (written_back ws next c.args.wholes.now.len (c.put.auto.wholes ∙ ap length c.deref_mut.ensures.value)
+    subst (λ t. take c.args.wholes.now.len (next ++ drop (length next) ws) ≡ with_send_of t ws)
+    c.supply.view_is
+    (written_back ws next c.args.wholes.now.len (c.put.auto.wholes
+    ∙ ap length c.deref_mut.ensures.value)
     (let ok = c.args.wholes.now.ok.0 in omega (arith, ok))
     ∙ send_put s ws next es c.stamp_in.result c.place_below.result c.send_among-sent.result
     (c.in_ok-events.ensures ∙ ap (λ vs. events_of (all_streams vs) i.from) c.deref.ensures.value)
@@ -38,4 +40,5 @@ returns c =
     (c.send_among-sent.ensures ∙ ap (send_among c.args.supply.now) c.deref-3.ensures.value
     ∙ ap (λ t. send_among t es) (sym c.supply.view_is))
     (c.in_ok-put.ensures
-    ∙ ap (map (put i.from c.place_below.result c.send_among-sent.result)) c.deref_mut.ensures.value))
+    ∙ ap (map (put i.from c.place_below.result c.send_among-sent.result))
+    c.deref_mut.ensures.value))

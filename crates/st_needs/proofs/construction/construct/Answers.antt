@@ -1,4 +1,5 @@
--- The law says that the whole streams of the definition complete all events, and they do so whatever is told of these.
+-- The law says that the whole streams of the definition complete all events, and they do so
+-- whatever is told of these.
 use Rattle.std.proofs.Common.{◌≡◌, sym, ◌∙◌, ap, subst}
 use Rattle.st_core.specs.Streams.{IsStreams}
 use Rattle.st_open.specs.Silent.{with_silent}
@@ -13,7 +14,8 @@ pub streams_of-requires-2 : goal.streams_of-requires-2
 streams_of-requires-2 g c =
     let ws = c.args.wholes.now.items in
     let told = with_silent c.args.streams.now c.args.unlisted.items in
-    let law = c.streams_without_a_reason_are_completed.ensures g.row.TOP (all_streams ws) c.requires.sound
+    let law = c.streams_without_a_reason_are_completed.ensures g.row.TOP (all_streams ws)
+    c.requires.sound
     c.requires.sends c.requires.none in
     let done = told_completed ws g.row.TOP told c.requires.told law.1 law.2 in
     let is = c.in_ok-fill.ensures
@@ -24,7 +26,8 @@ pub completion_of-requires : goal.completion_of-requires
 completion_of-requires g c =
     let ws = c.args.wholes.now.items in
     let told = with_silent c.args.streams.now c.args.unlisted.items in
-    let law = c.streams_without_a_reason_are_completed.ensures g.row.TOP (all_streams ws) c.requires.sound
+    let law = c.streams_without_a_reason_are_completed.ensures g.row.TOP (all_streams ws)
+    c.requires.sound
     c.requires.sends c.requires.none in
     let done = told_completed ws g.row.TOP told c.requires.told law.1 law.2 in
     let is = c.in_ok-fill.ensures
@@ -38,12 +41,14 @@ pub returns-clause-is : goal.returns-clause-is
 returns-clause-is g c =
     let ws = c.args.wholes.now.items in
     let told = with_silent c.args.streams.now c.args.unlisted.items in
-    let law = c.streams_without_a_reason_are_completed.ensures g.row.TOP (all_streams ws) c.requires.sound
+    let law = c.streams_without_a_reason_are_completed.ensures g.row.TOP (all_streams ws)
+    c.requires.sound
     c.requires.sends c.requires.none in
     let done = told_completed ws g.row.TOP told c.requires.told law.1 law.2 in
     let is = c.in_ok-fill.ensures
     ∙ ap (λ xs. filled xs ws) (c.in_ok-before.ensures ∙ ap all_streams c.deref.ensures.value) in
-    completes_back g.row.TOP told c.in_ok-all.all c.in_ok-lists.lists.items c.fill.new.wholes.items _
+    completes_back g.row.TOP told c.in_ok-all.all c.in_ok-lists.lists.items c.fill.new.wholes.items
+    _
     (subst (IsCompletionOf g.row.TOP told) (sym is) done)
     (c.in_ok-all.ensures ∙ ap all_streams c.deref-2.ensures.value)
     (c.in_ok-lists.ensures ∙ ap marks_of c.deref-3.ensures.value)

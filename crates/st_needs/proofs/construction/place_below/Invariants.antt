@@ -4,4 +4,5 @@ use Rattle.st_completions.specs.Completion.{place_below}
 use Rattle.st_needs.proofs.construction.place_below.Given as goal
 
 abbrev pub invariant-loop-i : goal.invariant-loop-i
-invariant-loop-i l = l.i + place_below l.fn.count (drop l.i l.fn.events) ≡ place_below l.fn.count l.fn.events
+invariant-loop-i l = l.i + place_below l.fn.count (drop l.i l.fn.events)
+    ≡ place_below l.fn.count l.fn.events

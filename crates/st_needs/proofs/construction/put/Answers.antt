@@ -7,6 +7,8 @@ use Rattle.st_needs.proofs.construction.put.Goals as goal
 pub loop-whole-preserved : goal.loop-whole-preserved
 loop-whole-preserved c =
     let f = put c.args.pid c.args.index c.args.event in
-    put_next f c.args.wholes.now c.loop-whole.wholes _ c.loop-whole.whole-index c.whole-item.result _
-    (let within = c.loop-whole-test.true in let same = c.loop-whole.auto.wholes in omega (arith, within, same))
+    put_next f c.args.wholes.now c.loop-whole.wholes _ c.loop-whole.whole-index c.whole-item.result
+    _
+    (let within = c.loop-whole-test.true in let same = c.loop-whole.auto.wholes in
+    omega (arith, within, same))
     c.loop-whole.invariant c.in_ok-put.ensures refl

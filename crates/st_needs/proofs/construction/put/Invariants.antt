@@ -5,4 +5,5 @@ use Rattle.st_needs.proofs.construction.put.Given as goal
 
 abbrev pub invariant-loop-whole : goal.invariant-loop-whole
 invariant-loop-whole l = l.wholes
-    ≡ map (put l.fn.pid l.fn.index l.fn.event) (take l.whole-index l.fn.wholes) ++ drop l.whole-index l.fn.wholes
+    ≡ map (put l.fn.pid l.fn.index l.fn.event) (take l.whole-index l.fn.wholes)
+    ++ drop l.whole-index l.fn.wholes

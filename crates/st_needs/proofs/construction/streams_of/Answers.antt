@@ -1,4 +1,5 @@
--- Each process comes behind those before it, with its own events; and all that these name are listed.
+-- Each process comes behind those before it, with its own events; and all that these name are
+-- listed.
 use Rattle.std.proofs.Common.{rules, true, ◌≡◌, sym, ◌∙◌, ap, subst, arith}
 use Rattle.std.specs.List.{AllByRecursion}
 use Rattle.std.proofs.lemmas.List.{take_all}
@@ -23,7 +24,8 @@ add_process-requires-clause-own c =
     let w = c.whole-item.result in
     subst (λ p. AllByRecursion (λ e. is_own p e ≡ true) c.deref.result.now) (sym c.pid.ensures)
     (whole_own ws k w c.deref.result.now c.requires.draft.own
-    (item_at ws k w c.loop-whole-test.true c.whole-item.is) (c.deref.ensures.value ∙ c.in_ok-events.ensures))
+    (item_at ws k w c.loop-whole-test.true c.whole-item.is)
+    (c.deref.ensures.value ∙ c.in_ok-events.ensures))
 
 pub loop-whole-preserved : goal.loop-whole-preserved
 loop-whole-preserved c =
@@ -31,7 +33,8 @@ loop-whole-preserved c =
     let k = c.loop-whole.whole-index in
     let w = c.whole-item.result in
     whole_more ws k w c.deref.result.now c.loop-whole.draft _
-    (item_at ws k w c.loop-whole-test.true c.whole-item.is) (c.deref.ensures.value ∙ c.in_ok-events.ensures)
+    (item_at ws k w c.loop-whole-test.true c.whole-item.is)
+    (c.deref.ensures.value ∙ c.in_ok-events.ensures)
     c.loop-whole.invariant (search rules)
 
 pub close_draft-requires : goal.close_draft-requires

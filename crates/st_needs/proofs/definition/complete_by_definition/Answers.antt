@@ -11,21 +11,27 @@ construct-requires-clause-told g c =
 
 pub construct-requires-clause-sound : goal.construct-requires-clause-sound
 construct-requires-clause-sound g c =
-    let done = open_with g.row.TOP c.args.streams.now c.pids-pids.ensures.streams c.requires.none _ _ _ _
+    let done = open_with g.row.TOP c.args.streams.now c.pids-pids.ensures.streams c.requires.none _
+    _ _ _
     c.in_ok-wholes.ensures
-    (c.in-Some.ensures ∙ ap (sum_by (λ (w : Whole). length w.marked)) c.deref.ensures.value) c.in_ok-others.ensures in
+    (c.in-Some.ensures ∙ ap (sum_by (λ (w : Whole). length w.marked)) c.deref.ensures.value)
+    c.in_ok-others.ensures in
     done.sound
 
 pub construct-requires-clause-sends : goal.construct-requires-clause-sends
 construct-requires-clause-sends g c =
-    let done = open_with g.row.TOP c.args.streams.now c.pids-pids.ensures.streams c.requires.none _ _ _ _
+    let done = open_with g.row.TOP c.args.streams.now c.pids-pids.ensures.streams c.requires.none _
+    _ _ _
     c.in_ok-wholes.ensures
-    (c.in-Some.ensures ∙ ap (sum_by (λ (w : Whole). length w.marked)) c.deref.ensures.value) c.in_ok-others.ensures in
+    (c.in-Some.ensures ∙ ap (sum_by (λ (w : Whole). length w.marked)) c.deref.ensures.value)
+    c.in_ok-others.ensures in
     done.sends
 
 pub construct-requires-clause-none : goal.construct-requires-clause-none
 construct-requires-clause-none g c =
-    let done = open_with g.row.TOP c.args.streams.now c.pids-pids.ensures.streams c.requires.none _ _ _ _
+    let done = open_with g.row.TOP c.args.streams.now c.pids-pids.ensures.streams c.requires.none _
+    _ _ _
     c.in_ok-wholes.ensures
-    (c.in-Some.ensures ∙ ap (sum_by (λ (w : Whole). length w.marked)) c.deref.ensures.value) c.in_ok-others.ensures in
+    (c.in-Some.ensures ∙ ap (sum_by (λ (w : Whole). length w.marked)) c.deref.ensures.value)
+    c.in_ok-others.ensures in
     done.none

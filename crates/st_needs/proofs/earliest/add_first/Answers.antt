@@ -8,6 +8,8 @@ pub loop-next-preserved : goal.loop-next-preserved
 loop-next-preserved c =
     let hs = c.args.hidden.now in
     let i = c.loop-next.next in
-    send_added c.loop-next.marked.items c.push.new.self.items c.args.events.now hs i (get_or hs i blank) _
-    (at_get_or hs i blank c.loop-next-test.true) (sym c.comes_first.ensures ∙ c.if-not-comes_first.false)
+    send_added c.loop-next.marked.items c.push.new.self.items c.args.events.now hs i
+    (get_or hs i blank) _
+    (at_get_or hs i blank c.loop-next-test.true) (sym c.comes_first.ensures
+    ∙ c.if-not-comes_first.false)
     c.in_ok-push.ensures.items c.loop-next.invariant

@@ -5,4 +5,5 @@ use Rattle.st_needs.proofs.earliest.comes_first.Given as goal
 
 -- what is left decides
 abbrev pub invariant-loop-event : goal.invariant-loop-event
-invariant-loop-event l = comes_first l.fn.count l.fn.events ≡ comes_first l.fn.count (drop l.event-index l.fn.events)
+invariant-loop-event l = comes_first l.fn.count l.fn.events
+    ≡ comes_first l.fn.count (drop l.event-index l.fn.events)

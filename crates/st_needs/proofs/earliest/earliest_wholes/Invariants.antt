@@ -6,4 +6,5 @@ use Rattle.st_needs.proofs.earliest.earliest_wholes.Given as goal
 
 abbrev pub invariant-loop-pid : goal.invariant-loop-pid
 invariant-loop-pid l = l.wholes.items
-    ≡ map (λ p. record { pid = p; marked = earliest_of l.streams p }) (take l.pid-index (pids_of l.streams))
+    ≡ map (λ p. record { pid = p; marked = earliest_of l.streams p })
+    (take l.pid-index (pids_of l.streams))

@@ -5,7 +5,8 @@ use Rattle.st_needs.proofs.Flawed.{holds_of_none, least_there}
 use Rattle.st_needs.proofs.flaws.find_flaw.Goals as goal
 
 pub returns-in-None-clause-none : goal.returns-in-None-clause-none
-returns-in-None-clause-none c = holds_of_none (test_of c.args.flaw) c.args.streams.now (sym c.in-None.ensures)
+returns-in-None-clause-none c = holds_of_none (test_of c.args.flaw) c.args.streams.now
+    (sym c.in-None.ensures)
 
 pub returns-in-Some-clause-some : goal.returns-in-Some-clause-some
 returns-in-Some-clause-some c = least_there (test_of c.args.flaw) c.args.streams.now _ _

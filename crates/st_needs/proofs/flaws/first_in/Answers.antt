@@ -15,7 +15,8 @@ returns-then-flaws c =
     let at = at_get_or es i blank c.loop-i-test.true in
     let is = sym (c.flaws.ensures (take i es) c.loop-i.invariant.left) ∙ c.if-flaws.true in
     sym (c.loop-i.invariant.rest
-    ∙ here (place_where test es) c.args.pid es i e at (if_true (test (take i es) e) c.args.pid i is))
+    ∙ here (place_where test es) c.args.pid es i e at
+    (if_true (test (take i es) e) c.args.pid i is))
 
 pub loop-i-preserved : goal.loop-i-preserved
 loop-i-preserved c =
@@ -28,5 +29,6 @@ loop-i-preserved c =
     record {
       left = c.after-left.ensures (take i es) c.loop-i.invariant.left ∙ left_more es i e at;
       rest = c.loop-i.invariant.rest
-          ∙ passed (place_where test es) c.args.pid es i e at (if_false (test (take i es) e) c.args.pid i is);
+          ∙ passed (place_where test es) c.args.pid es i e at
+          (if_false (test (take i es) e) c.args.pid i is);
     }

@@ -4,6 +4,8 @@ use Rattle.st_needs.proofs.hidden.hidden_among.Goals as goal
 
 pub loop-pid-preserved : goal.loop-pid-preserved
 loop-pid-preserved c =
-    process_hidden c.args.sender _ _ _ c.args.streams.now _ _ _ _ c.pids-pid-items.ensures.streams.draft.rising
-    c.pids-pid-items.ensures.value c.loop-pid-test.true c.events-events.ensures.value c.in_ok-note_hidden.ensures
+    process_hidden c.args.sender _ _ _ c.args.streams.now _ _ _ _
+    c.pids-pid-items.ensures.streams.draft.rising
+    c.pids-pid-items.ensures.value c.loop-pid-test.true c.events-events.ensures.value
+    c.in_ok-note_hidden.ensures
     c.loop-pid.invariant

@@ -5,5 +5,6 @@ use Rattle.st_needs.proofs.hidden.hidden_among.Given as goal
 
 -- with those of what is left they come to all
 abbrev pub invariant-loop-pid : goal.invariant-loop-pid
-invariant-loop-pid l = l.hidden.items ++ hidden_among l.streams l.fn.sender (drop l.pid-index l.streams)
+invariant-loop-pid l = l.hidden.items ++ hidden_among l.streams l.fn.sender
+    (drop l.pid-index l.streams)
     ≡ hidden_among l.streams l.fn.sender l.streams

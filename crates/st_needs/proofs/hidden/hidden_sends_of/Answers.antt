@@ -16,6 +16,8 @@ returns c =
     (answers_always _ _ _ (λ f a r g called. search rules))) in
     c.in_ok-sends.ensures
     ∙ ap (rising_from 0) c.deref.ensures.value
-    ∙ sends_are streams c.args.pid c.pids-pids.ensures.streams.draft.rising c.requires.accepted sorted
-    (subst (λ es. IsPermutation es sorted) c.in_ok-hidden.ensures c.sort_unstable_by_key.ensures.permutation)
+    ∙ sends_are streams c.args.pid c.pids-pids.ensures.streams.draft.rising c.requires.accepted
+    sorted
+    (subst (λ es. IsPermutation es sorted) c.in_ok-hidden.ensures
+    c.sort_unstable_by_key.ensures.permutation)
     (never_falls sorted climbs)

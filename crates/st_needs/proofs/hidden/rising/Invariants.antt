@@ -6,4 +6,5 @@ use Rattle.st_needs.proofs.hidden.rising.Given as goal
 -- with those of what is left they come to all
 abbrev pub invariant-loop-event : goal.invariant-loop-event
 invariant-loop-event l =
-    l.kept.items ++ rising_from (next_count l.last) (drop l.event-index l.fn.events) ≡ rising_from 0 l.fn.events
+    l.kept.items ++ rising_from (next_count l.last) (drop l.event-index l.fn.events)
+    ≡ rising_from 0 l.fn.events

@@ -35,8 +35,10 @@ loop-back-preserved c = elim c.if-is_further.branch [
       (c.is_further.ensures.below w.if-is_further.true) in
       let more = silent_more streams c.pids-pids.ensures.streams old c.loop-back.wholes.items
       c.if-is_further.wholes.items
-      c.loop-back.others.items c.pid_of-pid.result below (c.is_further.ensures.unlisted w.if-is_further.true)
-      (ap (λ (v : Vec Whole Global). v.items) w.wholes-is ∙ w.in_ok-insert_silent.ensures) c.loop-back.invariant in
+      c.loop-back.others.items c.pid_of-pid.result below
+      (c.is_further.ensures.unlisted w.if-is_further.true)
+      (ap (λ (v : Vec Whole Global). v.items) w.wholes-is ∙ w.in_ok-insert_silent.ensures)
+      c.loop-back.invariant in
       subst (AreSilent streams old c.if-is_further.wholes.items)
       (sym (ap (λ (v : Vec Pid Global). v.items) w.others-is ∙ w.in_ok-insert.ensures.items)) more
   | else-is_further w ↦

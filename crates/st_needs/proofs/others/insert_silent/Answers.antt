@@ -16,7 +16,9 @@ returns c =
     let place = c.place_above-place.ensures ∙ ap (place_above c.args.pid) c.deref.ensures.value in
     let ws = c.args.wholes.now.items in
     c.in_ok-insert.ensures.items
-    ∙ ap (λ n. take n ws ++ record { pid = c.args.pid; marked = c.new-marked.result.items } ∷ drop n ws) place
+    ∙ ap (λ n. take n ws ++ record { pid = c.args.pid; marked = c.new-marked.result.items }
+    ∷ drop n ws) place
     ∙ ap (λ ms. take (place_above c.args.pid ws) ws
-    ++ record { pid = c.args.pid; marked = ms } ∷ drop (place_above c.args.pid ws) ws) c.new-marked.ensures.items
+    ++ record { pid = c.args.pid; marked = ms } ∷ drop (place_above c.args.pid ws) ws)
+    c.new-marked.ensures.items
     ∙ put_in c.args.pid ws

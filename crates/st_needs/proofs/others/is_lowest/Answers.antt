@@ -7,4 +7,5 @@ pub returns-then-others-eq0 : goal.returns-then-others-eq0
 returns-then-others-eq0 c = λ _. below_none c.args.pid c.args.others.now c.if-others-eq0.true
 
 pub returns : goal.returns
-returns c = λ yes. below_first c.args.pid c.args.others.now _ c.requires (sym c.is_below.ensures ∙ yes)
+returns c = λ yes. below_first c.args.pid c.args.others.now _ c.requires
+    (sym c.is_below.ensures ∙ yes)

@@ -15,8 +15,10 @@ returns-then-is_below c =
     let ws = c.args.wholes.now in
     let i = c.loop-place.place in
     let w = c.index-wholes-place.result in
-    let end = place_here c.args.pid ws i w (item_at ws i w c.loop-place-test.true c.index-wholes-place.is)
-    (ap (λ p. is_lt (pid_cmp c.args.pid p)) (sym c.pid.ensures) ∙ sym c.is_below.ensures ∙ c.if-is_below.true) in
+    let end = place_here c.args.pid ws i w (item_at ws i w c.loop-place-test.true
+    c.index-wholes-place.is)
+    (ap (λ p. is_lt (pid_cmp c.args.pid p)) (sym c.pid.ensures) ∙ sym c.is_below.ensures
+    ∙ c.if-is_below.true) in
     let so_far = c.loop-place.invariant in
     omega (arith, end, so_far)
 
@@ -26,8 +28,10 @@ loop-place-preserved c =
     let i = c.loop-place.place in
     let w = c.index-wholes-place.result in
     let next : suc i ≡ i + 1 = omega arith in
-    let more = place_past c.args.pid ws i w (item_at ws i w c.loop-place-test.true c.index-wholes-place.is)
-    (ap (λ p. is_lt (pid_cmp c.args.pid p)) (sym c.pid.ensures) ∙ sym c.is_below.ensures ∙ c.if-is_below.false) in
+    let more = place_past c.args.pid ws i w (item_at ws i w c.loop-place-test.true
+    c.index-wholes-place.is)
+    (ap (λ p. is_lt (pid_cmp c.args.pid p)) (sym c.pid.ensures) ∙ sym c.is_below.ensures
+    ∙ c.if-is_below.false) in
     let last = ap (λ n. place_above c.args.pid (drop n ws)) next in
     let so_far = c.loop-place.invariant in
     omega (arith, more, last, so_far)

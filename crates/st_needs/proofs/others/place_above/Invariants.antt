@@ -4,4 +4,5 @@ use Rattle.st_needs.specs.Others.{place_above}
 use Rattle.st_needs.proofs.others.place_above.Given as goal
 
 abbrev pub invariant-loop-place : goal.invariant-loop-place
-invariant-loop-place l = place_above l.pid l.wholes ≡ l.place + place_above l.pid (drop l.place l.wholes)
+invariant-loop-place l = place_above l.pid l.wholes ≡ l.place
+    + place_above l.pid (drop l.place l.wholes)

@@ -10,5 +10,7 @@ add_own-requires-clause-listed c =
 
 pub loop-event-preserved : goal.loop-event-preserved
 loop-event-preserved c =
-    ranked_more c.args.counts.now c.args.draft.now c.loop-event.draft c.add_own.new.draft c.args.pid c.args.events.now
-    c.loop-event.event-index c.requires.last c.loop-event-test.true c.loop-event.invariant (search rules)
+    ranked_more c.args.counts.now c.args.draft.now c.loop-event.draft c.add_own.new.draft c.args.pid
+    c.args.events.now
+    c.loop-event.event-index c.requires.last c.loop-event-test.true c.loop-event.invariant
+    (search rules)

@@ -14,7 +14,8 @@ returns-clause-is c =
     counts_are c.args.streams.now _ _ c.in_ok-counts.ensures
     (rw is (IsStrictlyIncreasing-dedup _ c.sort_unstable.ensures.sorted))
     (λ x h. rw is (Contains-dedup_nat _ x (Contains-permutation _ _ x moved h)))
-    (λ x h. Contains-permutation _ _ x (IsPermutation-sym _ _ moved) (Contains-from_dedup _ _ x (rw is at h)))
+    (λ x h. Contains-permutation _ _ x (IsPermutation-sym _ _ moved)
+    (Contains-from_dedup _ _ x (rw is at h)))
 
 pub returns-clause-rises : goal.returns-clause-rises
 returns-clause-rises c =

@@ -8,7 +8,9 @@ pub returns : goal.returns
 returns c =
     let xs = c.args.counts.now in
     let count = c.args.count in
-    let point = IsPartitionPoint-from_clause (λ x. nat_lt x count) xs _ c.partition_point.ensures.partitioned
+    let point = IsPartitionPoint-from_clause (λ x. nat_lt x count) xs _
+    c.partition_point.ensures.partitioned
     (IsPartitionedBy-ltb (λ x. x) xs count c.requires) (λ a r q called. search rules) in
-    sym (rank_is xs count _ c.partition_point.ensures.bound (λ k d less. point.0 k d (omega arith) less)
+    sym (rank_is xs count _ c.partition_point.ensures.bound
+    (λ k d less. point.0 k d (omega arith) less)
     (λ k d past within. point.1 k d past within))

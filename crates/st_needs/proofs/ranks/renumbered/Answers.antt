@@ -1,4 +1,5 @@
--- Each process comes behind those before it, with its own events; and all that these name are listed, as before.
+-- Each process comes behind those before it, with its own events; and all that these name are
+-- listed, as before.
 use Rattle.std.proofs.Common.{◌∙◌, ap, arith, length, rules}
 use Rattle.std.proofs.lemmas.List.{take_all}
 use Rattle.st_core.specs.Streams.{unlisted}
@@ -11,7 +12,8 @@ use Rattle.st_needs.proofs.ranks.renumbered.Goals as goal
 pub add_renumbered-requires-clause-last : goal.add_renumbered-requires-clause-last
 add_renumbered-requires-clause-last c =
     comes_last (rank c.in_ok-counts.counts.items) c.args.streams.now _ _ _ _
-    c.pids-pid-items.ensures.streams.draft.rising c.pids-pid-items.ensures.value c.loop-pid-test.true
+    c.pids-pid-items.ensures.streams.draft.rising c.pids-pid-items.ensures.value
+    c.loop-pid-test.true
     c.loop-pid.invariant
 
 pub add_renumbered-requires-clause-own : goal.add_renumbered-requires-clause-own
@@ -23,7 +25,8 @@ add_renumbered-requires-clause-own c =
 pub loop-pid-preserved : goal.loop-pid-preserved
 loop-pid-preserved c =
     streams_more c.in_ok-counts.counts.items c.args.streams.now _ _ _ _ _ _
-    c.pids-pid-items.ensures.streams.draft.rising c.pids-pid-items.ensures.value c.loop-pid-test.true
+    c.pids-pid-items.ensures.streams.draft.rising c.pids-pid-items.ensures.value
+    c.loop-pid-test.true
     c.events.ensures.value c.loop-pid.invariant (search rules)
 
 pub close_draft-requires : goal.close_draft-requires

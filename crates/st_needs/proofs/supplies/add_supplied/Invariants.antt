@@ -5,5 +5,6 @@ use Rattle.st_needs.proofs.supplies.add_supplied.Given as goal
 
 -- with those of what is left they come to all
 abbrev pub invariant-loop-i : goal.invariant-loop-i
-invariant-loop-i l = l.supplies.items ++ supplied_by l.fn.pid (drop l.i l.fn.needs) (drop l.i l.fn.senders)
+invariant-loop-i l = l.supplies.items ++ supplied_by l.fn.pid (drop l.i l.fn.needs)
+    (drop l.i l.fn.senders)
     ≡ l.fn.supplies.items ++ supplied_by l.fn.pid l.fn.needs l.fn.senders

@@ -8,6 +8,8 @@ use Rattle.st_needs.proofs.supplies.add_supplies.Given as goal
 -- with those of what is left they come to all
 abbrev pub invariant-loop-pid : goal.invariant-loop-pid
 invariant-loop-pid l =
-    l.supplies.items ++ supplies_of l.streams l.fn.count l.left (drop l.pid-index (pids_of l.streams))
+    l.supplies.items ++ supplies_of l.streams l.fn.count l.left
+    (drop l.pid-index (pids_of l.streams))
     ≡ l.fn.supplies.items
-    ++ supplies_of l.streams l.fn.count (filter (is_free l.streams l.fn.count) (pids_of l.streams)) (pids_of l.streams)
+    ++ supplies_of l.streams l.fn.count (filter (is_free l.streams l.fn.count) (pids_of l.streams))
+    (pids_of l.streams)

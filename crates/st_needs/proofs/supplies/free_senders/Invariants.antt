@@ -5,4 +5,5 @@ use Rattle.st_completions.specs.Supply.{is_free}
 use Rattle.st_needs.proofs.supplies.free_senders.Given as goal
 
 abbrev pub invariant-loop-place : goal.invariant-loop-place
-invariant-loop-place l = l.free.items ≡ filter (is_free l.streams l.fn.count) (take l.place (pids_of l.streams))
+invariant-loop-place l = l.free.items ≡ filter (is_free l.streams l.fn.count)
+    (take l.place (pids_of l.streams))

@@ -7,13 +7,17 @@ use Rattle.st_needs.proofs.supplies.own_senders.Goals.{then-is_untaken+in_ok-pus
 pub loop-place-preserved : goal.loop-place-preserved
 loop-place-preserved c = elim c.if-is_untaken.branch [
   | then-is_untaken+in_ok-push w ↦
-      own_more c.args.streams.now c.args.count c.args.pid c.args.all.now c.pids-pids.result.now c.loop-place.place _
+      own_more c.args.streams.now c.args.count c.args.pid c.args.all.now c.pids-pids.result.now
+      c.loop-place.place _
       (record { node = 0; number = 0 }) _ _ _
-      c.requires c.pids-pids.ensures.value c.loop-place-test.true (sym w.if-is_untaken.true ∙ c.is_untaken.ensures)
+      c.requires c.pids-pids.ensures.value c.loop-place-test.true
+      (sym w.if-is_untaken.true ∙ c.is_untaken.ensures)
       c.loop-place.invariant (search rules)
   | else-is_untaken w ↦
-      own_more c.args.streams.now c.args.count c.args.pid c.args.all.now c.pids-pids.result.now c.loop-place.place _
+      own_more c.args.streams.now c.args.count c.args.pid c.args.all.now c.pids-pids.result.now
+      c.loop-place.place _
       (record { node = 0; number = 0 }) _ _ _
-      c.requires c.pids-pids.ensures.value c.loop-place-test.true (sym w.if-is_untaken.false ∙ c.is_untaken.ensures)
+      c.requires c.pids-pids.ensures.value c.loop-place-test.true
+      (sym w.if-is_untaken.false ∙ c.is_untaken.ensures)
       c.loop-place.invariant (search rules)
 ]

@@ -11,5 +11,6 @@ loop-count-preserved c =
 pub returns : goal.returns
 returns c =
     all_supplied c.args.streams.now c.deref-count-items.result.now c.loop-count.count-index _
-    (let past = c.loop-count-test.false in omega arith) (c.deref-count-items.ensures.value ∙ c.in_ok-counts.ensures.is)
+    (let past = c.loop-count-test.false in omega arith)
+    (c.deref-count-items.ensures.value ∙ c.in_ok-counts.ensures.is)
     c.loop-count.invariant

@@ -8,17 +8,20 @@ use Rattle.st_needs.proofs.told.stamp_in.Goals as goal
 pub returns-then-is_stamp_of : goal.returns-then-is_stamp_of
 returns-then-is_stamp_of c =
     sym (c.loop-event.invariant
-    ∙ find_here (λ (e : Event). is_stamp e && e.serial.this == c.args.count) c.args.events.now c.loop-event.event-index
+    ∙ find_here (λ (e : Event). is_stamp e && e.serial.this == c.args.count) c.args.events.now
+    c.loop-event.event-index
     c.loop-event-test.true (sym c.is_stamp_of.ensures ∙ c.if-is_stamp_of.true))
 
 pub loop-event-preserved : goal.loop-event-preserved
 loop-event-preserved c =
     c.loop-event.invariant
-    ∙ find_past (λ (e : Event). is_stamp e && e.serial.this == c.args.count) c.args.events.now c.loop-event.event-index
+    ∙ find_past (λ (e : Event). is_stamp e && e.serial.this == c.args.count) c.args.events.now
+    c.loop-event.event-index
     c.loop-event-test.true (sym c.is_stamp_of.ensures ∙ c.if-is_stamp_of.false)
 
 pub returns : goal.returns
 returns c =
     sym (c.loop-event.invariant
-    ∙ find_end (λ (e : Event). is_stamp e && e.serial.this == c.args.count) c.args.events.now c.loop-event.event-index
+    ∙ find_end (λ (e : Event). is_stamp e && e.serial.this == c.args.count) c.args.events.now
+    c.loop-event.event-index
     (let past = c.loop-event-test.false in omega arith))

@@ -23,7 +23,8 @@ returns-then-is_unfounded c =
     let i = c.loop-i.i in
     let e = get_or es i blank in
     let at = at_get_or es i blank c.loop-i-test.true in
-    let is = sym (c.is_unfounded.ensures (take i es) c.loop-i.invariant.received) ∙ c.if-is_unfounded.true in
+    let is = sym (c.is_unfounded.ensures (take i es) c.loop-i.invariant.received)
+    ∙ c.if-is_unfounded.true in
     sym (c.loop-i.invariant.rest
     ∙ here (place_where (is_unfounded streams) es) c.args.pid es i e at
     (if_true (is_unfounded streams (take i es) e) c.args.pid i is))
@@ -35,7 +36,8 @@ loop-i-preserved c =
     let i = c.loop-i.i in
     let e = get_or es i blank in
     let at = at_get_or es i blank c.loop-i-test.true in
-    let is = sym (c.is_unfounded.ensures (take i es) c.loop-i.invariant.received) ∙ c.if-is_unfounded.false in
+    let is = sym (c.is_unfounded.ensures (take i es) c.loop-i.invariant.received)
+    ∙ c.if-is_unfounded.false in
     record {
       received = c.is_received-received.ensures
           ∙ ap (λ b. b || not (is_stamp e)) c.loop-i.invariant.received ∙ receive_more es i e at;

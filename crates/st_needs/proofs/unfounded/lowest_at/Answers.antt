@@ -10,4 +10,5 @@ pub unreachable-requires : goal.unreachable-requires
 unreachable-requires c =
     let streams = c.args.streams.now in
     false≢true (sym (lists_among streams c.args.pid
-    ∙ is_among-missing (pids_of streams) c.args.pid c.in_default.ensures.missing) ∙ c.requires.listed)
+    ∙ is_among-missing (pids_of streams) c.args.pid c.in_default.ensures.missing)
+    ∙ c.requires.listed)

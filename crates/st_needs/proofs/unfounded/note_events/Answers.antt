@@ -16,7 +16,8 @@ loop-event-preserved c = λ low noted.
     let es = c.args.events.now in
     let i = c.loop-event.event-index in
     let at = at_get_or es i blank c.loop-event-test.true in
-    subst (λ (f : Pid → Option ℕ). IsNoted (pids_of c.args.streams.now) f c.note_event.new.lows.items)
+    subst (λ (f : Pid → Option ℕ). IsNoted (pids_of c.args.streams.now) f
+    c.note_event.new.lows.items)
     (λ k q. lowest_more q (low q) es i (get_or es i blank) at k)
     (c.note_event.ensures (λ q. lowest_in q (low q) (take i es)) (c.loop-event.invariant low noted))
 
@@ -24,5 +25,6 @@ pub returns : goal.returns
 returns c = λ low noted.
     let es = c.args.events.now in
     let i = c.loop-event.event-index in
-    subst (λ fs. IsNoted (pids_of c.args.streams.now) (λ q. lowest_in q (low q) fs) c.loop-event.lows.items)
+    subst (λ fs. IsNoted (pids_of c.args.streams.now) (λ q. lowest_in q (low q) fs)
+    c.loop-event.lows.items)
     (take_all i es c.loop-event-test.false) (c.loop-event.invariant low noted)

@@ -7,4 +7,5 @@ use Rattle.st_needs.proofs.unfounded.note_events.Given as goal
 
 abbrev pub invariant-loop-event : goal.invariant-loop-event
 invariant-loop-event l = (low : Pid → Option ℕ) → IsNoted (pids_of l.fn.streams) low l.fn.lows.items
-    → IsNoted (pids_of l.fn.streams) (λ q. lowest_in q (low q) (take l.event-index l.fn.events)) l.lows.items
+    → IsNoted (pids_of l.fn.streams) (λ q. lowest_in q (low q) (take l.event-index l.fn.events))
+    l.lows.items

@@ -9,6 +9,7 @@ pub returns : goal.returns
 returns c =
     let streams = c.self.inside.streams in
     ap (λ ss. wholes_with ss c.deref.result.now)
-    (ap (λ (x : Completed). all_streams x.wholes) (sym c.self.view_is) ∙ all_kept streams c.self.inside.told.items)
+    (ap (λ (x : Completed). all_streams x.wholes) (sym c.self.view_is)
+    ∙ all_kept streams c.self.inside.told.items)
     ∙ ap (wholes_with streams) c.deref.ensures.value
     ∙ ap (λ (x : Completed). x.wholes) c.self.view_is

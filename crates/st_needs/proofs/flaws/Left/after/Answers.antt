@@ -6,4 +6,5 @@ use Rattle.st_needs.proofs.flaws.Left.after.Goals as goal
 
 pub returns : goal.returns
 returns c = λ es is. left_push es c.args.event.now _ _
-    (c.max.ensures ∙ ap (λ (l : Left). max l.greatest c.args.event.now.serial.this) is) c.prev_left.ensures
+    (c.max.ensures ∙ ap (λ (l : Left). max l.greatest c.args.event.now.serial.this) is)
+    c.prev_left.ensures
