@@ -1,4 +1,5 @@
--- The definitions of the output and of the command line say what is meant: here they are computed on worked values.
+-- The definitions of the output and of the command line say what is meant: here they are computed
+-- on worked values.
 use Rattle.std.proofs.Common.{◌≡◌, ℕ, List, [], ◌∷◌, codes, map, refl}
 use Rattle.std.specs.Prelude.{Option, Some, None}
 use Rattle.std.specs.Fmt.{digits}
@@ -11,7 +12,7 @@ use Rattle.st_commands.specs.Output.{judged, refused, no_acts, usage}
 use Rattle.st_commands.specs.Recorded.{act_fault}
 use Rattle.st_commands.specs.declared.words.Task.{Task}
 use Rattle.st_commands.specs.declared.words.Task.TheVariants as task
-use Rattle.st_commands.specs.Words.{asked, label_numbered}
+use Rattle.st_commands.specs.Words.{task_asked, label_numbered}
 
 -- ---- outputs
 
@@ -38,7 +39,8 @@ too_many : (refused (faults.TooMany 1026)).text ≡ codes "fault too many 1026\n
 unfolding digits
 too_many = refl
 
-statuses : (judged (Yes [])).status ∷ (judged (Stuck 0)).status ∷ no_acts.status ∷ (refused faults.Truncated).status
+statuses : (judged (Yes [])).status ∷ (judged (Stuck 0)).status ∷ no_acts.status
+    ∷ (refused faults.Truncated).status
     ∷ usage.status ∷ (refused faults.Memory).status ∷ [] ≡ 0 ∷ 1 ∷ 2 ∷ 2 ∷ 3 ∷ 4 ∷ []
 statuses = refl
 
@@ -63,9 +65,9 @@ module _ (name : Text) where
       ∷ ([], None)
       ∷ []
 
-  -- The word of a command alone asks for that command, but for `chart`, which wants its label. No word, a second word,
-  -- a word in part and a request for help ask for nothing.
-  plain_words : map (λ line. asked line.0) plain_lines ≡ map (λ line. line.1) plain_lines
+  -- The word of a command alone asks for that command, but for `chart`, which wants its label. No
+  -- word, a second word, a word in part and a request for help ask for nothing.
+  plain_words : map (λ line. task_asked line.0) plain_lines ≡ map (λ line. line.1) plain_lines
   unfolding clap_on_literals
   plain_words = refl
 
@@ -94,9 +96,9 @@ module _ (name : Text) where
       ∷ (name ∷ codes "check" ∷ codes "--label" ∷ codes "17" ∷ [], None)
       ∷ []
 
-  -- What `clap`'s reader of integers makes of labels. A plus and zeros may be in front, and the label may follow
-  -- `=`, and then a minus may be before a zero. More than the greatest label, no digits at all, a word that begins
-  -- with a minus, and the option twice ask for nothing.
-  chart_labels : map (λ line. asked line.0) chart_lines ≡ map (λ line. line.1) chart_lines
+  -- What `clap`'s reader of integers makes of labels. A plus and zeros may be in front, and the
+  -- label may follow `=`, and then a minus may be before a zero. More than the greatest label, no
+  -- digits at all, a word that begins with a minus, and the option twice ask for nothing.
+  chart_labels : map (λ line. task_asked line.0) chart_lines ≡ map (λ line. line.1) chart_lines
   unfolding clap_on_literals
   chart_labels = refl

@@ -1,5 +1,5 @@
--- Status 0 belongs to a chart alone. Status 1 belongs to a label that no item has, or to a reason of pairing, which
--- rules out all acts without a reset.
+-- Status 0 belongs to a chart alone. Status 1 belongs to a label that no item has, or to a reason
+-- of pairing, which rules out all acts without a reset.
 use Rattle.std.proofs.Common.{◌≡◌, ℕ, List, Option, Some, refl, sym, ap, subst, arith}
 use Rattle.std.proofs.lemmas.Option.{same_Some}
 use Rattle.st_core.specs.declared.types.Pid.{Pid}
@@ -21,12 +21,14 @@ use Rattle.st_commands.specs.Checked.{top, Spells}
 use Rattle.st_commands.specs.Audited.{finding_status, report_output}
 use Rattle.st_commands.specs.Charted.{IsCharted}
 use Rattle.st_commands.specs.Charted as charted
-use Rattle.st_commands.specs.Meaning.{MeansCharted, MeansNoChart, MeansUnpaired, Unlabelled, Unpaired}
+use Rattle.st_commands.specs.Meaning.{MeansCharted, MeansNoChart, MeansUnpaired, Unlabelled}
+use Rattle.st_commands.specs.Meaning.{Unpaired}
 use Rattle.st_commands.proofs.Meanings.{fault_status_high}
 
 -- ---- a reason of pairing
 
-pub unfit_status : (f : PairFault) (found : Finding) → unfit_by f ≡ Some found → finding_status found ≡ 1
+pub unfit_status : (f : PairFault) (found : Finding) → unfit_by f ≡ Some found
+    → finding_status found ≡ 1
 unfit_status pairing.Memory found by = absurd (cc)
 unfit_status (pairing.PrevNotBefore p i) found by = ap finding_status (sym (same_Some _ found by))
 unfit_status (pairing.NotRising p i j) found by = ap finding_status (sym (same_Some _ found by))
@@ -35,7 +37,8 @@ unfit_status (pairing.Mismatch p i q j) found by = ap finding_status (sym (same_
 
 module _ (limits : Limits) (bytes : List ℕ) (streams : List Stream) (given : Option (List Act))
     (spelled : Spells limits bytes streams given) where
-  holds_at : (f : PairFault) → refusal streams ≡ Some f → (p : Pid) (i : ℕ) (r : Reason) → IsReason top streams p i r
+  holds_at : (f : PairFault) → refusal streams ≡ Some f → (p : Pid) (i : ℕ) (r : Reason)
+      → IsReason top streams p i r
       → MeansUnpaired limits bytes (report_output streams (finding.Unfit p i r))
   holds_at f is p i r holds = record {
     streams = streams;
@@ -49,26 +52,32 @@ module _ (limits : Limits) (bytes : List ℕ) (streams : List Stream) (given : O
     text = refl;
   }
 
-  pub unpaired_means : (f : PairFault) (found : Finding) → refusal streams ≡ Some f → unfit_by f ≡ Some found
+  pub unpaired_means : (f : PairFault) (found : Finding) → refusal streams ≡ Some f
+      → unfit_by f ≡ Some found
       → MeansUnpaired limits bytes (report_output streams found)
   unpaired_means pairing.Memory found is by = absurd (cc)
   unpaired_means (pairing.PrevNotBefore p i) found is by =
-      subst (λ (x : Finding). MeansUnpaired limits bytes (report_output streams x)) (same_Some _ found by)
+      subst (λ (x : Finding). MeansUnpaired limits bytes (report_output streams x))
+      (same_Some _ found by)
       (holds_at (pairing.PrevNotBefore p i) is p i reason.PrevNotBefore is)
   unpaired_means (pairing.NotRising p i j) found is by =
-      subst (λ (x : Finding). MeansUnpaired limits bytes (report_output streams x)) (same_Some _ found by)
+      subst (λ (x : Finding). MeansUnpaired limits bytes (report_output streams x))
+      (same_Some _ found by)
       (holds_at (pairing.NotRising p i j) is p i (reason.NotRising j) is)
   unpaired_means (pairing.Repeated p i q j) found is by =
-      subst (λ (x : Finding). MeansUnpaired limits bytes (report_output streams x)) (same_Some _ found by)
+      subst (λ (x : Finding). MeansUnpaired limits bytes (report_output streams x))
+      (same_Some _ found by)
       (holds_at (pairing.Repeated p i q j) is p i (reason.Repeated q j) is)
   unpaired_means (pairing.Mismatch p i q j) found is by =
-      subst (λ (x : Finding). MeansUnpaired limits bytes (report_output streams x)) (same_Some _ found by)
+      subst (λ (x : Finding). MeansUnpaired limits bytes (report_output streams x))
+      (same_Some _ found by)
       (holds_at (pairing.Mismatch p i q j) is p i (reason.Mismatch q j) is)
 
 -- ---- what a status means
 
 module _ (limits : Limits) (label : Label) where
-  pub charted_means : (bytes : List ℕ) (out : Output) → IsCharted limits label bytes out → out.status ≡ 0
+  pub charted_means : (bytes : List ℕ) (out : Output) → IsCharted limits label bytes out
+      → out.status ≡ 0
       → MeansCharted limits label bytes out
   charted_means bytes out (charted.Drawn b streams items h some) e =
       record {
@@ -84,9 +93,11 @@ module _ (limits : Limits) (label : Label) where
   charted_means bytes out (charted.Unlabelled b streams items h none) e = absurd (omega (arith, e))
   charted_means bytes out (charted.Unpaired b streams found h) e =
       absurd (omega (arith, e, unfit_status h.fault found h.found_by))
-  charted_means bytes out (charted.Faulty b f is) e = let high = fault_status_high f in absurd (omega arith)
+  charted_means bytes out (charted.Faulty b f is) e =
+      let high = fault_status_high f in absurd (omega arith)
 
-  pub no_chart_means : (bytes : List ℕ) (out : Output) → IsCharted limits label bytes out → out.status ≡ 1
+  pub no_chart_means : (bytes : List ℕ) (out : Output) → IsCharted limits label bytes out
+      → out.status ≡ 1
       → MeansNoChart limits label bytes out
   no_chart_means bytes out (charted.Drawn b streams items h some) e = absurd (omega (arith, e))
   no_chart_means bytes out (charted.Unlabelled b streams items h none) e =
@@ -101,5 +112,7 @@ module _ (limits : Limits) (label : Label) where
         text = refl;
       })
   no_chart_means bytes out (charted.Unpaired b streams found h) e =
-      Unpaired (unpaired_means limits b streams h.given h.spelled h.fault found h.refused h.found_by)
-  no_chart_means bytes out (charted.Faulty b f is) e = let high = fault_status_high f in absurd (omega arith)
+      Unpaired (unpaired_means limits b streams h.given h.spelled h.fault found h.refused
+      h.found_by)
+  no_chart_means bytes out (charted.Faulty b f is) e =
+      let high = fault_status_high f in absurd (omega arith)

@@ -1,7 +1,7 @@
--- Bytes have exactly one output of each label's chart: they are the text of one bundle, or have one fault; its streams
--- have one reason against them, or else one order.
-use Rattle.std.proofs.Common.{◌≡◌, ℕ, Bool, true, false, List, [], ◌∷◌, Option, Some, None, refl, sym, ap, subst}
-use Rattle.std.proofs.Common.{◌∙◌, ◌+◌, nat_lt, not, ◌==◌, ◌&&◌, ◌||◌}
+-- Bytes have exactly one output of each label's chart: they are the text of one bundle, or have one
+-- fault; its streams have one reason against them, or else one order.
+use Rattle.std.proofs.Common.{◌≡◌, ℕ, Bool, true, false, List, [], ◌∷◌, Option, Some, None, refl}
+use Rattle.std.proofs.Common.{sym, ap, subst, ◌∙◌, ◌+◌, nat_lt, not, ◌==◌, ◌&&◌, ◌||◌}
 use Rattle.std.specs.Prelude.{if◌then◌else◌}
 use Rattle.std.specs.List.{list_any}
 use Rattle.std.proofs.lemmas.Option.{same_Some, none-some, option_and_then_some}
@@ -15,8 +15,8 @@ use Rattle.st_core.specs.Streams.{events_of}
 use Rattle.st_pair.specs.declared.answer.PairFault.{PairFault}
 use Rattle.st_pair.specs.declared.answer.PairFault.TheVariants as pairing
 use Rattle.st_pair.specs.Places.{is_stamp, first_from, first, or_else}
-use Rattle.st_pair.specs.Pairing.{stamp_before, stamp_of, receive_of, agrees, prev_not_before, not_rising, repeated}
-use Rattle.st_pair.specs.Pairing.{mismatch, first_rule, refusal}
+use Rattle.st_pair.specs.Pairing.{stamp_before, stamp_of, receive_of, agrees, prev_not_before}
+use Rattle.st_pair.specs.Pairing.{not_rising, repeated, mismatch, first_rule, refusal}
 use Rattle.st_pair.proofs.ForCallers.{paired}
 use Rattle.st_order.specs.declared.item.Item.{Item}
 use Rattle.st_order.specs.Order.{IsOrder, order}
@@ -34,7 +34,7 @@ use Rattle.st_text.proofs.ForCallers.{text_one, readable}
 use Rattle.st_commands.specs.Output.{Output, refused}
 use Rattle.st_commands.specs.Audited.{report_output}
 use Rattle.st_commands.specs.Checked.{Spells}
-use Rattle.st_commands.specs.Charted.{HasOrder, HasReason, IsCharted, drawn, no_label}
+use Rattle.st_commands.specs.Charted.{HasOrder, HasPairFault, IsCharted, drawn, no_label}
 use Rattle.st_commands.specs.Charted as charted
 use Rattle.st_commands.specs.Laws.{HasOutput, HasOneOutput}
 use Rattle.st_commands.proofs.Outputs.{whole, fault_apart, one_fault}
@@ -47,7 +47,8 @@ RuleOf = Pid → ℕ → Event → Option PairFault
 abbrev NeverMemory : Option PairFault → Type 0
 NeverMemory given = given ≡ Some pairing.Memory → ⊥
 
-unless_given : (b : Bool) (f : PairFault) → (f ≡ pairing.Memory → ⊥) → NeverMemory (if b then None else Some f)
+unless_given : (b : Bool) (f : PairFault) → (f ≡ pairing.Memory → ⊥)
+    → NeverMemory (if b then None else Some f)
 unless_given true f other h = none-some pairing.Memory h
 unless_given false f other h = other (same_Some f pairing.Memory h)
 
@@ -55,7 +56,8 @@ module _ (rule : RuleOf) (never : (p : Pid) (i : ℕ) (e : Event) → NeverMemor
   never_from : (p : Pid) (i : ℕ) (es : List Event) → NeverMemory (first_from rule p i es)
   never_from p i [] h = none-some pairing.Memory h
   never_from p i (e ∷ es) h = elim (rule p i e)
-      as (λ given. rule p i e ≡ given → NeverMemory (or_else given (first_from rule p (i + 1) es))) [
+      as (λ given. rule p i e ≡ given → NeverMemory (or_else given
+      (first_from rule p (i + 1) es))) [
         | None ↦ λ is h. never_from p (i + 1) es h
         | Some f ↦ λ is h. never p i e (is ∙ h)
       ] refl h
@@ -63,41 +65,48 @@ module _ (rule : RuleOf) (never : (p : Pid) (i : ℕ) (e : Event) → NeverMemor
   never_first : (streams : List Stream) → NeverMemory (first rule streams)
   never_first [] h = none-some pairing.Memory h
   never_first (s ∷ rest) h = elim (first_from rule s.pid 0 s.events)
-      as (λ given. first_from rule s.pid 0 s.events ≡ given → NeverMemory (or_else given (first rule rest))) [
+      as (λ given. first_from rule s.pid 0 s.events ≡ given
+      → NeverMemory (or_else given (first rule rest))) [
         | None ↦ λ is h. never_first rest h
         | Some f ↦ λ is h. never_from s.pid 0 s.events (is ∙ h)
       ] refl h
 
-never_rule : (streams : List Stream) (rule : RuleOf) (rules : List RuleOf) → NeverMemory (first rule streams)
+never_rule : (streams : List Stream) (rule : RuleOf) (rules : List RuleOf)
+    → NeverMemory (first rule streams)
     → NeverMemory (first_rule streams rules) → NeverMemory (first_rule streams (rule ∷ rules))
 never_rule streams rule rules one others h = elim (first rule streams)
-    as (λ given. first rule streams ≡ given → NeverMemory (or_else given (first_rule streams rules))) [
+    as (λ given. first rule streams ≡ given → NeverMemory
+    (or_else given (first_rule streams rules))) [
       | None ↦ λ is h. others h
       | Some f ↦ λ is h. one (is ∙ h)
     ] refl h
 
 never_prev : (p : Pid) (i : ℕ) (e : Event) → NeverMemory (prev_not_before p i e)
-never_prev p i e = unless_given (nat_lt e.serial.prev e.serial.this) (pairing.PrevNotBefore p i) (λ is. absurd (cc))
+never_prev p i e = unless_given (nat_lt e.serial.prev e.serial.this) (pairing.PrevNotBefore p i)
+    (λ is. absurd (cc))
 
 module _ (streams : List Stream) (p : Pid) (i : ℕ) (e : Event) where
   never_rising : NeverMemory (not_rising streams p i e)
   never_rising h =
       let test = λ (g : ℕ × Event). not (is_stamp e) || nat_lt g.1.serial.this e.serial.this in
-      option_and_then_some (λ (g : ℕ × Event). if test g then None else Some (pairing.NotRising p i g.0))
+      option_and_then_some (λ (g : ℕ × Event). if test g then None else Some
+      (pairing.NotRising p i g.0))
       (stamp_before (events_of streams p) i) pairing.Memory h (λ g is given.
       unless_given (test g) (pairing.NotRising p i g.0) (λ is. absurd (cc)) given)
 
   never_repeated : NeverMemory (repeated streams p i e)
   never_repeated h =
       let test = λ (at : Pid × ℕ). is_stamp e || (pid_eq at.0 p && at.1 == i) in
-      option_and_then_some (λ (at : Pid × ℕ). if test at then None else Some (pairing.Repeated p i at.0 at.1))
+      option_and_then_some (λ (at : Pid × ℕ). if test at then None else Some
+      (pairing.Repeated p i at.0 at.1))
       (receive_of streams e.from e.serial.this) pairing.Memory h (λ at is given.
       unless_given (test at) (pairing.Repeated p i at.0 at.1) (λ is. absurd (cc)) given)
 
   never_mismatch : NeverMemory (mismatch streams p i e)
   never_mismatch h =
       let test = λ (g : ℕ × Event). is_stamp e || agrees g.1 e in
-      option_and_then_some (λ (g : ℕ × Event). if test g then None else Some (pairing.Mismatch p i e.from g.0))
+      option_and_then_some (λ (g : ℕ × Event). if test g then None else Some
+      (pairing.Mismatch p i e.from g.0))
       (stamp_of streams e.from e.serial.this) pairing.Memory h (λ g is given.
       unless_given (test g) (pairing.Mismatch p i e.from g.0) (λ is. absurd (cc)) given)
 
@@ -107,14 +116,18 @@ never_refusal streams =
     let third = repeated streams ∷ fourth in
     let second = not_rising streams ∷ third in
     never_rule streams prev_not_before second (never_first prev_not_before never_prev streams)
-    (never_rule streams (not_rising streams) third (never_first (not_rising streams) (never_rising streams) streams)
-    (never_rule streams (repeated streams) fourth (never_first (repeated streams) (never_repeated streams) streams)
-    (never_rule streams (mismatch streams) [] (never_first (mismatch streams) (never_mismatch streams) streams)
+    (never_rule streams (not_rising streams) third
+    (never_first (not_rising streams) (never_rising streams) streams)
+    (never_rule streams (repeated streams) fourth
+    (never_first (repeated streams) (never_repeated streams) streams)
+    (never_rule streams (mismatch streams) [] (never_first (mismatch streams)
+    (never_mismatch streams) streams)
     (λ h. none-some pairing.Memory h))))
 
 -- ---- an output
 
-module _ (limits : Limits) (label : Label) (bytes : List ℕ) (streams : List Stream) (given : Option (List Act))
+module _ (limits : Limits) (label : Label) (bytes : List ℕ) (streams : List Stream)
+    (given : Option (List Act))
     (spelled : Spells limits bytes streams given) where
   abbrev An : Type 0
   An = (out : Output) × IsCharted limits label bytes out
@@ -127,11 +140,18 @@ module _ (limits : Limits) (label : Label) (bytes : List ℕ) (streams : List St
   of_accepted : refusal streams ≡ None → An
   of_accepted none =
       let items = order streams in
-      let is_order = an_order streams spelled.text.bundle.streams.draft.rising (paired streams none).once in
-      of_label items (record { given = given; spelled = spelled; accepted = none; order = is_order })
+      let is_order = an_order streams spelled.text.bundle.streams.draft.rising
+      (paired streams none).once in
+      of_label items (record {
+        given = given;
+        spelled = spelled;
+        accepted = none;
+        order = is_order;
+      })
       (list_any (item_has_label streams label) items) refl
 
-  by_reason : (f : PairFault) (found : Finding) → refusal streams ≡ Some f → unfit_by f ≡ Some found → An
+  by_reason : (f : PairFault) (found : Finding) → refusal streams ≡ Some f → unfit_by f ≡ Some found
+      → An
   by_reason f found is by = (
     report_output streams found,
     charted.Unpaired bytes streams found
@@ -140,10 +160,14 @@ module _ (limits : Limits) (label : Label) (bytes : List ℕ) (streams : List St
 
   of_refused : (f : PairFault) → refusal streams ≡ Some f → An
   of_refused pairing.Memory is = absurd (never_refusal streams is)
-  of_refused (pairing.PrevNotBefore p i) is = by_reason _ (finding.Unfit p i reason.PrevNotBefore) is refl
-  of_refused (pairing.NotRising p i j) is = by_reason _ (finding.Unfit p i (reason.NotRising j)) is refl
-  of_refused (pairing.Repeated p i q j) is = by_reason _ (finding.Unfit p i (reason.Repeated q j)) is refl
-  of_refused (pairing.Mismatch p i q j) is = by_reason _ (finding.Unfit p i (reason.Mismatch q j)) is refl
+  of_refused (pairing.PrevNotBefore p i) is =
+      by_reason _ (finding.Unfit p i reason.PrevNotBefore) is refl
+  of_refused (pairing.NotRising p i j) is =
+      by_reason _ (finding.Unfit p i (reason.NotRising j)) is refl
+  of_refused (pairing.Repeated p i q j) is =
+      by_reason _ (finding.Unfit p i (reason.Repeated q j)) is refl
+  of_refused (pairing.Mismatch p i q j) is =
+      by_reason _ (finding.Unfit p i (reason.Mismatch q j)) is refl
 
   of_streams : (o : Option PairFault) → refusal streams ≡ o → An
   of_streams None is = of_accepted is
@@ -152,11 +176,13 @@ module _ (limits : Limits) (label : Label) (bytes : List ℕ) (streams : List St
 pub a_chart : (limits : Limits) (label : Label) → HasOutput (IsCharted limits label)
 a_chart limits label bytes = by (fault_within limits bytes) refl
   where
-    by : (o : Option ReadFault) → fault_within limits bytes ≡ o → (out : Output) × IsCharted limits label bytes out
+    by : (o : Option ReadFault) → fault_within limits bytes ≡ o
+        → (out : Output) × IsCharted limits label bytes out
     by (Some f) is = (refused f, charted.Faulty bytes f is)
     by None none =
         let read = readable limits bytes none in
-        of_streams limits label bytes read.0.streams read.0.acts (record { text = read.1.text; within = read.1.within })
+        of_streams limits label bytes read.0.streams read.0.acts
+        (record { text = read.1.text; within = read.1.within })
         (refusal read.0.streams) refl
 
 -- ---- one at most
@@ -167,66 +193,86 @@ module _ (limits : Limits) (label : Label) (bytes : List ℕ) where
   same_streams ss ts xs ys s t =
       ap (λ (c : Contents). c.streams) (text_one bytes (whole ss xs) (whole ts ys) s.text t.text)
 
-  module _ (ss ts : List Stream) (xs ys : List Item) (h : HasOrder limits bytes ss xs) (k : HasOrder limits bytes ts ys)
+  module _ (ss ts : List Stream) (xs ys : List Item) (h : HasOrder limits bytes ss xs)
+      (k : HasOrder limits bytes ts ys)
     where
       listed : ss ≡ ts
       listed = same_streams ss ts h.given k.given h.spelled k.spelled
 
       ordered : xs ≡ ys
-      ordered = one_order ss xs ys h.order (subst (λ (s : List Stream). IsOrder s ys) (sym listed) k.order)
+      ordered = one_order ss xs ys h.order (subst (λ (s : List Stream). IsOrder s ys)
+          (sym listed) k.order)
 
       one_drawn : drawn ss xs label ≡ drawn ts ys label
       one_drawn = ap (λ s. drawn s xs label) listed ∙ ap (λ z. drawn ts z label) ordered
 
-      label_apart : list_any (item_has_label ss label) xs ≡ true → list_any (item_has_label ts label) ys ≡ false
+      label_apart : list_any (item_has_label ss label) xs ≡ true
+          → list_any (item_has_label ts label) ys ≡ false
           → (X : Type 0) → X
       label_apart some none X =
-          let moved : list_any (item_has_label ss label) xs ≡ list_any (item_has_label ts label) ys =
-          ap (λ s. list_any (item_has_label s label) xs) listed ∙ ap (list_any (item_has_label ts label)) ordered in
+          let moved : list_any (item_has_label ss label) xs
+          ≡ list_any (item_has_label ts label) ys =
+          ap (λ s. list_any (item_has_label s label) xs) listed
+          ∙ ap (list_any (item_has_label ts label)) ordered in
           absurd (cc)
 
-  reason_apart : (ss ts : List Stream) (xs : List Item) (found : Finding) → HasOrder limits bytes ss xs
-      → HasReason limits bytes ts found → (X : Type 0) → X
+  reason_apart : (ss ts : List Stream) (xs : List Item) (found : Finding)
+      → HasOrder limits bytes ss xs
+      → HasPairFault limits bytes ts found → (X : Type 0) → X
   reason_apart ss ts xs found h k X =
-      let moved : refusal ss ≡ refusal ts = ap refusal (same_streams ss ts h.given k.given h.spelled k.spelled) in
+      let moved : refusal ss ≡ refusal ts =
+      ap refusal (same_streams ss ts h.given k.given h.spelled k.spelled) in
       absurd (none-some k.fault (sym h.accepted ∙ moved ∙ k.refused))
 
-  one_reason : (ss ts : List Stream) (one other : Finding) → HasReason limits bytes ss one
-      → HasReason limits bytes ts other
+  one_reason : (ss ts : List Stream) (one other : Finding) → HasPairFault limits bytes ss one
+      → HasPairFault limits bytes ts other
       → report_output ss one ≡ report_output ts other
   one_reason ss ts one other h k =
       let listed : ss ≡ ts = same_streams ss ts h.given k.given h.spelled k.spelled in
-      let faults : h.fault ≡ k.fault = same_Some h.fault k.fault (sym h.refused ∙ ap refusal listed ∙ k.refused) in
-      let found : one ≡ other = same_Some one other (sym h.found_by ∙ ap unfit_by faults ∙ k.found_by) in
+      let faults : h.fault ≡ k.fault =
+      same_Some h.fault k.fault (sym h.refused ∙ ap refusal listed ∙ k.refused) in
+      let found : one ≡ other =
+      same_Some one other (sym h.found_by ∙ ap unfit_by faults ∙ k.found_by) in
       ap (λ s. report_output s one) listed ∙ ap (report_output ts) found
 
 pub one_chart : (limits : Limits) (label : Label) → HasOneOutput (IsCharted limits label)
-one_chart limits label bytes one other (charted.Drawn x ss xs h some) (charted.Drawn y ts ys k more) =
+one_chart limits label bytes one other (charted.Drawn x ss xs h some)
+    (charted.Drawn y ts ys k more) =
     one_drawn limits label x ss ts xs ys h k
-one_chart limits label bytes one other (charted.Drawn x ss xs h some) (charted.Unlabelled y ts ys k none) =
+one_chart limits label bytes one other (charted.Drawn x ss xs h some)
+    (charted.Unlabelled y ts ys k none) =
     label_apart limits label x ss ts xs ys h k some none _
-one_chart limits label bytes one other (charted.Drawn x ss xs h some) (charted.Unpaired y ts found k) =
+one_chart limits label bytes one other (charted.Drawn x ss xs h some)
+    (charted.Unpaired y ts found k) =
     reason_apart limits label x ss ts xs found h k _
 one_chart limits label bytes one other (charted.Drawn x ss xs h some) (charted.Faulty y f bad) =
     fault_apart limits x ss h.given f h.spelled bad _
-one_chart limits label bytes one other (charted.Unlabelled x ss xs h none) (charted.Drawn y ts ys k some) =
+one_chart limits label bytes one other (charted.Unlabelled x ss xs h none)
+    (charted.Drawn y ts ys k some) =
     label_apart limits label x ts ss ys xs k h some none _
-one_chart limits label bytes one other (charted.Unlabelled x ss xs h none) (charted.Unlabelled y ts ys k less) = refl
-one_chart limits label bytes one other (charted.Unlabelled x ss xs h none) (charted.Unpaired y ts found k) =
+one_chart limits label bytes one other (charted.Unlabelled x ss xs h none)
+    (charted.Unlabelled y ts ys k less) = refl
+one_chart limits label bytes one other (charted.Unlabelled x ss xs h none)
+    (charted.Unpaired y ts found k) =
     reason_apart limits label x ss ts xs found h k _
-one_chart limits label bytes one other (charted.Unlabelled x ss xs h none) (charted.Faulty y f bad) =
+one_chart limits label bytes one other (charted.Unlabelled x ss xs h none)
+    (charted.Faulty y f bad) =
     fault_apart limits x ss h.given f h.spelled bad _
-one_chart limits label bytes one other (charted.Unpaired x ss found h) (charted.Drawn y ts ys k some) =
+one_chart limits label bytes one other (charted.Unpaired x ss found h)
+    (charted.Drawn y ts ys k some) =
     reason_apart limits label x ts ss ys found k h _
-one_chart limits label bytes one other (charted.Unpaired x ss found h) (charted.Unlabelled y ts ys k none) =
+one_chart limits label bytes one other (charted.Unpaired x ss found h)
+    (charted.Unlabelled y ts ys k none) =
     reason_apart limits label x ts ss ys found k h _
-one_chart limits label bytes one other (charted.Unpaired x ss found h) (charted.Unpaired y ts more k) =
+one_chart limits label bytes one other (charted.Unpaired x ss found h)
+    (charted.Unpaired y ts more k) =
     one_reason limits label x ss ts found more h k
 one_chart limits label bytes one other (charted.Unpaired x ss found h) (charted.Faulty y f bad) =
     fault_apart limits x ss h.given f h.spelled bad _
 one_chart limits label bytes one other (charted.Faulty x f bad) (charted.Drawn y ts ys k some) =
     fault_apart limits x ts k.given f k.spelled bad _
-one_chart limits label bytes one other (charted.Faulty x f bad) (charted.Unlabelled y ts ys k none) =
+one_chart limits label bytes one other (charted.Faulty x f bad)
+    (charted.Unlabelled y ts ys k none) =
     fault_apart limits x ts k.given f k.spelled bad _
 one_chart limits label bytes one other (charted.Faulty x f bad) (charted.Unpaired y ts found k) =
     fault_apart limits x ts k.given f k.spelled bad _

@@ -1,4 +1,5 @@
--- A chart is written if an item has the label, a line says if none has it, and a reason of pairing is reported.
+-- A chart is written if an item has the label, a line says if none has it, and a reason of pairing
+-- is reported.
 use Rattle.std.proofs.Common.{◌≡◌, ◌≢◌, ℕ, Bool, true, false, List, refl, subst}
 use Rattle.std.specs.Prelude.{◌↔◌, Some, Result, Err}
 use Rattle.st_core.specs.declared.types.Label.{Label}
@@ -23,15 +24,22 @@ labelled r true other iff = refl
 labelled r false other iff = absurd (other (iff.1 refl))
 
 -- what is delivered from where the chart left the writer is delivered from where it found it
-pub from_there : {W : Type 0} (device : SinkOf W) (old there new : W) (out : Output) (status : ℕ) → there ≡ old
+pub from_there : {W : Type 0} (device : SinkOf W) (old there new : W) (out : Output) (status : ℕ)
+    → there ≡ old
     → Delivers (call device there new) out status → Delivers (call device old new) out status
-from_there device old there new out status same d = subst (λ w. Delivers (call device w new) out status) same d
+from_there device old there new out status same d =
+    subst (λ w. Delivers (call device w new) out status) same d
 
 -- a reason that isn't Memory is reported
-pub unpaired : (streams : List Stream) (label : Label) (f : PairFault) (found : Finding) → IsPairFault streams f
+pub unpaired : (streams : List Stream) (label : Label) (f : PairFault) (found : Finding)
+    → IsPairFault streams f
     → unfit_by f ≡ Some found → ChartsTo streams label (report_output streams found)
 unpaired streams label fault.Memory found is by = absurd (cc)
-unpaired streams label (fault.PrevNotBefore p i) found is by = OfReason (fault.PrevNotBefore p i) found is by
-unpaired streams label (fault.NotRising p i j) found is by = OfReason (fault.NotRising p i j) found is by
-unpaired streams label (fault.Repeated p i q j) found is by = OfReason (fault.Repeated p i q j) found is by
-unpaired streams label (fault.Mismatch p i q j) found is by = OfReason (fault.Mismatch p i q j) found is by
+unpaired streams label (fault.PrevNotBefore p i) found is by =
+    OfReason (fault.PrevNotBefore p i) found is by
+unpaired streams label (fault.NotRising p i j) found is by =
+    OfReason (fault.NotRising p i j) found is by
+unpaired streams label (fault.Repeated p i q j) found is by =
+    OfReason (fault.Repeated p i q j) found is by
+unpaired streams label (fault.Mismatch p i q j) found is by =
+    OfReason (fault.Mismatch p i q j) found is by

@@ -1,4 +1,5 @@
--- What the parts of a command say adds up to what the command owes: the bytes that were read go with each answer.
+-- What the parts of a command say adds up to what the command owes: the bytes that were read go
+-- with each answer.
 use Rattle.std.proofs.Common.{◌≡◌, ◌≢◌, ℕ, ◌<◌, ◌≤◌, false, List, length, refl, sym, subst}
 use Rattle.std.proofs.Common.{inl, inr, arith}
 use Rattle.std.specs.Prelude.{Some, None, Result, Ok, Err, MatchResult}
@@ -30,7 +31,8 @@ use Rattle.st_commands.specs.Charted.{IsCharted, drawn, no_label}
 use Rattle.st_commands.specs.Charted as charts
 use Rattle.st_commands.specs.Command.{ReaderCall, WriterCall, ReadsAll, Owes}
 use Rattle.st_commands.specs.Command.{OfBytes, ForMemory, ForReader, Delivers, Whole, Part, Tells}
-use Rattle.st_commands.specs.Parts.{ChecksTo, AuditsTo, DrawsTo, ChartsTo, ReplaysTo, OfBundle, OfSome, OfNone}
+use Rattle.st_commands.specs.Parts.{ChecksTo, AuditsTo, DrawsTo, ChartsTo, ReplaysTo, OfBundle}
+use Rattle.st_commands.specs.Parts.{OfSome, OfNone}
 use Rattle.st_commands.specs.Parts as parts
 use Rattle.st_commands.specs.Meaning.{Says}
 
@@ -51,8 +53,10 @@ module _ {W : Type 0} (writer : WriterCall W) (status : ℕ) where
       record { output = told.output; owed = owed told.output told.owed; delivered = told.delivered }
 
   -- what is told of a bundle's acts is told of the bundle
-  pub tells_of_acts : (OfActs : List Stream → List Act → Output → Type 0) (c : Contents) (acts : List Act)
-      → c.acts ≡ Some acts → Tells writer (OfActs c.streams acts) status → Tells writer (OfBundle OfActs c) status
+  pub tells_of_acts : (OfActs : List Stream → List Act → Output → Type 0) (c : Contents)
+      (acts : List Act)
+      → c.acts ≡ Some acts → Tells writer (OfActs c.streams acts) status
+      → Tells writer (OfBundle OfActs c) status
   tells_of_acts OfActs c acts e told = tells_as (λ out is. OfSome acts out e is) told
 
 module _ (limits : Limits) {R : Type 0} (reader : ReaderCall R) where
@@ -60,7 +64,8 @@ module _ (limits : Limits) {R : Type 0} (reader : ReaderCall R) where
 
   abbrev Reads : Result Bundle ReadFault → Type 0
   Reads r =
-      ReadsSourceWithin limits reader.device.gives reader.device.ended reader.device.failed reader.old reader.new r
+      ReadsSourceWithin limits reader.device.gives reader.device.ended reader.device.failed
+      reader.old reader.new r
 
   -- all bytes up to the source's end
   up_to_end : (bytes : List ℕ) → InARow reader.device.gives reader.old bytes reader.new
@@ -69,10 +74,12 @@ module _ (limits : Limits) {R : Type 0} (reader : ReaderCall R) where
   up_to_end bytes given end sound = record { given = given; whole = inl end; sound = sound }
 
   module _ (IsOutput : List ℕ → Output → Type 0)
-      (faulty : (bytes : List ℕ) (f : ReadFault) → fault_within limits bytes ≡ Some f → IsOutput bytes (refused f))
+      (faulty : (bytes : List ℕ) (f : ReadFault) → fault_within limits bytes ≡ Some f
+      → IsOutput bytes (refused f))
     where
       -- a fault of the bytes that were read
-      of_fault : (bytes : List ℕ) (f : ReadFault) → InARow reader.device.gives reader.old bytes reader.new
+      of_fault : (bytes : List ℕ) (f : ReadFault) → InARow reader.device.gives reader.old bytes
+          reader.new
           → reader.device.ended reader.new → reader.device.failed reader.new ≡ false
           → fault_within limits bytes ≡ Some f
           → Owes limits reader IsOutput (refused f)
@@ -102,9 +109,11 @@ module _ (limits : Limits) {R : Type 0} (reader : ReaderCall R) where
       owes_fault faults.Truncated h =
           of_fault h.bytes faults.Truncated h.given h.answer.end h.answer.after h.answer.answer
 
-      pub tells_fault : {W : Type 0} (writer : WriterCall W) (status : ℕ) (f : ReadFault) → Reads (Err f)
+      pub tells_fault : {W : Type 0} (writer : WriterCall W) (status : ℕ) (f : ReadFault)
+          → Reads (Err f)
           → Delivers writer (refused f) status → Tells writer (Owes limits reader IsOutput) status
-      tells_fault writer status f h told = record { output = refused f; owed = owes_fault f h; delivered = told }
+      tells_fault writer status f h told =
+          record { output = refused f; owed = owes_fault f h; delivered = told }
 
   -- the bytes of a bundle that was read
   pub record WasRead (c : Contents) : Type 0 where
@@ -122,16 +131,19 @@ module _ (limits : Limits) {R : Type 0} (reader : ReaderCall R) where
   }
 
   -- what a command makes of a bundle's acts, it owes
-  module _ (IsOutput : List ℕ → Output → Type 0) (OfActs : List Stream → List Act → Output → Type 0) (c : Contents)
+  module _ (IsOutput : List ℕ → Output → Type 0) (OfActs : List Stream → List Act → Output → Type 0)
+      (c : Contents)
       (h : WasRead c) where
-    pub owes_bundle : ((acts : List Act) (out : Output) → Spells limits h.bytes c.streams (Some acts)
+    pub owes_bundle : ((acts : List Act) (out : Output)
+        → Spells limits h.bytes c.streams (Some acts)
         → OfActs c.streams acts out → Owes limits reader IsOutput out)
         → (Spells limits h.bytes c.streams None → IsOutput h.bytes no_acts)
         → (out : Output) → OfBundle OfActs c out → Owes limits reader IsOutput out
     owes_bundle of_acts lacking out (OfSome acts o e is) =
         of_acts acts o (subst (Spells limits h.bytes c.streams) e h.spelled) is
     owes_bundle of_acts lacking out (OfNone e) =
-        OfBytes h.bytes no_acts h.all (lacking (subst (Spells limits h.bytes c.streams) e h.spelled))
+        OfBytes h.bytes no_acts h.all (lacking
+        (subst (Spells limits h.bytes c.streams) e h.spelled))
 
   -- ---- check
 
@@ -202,10 +214,16 @@ module _ (limits : Limits) {R : Type 0} (reader : ReaderCall R) where
         (record { streams = c.streams; spelled = spelled; listed = refl; runs = is }))
     owes_run acts out spelled (parts.Sticks n is) =
         OfBytes h.bytes (replays.stuck n) h.all
-        (replays.Stuck h.bytes n (record { streams = c.streams; acts = acts; spelled = spelled; sticks = is }))
+        (replays.Stuck h.bytes n (record {
+          streams = c.streams;
+          acts = acts;
+          spelled = spelled;
+          sticks = is;
+        }))
     owes_run acts out spelled parts.NoRoomToReplay = ForMemory h.bytes h.all h.small
 
-    pub owes_replay : (out : Output) → OfBundle ReplaysTo c out → Owes limits reader (IsReplayed limits) out
+    pub owes_replay : (out : Output) → OfBundle ReplaysTo c out
+        → Owes limits reader (IsReplayed limits) out
     owes_replay =
         owes_bundle (IsReplayed limits) ReplaysTo c h owes_run
         (λ spelled. replays.Lacking h.bytes (record { streams = c.streams; spelled = spelled }))
@@ -214,8 +232,10 @@ module _ (limits : Limits) {R : Type 0} (reader : ReaderCall R) where
 
 module _ {limits : Limits} {R W : Type 0} {reader : ReaderCall R} {writer : WriterCall W}
     {IsOutput Means : List ℕ → Output → Type 0} (n : ℕ) (other : n ≢ 4)
-    (meant : (bytes : List ℕ) (out : Output) → IsOutput bytes out → out.status ≡ n → Means bytes out) where
-  says_owed : (out : Output) (status : ℕ) → Owes limits reader IsOutput out → Delivers writer out status
+    (meant : (bytes : List ℕ) (out : Output) → IsOutput bytes out → out.status ≡ n
+    → Means bytes out) where
+  says_owed : (out : Output) (status : ℕ) → Owes limits reader IsOutput out
+      → Delivers writer out status
       → status ≡ n → Says limits reader writer Means
   says_owed out status (OfBytes bytes o all is) (Whole w) e =
       record { bytes = bytes; output = o; reads = all; writes = w; means = meant bytes o is e }

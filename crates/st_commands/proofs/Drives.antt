@@ -1,13 +1,14 @@
--- What was driven is a record of the scripts, and a record says what status 0 means. An act of a text that is refused
--- stands for a stray process alone: its actor and receiver are listed, and a text has fewer acts than clocks and ranks
--- have counts.
+-- What was driven is a record of the scripts, and a record says what status 0 means. An act of a
+-- text that is refused stands for a stray process alone: its actor and receiver are listed, and a
+-- text has fewer acts than clocks and ranks have counts.
 use Rattle.std.proofs.Common.{◌≡◌, ℕ, ◌*◌, ◌<◌, ◌≤◌, true, List, [], ◌∷◌, length, map, refl, sym}
 use Rattle.std.proofs.Common.{subst, arith, Some, slice_get}
 use Rattle.std.specs.Prelude.{All, zip, count_by}
 use Rattle.std.specs.List.{list_all}
 use Rattle.std.proofs.lemmas.List.{length-map}
 use Rattle.std.proofs.lemmas.List.Elements.{All-nil, All-cons, All-filter, filter_passes}
-use Rattle.std.proofs.lemmas.List.Sums.{AllPass-from_list_all, sum_by-cons, length-filter, count_by-le-length}
+use Rattle.std.proofs.lemmas.List.Sums.{AllPass-from_list_all, sum_by-cons, length-filter}
+use Rattle.std.proofs.lemmas.List.Sums.{count_by-le-length}
 use Rattle.st_core.specs.declared.types.Pid.{Pid}
 use Rattle.st_core.specs.declared.types.Act.{Act}
 use Rattle.st_core.specs.Pid.{pid_eq}
@@ -26,7 +27,8 @@ use Rattle.st_text.specs.Text.{Contents, is_listed}
 use Rattle.st_commands.specs.Output.{Output}
 use Rattle.st_commands.specs.Checked.{top, Spells}
 use Rattle.st_commands.specs.Command.{ReaderCall, Owes, OfBytes, ForMemory}
-use Rattle.st_commands.specs.Parts.{DrivesTo, Records, Refuses, NoRoomToDrive, OfBundle, drive_refused}
+use Rattle.st_commands.specs.Parts.{DrivesTo, Records, Refuses, NoRoomToDrive, OfBundle}
+use Rattle.st_commands.specs.Parts.{drive_refused}
 use Rattle.st_commands.specs.Meaning.{MeansDriven, MeansStray}
 use Rattle.st_commands.specs.Laws.{DrivenMeans, RecordedIsYes}
 use Rattle.st_commands.specs.Recorded.{ranks, scripts_of, HasRecord, IsRecorded, record_output}
@@ -43,7 +45,8 @@ acts_below (p ∷ ps) xs =
     let here = length-filter (λ a. pid_eq (actor a) p) xs in
     let few = count_by-le-length (λ a. pid_eq (actor a) p) xs in
     let rest = acts_below ps xs in
-    let sum = sum_by-cons (λ (script : List Act). length script) (acts_by p xs) (scripts_of ps xs) in
+    let sum = sum_by-cons (λ (script : List Act). length script) (acts_by p xs)
+    (scripts_of ps xs) in
     omega arith
 
 stamps_below : (scripts : List (List Act)) → stamps_in scripts ≤ acts_in scripts
@@ -58,17 +61,25 @@ stamps_below (s ∷ ss) =
 product : (m n a b : ℕ) → m ≤ a → n ≤ b → m * n ≤ a * b
 product m n a b h k = grind arith
 
--- a reader's limits are numbers of 32 bits, so what it reads has fewer acts than clocks and ranks have counts
+-- a reader's limits are numbers of 32 bits, so what it reads has fewer acts than clocks and ranks
+-- have counts
 pub record AreSmall (limits : Limits) : Type 0 where
   pub processes : limits.processes ≤ 4294967295
   pub acts : limits.acts ≤ 4294967295
 
-few_acts : (limits : Limits) (bytes : List ℕ) (streams : List Stream) (acts : List Act) → AreSmall limits
+few_acts : (limits : Limits) (bytes : List ℕ) (streams : List Stream) (acts : List Act)
+    → AreSmall limits
     → Spells limits bytes streams (Some acts) → acts_in (scripts_of (pids_of streams) acts) < top
 few_acts limits bytes streams acts small s =
     let below = acts_below (pids_of streams) acts in
     let pids : length (pids_of streams) ≤ 4294967295 =
-    omega (arith, small.processes, s.within.processes, length-map streams (λ (x : Stream). x.pid)) in
+    omega (
+      arith,
+      small.processes,
+      s.within.processes,
+      length-map streams
+          (λ (x : Stream). x.pid),
+    ) in
     let given : length acts ≤ 4294967295 = omega (arith, small.acts, s.within.acts) in
     let most = product (length (pids_of streams)) (length acts) 4294967295 4294967295 pids given in
     omega arith
@@ -80,28 +91,34 @@ zipped : (ps : List Pid) (xs : List Act)
     → All (λ (x : Pid × List Act). x.1 ≡ acts_by x.0 xs) (zip ps (scripts_of ps xs))
 zipped [] xs = All-nil (λ (x : Pid × List Act). x.1 ≡ acts_by x.0 xs)
 zipped (p ∷ ps) xs =
-    All-cons (λ (x : Pid × List Act). x.1 ≡ acts_by x.0 xs) (p, acts_by p xs) (zip ps (scripts_of ps xs)) refl
+    All-cons (λ (x : Pid × List Act). x.1 ≡ acts_by x.0 xs) (p, acts_by p xs)
+    (zip ps (scripts_of ps xs)) refl
     (zipped ps xs)
 
 script_is : (ps : List Pid) (xs : List Act) (p : Pid) (script : List Act) (k : ℕ)
     → slice_get (zip ps (scripts_of ps xs)) k ≡ Some (p, script) → script ≡ acts_by p xs
 script_is ps xs p script k at =
-    All_at (λ (x : Pid × List Act). x.1 ≡ acts_by x.0 xs) (zip ps (scripts_of ps xs)) k (p, script) at (zipped ps xs)
+    All_at (λ (x : Pid × List Act). x.1 ≡ acts_by x.0 xs) (zip ps (scripts_of ps xs)) k
+    (p, script) at (zipped ps xs)
 
--- its acts are that process's, and each is among those of the text, so that its actor and receiver are listed
-own_act : (xs : List Act) (p : Pid) (n : ℕ) (a : Act) → slice_get (acts_by p xs) n ≡ Some a → actor a ≡ p
+-- its acts are that process's, and each is among those of the text, so that its actor and receiver
+-- are listed
+own_act : (xs : List Act) (p : Pid) (n : ℕ) (a : Act) → slice_get (acts_by p xs) n ≡ Some a
+    → actor a ≡ p
 own_act xs p n a at =
     pid_same (actor a) p (All_at (λ x. pid_eq (actor x) p ≡ true) (acts_by p xs) n a at
     (filter_passes (λ x. pid_eq (actor x) p) xs))
 
-known_act : (ps : List Pid) (xs : List Act) (p : Pid) (n : ℕ) (a : Act) → list_all (is_listed ps) xs ≡ true
+known_act : (ps : List Pid) (xs : List Act) (p : Pid) (n : ℕ) (a : Act)
+    → list_all (is_listed ps) xs ≡ true
     → slice_get (acts_by p xs) n ≡ Some a → knows ps a ≡ true
 known_act ps xs p n a listed at =
     All_at (λ x. is_listed ps x ≡ true) (acts_by p xs) n a at
     (All-filter (λ x. pid_eq (actor x) p) (λ x. is_listed ps x ≡ true) xs
     (AllPass-from_list_all (is_listed ps) xs listed))
 
-module _ (limits : Limits) (small : AreSmall limits) (bytes : List ℕ) (streams : List Stream) (acts : List Act)
+module _ (limits : Limits) (small : AreSmall limits) (bytes : List ℕ) (streams : List Stream)
+    (acts : List Act)
     (s : Spells limits bytes streams (Some acts)) (p : Pid) (n : ℕ) where
   abbrev scripts : List (List Act)
   scripts = scripts_of (pids_of streams) acts
@@ -135,7 +152,8 @@ module _ (limits : Limits) (small : AreSmall limits) (bytes : List ℕ) (streams
 -- ---- a record
 
 -- each of two lists of scripts at its place
-same_scripts : (f g : Pid → List Act) (ps : List Pid) → map f ps ≡ map g ps → All (λ p. f p ≡ g p) ps
+same_scripts : (f g : Pid → List Act) (ps : List Pid) → map f ps ≡ map g ps
+    → All (λ p. f p ≡ g p) ps
 same_scripts f g [] e = All-nil (λ p. f p ≡ g p)
 same_scripts f g (p ∷ ps) e =
     let here : f p ≡ g p = cc in
@@ -167,7 +185,8 @@ driven_means limits bytes out (records.Strayed b p n h) e = absurd (omega (arith
 driven_means limits bytes out (records.Unstarted b h) e = absurd (omega (arith, e))
 driven_means limits bytes out (records.Unjoined b h) e = absurd (omega (arith, e))
 driven_means limits bytes out (records.Lacking b n) e = absurd (omega (arith, e))
-driven_means limits bytes out (records.Faulty b f is) e = let high = fault_status_high f in absurd (omega arith)
+driven_means limits bytes out (records.Faulty b f is) e =
+    let high = fault_status_high f in absurd (omega arith)
 
 stray_of : (limits : Limits) (bytes : List ℕ) (p : Pid) (n : ℕ) → records.HasStray limits bytes p n
     → MeansStray limits bytes (records.act_fault p n)
@@ -181,14 +200,16 @@ stray_of limits bytes p n h = record {
   text = refl;
 }
 
-pub stray_means : (limits : Limits) (bytes : List ℕ) (out : Output) → IsRecorded limits bytes out → out.status ≡ 1
+pub stray_means : (limits : Limits) (bytes : List ℕ) (out : Output) → IsRecorded limits bytes out
+    → out.status ≡ 1
     → MeansStray limits bytes out
 stray_means limits bytes out (records.Recorded b r h) e = absurd (omega (arith, e))
 stray_means limits bytes out (records.Strayed b p n h) e = stray_of limits b p n h
 stray_means limits bytes out (records.Unstarted b h) e = absurd (omega (arith, e))
 stray_means limits bytes out (records.Unjoined b h) e = absurd (omega (arith, e))
 stray_means limits bytes out (records.Lacking b n) e = absurd (omega (arith, e))
-stray_means limits bytes out (records.Faulty b f is) e = let high = fault_status_high f in absurd (omega arith)
+stray_means limits bytes out (records.Faulty b f is) e =
+    let high = fault_status_high f in absurd (omega arith)
 
 pub recorded_is_yes : RecordedIsYes
 recorded_is_yes limits others bytes r h spelled out is =
@@ -196,7 +217,8 @@ recorded_is_yes limits others bytes r h spelled out is =
 
 -- ---- what is owed
 
-module _ (limits : Limits) (small : AreSmall limits) {R : Type 0} (reader : ReaderCall R) (c : Contents)
+module _ (limits : Limits) (small : AreSmall limits) {R : Type 0} (reader : ReaderCall R)
+    (c : Contents)
     (h : WasRead limits reader c) where
   owes_refused : (acts : List Act) → Spells limits h.bytes c.streams (Some acts) → (f : DriveFault)
       → IsDriveFault top ranks (pids_of c.streams) (scripts_of (pids_of c.streams) acts) f
@@ -217,11 +239,17 @@ module _ (limits : Limits) (small : AreSmall limits) {R : Type 0} (reader : Read
       → DrivesTo c.streams acts out → Owes limits reader (IsRecorded limits) out
   owes_driven acts out s (Records r is) =
       OfBytes h.bytes (record_output r) h.all
-      (records.Recorded h.bytes r (record { streams = c.streams; acts = acts; spelled = s; driven = is }))
+      (records.Recorded h.bytes r (record {
+        streams = c.streams;
+        acts = acts;
+        spelled = s;
+        driven = is;
+      }))
   owes_driven acts out s (Refuses f is) = owes_refused acts s f is
   owes_driven acts out s NoRoomToDrive = ForMemory h.bytes h.all h.small
 
-  pub owes_drive : (out : Output) → OfBundle DrivesTo c out → Owes limits reader (IsRecorded limits) out
+  pub owes_drive : (out : Output) → OfBundle DrivesTo c out
+      → Owes limits reader (IsRecorded limits) out
   owes_drive =
       owes_bundle limits reader (IsRecorded limits) DrivesTo c h owes_driven
       (λ s. records.Lacking h.bytes (record { streams = c.streams; spelled = s }))

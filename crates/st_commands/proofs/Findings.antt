@@ -5,9 +5,9 @@ use Rattle.st_core.specs.Verdict.{Yes}
 use Rattle.st_audit.specs.declared.finding.Finding.{Finding}
 use Rattle.st_audit.specs.declared.finding.Finding.TheVariants as finding
 use Rattle.st_text.specs.declared.limits.Limits.{Limits}
-use Rattle.st_commands.specs.Output.{Output, judged}
+use Rattle.st_commands.specs.Output.{judged}
 use Rattle.st_commands.specs.Checked.{Judged}
-use Rattle.st_commands.specs.Audited.{HasFinding, IsAudited, Found, Faulty, report_output}
+use Rattle.st_commands.specs.Audited.{HasFinding, Found, Faulty, report_output}
 use Rattle.st_commands.specs.Audited.{finding_status}
 use Rattle.st_commands.specs.Meaning.{MeansFits, MeansUnfit}
 use Rattle.st_commands.specs.Laws.{FitsMeans, UnfitMeans, CertificateIsYes, certificate}
@@ -53,11 +53,13 @@ found_unfit limits bytes streams (finding.Unfit p i r) h e =
 
 pub fits_means : FitsMeans
 fits_means limits bytes out (Found b streams found h) e = found_fits limits b streams found h e
-fits_means limits bytes out (Faulty b f is) e = let high = fault_status_high f in absurd (omega arith)
+fits_means limits bytes out (Faulty b f is) e =
+    let high = fault_status_high f in absurd (omega arith)
 
 pub unfit_means : UnfitMeans
 unfit_means limits bytes out (Found b streams found h) e = found_unfit limits b streams found h e
-unfit_means limits bytes out (Faulty b f is) e = let high = fault_status_high f in absurd (omega arith)
+unfit_means limits bytes out (Faulty b f is) e =
+    let high = fault_status_high f in absurd (omega arith)
 
 -- ---- the check of a certificate
 

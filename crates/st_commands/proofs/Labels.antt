@@ -1,6 +1,8 @@
--- `clap` reads a label as a number of 32 bits from the text that it found, and none if that writes no such number.
+-- `clap` reads a label as a number of 32 bits from the text that it found, and none if that writes
+-- no such number.
 use Rattle.std.proofs.Common.{◌≡◌, ℕ, Bool, true, false, List, refl, sym, ap, ◌∙◌, arith}
-use Rattle.std.specs.Prelude.{Option, Some, None, Result, Ok, Err, option_map, option_and_then, if◌then◌else◌}
+use Rattle.std.specs.Prelude.{Option, Some, None, Result, Ok, Err, option_map, option_and_then}
+use Rattle.std.specs.Prelude.{if◌then◌else◌}
 use Rattle.std.specs.Str.Parse.{ParsesUnsigned, digits_value, without_leading_plus}
 use Rattle.clap.specs.Words.{ReadsOne, Text, one_of, one_text, rows_of}
 use Rattle.clap.specs.ValueTests.{is_unsigned_in}
@@ -16,7 +18,8 @@ abbrev written : Text → ℕ
 written text = digits_value 10 (without_leading_plus text)
 
 module _ (E : Type 0) (text : Text) where
-  some_label : (n : ℕ) → ParsesUnsigned {E = E} 32 10 text (Ok n) → label_in text ≡ Some (label_numbered n)
+  some_label : (n : ℕ) → ParsesUnsigned {E = E} 32 10 text (Ok n)
+      → label_in text ≡ Some (label_numbered n)
   some_label n h =
       let below = h.0.1 in
       let within : is_unsigned_in 0 greatest_label text ≡ true =
@@ -38,7 +41,8 @@ module _ (E : Type 0) (text : Text) where
 -- if a reader gives a number of 32 bits as the standard library reads one
 module _ (E : Type 0) (Gives : List ℕ → Result ℕ E → Type 0)
     (reads : (t : Text) (r : Result ℕ E) → Gives t r → ParsesUnsigned {E = E} 32 10 t r) where
-  read_label : (t : Text) (r : Option ℕ) → ReadsOne Gives t r → option_map label_numbered r ≡ label_in t
+  read_label : (t : Text) (r : Option ℕ) → ReadsOne Gives t r
+      → option_map label_numbered r ≡ label_in t
   read_label t (Some n) h = sym (some_label E t n (reads t (Ok n) h))
   read_label t None h = sym (no_label E t h.0 (reads t (Err h.0) h.1))
 

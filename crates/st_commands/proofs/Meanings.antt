@@ -1,6 +1,7 @@
--- A status belongs to one kind of output: 0 to a yes, 1 to a no. So an output with it has that verdict, which tells
--- the rest.
-use Rattle.std.proofs.Common.{◌≡◌, ◌≢◌, ℕ, ◌+◌, ◌≤◌, List, [], ◌∷◌, take, refl, ap, subst, ◌∙◌, arith}
+-- A status belongs to one kind of output: 0 to a yes, 1 to a no. So an output with it has that
+-- verdict, which tells the rest.
+use Rattle.std.proofs.Common.{◌≡◌, ◌≢◌, ℕ, ◌+◌, ◌≤◌, List, [], ◌∷◌, take, refl, ap, subst, ◌∙◌}
+use Rattle.std.proofs.Common.{arith}
 use Rattle.std.specs.Prelude.{Option, Some, None, IsSome, All}
 use Rattle.std.proofs.lemmas.List.Elements.{All-nil, All-cons}
 use Rattle.st_core.specs.declared.types.Pid.{Pid}
@@ -16,7 +17,7 @@ use Rattle.st_text.specs.declared.fault.ReadFault.{ReadFault}
 use Rattle.st_text.specs.declared.fault.ReadFault.TheVariants as faults
 use Rattle.st_text.specs.declared.limits.Limits.{Limits}
 use Rattle.st_commands.specs.Output.{Output, judged, refused}
-use Rattle.st_commands.specs.Checked.{top, IsJudged, IsChecked, Judged, Lacking, Faulty}
+use Rattle.st_commands.specs.Checked.{top, IsJudged, Judged, Lacking, Faulty}
 use Rattle.st_commands.specs.Replayed.{HasRun, IsReplayed, replayed}
 use Rattle.st_commands.specs.Replayed as replays
 use Rattle.st_commands.specs.Meaning.{MeansYes, MeansNo, MeansReplayed}
@@ -39,7 +40,8 @@ fault_status_high faults.Truncated = omega arith
 
 -- ---- a yes
 
-yes_verdict : (limits : Limits) (bytes : List ℕ) (v : Verdict) → IsJudged limits bytes v → (judged v).status ≡ 0
+yes_verdict : (limits : Limits) (bytes : List ℕ) (v : Verdict) → IsJudged limits bytes v
+    → (judged v).status ≡ 0
     → MeansYes limits bytes (judged v)
 yes_verdict limits bytes (Stuck n) j e = absurd (omega arith)
 yes_verdict limits bytes (Differs n) j e = absurd (omega arith)
@@ -63,7 +65,8 @@ yes_verdict limits bytes (Yes ps) j e =
 pub yes_means : YesMeans
 yes_means limits bytes out (Judged b v j) e = yes_verdict limits b v j e
 yes_means limits bytes out (Lacking b n) e = absurd (omega arith)
-yes_means limits bytes out (Faulty b f is) e = let high = fault_status_high f in absurd (omega arith)
+yes_means limits bytes out (Faulty b f is) e =
+    let high = fault_status_high f in absurd (omega arith)
 
 -- ---- a no
 
@@ -80,12 +83,14 @@ no_verdict limits bytes v j never = record {
   verdict = v;
   spelled = j.spelled;
   refuted = λ shown. never (pairs j.acts shown.0)
-      (one_verdict top j.streams j.acts v (Yes (pairs j.acts shown.0)) j.verdict (shown_yes j.streams j.acts shown));
+      (one_verdict top j.streams j.acts v (Yes (pairs j.acts shown.0)) j.verdict
+      (shown_yes j.streams j.acts shown));
   text = refl;
   place = j.verdict;
 }
 
-judged_no : (limits : Limits) (bytes : List ℕ) (v : Verdict) → IsJudged limits bytes v → (judged v).status ≡ 1
+judged_no : (limits : Limits) (bytes : List ℕ) (v : Verdict) → IsJudged limits bytes v
+    → (judged v).status ≡ 1
     → MeansNo limits bytes (judged v)
 judged_no limits bytes (Stuck n) j e = no_verdict limits bytes (Stuck n) j (λ ps same. cc)
 judged_no limits bytes (Differs n) j e = no_verdict limits bytes (Differs n) j (λ ps same. cc)
@@ -108,26 +113,31 @@ shown_is_yes limits bytes streams acts out spelled shown is =
 
 -- ---- no act is stuck
 
-has_step : (streams : List Stream) (acts : List Act) (n : ℕ) → IsSome (run top (pids_of streams) acts)
+has_step : (streams : List Stream) (acts : List Act) (n : ℕ)
+    → IsSome (run top (pids_of streams) acts)
     → run top (pids_of streams) (take n acts) ≢ None
 has_step streams acts n some none = by (run top (pids_of streams) acts) refl some
   where
     by : (o : Option (List Outcome)) → run top (pids_of streams) acts ≡ o → IsSome o → ⊥
     by None e is = absurd (cc)
-    by (Some os) e is = let before = run_from-take top n (zero_state (pids_of streams)) acts os e in absurd (cc)
+    by (Some os) e is =
+        let before = run_from-take top n (zero_state (pids_of streams)) acts os e in absurd (cc)
 
 pub never_stuck : NeverStuck
 never_stuck limits few bytes n j =
-    has_step j.streams j.acts (n + 1) (spelled_run limits few bytes j.streams j.acts j.spelled) j.verdict.2
+    has_step j.streams j.acts (n + 1) (spelled_run limits few bytes j.streams j.acts j.spelled)
+    j.verdict.2
 
 pub never_stuck_in_replay : NeverStuckInReplay
 never_stuck_in_replay limits few bytes n h =
-    has_step h.streams h.acts (n + 1) (spelled_run limits few bytes h.streams h.acts h.spelled) h.sticks.none
+    has_step h.streams h.acts (n + 1) (spelled_run limits few bytes h.streams h.acts h.spelled)
+    h.sticks.none
 
 -- ---- a run
 
 -- what acts report over pids is a stream for each of these
-reported_pids : (ps : List Pid) (acts : List Act) (os : List Outcome) → pids_of (reported_streams ps acts os) ≡ ps
+reported_pids : (ps : List Pid) (acts : List Act) (os : List Outcome)
+    → pids_of (reported_streams ps acts os) ≡ ps
 reported_pids [] acts os = refl
 reported_pids (p ∷ ps) acts os = ap (λ (rest : List Pid). p ∷ rest) (reported_pids ps acts os)
 
@@ -135,10 +145,12 @@ all_reported : (ps : List Pid) (acts : List Act) (os : List Outcome)
     → All (λ (x : Stream). stream acts os x.pid ≡ x.events) (reported_streams ps acts os)
 all_reported [] acts os = All-nil (λ (x : Stream). stream acts os x.pid ≡ x.events)
 all_reported (p ∷ ps) acts os =
-    All-cons (λ (x : Stream). stream acts os x.pid ≡ x.events) (record { pid = p; events = stream acts os p })
+    All-cons (λ (x : Stream). stream acts os x.pid ≡ x.events)
+    (record { pid = p; events = stream acts os p })
     (reported_streams ps acts os) refl (all_reported ps acts os)
 
-run_means : (limits : Limits) (bytes : List ℕ) (pids : List Pid) (acts : List Act) (os : List Outcome)
+run_means : (limits : Limits) (bytes : List ℕ) (pids : List Pid) (acts : List Act)
+    (os : List Outcome)
     → HasRun limits bytes pids acts os → MeansReplayed limits bytes (replayed pids acts os)
 run_means limits bytes pids acts os h =
     let listed = reported_pids pids acts os in
@@ -154,12 +166,14 @@ run_means limits bytes pids acts os h =
       text = refl;
     }
 
-pub replayed_means : (limits : Limits) (bytes : List ℕ) (out : Output) → IsReplayed limits bytes out → out.status ≡ 0
+pub replayed_means : (limits : Limits) (bytes : List ℕ) (out : Output) → IsReplayed limits bytes out
+    → out.status ≡ 0
     → MeansReplayed limits bytes out
 replayed_means limits bytes out (replays.Ran b pids acts os h) e = run_means limits b pids acts os h
 replayed_means limits bytes out (replays.Stuck b n h) e = absurd (omega (arith, e))
 replayed_means limits bytes out (replays.Lacking b n) e = absurd (omega (arith, e))
-replayed_means limits bytes out (replays.Faulty b f is) e = let high = fault_status_high f in absurd (omega arith)
+replayed_means limits bytes out (replays.Faulty b f is) e =
+    let high = fault_status_high f in absurd (omega arith)
 
 -- and no other status 1
 pub never_refused : (limits : Limits) → limits.acts ≤ top → (bytes : List ℕ) (out : Output)

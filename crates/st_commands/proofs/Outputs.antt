@@ -1,7 +1,7 @@
--- Bytes have one output of each command at most: they are the text of one bundle, or have one fault, and acts have one
--- verdict and one run.
-use Rattle.std.proofs.Common.{◌≡◌, ℕ, ◌+◌, ◌<◌, List, take, Option, Some, None, refl, sym, ap, subst, ◌∙◌}
-use Rattle.std.proofs.Common.{inl, inr, arith}
+-- Bytes have one output of each command at most: they are the text of one bundle, or have one
+-- fault, and acts have one verdict and one run.
+use Rattle.std.proofs.Common.{◌≡◌, ℕ, ◌+◌, ◌<◌, List, take, Option, Some, None, refl, sym, ap}
+use Rattle.std.proofs.Common.{subst, ◌∙◌, inl, inr, arith}
 use Rattle.std.specs.Prelude.{IsSome}
 use Rattle.std.proofs.lemmas.Bool.{cases_lt}
 use Rattle.std.proofs.lemmas.List.{take-take}
@@ -48,22 +48,27 @@ acts_apart : (limits : Limits) (bytes : List ℕ) (ss ts : List Stream) (acts : 
     → Spells limits bytes ss (Some acts)
     → Spells limits bytes ts None → (X : Type 0) → X
 acts_apart limits bytes ss ts acts s t X =
-    let same = ap (λ (c : Contents). c.acts) (text_one bytes (whole ss (Some acts)) (whole ts None) s.text t.text) in
+    let same = ap (λ (c : Contents). c.acts) (text_one bytes (whole ss (Some acts))
+    (whole ts None) s.text t.text) in
     absurd (cc same)
 
-pub fault_apart : (limits : Limits) (bytes : List ℕ) (streams : List Stream) (acts : Option (List Act)) (f : ReadFault)
+pub fault_apart : (limits : Limits) (bytes : List ℕ) (streams : List Stream)
+    (acts : Option (List Act)) (f : ReadFault)
     → Spells limits bytes streams acts → fault_within limits bytes ≡ Some f → (X : Type 0) → X
 fault_apart limits bytes streams acts f s is X =
-    let none = text_sound limits bytes (whole streams acts) (record { text = s.text; within = s.within }) in
+    let none = text_sound limits bytes (whole streams acts)
+    (record { text = s.text; within = s.within }) in
     absurd (cc)
 
-pub one_fault : (limits : Limits) (bytes : List ℕ) (f g : ReadFault) → fault_within limits bytes ≡ Some f
+pub one_fault : (limits : Limits) (bytes : List ℕ) (f g : ReadFault)
+    → fault_within limits bytes ≡ Some f
     → fault_within limits bytes ≡ Some g → f ≡ g
 one_fault limits bytes f g p q = cc
 
 -- ---- check
 
-one_judgement : (limits : Limits) (bytes : List ℕ) (v w : Verdict) → IsJudged limits bytes v → IsJudged limits bytes w
+one_judgement : (limits : Limits) (bytes : List ℕ) (v w : Verdict) → IsJudged limits bytes v
+    → IsJudged limits bytes w
     → v ≡ w
 one_judgement limits bytes v w j k =
     let same = same_acts limits bytes j.streams k.streams j.acts k.acts j.spelled k.spelled in
@@ -94,12 +99,15 @@ one_check limits bytes one other (checked.Faulty x f is) (checked.Faulty y g als
 -- ---- replay
 
 -- a run has each step
-runs_on : (ps : List Pid) (xs : List Act) (os : List Outcome) (n : ℕ) → run top ps xs ≡ Some os → SticksAt top ps xs n
+runs_on : (ps : List Pid) (xs : List Act) (os : List Outcome) (n : ℕ) → run top ps xs ≡ Some os
+    → SticksAt top ps xs n
     → (X : Type 0) → X
 runs_on ps xs os n is s X =
-    let some = run_from-take top (n + 1) (zero_state ps) xs os is in let none = s.none in absurd (cc)
+    let some = run_from-take top (n + 1) (zero_state ps) xs os is in
+    let none = s.none in absurd (cc)
 
-sticks_before : (ps : List Pid) (xs : List Act) (m n : ℕ) → SticksAt top ps xs m → SticksAt top ps xs n → m < n
+sticks_before : (ps : List Pid) (xs : List Act) (m n : ℕ) → SticksAt top ps xs m
+    → SticksAt top ps xs n → m < n
     → (X : Type 0) → X
 sticks_before ps xs m n s t lt X = by (run top ps (take n xs)) refl t.before
   where
@@ -114,10 +122,12 @@ sticks_before ps xs m n s t lt X = by (run top ps (take n xs)) refl t.before
         let none = s.none in
         absurd (cc)
 
-one_place : (ps : List Pid) (xs : List Act) (m n : ℕ) → SticksAt top ps xs m → SticksAt top ps xs n → m ≡ n
+one_place : (ps : List Pid) (xs : List Act) (m n : ℕ) → SticksAt top ps xs m → SticksAt top ps xs n
+    → m ≡ n
 one_place ps xs m n s t = elim (cases_lt m n) [
   | inl lt ↦ sticks_before ps xs m n s t lt _
-  | inr ge ↦ elim (cases_lt n m) [ inl gt ↦ sticks_before ps xs n m t s gt _ | inr le ↦ omega arith ]
+  | inr ge ↦ elim (cases_lt n m)
+      [ inl gt ↦ sticks_before ps xs n m t s gt _ | inr le ↦ omega arith ]
 ]
 
 one_outcome : (ps : List Pid) (xs : List Act) (os us : List Outcome) → run top ps xs ≡ Some os
@@ -125,21 +135,27 @@ one_outcome : (ps : List Pid) (xs : List Act) (os us : List Outcome) → run top
 one_outcome ps xs os us p q = cc
 
 -- a run over pids that bytes list, over those of their streams
-run_on : (limits : Limits) (bytes : List ℕ) (streams : List Stream) (xs : List Act) (ps : List Pid) (ys : List Act)
+run_on : (limits : Limits) (bytes : List ℕ) (streams : List Stream) (xs : List Act) (ps : List Pid)
+    (ys : List Act)
     (os : List Outcome)
-    → Spells limits bytes streams (Some xs) → HasRun limits bytes ps ys os → run top (pids_of streams) xs ≡ Some os
+    → Spells limits bytes streams (Some xs) → HasRun limits bytes ps ys os
+    → run top (pids_of streams) xs ≡ Some os
 run_on limits bytes streams xs ps ys os s h =
     let same = same_acts limits bytes streams h.streams xs ys s h.spelled in
-    ap (λ (z : List Stream). run top (pids_of z) xs) same.streams ∙ ap (run top (pids_of h.streams)) same.acts
+    ap (λ (z : List Stream). run top (pids_of z) xs) same.streams
+    ∙ ap (run top (pids_of h.streams)) same.acts
     ∙ ap (λ (z : List Pid). run top z ys) (sym h.listed) ∙ h.runs
 
-run_apart : (limits : Limits) (bytes : List ℕ) (ps : List Pid) (xs : List Act) (os : List Outcome) (n : ℕ)
+run_apart : (limits : Limits) (bytes : List ℕ) (ps : List Pid) (xs : List Act) (os : List Outcome)
+    (n : ℕ)
     → HasRun limits bytes ps xs os
     → HasStuck limits bytes n → (X : Type 0) → X
 run_apart limits bytes ps xs os n h k X =
-    runs_on (pids_of k.streams) k.acts os n (run_on limits bytes k.streams k.acts ps xs os k.spelled h) k.sticks X
+    runs_on (pids_of k.streams) k.acts os n
+    (run_on limits bytes k.streams k.acts ps xs os k.spelled h) k.sticks X
 
-one_run : (limits : Limits) (bytes : List ℕ) (ps qs : List Pid) (xs ys : List Act) (os us : List Outcome)
+one_run : (limits : Limits) (bytes : List ℕ) (ps qs : List Pid) (xs ys : List Act)
+    (os us : List Outcome)
     → HasRun limits bytes ps xs os
     → HasRun limits bytes qs ys us → replayed ps xs os ≡ replayed qs ys us
 one_run limits bytes ps qs xs ys os us h k =
@@ -152,7 +168,8 @@ one_run limits bytes ps qs xs ys os us h k =
     ∙ ap (λ (a : List Act). replayed qs a os) same.acts
     ∙ ap (replayed qs ys) outcomes
 
-one_stop : (limits : Limits) (bytes : List ℕ) (m n : ℕ) → HasStuck limits bytes m → HasStuck limits bytes n → m ≡ n
+one_stop : (limits : Limits) (bytes : List ℕ) (m n : ℕ) → HasStuck limits bytes m
+    → HasStuck limits bytes n → m ≡ n
 one_stop limits bytes m n h k =
     let same = same_acts limits bytes h.streams k.streams h.acts k.acts h.spelled k.spelled in
     let other : SticksAt top (pids_of k.streams) h.acts n =
@@ -163,13 +180,16 @@ one_stop limits bytes m n h k =
 pub one_replay : (limits : Limits) → HasOneOutput (IsReplayed limits)
 one_replay limits bytes one other (replays.Ran x ps xs os h) (replays.Ran y qs ys us k) =
     one_run limits x ps qs xs ys os us h k
-one_replay limits bytes one other (replays.Ran x ps xs os h) (replays.Stuck y n k) = run_apart limits x ps xs os n h k _
+one_replay limits bytes one other (replays.Ran x ps xs os h) (replays.Stuck y n k) =
+    run_apart limits x ps xs os n h k _
 one_replay limits bytes one other (replays.Ran x ps xs os h) (replays.Lacking y n) =
     acts_apart limits x h.streams n.streams xs h.spelled n.spelled _
 one_replay limits bytes one other (replays.Ran x ps xs os h) (replays.Faulty y f bad) =
     fault_apart limits x h.streams (Some xs) f h.spelled bad _
-one_replay limits bytes one other (replays.Stuck x n h) (replays.Ran y qs ys os k) = run_apart limits x qs ys os n k h _
-one_replay limits bytes one other (replays.Stuck x n h) (replays.Stuck y m k) = ap stuck (one_stop limits x n m h k)
+one_replay limits bytes one other (replays.Stuck x n h) (replays.Ran y qs ys os k) =
+    run_apart limits x qs ys os n k h _
+one_replay limits bytes one other (replays.Stuck x n h) (replays.Stuck y m k) =
+    ap stuck (one_stop limits x n m h k)
 one_replay limits bytes one other (replays.Stuck x n h) (replays.Lacking y m) =
     acts_apart limits x h.streams m.streams h.acts h.spelled m.spelled _
 one_replay limits bytes one other (replays.Stuck x n h) (replays.Faulty y f bad) =

@@ -1,4 +1,5 @@
--- Bytes have an output of each command: they have a fault or are a text, and acts have a verdict and a run.
+-- Bytes have an output of each command: they have a fault or are a text, and acts have a verdict
+-- and a run.
 use Rattle.std.proofs.Common.{◌≡◌, ℕ, ◌≤◌, List, Option, Some, None, refl, arith}
 use Rattle.std.specs.Prelude.{IsSome}
 use Rattle.st_core.specs.declared.types.Act.{Act}
@@ -18,8 +19,10 @@ use Rattle.st_commands.specs.Replayed as replays
 use Rattle.st_commands.specs.Laws.{HasOutput}
 
 -- a verdict of what bytes spell
-pub judgement : (limits : Limits) (bytes : List ℕ) (streams : List Stream) (acts : List Act) (v : Verdict)
-    → Spells limits bytes streams (Some acts) → IsVerdict top streams acts v → IsJudged limits bytes v
+pub judgement : (limits : Limits) (bytes : List ℕ) (streams : List Stream) (acts : List Act)
+    (v : Verdict)
+    → Spells limits bytes streams (Some acts) → IsVerdict top streams acts v
+    → IsJudged limits bytes v
 judgement limits bytes streams acts v spelled is = record {
   streams = streams;
   acts = acts;
@@ -30,11 +33,13 @@ judgement limits bytes streams acts v spelled is = record {
 }
 
 -- acts that a text spells have a run
-pub spelled_run : (limits : Limits) → limits.acts ≤ top → (bytes : List ℕ) (streams : List Stream) (acts : List Act)
+pub spelled_run : (limits : Limits) → limits.acts ≤ top
+    → (bytes : List ℕ) (streams : List Stream) (acts : List Act)
     → Spells limits bytes streams (Some acts)
     → IsSome (run top (pids_of streams) acts)
 spelled_run limits few bytes streams acts s =
-    few_acts_run top (pids_of streams) acts (let within = s.within.acts in omega (arith, few)) s.text.bundle.listed
+    few_acts_run top (pids_of streams) acts (let within = s.within.acts in omega
+    (arith, few)) s.text.bundle.listed
 
 module _ (limits : Limits) (IsOutput : List ℕ → Output → Type 0) (bytes : List ℕ)
     (faulty : (f : ReadFault) → fault_within limits bytes ≡ Some f → IsOutput bytes (refused f))
@@ -46,7 +51,8 @@ module _ (limits : Limits) (IsOutput : List ℕ → Output → Type 0) (bytes : 
   of_acts streams None s = (no_acts, lacking streams s)
   of_acts streams (Some acts) s = spelled streams acts s
 
-  of_fault : (o : Option ReadFault) → fault_within limits bytes ≡ o → (out : Output) × IsOutput bytes out
+  of_fault : (o : Option ReadFault) → fault_within limits bytes ≡ o
+      → (out : Output) × IsOutput bytes out
   of_fault (Some f) is = (refused f, faulty f is)
   of_fault None none =
       let read = readable limits bytes none in
@@ -56,7 +62,8 @@ module _ (limits : Limits) (IsOutput : List ℕ → Output → Type 0) (bytes : 
   has_output = of_fault (fault_within limits bytes) refl
 
 -- if streams and acts have a verdict, which is a law of the machine's
-pub a_check : ((top : ℕ) (streams : List Stream) (acts : List Act) → (v : Verdict) × IsVerdict top streams acts v)
+pub a_check : ((top : ℕ) (streams : List Stream) (acts : List Act)
+    → (v : Verdict) × IsVerdict top streams acts v)
     → (limits : Limits) → HasOutput (IsChecked limits)
 a_check a_verdict limits bytes =
     has_output limits (IsChecked limits) bytes (λ f is. checked.Faulty bytes f is)

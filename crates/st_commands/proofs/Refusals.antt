@@ -9,7 +9,8 @@ use Rattle.st_text.specs.declared.limits.Limits.{Limits}
 use Rattle.st_commands.specs.Command.{OwesFor, ForUsage, ForNoMemory, call}
 use Rattle.st_commands.specs.Output.{refusal_output}
 
-pub owes_refusal : {R : Type 0} (limits : Limits) (device : SourceOf R) (reader : R) (words : List Text) (r : Refusal)
+pub owes_refusal : {R : Type 0} (limits : Limits) (device : SourceOf R) (reader : R)
+    (words : List Text) (r : Refusal)
     → IsRefusal words r → OwesFor limits (call device reader reader) words (refusal_output r)
 owes_refusal limits device reader words refusals.Memory h = ForNoMemory refl
 owes_refusal limits device reader words refusals.Usage h = ForUsage h refl

@@ -1,6 +1,8 @@
--- An act is in its own process's script and in no other, so one more act makes that script longer by it.
-use Rattle.std.proofs.Common.{◌≡◌, zero, suc, Bool, true, false, List, [], ◌∷◌, ◌++◌, cond, refl, sym, ap, ◌∙◌}
-use Rattle.std.proofs.Common.{ℕ, ◌+◌, ◌<◌, get_or, set, slice_get, take, length, Some, subst, arith}
+-- An act is in its own process's script and in no other, so one more act makes that script longer
+-- by it.
+use Rattle.std.proofs.Common.{◌≡◌, zero, suc, Bool, true, false, List, [], ◌∷◌, ◌++◌, cond, refl}
+use Rattle.std.proofs.Common.{sym, ap, ◌∙◌, ℕ, ◌+◌, ◌<◌, get_or, set, slice_get, take, length, Some}
+use Rattle.std.proofs.Common.{subst, arith}
 use Rattle.std.specs.List.{AllByRecursion}
 use Rattle.std.specs.Prelude.{replicate}
 use Rattle.std.proofs.lemmas.List.{append-nil, length-map, take_more}
@@ -10,7 +12,8 @@ use Rattle.st_core.specs.declared.types.Pid.{Pid}
 use Rattle.st_core.specs.declared.types.Act.{Act}
 use Rattle.st_core.specs.Pid.{pid_eq, IsRising}
 use Rattle.st_core.specs.Step.{actor}
-use Rattle.st_core.proofs.ForCallers.{pid_eq-same, pid_eq-swap, above_apart, place_within, all_apart}
+use Rattle.st_core.proofs.ForCallers.{pid_eq-same, pid_eq-swap, above_apart, place_within}
+use Rattle.st_core.proofs.ForCallers.{all_apart}
 use Rattle.st_runtime.specs.Driven.{acts_by}
 use Rattle.st_commands.specs.Recorded.{scripts_of}
 
@@ -25,26 +28,31 @@ one_more p xs a b is =
     filter-append (λ x. pid_eq (actor x) p) xs (a ∷ [])
     ∙ ap (λ (t : Bool). acts_by p xs ++ cond t (a ∷ []) []) (pid_eq-swap (actor a) p ∙ is)
 
-not_own : (p : Pid) (xs : List Act) (a : Act) → pid_eq p (actor a) ≡ false → acts_by p (xs ++ a ∷ []) ≡ acts_by p xs
+not_own : (p : Pid) (xs : List Act) (a : Act) → pid_eq p (actor a) ≡ false
+    → acts_by p (xs ++ a ∷ []) ≡ acts_by p xs
 not_own p xs a other = one_more p xs a false other ∙ append-nil (acts_by p xs)
 
-pub unscripted : (ps : List Pid) (xs : List Act) (a : Act) → AllByRecursion (λ p. pid_eq p (actor a) ≡ false) ps
+pub unscripted : (ps : List Pid) (xs : List Act) (a : Act)
+    → AllByRecursion (λ p. pid_eq p (actor a) ≡ false) ps
     → scripts_of ps xs ≡ scripts_of ps (xs ++ a ∷ [])
 unscripted [] xs a others = refl
 unscripted (p ∷ ps) xs a others =
     ap (λ (script : List Act). script ∷ scripts_of ps xs) (sym (not_own p xs a others.0))
-    ∙ ap (λ (scripts : List (List Act)). acts_by p (xs ++ a ∷ []) ∷ scripts) (unscripted ps xs a others.1)
+    ∙ ap (λ (scripts : List (List Act)). acts_by p (xs ++ a ∷ []) ∷ scripts)
+    (unscripted ps xs a others.1)
 
 -- the scripts with the act at the end of the one at place i
 abbrev longer : List (List Act) → ℕ → Act → List (List Act)
 longer scripts i a = set scripts i (get_or scripts i [] ++ a ∷ [])
 
-pub scripted : (ps : List Pid) (xs : List Act) (a : Act) (i : ℕ) → IsRising ps → slice_get ps i ≡ Some (actor a)
+pub scripted : (ps : List Pid) (xs : List Act) (a : Act) (i : ℕ) → IsRising ps
+    → slice_get ps i ≡ Some (actor a)
     → longer (scripts_of ps xs) i a ≡ scripts_of ps (xs ++ a ∷ [])
 scripted [] xs a i rising at = absurd (cc)
 scripted (p ∷ ps) xs a zero rising at =
     let same = same_Some p (actor a) at in
-    let own : pid_eq p (actor a) ≡ true = ap (λ (q : Pid). pid_eq q (actor a)) same ∙ pid_eq-same (actor a) in
+    let own : pid_eq p (actor a) ≡ true =
+    ap (λ (q : Pid). pid_eq q (actor a)) same ∙ pid_eq-same (actor a) in
     ap (λ (script : List Act). script ∷ scripts_of ps xs) (sym (one_more p xs a true own))
     ∙ ap (λ (scripts : List (List Act)). acts_by p (xs ++ a ∷ []) ∷ scripts)
     (unscripted ps xs a (subst (λ (q : Pid). AllByRecursion (λ r. pid_eq r q ≡ false) ps) same
@@ -52,19 +60,23 @@ scripted (p ∷ ps) xs a zero rising at =
 scripted (p ∷ ps) xs a (suc i) rising at =
     let apart = above_apart ps p (actor a) i rising.0 at in
     ap (λ (script : List Act). script ∷ longer (scripts_of ps xs) i a) (sym (not_own p xs a apart))
-    ∙ ap (λ (scripts : List (List Act)). acts_by p (xs ++ a ∷ []) ∷ scripts) (scripted ps xs a i rising.1 at)
+    ∙ ap (λ (scripts : List (List Act)). acts_by p (xs ++ a ∷ []) ∷ scripts)
+    (scripted ps xs a i rising.1 at)
 
 -- ---- the acts up to place k, and the one there
 
-pub next_unscripted : (ps : List Pid) (acts : List Act) (k : ℕ) (d : Act) (scripts : List (List Act))
+pub next_unscripted : (ps : List Pid) (acts : List Act) (k : ℕ) (d : Act)
+    (scripts : List (List Act))
     → scripts ≡ scripts_of ps (take k acts) → k < length acts
-    → AllByRecursion (λ p. pid_eq p (actor (get_or acts k d)) ≡ false) ps → scripts ≡ scripts_of ps (take (k + 1) acts)
+    → AllByRecursion (λ p. pid_eq p (actor (get_or acts k d)) ≡ false) ps
+    → scripts ≡ scripts_of ps (take (k + 1) acts)
 next_unscripted ps acts k d scripts is within others =
     is
     ∙ unscripted ps (take k acts) (get_or acts k d) others
     ∙ ap (scripts_of ps) (sym (take_more acts k d within))
 
-pub next_scripted : (ps : List Pid) (acts : List Act) (k : ℕ) (d : Act) (scripts : List (List Act)) (i : ℕ)
+pub next_scripted : (ps : List Pid) (acts : List Act) (k : ℕ) (d : Act) (scripts : List (List Act))
+    (i : ℕ)
     → scripts ≡ scripts_of ps (take k acts) → k < length acts → IsRising ps
     → slice_get ps i ≡ Some (actor (get_or acts k d))
     → longer scripts i (get_or acts k d) ≡ scripts_of ps (take (k + 1) acts)

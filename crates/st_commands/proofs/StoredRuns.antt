@@ -1,7 +1,8 @@
--- Two stored runs are yeses by the definitions alone: each value that the definitions ask for is computed here.
--- Nothing cites this file; it shows that what `check` is proved to owe of these bytes is what a reader expects.
-use Rattle.std.proofs.Common.{◌≡◌, ℕ, Bool, true, false, List, [], ◌∷◌, ◌++◌, length, Option, Some, None}
-use Rattle.std.proofs.Common.{refl, arith}
+-- Two stored runs are yeses by the definitions alone: each value that the definitions ask for is
+-- computed here. Nothing cites this file; it shows that what `check` is proved to owe of these
+-- bytes is what a reader expects.
+use Rattle.std.proofs.Common.{◌≡◌, ℕ, Bool, true, false, List, [], ◌∷◌, ◌++◌, length, Option, Some}
+use Rattle.std.proofs.Common.{None, refl, arith}
 use Rattle.std.specs.Prelude.{codes}
 use Rattle.std.specs.Fmt.{digits}
 use Rattle.std.specs.Option.{option_map_or}
@@ -74,7 +75,8 @@ print_streams = print_stream ∷ []
 
 abbrev print_acts : List Act
 print_acts =
-    act.Tracer a true ∷ act.Set a (component.Label (label_of 17)) ∷ act.Set a (component.Print true) ∷ act.Print a 7
+    act.Tracer a true ∷ act.Set a (component.Label (label_of 17)) ∷ act.Set a (component.Print true)
+    ∷ act.Print a 7
     ∷ []
 
 printed_fits : FitsEvent (event_of kind.Print 0 1 a None 7)
@@ -93,7 +95,10 @@ unfolding digits
 print_spelled = record {
   text = record {
     bundle = record {
-      streams = record { draft = record { rising = (tt, tt); own = ((refl, tt), tt) }; listed = refl };
+      streams = record {
+        draft = record { rising = (tt, tt); own = ((refl, tt), tt) };
+        listed = refl;
+      };
       listed = refl;
       fits = (
         a_fits,
@@ -112,7 +117,10 @@ print_spelled = record {
     spelled = refl;
   };
   within = record {
-    bytes = let size : length (spelling (record { streams = print_streams; acts = Some print_acts })) ≡ 160 = refl in
+    bytes = let size : length (spelling (record {
+      streams = print_streams;
+      acts = Some print_acts;
+    })) ≡ 160 = refl in
         omega arith;
     processes = omega arith;
     events = omega arith;
@@ -130,7 +138,8 @@ print_verdict =
 
 print_is_yes : IsChecked standard print_bytes (record { text = codes "yes\n"; status = 0 })
 print_is_yes =
-    Judged print_bytes (Yes []) (judgement standard print_bytes print_streams print_acts (Yes []) print_spelled
+    Judged print_bytes (Yes []) (judgement standard print_bytes print_streams print_acts
+    (Yes []) print_spelled
     print_verdict)
 
 -- ---- two receives whose sends nobody reported
@@ -158,17 +167,26 @@ token_of r p from =
     }
 
 abbrev a_stream : Stream
-a_stream = record { pid = a; events = event_of kind.Print 0 1 a None 7 ∷ event_of kind.Receive 2 4 b (Some a) 6 ∷ [] }
+a_stream = record {
+  pid = a;
+  events = event_of kind.Print 0 1 a None 7
+      ∷ event_of kind.Receive 2 4 b (Some a) 6 ∷ [];
+}
 
 abbrev b_stream : Stream
-b_stream = record { pid = b; events = event_of kind.Receive 0 2 a (Some b) 5 ∷ event_of kind.Print 2 3 b None 8 ∷ [] }
+b_stream = record {
+  pid = b;
+  events = event_of kind.Receive 0 2 a (Some b) 5
+      ∷ event_of kind.Print 2 3 b None 8 ∷ [];
+}
 
 abbrev hidden_streams : List Stream
 hidden_streams = a_stream ∷ b_stream ∷ []
 
 abbrev hidden_acts : List Act
 hidden_acts =
-    act.Tracer a true ∷ act.Restore a (token_of false true a) ∷ act.Print a 7 ∷ act.Restore a (token_of true false a)
+    act.Tracer a true ∷ act.Restore a (token_of false true a) ∷ act.Print a 7
+    ∷ act.Restore a (token_of true false a)
     ∷ act.Send a b 5
     ∷ act.Receive b (want.Place 0) ∷ act.Restore b (token_of false true b) ∷ act.Print b 8
     ∷ act.Restore b (token_of true false b) ∷ act.Send b a 6
@@ -176,11 +194,19 @@ hidden_acts =
 
 a_token_fits : (r p : Bool) → FitsToken (token_of r p a)
 a_token_fits r p =
-    record { label = omega arith; serial = record { prev = omega arith; this = omega arith }; from = a_fits }
+    record {
+      label = omega arith;
+      serial = record { prev = omega arith; this = omega arith };
+      from = a_fits;
+    }
 
 b_token_fits : (r p : Bool) → FitsToken (token_of r p b)
 b_token_fits r p =
-    record { label = omega arith; serial = record { prev = omega arith; this = omega arith }; from = b_fits }
+    record {
+      label = omega arith;
+      serial = record { prev = omega arith; this = omega arith };
+      from = b_fits;
+    }
 
 got_6_fits : FitsEvent (event_of kind.Receive 2 4 b (Some a) 6)
 got_6_fits =
@@ -282,7 +308,10 @@ hidden_spelled = record {
     spelled = refl;
   };
   within = record {
-    bytes = let size : length (spelling (record { streams = hidden_streams; acts = Some hidden_acts })) ≡ 597 =
+    bytes = let size : length (spelling (record {
+      streams = hidden_streams;
+      acts = Some hidden_acts;
+    })) ≡ 597 =
         refl in omega arith;
     processes = omega arith;
     events = omega arith;
@@ -306,8 +335,10 @@ hidden_verdict =
       refl,
     )
 
-hidden_is_yes : IsChecked standard hidden_bytes (record { text = codes "yes\npair 5 4\npair 10 9\n"; status = 0 })
+hidden_is_yes : IsChecked standard hidden_bytes
+    (record { text = codes "yes\npair 5 4\npair 10 9\n"; status = 0 })
 unfolding digits
 hidden_is_yes =
     Judged hidden_bytes (Yes hidden_pairs)
-    (judgement standard hidden_bytes hidden_streams hidden_acts (Yes hidden_pairs) hidden_spelled hidden_verdict)
+    (judgement standard hidden_bytes hidden_streams hidden_acts
+    (Yes hidden_pairs) hidden_spelled hidden_verdict)

@@ -13,4 +13,9 @@ verdict_some (Stuck n) = line_some (codes "no stuck " ++ decimal n)
 verdict_some (Differs n) = line_some (codes "no differs " ++ decimal n)
 verdict_some (Left p) = line_some (codes "no left " ++ spelled.pid p)
 verdict_some (Yes ps) =
-    omega (arith, line_some (codes "yes"), length-append (ended_line (codes "yes")) (flat_map pair_line ps))
+    omega (
+      arith,
+      line_some (codes "yes"),
+      length-append (ended_line (codes "yes"))
+          (flat_map pair_line ps),
+    )

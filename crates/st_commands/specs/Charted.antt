@@ -39,7 +39,7 @@ pub record HasOrder (limits : Limits) (bytes : List ℕ) (streams : List Stream)
   pub order : IsOrder streams items
 
 -- the bytes spell streams that pairing refuses, and this is its reason as a finding
-pub record HasReason (limits : Limits) (bytes : List ℕ) (streams : List Stream)
+pub record HasPairFault (limits : Limits) (bytes : List ℕ) (streams : List Stream)
     (found : Finding) : Type 0 where
   pub given : Option (List Act)
   pub spelled : Spells limits bytes streams given
@@ -58,7 +58,7 @@ pub data IsCharted (limits : Limits) (label : Label) : List ℕ → Output → T
       → list_any (item_has_label streams label) items ≡ false
       → IsCharted limits label bytes (no_label label)
   Unpaired : (bytes : List ℕ) (streams : List Stream) (found : Finding)
-      → HasReason limits bytes streams found
+      → HasPairFault limits bytes streams found
       → IsCharted limits label bytes (report_output streams found)
   Faulty : (bytes : List ℕ) (f : ReadFault) → fault_within limits bytes ≡ Some f
       → IsCharted limits label bytes (refused f)

@@ -9,7 +9,7 @@ use Rattle.st_text.specs.Writing.{Writes, WritesPart}
 use Rattle.clap.specs.Words.{Text}
 use Rattle.st_commands.specs.declared.words.Task.{Task}
 use Rattle.st_commands.specs.declared.words.Task.TheVariants as task
-use Rattle.st_commands.specs.Words.{asked}
+use Rattle.st_commands.specs.Words.{task_asked}
 use Rattle.st_commands.specs.Output.{Output, no_memory, no_device, usage}
 use Rattle.st_commands.specs.Checked.{IsChecked}
 use Rattle.st_commands.specs.Audited.{IsAudited}
@@ -71,8 +71,9 @@ module _ (limits : Limits) {R : Type 0} (reader : ReaderCall R) where
 
   -- the output that the program owes, by its words: if they ask for no command, nothing is read
   pub data OwesFor (words : List Text) : Output → Type 0 where
-    ForCommand : (t : Task) (out : Output) → asked words ≡ Some t → OwesBy t out → OwesFor words out
-    ForUsage : asked words ≡ None → reader.new ≡ reader.old → OwesFor words usage
+    ForCommand : (t : Task) (out : Output) → task_asked words ≡ Some t → OwesBy t out
+        → OwesFor words out
+    ForUsage : task_asked words ≡ None → reader.new ≡ reader.old → OwesFor words usage
     ForNoMemory : reader.new ≡ reader.old → OwesFor words no_memory
 
 -- ---- writing

@@ -7,21 +7,21 @@ use Rattle.st_commands.specs.declared.lines.OutputLine.TheVariants as lines
 use Rattle.st_commands.specs.Output.{pair_words, fault_words, usage_words}
 use Rattle.st_commands.specs.Recorded.{act_fault_words}
 
-abbrev pub words_of : OutputLine → List ℕ
-words_of lines.Yes = codes "yes"
-words_of (lines.Pair r s) = pair_words (r, s)
-words_of (lines.Stuck n) = codes "no stuck " ++ decimal n
-words_of (lines.Differs n) = codes "no differs " ++ decimal n
-words_of (lines.Left p) = codes "no left " ++ spelled.pid p
-words_of (lines.NoLabel l) = codes "no label " ++ spelled.label l
-words_of (lines.Fault f) = fault_words f
-words_of lines.NoActs = codes "fault no acts"
-words_of (lines.ActFault p n) = act_fault_words p n
-words_of lines.ThreadFault = codes "fault thread"
-words_of lines.JoinFault = codes "fault join"
-words_of lines.Usage = usage_words
+abbrev pub output_words : OutputLine → List ℕ
+output_words lines.Yes = codes "yes"
+output_words (lines.Pair r s) = pair_words (r, s)
+output_words (lines.Stuck n) = codes "no stuck " ++ decimal n
+output_words (lines.Differs n) = codes "no differs " ++ decimal n
+output_words (lines.Left p) = codes "no left " ++ spelled.pid p
+output_words (lines.NoLabel l) = codes "no label " ++ spelled.label l
+output_words (lines.Fault f) = fault_words f
+output_words lines.NoActs = codes "fault no acts"
+output_words (lines.ActFault p n) = act_fault_words p n
+output_words lines.ThreadFault = codes "fault thread"
+output_words lines.JoinFault = codes "fault join"
+output_words lines.Usage = usage_words
 
 -- how many bytes the words of a line take at most, each number given the room of the longest: an
 -- act that was refused
-abbrev pub words_room : ℕ
-words_room = 11 + pid_room + number_room
+abbrev pub output_room : ℕ
+output_room = 11 + pid_room + number_room

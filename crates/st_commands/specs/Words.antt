@@ -69,8 +69,8 @@ task_of name found =
 
 -- the command that the words ask for, by the subcommand that `clap` finds in them; none if it
 -- refuses them, or if it finds no subcommand
-abbrev pub asked : List Text → Option Task
-asked words =
+abbrev pub task_asked : List Text → Option Task
+task_asked words =
     if is_empty (fault_of command_line words) then option_and_then (λ p. task_of p.0 p.1)
     (subcommand_of command_line words) else None
 
@@ -84,4 +84,4 @@ IsRefusalOf kind refused.Usage = kind ≢ kinds.OutOfMemory
 -- words are refused because memory ran out, or because they ask for no command
 abbrev pub IsRefusal : List Text → Refusal → Type 0
 IsRefusal words refused.Memory = Unit {0}
-IsRefusal words refused.Usage = asked words ≡ None
+IsRefusal words refused.Usage = task_asked words ≡ None

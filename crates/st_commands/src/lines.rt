@@ -7,7 +7,7 @@ ghost use Rattle.st_check.specs.Answers.{verdict_of};
 ghost use Rattle.st_text.specs.Room.{HasRoom, Puts};
 ghost use Rattle.st_text.specs.Spelling.{ended_line};
 ghost use Rattle.st_text.specs.Writing.{WritesOn, WritesText};
-ghost use Rattle.st_commands.specs.Lines.{words_of, words_room};
+ghost use Rattle.st_commands.specs.Lines.{output_words, output_room};
 ghost use Rattle.st_commands.specs.Output.{fault_words, pair_words, pair_line, verdict_text};
 ghost use Rattle.st_commands.specs.Recorded.{act_fault_words};
 
@@ -48,8 +48,8 @@ pub(crate) enum OutputLine {
 
 /// Appends the numbers of a receive's act and of its send's.
 fn put_pair(buffer: &mut Buffer, receive: u64, send: u64)
-    requires { HasRoom words_room buffer.old }
-    ensures { Puts words_room (pair_words (receive, send)) buffer.old buffer.new }
+    requires { HasRoom output_room buffer.old }
+    ensures { Puts output_room (pair_words (receive, send)) buffer.old buffer.new }
 {
     put_numbered(buffer, b"pair ", receive);
     put_numbered(buffer, b" ", send);
@@ -57,8 +57,8 @@ fn put_pair(buffer: &mut Buffer, receive: u64, send: u64)
 
 /// Appends the words of a fault.
 fn put_fault(buffer: &mut Buffer, fault: ReadFault)
-    requires { HasRoom words_room buffer.old }
-    ensures { Puts words_room (fault_words fault) buffer.old buffer.new }
+    requires { HasRoom output_room buffer.old }
+    ensures { Puts output_room (fault_words fault) buffer.old buffer.new }
 {
     match fault {
         ReadFault::Memory => put_bytes(buffer, b"fault memory"),
@@ -75,8 +75,8 @@ fn put_fault(buffer: &mut Buffer, fault: ReadFault)
 
 /// Appends the words of an act that was refused.
 fn put_act_fault(buffer: &mut Buffer, pid: Pid, n: u64)
-    requires { HasRoom words_room buffer.old }
-    ensures { Puts words_room (act_fault_words pid n) buffer.old buffer.new }
+    requires { HasRoom output_room buffer.old }
+    ensures { Puts output_room (act_fault_words pid n) buffer.old buffer.new }
 {
     put_bytes(buffer, b"fault act ");
     put_pid(buffer, pid);
@@ -84,7 +84,7 @@ fn put_act_fault(buffer: &mut Buffer, pid: Pid, n: u64)
 }
 
 impl TextLine for OutputLine {
-    ghost words = { words_of };
+    ghost words = { output_words };
 
     fn put_words(self, buffer: &mut Buffer) {
         match self {

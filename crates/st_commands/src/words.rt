@@ -3,7 +3,7 @@
 
 ghost use Rattle.std.specs.Prelude.{◌≡◌, Some, IfOk, IfErr, map};
 ghost use Rattle.clap.specs.Words.{app_of, found_of, kind_of, rows_of};
-ghost use Rattle.st_commands.specs.Words.{asked, chart_line, chart_of, command_line, task_of};
+ghost use Rattle.st_commands.specs.Words.{task_asked, chart_line, chart_of, command_line, task_of};
 ghost use Rattle.st_commands.specs.Words.{IsRefusal, IsRefusalOf};
 
 use clap::error::ErrorKind;
@@ -113,7 +113,7 @@ fn why_refused(error: &clap::Error) -> Refusal
 
 /// The command that the words ask for. The first word is the program's name.
 pub fn read_words<S: AsStr>(alloc: Global, words: &[S]) -> Result<Task, Refusal>
-    ensures task { IfOk result (λ task. asked (map S.text words.now) ≡ Some task) }
+    ensures task { IfOk result (λ task. task_asked (map S.text words.now) ≡ Some task) }
     ensures refusal { IfErr result (λ refusal. IsRefusal (map S.text words.now) refusal) }
 {
     let Ok(program) = command_line(alloc) else {

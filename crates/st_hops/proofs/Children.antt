@@ -1,6 +1,7 @@
--- An event is directly below another exactly if its hop leads there. A receive, since its send names it as it
--- names its send. A stamp, since the receive that its hop names is directly before its row, so that the stamp
--- is in the row behind that receive; and the row of a stamp in it goes back to the receive.
+-- An event is directly below another exactly if its hop leads there. A receive, since its send
+-- names it as it names its send. A stamp, since the receive that its hop names is directly before
+-- its row, so that the stamp is in the row behind that receive; and the row of a stamp in it goes
+-- back to the receive.
 use Rattle.std.proofs.Common.{◌≡◌, ℕ, ◌+◌, ◌-◌, ◌≤◌, ◌==◌, ◌||◌, zero, suc, Bool, true, false, cond}
 use Rattle.std.proofs.Common.{List, [], ◌∷◌, ◌++◌, take, drop, Option, Some, None}
 use Rattle.std.proofs.Common.{option_and_then, slice_get}
@@ -52,7 +53,8 @@ prefix_more test x xs false is = ap (λ b. cond b (1 + prefix_len test xs) 0) is
 
 -- what passes with all before it is in the part of a list that passes
 taken_in : (test : Event → Bool) (xs : List Event) (m : ℕ) (e : Event)
-    → ((n : ℕ) (d : Event) → n ≤ m → slice_get xs n ≡ Some d → test d ≡ true) → slice_get xs m ≡ Some e
+    → ((n : ℕ) (d : Event) → n ≤ m → slice_get xs n ≡ Some d → test d ≡ true)
+    → slice_get xs m ≡ Some e
     → slice_get (take (prefix_len test xs) xs) m ≡ Some e
 taken_in test [] m e all at = absurd (none-some e at)
 taken_in test (x ∷ xs) zero e all at =
@@ -68,18 +70,21 @@ record IsTakenFrom (test : Event → Bool) (xs : List Event) (m : ℕ) (e : Even
   at : slice_get xs m ≡ Some e
   all : (n : ℕ) (d : Event) → n ≤ m → slice_get xs n ≡ Some d → test d ≡ true
 
-passes_first : (test : Event → Bool) (x : Event) (xs : List Event) (n : ℕ) (d : Event) → test x ≡ true → n ≡ 0
+passes_first : (test : Event → Bool) (x : Event) (xs : List Event) (n : ℕ) (d : Event)
+    → test x ≡ true → n ≡ 0
     → slice_get (x ∷ xs) n ≡ Some d → test d ≡ true
 passes_first test x xs zero d is none there = ap test (sym (same_Some x d there)) ∙ is
 passes_first test x xs (suc n) d is none there = absurd (omega arith)
 
-passes_next : (test : Event → Bool) (x : Event) (xs : List Event) (m n : ℕ) (d : Event) → test x ≡ true
+passes_next : (test : Event → Bool) (x : Event) (xs : List Event) (m n : ℕ) (d : Event)
+    → test x ≡ true
     → ((k : ℕ) (f : Event) → k ≤ m → slice_get xs k ≡ Some f → test f ≡ true) → n ≤ suc m
     → slice_get (x ∷ xs) n ≡ Some d → test d ≡ true
 passes_next test x xs m zero d is all less there = ap test (sym (same_Some x d there)) ∙ is
 passes_next test x xs m (suc n) d is all less there = all n d (omega arith) there
 
-taken_first : (test : Event → Bool) (x : Event) (xs : List Event) (m : ℕ) (e : Event) → test x ≡ true
+taken_first : (test : Event → Bool) (x : Event) (xs : List Event) (m : ℕ) (e : Event)
+    → test x ≡ true
     → slice_get (take (suc (prefix_len test xs)) (x ∷ xs)) m ≡ Some e
     → ((k : ℕ) → slice_get (take (prefix_len test xs) xs) k ≡ Some e → IsTakenFrom test xs k e)
     → IsTakenFrom test (x ∷ xs) m e
@@ -87,7 +92,11 @@ taken_first test x xs zero e is at rest =
     record { at = at; all = λ n d less there. passes_first test x xs n d is (omega arith) there }
 taken_first test x xs (suc m) e is at rest =
     let later = rest m at in
-    record { at = later.at; all = λ n d less there. passes_next test x xs m n d is later.all less there }
+    record {
+      at = later.at;
+      all = λ n d less there. passes_next test x xs m n d is later.all less
+          there;
+    }
 
 taken_out : (test : Event → Bool) (xs : List Event) (m : ℕ) (e : Event)
     → slice_get (take (prefix_len test xs) xs) m ≡ Some e → IsTakenFrom test xs m e
@@ -115,7 +124,8 @@ module _ (all : Bool) (p : Pid) (label : Label) where
   abbrev wanted : Event → Bool
   wanted e = all || e.label.0 == label.0
 
-  placed_in : (first : ℕ) (row : List Event) (m : ℕ) (e : Event) → slice_get row m ≡ Some e → wanted e ≡ true
+  placed_in : (first : ℕ) (row : List Event) (m : ℕ) (e : Event) → slice_get row m ≡ Some e
+      → wanted e ≡ true
       → IsAmong (places_of all p label first row) (p, first + m)
   placed_in first [] m e at is = absurd (none-some e at)
   placed_in first (x ∷ row) zero e at is =
@@ -123,7 +133,8 @@ module _ (all : Bool) (p : Pid) (label : Label) where
       let number : first ≡ first + 0 = omega arith in
       let place = λ (n : ℕ). (let y : Pid × ℕ = (p, n) in y) in (
         0,
-        ap (λ b. slice_get (cond b (place first ∷ []) [] ++ places_of all p label (first + 1) row) 0) one
+        ap (λ b. slice_get (cond b (place first ∷ []) [] ++ places_of all p label
+            (first + 1) row) 0) one
             ∙ ap (λ n. Some (place n)) number,
       )
   placed_in first (x ∷ row) (suc m) e at is =
@@ -152,11 +163,19 @@ module _ (all : Bool) (p : Pid) (label : Label) where
       let index = h.index in
       let offset = h.offset in
       let number : first + suc offset ≡ y.1 = omega arith in
-      record { offset = suc offset; event = h.event; at = h.at; is_wanted = h.is_wanted; pid = h.pid; index = number }
+      record {
+        offset = suc offset;
+        event = h.event;
+        at = h.at;
+        is_wanted = h.is_wanted;
+        pid = h.pid;
+        index = number;
+      }
 
   own_place : (first : ℕ) (x : Event) (row : List Event) (k : ℕ) (y : Pid × ℕ) → wanted x ≡ true
       → slice_get ((p, first) ∷ places_of all p label (first + 1) row) k ≡ Some y
-      → ((j : ℕ) → slice_get (places_of all p label (first + 1) row) j ≡ Some y → IsPlaceOf (first + 1) row y)
+      → ((j : ℕ) → slice_get (places_of all p label (first + 1) row) j ≡ Some y
+      → IsPlaceOf (first + 1) row y)
       → IsPlaceOf first (x ∷ row) y
   own_place first x row zero y is at rest =
       let same = same_Some (p, first) y at in
@@ -178,15 +197,18 @@ module _ (all : Bool) (p : Pid) (label : Label) where
       elim (wanted x) as (λ b. wanted x ≡ b
       → slice_get (cond b ((p, first) ∷ []) [] ++ places_of all p label (first + 1) row) k ≡ Some y
       → IsPlaceOf first (x ∷ row) y) [
-        | true ↦ λ is at. own_place first x row k y is at (λ j there. placed_out (first + 1) row j y there)
+        | true ↦ λ is at. own_place first x row k y is at
+            (λ j there. placed_out (first + 1) row j y there)
         | false ↦ λ _ at. one_more first x row y (placed_out (first + 1) row k y at)
       ] refl at
 
-if_given : {X : Type 0} (b : Bool) (o : Option X) (y : X) → cond b o None ≡ Some y → (b ≡ true) × (o ≡ Some y)
+if_given : {X : Type 0} (b : Bool) (o : Option X) (y : X) → cond b o None ≡ Some y
+    → (b ≡ true) × (o ≡ Some y)
 if_given {X} true o y h = (refl, h)
 if_given {X} false o y h = absurd (none-some y h)
 
-unless_given : {X : Type 0} (b : Bool) (x y : X) → cond b None (Some x) ≡ Some y → (b ≡ false) × (x ≡ y)
+unless_given : {X : Type 0} (b : Bool) (x y : X) → cond b None (Some x) ≡ Some y
+    → (b ≡ false) × (x ≡ y)
 unless_given {X} true x y h = absurd (none-some y h)
 unless_given {X} false x y h = (refl, same_Some x y h)
 
@@ -194,7 +216,8 @@ unless_given {X} false x y h = (refl, same_Some x y h)
 
 send_kind : (e : Event) → is_send e ≡ true → e.kind ≡ kind.Send
 send_kind e is = elim e.kind as (λ k.
-    (let b : Bool = elim k [ kind.Send ↦ true | kind.Receive ↦ false | kind.Print ↦ false ] in b) ≡ true
+    (let b : Bool = elim k [ kind.Send ↦ true | kind.Receive ↦ false | kind.Print ↦ false ] in b)
+    ≡ true
     → k ≡ kind.Send) [
       | kind.Send ↦ λ h. refl
       | kind.Receive ↦ λ h. absurd (false≢true h)
@@ -203,7 +226,8 @@ send_kind e is = elim e.kind as (λ k.
 
 receive_kind : (e : Event) → is_receive e ≡ true → e.kind ≡ kind.Receive
 receive_kind e is = elim e.kind as (λ k.
-    (let b : Bool = elim k [ kind.Send ↦ false | kind.Receive ↦ true | kind.Print ↦ false ] in b) ≡ true
+    (let b : Bool = elim k [ kind.Send ↦ false | kind.Receive ↦ true | kind.Print ↦ false ] in b)
+    ≡ true
     → k ≡ kind.Receive) [
       | kind.Send ↦ λ h. absurd (false≢true h)
       | kind.Receive ↦ λ h. refl
@@ -213,8 +237,10 @@ receive_kind e is = elim e.kind as (λ k.
 stamp_row : (prev : ℕ) (e : Event) → is_stamp e ≡ true → e.serial.prev ≡ prev → in_row prev e ≡ true
 stamp_row prev e stamps is =
     let other : not (is_receive e) ≡ true = elim e.kind as (λ k.
-    (let b : Bool = elim k [ kind.Send ↦ true | kind.Receive ↦ false | kind.Print ↦ true ] in b) ≡ true
-    → not (let b : Bool = elim k [ kind.Send ↦ false | kind.Receive ↦ true | kind.Print ↦ false ] in b) ≡ true) [
+    (let b : Bool = elim k [ kind.Send ↦ true | kind.Receive ↦ false | kind.Print ↦ true ] in b)
+    ≡ true
+    → not (let b : Bool = elim k [ kind.Send ↦ false | kind.Receive ↦ true | kind.Print ↦ false ] in
+    b) ≡ true) [
       | kind.Send ↦ λ h. refl
       | kind.Receive ↦ λ h. h
       | kind.Print ↦ λ h. refl
@@ -281,8 +307,10 @@ module _ (streams : List Stream) (across : Bool) where
       ])
       (dropped (j + 1) es m ∙ ap (slice_get es) whole ∙ at))
 
-  stamp_below : (p : Pid) (i : ℕ) (e : Event) (j : ℕ) → event_at streams p i ≡ Some e → is_stamp e ≡ true
-      → receive_before e.serial.prev (events_of streams p) (row_start e.serial.prev (events_of streams p) i) ≡ Some j
+  stamp_below : (p : Pid) (i : ℕ) (e : Event) (j : ℕ) → event_at streams p i ≡ Some e
+      → is_stamp e ≡ true
+      → receive_before e.serial.prev (events_of streams p)
+      (row_start e.serial.prev (events_of streams p) i) ≡ Some j
       → (across || ((label_at_or (events_of streams p) j e.label).0 == e.label.0)) ≡ true
       → IsAmong (children streams across (p, j)) (p, i)
   stamp_below p i e j at stamps before wanted =
@@ -295,7 +323,8 @@ module _ (streams : List Stream) (across : Bool) where
       let m = i - (j + 1) in
       let whole : j + 1 + m ≡ i = omega arith in
       let row = row_ahead d.serial.this (drop (j + 1) es) in
-      let place = placed_in across p d.label (j + 1) row m e (in_row_behind es i e j x at stamps m whole)
+      let place = placed_in across p d.label (j + 1) row m e
+      (in_row_behind es i e j x at stamps m whole)
       (sym (asked_label es j d e x.at) ∙ wanted) in
       let own = λ (f : Event). children_of streams across p j f in
       let below : children streams across (p, j) ≡ places_of across p d.label (j + 1) row =
@@ -310,15 +339,18 @@ module _ (streams : List Stream) (across : Bool) where
             ∙ place.1 ∙ ap (λ n. (let y : Option (Pid × ℕ) = Some (p, n) in y)) whole,
       )
 
-  receive_below : IsStreams streams → refusal streams ≡ None → (p : Pid) (i : ℕ) (e : Event) (q : Pid) (j : ℕ)
+  receive_below : IsStreams streams → refusal streams ≡ None
+      → (p : Pid) (i : ℕ) (e : Event) (q : Pid) (j : ℕ)
       → event_at streams p i ≡ Some e → is_stamp e ≡ false → source_of streams e ≡ source.Event q j
       → IsAmong (children streams across (q, j)) (p, i)
   receive_below sound ok p i e q j at receives is =
       let sourced : source_at streams p i ≡ Some (source.Event q j) =
       ap (option_and_then (λ (f : Event). cond (is_stamp f) None (Some (source_of streams f)))) at
       ∙ ap (λ b. cond b None (Some (source_of streams e))) receives ∙ ap Some is in
-      let received = receiver_from_source streams sound.draft.rising (paired streams ok) p i q j sourced in
-      option_and_then_some (λ (f : Event). cond (is_send f) (receive_of streams q f.serial.this) None)
+      let received = receiver_from_source streams sound.draft.rising
+      (paired streams ok) p i q j sourced in
+      option_and_then_some (λ (f : Event). cond (is_send f)
+      (receive_of streams q f.serial.this) None)
       (event_at streams q j) (p, i) received (λ f there given.
       let parts = if_given (is_send f) (receive_of streams q f.serial.this) (p, i) given in (
         0,
@@ -345,15 +377,18 @@ module _ (streams : List Stream) (across : Bool) where
       let es = events_of streams p in
       let k = row_start e.serial.prev es i in
       let parts = when_wanted across ((label_at_or es j e.label).0 == e.label.0) (p, j) x
-      (sym (next_by_label across p (hop.After j) j (label_at_or es j e.label) e.label refl) ∙ leads) in
+      (sym (next_by_label across p (hop.After j) j (label_at_or es j e.label) e.label refl)
+      ∙ leads) in
       subst (λ y. IsAmong (children streams across y) (p, i)) parts.0
       (stamp_below p i e j at stamps
-      (after_receive e.serial.prev j (has_above e.serial.prev es k) (receive_before e.serial.prev es k) is) parts.1)
+      (after_receive e.serial.prev j (has_above e.serial.prev es k)
+      (receive_before e.serial.prev es k) is) parts.1)
   evidence_below p i e x at stamps (what.AfterOrBegins j) is leads =
       let es = events_of streams p in
       let k = row_start e.serial.prev es i in
       let parts = when_wanted across ((label_at_or es j e.label).0 == e.label.0) (p, j) x
-      (sym (next_by_label across p (hop.AfterOneLabel j) j (label_at_or es j e.label) e.label refl) ∙ leads) in
+      (sym (next_by_label across p (hop.AfterOneLabel j) j (label_at_or es j e.label) e.label refl)
+      ∙ leads) in
       subst (λ y. IsAmong (children streams across y) (p, i)) parts.0
       (stamp_below p i e j at stamps
       (or_begins_receive e.serial.prev j (has_above e.serial.prev es k)
@@ -362,7 +397,8 @@ module _ (streams : List Stream) (across : Bool) where
   evidence_below p i e x at stamps what.Begins is leads = absurd (none-some x leads)
   evidence_below p i e x at stamps what.BeginsOrUnreported is leads = absurd (none-some x leads)
 
-  sent_below : IsStreams streams → refusal streams ≡ None → (p : Pid) (i : ℕ) (e : Event) (x : Pid × ℕ) (s : Source)
+  sent_below : IsStreams streams → refusal streams ≡ None
+      → (p : Pid) (i : ℕ) (e : Event) (x : Pid × ℕ) (s : Source)
       → event_at streams p i ≡ Some e → is_stamp e ≡ false → source_of streams e ≡ s
       → next_of across p (hop_to_send s) ≡ Some x → IsAmong (children streams across x) (p, i)
   sent_below sound ok p i e x (source.Event q j) at receives is leads =
@@ -370,19 +406,24 @@ module _ (streams : List Stream) (across : Bool) where
       (receive_below sound ok p i e q j at receives is)
   sent_below sound ok p i e x source.Hidden at receives is leads = absurd (none-some x leads)
 
-pub all_below : (streams : List Stream) (across : Bool) (x y : Pid × ℕ) → IsStreams streams → refusal streams ≡ None
+pub all_below : (streams : List Stream) (across : Bool) (x y : Pid × ℕ) → IsStreams streams
+    → refusal streams ≡ None
     → next_at streams across y ≡ Some x → IsAmong (children streams across x) y
 all_below streams across x y sound ok leads =
     let p = y.0 in
     let i = y.1 in
     let es = events_of streams p in
-    option_and_then_some (λ (e : Event). next_of across p (hop_of streams p i e)) (event_at streams p i) x leads
+    option_and_then_some (λ (e : Event). next_of across p (hop_of streams p i e))
+    (event_at streams p i) x leads
     (λ e at given.
     elim (is_stamp e) as (λ b. is_stamp e ≡ b
-    → next_of across p (cond b (hop_by es e.label (origin_evidence e.serial.prev es i)) (hop_to_send (source_of streams e)))
+    → next_of across p (cond b (hop_by es e.label (origin_evidence e.serial.prev es i))
+    (hop_to_send (source_of streams e)))
     ≡ Some x → IsAmong (children streams across x) y) [
-      | true ↦ λ stamps is. evidence_below streams across p i e x at stamps (origin_evidence e.serial.prev es i) refl is
-      | false ↦ λ receives is. sent_below streams across sound ok p i e x (source_of streams e) at receives refl is
+      | true ↦ λ stamps is. evidence_below streams across p i e x at stamps
+          (origin_evidence e.serial.prev es i) refl is
+      | false ↦ λ receives is. sent_below streams across sound ok p i e x
+          (source_of streams e) at receives refl is
     ] refl given)
 
 -- ALL THAT IS BELOW FOLLOWS
@@ -391,8 +432,10 @@ row_stamps : (prev : ℕ) (e : Event) → in_row prev e ≡ true → is_stamp e 
 row_stamps prev e is =
     let other = (and_parts (not (is_receive e)) (e.serial.prev == prev) is).0 in
     elim e.kind as (λ k.
-    not (let b : Bool = elim k [ kind.Send ↦ false | kind.Receive ↦ true | kind.Print ↦ false ] in b) ≡ true
-    → (let b : Bool = elim k [ kind.Send ↦ true | kind.Receive ↦ false | kind.Print ↦ true ] in b) ≡ true) [
+    not (let b : Bool = elim k [ kind.Send ↦ false | kind.Receive ↦ true | kind.Print ↦ false ] in
+    b) ≡ true
+    → (let b : Bool = elim k [ kind.Send ↦ true | kind.Receive ↦ false | kind.Print ↦ true ] in b)
+    ≡ true) [
       | kind.Send ↦ λ h. refl
       | kind.Receive ↦ λ h. h
       | kind.Print ↦ λ h. refl
@@ -405,7 +448,8 @@ wanted_leads true false x h = refl
 wanted_leads false true x h = refl
 wanted_leads false false x h = absurd (false≢true h)
 
-listed_one : (o : Option (Pid × ℕ)) (k : ℕ) (y : Pid × ℕ) → slice_get (option_to_list o) k ≡ Some y → o ≡ Some y
+listed_one : (o : Option (Pid × ℕ)) (k : ℕ) (y : Pid × ℕ) → slice_get (option_to_list o) k ≡ Some y
+    → o ≡ Some y
 listed_one None k y h = absurd (none-some y h)
 listed_one (Some x) zero y h = h
 listed_one (Some x) (suc k) y h = absurd (none-some y h)
@@ -414,10 +458,12 @@ module _ (streams : List Stream) (across : Bool) where
   -- the hop of an event, by what it is
   stamp_next : (p : Pid) (i : ℕ) (e : Event) → event_at streams p i ≡ Some e → is_stamp e ≡ true
       → next_at streams across (p, i)
-      ≡ next_of across p (hop_by (events_of streams p) e.label (origin_evidence e.serial.prev (events_of streams p) i))
+      ≡ next_of across p (hop_by (events_of streams p) e.label
+      (origin_evidence e.serial.prev (events_of streams p) i))
   stamp_next p i e at stamps =
       ap (option_and_then (λ (f : Event). next_of across p (hop_of streams p i f))) at
-      ∙ ap (λ b. next_of across p (cond b (hop_by (events_of streams p) e.label (origin_evidence e.serial.prev
+      ∙ ap (λ b. next_of across p (cond b (hop_by (events_of streams p) e.label
+      (origin_evidence e.serial.prev
       (events_of streams p) i))
       (hop_to_send (source_of streams e)))) stamps
 
@@ -425,14 +471,17 @@ module _ (streams : List Stream) (across : Bool) where
       → next_at streams across (p, i) ≡ next_of across p (hop_to_send (source_of streams e))
   receive_next p i e at receives =
       ap (option_and_then (λ (f : Event). next_of across p (hop_of streams p i f))) at
-      ∙ ap (λ b. next_of across p (cond b (hop_by (events_of streams p) e.label (origin_evidence e.serial.prev
+      ∙ ap (λ b. next_of across p (cond b (hop_by (events_of streams p) e.label
+      (origin_evidence e.serial.prev
       (events_of streams p) i))
       (hop_to_send (source_of streams e)))) receives
 
   -- a stamp of the row behind a receive leads to it
-  row_leads : (p : Pid) (j : ℕ) (d : Event) (m : ℕ) (e : Event) → event_at streams p j ≡ Some d → is_receive d ≡ true
+  row_leads : (p : Pid) (j : ℕ) (d : Event) (m : ℕ) (e : Event) → event_at streams p j ≡ Some d
+      → is_receive d ≡ true
       → slice_get (row_ahead d.serial.this (drop (j + 1) (events_of streams p))) m ≡ Some e
-      → (across || e.label.0 == d.label.0) ≡ true → next_at streams across (p, j + 1 + m) ≡ Some (p, j)
+      → (across || e.label.0 == d.label.0) ≡ true → next_at streams across (p, j + 1 + m)
+      ≡ Some (p, j)
   row_leads p j d m e at receive there wanted =
       let es = events_of streams p in
       let this = d.serial.this in
@@ -447,45 +496,58 @@ module _ (streams : List Stream) (across : Bool) where
       let n = z - (j + 1) in
       let number : j + 1 + n ≡ z = omega arith in
       let f = get_or es z blank in
-      let found : slice_get es z ≡ Some f = at_get_or es z blank (omega arith) in
-      (f, found, x.all n f (omega arith) (dropped (j + 1) es n ∙ ap (slice_get es) number ∙ found)) in
+      let found : slice_get es z ≡ Some f = at_get_or es z blank (omega arith) in (
+        f,
+        found,
+        x.all n f (omega arith) (dropped (j + 1) es n ∙ ap (slice_get es) number
+            ∙ found),
+      ) in
       let next : j + 1 ≡ suc j = omega arith in
       let start : row_start this es i ≡ suc j =
       row_passes this es (j + 1) i (omega arith) between ∙ ap (row_start this es) next
       ∙ row_stops this es j d at receive in
-      let by = λ (k : ℕ). origin_evidence_by this (has_above this es k) (receive_before this es k) in
+      let by = λ (k : ℕ). origin_evidence_by this (has_above this es k)
+      (receive_before this es k) in
       let above = has_above this es (suc j) in
       let tells : origin_evidence e.serial.prev es i ≡ origin_evidence_by this above (Some j) =
       ap (λ v. origin_evidence v es i) prev ∙ ap by start
       ∙ ap (origin_evidence_by this above) (received_at this es j d at receive refl) in
-      let leads : (b : Bool) → next_of across p (hop_by es e.label (origin_evidence_by this b (Some j))) ≡ Some (p, j) = λ b.
+      let leads : (b : Bool) → next_of across p (hop_by es e.label
+      (origin_evidence_by this b (Some j))) ≡ Some (p, j) = λ b.
       let asked = asked_label streams across es j d e at ∙ wanted in
       let test = (label_at_or es j e.label).0 == e.label.0 in
-      elim b as (λ c. next_of across p (hop_by es e.label (origin_evidence_by this c (Some j))) ≡ Some (p, j)) [
+      elim b as (λ c. next_of across p (hop_by es e.label (origin_evidence_by this c (Some j)))
+      ≡ Some (p, j)) [
         | true ↦ next_by_label across p (hop.After j) j (label_at_or es j e.label) e.label refl
             ∙ wanted_leads across test (p, j) asked
-        | false ↦ next_by_label across p (hop.AfterOneLabel j) j (label_at_or es j e.label) e.label refl
+        | false ↦ next_by_label across p (hop.AfterOneLabel j) j
+            (label_at_or es j e.label) e.label refl
             ∙ wanted_leads across test (p, j) asked
       ] in
       stamp_next p i e here (row_stamps this e own)
       ∙ ap (λ t. next_of across p (hop_by es e.label t)) tells ∙ leads above
 
   -- the receive of a send leads to it
-  send_leads : IsStreams streams → refusal streams ≡ None → (q : Pid) (j : ℕ) (d : Event) (y : Pid × ℕ)
-      → event_at streams q j ≡ Some d → is_send d ≡ true → receive_of streams q d.serial.this ≡ Some y
+  send_leads : IsStreams streams → refusal streams ≡ None
+      → (q : Pid) (j : ℕ) (d : Event) (y : Pid × ℕ)
+      → event_at streams q j ≡ Some d → is_send d ≡ true
+      → receive_of streams q d.serial.this ≡ Some y
       → next_at streams across y ≡ Some (q, j)
   send_leads sound ok q j d y at sends is =
       let received : receiver_at streams q j ≡ Some (y.0, y.1) =
-      ap (option_and_then (λ (f : Event). cond (is_send f) (receive_of streams q f.serial.this) None)) at
+      ap (option_and_then (λ (f : Event). cond (is_send f)
+      (receive_of streams q f.serial.this) None)) at
       ∙ ap (λ b. cond b (receive_of streams q d.serial.this) None) sends ∙ is in
-      let sourced = source_from_receiver streams sound.draft.rising (paired streams ok) y.0 y.1 q j received in
+      let sourced = source_from_receiver streams sound.draft.rising
+      (paired streams ok) y.0 y.1 q j received in
       option_and_then_some (λ (f : Event). cond (is_stamp f) None (Some (source_of streams f)))
       (event_at streams y.0 y.1)
       (source.Event q j) sourced (λ e there given.
       let parts = unless_given (is_stamp e) (source_of streams e) (source.Event q j) given in
       receive_next y.0 y.1 e there parts.0 ∙ ap (λ s. next_of across y.0 (hop_to_send s)) parts.1)
 
-  event_leads : IsStreams streams → refusal streams ≡ None → (p : Pid) (j : ℕ) (d : Event) (k : ℕ) (y : Pid × ℕ)
+  event_leads : IsStreams streams → refusal streams ≡ None
+      → (p : Pid) (j : ℕ) (d : Event) (k : ℕ) (y : Pid × ℕ)
       → event_at streams p j ≡ Some d → slice_get (children_of streams across p j d) k ≡ Some y
       → next_at streams across y ≡ Some (p, j)
   event_leads sound ok p j d k y at there =
@@ -495,7 +557,8 @@ module _ (streams : List Stream) (across : Bool) where
         | kind.Receive ↦ places_of across p d.label (j + 1) row
         | kind.Print ↦ []
       ] in xs) in
-      elim d.kind as (λ c. d.kind ≡ c → slice_get (listed c) k ≡ Some y → next_at streams across y ≡ Some (p, j)) [
+      elim d.kind as (λ c. d.kind ≡ c → slice_get (listed c) k ≡ Some y
+      → next_at streams across y ≡ Some (p, j)) [
         | kind.Send ↦ λ is h.
             send_leads sound ok p j d y at (ap (λ c. elim c as (λ _. Bool) [
               | kind.Send ↦ true
@@ -504,7 +567,8 @@ module _ (streams : List Stream) (across : Bool) where
             ]) is) (listed_one (receive_of streams p d.serial.this) k y h)
         | kind.Receive ↦ λ is h.
             let x = placed_out across p d.label (j + 1) row k y h in
-            let place : (let z : Pid × ℕ = (p, j + 1 + x.offset) in z) ≡ y = λ n. (x.pid n, x.index n) in
+            let place : (let z : Pid × ℕ = (p, j + 1 + x.offset) in z) ≡ y =
+            λ n. (x.pid n, x.index n) in
             ap (next_at streams across) (sym place)
             ∙ row_leads p j d x.offset x.event at (ap (λ c. elim c as (λ _. Bool) [
               | kind.Send ↦ false
@@ -515,7 +579,8 @@ module _ (streams : List Stream) (across : Bool) where
       ] refl there
 
 pub all_lead : (streams : List Stream) (across : Bool) (x y : Pid × ℕ) (k : ℕ) → IsStreams streams
-    → refusal streams ≡ None → slice_get (children streams across x) k ≡ Some y → next_at streams across y ≡ Some x
+    → refusal streams ≡ None → slice_get (children streams across x) k ≡ Some y
+    → next_at streams across y ≡ Some x
 all_lead streams across x y k sound ok there =
     elim (event_at streams x.0 x.1) as (λ o. event_at streams x.0 x.1 ≡ o
     → slice_get (elim o as (λ _. List

@@ -1,8 +1,7 @@
 -- What is kept of one event more and one process more, and what is read at a process's place.
-use Rattle.std.proofs.Common.{◌≡◌, ℕ, ◌+◌, ◌-◌, ◌<◌, ◌≤◌, max, zero, suc, nat_lt, List, [], ◌∷◌, ◌++◌, length}
-use Rattle.std.proofs.Common.{map, take}
-use Rattle.std.proofs.Common.{drop, get_or, Bool, false, cond, Some, None, slice_get, refl, sym, ◌∙◌, ap, subst}
-use Rattle.std.proofs.Common.{arith, append_assoc}
+use Rattle.std.proofs.Common.{◌≡◌, ℕ, ◌+◌, ◌-◌, ◌<◌, ◌≤◌, max, zero, suc, nat_lt, List, [], ◌∷◌}
+use Rattle.std.proofs.Common.{◌++◌, length, map, take, drop, get_or, Bool, false, cond, Some, None}
+use Rattle.std.proofs.Common.{slice_get, refl, sym, ◌∙◌, ap, subst, arith, append_assoc}
 use Rattle.std.specs.List.{AllByRecursion}
 use Rattle.std.specs.Option.{unwrap_or}
 use Rattle.std.proofs.lemmas.Bool.{le-ltb}
@@ -24,11 +23,13 @@ greatest_at : (most k : ℕ) (es : List Event) (e : Event) → slice_get es k �
     ∷ greatest_from (max most e.serial.this) (drop (suc k) es)
 greatest_at most k [] e at = absurd (cc)
 greatest_at most zero (f ∷ es) e at =
-    ap (λ (x : Event). max most x.serial.this ∷ greatest_from (max most x.serial.this) es) (same_Some f e at)
+    ap (λ (x : Event). max most x.serial.this ∷ greatest_from (max most x.serial.this) es)
+    (same_Some f e at)
 greatest_at most (suc k) (f ∷ es) e at = greatest_at most k es e at
 
 pub greatest_passed : (es : List Event) (k : ℕ) (e : Event) (most now : ℕ) (before total : List ℕ)
-    → slice_get es k ≡ Some e → now ≡ max most e.serial.this → before ++ greatest_from most (drop k es) ≡ total
+    → slice_get es k ≡ Some e → now ≡ max most e.serial.this
+    → before ++ greatest_from most (drop k es) ≡ total
     → (before ++ now ∷ []) ++ greatest_from now (drop (k + 1) es) ≡ total
 greatest_passed es k e most now before total at is far =
     let next : k + 1 ≡ suc k = omega arith in
@@ -42,10 +43,13 @@ greatest_passed es k e most now before total at is far =
 pub greater_is : (a b : ℕ) → ord_max nat_cmp a b ≡ max a b
 greater_is a b = grind (arith, nat_tests)
 
-pub process_passed : (f : List Event → List ℕ) (streams : List Stream) (pids : List Pid) (k : ℕ) (d : Pid)
-    (es : List Event) (before : List (List ℕ)) (x : List ℕ) → IsRising (pids_of streams) → pids ≡ pids_of streams
+pub process_passed : (f : List Event → List ℕ) (streams : List Stream) (pids : List Pid) (k : ℕ)
+    (d : Pid)
+    (es : List Event) (before : List (List ℕ)) (x : List ℕ) → IsRising (pids_of streams)
+    → pids ≡ pids_of streams
     → k < length pids → es ≡ events_of streams (get_or pids k d) → x ≡ f es
-    → before ≡ map (λ s. f s.events) (take k streams) → before ++ x ∷ [] ≡ map (λ s. f s.events) (take (k + 1) streams)
+    → before ≡ map (λ s. f s.events) (take k streams)
+    → before ++ x ∷ [] ≡ map (λ s. f s.events) (take (k + 1) streams)
 process_passed f streams pids k d es before x rising are within events is far =
     let p = get_or pids k d in
     let at = at_get_or pids k d within in
@@ -53,22 +57,26 @@ process_passed f streams pids k d es before x rising are within events is far =
     let same : es ≡ s.stream.events = events ∙ ap events_in s.found in
     let next : suc k ≡ k + 1 = omega arith in
     ap (λ (ls : List (List ℕ)). ls ++ x ∷ []) far
-    ∙ ap (λ (l : List ℕ). map (λ (t : Stream). f t.events) (take k streams) ++ l ∷ []) (is ∙ ap f same)
+    ∙ ap (λ (l : List ℕ). map (λ (t : Stream). f t.events) (take k streams) ++ l ∷ [])
+    (is ∙ ap f same)
     ∙ sym (take_map (λ (t : Stream). f t.events) streams k s.stream s.at)
     ∙ ap (λ (n : ℕ). map (λ (t : Stream). f t.events) (take n streams)) next
 
 -- WHAT IS READ
 
-get_or_map : {A B : Type 0} (f : A → B) (xs : List A) (k : ℕ) (x : A) (d : B) → slice_get xs k ≡ Some x
+get_or_map : {A B : Type 0} (f : A → B) (xs : List A) (k : ℕ) (x : A) (d : B)
+    → slice_get xs k ≡ Some x
     → get_or (map f xs) k d ≡ f x
 get_or_map f [] k x d at = absurd (cc)
 get_or_map f (y ∷ xs) zero x d at = ap f (same_Some y x at)
 get_or_map f (y ∷ xs) (suc k) x d at = get_or_map f xs k x d at
 
 -- the list that is kept of a process
-pub process_read : (f : List Event → List ℕ) (streams : List Stream) (p : Pid) (k : ℕ) (lists : List (List ℕ))
+pub process_read : (f : List Event → List ℕ) (streams : List Stream) (p : Pid) (k : ℕ)
+    (lists : List (List ℕ))
     (read : List ℕ) → IsRising (pids_of streams) → lists ≡ map (λ s. f s.events) streams
-    → slice_get (pids_of streams) k ≡ Some p → read ≡ get_or lists k read → read ≡ f (events_of streams p)
+    → slice_get (pids_of streams) k ≡ Some p → read ≡ get_or lists k read
+    → read ≡ f (events_of streams p)
 process_read f streams p k lists read rising kept at is =
     let s = is_at streams k p rising at in
     is ∙ ap (λ (l : List (List ℕ)). get_or l k read) kept
@@ -78,10 +86,12 @@ process_read f streams p k lists read rising kept at is =
 pub missing_events : (streams : List Stream) (p : Pid)
     → AllByRecursion (λ (q : Pid). pid_eq q p ≡ false) (pids_of streams) → events_of streams p ≡ []
 missing_events [] p all = refl
-missing_events (x ∷ streams) p all = ap (λ (b : Bool). events_in (cond b (Some x) (stream_of streams p))) all.0
+missing_events (x ∷ streams) p all =
+    ap (λ (b : Bool). events_in (cond b (Some x) (stream_of streams p))) all.0
     ∙ missing_events streams p all.1
 
-pub greatest_long : (streams : List Stream) (k : ℕ) (p : Pid) → slice_get (pids_of streams) k ≡ Some p
+pub greatest_long : (streams : List Stream) (k : ℕ) (p : Pid)
+    → slice_get (pids_of streams) k ≡ Some p
     → k < length (all_greatest streams)
 greatest_long [] k p at = absurd (cc)
 greatest_long (x ∷ streams) zero p at = omega arith
@@ -96,35 +106,43 @@ greatest_is most (e ∷ es) zero x at =
 greatest_is most (e ∷ es) (suc k) x at =
     let rest = greatest_is (max most e.serial.this) es k x at in omega arith
 
-greatest_there : (most : ℕ) (es : List Event) (k : ℕ) → slice_get (greatest_from most es) k ≡ None → length es ≤ k
+greatest_there : (most : ℕ) (es : List Event) (k : ℕ) → slice_get (greatest_from most es) k ≡ None
+    → length es ≤ k
 greatest_there most [] k at = omega arith
 greatest_there most (e ∷ es) zero at = absurd (cc)
-greatest_there most (e ∷ es) (suc k) at = let rest = greatest_there (max most e.serial.this) es k at in omega arith
+greatest_there most (e ∷ es) (suc k) at =
+    let rest = greatest_there (max most e.serial.this) es k at in omega arith
 
 plain : (n : ℕ) → max 0 n ≡ n
 plain n = omega arith
 
-pub above_is : (count : ℕ) (es : List Event) (first : ℕ) (kept : List ℕ) → kept ≡ greatest_from 0 es → 0 < first
-    → first ≤ length es → nat_lt count (unwrap_or (slice_get kept (first - 1)) 0) ≡ has_above count es first
+pub above_is : (count : ℕ) (es : List Event) (first : ℕ) (kept : List ℕ) → kept ≡ greatest_from 0 es
+    → 0 < first
+    → first ≤ length es → nat_lt count (unwrap_or (slice_get kept (first - 1)) 0)
+    ≡ has_above count es first
 above_is count es first kept are some within =
     let read : slice_get kept (first - 1) ≡ slice_get (greatest_from 0 es) (first - 1) =
     ap (λ l. slice_get l (first - 1)) are in
     let number : suc (first - 1) ≡ first = omega arith in
     elim (slice_get kept (first - 1)) as (λ o. slice_get kept (first - 1) ≡ o
     → nat_lt count (unwrap_or o 0) ≡ has_above count es first) [
-      | None ↦ λ none. let past = greatest_there 0 es (first - 1) (sym read ∙ none) in absurd (omega arith)
+      | None ↦ λ none. let past =
+          greatest_there 0 es (first - 1) (sym read ∙ none) in absurd (omega arith)
       | Some x ↦ λ at.
           ap (nat_lt count) (greatest_is 0 es (first - 1) x (sym read ∙ at)
-          ∙ ap (λ n. max 0 (greatest_count (take n es))) number ∙ plain (greatest_count (take first es)))
+          ∙ ap (λ n. max 0 (greatest_count (take n es))) number
+          ∙ plain (greatest_count (take first es)))
     ] refl
 
-none_above : (count first : ℕ) (es : List Event) → es ≡ [] → first ≤ length es → false ≡ has_above count es first
+none_above : (count first : ℕ) (es : List Event) → es ≡ [] → first ≤ length es
+    → false ≡ has_above count es first
 none_above count zero es none within = sym (le-ltb count 0 (omega arith))
 none_above count (suc first) es none within =
     let long : length es ≡ 0 = ap length none in absurd (omega arith)
 
 pub missing_above : (streams : List Stream) (p : Pid) (count first : ℕ)
-    → AllByRecursion (λ (q : Pid). pid_eq q p ≡ false) (pids_of streams) → first ≤ length (events_of streams p)
+    → AllByRecursion (λ (q : Pid). pid_eq q p ≡ false) (pids_of streams)
+    → first ≤ length (events_of streams p)
     → false ≡ has_above count (events_of streams p) first
 missing_above streams p count first all within =
     none_above count first (events_of streams p) (missing_events streams p all) within

@@ -1,8 +1,8 @@
--- The row before an event begins where that of the event before it begins, if that event is in the row, else at the
--- event itself. So one pass over the events finds where all rows begin.
-use Rattle.std.proofs.Common.{◌≡◌, ◌≢◌, ℕ, ◌+◌, ◌-◌, ◌≤◌, ◌==◌, zero, suc, Bool, true, false, cond, List, []}
-use Rattle.std.proofs.Common.{◌∷◌, ◌++◌, length, drop, Option, Some, None, slice_get, refl, sym, ◌∙◌, ap}
-use Rattle.std.proofs.Common.{subst, arith, append_assoc}
+-- The row before an event begins where that of the event before it begins, if that event is in the
+-- row, else at the event itself. So one pass over the events finds where all rows begin.
+use Rattle.std.proofs.Common.{◌≡◌, ◌≢◌, ℕ, ◌+◌, ◌-◌, ◌≤◌, ◌==◌, zero, suc, Bool, true, false, cond}
+use Rattle.std.proofs.Common.{List, [], ◌∷◌, ◌++◌, length, drop, Option, Some, None, slice_get}
+use Rattle.std.proofs.Common.{refl, sym, ◌∙◌, ap, subst, arith, append_assoc}
 use Rattle.std.specs.Prelude.{not}
 use Rattle.std.proofs.lemmas.Bool.{and_parts, eqb-true}
 use Rattle.std.proofs.lemmas.Option.{same_Some, none-some, slice_get_within}
@@ -27,18 +27,22 @@ start_at prev es i e at =
     ]) at
 
 -- the event before is in the row, so that it has the prev; or it isn't
-start_behind : (es : List Event) (k : ℕ) (d e : Event) (before : ℕ) (b : Bool) → slice_get es k ≡ Some d
+start_behind : (es : List Event) (k : ℕ) (d e : Event) (before : ℕ) (b : Bool)
+    → slice_get es k ≡ Some d
     → before ≡ row_start d.serial.prev es k → in_row e.serial.prev d ≡ b
     → cond b before (suc k) ≡ row_start e.serial.prev es (suc k)
 start_behind es k d e before true at is row =
     let same = eqb-true d.serial.prev e.serial.prev
     (and_parts (not (is_receive d)) (d.serial.prev == e.serial.prev) row).1 in
     is ∙ ap (λ p. row_start p es k) same
-    ∙ ap (λ b. cond b (row_start e.serial.prev es k) (suc k)) (sym row) ∙ sym (start_at e.serial.prev es k d at)
+    ∙ ap (λ b. cond b (row_start e.serial.prev es k) (suc k)) (sym row)
+    ∙ sym (start_at e.serial.prev es k d at)
 start_behind es k d e before false at is row =
-    ap (λ b. cond b (row_start e.serial.prev es k) (suc k)) (sym row) ∙ sym (start_at e.serial.prev es k d at)
+    ap (λ b. cond b (row_start e.serial.prev es k) (suc k)) (sym row)
+    ∙ sym (start_at e.serial.prev es k d at)
 
-pub first_start : (es : List Event) (index : ℕ) (e : Event) → index ≡ 0 → 0 ≡ row_start e.serial.prev es index
+pub first_start : (es : List Event) (index : ℕ) (e : Event) → index ≡ 0
+    → 0 ≡ row_start e.serial.prev es index
 first_start es index e is = ap (row_start e.serial.prev es) (sym is)
 
 -- the same, as the code finds it
@@ -61,7 +65,8 @@ starts_at : (es : List Event) (k i : ℕ) (rest : List Event) (e : Event) → sl
     ∷ starts_from es (k + i + 1) (drop (suc i) rest)
 starts_at es k i [] e at = absurd (none-some e at)
 starts_at es k zero (x ∷ rest) e at =
-    ap (λ (y : Event). row_start y.serial.prev es (k + 0) ∷ starts_from es (k + 0 + 1) rest) (same_Some x e at)
+    ap (λ (y : Event). row_start y.serial.prev es (k + 0) ∷ starts_from es (k + 0 + 1) rest)
+    (same_Some x e at)
 starts_at es k (suc i) (x ∷ rest) e at =
     let number : k + suc i ≡ suc k + i = omega arith in
     subst (λ n. starts_from es n (drop i rest) ≡ row_start e.serial.prev es n
@@ -69,7 +74,8 @@ starts_at es k (suc i) (x ∷ rest) e at =
 
 -- one event more
 pub starts_passed : (es : List Event) (k : ℕ) (e : Event) (start : ℕ) (before total : List ℕ)
-    → slice_get es k ≡ Some e → start ≡ row_start e.serial.prev es k → before ++ starts_from es k (drop k es) ≡ total
+    → slice_get es k ≡ Some e → start ≡ row_start e.serial.prev es k
+    → before ++ starts_from es k (drop k es) ≡ total
     → (before ++ start ∷ []) ++ starts_from es (k + 1) (drop (k + 1) es) ≡ total
 starts_passed es k e start before total at is far =
     let next : k + 1 ≡ suc k = omega arith in
@@ -117,6 +123,7 @@ start_within es i e start at is =
 
 -- a process that isn't listed has no event
 pub unlisted_event : (streams : List Stream) (p : Pid) (i : ℕ) (e : Event)
-    → AllByRecursion (λ (q : Pid). pid_eq q p ≡ false) (pids_of streams) → event_at streams p i ≡ Some e → ⊥
+    → AllByRecursion (λ (q : Pid). pid_eq q p ≡ false) (pids_of streams)
+    → event_at streams p i ≡ Some e → ⊥
 unlisted_event streams p i e all at =
     none-some e (sym (ap (λ es. slice_get es i) (missing_events streams p all)) ∙ at)

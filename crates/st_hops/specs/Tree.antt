@@ -25,8 +25,9 @@ places_of all p label i [] = []
 places_of all p label i (e ∷ es) =
     (if all || e.label.0 == label.0 then (p, i) ∷ [] else []) ++ places_of all p label (i + 1) es
 
--- what follows event e, which is event i of p, directly: the receive of a send; the sends and prints
--- of the row behind a receive, those of another label only over changes of label; of a print nothing
+-- what follows event e, which is event i of p, directly: the receive of a send; the sends and
+-- prints of the row behind a receive, those of another label only over changes of label; of a print
+-- nothing
 abbrev pub children_of : List Stream → Bool → Pid → ℕ → Event → List (Pid × ℕ)
 children_of streams across p i e = elim e.kind [
   | kind.Send ↦ option_to_list (receive_of streams p e.serial.this)

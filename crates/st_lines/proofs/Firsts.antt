@@ -1,5 +1,5 @@
--- The line of an event is that of its process's first event and its index more, and what is kept at a
--- process's place is the line of its first event.
+-- The line of an event is that of its process's first event and its index more, and what is kept at
+-- a process's place is the line of its first event.
 use Rattle.std.proofs.Common.{◌≡◌, ◌≢◌, ℕ, ◌+◌, ◌-◌, ◌<◌, ◌≤◌, ◌^◌, zero, suc, nat_lt, true}
 use Rattle.std.proofs.Common.{false, cond, List}
 use Rattle.std.proofs.Common.{[], ◌∷◌, ◌++◌, length, drop, get_or}
@@ -40,9 +40,11 @@ line_parts first (s ∷ streams) p i =
 pub line_by : (streams : List Stream) (p : Pid) (i : ℕ) (o : Option ℕ) → o ≡ first_line 3 streams p
     → option_and_then (line_at (length (events_of streams p)) i) o ≡ line_number_of streams p i
 line_by streams p i o is =
-    ap (option_and_then (line_at (length (events_of streams p)) i)) is ∙ sym (line_parts 3 streams p i)
+    ap (option_and_then (line_at (length (events_of streams p)) i)) is
+    ∙ sym (line_parts 3 streams p i)
 
-pub line_none : (streams : List Stream) (p : Pid) (i : ℕ) → first_line 3 streams p ≡ None → line_number_of streams p i ≡ None
+pub line_none : (streams : List Stream) (p : Pid) (i : ℕ) → first_line 3 streams p ≡ None
+    → line_number_of streams p i ≡ None
 line_none streams p i is = sym (line_by streams p i None (sym is))
 
 pub line_some : (streams : List Stream) (p : Pid) (i f : ℕ) → first_line 3 streams p ≡ Some f
@@ -75,7 +77,8 @@ pub line_none_says : (streams : List Stream) (p : Pid) (i n : ℕ) → first_lin
     → line_number_of streams p i ≢ Some n
 line_none_says streams p i n is at = none-some n (sym (line_none streams p i is) ∙ at)
 
-pub line_below : (streams : List Stream) (p : Pid) (f n i : ℕ) → first_line 3 streams p ≡ Some f → n < f
+pub line_below : (streams : List Stream) (p : Pid) (f n i : ℕ) → first_line 3 streams p ≡ Some f
+    → n < f
     → line_number_of streams p i ≢ Some n
 line_below streams p f n i is low at =
     let says = line_says streams p i f n is at in
@@ -93,14 +96,16 @@ line_above streams p f n i is high at =
 -- ALL PROCESSES
 
 pub first_missing : (first : ℕ) (streams : List Stream) (p : Pid)
-    → AllByRecursion (λ (q : Pid). pid_eq q p ≡ false) (pids_of streams) → first_line first streams p ≡ None
+    → AllByRecursion (λ (q : Pid). pid_eq q p ≡ false) (pids_of streams)
+    → first_line first streams p ≡ None
 first_missing first [] p all = refl
 first_missing first (s ∷ streams) p all =
     ap (λ b. cond b (Some first) (first_line (first + length s.events + 1) streams p)) all.0
     ∙ first_missing (first + length s.events + 1) streams p all.1
 
 first_at : (first : ℕ) (streams : List Stream) (k : ℕ) (p : Pid) → IsRising (pids_of streams)
-    → slice_get (pids_of streams) k ≡ Some p → slice_get (firsts_from first streams) k ≡ first_line first streams p
+    → slice_get (pids_of streams) k ≡ Some p → slice_get (firsts_from first streams) k
+    ≡ first_line first streams p
 first_at first [] k p rising at = absurd (none-some p at)
 first_at first (s ∷ streams) zero p rising at =
     let same = same_Some s.pid p at in
@@ -112,20 +117,23 @@ first_at first (s ∷ streams) (suc k) p rising at =
     ∙ ap (λ b. cond b (Some first) (first_line next streams p))
     (sym (above_apart (pids_of streams) s.pid p k rising.0 at))
 
-pub firsts_long : (first : ℕ) (streams : List Stream) (k : ℕ) (p : Pid) → slice_get (pids_of streams) k ≡ Some p
+pub firsts_long : (first : ℕ) (streams : List Stream) (k : ℕ) (p : Pid)
+    → slice_get (pids_of streams) k ≡ Some p
     → k < length (firsts_from first streams)
 firsts_long first [] k p at = absurd (none-some p at)
 firsts_long first (s ∷ streams) zero p at = omega arith
 firsts_long first (s ∷ streams) (suc k) p at =
     let rest = firsts_long (first + length s.events + 1) streams k p at in omega arith
 
-pub kept_long : (streams : List Stream) (firsts : List ℕ) (k : ℕ) (p : Pid) → firsts ≡ firsts_from 3 streams
+pub kept_long : (streams : List Stream) (firsts : List ℕ) (k : ℕ) (p : Pid)
+    → firsts ≡ firsts_from 3 streams
     → slice_get (pids_of streams) k ≡ Some p → k < length firsts
 kept_long streams firsts k p are at =
     subst (λ l. k < length l) (sym are) (firsts_long 3 streams k p at)
 
 -- what is kept at a place
-pub first_kept : (streams : List Stream) (firsts : List ℕ) (k : ℕ) (p : Pid) (d : ℕ) → IsRising (pids_of streams)
+pub first_kept : (streams : List Stream) (firsts : List ℕ) (k : ℕ) (p : Pid) (d : ℕ)
+    → IsRising (pids_of streams)
     → firsts ≡ firsts_from 3 streams → slice_get (pids_of streams) k ≡ Some p
     → Some (get_or firsts k d) ≡ first_line 3 streams p
 first_kept streams firsts k p d rising are at =
@@ -137,7 +145,8 @@ behind_grows first [] = omega arith
 behind_grows first (s ∷ streams) =
     let rest = behind_grows (first + length s.events + 1) streams in omega arith
 
-first_within : (first : ℕ) (streams : List Stream) (p : Pid) (f : ℕ) → first_line first streams p ≡ Some f
+first_within : (first : ℕ) (streams : List Stream) (p : Pid) (f : ℕ)
+    → first_line first streams p ≡ Some f
     → f + length (events_of streams p) ≤ line_behind first streams
 first_within first [] p f is = absurd (none-some f is)
 first_within first (s ∷ streams) p f is =
@@ -156,13 +165,16 @@ pub first_fits : (streams : List Stream) (p : Pid) (f : ℕ) → line_behind 3 s
 first_fits streams p f fits is = let within = first_within 3 streams p f is in omega arith
 
 -- a process with a line is listed
-listed_at : (first : ℕ) (streams : List Stream) (p : Pid) (f : ℕ) → first_line first streams p ≡ Some f
+listed_at : (first : ℕ) (streams : List Stream) (p : Pid) (f : ℕ)
+    → first_line first streams p ≡ Some f
     → (k : ℕ) × (k < length (pids_of streams)) × (slice_get (pids_of streams) k ≡ Some p)
 listed_at first [] p f is = absurd (none-some f is)
 listed_at first (s ∷ streams) p f is =
     let next = first + length s.events + 1 in
-    elim (pid_eq s.pid p) as (λ b. pid_eq s.pid p ≡ b → cond b (Some first) (first_line next streams p) ≡ Some f
-    → (k : ℕ) × (k < length (pids_of (s ∷ streams))) × (slice_get (pids_of (s ∷ streams)) k ≡ Some p)) [
+    elim (pid_eq s.pid p) as (λ b. pid_eq s.pid p ≡ b
+    → cond b (Some first) (first_line next streams p) ≡ Some f
+    → (k : ℕ) × (k < length (pids_of (s ∷ streams)))
+    × (slice_get (pids_of (s ∷ streams)) k ≡ Some p)) [
       | true ↦ λ same h. (0, omega arith, ap Some (pid_eq-true s.pid p same))
       | false ↦ λ _ h. let rest = listed_at next streams p f h in
           let less = rest.1 in
@@ -177,11 +189,14 @@ not_less j k less is = elim (cases_lt j k) [
 
 -- no process up to a place has an event on the line
 abbrev pub NoneBefore : List Stream → ℕ → ℕ → Type 0
-NoneBefore streams n k = (j : ℕ) (q : Pid) → j < k → slice_get (pids_of streams) j ≡ Some q → (i : ℕ)
+NoneBefore streams n k =
+    (j : ℕ) (q : Pid) → j < k → slice_get (pids_of streams) j ≡ Some q → (i : ℕ)
     → line_number_of streams q i ≢ Some n
 
-pub none_more : (streams : List Stream) (pids : List Pid) (n k : ℕ) (d : Pid) → pids ≡ pids_of streams
-    → k < length pids → NoneBefore streams n k → ((i : ℕ) → line_number_of streams (get_or pids k d) i ≢ Some n)
+pub none_more : (streams : List Stream) (pids : List Pid) (n k : ℕ) (d : Pid)
+    → pids ≡ pids_of streams
+    → k < length pids → NoneBefore streams n k → ((i : ℕ)
+    → line_number_of streams (get_or pids k d) i ≢ Some n)
     → NoneBefore streams n (k + 1)
 none_more streams pids n k d are within before here j q less at i =
     elim (nat_lt j k) as (λ b. nat_lt j k ≡ b → line_number_of streams q i ≢ Some n) [
@@ -195,10 +210,12 @@ none_more streams pids n k d are within before here j q less at i =
     ] refl
 
 -- if no process has one, nobody does
-pub none_at_all : (streams : List Stream) (pids : List Pid) (n k : ℕ) → pids ≡ pids_of streams → length pids ≤ k
+pub none_at_all : (streams : List Stream) (pids : List Pid) (n k : ℕ) → pids ≡ pids_of streams
+    → length pids ≤ k
     → NoneBefore streams n k → (p : Pid) (i : ℕ) → line_number_of streams p i ≢ Some n
 none_at_all streams pids n k are past before p i =
-    elim (first_line 3 streams p) as (λ o. first_line 3 streams p ≡ o → line_number_of streams p i ≢ Some n) [
+    elim (first_line 3 streams p) as (λ o. first_line 3 streams p ≡ o
+    → line_number_of streams p i ≢ Some n) [
       | None ↦ λ none. line_none_says streams p i n none
       | Some f ↦ λ is.
           let at = listed_at 3 streams p f is in
@@ -225,16 +242,21 @@ pub record AreSoFar (streams : List Stream) (firsts : List ℕ) (first k : ℕ) 
   pub behind : line_behind first (drop k streams) ≡ line_behind 3 streams
   pub fits : first < 2 ^ 64
 
-pub so_far_more : (streams : List Stream) (pids : List Pid) (k : ℕ) (d : Pid) (firsts after : List ℕ)
+pub so_far_more : (streams : List Stream) (pids : List Pid) (k : ℕ) (d : Pid)
+    (firsts after : List ℕ)
     (first next count : ℕ) → IsRising (pids_of streams) → pids ≡ pids_of streams → k < length pids
-    → count ≡ length (events_of streams (get_or pids k d)) → next ≡ first + count + 1 → next < 2 ^ 64
-    → after ≡ firsts ++ first ∷ [] → AreSoFar streams firsts first k → AreSoFar streams after next (k + 1)
-so_far_more streams pids k d firsts after first next count rising are within counts then low pushed far =
+    → count ≡ length (events_of streams (get_or pids k d)) → next ≡ first + count + 1
+    → next < 2 ^ 64
+    → after ≡ firsts ++ first ∷ [] → AreSoFar streams firsts first k
+    → AreSoFar streams after next (k + 1)
+so_far_more streams pids k d firsts after first next count rising are within counts then low pushed
+    far =
     let p = get_or pids k d in
     let at = at_get_or pids k d within in
     let s = is_at streams k p rising (subst (λ (ps : List Pid). slice_get ps k ≡ Some p) are at) in
     let number : k + 1 ≡ suc k = omega arith in
-    let events : length s.stream.events ≡ count = ap length (sym (ap events_in s.found)) ∙ sym counts in
+    let events : length s.stream.events ≡ count =
+    ap length (sym (ap events_in s.found)) ∙ sym counts in
     let on : first + length s.stream.events + 1 ≡ next = omega arith in
     let here = drop_at streams k s.stream s.at in
     record {
@@ -251,8 +273,10 @@ so_far_more streams pids k d firsts after first next count rising are within cou
       fits = low;
     }
 
-pub all_so_far : (streams : List Stream) (pids : List Pid) (k : ℕ) (firsts : List ℕ) (first : ℕ) → IsStreams streams
-    → pids ≡ pids_of streams → length pids ≤ k → AreSoFar streams firsts first k → AreFirsts streams firsts first
+pub all_so_far : (streams : List Stream) (pids : List Pid) (k : ℕ) (firsts : List ℕ) (first : ℕ)
+    → IsStreams streams
+    → pids ≡ pids_of streams → length pids ≤ k → AreSoFar streams firsts first k
+    → AreFirsts streams firsts first
 all_so_far streams pids k firsts first sound are past far =
     let low = far.fits in
     let long : length pids ≡ length (pids_of streams) = ap length are in
@@ -261,7 +285,8 @@ all_so_far streams pids k firsts first sound are past far =
     let last : first ≡ line_behind 3 streams = ap (line_behind first) (sym none) ∙ far.behind in
     record {
       sound = sound;
-      kept = sym (append-nil firsts) ∙ ap (λ ss. firsts ++ firsts_from first ss) (sym none) ∙ far.kept;
+      kept = sym (append-nil firsts) ∙ ap (λ ss. firsts ++ firsts_from first ss) (sym none)
+          ∙ far.kept;
       act = last;
       fits = omega arith;
     }

@@ -1,5 +1,5 @@
--- The lines behind the header are those of each process in order, so the line of an event is found by passing the
--- processes before it. The lines of acts are no event's.
+-- The lines behind the header are those of each process in order, so the line of an event is found
+-- by passing the processes before it. The lines of acts are no event's.
 use Rattle.std.proofs.Common.{◌≡◌, ℕ, ◌+◌, ◌-◌, ◌<◌, ◌≤◌, zero, suc, nat_lt, true, false, cond}
 use Rattle.std.proofs.Common.{List, [], ◌∷◌}
 use Rattle.std.proofs.Common.{◌++◌, length, map, Option, Some, None, slice_get, refl, sym, ◌∙◌}
@@ -31,7 +31,8 @@ event_line (x ∷ es) rest zero e at = ap (λ y. Some (lines.Event y)) (same_Som
 event_line (x ∷ es) rest (suc i) e at = event_line es rest i e at
 
 -- behind the events of a process
-passed : (es : List Event) (rest : List Line) (k : ℕ) → slice_get (event_lines es ++ rest) (length es + k)
+passed : (es : List Event) (rest : List Line) (k : ℕ)
+    → slice_get (event_lines es ++ rest) (length es + k)
     ≡ slice_get rest k
 passed [] rest k = let number : 0 + k ≡ k = omega arith in ap (slice_get rest) number
 passed (e ∷ es) rest k =
@@ -40,7 +41,8 @@ passed (e ∷ es) rest k =
 
 -- EVENTS HAVE THEIR LINES
 
-record IsLineOf (first : ℕ) (streams : List Stream) (tail : List Line) (p : Pid) (i : ℕ) (e : Event) : Type 0 where
+record IsLineOf (first : ℕ) (streams : List Stream) (tail : List Line) (p : Pid) (i : ℕ)
+    (e : Event) : Type 0 where
   line : ℕ
   is : line_from first streams p i ≡ Some line
   low : first ≤ line
@@ -86,8 +88,10 @@ line_in first (s ∷ streams) tail p i e at =
           }
     ] refl at
 
-pub event_on_line : (c : Contents) (p : Pid) (i : ℕ) (e : Event) → slice_get (events_of c.streams p) i ≡ Some e
-    → (n : ℕ) × (line_number_of c.streams p i ≡ Some n) × (slice_get (lines_of c) (n - 1) ≡ Some (lines.Event e))
+pub event_on_line : (c : Contents) (p : Pid) (i : ℕ) (e : Event)
+    → slice_get (events_of c.streams p) i ≡ Some e
+    → (n : ℕ) × (line_number_of c.streams p i ≡ Some n)
+    × (slice_get (lines_of c) (n - 1) ≡ Some (lines.Event e))
 event_on_line c p i e at =
     let x = line_in 3 c.streams (act_lines c.acts) p i e at in
     let n = x.line in
@@ -106,7 +110,8 @@ act_in (x ∷ acts) (suc n) a at = act_in acts n a at
 -- behind all processes
 record IsBehind (first : ℕ) (streams : List Stream) (tail : List Line) : Type 0 where
   low : first ≤ line_behind first streams
-  tail_at : (k : ℕ) → slice_get (flat_map process_lines streams ++ tail) (line_behind first streams - first + k)
+  tail_at : (k : ℕ) → slice_get (flat_map process_lines streams ++ tail)
+      (line_behind first streams - first + k)
       ≡ slice_get tail k
 
 all_passed : (first : ℕ) (streams : List Stream) (tail : List Line) → IsBehind first streams tail
@@ -132,7 +137,8 @@ all_passed first (s ∷ streams) tail =
           ∙ passed s.events behind (last - next + k) ∙ rest.tail_at k;
     }
 
-pub act_on_line : (c : Contents) (acts : List Act) (n : ℕ) (a : Act) → c.acts ≡ Some acts → slice_get acts n ≡ Some a
+pub act_on_line : (c : Contents) (acts : List Act) (n : ℕ) (a : Act) → c.acts ≡ Some acts
+    → slice_get acts n ≡ Some a
     → slice_get (lines_of c) (act_line_number_of c.streams n - 1) ≡ Some (lines.Act a)
 act_on_line c acts n a are at =
     let behind = all_passed 3 c.streams (act_lines c.acts) in
@@ -150,16 +156,19 @@ record HasPlace (first : ℕ) (streams : List Stream) (n : ℕ) (e : Event) : Ty
   at : slice_get (events_of streams pid) index ≡ Some e
   line : line_from first streams pid index ≡ Some (first + n)
 
-no_act_event : (acts : List Act) (k : ℕ) (e : Event) → slice_get (map lines.Act acts) k ≡ Some (lines.Event e) → ⊥
+no_act_event : (acts : List Act) (k : ℕ) (e : Event)
+    → slice_get (map lines.Act acts) k ≡ Some (lines.Event e) → ⊥
 no_act_event [] k e at = absurd (none-some (lines.Event e) at)
-no_act_event (a ∷ acts) zero e at = let same = same_Some (lines.Act a) (lines.Event e) at in absurd (cc)
+no_act_event (a ∷ acts) zero e at =
+    let same = same_Some (lines.Act a) (lines.Event e) at in absurd (cc)
 no_act_event (a ∷ acts) (suc k) e at = no_act_event acts k e at
 
 no_event_of_acts : (acts : Option (List Act)) (k : ℕ) (e : Event)
     → slice_get (act_lines acts) k ≡ Some (lines.Event e)
     → ⊥
 no_event_of_acts None k e at = absurd (none-some (lines.Event e) at)
-no_event_of_acts (Some acts) zero e at = let same = same_Some lines.Acts (lines.Event e) at in absurd (cc)
+no_event_of_acts (Some acts) zero e at =
+    let same = same_Some lines.Acts (lines.Event e) at in absurd (cc)
 no_event_of_acts (Some acts) (suc k) e at = no_act_event acts k e at
 
 event_back : (es : List Event) (rest : List Line) (k : ℕ) (e : Event) → k < length es
@@ -171,7 +180,8 @@ event_back (x ∷ es) rest zero e less at =
     ap Some one
 event_back (x ∷ es) rest (suc k) e less at = event_back es rest k e (omega arith) at
 
-listed_event : (streams : List Stream) (p : Pid) (i : ℕ) (e : Event) → slice_get (events_of streams p) i ≡ Some e
+listed_event : (streams : List Stream) (p : Pid) (i : ℕ) (e : Event)
+    → slice_get (events_of streams p) i ≡ Some e
     → (k : ℕ) × (slice_get (pids_of streams) k ≡ Some p)
 listed_event [] p i e at = absurd (none-some e at)
 listed_event (s ∷ streams) p i e at = elim (pid_eq s.pid p) as (λ b. pid_eq s.pid p ≡ b
@@ -185,7 +195,8 @@ abbrev Placed : ℕ → List Stream → ℕ → Event → Type 0
 Placed first streams k e = (n : ℕ) × (k ≡ suc n) × HasPlace first streams n e
 
 -- an event of the first process
-placed_here : (first : ℕ) (s : Stream) (streams : List Stream) (k : ℕ) (e : Event) → slice_get s.events k ≡ Some e
+placed_here : (first : ℕ) (s : Stream) (streams : List Stream) (k : ℕ) (e : Event)
+    → slice_get s.events k ≡ Some e
     → Placed first (s ∷ streams) (suc k) e
 placed_here first s streams k e at =
     let next = first + length s.events + 1 in
@@ -215,7 +226,8 @@ placed_behind first s streams k e rising past x =
     let p = h.pid in
     let i = h.index in
     let later = listed_event streams p i e h.at in
-    let apart : pid_eq s.pid p ≡ false = above_apart (pids_of streams) s.pid p later.0 rising.0 later.1 in
+    let apart : pid_eq s.pid p ≡ false =
+    above_apart (pids_of streams) s.pid p later.0 rising.0 later.1 in
     let index = x.1 in
     let number : next + x.0 ≡ first + k = omega arith in (
       k,
@@ -231,10 +243,12 @@ placed_behind first s streams k e rising past x =
       },
     )
 
-placed_in : (first : ℕ) (s : Stream) (streams : List Stream) (behind : List Line) (k : ℕ) (e : Event)
+placed_in : (first : ℕ) (s : Stream) (streams : List Stream) (behind : List Line) (k : ℕ)
+    (e : Event)
     → IsRising (pids_of (s ∷ streams))
     → slice_get (lines.Process s.pid ∷ (event_lines s.events ++ behind)) k ≡ Some (lines.Event e)
-    → ((j : ℕ) → slice_get behind j ≡ Some (lines.Event e) → Placed (first + length s.events + 1) streams j e)
+    → ((j : ℕ) → slice_get behind j ≡ Some (lines.Event e)
+    → Placed (first + length s.events + 1) streams j e)
     → Placed first (s ∷ streams) k e
 placed_in first s streams behind zero e rising at rest =
     let same = same_Some (lines.Process s.pid) (lines.Event e) at in absurd (cc)
@@ -249,7 +263,8 @@ placed_in first s streams behind (suc k) e rising at rest = elim (cases_lt k (le
 
 placed : (first : ℕ) (streams : List Stream) (acts : Option (List Act)) (k : ℕ) (e : Event)
     → IsRising (pids_of streams)
-    → slice_get (flat_map process_lines streams ++ act_lines acts) k ≡ Some (lines.Event e) → Placed first streams k e
+    → slice_get (flat_map process_lines streams ++ act_lines acts) k ≡ Some (lines.Event e)
+    → Placed first streams k e
 placed first [] acts k e rising at = absurd (no_event_of_acts acts k e at)
 placed first (s ∷ streams) acts k e rising at =
     let behind = flat_map process_lines streams ++ act_lines acts in
@@ -261,9 +276,11 @@ placed first (s ∷ streams) acts k e rising at =
 
 pub line_has_event : (c : Contents) (n : ℕ) (e : Event) → IsRising (pids_of c.streams)
     → slice_get (lines_of c) n ≡ Some (lines.Event e)
-    → (p : Pid) × (i : ℕ) × (slice_get (events_of c.streams p) i ≡ Some e) × (line_number_of c.streams p i ≡ Some (suc n))
+    → (p : Pid) × (i : ℕ) × (slice_get (events_of c.streams p) i ≡ Some e)
+    × (line_number_of c.streams p i ≡ Some (suc n))
 line_has_event c zero e rising at =
-    let same = same_Some (lines.Header (list_any is_remote (body c))) (lines.Event e) at in absurd (cc)
+    let same = same_Some (lines.Header (list_any is_remote (body c))) (lines.Event e) at in absurd
+    (cc)
 line_has_event c (suc k) e rising at =
     let x = placed 3 c.streams c.acts k e rising at in
     let index = x.1 in

@@ -1,6 +1,7 @@
--- If the hidden sends of streams have places, and with some processes that report nothing there are enough senders for
--- the needs at these places, acts show the streams with these processes: the places stay as they are, and the streams
--- with all their sends and with these processes have none of the reasons that decide.
+-- If the hidden sends of streams have places, and with some processes that report nothing there are
+-- enough senders for the needs at these places, acts show the streams with these processes: the
+-- places stay as they are, and the streams with all their sends and with these processes have none
+-- of the reasons that decide.
 use Rattle.std.proofs.Common.{◌≡◌, ℕ, ◌≤◌, ◌||◌, ◌++◌, Bool, true, false, cond, List, [], ◌∷◌, take}
 use Rattle.std.proofs.Common.{if◌then◌else◌, sum_by, refl, sym, ◌∙◌, ap, subst, arith}
 use Rattle.std.proofs.Common.{zero, suc, length, ◌+◌}
@@ -16,16 +17,18 @@ use Rattle.st_completions.specs.Completed.{IsShownInOneTrace}
 use Rattle.st_completions.specs.Local.{IsNeedless}
 use Rattle.st_completions.specs.Needs.{is_late, is_rootless}
 use Rattle.st_completions.specs.Reasons.{HasEachSend, HasNoReason}
-use Rattle.st_completions.specs.Supply.{excess, is_free, is_own_supply, IsSupplied, needs, needs_from}
-use Rattle.st_completions.proofs.ForCallers.{completed_again, decided, lists_among, needless_shown, same_pids, sum_low}
-use Rattle.st_completions.proofs.ForCallers.{unlisted_events}
+use Rattle.st_completions.specs.Supply.{excess, is_free, is_own_supply, IsSupplied, needs}
+use Rattle.st_completions.specs.Supply.{needs_from}
+use Rattle.st_completions.proofs.ForCallers.{completed_again, decided, lists_among, needless_shown}
+use Rattle.st_completions.proofs.ForCallers.{same_pids, sum_low, unlisted_events}
 use Rattle.st_open.specs.OpenReasons.{asked, HasPlaces, offered}
 use Rattle.st_open.specs.Silent.{inserted, silent, with_silent}
 use Rattle.st_open.specs.SilentWholes.{silent_whole, whole_inserted, whole_with}
 use Rattle.st_open.proofs.SilentStreams.{silent_lists, silent_sound, sum_inserted}
 use Rattle.st_open.specs.Silent.{IsShownWithSoMany}
 use Rattle.st_open.proofs.EnoughSilent.{enough, free_unlisted, fresh, fresh_unlisted}
-use Rattle.st_open.proofs.SameReasons.{free_as, here, is_hidden_as, own_as, refusal_as, silent_same, TellSame}
+use Rattle.st_open.proofs.SameReasons.{free_as, here, is_hidden_as, own_as, refusal_as, silent_same}
+use Rattle.st_open.proofs.SameReasons.{TellSame}
 
 -- WHOLE STREAMS WITH A SILENT PROCESS
 
@@ -35,7 +38,8 @@ told_inserted q [] = refl
 told_inserted q (w ∷ rest) =
     elim (is_lt (pid_cmp q w.pid)) as (λ b.
     told_streams (cond b (silent_whole q ∷ w ∷ rest) (w ∷ whole_inserted q rest))
-    ≡ cond b (silent q ∷ told_streams (w ∷ rest)) (told_streams (w ∷ []) ++ inserted q (told_streams rest))) [
+    ≡ cond b (silent q ∷ told_streams (w ∷ rest))
+    (told_streams (w ∷ []) ++ inserted q (told_streams rest))) [
       | true ↦ refl
       | false ↦ ap (λ xs. told_streams (w ∷ []) ++ xs) (told_inserted q rest)
     ]
@@ -46,35 +50,42 @@ all_inserted q [] = refl
 all_inserted q (w ∷ rest) =
     elim (is_lt (pid_cmp q w.pid)) as (λ b.
     all_streams (cond b (silent_whole q ∷ w ∷ rest) (w ∷ whole_inserted q rest))
-    ≡ cond b (silent q ∷ all_streams (w ∷ rest)) (all_streams (w ∷ []) ++ inserted q (all_streams rest))) [
+    ≡ cond b (silent q ∷ all_streams (w ∷ rest)) (all_streams (w ∷ [])
+    ++ inserted q (all_streams rest))) [
       | true ↦ refl
       | false ↦ ap (λ xs. all_streams (w ∷ []) ++ xs) (all_inserted q rest)
     ]
 
-pub told_with : (streams : List Stream) (wholes : List Whole) (qs : List Pid) → told_streams wholes ≡ streams
+pub told_with : (streams : List Stream) (wholes : List Whole) (qs : List Pid)
+    → told_streams wholes ≡ streams
     → told_streams (whole_with streams wholes qs) ≡ with_silent streams qs
 told_with streams wholes [] told = told
 told_with streams wholes (q ∷ qs) told =
     let rest = told_with streams wholes qs told in
     elim (lists (with_silent streams qs) q) as (λ b.
-    told_streams (cond b (whole_with streams wholes qs) (whole_inserted q (whole_with streams wholes qs)))
+    told_streams (cond b (whole_with streams wholes qs)
+    (whole_inserted q (whole_with streams wholes qs)))
     ≡ cond b (with_silent streams qs) (inserted q (with_silent streams qs))) [
       | true ↦ rest
       | false ↦ told_inserted q (whole_with streams wholes qs) ∙ ap (inserted q) rest
     ]
 
 -- what lists the same pids lists the same with more
-pub all_with : (streams all : List Stream) (wholes : List Whole) (qs : List Pid) → IsStreams streams → IsStreams all
+pub all_with : (streams all : List Stream) (wholes : List Whole) (qs : List Pid) → IsStreams streams
+    → IsStreams all
     → ((p : Pid) → lists streams p ≡ lists all p) → all_streams wholes ≡ all
     → all_streams (whole_with streams wholes qs) ≡ with_silent all qs
 all_with streams all wholes [] sound sound_all alike is = is
 all_with streams all wholes (q ∷ qs) sound sound_all alike is =
     let rest = all_with streams all wholes qs sound sound_all alike is in
     let both : lists (with_silent streams qs) q ≡ lists (with_silent all qs) q =
-    silent_lists streams sound qs q ∙ ap (λ b. b || is_among qs q) (alike q) ∙ sym (silent_lists all sound_all qs q) in
-    ap (λ b. all_streams (cond b (whole_with streams wholes qs) (whole_inserted q (whole_with streams wholes qs)))) both
+    silent_lists streams sound qs q ∙ ap (λ b. b || is_among qs q) (alike q)
+    ∙ sym (silent_lists all sound_all qs q) in
+    ap (λ b. all_streams (cond b (whole_with streams wholes qs)
+    (whole_inserted q (whole_with streams wholes qs)))) both
     ∙ elim (lists (with_silent all qs) q) as (λ b.
-    all_streams (cond b (whole_with streams wholes qs) (whole_inserted q (whole_with streams wholes qs)))
+    all_streams (cond b (whole_with streams wholes qs)
+    (whole_inserted q (whole_with streams wholes qs)))
     ≡ cond b (with_silent all qs) (inserted q (with_silent all qs))) [
       | true ↦ rest
       | false ↦ all_inserted q (whole_with streams wholes qs) ∙ ap (inserted q) rest
@@ -96,7 +107,8 @@ sum_more f streams (q ∷ qs) =
     let all = with_silent streams qs in
     let before = sum_more f streams qs in
     let sum = sum_inserted f q all in
-    elim (lists all q) as (λ b. sum_by f (pids_of streams) ≤ sum_by f (pids_of (cond b all (inserted q all)))) [
+    elim (lists all q) as (λ b. sum_by f (pids_of streams)
+    ≤ sum_by f (pids_of (cond b all (inserted q all)))) [
       | true ↦ before
       | false ↦ omega arith
     ]
@@ -124,8 +136,10 @@ told_pids (w ∷ wholes) = ap (λ ps. w.pid ∷ ps) (told_pids wholes)
 
 -- THE CHOICE WITH THEM
 
-module _ (top : ℕ) (streams : List Stream) (sound : IsStreams streams) (has : HasPlaces top streams) (others : List Pid)
-    (senders : (v : ℕ) → asked streams has.wholes v ≤ offered has.wholes v (pids_of (with_silent streams others))) where
+module _ (top : ℕ) (streams : List Stream) (sound : IsStreams streams) (has : HasPlaces top streams)
+    (others : List Pid)
+    (senders : (v : ℕ) → asked streams has.wholes v
+    ≤ offered has.wholes v (pids_of (with_silent streams others))) where
   abbrev all : List Stream
   all = all_streams has.wholes
 
@@ -153,18 +167,21 @@ module _ (top : ℕ) (streams : List Stream) (sound : IsStreams streams) (has : 
   pub chosen_each : HasEachSend more
   chosen_each = record {
     accepted = refusal_as more all same ∙ has.choice.each.accepted;
-    reported = λ p i e at. is_hidden_as more all same e ∙ has.choice.each.reported p i e (here more all same p i e at);
+    reported = λ p i e at. is_hidden_as more all same e
+        ∙ has.choice.each.reported p i e (here more all same p i e at);
   }
 
   needs_none : (v : ℕ) (q : Pid) → lists all q ≡ false → excess more v q ≡ 0
   needs_none v q none =
-      let needed : needs more v q ≡ 0 = ap (needs_from v []) (same.events q ∙ unlisted_events all q none) in
+      let needed : needs more v q ≡ 0 =
+      ap (needs_from v []) (same.events q ∙ unlisted_events all q none) in
       omega arith
 
   excess_low : (v : ℕ) (p : Pid) → excess more v p ≤ excess all v p
   excess_low v p =
       let needed : needs more v p ≡ needs all v p = ap (needs_from v []) (same.events p) in
-      let own : count_by (is_own_supply more v p) (pids_of all) ≡ count_by (is_own_supply all v p) (pids_of all) =
+      let own : count_by (is_own_supply more v p) (pids_of all)
+      ≡ count_by (is_own_supply all v p) (pids_of all) =
       ap (λ (t : Pid → Bool). count_by t (pids_of all)) (λ i r. own_as more all same v p r i) in
       let more_own = sum_more (λ r. one_if (is_own_supply more v p r)) all others in
       omega arith
@@ -181,7 +198,8 @@ module _ (top : ℕ) (streams : List Stream) (sound : IsStreams streams) (has : 
       let free : count_by (is_free all v) (pids_of (with_silent streams others))
       ≡ count_by (is_free more v) (pids_of more) =
       ap (count_by (is_free all v)) pids
-      ∙ sym (ap (λ (t : Pid → Bool). count_by t (pids_of more)) (λ i r. free_as more all same v r i)) in
+      ∙ sym (ap (λ (t : Pid → Bool). count_by t (pids_of more))
+      (λ i r. free_as more all same v r i)) in
       omega arith
 
   pub chosen_none : HasNoReason top more
@@ -210,7 +228,8 @@ many_enough : (streams : List Stream) (k : ℕ) → length (enough streams k) �
 many_enough streams zero = refl
 many_enough streams (suc k) = let rest = many_enough streams k in omega arith
 
-module _ (top : ℕ) (streams : List Stream) (sound : IsStreams streams) (has : HasPlaces top streams) (v : ℕ) where
+module _ (top : ℕ) (streams : List Stream) (sound : IsStreams streams) (has : HasPlaces top streams)
+    (v : ℕ) where
   abbrev free : Pid → ℕ
   free q = one_if (is_free (all_streams has.wholes) v q)
 
@@ -235,7 +254,8 @@ module _ (top : ℕ) (streams : List Stream) (sound : IsStreams streams) (has : 
       ≡ sum_by free (pids_of streams) + suc k) (sym none)
       (omega arith)
 
-pub so_many_shown : (top : ℕ) (streams : List Stream) → IsStreams streams → (places : HasPlaces top streams) (many : ℕ)
+pub so_many_shown : (top : ℕ) (streams : List Stream) → IsStreams streams
+    → (places : HasPlaces top streams) (many : ℕ)
     → ((v : ℕ) → asked streams places.wholes v ≤ offered places.wholes v (pids_of streams) + many)
     → IsShownWithSoMany top streams many
 so_many_shown top streams sound places many left = record {

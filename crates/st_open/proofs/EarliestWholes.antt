@@ -1,9 +1,10 @@
 -- If no reason holds of streams, their hidden sends can be at the earliest places: no stamp is late
--- there, and none needs 0. And as many processes that report nothing as there are events are enough: each
--- of them is free to send every count, and no event needs more than one message.
-use Rattle.std.proofs.Common.{◌≡◌, ℕ, ◌+◌, ◌≤◌, ◌==◌, ◌++◌, ◌||◌, zero, suc, Bool, true, false, List, [], ◌∷◌, map}
-use Rattle.std.proofs.Common.{take, length, slice_get, Some, if◌then◌else◌, sum_by, append-nil, append_assoc, refl}
-use Rattle.std.proofs.Common.{sym, ◌∙◌, ap, subst, arith, cond, ◌<◌}
+-- there, and none needs 0. And as many processes that report nothing as there are events are
+-- enough: each of them is free to send every count, and no event needs more than one message.
+use Rattle.std.proofs.Common.{◌≡◌, ℕ, ◌+◌, ◌≤◌, ◌==◌, ◌++◌, ◌||◌, zero, suc, Bool, true, false}
+use Rattle.std.proofs.Common.{List, [], ◌∷◌, map, take, length, slice_get, Some, if◌then◌else◌}
+use Rattle.std.proofs.Common.{sum_by, append-nil, append_assoc, refl, sym, ◌∙◌, ap, subst, arith}
+use Rattle.std.proofs.Common.{cond, ◌<◌}
 use Rattle.std.specs.List.{AllByRecursion}
 use Rattle.std.proofs.lemmas.Bool.{and_from, and_parts, eq-eqb, eqb-true}
 use Rattle.std.proofs.lemmas.List.{length-map}
@@ -22,9 +23,10 @@ use Rattle.st_completions.specs.Needs.{HoldsOfNone, is_need, is_rootless, marked
 use Rattle.st_completions.specs.Placed.{earliest_of, earliest_wholes, IsPlacing, IsTimelyChoice}
 use Rattle.st_completions.specs.Reasons.{HasEachSend, HasNoReason}
 use Rattle.st_completions.specs.Supply.{excess, is_free, needs_from}
-use Rattle.st_completions.proofs.ForCallers.{earliest_placing, earliest_zero, events_all, events_told, lists_among}
-use Rattle.st_completions.proofs.ForCallers.{mark_at, placed_there, placed_together, same_pids, sum_low}
-use Rattle.st_completions.proofs.ForCallers.{told_somewhere, unlisted_events, untold_mark, untold_within}
+use Rattle.st_completions.proofs.ForCallers.{earliest_placing, earliest_zero, events_all}
+use Rattle.st_completions.proofs.ForCallers.{events_told, lists_among, mark_at, placed_there}
+use Rattle.st_completions.proofs.ForCallers.{placed_together, same_pids, sum_low, told_somewhere}
+use Rattle.st_completions.proofs.ForCallers.{unlisted_events, untold_mark, untold_within}
 use Rattle.st_open.specs.OpenReasons.{asked, HasNoOpenReason, HasPlaces, offered}
 use Rattle.st_open.specs.Silent.{inserted, with_silent}
 use Rattle.st_open.specs.SilentWholes.{whole_with}
@@ -38,12 +40,14 @@ use Rattle.st_open.proofs.Unfounded.{unfounded_of}
 -- a pid below all of these is none of them
 pub above_none : (q : Pid) (qs : List Pid) → AllByRecursion (IsBelow q) qs → is_among qs q ≡ false
 above_none q [] below = refl
-above_none q (r ∷ rs) below = elim (pid_eq r q) as (λ b. pid_eq r q ≡ b → (b || is_among rs q) ≡ false) [
-  | true ↦ λ same. absurd (not_below_itself q (subst (IsBelow q) (pid_same r q same) below.0))
-  | false ↦ λ _. above_none q rs below.1
-] refl
+above_none q (r ∷ rs) below =
+    elim (pid_eq r q) as (λ b. pid_eq r q ≡ b → (b || is_among rs q) ≡ false) [
+      | true ↦ λ same. absurd (not_below_itself q (subst (IsBelow q) (pid_same r q same) below.0))
+      | false ↦ λ _. above_none q rs below.1
+    ] refl
 
-pub unlisted_with : (streams : List Stream) → IsStreams streams → (q : Pid) (qs : List Pid) → lists streams q ≡ false
+pub unlisted_with : (streams : List Stream) → IsStreams streams → (q : Pid) (qs : List Pid)
+    → lists streams q ≡ false
     → AllByRecursion (IsBelow q) qs → lists (with_silent streams qs) q ≡ false
 unlisted_with streams sound q qs none below =
     silent_lists streams sound qs q ∙ ap (λ b. b || is_among qs q) none ∙ above_none q qs below
@@ -59,7 +63,8 @@ offered_rising f streams sound one (q ∷ qs) apart rising =
     let before = offered_rising f streams sound one qs apart.1 rising.1 in
     let sum = sum_inserted f q now in
     let here = one q apart.0 in
-    subst (λ b. sum_by f (pids_of (cond b now (inserted q now))) ≡ sum_by f (pids_of streams) + length (q ∷ qs))
+    subst (λ b. sum_by f (pids_of (cond b now (inserted q now)))
+    ≡ sum_by f (pids_of streams) + length (q ∷ qs))
     (sym (unlisted_with streams sound q qs apart.0 rising.0)) (omega arith)
 
 abbrev one_if : Bool → ℕ
@@ -129,11 +134,13 @@ module _ (top : ℕ) (streams : List Stream) (sound : IsStreams streams)
   all_pids = sym (same_pids streams wholes together.choice)
 
   same_lists : (p : Pid) → lists streams p ≡ lists all p
-  same_lists p = lists_among streams p ∙ ap (λ ps. is_among ps p) (sym all_pids) ∙ sym (lists_among all p)
+  same_lists p = lists_among streams p ∙ ap (λ ps. is_among ps p) (sym all_pids)
+      ∙ sym (lists_among all p)
 
   no_zero : (p : Pid) → lists streams p ≡ true → needs_from 0 [] (events_of all p) ≡ 0
   no_zero p listed =
-      ap (needs_from 0 []) (placed_there streams sound reasonless.accepted (earliest_of streams) placing p listed)
+      ap (needs_from 0 []) (placed_there streams sound reasonless.accepted
+      (earliest_of streams) placing p listed)
       ∙ earliest_zero streams sound reasonless.accepted p (λ behind.
       let u = unfounded_of streams sound p behind in
       reasonless.founded u.pid u.index u.holds)
@@ -145,7 +152,8 @@ module _ (top : ℕ) (streams : List Stream) (sound : IsStreams streams)
         | false ↦ λ _. refl
         | true ↦ λ is.
             let parts = and_parts (is_need before e) (e.serial.prev == 0) is in
-            let some = needs_some 0 [] (events_of all p) i e at parts.0 (eqb-true e.serial.prev 0 parts.1) in
+            let some = needs_some 0 [] (events_of all p) i e at parts.0
+            (eqb-true e.serial.prev 0 parts.1) in
             elim (lists streams p) as (λ b. lists streams p ≡ b → true ≡ false) [
               | true ↦ λ listed. let zero = no_zero p listed in absurd (omega arith)
               | false ↦ λ unlisted. absurd (none-some e (ap (λ es. slice_get es i)
@@ -161,7 +169,8 @@ module _ (top : ℕ) (streams : List Stream) (sound : IsStreams streams)
       (elim m.mark.told as (λ b. m.mark.told ≡ b → m.mark.event.serial.this ≤ top) [
         | true ↦ λ told.
             let r = told_somewhere ms i m.mark m.at told in
-            reasonless.within p r.index m.mark.event (ap (λ ss. event_at ss p r.index) (sym together.choice.told)
+            reasonless.within p r.index m.mark.event (ap (λ ss. event_at ss p r.index)
+            (sym together.choice.told)
             ∙ ap (λ es. slice_get es r.index) (events_told wholes p)
             ∙ r.at)
         | false ↦ λ told.
@@ -192,20 +201,24 @@ module _ (top : ℕ) (streams : List Stream) (sound : IsStreams streams)
       let few = needs_along all all v (all_found all together.choice.sound.draft.rising) in
       omega arith
 
-  pub earliest_told : (others : List Pid) → told_streams (whole_with streams wholes others) ≡ with_silent streams others
+  pub earliest_told : (others : List Pid) → told_streams (whole_with streams wholes others)
+      ≡ with_silent streams others
   earliest_told others = told_with streams wholes others together.choice.told
 
-  module _ (others : List Pid) (apart : AllByRecursion (λ q. lists streams q ≡ false) others) (rising : IsRising others)
+  module _ (others : List Pid) (apart : AllByRecursion (λ q. lists streams q ≡ false) others)
+      (rising : IsRising others)
       (many : sum_by (λ w. length w.marked) wholes ≤ length others) where
     one_free : (v : ℕ) (q : Pid) → lists streams q ≡ false → one_if (is_free all v q) ≡ 1
     one_free v q unlisted = ap one_if
         (free_unlisted all together.choice.sound q (sym (same_lists q) ∙ unlisted) v)
 
-    senders : (v : ℕ) → asked streams wholes v ≤ offered wholes v (pids_of (with_silent streams others))
+    senders : (v : ℕ) → asked streams wholes v ≤ offered wholes v
+        (pids_of (with_silent streams others))
     senders v =
         let low = asked_low v in
         let total = total_is wholes in
-        let more = offered_rising (λ q. one_if (is_free all v q)) streams sound (one_free v) others apart rising in
+        let more = offered_rising (λ q. one_if (is_free all v q)) streams sound
+        (one_free v) others apart rising in
         omega arith
 
     all_is : all_streams (whole_with streams wholes others) ≡ with_silent all others

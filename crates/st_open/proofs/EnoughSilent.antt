@@ -1,8 +1,8 @@
--- A process that the streams don't list is free to send a message of each count; there are as many such processes as
--- one likes; and events have no more needs than they are.
-use Rattle.std.proofs.Common.{◌≡◌, ℕ, zero, suc, ◌≤◌, ◌<◌, ◌==◌, ◌&&◌, ◌++◌, Bool, true, false, cond, List, []}
-use Rattle.std.proofs.Common.{◌∷◌, map, length, Option, Some, None, is_none, is_some, if◌then◌else◌, refl, sym, ◌∙◌, ap}
-use Rattle.std.proofs.Common.{arith}
+-- A process that the streams don't list is free to send a message of each count; there are as many
+-- such processes as one likes; and events have no more needs than they are.
+use Rattle.std.proofs.Common.{◌≡◌, ℕ, zero, suc, ◌≤◌, ◌<◌, ◌==◌, ◌&&◌, ◌++◌, Bool, true, false}
+use Rattle.std.proofs.Common.{cond, List, [], ◌∷◌, map, length, Some, None, is_none}
+use Rattle.std.proofs.Common.{is_some, if◌then◌else◌, refl, sym, ◌∙◌, ap, arith}
 use Rattle.std.specs.Option.{option_map_or}
 use Rattle.std.proofs.lemmas.Bool.{and_parts, false≢true}
 use Rattle.st_core.specs.declared.types.Pid.{Pid}
@@ -22,13 +22,15 @@ use Rattle.st_open.specs.Silent.{with_silent}
 
 -- AN UNLISTED PROCESS
 
-module _ (streams : List Stream) (sound : IsStreams streams) (q : Pid) (none : lists streams q ≡ false) where
+module _ (streams : List Stream) (sound : IsStreams streams) (q : Pid)
+    (none : lists streams q ≡ false) where
   unreceived : (v : ℕ) → receive_of streams q v ≡ None
   unreceived v = elim (receive_of streams q v) as (λ o. receive_of streams q v ≡ o → o ≡ None) [
     | None ↦ λ _. refl
     | Some x ↦ λ is.
         let t = taken_if streams q v x sound.draft.rising is in
-        let names = and_parts (lists streams t.event.from) (option_map_or (lists streams) t.event.to true)
+        let names = and_parts (lists streams t.event.from)
+        (option_map_or (lists streams) t.event.to true)
         (named streams sound t.pid t.index t.event t.at) in
         absurd (false≢true (sym none ∙ ap (lists streams) (sym t.from) ∙ names.0))
   ] refl
@@ -64,7 +66,8 @@ numbers streams = greatest (map (λ x. x.pid.number) streams)
 abbrev pub fresh : List Stream → Pid
 fresh streams = pid_on 0 (suc (numbers streams))
 
-above_unlisted : (streams : List Stream) (n : ℕ) → numbers streams < n → lists streams (pid_on 0 n) ≡ false
+above_unlisted : (streams : List Stream) (n : ℕ) → numbers streams < n
+    → lists streams (pid_on 0 n) ≡ false
 above_unlisted [] n above = refl
 above_unlisted (x ∷ rest) n above =
     elim (pid_eq x.pid (pid_on 0 n)) as (λ b. pid_eq x.pid (pid_on 0 n) ≡ b

@@ -1,4 +1,5 @@
--- Two events that tell of a stamp with prev 0 behind one with another prev tell it of their process.
+-- Two events that tell of a stamp with prev 0 behind one with another prev tell it of their
+-- process.
 use Rattle.std.proofs.Common.{◌≡◌, ℕ, List, None, subst, ◌∙◌, arith}
 use Rattle.st_core.specs.declared.types.Pid.{Pid}
 use Rattle.st_core.specs.Run.{Stream}
@@ -8,8 +9,10 @@ use Rattle.st_pair.proofs.ForCallers.{paired}
 use Rattle.st_completions.specs.FinalReasons.{HasZeroBehindStamp, IsStampOf, IsZeroBehind}
 use Rattle.st_completions.proofs.ForCallers.{fit_together, told}
 
-module _ (streams : List Stream) (sound : IsStreams streams) (accepted : refusal streams ≡ None) where
-  pub told_behind : (p : Pid) (i : ℕ) (z : IsZeroBehind streams p i) → HasZeroBehindStamp streams z.event.from
+module _ (streams : List Stream) (sound : IsStreams streams)
+    (accepted : refusal streams ≡ None) where
+  pub told_behind : (p : Pid) (i : ℕ) (z : IsZeroBehind streams p i)
+      → HasZeroBehindStamp streams z.event.from
   told_behind p i z =
       let fit = fit_together streams (paired streams accepted) in
       let first = told streams sound fit z.pid z.index z.first z.first_at in

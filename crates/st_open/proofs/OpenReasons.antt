@@ -4,7 +4,6 @@ use Rattle.std.proofs.Common.{◌≡◌, ◌↔◌, ℕ, List, Some, None, refl,
 use Rattle.std.proofs.lemmas.Bool.{false≢true, ltb-true}
 use Rattle.std.proofs.lemmas.Option.{none-some}
 use Rattle.st_core.specs.declared.types.Pid.{Pid}
-use Rattle.st_core.specs.declared.types.Event.{Event}
 use Rattle.st_core.specs.Run.{Stream}
 use Rattle.st_core.specs.Streams.{total_of, IsStreams}
 use Rattle.st_pair.specs.Pairing.{refusal}
@@ -13,7 +12,8 @@ use Rattle.st_plan.specs.Marks.{all_streams}
 use Rattle.st_completions.specs.Completed.{IsShownInOneTrace}
 use Rattle.st_completions.specs.Placed.{earliest_wholes}
 use Rattle.st_completions.proofs.ForCallers.{no_reason, zeros_final}
-use Rattle.st_open.specs.OpenReasons.{HasNoOpenReason, Late, OpenReason, Refused, StandsAgainstOpen, TooHigh, Unfounded}
+use Rattle.st_open.specs.OpenReasons.{HasNoOpenReason, Late, OpenReason, Refused, StandsAgainstOpen}
+use Rattle.st_open.specs.OpenReasons.{TooHigh, Unfounded}
 use Rattle.st_core.specs.declared.types.Act.{Act}
 use Rattle.st_core.specs.Laws.{NoReset}
 use Rattle.st_core.specs.Run.{Shows}
@@ -25,20 +25,23 @@ use Rattle.st_open.proofs.EarliestWholes.{asked_low, places}
 use Rattle.st_open.proofs.Unfounded.{behind_of}
 
 -- streams that acts without a reset show have none of the reasons
-pub shown_none : (top : ℕ) (streams : List Stream) → IsStreams streams → IsShownInOneTrace top streams
+pub shown_none : (top : ℕ) (streams : List Stream) → IsStreams streams
+    → IsShownInOneTrace top streams
     → HasNoOpenReason top streams
 shown_none top streams sound shown =
     let none = no_reason top streams sound.draft.rising shown in
     let accepted = elim (refusal streams) as (λ o. refusal streams ≡ o → o ≡ None) [
       | None ↦ λ _. refl
-      | Some f ↦ λ is. absurd (refused_never_shown streams f is top shown.acts shown.one_trace shown.shows)
+      | Some f ↦ λ is. absurd (refused_never_shown streams f is top shown.acts shown.one_trace
+          shown.shows)
     ] refl in
     record {
       accepted = accepted;
       timely = none.timely;
       founded = λ p i against.
           let b = behind_of streams sound accepted p i against in
-          zeros_final top streams sound.draft.rising b.pid b.behind shown.acts shown.one_trace shown.shows;
+          zeros_final top streams sound.draft.rising b.pid b.behind shown.acts shown.one_trace
+          shown.shows;
       within = none.within;
     }
 
@@ -47,7 +50,8 @@ pub same_none : (top : ℕ) (streams : List Stream) (others : List Pid) → IsSt
 same_none top streams others sound =
     let same = silent_same streams others in (
       none_as (with_silent streams others) streams same top,
-      none_as streams (with_silent streams others) (tell_back (with_silent streams others) streams same) top,
+      none_as streams (with_silent streams others) (tell_back
+          (with_silent streams others) streams same) top,
     )
 
 pub shown_with_none : (top : ℕ) (streams : List Stream) → IsStreams streams → (others : List Pid)
@@ -57,11 +61,13 @@ shown_with_none top streams sound others shown =
     (shown_none top (with_silent streams others) (silent_sound streams sound others) shown)
 
 -- if none holds, as many processes as there are events are enough
-pub none_shown_with : (top : ℕ) (streams : List Stream) → IsStreams streams → HasNoOpenReason top streams
+pub none_shown_with : (top : ℕ) (streams : List Stream) → IsStreams streams
+    → HasNoOpenReason top streams
     → IsShownWithOthers top streams
 none_shown_with top streams sound none =
     let wholes = earliest_wholes streams in
-    let shown = so_many_shown top streams sound (places top streams sound none) (total_of (all_streams wholes))
+    let shown = so_many_shown top streams sound (places top streams sound none)
+    (total_of (all_streams wholes))
     (λ v. let low = asked_low top streams sound none v in omega arith) in
     record { others = shown.others; shown = shown.shown }
 
@@ -74,7 +80,8 @@ open_decides top streams sound = (
 
 -- REASONS AT THEIR PLACES
 
-contradicts : (top : ℕ) (streams : List Stream) (reason : OpenReason) → StandsAgainstOpen top streams reason
+contradicts : (top : ℕ) (streams : List Stream) (reason : OpenReason)
+    → StandsAgainstOpen top streams reason
     → HasNoOpenReason top streams → ⊥
 contradicts top streams (Refused f) against none = none-some f (sym none.accepted ∙ against)
 contradicts top streams (Late p i) against none =

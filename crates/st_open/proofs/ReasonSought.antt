@@ -1,8 +1,11 @@
--- If no reason is found among the events, none holds, so acts show the streams with enough processes that
--- report nothing: the events are finitely many, and each reason is a test of one of them.
-use Rattle.std.proofs.Common.{◌≡◌, ◌⊎◌, inl, inr, ℕ, zero, suc, ◌<◌, ◌==◌, ◌&&◌, ◌||◌, nat_lt, Bool, true, false}
-use Rattle.std.proofs.Common.{List, [], ◌∷◌, Some, None, slice_get, take, refl, sym, ◌∙◌, ap, arith}
-use Rattle.std.proofs.lemmas.Bool.{and_from, and_parts, eq-eqb, eqb-true, false≢true, lt-ltb, ltb-true}
+-- If no reason is found among the events, none holds, so acts show the streams with enough
+-- processes that report nothing: the events are finitely many, and each reason is a test of one of
+-- them.
+use Rattle.std.proofs.Common.{◌≡◌, ◌⊎◌, inl, inr, ℕ, zero, suc, ◌<◌, ◌==◌, ◌&&◌, ◌||◌, nat_lt, Bool}
+use Rattle.std.proofs.Common.{true, false, List, [], ◌∷◌, Some, None, slice_get, take, refl, sym}
+use Rattle.std.proofs.Common.{◌∙◌, ap, arith}
+use Rattle.std.proofs.lemmas.Bool.{and_from, and_parts, eq-eqb, eqb-true, false≢true, lt-ltb}
+use Rattle.std.proofs.lemmas.Bool.{ltb-true}
 use Rattle.std.proofs.lemmas.Option.{none-some, same_Some}
 use Rattle.st_core.specs.declared.types.Pid.{Pid}
 use Rattle.st_core.specs.declared.types.Event.{Event}
@@ -13,18 +16,18 @@ use Rattle.st_core.proofs.ForCallers.{pid_eq-refl, pid_same}
 use Rattle.st_pair.specs.Pairing.{refusal}
 use Rattle.st_pair.specs.Places.{is_stamp}
 use Rattle.st_order.specs.Items.{is_hidden}
-use Rattle.st_completions.specs.FinalReasons.{IsZeroBehind}
 use Rattle.st_completions.specs.Needs.{HoldsOfNone, is_late}
 use Rattle.st_completions.specs.Reasons.{is_too_high}
 use Rattle.st_completions.proofs.ForCallers.{IsSomewhere, seek_all, within_if}
-use Rattle.st_open.specs.OpenReasons.{HasOpenReason, IsBehindReceive, IsBehindStamp, Late, Refused, TooHigh}
-use Rattle.st_open.specs.OpenReasons.{Unfounded}
+use Rattle.st_open.specs.OpenReasons.{HasOpenReason, IsBehindReceive, IsBehindStamp, Late, Refused}
+use Rattle.st_open.specs.OpenReasons.{TooHigh, Unfounded}
 use Rattle.st_open.specs.Silent.{IsShownWithOthers}
 use Rattle.st_open.proofs.OpenReasons.{none_shown_with}
 
 -- f tells of a stamp of e's process with a lower count and another prev than 0
 abbrev is_before : Event → List Event → Event → Bool
-is_before e es f = (pid_eq f.from e.from && nat_lt f.serial.this e.serial.this) && nat_lt 0 f.serial.prev
+is_before e es f = (pid_eq f.from e.from && nat_lt f.serial.this e.serial.this)
+    && nat_lt 0 f.serial.prev
 
 found : {A B : Type 0} → A ⊎ B → Bool
 found (inl x) = true
@@ -64,13 +67,19 @@ stamp_more d es stamps none (suc i) e at = none i e at
 some_received : (es : List Event) → HasReceive es ⊎ AreStamps es
 unfolding AreStamps
 some_received [] = inr (λ i e at. absurd (none-some e at))
-some_received (d ∷ es) = elim (is_stamp d) as (λ b. is_stamp d ≡ b → HasReceive (d ∷ es) ⊎ AreStamps (d ∷ es)) [
-  | false ↦ λ receives. inl (record { index = 0; event = d; at = refl; receives = receives })
-  | true ↦ λ stamps. elim (some_received es) [
-    | inl r ↦ inl (record { index = suc r.index; event = r.event; at = r.at; receives = r.receives })
-    | inr none ↦ inr (stamp_more d es stamps none)
-  ]
-] refl
+some_received (d ∷ es) =
+    elim (is_stamp d) as (λ b. is_stamp d ≡ b → HasReceive (d ∷ es) ⊎ AreStamps (d ∷ es)) [
+      | false ↦ λ receives. inl (record { index = 0; event = d; at = refl; receives = receives })
+      | true ↦ λ stamps. elim (some_received es) [
+        | inl r ↦ inl (record {
+          index = suc r.index;
+          event = r.event;
+          at = r.at;
+          receives = r.receives;
+        })
+        | inr none ↦ inr (stamp_more d es stamps none)
+      ]
+    ] refl
 
 taken_at : (es : List Event) (i j : ℕ) (e : Event) → slice_get (take i es) j ≡ Some e
     → (slice_get es j ≡ Some e) × (j < i)
@@ -79,7 +88,8 @@ taken_at [] (suc i) j e at = absurd (none-some e at)
 taken_at (d ∷ es) (suc i) zero e at = (at, omega arith)
 taken_at (d ∷ es) (suc i) (suc j) e at = let rest = taken_at es i j e at in (rest.0, omega arith)
 
-at_taken : (es : List Event) (i j : ℕ) (e : Event) → slice_get es j ≡ Some e → j < i → slice_get (take i es) j ≡ Some e
+at_taken : (es : List Event) (i j : ℕ) (e : Event) → slice_get es j ≡ Some e → j < i
+    → slice_get (take i es) j ≡ Some e
 at_taken es zero j e at less = absurd (omega arith)
 at_taken [] (suc i) j e at less = at
 at_taken (d ∷ es) (suc i) zero e at less = at
@@ -95,7 +105,8 @@ module _ (streams : List Stream) where
   receive_found s =
       let e = s.holds.event in
       let before = take s.index (events_of streams s.pid) in
-      let stamps = and_parts (is_stamp e) (e.serial.prev == 0 && found (some_received before)) s.holds.holds in
+      let stamps = and_parts (is_stamp e) (e.serial.prev == 0
+      && found (some_received before)) s.holds.holds in
       let parts = and_parts (e.serial.prev == 0) (found (some_received before)) stamps.1 in
       let r = found_is (some_received before) parts.1 in
       let there = taken_at (events_of streams s.pid) s.index r.index r.event r.at in
@@ -111,7 +122,8 @@ module _ (streams : List Stream) where
         behind = there.1;
       }
 
-  receive_nowhere : HoldsOfNone behind_receive streams → (p : Pid) (i : ℕ) → ¬ IsBehindReceive streams p i
+  receive_nowhere : HoldsOfNone behind_receive streams → (p : Pid) (i : ℕ)
+      → ¬ IsBehindReceive streams p i
   unfolding AreStamps
   receive_nowhere none p i z =
       let e = z.event in
@@ -139,7 +151,8 @@ module _ (streams : List Stream) where
       let parts = and_parts (e.serial.prev == 0) (found (seek_all (is_before e) streams)) both.0 in
       let first = found_is (seek_all (is_before e) streams) parts.1 in
       let f = first.holds.event in
-      let tests = and_parts (pid_eq f.from e.from && nat_lt f.serial.this e.serial.this) (nat_lt 0 f.serial.prev)
+      let tests = and_parts (pid_eq f.from e.from && nat_lt f.serial.this e.serial.this)
+      (nat_lt 0 f.serial.prev)
       first.holds.holds in
       let inner = and_parts (pid_eq f.from e.from) (nat_lt f.serial.this e.serial.this) tests.0 in
       record {
@@ -169,7 +182,8 @@ module _ (streams : List Stream) where
       (and_from (e.serial.prev == 0) sought (eq-eqb e.serial.prev 0 z.is_zero) is) t.tells)) in
       let nowhere = found_not (seek_all (is_before e) streams) not_found in
       false≢true (sym (nowhere z.pid z.index f z.first_at)
-      ∙ and_from (pid_eq f.from e.from && nat_lt f.serial.this e.serial.this) (nat_lt 0 f.serial.prev)
+      ∙ and_from (pid_eq f.from e.from && nat_lt f.serial.this e.serial.this)
+      (nat_lt 0 f.serial.prev)
       (and_from (pid_eq f.from e.from) (nat_lt f.serial.this e.serial.this)
       (ap (λ q. pid_eq q e.from) z.same ∙ pid_eq-refl e.from)
       (lt-ltb f.serial.this e.serial.this z.lower))
@@ -178,14 +192,21 @@ module _ (streams : List Stream) where
 pub shown_or_refused : (top : ℕ) (streams : List Stream) → IsStreams streams
     → IsShownWithOthers top streams ⊎ HasOpenReason top streams
 shown_or_refused top streams sound =
-    elim (refusal streams) as (λ o. refusal streams ≡ o → IsShownWithOthers top streams ⊎ HasOpenReason top streams) [
+    elim (refusal streams) as (λ o. refusal streams ≡ o
+    → IsShownWithOthers top streams ⊎ HasOpenReason top streams) [
       | Some f ↦ λ is. inr (record { reason = Refused f; stands = is })
       | None ↦ λ accepted. elim (seek_all is_late streams) [
         | inl s ↦ inr (record { reason = Late s.pid s.index; stands = s.holds })
         | inr timely ↦ elim (seek_all (behind_receive streams) streams) [
-          | inl s ↦ inr (record { reason = Unfounded s.pid s.index; stands = inl (receive_found streams s) })
+          | inl s ↦ inr (record {
+            reason = Unfounded s.pid s.index;
+            stands = inl (receive_found streams s);
+          })
           | inr received ↦ elim (seek_all (behind_stamp streams) streams) [
-            | inl s ↦ inr (record { reason = Unfounded s.pid s.index; stands = inr (stamp_found streams s) })
+            | inl s ↦ inr (record {
+              reason = Unfounded s.pid s.index;
+              stands = inr (stamp_found streams s);
+            })
             | inr stamped ↦ elim (seek_all (is_too_high top) streams) [
               | inl s ↦ inr (record { reason = TooHigh s.pid s.index; stands = s.holds })
               | inr low ↦ inl (none_shown_with top streams sound (record {

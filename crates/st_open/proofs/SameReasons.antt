@@ -1,8 +1,9 @@
--- Streams with the same events of each process, and more processes without events: whatever is asked of events, of what
--- is received and of what is stamped has the same answer. So pairing, late stamps and supplies are the same.
-use Rattle.std.proofs.Common.{◌≡◌, inl, inr, ℕ, zero, suc, ◌==◌, ◌&&◌, ◌||◌, nat_lt, true, false}
-use Rattle.std.proofs.Common.{not, cond, List, [], ◌∷◌, map, filter, take, Option, Some, None, is_none, slice_get}
-use Rattle.std.proofs.Common.{option_map, option_and_then, refl, sym, ◌∙◌, ap}
+-- Streams with the same events of each process, and more processes without events: whatever is
+-- asked of events, of what is received and of what is stamped has the same answer. So pairing, late
+-- stamps and supplies are the same.
+use Rattle.std.proofs.Common.{◌≡◌, inl, inr, ℕ, zero, ◌==◌, ◌&&◌, ◌||◌, nat_lt, true, false}
+use Rattle.std.proofs.Common.{not, cond, List, [], ◌∷◌, take, Option, Some, None}
+use Rattle.std.proofs.Common.{is_none, slice_get, option_and_then, refl, sym, ◌∙◌, ap}
 use Rattle.std.specs.Option.{option_map_or}
 use Rattle.st_core.specs.declared.types.Pid.{Pid}
 use Rattle.st_core.specs.declared.types.Event.{Event}
@@ -12,8 +13,9 @@ use Rattle.st_core.specs.Streams.{events_of, lists}
 use Rattle.st_pair.specs.declared.answer.PairFault.{PairFault}
 use Rattle.st_pair.specs.declared.answer.PairFault.TheVariants as fault
 use Rattle.st_pair.specs.Places.{event_at, first, first_from, is_stamp}
-use Rattle.st_pair.specs.Pairing.{agrees, first_rule, is_send, mismatch, not_rising, prev_not_before, receive_of}
-use Rattle.st_pair.specs.Pairing.{refusal, repeated, stamp_before, stamp_of, to_eq}
+use Rattle.st_pair.specs.Pairing.{agrees, first_rule, is_send, mismatch, not_rising}
+use Rattle.st_pair.specs.Pairing.{prev_not_before, receive_of, refusal, repeated, stamp_before}
+use Rattle.st_pair.specs.Pairing.{stamp_of, to_eq}
 use Rattle.st_pair.proofs.ForCallers.{got_rule, own_rule}
 use Rattle.st_order.specs.Items.{is_hidden}
 use Rattle.st_pair.specs.declared.answer.Source.{Source}
@@ -51,20 +53,23 @@ tell_itself streams = record {
   faults = λ rule. refl;
 }
 
-pub inserted_same : (q : Pid) (streams : List Stream) → lists streams q ≡ false → TellSame (inserted q streams) streams
+pub inserted_same : (q : Pid) (streams : List Stream) → lists streams q ≡ false
+    → TellSame (inserted q streams) streams
 inserted_same q streams none = record {
   events = events_inserted q streams none;
   receives = λ p v. first_inserted (got_rule p v) q streams;
   faults = λ rule. first_inserted rule q streams;
 }
 
-pub silent_same : (streams : List Stream) (others : List Pid) → TellSame (with_silent streams others) streams
+pub silent_same : (streams : List Stream) (others : List Pid)
+    → TellSame (with_silent streams others) streams
 silent_same streams [] = tell_itself streams
 silent_same streams (q ∷ qs) =
     let all = with_silent streams qs in
     elim (lists all q) as (λ b. lists all q ≡ b → TellSame (cond b all (inserted q all)) streams) [
       | true ↦ λ _. silent_same streams qs
-      | false ↦ λ none. tell_on (inserted q all) all streams (inserted_same q all none) (silent_same streams qs)
+      | false ↦ λ none. tell_on (inserted q all) all streams (inserted_same q all none)
+          (silent_same streams qs)
     ] refl
 
 module _ (more streams : List Stream) (same : TellSame more streams) where
@@ -75,7 +80,8 @@ module _ (more streams : List Stream) (same : TellSame more streams) where
 
   rising_same : (p : Pid) (i : ℕ) (e : Event) → not_rising more p i e ≡ not_rising streams p i e
   rising_same p i e = λ k. option_and_then (λ (f : ℕ × Event).
-      cond (not (is_stamp e) || nat_lt f.1.serial.this e.serial.this) None (Some (fault.NotRising p i f.0)))
+      cond (not (is_stamp e) || nat_lt f.1.serial.this e.serial.this) None
+      (Some (fault.NotRising p i f.0)))
       (stamp_before (same.events p k) i)
 
   repeated_same : (p : Pid) (i : ℕ) (e : Event) → repeated more p i e ≡ repeated streams p i e
@@ -88,9 +94,11 @@ module _ (more streams : List Stream) (same : TellSame more streams) where
       cond (is_stamp e || agrees f.1 e) None (Some (fault.Mismatch p i e.from f.0)))
       (stamps e.from e.serial.this k)
 
-  rules_same : (rules : List (Pid → ℕ → Event → Option PairFault)) → first_rule more rules ≡ first_rule streams rules
+  rules_same : (rules : List (Pid → ℕ → Event → Option PairFault))
+      → first_rule more rules ≡ first_rule streams rules
   rules_same [] = refl
-  rules_same (rule ∷ rules) = λ k. elim (same.faults rule k) [ None ↦ rules_same rules k | Some f ↦ Some f ]
+  rules_same (rule ∷ rules) =
+      λ k. elim (same.faults rule k) [ None ↦ rules_same rules k | Some f ↦ Some f ]
 
   pub refusal_as : refusal more ≡ refusal streams
   refusal_as = rules_same (prev_not_before ∷ not_rising more ∷ repeated more ∷ mismatch more ∷ [])
@@ -101,7 +109,8 @@ module _ (more streams : List Stream) (same : TellSame more streams) where
 
   pub own_as : (v : ℕ) (p q : Pid) → is_own_supply more v p q ≡ is_own_supply streams v p q
   own_as v p q = λ k. is_none (same.receives q v k)
-      && option_map_or (λ (f : ℕ × Event). is_send f.1 && to_eq f.1.to (Some p)) (stamps q v k) false
+      && option_map_or (λ (f : ℕ × Event). is_send f.1 && to_eq f.1.to (Some p))
+      (stamps q v k) false
 
   pub free_as : (v : ℕ) (q : Pid) → is_free more v q ≡ is_free streams v q
   free_as v q = λ k. is_none (same.receives q v k) && is_none (stamps q v k)
@@ -114,10 +123,12 @@ module _ (more streams : List Stream) (same : TellSame more streams) where
 
   -- REASONS
 
-  pub there : (p : Pid) (i : ℕ) (e : Event) → event_at streams p i ≡ Some e → event_at more p i ≡ Some e
+  pub there : (p : Pid) (i : ℕ) (e : Event) → event_at streams p i ≡ Some e
+      → event_at more p i ≡ Some e
   there p i e at = ap (λ es. slice_get es i) (same.events p) ∙ at
 
-  pub here : (p : Pid) (i : ℕ) (e : Event) → event_at more p i ≡ Some e → event_at streams p i ≡ Some e
+  pub here : (p : Pid) (i : ℕ) (e : Event) → event_at more p i ≡ Some e
+      → event_at streams p i ≡ Some e
   here p i e at = ap (λ es. slice_get es i) (sym (same.events p)) ∙ at
 
   unfounded_as : (p : Pid) (i : ℕ) → IsUnfounded streams p i → IsUnfounded more p i

@@ -1,6 +1,8 @@
--- A process without events, put in by its pid, leaves the streams of all others as they are, and streams stay streams.
-use Rattle.std.proofs.Common.{◌≡◌, ℕ, ◌||◌, Bool, true, false, not, cond, List, [], ◌∷◌, map, Option, Some, None}
-use Rattle.std.proofs.Common.{is_some, length, slice_get, suc, sum_by, refl, sym, ◌∙◌, ap, arith, ◌+◌}
+-- A process without events, put in by its pid, leaves the streams of all others as they are, and
+-- streams stay streams.
+use Rattle.std.proofs.Common.{◌≡◌, ℕ, ◌||◌, Bool, true, false, not, cond, List, [], ◌∷◌}
+use Rattle.std.proofs.Common.{Option, Some, None, is_some, length, slice_get, suc, sum_by, refl}
+use Rattle.std.proofs.Common.{sym, ◌∙◌, ap, arith, ◌+◌}
 use Rattle.std.specs.Prelude.{position}
 use Rattle.std.specs.declared.cmp.Ordering.TheVariants.{Less, Equal, Greater}
 use Rattle.std.specs.Ordering.{is_lt, ordering_reverse}
@@ -12,9 +14,10 @@ use Rattle.st_core.specs.declared.types.Pid.{Pid}
 use Rattle.st_core.specs.declared.types.Event.{Event}
 use Rattle.st_core.specs.Pid.{pid_cmp, pid_eq, IsBelow, IsRising}
 use Rattle.st_core.specs.Run.{Stream, pids_of}
-use Rattle.st_core.specs.Streams.{AreOwn, events_of, is_among, IsStreams, lists, names_listed, stream_of, total_of}
-use Rattle.st_core.specs.Streams.{unlisted_among}
-use Rattle.st_core.proofs.ForCallers.{position-none, is_lt-true, pid_cmp-Equal, pid_eq-refl, pid_same, IsBelow-trans}
+use Rattle.st_core.specs.Streams.{AreOwn, events_of, is_among, IsStreams, lists, names_listed}
+use Rattle.st_core.specs.Streams.{stream_of, total_of, unlisted_among}
+use Rattle.st_core.proofs.ForCallers.{position-none, is_lt-true, pid_cmp-Equal, pid_eq-refl}
+use Rattle.st_core.proofs.ForCallers.{pid_same, IsBelow-trans}
 use Rattle.st_pair.specs.Places.{first, first_from}
 use Rattle.st_pair.proofs.ForCallers.{events_in, pid_total}
 use Rattle.st_order.proofs.ForCallers.{all_found, AreFound}
@@ -24,11 +27,13 @@ use Rattle.st_open.specs.Silent.{inserted, silent, with_silent}
 -- ONE PROCESS MORE
 
 -- what a rule gives first
-pub first_inserted : {X : Type 0} (rule : Pid → ℕ → Event → Option X) (q : Pid) (streams : List Stream)
+pub first_inserted : {X : Type 0} (rule : Pid → ℕ → Event → Option X) (q : Pid)
+    (streams : List Stream)
     → first rule (inserted q streams) ≡ first rule streams
 first_inserted rule q [] = refl
 first_inserted {X} rule q (x ∷ rest) =
-    elim (is_lt (pid_cmp q x.pid)) as (λ b. first rule (cond b (silent q ∷ x ∷ rest) (x ∷ inserted q rest))
+    elim (is_lt (pid_cmp q x.pid)) as (λ b. first rule
+    (cond b (silent q ∷ x ∷ rest) (x ∷ inserted q rest))
     ≡ first rule (x ∷ rest)) [
       | true ↦ refl
       | false ↦ ap (λ (o : Option X). let all : Option X =
@@ -43,7 +48,8 @@ sum_inserted f q [] = let one = sum_by-cons f q [] in omega arith
 sum_inserted f q (x ∷ rest) =
     let old = sum_by-cons f x.pid (pids_of rest) in
     elim (is_lt (pid_cmp q x.pid)) as (λ b.
-    sum_by f (pids_of (cond b (silent q ∷ x ∷ rest) (x ∷ inserted q rest))) ≡ f q + sum_by f (x.pid ∷ pids_of rest)) [
+    sum_by f (pids_of (cond b (silent q ∷ x ∷ rest) (x ∷ inserted q rest)))
+    ≡ f q + sum_by f (x.pid ∷ pids_of rest)) [
       | true ↦ let one = sum_by-cons f q (x.pid ∷ pids_of rest) in omega arith
       | false ↦
           let one = sum_by-cons f x.pid (pids_of (inserted q rest)) in
@@ -52,7 +58,8 @@ sum_inserted f q (x ∷ rest) =
     ]
 
 -- who is listed
-some_if : (b : Bool) (x : Stream) (o : Option Stream) → is_some (cond b (Some x) o) ≡ (b || is_some o)
+some_if : (b : Bool) (x : Stream) (o : Option Stream)
+    → is_some (cond b (Some x) o) ≡ (b || is_some o)
 some_if true x o = refl
 some_if false x o = refl
 
@@ -66,33 +73,41 @@ pub lists_inserted : (q : Pid) (streams : List Stream) (p : Pid)
 lists_inserted q [] p = some_if (pid_eq q p) (silent q) None
 lists_inserted q (x ∷ rest) p =
     let old = some_if (pid_eq x.pid p) x (stream_of rest p) in
-    elim (is_lt (pid_cmp q x.pid)) as (λ b. lists (cond b (silent q ∷ x ∷ rest) (x ∷ inserted q rest)) p
+    elim (is_lt (pid_cmp q x.pid)) as (λ b. lists (cond b (silent q ∷ x ∷ rest)
+    (x ∷ inserted q rest)) p
     ≡ (pid_eq q p || lists (x ∷ rest) p)) [
       | true ↦ some_if (pid_eq q p) (silent q) (stream_of (x ∷ rest) p)
       | false ↦ some_if (pid_eq x.pid p) x (stream_of (inserted q rest) p)
-          ∙ or_turn (pid_eq q p) (pid_eq x.pid p) (lists rest p) (lists (inserted q rest) p) (lists_inserted q rest p)
+          ∙ or_turn (pid_eq q p) (pid_eq x.pid p) (lists rest p) (lists (inserted q rest) p)
+          (lists_inserted q rest p)
           ∙ ap (λ b. pid_eq q p || b) (sym old)
     ]
 
-pub listed_rest : (x : Stream) (rest : List Stream) (p : Pid) → lists (x ∷ rest) p ≡ false → lists rest p ≡ false
-listed_rest x rest p none = elim (pid_eq x.pid p) as (λ b. is_some (cond b (Some x) (stream_of rest p)) ≡ false
+pub listed_rest : (x : Stream) (rest : List Stream) (p : Pid) → lists (x ∷ rest) p ≡ false
+    → lists rest p ≡ false
+listed_rest x rest p none =
+    elim (pid_eq x.pid p) as (λ b. is_some (cond b (Some x) (stream_of rest p)) ≡ false
     → lists rest p ≡ false) [ true ↦ λ h. absurd (false≢true (sym h)) | false ↦ λ h. h ] none
 
 -- the events of each
 pub events_inserted : (q : Pid) (streams : List Stream) → lists streams q ≡ false → (p : Pid)
     → events_of (inserted q streams) p ≡ events_of streams p
 events_inserted q [] none p =
-    elim (pid_eq q p) as (λ b. events_in (cond b (Some (silent q)) None) ≡ []) [ true ↦ refl | false ↦ refl ]
+    elim (pid_eq q p) as (λ b. events_in (cond b (Some (silent q)) None)
+    ≡ []) [ true ↦ refl | false ↦ refl ]
 events_inserted q (x ∷ rest) none p =
-    elim (is_lt (pid_cmp q x.pid)) as (λ b. events_of (cond b (silent q ∷ x ∷ rest) (x ∷ inserted q rest)) p
+    elim (is_lt (pid_cmp q x.pid)) as (λ b. events_of (cond b (silent q ∷ x ∷ rest)
+    (x ∷ inserted q rest)) p
     ≡ events_of (x ∷ rest) p) [
       | true ↦ elim (pid_eq q p) as (λ b. pid_eq q p ≡ b
-          → events_in (cond b (Some (silent q)) (stream_of (x ∷ rest) p)) ≡ events_of (x ∷ rest) p) [
+          → events_in (cond b (Some (silent q)) (stream_of (x ∷ rest) p))
+          ≡ events_of (x ∷ rest) p) [
             | true ↦ λ same. sym (ap (events_of (x ∷ rest)) (sym (pid_same q p same))
                 ∙ unlisted_events (x ∷ rest) q none)
             | false ↦ λ _. refl
           ] refl
-      | false ↦ elim (pid_eq x.pid p) as (λ b. events_in (cond b (Some x) (stream_of (inserted q rest) p))
+      | false ↦ elim (pid_eq x.pid p) as (λ b. events_in
+          (cond b (Some x) (stream_of (inserted q rest) p))
           ≡ events_in (cond b (Some x) (stream_of rest p))) [
             | true ↦ refl
             | false ↦ events_inserted q rest (listed_rest x rest q none) p
@@ -114,7 +129,8 @@ above_first q x rest none not_below =
       | Greater ↦ λ is. pid_total.antisymm x.pid q ∙ ap ordering_reverse is
     ] refl
 
-all_inserted : (P : Pid → Type 0) (q : Pid) (streams : List Stream) → P q → AllByRecursion P (pids_of streams)
+all_inserted : (P : Pid → Type 0) (q : Pid) (streams : List Stream) → P q
+    → AllByRecursion P (pids_of streams)
     → AllByRecursion P (pids_of (inserted q streams))
 all_inserted P q [] one all = (one, tt)
 all_inserted P q (x ∷ rest) one all =
@@ -124,11 +140,13 @@ all_inserted P q (x ∷ rest) one all =
       | false ↦ (all.0, all_inserted P q rest one all.1)
     ]
 
-all_above : (q p : Pid) (ps : List Pid) → IsBelow q p → AllByRecursion (IsBelow p) ps → AllByRecursion (IsBelow q) ps
+all_above : (q p : Pid) (ps : List Pid) → IsBelow q p → AllByRecursion (IsBelow p) ps
+    → AllByRecursion (IsBelow q) ps
 all_above q p [] below all = tt
 all_above q p (r ∷ ps) below all = (IsBelow-trans q p r below all.0, all_above q p ps below all.1)
 
-pub rising_inserted : (q : Pid) (streams : List Stream) → lists streams q ≡ false → IsRising (pids_of streams)
+pub rising_inserted : (q : Pid) (streams : List Stream) → lists streams q ≡ false
+    → IsRising (pids_of streams)
     → IsRising (pids_of (inserted q streams))
 rising_inserted q [] none rising = (tt, tt)
 rising_inserted q (x ∷ rest) none rising =
@@ -146,7 +164,8 @@ rising_inserted q (x ∷ rest) none rising =
 own_inserted : (q : Pid) (streams : List Stream) → AreOwn streams → AreOwn (inserted q streams)
 own_inserted q [] own = (tt, tt)
 own_inserted q (x ∷ rest) own =
-    elim (is_lt (pid_cmp q x.pid)) as (λ b. AreOwn (cond b (silent q ∷ x ∷ rest) (x ∷ inserted q rest))) [
+    elim (is_lt (pid_cmp q x.pid)) as (λ b. AreOwn (cond b (silent q ∷ x ∷ rest)
+    (x ∷ inserted q rest))) [
       | true ↦ (tt, own)
       | false ↦ (own.0, own_inserted q rest own.1)
     ]
@@ -159,13 +178,15 @@ or_right false b h = h
 
 still_listed : (q : Pid) (streams : List Stream) (p : Pid) → lists streams p ≡ true
     → lists (inserted q streams) p ≡ true
-still_listed q streams p is = lists_inserted q streams p ∙ or_right (pid_eq q p) (lists streams p) is
+still_listed q streams p is =
+    lists_inserted q streams p ∙ or_right (pid_eq q p) (lists streams p) is
 
 still_named : (q : Pid) (streams : List Stream) (e : Event) → names_listed streams e ≡ true
     → names_listed (inserted q streams) e ≡ true
 still_named q streams e names =
     let parts = and_parts (lists streams e.from) (option_map_or (lists streams) e.to true) names in
-    and_from (lists (inserted q streams) e.from) (option_map_or (lists (inserted q streams)) e.to true)
+    and_from (lists (inserted q streams) e.from) (option_map_or
+    (lists (inserted q streams)) e.to true)
     (still_listed q streams e.from parts.0)
     (elim e.to as (λ to. option_map_or (lists streams) to true ≡ true
     → option_map_or (lists (inserted q streams)) to true ≡ true) [
@@ -178,21 +199,28 @@ among_inserted : (all : List Stream) (q : Pid) (streams : List Stream)
     → unlisted_among all (inserted q streams) ≡ unlisted_among all streams
 among_inserted all q [] = refl
 among_inserted all q (x ∷ rest) =
-    elim (is_lt (pid_cmp q x.pid)) as (λ b. unlisted_among all (cond b (silent q ∷ x ∷ rest) (x ∷ inserted q rest))
+    elim (is_lt (pid_cmp q x.pid)) as (λ b. unlisted_among all
+    (cond b (silent q ∷ x ∷ rest) (x ∷ inserted q rest))
     ≡ unlisted_among all (x ∷ rest)) [
       | true ↦ refl
       | false ↦ ap (λ (o : Option (Pid × ℕ)). let all : Option (Pid × ℕ) =
-          elim (position (λ e. not (names_listed all e)) x.events) [ None ↦ o | Some i ↦ Some (x.pid, i) ] in all)
+          elim (position (λ e. not (names_listed all e)) x.events) [
+            | None ↦ o
+            | Some i ↦ Some
+                (x.pid, i)
+          ] in all)
           (among_inserted all q rest)
     ]
 
-all_from : (P : Event → Type 0) (es : List Event) → ((i : ℕ) (e : Event) → slice_get es i ≡ Some e → P e)
+all_from : (P : Event → Type 0) (es : List Event)
+    → ((i : ℕ) (e : Event) → slice_get es i ≡ Some e → P e)
     → AllByRecursion P es
 all_from P [] each = tt
 all_from P (e ∷ es) each = (each 0 e refl, all_from P es (λ i d at. each (suc i) d at))
 
 module _ (q : Pid) (streams : List Stream) (sound : IsStreams streams) where
-  none_unlisted : (some : List Stream) → AreFound streams some → unlisted_among (inserted q streams) some ≡ None
+  none_unlisted : (some : List Stream) → AreFound streams some
+      → unlisted_among (inserted q streams) some ≡ None
   none_unlisted [] found = refl
   none_unlisted (x ∷ rest) found =
       let test = λ (e : Event). not (names_listed (inserted q streams) e) in
@@ -235,7 +263,8 @@ module _ (streams : List Stream) (sound : IsStreams streams) where
         | false ↦ λ none. streams_inserted q all (silent_sound qs) none
       ] refl
 
-  pub silent_events : (others : List Pid) (p : Pid) → events_of (with_silent streams others) p ≡ events_of streams p
+  pub silent_events : (others : List Pid) (p : Pid)
+      → events_of (with_silent streams others) p ≡ events_of streams p
   silent_events [] p = refl
   silent_events (q ∷ qs) p =
       let all = with_silent streams qs in
@@ -258,23 +287,27 @@ module _ (streams : List Stream) (sound : IsStreams streams) where
       let turn = or_left (lists streams p) (pid_eq q p) (is_among qs p) in
       elim (lists all q) as (λ b. lists all q ≡ b → lists (cond b all (inserted q all)) p
       ≡ (lists streams p || (pid_eq q p || is_among qs p))) [
-        | true ↦ λ is. elim (pid_eq q p) as (λ b. pid_eq q p ≡ b → lists all p ≡ (b || lists all p)) [
-          | true ↦ λ same. or_known (lists all p) true (ap (lists all) (sym (pid_same q p same)) ∙ is)
-          | false ↦ λ _. refl
-        ] refl
+        | true ↦ λ is. elim (pid_eq q p) as (λ b. pid_eq q p ≡ b
+            → lists all p ≡ (b || lists all p)) [
+              | true ↦ λ same. or_known (lists all p) true (ap (lists all) (sym (pid_same q p same))
+                  ∙ is)
+              | false ↦ λ _. refl
+            ] refl
             ∙ ap (λ b. pid_eq q p || b) before ∙ sym turn
         | false ↦ λ none. lists_inserted q all p ∙ ap (λ b. pid_eq q p || b) before ∙ sym turn
       ] refl
 
 -- HOW MANY EVENTS THERE ARE
 
-total_inserted : (q : Pid) (streams : List Stream) → total_of (inserted q streams) ≡ total_of streams
+total_inserted : (q : Pid) (streams : List Stream)
+    → total_of (inserted q streams) ≡ total_of streams
 total_inserted q [] = refl
 total_inserted q (x ∷ rest) =
     let old = sum_by-cons (λ (y : Stream). length y.events) x rest in
     elim (is_lt (pid_cmp q x.pid)) as (λ b.
     total_of (cond b (silent q ∷ x ∷ rest) (x ∷ inserted q rest)) ≡ total_of (x ∷ rest)) [
-      | true ↦ let one = sum_by-cons (λ (y : Stream). length y.events) (silent q) (x ∷ rest) in omega arith
+      | true ↦ let one = sum_by-cons (λ (y : Stream). length y.events) (silent q)
+          (x ∷ rest) in omega arith
       | false ↦
           let one = sum_by-cons (λ (y : Stream). length y.events) x (inserted q rest) in
           let more = total_inserted q rest in

@@ -1,7 +1,7 @@
 -- A stamp with prev 0 that is behind another prev or a receive is told at a place: its own, or
 -- that of the receive of its hidden send. And what is told so is such a stamp.
-use Rattle.std.proofs.Common.{◌≡◌, ◌⊎◌, inl, inr, ℕ, ◌||◌, Bool, true, false, cond, List, Option, Some, None}
-use Rattle.std.proofs.Common.{refl, sym, ◌∙◌, ap, arith}
+use Rattle.std.proofs.Common.{◌≡◌, ◌⊎◌, inl, inr, ℕ, ◌||◌, Bool, true, false, cond, List, Option}
+use Rattle.std.proofs.Common.{Some, None, refl, sym, ◌∙◌, ap, arith}
 use Rattle.st_core.specs.declared.types.Pid.{Pid}
 use Rattle.st_core.specs.declared.types.Event.{Event}
 use Rattle.st_core.specs.Run.{Stream}
@@ -22,7 +22,8 @@ pub record HasZeroBehind (streams : List Stream) : Type 0 where
   pub pid : Pid
   pub behind : HasZeroBehindStamp streams pid ⊎ HasZeroBehindReceive streams pid
 
-pub behind_of : (streams : List Stream) → IsStreams streams → refusal streams ≡ None → (p : Pid) (i : ℕ)
+pub behind_of : (streams : List Stream) → IsStreams streams → refusal streams ≡ None
+    → (p : Pid) (i : ℕ)
     → IsUnfounded streams p i → HasZeroBehind streams
 behind_of streams sound accepted p i (inl z) = record {
   pid = p;
@@ -56,10 +57,11 @@ record TellsStamp (streams : List Stream) (q : Pid) (e : Event) : Type 0 where
   tells : (is_stamp event || is_hidden streams event) ≡ true
 
 hidden_from : Option (ℕ × Event) → Event → Bool
-hidden_from o e = elim (let from : Source = elim o [ None ↦ source.Hidden | Some f ↦ source.Event e.from f.0 ] in from) [
-  | source.Hidden ↦ true
-  | source.Event q j ↦ false
-]
+hidden_from o e = elim (let from : Source = elim o
+    [ None ↦ source.Hidden | Some f ↦ source.Event e.from f.0 ] in from) [
+      | source.Hidden ↦ true
+      | source.Event q j ↦ false
+    ]
 
 told_by_hidden : (streams : List Stream) (e : Event) → is_stamp e ≡ false
     → stamp_of streams e.from e.serial.this ≡ None → (is_stamp e || is_hidden streams e) ≡ true
@@ -92,7 +94,8 @@ module _ (streams : List Stream) (sound : IsStreams streams) where
         prev = ap (λ (x : Event). x.serial.prev) h.is;
         count = t.count;
         tells = told_by_hidden streams t.event t.receives
-            (ap (stamp_of streams t.event.from) t.count ∙ ap (λ p. stamp_of streams p e.serial.this) t.from
+            (ap (stamp_of streams t.event.from) t.count ∙ ap
+            (λ p. stamp_of streams p e.serial.this) t.from
             ∙ h.unstamped);
       }
 

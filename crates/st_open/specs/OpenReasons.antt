@@ -73,8 +73,8 @@ pub record IsLeastPlace (Holds : Pid → ℕ → Type 0) (p : Pid) (i : ℕ) : T
   pub holds : Holds p i
   pub least : (q : Pid) (j : ℕ) → IsEarlier q j p i → ¬ Holds q j
 
--- The hidden sends have places at which no stamp is late and none needs 0, and a clock can have each
--- count.
+-- The hidden sends have places at which no stamp is late and none needs 0, and a clock can have
+-- each count.
 pub record HasPlaces (top : ℕ) (streams : List Stream) : Type 0 where
   pub wholes : List Whole
   pub choice : IsChoice streams wholes

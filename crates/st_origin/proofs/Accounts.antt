@@ -1,8 +1,10 @@
--- Whatever a process reported, its events up to an act are those up to the origin's act and then sends and prints with
--- the prev that the origin gave, since nothing else changes its last. This holds at the start, and each act keeps it.
-use Rattle.std.proofs.Common.{◌≡◌, ◌≢◌, ℕ, ◌<◌, ◌≤◌, zero, suc, true, false, cond, List, [], ◌∷◌, ◌++◌}
-use Rattle.std.proofs.Common.{take, drop, Option, Some, None, option_map, option_and_then, option_to_list}
-use Rattle.std.proofs.Common.{All, refl, sym, ◌∙◌, ap, subst, arith, append_assoc, append-nil, if◌then◌else◌}
+-- Whatever a process reported, its events up to an act are those up to the origin's act and then
+-- sends and prints with the prev that the origin gave, since nothing else changes its last. This
+-- holds at the start, and each act keeps it.
+use Rattle.std.proofs.Common.{◌≡◌, ◌≢◌, ℕ, ◌<◌, ◌≤◌, zero, suc, true, false, cond, List, [], ◌∷◌}
+use Rattle.std.proofs.Common.{◌++◌, take, drop, Option, Some, None, option_map, option_and_then}
+use Rattle.std.proofs.Common.{option_to_list, All, refl, sym, ◌∙◌, ap, subst, arith, append_assoc}
+use Rattle.std.proofs.Common.{append-nil, if◌then◌else◌}
 use Rattle.std.specs.List.{slice_get}
 use Rattle.std.proofs.lemmas.Option.{same_Some, none-some}
 use Rattle.st_core.specs.declared.types.Pid.{Pid}
@@ -14,9 +16,11 @@ use Rattle.st_core.specs.State.{LocalState, Process, State, process, zero_local,
 use Rattle.st_core.specs.Step.{Outcome, actor, changed, step}
 use Rattle.st_core.specs.Run.{run, run_from, stream}
 use Rattle.st_core.specs.Laws.{greatest_count, is_reset, IsSound, KeepsSound, NoReset, ReportsEvent}
-use Rattle.st_core.proofs.ForCallers.{All_at, all_at, greatest_push, pid_same, pid_eq-swap, process_after}
-use Rattle.st_core.proofs.ForCallers.{process_holds, process_pid, run_parts, run_sound, step_parts, Stepped, zero_sound}
-use Rattle.st_origin.specs.Origin.{Origin, Follows, Begins, given, given_by, given_to, origin, state_before}
+use Rattle.st_core.proofs.ForCallers.{All_at, all_at, greatest_push, pid_same, pid_eq-swap}
+use Rattle.st_core.proofs.ForCallers.{process_after, process_holds, process_pid, run_parts}
+use Rattle.st_core.proofs.ForCallers.{run_sound, step_parts, Stepped, zero_sound}
+use Rattle.st_origin.specs.Origin.{Origin, Follows, Begins, given, given_by, given_to, origin}
+use Rattle.st_origin.specs.Origin.{state_before}
 use Rattle.st_origin.proofs.Acts.{acted_changes, changed_same, Changes, SameButTraced, KeepsLast}
 use Rattle.st_origin.proofs.Rows.{AreInRow, stamp_in_row}
 
@@ -46,18 +50,21 @@ pub record OfNothing (prev : ℕ) (es : List Event) : Type 0 where
   pub row : AreInRow prev es
 
 -- act m did, by a receive of a token
-pub record OfReceive (acts : List Act) (os : List Outcome) (p : Pid) (m prev : ℕ) (es : List Event) : Type 0 where
+pub record OfReceive (acts : List Act) (os : List Outcome) (p : Pid) (m prev : ℕ)
+    (es : List Event) : Type 0 where
   pub rest : List Event
   pub row : AreInRow prev rest
   pub split : es ≡ (front acts os p m ++ option_to_list (reported os m)) ++ rest
   pub some : 0 < prev
-  pub receive : (r : Event) → reported os m ≡ Some r → (r.kind ≡ kind.Receive) × (r.serial.this ≡ prev)
+  pub receive : (r : Event) → reported os m ≡ Some r
+      → (r.kind ≡ kind.Receive) × (r.serial.this ≡ prev)
   pub act : Act
   pub at : slice_get acts m ≡ Some act
   pub own : actor act ≡ p
 
 -- act m did, by a component set on no token
-pub record OfBeginning (acts : List Act) (os : List Outcome) (p : Pid) (m prev : ℕ) (es : List Event) : Type 0 where
+pub record OfBeginning (acts : List Act) (os : List Outcome) (p : Pid) (m prev : ℕ)
+    (es : List Event) : Type 0 where
   pub rest : List Event
   pub row : AreInRow prev rest
   pub split : es ≡ front acts os p m ++ rest
@@ -69,7 +76,8 @@ Accounts acts os p prev es (Some (Follows m)) = OfReceive acts os p m prev es
 Accounts acts os p prev es (Some (Begins m)) = OfBeginning acts os p m prev es
 
 -- these are p's events, this is its record, and this the origin of what it stamps next
-pub record IsAccounted (acts : List Act) (os : List Outcome) (p : Pid) (es : List Event) (l : LocalState)
+pub record IsAccounted (acts : List Act) (os : List Outcome) (p : Pid) (es : List Event)
+    (l : LocalState)
     (o : Option Origin) : Type 0 where
   pub counted : greatest_count es ≤ l.clock
   pub account : Accounts acts os p l.last es o
@@ -110,23 +118,29 @@ module _ (acts : List Act) (os : List Outcome) (p : Pid) where
     below = a.below;
   }
 
-  counted_more : (es : List Event) (told : Option Event) (l m : LocalState) → greatest_count es ≤ l.clock
+  counted_more : (es : List Event) (told : Option Event) (l m : LocalState)
+      → greatest_count es ≤ l.clock
       → l.clock ≤ m.clock → ((e : Event) → told ≡ Some e → e.serial.this ≤ m.clock)
       → greatest_count (es ++ option_to_list told) ≤ m.clock
   counted_more es None l m now least this =
-      let same : greatest_count (es ++ []) ≡ greatest_count es = ap greatest_count (append-nil es) in omega arith
+      let same : greatest_count (es ++ []) ≡ greatest_count es =
+      ap greatest_count (append-nil es) in omega arith
   counted_more es (Some e) l m now least this =
       let push = greatest_push es e in
       let here = this e refl in
       omega arith
 
-  kept : (es : List Event) (l m : LocalState) (told : Option Event) (before : Option Origin) → KeepsLast l m told
-      → IsAccounted acts os p es l before → IsAccounted acts os p (es ++ option_to_list told) m before
+  kept : (es : List Event) (l m : LocalState) (told : Option Event) (before : Option Origin)
+      → KeepsLast l m told
+      → IsAccounted acts os p es l before → IsAccounted acts os p
+      (es ++ option_to_list told) m before
   kept es l m told before keeps is = record {
     counted = counted_more es told l m is.counted keeps.least (λ e at. (keeps.stamp e at).2);
-    account = subst (λ prev. Accounts acts os p prev (es ++ option_to_list told) before) (sym keeps.last)
+    account = subst (λ prev. Accounts acts os p prev (es ++ option_to_list told) before)
+        (sym keeps.last)
         (elim told as (λ t. told ≡ t → Accounts acts os p l.last (es ++ option_to_list t) before) [
-          | None ↦ λ _. subst (λ xs. Accounts acts os p l.last xs before) (sym (append-nil es)) is.account
+          | None ↦ λ _. subst (λ xs. Accounts acts os p l.last xs before)
+              (sym (append-nil es)) is.account
           | Some e ↦ λ at.
               let stamp = keeps.stamp e at in
               longer l.last es e before (stamp.0, stamp.1) is.account
@@ -134,10 +148,14 @@ module _ (acts : List Act) (os : List Outcome) (p : Pid) where
   }
 
   -- act n, which p did, is reported so
-  part : (n : ℕ) (a : Act) (l m : LocalState) (gift before : Option Origin) → slice_get acts n ≡ Some a
-      → actor a ≡ p → Changes n l m (reported os n) gift → IsAccounted acts os p (front acts os p n) l before
-      → IsAccounted acts os p (front acts os p n ++ option_to_list (reported os n)) m (latest gift before)
-  part n a l m None before at own changes is = kept (front acts os p n) l m (reported os n) before changes is
+  part : (n : ℕ) (a : Act) (l m : LocalState) (gift before : Option Origin)
+      → slice_get acts n ≡ Some a
+      → actor a ≡ p → Changes n l m (reported os n) gift
+      → IsAccounted acts os p (front acts os p n) l before
+      → IsAccounted acts os p (front acts os p n ++ option_to_list (reported os n)) m
+      (latest gift before)
+  part n a l m None before at own changes is =
+      kept (front acts os p n) l m (reported os n) before changes is
   part n a l m (Some (Follows k)) before at own changes is =
       let here = front acts os p n ++ option_to_list (reported os n) in
       record {
@@ -179,19 +197,24 @@ module _ (acts : List Act) (os : List Outcome) (p : Pid) where
 
 -- A STEP
 
-module _ (top : ℕ) (s : State) (a : Act) (o : Outcome) (t : Stepped top s a o) (plain : is_reset a ≡ false) where
-  pub other_same : (p : Pid) → pid_eq (actor a) p ≡ false → SameButTraced (local_in s p) (local_in o.after p)
+module _ (top : ℕ) (s : State) (a : Act) (o : Outcome) (t : Stepped top s a o)
+    (plain : is_reset a ≡ false) where
+  pub other_same : (p : Pid) → pid_eq (actor a) p ≡ false
+      → SameButTraced (local_in s p) (local_in o.after p)
   other_same p other =
-      subst (λ found. SameButTraced (local_in s p) (local_found found)) (sym (process_after top s a o t p))
+      subst (λ found. SameButTraced (local_in s p) (local_found found))
+      (sym (process_after top s a o t p))
       (elim (process s p) as (λ found. process s p ≡ found
       → SameButTraced (local_found found) (local_found (option_map (changed a t.done) found))) [
         | None ↦ λ _. record { token = refl; clock = refl; last = refl }
         | Some r ↦ λ is.
-            let apart = ap (λ q. pid_eq q (actor a)) (process_pid s p r is) ∙ pid_eq-swap p (actor a) ∙ other in
+            let apart = ap (λ q. pid_eq q (actor a)) (process_pid s p r is)
+            ∙ pid_eq-swap p (actor a) ∙ other in
             changed_same a t.done r false plain apart
       ] refl)
 
-  pub actor_same : (p : Pid) → pid_eq (actor a) p ≡ true → SameButTraced t.done.local (local_in o.after p)
+  pub actor_same : (p : Pid) → pid_eq (actor a) p ≡ true
+      → SameButTraced t.done.local (local_in o.after p)
   actor_same p mine =
       let who = pid_same (actor a) p mine in
       let is : process s p ≡ Some t.before = ap (process s) (sym who) ∙ t.is_before in
@@ -209,29 +232,37 @@ module _ (top : ℕ) (s : State) (a : Act) (o : Outcome) (t : Stepped top s a o)
   next acts os p n before at out sound is =
       let here = front acts os p n in
       elim (pid_eq (actor a) p) as (λ b. pid_eq (actor a) p ≡ b
-      → IsAccounted acts os p (here ++ (if b then option_to_list o.report else [])) (local_in o.after p)
+      → IsAccounted acts os p (here ++ (if b then option_to_list o.report else []))
+      (local_in o.after p)
       (latest (if b then option_and_then (λ r. given_by n r a) (process s p) else None) before)) [
         | true ↦ λ mine.
             let who = pid_same (actor a) p mine in
             let found : process s p ≡ Some t.before = ap (process s) (sym who) ∙ t.is_before in
             let told : t.done.report ≡ reported os n =
-            ap (λ (x : Outcome). x.report) t.is_outcome ∙ ap (option_and_then (λ x. x.report)) (sym out) in
+            ap (λ (x : Outcome). x.report) t.is_outcome ∙ ap (option_and_then (λ x. x.report))
+            (sym out) in
             let gift = given_by n t.before a in
             let changes : Changes n t.before.local t.done.local (reported os n) gift =
             subst (λ x. Changes n t.before.local t.done.local x gift) told
-            (acted_changes top n a t.before t.done t.is_done (process_holds (IsSound top) s p t.before found sound)) in
+            (acted_changes top n a t.before t.done t.is_done
+            (process_holds (IsSound top) s p t.before found sound)) in
             let now = subst (λ x. IsAccounted acts os p here (local_found x) before) found is in
-            let next = part acts os p n a t.before.local t.done.local gift before at who changes now in
-            let after = same_accounted acts os p (here ++ option_to_list (reported os n)) t.done.local
+            let next = part acts os p n a t.before.local t.done.local gift before at who changes now
+            in
+            let after = same_accounted acts os p (here ++ option_to_list
+            (reported os n)) t.done.local
             (local_in o.after p) (latest gift before) (actor_same p mine) next in
             subst (λ x. IsAccounted acts os p (here ++ option_to_list x) (local_in o.after p)
             (latest (option_and_then (λ r. given_by n r a) (process s p)) before))
             (ap (option_and_then (λ x. x.report)) out)
-            (subst (λ x. IsAccounted acts os p (here ++ option_to_list (reported os n)) (local_in o.after p)
+            (subst (λ x. IsAccounted acts os p (here ++ option_to_list (reported os n))
+            (local_in o.after p)
             (latest (option_and_then (λ r. given_by n r a) x) before)) (sym found) after)
         | false ↦ λ other.
-            subst (λ xs. IsAccounted acts os p xs (local_in o.after p) before) (sym (append-nil here))
-            (same_accounted acts os p here (local_in s p) (local_in o.after p) before (other_same p other) is)
+            subst (λ xs. IsAccounted acts os p xs (local_in o.after p) before)
+            (sym (append-nil here))
+            (same_accounted acts os p here (local_in s p) (local_in o.after p) before
+            (other_same p other) is)
       ] refl
 
 -- RUNS
@@ -241,13 +272,19 @@ pub record StepAt (top : ℕ) (s : State) (a : Act) (os : List Outcome) (n : ℕ
   pub at : slice_get os n ≡ Some outcome
   pub steps : step top (state_before s os n) a ≡ Some outcome
 
-step_at : (top : ℕ) (s : State) (acts : List Act) (os : List Outcome) (n : ℕ) (a : Act) → run_from top s acts ≡ Some os
+step_at : (top : ℕ) (s : State) (acts : List Act) (os : List Outcome) (n : ℕ) (a : Act)
+    → run_from top s acts ≡ Some os
     → slice_get acts n ≡ Some a → StepAt top s a os n
 step_at top s [] os n a h at = absurd (none-some a at)
 step_at top s (b ∷ acts) os zero a h at =
     let t = run_parts top s b acts os h in
     subst (λ xs. StepAt top s a xs 0) (sym t.is_whole)
-    (record { outcome = t.first; at = refl; steps = ap (step top s) (sym (same_Some b a at)) ∙ t.is_first })
+    (record {
+      outcome = t.first;
+      at = refl;
+      steps = ap (step top s) (sym (same_Some b a at))
+          ∙ t.is_first;
+    })
 step_at top s (b ∷ acts) os (suc zero) a h at =
     let t = run_parts top s b acts os h in
     let later = step_at top t.first.after acts t.others 0 a t.is_rest at in
@@ -259,12 +296,14 @@ step_at top s (b ∷ acts) os (suc (suc n)) a h at =
     subst (λ xs. StepAt top s a xs (suc (suc n))) (sym t.is_whole)
     (record { outcome = later.outcome; at = later.at; steps = later.steps })
 
-gap : {X : Type 0} (xs : List X) (n : ℕ) (x : X) → slice_get xs n ≡ None → slice_get xs (suc n) ≡ Some x → ⊥
+gap : {X : Type 0} (xs : List X) (n : ℕ) (x : X) → slice_get xs n ≡ None
+    → slice_get xs (suc n) ≡ Some x → ⊥
 gap [] n x none some = none-some x some
 gap (y ∷ xs) zero x none some = none-some y (sym none)
 gap (y ∷ xs) (suc n) x none some = gap xs n x none some
 
-sound_before : (top : ℕ) (s : State) (os : List Outcome) (n : ℕ) → All (IsSound top) s → All (KeepsSound top) os
+sound_before : (top : ℕ) (s : State) (os : List Outcome) (n : ℕ) → All (IsSound top) s
+    → All (KeepsSound top) os
     → (o : Outcome) → slice_get os n ≡ Some o → All (IsSound top) (state_before s os n)
 sound_before top s os zero first all o at = first
 sound_before top s os (suc n) first all o at =
@@ -286,7 +325,8 @@ front_more : (acts : List Act) (os : List Outcome) (p : Pid) (n : ℕ) (a : Act)
 front_more [] os p n a o at out = absurd (none-some a at)
 front_more (b ∷ acts) [] p n a o at out = absurd (none-some o out)
 front_more (b ∷ acts) (x ∷ os) p zero a o at out =
-    append-nil (told p b x) ∙ ap (λ y. told p y x) (same_Some b a at) ∙ ap (told p a) (same_Some x o out)
+    append-nil (told p b x) ∙ ap (λ y. told p y x) (same_Some b a at)
+    ∙ ap (told p a) (same_Some x o out)
 front_more (b ∷ acts) (x ∷ os) p (suc n) a o at out =
     ap (λ xs. told p b x ++ xs) (front_more acts os p n a o at out)
     ∙ sym (append_assoc (told p b x) (front acts os p n) (told p a o))
@@ -309,12 +349,14 @@ zero_found : (pids : List Pid) (p : Pid) → local_in (zero_state pids) p ≡ ze
 zero_found [] p = refl
 zero_found (q ∷ pids) p =
     let first : Process = record { pid = q; local = zero_local; queue = [] } in
-    elim (pid_eq q p) as (λ b. local_found (cond b (Some first) (process (zero_state pids) p)) ≡ zero_local) [
+    elim (pid_eq q p) as (λ b. local_found (cond b (Some first) (process (zero_state pids) p))
+    ≡ zero_local) [
       | true ↦ refl
       | false ↦ zero_found pids p
     ]
 
-module _ (top : ℕ) (pids : List Pid) (acts : List Act) (os : List Outcome) (h : run top pids acts ≡ Some os)
+module _ (top : ℕ) (pids : List Pid) (acts : List Act) (os : List Outcome)
+    (h : run top pids acts ≡ Some os)
     (none : NoReset acts) (p : Pid) where
   abbrev before : ℕ → State
   before n = state_before (zero_state pids) os n
@@ -328,7 +370,8 @@ module _ (top : ℕ) (pids : List Pid) (acts : List Act) (os : List Outcome) (h 
 
   sound : (n : ℕ) (o : Outcome) → slice_get os n ≡ Some o → All (IsSound top) (before n)
   sound n o at =
-      sound_before top (zero_state pids) os n (zero_sound top pids) (run_sound top pids acts os h) o at
+      sound_before top (zero_state pids) os n (zero_sound top pids)
+      (run_sound top pids acts os h) o at
 
   pub accounted : (n : ℕ) (a : Act) → slice_get acts n ≡ Some a
       → IsAccounted acts os p (front acts os p n) (local_in (before n) p) (origin pids acts os p n)
@@ -340,25 +383,31 @@ module _ (top : ℕ) (pids : List Pid) (acts : List Act) (os : List Outcome) (h 
       let b = earlier.0 in
       let x = here n b earlier.1 in
       let t = step_parts top (before n) b x.outcome x.steps in
-      let now = next top (before n) b x.outcome t (plain n b earlier.1) acts os p n (origin pids acts os p n)
+      let now = next top (before n) b x.outcome t (plain n b earlier.1) acts os p n
+      (origin pids acts os p n)
       earlier.1 x.at (sound n x.outcome x.at) (accounted n b earlier.1) in
       let state : before (suc n) ≡ x.outcome.after =
       ap (λ (y : Option Outcome). elim y as (λ _. State) [ None ↦ [] | Some z ↦ z.after ]) x.at in
       let gift : given pids acts os p n ≡ given_to p n (before n) b =
       ap (option_and_then (given_to p n (before n))) earlier.1 in
-      subst (λ xs. IsAccounted acts os p xs (local_in (before (suc n)) p) (origin pids acts os p (suc n)))
+      subst (λ xs. IsAccounted acts os p xs (local_in (before (suc n)) p)
+      (origin pids acts os p (suc n)))
       (sym (front_more acts os p n b x.outcome earlier.1 x.at))
       (subst (λ s. IsAccounted acts os p (front acts os p n ++ told p b x.outcome) (local_in s p)
       (origin pids acts os p (suc n))) (sym state)
-      (subst (λ g. IsAccounted acts os p (front acts os p n ++ told p b x.outcome) (local_in x.outcome.after p)
+      (subst (λ g. IsAccounted acts os p (front acts os p n ++ told p b x.outcome)
+      (local_in x.outcome.after p)
       (latest g (origin pids acts os p n))) (sym gift) now))
 
   -- a stamp has the last that its process had before as its prev
-  stamp_prev : (n : ℕ) (l m : LocalState) (e : Event) (gift : Option Origin) (told : Option Event) → told ≡ Some e
+  stamp_prev : (n : ℕ) (l m : LocalState) (e : Event) (gift : Option Origin) (told : Option Event)
+      → told ≡ Some e
       → e.kind ≢ kind.Receive → Changes n l m told gift → e.serial.prev ≡ l.last
   stamp_prev n l m e None told is other changes = (changes.stamp e is).1
-  stamp_prev n l m e (Some (Follows k)) told is other changes = absurd (other (changes.receive e is).0)
-  stamp_prev n l m e (Some (Begins k)) told is other changes = absurd (none-some e (sym changes.silent ∙ is))
+  stamp_prev n l m e (Some (Follows k)) told is other changes =
+      absurd (other (changes.receive e is).0)
+  stamp_prev n l m e (Some (Begins k)) told is other changes =
+      absurd (none-some e (sym changes.silent ∙ is))
 
   -- the account of a stamp
   pub stamp_accounted : (i n : ℕ) (e : Event) → ReportsEvent acts os p i e n → e.kind ≢ kind.Receive
@@ -371,11 +420,13 @@ module _ (top : ℕ) (pids : List Pid) (acts : List Act) (os : List Outcome) (h 
       let told : t.done.report ≡ Some e =
       ap (λ (y : Outcome). y.report) t.is_outcome ∙ ap (option_and_then (λ y. y.report)) (sym x.at)
       ∙ r.reports.report in
-      let found : process (before n) p ≡ Some t.before = ap (process (before n)) (sym r.reports.own) ∙ t.is_before in
+      let found : process (before n) p ≡ Some t.before =
+      ap (process (before n)) (sym r.reports.own) ∙ t.is_before in
       let changes = acted_changes top n a t.before t.done t.is_done
       (process_holds (IsSound top) (before n) p t.before found (sound n x.outcome x.at)) in
       let prev : e.serial.prev ≡ t.before.local.last =
-      stamp_prev n t.before.local t.done.local e (given_by n t.before a) t.done.report told other changes in
+      stamp_prev n t.before.local t.done.local e (given_by n t.before a) t.done.report told other
+      changes in
       let last : e.serial.prev ≡ (local_in (before n) p).last =
       prev ∙ ap (λ y. (local_found y).last) (sym found) in
       subst (λ v. Accounts acts os p v (front acts os p n) (origin pids acts os p n)) (sym last)

@@ -1,7 +1,7 @@
--- An act changes its actor's last only by what it gives, a receive of a token to the token's count and a set on no
--- token to the clock, and what it reports goes with that.
-use Rattle.std.proofs.Common.{◌≡◌, ◌≢◌, ℕ, ◌+◌, ◌<◌, ◌≤◌, ◌&&◌, max, Bool, true, false, cond, nat_lt, ◌∷◌}
-use Rattle.std.proofs.Common.{◌++◌, Option, Some, None, is_some, option_map, refl, sym}
+-- An act changes its actor's last only by what it gives, a receive of a token to the token's count
+-- and a set on no token to the clock, and what it reports goes with that.
+use Rattle.std.proofs.Common.{◌≡◌, ◌≢◌, ℕ, ◌+◌, ◌<◌, ◌≤◌, ◌&&◌, max, Bool, true, false, cond}
+use Rattle.std.proofs.Common.{nat_lt, ◌∷◌, ◌++◌, Option, Some, None, is_some, option_map, refl, sym}
 use Rattle.std.proofs.Common.{subst, arith, []}
 use Rattle.std.specs.Prelude.{is_none}
 use Rattle.std.specs.Option.{ForSome, option_map_or}
@@ -25,14 +25,22 @@ use Rattle.st_core.specs.Stamp.{stamp, stamp_any, stamped_token}
 use Rattle.st_core.specs.Local.{default_token, has_label, with_component}
 use Rattle.st_core.specs.Pick.{pick}
 use Rattle.st_core.specs.Report.{flag_of, report}
-use Rattle.st_core.specs.Step.{Acted, acted, actor, answers, sends, prints, receives, reached, changed}
+use Rattle.st_core.specs.Step.{Acted, acted, actor, answers, sends, prints, receives, reached}
+use Rattle.st_core.specs.Step.{changed}
 use Rattle.st_core.specs.Laws.{is_reset, IsSound, IsStamped}
 use Rattle.st_core.proofs.ForCallers.{All_at, pick_found}
 use Rattle.st_origin.specs.Origin.{Origin, Follows, Begins, given_by}
 
 -- the event of a token
 abbrev pub event_of : Kind → Token → Option Pid → ℕ → Event
-event_of k t to v = record { label = t.label; kind = k; serial = t.serial; from = t.from; to = to; value = v }
+event_of k t to v = record {
+  label = t.label;
+  kind = k;
+  serial = t.serial;
+  from = t.from;
+  to = to;
+  value = v;
+}
 
 -- the act left last as it was, and what it reports is a stamp, which the clock now counts
 pub record KeepsLast (l m : LocalState) (told : Option Event) : Type 0 where
@@ -64,20 +72,27 @@ Changes n l m told (Some (Begins k)) = BringsLast n k l m told
 
 -- STAMPS
 
-module _ (l : LocalState) (k : Kind) (other : k ≢ kind.Receive) (traced : Bool) (to : Option Pid) (v : ℕ) where
+module _ (l : LocalState) (k : Kind) (other : k ≢ kind.Receive) (traced : Bool) (to : Option Pid)
+    (v : ℕ) where
   made_stamp : (p : Pid) (t : Token) (b : Bool) (e : Event)
-      → (let made : Event = event_of k (stamped_token p l t) to v in cond b (Some made) None ≡ Some e
+      → (let made : Event = event_of k (stamped_token p l t) to v in cond b (Some made) None
+      ≡ Some e
       → (e.kind ≢ kind.Receive) × (e.serial.prev ≡ l.last) × (e.serial.this ≤ l.clock + 1))
   made_stamp p t b e h =
       let made = event_of k (stamped_token p l t) to v in
-      subst (λ (x : Event). (x.kind ≢ kind.Receive) × (x.serial.prev ≡ l.last) × (x.serial.this ≤ l.clock + 1))
+      subst (λ (x : Event). (x.kind ≢ kind.Receive) × (x.serial.prev ≡ l.last)
+      × (x.serial.this ≤ l.clock + 1))
       (cond_some b made e h).1 (other, refl, omega arith)
 
   stamp_keeps : (top : ℕ) (p : Pid) (m : LocalState) → stamp top p l ≡ Some m
       → KeepsLast l m (report traced k m.token to v)
   stamp_keeps top p m h =
-      let made = λ (t : Token). record l { token = Some (stamped_token p l t); clock = l.clock + 1 } in
-      option_and_then_some (λ t. cond (nat_lt l.clock top) (Some (made t)) None) l.token m h (λ t _ at.
+      let made = λ (t : Token). record l {
+        token = Some (stamped_token p l t);
+        clock = l.clock + 1;
+      } in
+      option_and_then_some (λ t. cond (nat_lt l.clock top) (Some (made t)) None) l.token m h
+      (λ t _ at.
       let same = (cond_some (nat_lt l.clock top) (made t) m at).1 in
       subst (λ (x : LocalState). KeepsLast l x (report traced k x.token to v)) same (record {
         last = refl;
@@ -86,12 +101,14 @@ module _ (l : LocalState) (k : Kind) (other : k ≢ kind.Receive) (traced : Bool
       }))
 
   any_keeps_at : (top : ℕ) (p : Pid) (m : LocalState) (token : Option Token) → l.token ≡ token
-      → cond (is_some token) (stamp top p l) (Some l) ≡ Some m → KeepsLast l m (report traced k m.token to v)
+      → cond (is_some token) (stamp top p l) (Some l) ≡ Some m
+      → KeepsLast l m (report traced k m.token to v)
   any_keeps_at top p m None e h =
       let still : KeepsLast l l (report traced k l.token to v) =
       subst (λ token. KeepsLast l l (report traced k token to v)) (sym e)
       (record { last = refl; least = omega arith; stamp = λ x is. absurd (none-some x is) }) in
-      subst (λ (x : LocalState). KeepsLast l x (report traced k x.token to v)) (same_Some l m h) still
+      subst (λ (x : LocalState). KeepsLast l x (report traced k x.token to v))
+      (same_Some l m h) still
   any_keeps_at top p m (Some t) e h = stamp_keeps top p m h
 
   any_keeps : (top : ℕ) (p : Pid) (m : LocalState) → stamp_any top p l ≡ Some m
@@ -104,7 +121,8 @@ abbrev IsKept : Process → Acted → Type 0
 IsKept r done = KeepsLast r.local done.local done.report
 
 printed : (r : Process) (v : ℕ) (stamped : Option LocalState) (done : Acted)
-    → ((m : LocalState) → stamped ≡ Some m → KeepsLast r.local m (report r.local.traced kind.Print m.token None v))
+    → ((m : LocalState) → stamped ≡ Some m → KeepsLast r.local m
+    (report r.local.traced kind.Print m.token None v))
     → option_map (prints r v) stamped ≡ Some done → IsKept r done
 printed r v None done part h = absurd (none-some done h)
 printed r v (Some m) done part h =
@@ -118,7 +136,8 @@ sent r q v None done part h = absurd (none-some done h)
 sent r q v (Some m) done part h =
     subst (λ (x : Acted). IsKept r x) (same_Some (sends r q v m) done h) (part m refl)
 
-silent : (r : Process) (l : LocalState) (y : Reply) (done : Acted) → Some (answers r l y) ≡ Some done
+silent : (r : Process) (l : LocalState) (y : Reply) (done : Acted)
+    → Some (answers r l y) ≡ Some done
     → l.last ≡ r.local.last → r.local.clock ≤ l.clock → IsKept r done
 silent r l y done h last least =
     subst (λ (x : Acted). IsKept r x) (same_Some (answers r l y) done h)
@@ -144,17 +163,20 @@ taken n r place from v (Some t) rises =
           (cond_some (r.local.traced && t.flags.receive) made e is).1 (refl, refl, omega arith);
     }
 
-received_part : (top n : ℕ) (r : Process) (w : Want) (found : Option (ℕ × Message)) → pick w r.queue ≡ found
+received_part : (top n : ℕ) (r : Process) (w : Want) (found : Option (ℕ × Message))
+    → pick w r.queue ≡ found
     → IsSound top r
     → (let done : Acted = receives r found in
     Changes n r.local done.local done.report
-    (cond (option_map_or (λ (x : ℕ × Message). is_some x.1.token) found false) (Some (Follows n)) None))
+    (cond (option_map_or (λ (x : ℕ × Message). is_some x.1.token) found false)
+    (Some (Follows n)) None))
 received_part top n r w None is sound =
     record { last = refl; least = omega arith; stamp = λ e no. absurd (none-some e no) }
 received_part top n r w (Some found) is sound =
     let m = found.1 in
     let stamped =
-    All_at (λ (x : Message). ForSome x.token (IsStamped top x.from)) r.queue found.0 m (pick_found w r.queue found is)
+    All_at (λ (x : Message). ForSome x.token (IsStamped top x.from)) r.queue found.0 m
+    (pick_found w r.queue found is)
     sound.queued in
     taken n r found.0 m.from m.value m.token (λ t has. (stamped t has).rises)
 
@@ -166,12 +188,14 @@ set_part : (n : ℕ) (p : Pid) (c : Component) (l : LocalState) (token : Option 
     Changes n l (record made { token = option_map (with_component c) made.token }) None
     (cond (is_none token) (Some (Begins n)) None))
 set_part n p c l None = record { number = refl; clock = refl; last = refl; silent = refl }
-set_part n p c l (Some t) = record { last = refl; least = omega arith; stamp = λ e is. absurd (none-some e is) }
+set_part n p c l (Some t) =
+    record { last = refl; least = omega arith; stamp = λ e is. absurd (none-some e is) }
 
 abbrev PartOf : ℕ → Process → Act → Acted → Type 0
 PartOf n r a done = Changes n r.local done.local done.report (given_by n r a)
 
-pub acted_changes : (top n : ℕ) (a : Act) (r : Process) (done : Acted) → acted top r a ≡ Some done → IsSound top r
+pub acted_changes : (top n : ℕ) (a : Act) (r : Process) (done : Acted) → acted top r a ≡ Some done
+    → IsSound top r
     → PartOf n r a done
 acted_changes top n (act.Send p q v) r done h sound =
     sent r q v (stamp_any top r.pid r.local) done
@@ -184,14 +208,16 @@ acted_changes top n (act.Print p v) r done h sound =
     (any_keeps r.local kind.Print (λ e. absurd (cc)) r.local.traced None v top r.pid) h
 acted_changes top n (act.PrintAt p x v) r done h sound =
     elim (has_label x r.local.token) as (λ b.
-    cond b (option_map (prints r v) (stamp top r.pid r.local)) (Some (answers r r.local reply.Done)) ≡ Some done
+    cond b (option_map (prints r v) (stamp top r.pid r.local)) (Some (answers r r.local reply.Done))
+    ≡ Some done
     → IsKept r done) [
       | true ↦ printed r v (stamp top r.pid r.local) done
           (stamp_keeps r.local kind.Print (λ e. absurd (cc)) r.local.traced None v top r.pid)
       | false ↦ λ h. silent r r.local reply.Done done h refl (omega arith)
     ] h
 acted_changes top n (act.Set p c) r done h sound =
-    subst (λ (x : Acted). PartOf n r (act.Set p c) x) (same_Some _ done h) (set_part n r.pid c r.local r.local.token)
+    subst (λ (x : Acted). PartOf n r (act.Set p c) x) (same_Some _ done h)
+    (set_part n r.pid c r.local r.local.token)
 acted_changes top n (act.Clear p) r done h sound = silent r _ _ done h refl (omega arith)
 acted_changes top n (act.Restore p t) r done h sound = silent r _ _ done h refl (omega arith)
 acted_changes top n (act.Look p) r done h sound = silent r _ _ done h refl (omega arith)
@@ -214,7 +240,8 @@ reached_same : (a : Act) (t : Option Token) (r : Process) → is_reset a ≡ fal
 reached_same (act.Reset p) t r plain = absurd (false≢true (sym plain))
 reached_same (act.Send p q v) t r plain =
     let m : Message = record { from = p; value = v; token = t } in
-    elim (pid_eq r.pid q) as (λ b. SameButTraced r.local (cond b (record r { queue = r.queue ++ m ∷ [] }) r).local) [
+    elim (pid_eq r.pid q) as (λ b. SameButTraced r.local
+    (cond b (record r { queue = r.queue ++ m ∷ [] }) r).local) [
       | true ↦ same_but_traced r.local
       | false ↦ same_but_traced r.local
     ]
@@ -234,7 +261,8 @@ reached_same (act.Look p) t r plain = same_but_traced r.local
 
 -- the actor's is that of its part, each other's as it was
 pub changed_same : (a : Act) (done : Acted) (r : Process) (mine : Bool) → is_reset a ≡ false
-    → pid_eq r.pid (actor a) ≡ mine → SameButTraced (cond mine done.local r.local) (changed a done r).local
+    → pid_eq r.pid (actor a) ≡ mine → SameButTraced (cond mine done.local r.local)
+    (changed a done r).local
 changed_same a done r mine plain is =
     let own : Process = record r { local = done.local; queue = done.queue } in
     let x = λ (b : Bool). cond b own r in
@@ -242,4 +270,8 @@ changed_same a done r mine plain is =
     let part : SameButTraced (x mine).local (changed a done r).local =
     subst (λ b. SameButTraced (x b).local (changed a done r).local) is reached in
     elim mine as (λ b. SameButTraced (x b).local (changed a done r).local
-    → SameButTraced (cond b done.local r.local) (changed a done r).local) [ true ↦ λ h. h | false ↦ λ h. h ] part
+    → SameButTraced (cond b done.local r.local) (changed a done r).local) [
+      | true ↦ λ h. h
+      | false ↦
+          λ h. h
+    ] part

@@ -1,5 +1,5 @@
--- What is between an index and a later one decides where the row begins that goes up to the later one: nothing but
--- sends and prints of one prev, back to the first event that is none.
+-- What is between an index and a later one decides where the row begins that goes up to the later
+-- one: nothing but sends and prints of one prev, back to the first event that is none.
 use Rattle.std.proofs.Common.{◌≡◌, ◌≢◌, ℕ, ◌+◌, ◌<◌, ◌≤◌, ◌&&◌, ◌==◌, zero, suc, Bool, true, false}
 use Rattle.std.proofs.Common.{cond, List, [], ◌∷◌, ◌++◌, length, take, Option, Some, None, inl}
 use Rattle.std.proofs.Common.{inr, refl, sym, ◌∙◌}
@@ -39,14 +39,17 @@ stamp_kind kind.Print other = refl
 pub receive_is : (e : Event) → e.kind ≡ kind.Receive → is_receive e ≡ true
 receive_is e is = ap kind_is_receive is
 
-pub stamp_in_row : (prev : ℕ) (e : Event) → e.kind ≢ kind.Receive → e.serial.prev ≡ prev → in_row prev e ≡ true
+pub stamp_in_row : (prev : ℕ) (e : Event) → e.kind ≢ kind.Receive → e.serial.prev ≡ prev
+    → in_row prev e ≡ true
 stamp_in_row prev e other is =
-    ap (λ b. not b && e.serial.prev == prev) (stamp_kind e.kind other) ∙ eq-eqb e.serial.prev prev is
+    ap (λ b. not b && e.serial.prev == prev) (stamp_kind e.kind other)
+    ∙ eq-eqb e.serial.prev prev is
 
 pub receive_not_in_row : (prev : ℕ) (e : Event) → is_receive e ≡ true → in_row prev e ≡ false
 receive_not_in_row prev e is = ap (λ b. not b && e.serial.prev == prev) is
 
-row_no_receive : (prev : ℕ) (e : Event) (b : Bool) → is_receive e ≡ b → in_row prev e ≡ true → b ≡ false
+row_no_receive : (prev : ℕ) (e : Event) (b : Bool) → is_receive e ≡ b → in_row prev e ≡ true
+    → b ≡ false
 row_no_receive prev e true is row = absurd (false≢true (sym (receive_not_in_row prev e is) ∙ row))
 row_no_receive prev e false is row = refl
 
@@ -61,7 +64,8 @@ row_start_at prev es i e b at is =
     ] in
     ap by at ∙ ap (λ c. cond c (row_start prev es i) (suc i)) is
 
-pub row_stops : (prev : ℕ) (es : List Event) (i : ℕ) (e : Event) → slice_get es i ≡ Some e → is_receive e ≡ true
+pub row_stops : (prev : ℕ) (es : List Event) (i : ℕ) (e : Event) → slice_get es i ≡ Some e
+    → is_receive e ≡ true
     → row_start prev es (suc i) ≡ suc i
 row_stops prev es i e at is = row_start_at prev es i e false at (receive_not_in_row prev e is)
 
@@ -80,7 +84,8 @@ row_start_within prev es (suc i) =
 
 pub row_passes : (prev : ℕ) (es : List Event) (j i : ℕ) → j ≤ i → IsRowBetween prev es j i
     → row_start prev es i ≡ row_start prev es j
-row_passes prev es j zero le row = let same : j ≡ 0 = omega arith in ap (row_start prev es) (sym same)
+row_passes prev es j zero le row =
+    let same : j ≡ 0 = omega arith in ap (row_start prev es) (sym same)
 row_passes prev es j (suc i) le row = elim (cases_order j (suc i)) [
   | inl same ↦ ap (row_start prev es) (sym same)
   | inr other ↦ elim other [
@@ -94,28 +99,33 @@ row_passes prev es j (suc i) le row = elim (cases_order j (suc i)) [
 
 -- THE RECEIVE BEFORE IT
 
-pub received_at : (prev : ℕ) (es : List Event) (j : ℕ) (e : Event) → slice_get es j ≡ Some e → is_receive e ≡ true
+pub received_at : (prev : ℕ) (es : List Event) (j : ℕ) (e : Event) → slice_get es j ≡ Some e
+    → is_receive e ≡ true
     → e.serial.this ≡ prev → receive_before prev es (suc j) ≡ Some j
 received_at prev es j e at is this =
     let by = λ (o : Option Event). elim o as (λ _. Option ℕ) [
       | None ↦ None
       | Some x ↦ cond (is_receive x && x.serial.this == prev) (Some j) None
     ] in
-    let both = both_true (is_receive e) (e.serial.this == prev) is (eq-eqb e.serial.this prev this) in
+    let both = both_true (is_receive e) (e.serial.this == prev) is
+    (eq-eqb e.serial.this prev this) in
     ap by at ∙ ap (λ c. cond c (Some j) None) both
 
-pub received_earlier : (prev : ℕ) (es : List Event) (k j : ℕ) → receive_before prev es k ≡ Some j → j < k
+pub received_earlier : (prev : ℕ) (es : List Event) (k j : ℕ) → receive_before prev es k ≡ Some j
+    → j < k
 received_earlier prev es zero j h = absurd (none-some j h)
 received_earlier prev es (suc k) j h =
     elim (slice_get es k) as (λ o.
-    elim o [ None ↦ None | Some e ↦ cond (is_receive e && e.serial.this == prev) (Some k) None ] ≡ Some j → j < suc k) [
+    elim o [ None ↦ None | Some e ↦ cond (is_receive e && e.serial.this == prev) (Some k) None ]
+    ≡ Some j → j < suc k) [
       | None ↦ λ h. absurd (none-some j h)
       | Some e ↦ λ h.
           let same = (cond_some (is_receive e && e.serial.this == prev) k j h).1 in
           omega arith
     ] h
 
-last_at : (es : List Event) (i : ℕ) (e : Event) (b : Bool) → slice_get es i ≡ Some e → is_receive e ≡ b
+last_at : (es : List Event) (i : ℕ) (e : Event) (b : Bool) → slice_get es i ≡ Some e
+    → is_receive e ≡ b
     → last_receive es (suc i) ≡ cond b (Some i) (last_receive es i)
 last_at es i e b at is =
     let by = λ (o : Option Event). elim o as (λ _. Option ℕ) [
@@ -130,7 +140,8 @@ last_is es i e at is = last_at es i e true at is
 
 pub last_passes : (prev : ℕ) (es : List Event) (j i : ℕ) → j ≤ i → IsRowBetween prev es j i
     → last_receive es i ≡ last_receive es j
-last_passes prev es j zero le row = let same : j ≡ 0 = omega arith in ap (last_receive es) (sym same)
+last_passes prev es j zero le row =
+    let same : j ≡ 0 = omega arith in ap (last_receive es) (sym same)
 last_passes prev es j (suc i) le row = elim (cases_order j (suc i)) [
   | inl same ↦ ap (last_receive es) (sym same)
   | inr other ↦ elim other [
@@ -147,13 +158,15 @@ pub last_earlier : (es : List Event) (i j : ℕ) → last_receive es i ≡ Some 
 last_earlier es zero j h = absurd (none-some j h)
 last_earlier es (suc i) j h =
     elim (slice_get es i) as (λ o.
-    elim o [ None ↦ last_receive es i | Some e ↦ cond (is_receive e) (Some i) (last_receive es i) ] ≡ Some j
+    elim o [ None ↦ last_receive es i | Some e ↦ cond (is_receive e) (Some i) (last_receive es i) ]
+    ≡ Some j
     → j < suc i) [
       | None ↦ λ h. let rest = last_earlier es i j h in omega arith
-      | Some e ↦ elim (is_receive e) as (λ b. cond b (Some i) (last_receive es i) ≡ Some j → j < suc i) [
-        | true ↦ λ h. let same = same_Some i j h in omega arith
-        | false ↦ λ h. let rest = last_earlier es i j h in omega arith
-      ]
+      | Some e ↦ elim (is_receive e) as (λ b. cond b (Some i) (last_receive es i) ≡ Some j
+          → j < suc i) [
+            | true ↦ λ h. let same = same_Some i j h in omega arith
+            | false ↦ λ h. let rest = last_earlier es i j h in omega arith
+          ]
     ] h
 
 -- COUNTS BEFORE IT
@@ -164,7 +177,8 @@ greatest_front (suc k) [] = omega arith
 greatest_front (suc k) (e ∷ es) = let rest = greatest_front k es in omega arith
 
 -- no count before k is above prev if none of the events up to a later index is
-pub front_not_above : (prev k : ℕ) (front rest : List Event) → k ≤ length front → greatest_count front ≤ prev
+pub front_not_above : (prev k : ℕ) (front rest : List Event) → k ≤ length front
+    → greatest_count front ≤ prev
     → greatest_count (take k (front ++ rest)) ≤ prev
 front_not_above prev k front rest le below =
     let same : greatest_count (take k (front ++ rest)) ≡ greatest_count (take k front) =
@@ -172,7 +186,8 @@ front_not_above prev k front rest le below =
     let part = greatest_front k front in
     omega arith
 
-pub not_above : (prev : ℕ) (es : List Event) (k : ℕ) → greatest_count (take k es) ≤ prev → has_above prev es k ≡ false
+pub not_above : (prev : ℕ) (es : List Event) (k : ℕ) → greatest_count (take k es) ≤ prev
+    → has_above prev es k ≡ false
 not_above prev es k le = le-ltb prev (greatest_count (take k es)) le
 
 -- PARTS OF A LIST
@@ -192,14 +207,16 @@ row_behind prev (e ∷ front) row rest all (suc x) low high =
     row_behind prev front row rest all x (omega arith) (omega arith)
 
 -- the event behind a front
-pub event_behind : (front rest : List Event) (e : Event) → slice_get (front ++ (e ∷ rest)) (length front) ≡ Some e
+pub event_behind : (front rest : List Event) (e : Event)
+    → slice_get (front ++ (e ∷ rest)) (length front) ≡ Some e
 event_behind [] rest e = refl
 event_behind (x ∷ front) rest e = event_behind front rest e
 
 -- WHAT A ROW SAYS
 
 -- behind where the row begins there is nothing but it
-pub row_between : (prev : ℕ) (es : List Event) (i : ℕ) → IsRowBetween prev es (row_start prev es i) i
+pub row_between : (prev : ℕ) (es : List Event) (i : ℕ)
+    → IsRowBetween prev es (row_start prev es i) i
 row_between prev es zero = λ x low high. absurd (omega arith)
 row_between prev es (suc i) =
     elim (slice_get es i) as (λ o. slice_get es i ≡ o
@@ -234,7 +251,8 @@ pub received_is : (this : ℕ) (es : List Event) (k j : ℕ) → receive_before 
 received_is this es zero j h = absurd (none-some j h)
 received_is this es (suc k) j h =
     elim (slice_get es k) as (λ o. slice_get es k ≡ o
-    → elim o [ None ↦ None | Some e ↦ cond (is_receive e && e.serial.this == this) (Some k) None ] ≡ Some j
+    → elim o [ None ↦ None | Some e ↦ cond (is_receive e && e.serial.this == this) (Some k) None ]
+    ≡ Some j
     → IsReceivedBefore es (suc k) j this) [
       | None ↦ λ _ h. absurd (none-some j h)
       | Some e ↦ λ at h.

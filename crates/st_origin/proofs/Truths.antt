@@ -1,5 +1,5 @@
--- What events tell of a stamp's origin is true, by the account of its process: the row goes back to the origin's act at
--- least, and no further than a receive that was reported.
+-- What events tell of a stamp's origin is true, by the account of its process: the row goes back to
+-- the origin's act at least, and no further than a receive that was reported.
 use Rattle.std.proofs.Common.{◌≡◌, ◌≢◌, ℕ, ◌+◌, ◌<◌, ◌≤◌, ◌⊎◌, ◌==◌, zero, suc, Bool, true, false}
 use Rattle.std.proofs.Common.{cond, List, [], ◌∷◌}
 use Rattle.std.proofs.Common.{◌++◌, length, take, drop, Option, Some, None, option_and_then}
@@ -50,27 +50,33 @@ record IsSplit (es before : List Event) (prev i : ℕ) : Type 0 where
   length_before : length before ≤ i
   row : IsRowBetween prev es (length before) i
 
-split_by : (prev i : ℕ) (es front before row rest : List Event) → es ≡ front ++ rest → front ≡ before ++ row
+split_by : (prev i : ℕ) (es front before row rest : List Event) → es ≡ front ++ rest
+    → front ≡ before ++ row
     → length front ≡ i → AreInRow prev row → IsSplit es before prev i
 split_by prev i es front before row rest whole parts at all =
     let joined : es ≡ before ++ (row ++ rest) =
     whole ∙ ap (λ xs. xs ++ rest) parts ∙ append_assoc before row rest in
-    let long : length before + length row ≡ i = sym (length-append before row) ∙ ap length (sym parts) ∙ at in
+    let long : length before + length row ≡ i =
+    sym (length-append before row) ∙ ap length (sym parts) ∙ at in
     record {
       rest = row ++ rest;
       whole = joined;
       length_before = omega arith;
       row = subst (λ n. IsRowBetween prev es (length before) n) long
-          (subst (λ xs. IsRowBetween prev xs (length before) (length before + length row)) (sym joined)
+          (subst (λ xs. IsRowBetween prev xs (length before) (length before + length row))
+          (sym joined)
           (row_behind prev before row rest all));
     }
 
 -- TELLING
 
-told_at : (prev : ℕ) (es : List Event) (k : ℕ) (above : Bool) (o : Option ℕ) → has_above prev es k ≡ above
-    → receive_before prev es k ≡ o → origin_evidence_by prev (has_above prev es k) (receive_before prev es k)
+told_at : (prev : ℕ) (es : List Event) (k : ℕ) (above : Bool) (o : Option ℕ)
+    → has_above prev es k ≡ above
+    → receive_before prev es k ≡ o → origin_evidence_by prev (has_above prev es k)
+    (receive_before prev es k)
     ≡ origin_evidence_by prev above o
-told_at prev es k above o is at = ap (λ b. origin_evidence_by prev b (receive_before prev es k)) is ∙ ap (origin_evidence_by prev above) at
+told_at prev es k above o is at = ap (λ b. origin_evidence_by prev b (receive_before prev es k)) is
+    ∙ ap (origin_evidence_by prev above) at
 
 module _ (acts : List Act) (os : List Outcome) (p : Pid) where
   -- an unreported receive makes any evidence of a prev above 0 true
@@ -88,11 +94,13 @@ module _ (acts : List Act) (os : List Outcome) (p : Pid) where
   reported_true prev j true is f = inl f
   reported_true prev j false is f = inl (inl f)
 
-  beginning_true : (prev : ℕ) (o : Option ℕ) (m : ℕ) → ((j : ℕ) → o ≡ Some j → j < length (front acts os p m))
+  beginning_true : (prev : ℕ) (o : Option ℕ) (m : ℕ)
+      → ((j : ℕ) → o ≡ Some j → j < length (front acts os p m))
       → IsTrue acts os p (origin_evidence_by prev false o) (Some (Begins m))
   beginning_true prev (Some j) m within = inr (m, refl, within j refl)
   beginning_true prev None m within =
-      elim (prev == 0) as (λ b. IsTrue acts os p (cond b what.Begins what.BeginsOrUnreported) (Some (Begins m))) [
+      elim (prev == 0) as (λ b. IsTrue acts os p (cond b what.Begins what.BeginsOrUnreported)
+      (Some (Begins m))) [
         | true ↦ inl (m, refl)
         | false ↦ inl (m, refl)
       ]
@@ -108,7 +116,8 @@ module _ (acts : List Act) (os : List Outcome) (p : Pid) where
     event : ReportsEvent acts os p (length (front acts os p m)) r m
 
   received_in : (prev i n m : ℕ) (r : Event) → length (front acts os p n) ≡ i
-      → OfReceive acts os p m prev (front acts os p n) → reported os m ≡ Some r → IsReceivedAt prev i m r
+      → OfReceive acts os p m prev (front acts os p n) → reported os m ≡ Some r
+      → IsReceivedAt prev i m r
   received_in prev i n m r at a is =
       let before = front acts os p m in
       let rest = stream (drop n acts) (drop n os) p in
@@ -116,11 +125,13 @@ module _ (acts : List Act) (os : List Outcome) (p : Pid) where
       a.split ∙ ap (λ t. (before ++ option_to_list t) ++ a.rest) is in
       let split = split_by prev i all_events (front acts os p n) (before ++ r ∷ []) a.rest rest
       (front_and_rest acts os p n) parts at a.row in
-      let long : length (before ++ r ∷ []) ≡ suc (length before) = omega (arith, length-append before (r ∷ [])) in
+      let long : length (before ++ r ∷ []) ≡ suc (length before) =
+      omega (arith, length-append before (r ∷ [])) in
       let within = split.length_before in
       record {
         within = omega arith;
-        at = ap (λ xs. slice_get xs (length before)) (split.whole ∙ append_assoc before (r ∷ []) split.rest)
+        at = ap (λ xs. slice_get xs (length before)) (split.whole
+            ∙ append_assoc before (r ∷ []) split.rest)
             ∙ event_behind before split.rest r;
         row = subst (λ k. IsRowBetween prev all_events k i) long split.row;
         event = record {
@@ -135,7 +146,8 @@ module _ (acts : List Act) (os : List Outcome) (p : Pid) where
       → OfReceive acts os p m prev (front acts os p n)
       → IsTrue acts os p (origin_evidence prev all_events i) (Some (Follows m))
   received_true prev i n m at a =
-      elim (reported os m) as (λ t. reported os m ≡ t → IsTrue acts os p (origin_evidence prev all_events i) (Some (Follows m))) [
+      elim (reported os m) as (λ t. reported os m ≡ t
+      → IsTrue acts os p (origin_evidence prev all_events i) (Some (Follows m))) [
         | None ↦ λ none. unreported_true prev _ _ (Some (Follows m)) a.some (m, refl, none)
         | Some r ↦ λ is.
             let j = length (front acts os p m) in
@@ -143,14 +155,18 @@ module _ (acts : List Act) (os : List Outcome) (p : Pid) where
             let receive = a.receive r is in
             let kind = receive_is r receive.0 in
             let start : row_start prev all_events i ≡ suc j =
-            row_passes prev all_events (suc j) i x.within x.row ∙ row_stops prev all_events j r x.at kind in
-            let by = λ (k : ℕ). origin_evidence_by prev (has_above prev all_events k) (receive_before prev all_events k) in
-            let tells : origin_evidence prev all_events i ≡ origin_evidence_by prev (has_above prev all_events (suc j)) (Some j) =
+            row_passes prev all_events (suc j) i x.within x.row
+            ∙ row_stops prev all_events j r x.at kind in
+            let by = λ (k : ℕ). origin_evidence_by prev (has_above prev all_events k)
+            (receive_before prev all_events k) in
+            let tells : origin_evidence prev all_events i
+            ≡ origin_evidence_by prev (has_above prev all_events (suc j)) (Some j) =
             ap by start
             ∙ told_at prev all_events (suc j) (has_above prev all_events (suc j)) (Some j) refl
             (received_at prev all_events j r x.at kind receive.1) in
             subst (λ t. IsTrue acts os p t (Some (Follows m))) (sym tells)
-            (reported_true prev j (has_above prev all_events (suc j)) (Some (Follows m)) (m, refl, (r, x.event)))
+            (reported_true prev j (has_above prev all_events (suc j)) (Some (Follows m))
+            (m, refl, (r, x.event)))
       ] refl
 
   -- the row begins at the beginning's place or before it
@@ -161,17 +177,21 @@ module _ (acts : List Act) (os : List Outcome) (p : Pid) where
   row_of_beginning prev i n m at a =
       let before = front acts os p m in
       let rest = stream (drop n acts) (drop n os) p in
-      let split = split_by prev i all_events (front acts os p n) before a.rest rest (front_and_rest acts os p n) a.split
+      let split = split_by prev i all_events (front acts os p n) before a.rest rest
+      (front_and_rest acts os p n) a.split
       at a.row in
       let start = row_passes prev all_events (length before) i split.length_before split.row in
       let within : row_start prev all_events i ≤ length before =
-      subst (λ k. k ≤ length before) (sym start) (row_start_within prev all_events (length before)) in (
+      subst (λ k. k ≤ length before) (sym start) (row_start_within prev all_events
+      (length before)) in (
         within,
-        subst (λ xs. greatest_count (take (row_start prev all_events i) xs) ≤ prev) (sym split.whole)
+        subst (λ xs. greatest_count (take (row_start prev all_events i) xs) ≤ prev)
+            (sym split.whole)
             (front_not_above prev (row_start prev all_events i) before split.rest within a.below),
       )
 
-  begun_true : (prev i n m : ℕ) → length (front acts os p n) ≡ i → OfBeginning acts os p m prev (front acts os p n)
+  begun_true : (prev i n m : ℕ) → length (front acts os p n) ≡ i
+      → OfBeginning acts os p m prev (front acts os p n)
       → IsTrue acts os p (origin_evidence prev all_events i) (Some (Begins m))
   begun_true prev i n m at a =
       let k = row_start prev all_events i in
@@ -180,30 +200,39 @@ module _ (acts : List Act) (os : List Outcome) (p : Pid) where
       (not_above prev all_events k row.1) refl in
       subst (λ t. IsTrue acts os p t (Some (Begins m))) (sym tells)
       (beginning_true prev (receive_before prev all_events k) m
-      (λ j is. let less = received_earlier prev all_events k j is in let low = row.0 in omega arith))
+      (λ j is. let less = received_earlier prev all_events k j is in let low = row.0 in omega
+      arith))
 
-  nothing_true : (prev i n : ℕ) → length (front acts os p n) ≡ i → OfNothing prev (front acts os p n)
+  nothing_true : (prev i n : ℕ) → length (front acts os p n) ≡ i
+      → OfNothing prev (front acts os p n)
       → IsTrue acts os p (origin_evidence prev all_events i) None
   nothing_true prev i n at a =
       let rest = stream (drop n acts) (drop n os) p in
       let split = split_by prev i all_events (front acts os p n) [] (front acts os p n) rest
       (front_and_rest acts os p n) refl at a.row in
-      let start : row_start prev all_events i ≡ 0 = row_passes prev all_events 0 i split.length_before split.row in
-      let by = λ (k : ℕ). origin_evidence_by prev (has_above prev all_events k) (receive_before prev all_events k) in
+      let start : row_start prev all_events i ≡ 0 =
+      row_passes prev all_events 0 i split.length_before split.row in
+      let by = λ (k : ℕ). origin_evidence_by prev (has_above prev all_events k)
+      (receive_before prev all_events k) in
       let tells : origin_evidence prev all_events i ≡ what.Begins =
-      ap by start ∙ told_at prev all_events 0 false None (not_above prev all_events 0 (omega arith)) refl
+      ap by start ∙ told_at prev all_events 0 false None
+      (not_above prev all_events 0 (omega arith)) refl
       ∙ ap (λ b. cond b what.Begins what.BeginsOrUnreported) (eq-eqb prev 0 a.zero_prev) in
       subst (λ t. IsTrue acts os p t None) (sym tells) (inr refl)
 
   told_true_of : (prev i n : ℕ) (o : Option Origin) → length (front acts os p n) ≡ i
-      → Accounts acts os p prev (front acts os p n) o → IsTrue acts os p (origin_evidence prev all_events i) o
+      → Accounts acts os p prev (front acts os p n) o
+      → IsTrue acts os p (origin_evidence prev all_events i) o
   told_true_of prev i n None at a = nothing_true prev i n at a
   told_true_of prev i n (Some (Follows m)) at a = received_true prev i n m at a
   told_true_of prev i n (Some (Begins m)) at a = begun_true prev i n m at a
 
-pub told_true : (top : ℕ) (pids : List Pid) (acts : List Act) (os : List Outcome) → run top pids acts ≡ Some os
-    → NoReset acts → (p : Pid) (i n : ℕ) (e : Event) → ReportsEvent acts os p i e n → e.kind ≢ kind.Receive
-    → IsTrue acts os p (origin_evidence e.serial.prev (stream acts os p) i) (origin pids acts os p n)
+pub told_true : (top : ℕ) (pids : List Pid) (acts : List Act) (os : List Outcome)
+    → run top pids acts ≡ Some os
+    → NoReset acts → (p : Pid) (i n : ℕ) (e : Event) → ReportsEvent acts os p i e n
+    → e.kind ≢ kind.Receive
+    → IsTrue acts os p (origin_evidence e.serial.prev (stream acts os p) i)
+    (origin pids acts os p n)
 told_true top pids acts os h none p i n e r other =
     told_true_of acts os p e.serial.prev i n (origin pids acts os p n) r.before
     (stamp_accounted top pids acts os h none p i n e r other)
@@ -212,9 +241,11 @@ told_true top pids acts os h none p i n e r other =
 
 given_number : (n m : ℕ) (r : Process) (a : Act) → given_by n r a ≡ Some (Follows m) → n ≡ m
 given_number n m r (act.Receive p w) h =
-    let same : Follows n ≡ Follows m = (cond_some (moves_token r (act.Receive p w)) (Follows n) (Follows m) h).1 in cc
+    let same : Follows n ≡ Follows m =
+    (cond_some (moves_token r (act.Receive p w)) (Follows n) (Follows m) h).1 in cc
 given_number n m r (act.Set p c) h =
-    let same : Begins n ≡ Follows m = (cond_some (is_none r.local.token) (Begins n) (Follows m) h).1 in absurd (cc)
+    let same : Begins n ≡ Follows m =
+    (cond_some (is_none r.local.token) (Begins n) (Follows m) h).1 in absurd (cc)
 given_number n m r (act.Send p q v) h = absurd (none-some (Follows m) h)
 given_number n m r (act.Print p v) h = absurd (none-some (Follows m) h)
 given_number n m r (act.PrintAt p x v) h = absurd (none-some (Follows m) h)
@@ -224,7 +255,8 @@ given_number n m r (act.Look p) h = absurd (none-some (Follows m) h)
 given_number n m r (act.Reset p) h = absurd (none-some (Follows m) h)
 given_number n m r (act.Tracer p b) h = absurd (none-some (Follows m) h)
 
-given_to_number : (p : Pid) (n m : ℕ) (s : State) (a : Act) → given_to p n s a ≡ Some (Follows m) → n ≡ m
+given_to_number : (p : Pid) (n m : ℕ) (s : State) (a : Act) → given_to p n s a ≡ Some (Follows m)
+    → n ≡ m
 given_to_number p n m s a h =
     let by = option_and_then (λ r. given_by n r a) (process s p) in
     elim (pid_eq (actor a) p) as (λ b. cond b by None ≡ Some (Follows m) → n ≡ m) [
@@ -240,7 +272,8 @@ module _ (pids : List Pid) (acts : List Act) (os : List Outcome) (p : Pid) where
       option_and_then_some (given_to p n s) (slice_get acts n) (Follows m) h
       (λ a _ is. given_to_number p n m s a is)
 
-  origin_given : (n m : ℕ) → origin pids acts os p n ≡ Some (Follows m) → given pids acts os p m ≡ Some (Follows m)
+  origin_given : (n m : ℕ) → origin pids acts os p n ≡ Some (Follows m)
+      → given pids acts os p m ≡ Some (Follows m)
   origin_given zero m h = absurd (none-some (Follows m) h)
   origin_given (suc n) m h =
       elim (given pids acts os p n) as (λ g. given pids acts os p n ≡ g
@@ -256,7 +289,8 @@ module _ (pids : List Pid) (acts : List Act) (os : List Outcome) (p : Pid) where
     was_reported : (n m : ℕ) → origin pids acts os p n ≡ Some (Follows m) → IsUnreported os m → ⊥
     was_reported n m is none =
         let some = all m m (origin_given n m is) in
-        false≢true (sym (ap (λ (o : Option Event). elim o as (λ _. Bool) [ None ↦ false | Some e ↦ true ]) none) ∙ some)
+        false≢true (sym (ap (λ (o : Option Event). elim o as
+        (λ _. Bool) [ None ↦ false | Some e ↦ true ]) none) ∙ some)
 
     none_unreported : (n : ℕ) → FollowsUnreported os (origin pids acts os p n) → ⊥
     none_unreported n f = was_reported n f.0 f.1 f.2
@@ -274,9 +308,11 @@ module _ (pids : List Pid) (acts : List Act) (os : List Outcome) (p : Pid) where
     true_if_reported n what.BeginsOrUnreported (inr f) = absurd (none_unreported n f)
 
 pub told_true_if_reported : (top : ℕ) (pids : List Pid) (acts : List Act) (os : List Outcome)
-    → run top pids acts ≡ Some os → NoReset acts → (p : Pid) → ReportsReceives pids acts os p → (i n : ℕ) (e : Event)
+    → run top pids acts ≡ Some os → NoReset acts → (p : Pid) → ReportsReceives pids acts os p
+    → (i n : ℕ) (e : Event)
     → ReportsEvent acts os p i e n → e.kind ≢ kind.Receive
-    → IsTrueIfReported acts os p (origin_evidence e.serial.prev (stream acts os p) i) (origin pids acts os p n)
+    → IsTrueIfReported acts os p (origin_evidence e.serial.prev (stream acts os p) i)
+    (origin pids acts os p n)
 told_true_if_reported top pids acts os h none p all i n e r other =
     true_if_reported pids acts os p all n (origin_evidence e.serial.prev (stream acts os p) i)
     (told_true top pids acts os h none p i n e r other)
@@ -285,9 +321,11 @@ told_true_if_reported top pids acts os h none p all i n e r other =
 
 abbrev OfLast : List Act → List Outcome → Pid → Option Origin → Option ℕ → Type 0
 OfLast acts os p o last =
-    MatchOption last (IsBeginning o ⊎ (o ≡ None)) (λ j. FollowsEvent acts os p j o ⊎ BeginsAfter acts os p j o)
+    MatchOption last (IsBeginning o ⊎ (o ≡ None))
+    (λ j. FollowsEvent acts os p j o ⊎ BeginsAfter acts os p j o)
 
-module _ (acts : List Act) (os : List Outcome) (p : Pid) (prev i n : ℕ) (at : length (front acts os p n) ≡ i) where
+module _ (acts : List Act) (os : List Outcome) (p : Pid) (prev i n : ℕ)
+    (at : length (front acts os p n) ≡ i) where
   abbrev events : List Event
   events = stream acts os p
 
@@ -298,7 +336,8 @@ module _ (acts : List Act) (os : List Outcome) (p : Pid) (prev i n : ℕ) (at : 
       (front_and_rest acts os p n) refl at a.row in
       last_passes prev events 0 i split.length_before split.row
 
-  last_of_receive : (m : ℕ) (r : Event) → OfReceive acts os p m prev (front acts os p n) → reported os m ≡ Some r
+  last_of_receive : (m : ℕ) (r : Event) → OfReceive acts os p m prev (front acts os p n)
+      → reported os m ≡ Some r
       → last_receive events i ≡ Some (length (front acts os p m))
   last_of_receive m r a is =
       let j = length (front acts os p m) in
@@ -306,12 +345,14 @@ module _ (acts : List Act) (os : List Outcome) (p : Pid) (prev i n : ℕ) (at : 
       last_passes prev events (suc j) i x.within x.row
       ∙ last_is events j r x.at (receive_is r (a.receive r is).0)
 
-  last_of_beginning : (m j : ℕ) → OfBeginning acts os p m prev (front acts os p n) → last_receive events i ≡ Some j
+  last_of_beginning : (m j : ℕ) → OfBeginning acts os p m prev (front acts os p n)
+      → last_receive events i ≡ Some j
       → j < length (front acts os p m)
   last_of_beginning m j a is =
       let before = front acts os p m in
       let rest = stream (drop n acts) (drop n os) p in
-      let split = split_by prev i events (front acts os p n) before a.rest rest (front_and_rest acts os p n) a.split
+      let split = split_by prev i events (front acts os p n) before a.rest rest
+      (front_and_rest acts os p n) a.split
       at a.row in
       last_earlier events (length before) j
       (sym (last_passes prev events (length before) i split.length_before split.row) ∙ is)
@@ -320,7 +361,8 @@ module _ (acts : List Act) (os : List Outcome) (p : Pid) (prev i n : ℕ) (at : 
       → Accounts acts os p prev (front acts os p n) o → OfLast acts os p o (last_receive events i)
   last_or_beginning None all a = subst (OfLast acts os p None) (sym (last_of_nothing a)) (inr refl)
   last_or_beginning (Some (Begins m)) all a =
-      elim (last_receive events i) as (λ x. last_receive events i ≡ x → OfLast acts os p (Some (Begins m)) x) [
+      elim (last_receive events i) as (λ x. last_receive events i ≡ x
+      → OfLast acts os p (Some (Begins m)) x) [
         | None ↦ λ _. inl (m, refl)
         | Some j ↦ λ is. inr (m, refl, last_of_beginning m j a is)
       ] refl
@@ -333,28 +375,35 @@ module _ (acts : List Act) (os : List Outcome) (p : Pid) (prev i n : ℕ) (at : 
             (inl (m, refl, (r, (received_in acts os p prev i n m r at a is).event)))
       ] refl
 
-  beginning_if_other : (o : Option Origin) → ((m : ℕ) → o ≡ Some (Follows m) → IsUnreported os m → ⊥)
-      → Accounts acts os p prev (front acts os p n) o → (j : ℕ) (d : Event) → last_receive events i ≡ Some j
+  beginning_if_other : (o : Option Origin) → ((m : ℕ) → o ≡ Some (Follows m) → IsUnreported os m
+      → ⊥)
+      → Accounts acts os p prev (front acts os p n) o → (j : ℕ) (d : Event)
+      → last_receive events i ≡ Some j
       → slice_get events j ≡ Some d → d.serial.this ≢ prev → IsBeginning o
-  beginning_if_other None all a j d last there other = absurd (none-some j (sym (last_of_nothing a) ∙ last))
+  beginning_if_other None all a j d last there other =
+      absurd (none-some j (sym (last_of_nothing a) ∙ last))
   beginning_if_other (Some (Begins m)) all a j d last there other = (m, refl)
   beginning_if_other (Some (Follows m)) all a j d last there other =
       elim (reported os m) as (λ x. reported os m ≡ x → IsBeginning (Some (Follows m))) [
         | None ↦ λ none. absurd (all m refl none)
         | Some r ↦ λ is.
-            let same : length (front acts os p m) ≡ j = same_Some _ j (sym (last_of_receive m r a is) ∙ last) in
+            let same : length (front acts os p m) ≡ j =
+            same_Some _ j (sym (last_of_receive m r a is) ∙ last) in
             let x = received_in acts os p prev i n m r at a is in
             let one : r ≡ d = same_Some r d (sym x.at ∙ ap (slice_get events) same ∙ there) in
             absurd (other (ap (λ (y : Event). y.serial.this) (sym one) ∙ (a.receive r is).1))
       ] refl
 
-  row_below : (o : Option Origin) (m : ℕ) → o ≡ Some (Begins m) → Accounts acts os p prev (front acts os p n) o
+  row_below : (o : Option Origin) (m : ℕ) → o ≡ Some (Begins m)
+      → Accounts acts os p prev (front acts os p n) o
       → greatest_count (take (row_start prev events i) events) ≤ prev
   row_below o m is a =
-      (row_of_beginning acts os p prev i n m at (subst (Accounts acts os p prev (front acts os p n)) is a)).1
+      (row_of_beginning acts os p prev i n m at (subst (Accounts acts os p prev
+      (front acts os p n)) is a)).1
 
 pub last_receive_or_beginning : (top : ℕ) (pids : List Pid) (acts : List Act) (os : List Outcome)
-    → run top pids acts ≡ Some os → NoReset acts → (p : Pid) → ReportsReceives pids acts os p → (i n : ℕ) (e : Event)
+    → run top pids acts ≡ Some os → NoReset acts → (p : Pid) → ReportsReceives pids acts os p
+    → (i n : ℕ) (e : Event)
     → ReportsEvent acts os p i e n → e.kind ≢ kind.Receive
     → OfLast acts os p (origin pids acts os p n) (last_receive (stream acts os p) i)
 last_receive_or_beginning top pids acts os h none p all i n e r other =
@@ -362,7 +411,8 @@ last_receive_or_beginning top pids acts os h none p all i n e r other =
     (was_reported pids acts os p all n) (stamp_accounted top pids acts os h none p i n e r other)
 
 pub another_prev_begins : (top : ℕ) (pids : List Pid) (acts : List Act) (os : List Outcome)
-    → run top pids acts ≡ Some os → NoReset acts → (p : Pid) → ReportsReceives pids acts os p → (i n : ℕ) (e : Event)
+    → run top pids acts ≡ Some os → NoReset acts → (p : Pid) → ReportsReceives pids acts os p
+    → (i n : ℕ) (e : Event)
     → ReportsEvent acts os p i e n → e.kind ≢ kind.Receive → (j : ℕ) (d : Event)
     → last_receive (stream acts os p) i ≡ Some j → slice_get (stream acts os p) j ≡ Some d
     → d.serial.this ≢ e.serial.prev → IsBeginning (origin pids acts os p n)
@@ -371,9 +421,11 @@ another_prev_begins top pids acts os h none p all i n e r other =
     (was_reported pids acts os p all n) (stamp_accounted top pids acts os h none p i n e r other)
 
 pub beginning_below_row : (top : ℕ) (pids : List Pid) (acts : List Act) (os : List Outcome)
-    → run top pids acts ≡ Some os → NoReset acts → (p : Pid) (i n m : ℕ) (e : Event) → ReportsEvent acts os p i e n
+    → run top pids acts ≡ Some os → NoReset acts → (p : Pid) (i n m : ℕ) (e : Event)
+    → ReportsEvent acts os p i e n
     → e.kind ≢ kind.Receive → origin pids acts os p n ≡ Some (Begins m)
-    → greatest_count (take (row_start e.serial.prev (stream acts os p) i) (stream acts os p)) ≤ e.serial.prev
+    → greatest_count (take (row_start e.serial.prev (stream acts os p) i) (stream acts os p))
+    ≤ e.serial.prev
 beginning_below_row top pids acts os h none p i n m e r other is =
     row_below acts os p e.serial.prev i n r.before (origin pids acts os p n) m is
     (stamp_accounted top pids acts os h none p i n e r other)
@@ -382,8 +434,10 @@ beginning_below_row top pids acts os h none p i n m e r other is =
 
 pub one_label_follows : (top : ℕ) (pids : List Pid) (acts : List Act) (os : List Outcome)
     → run top pids acts ≡ Some os → NoReset acts → (p : Pid) → ReportsReceives pids acts os p
-    → NeverBeginsAgain pids acts os p → (i n : ℕ) (e : Event) → ReportsEvent acts os p i e n → e.kind ≢ kind.Receive
-    → (j : ℕ) (d : Event) → origin_evidence e.serial.prev (stream acts os p) i ≡ what.AfterOrBegins j
+    → NeverBeginsAgain pids acts os p → (i n : ℕ) (e : Event) → ReportsEvent acts os p i e n
+    → e.kind ≢ kind.Receive
+    → (j : ℕ) (d : Event) → origin_evidence e.serial.prev (stream acts os p) i
+    ≡ what.AfterOrBegins j
     → slice_get (stream acts os p) j ≡ Some d → d.label ≡ e.label
     → FollowsEvent acts os p j (origin pids acts os p n)
 one_label_follows top pids acts os h none p all never i n e r other j d tells there label =
@@ -396,7 +450,8 @@ one_label_follows top pids acts os h none p all never i n e r other j d tells th
 
 -- SENDS
 
-pub sends_told : (top : ℕ) (pids : List Pid) (acts : List Act) (os : List Outcome) → run top pids acts ≡ Some os
+pub sends_told : (top : ℕ) (pids : List Pid) (acts : List Act) (os : List Outcome)
+    → run top pids acts ≡ Some os
     → NoReset acts → (r s : ℕ) (follows : IsFollowing acts os r s) (j m : ℕ) (f : Event)
     → ReportsEvent acts os follows.event.from j f m → f.kind ≢ kind.Receive
     → f.serial.this ≡ follows.event.serial.this → m ≡ s
@@ -404,4 +459,5 @@ sends_told top pids acts os h none r s follows j m f reports other same =
     let q = follows.event.from in
     let first = reported_stamps_lift top pids acts os h none q m f reports.reports other in
     let second = followed_sends_lift top pids acts os h r s follows none in
-    lifted_once os q follows.event.serial.this m s (subst (λ c. LiftsClock os q c m) same first) second
+    lifted_once os q follows.event.serial.this m s
+    (subst (λ c. LiftsClock os q c m) same first) second

@@ -14,8 +14,8 @@ is_receive e = elim e.kind [ kind.Send ↦ false | kind.Receive ↦ true | kind.
 abbrev pub in_row : ℕ → Event → Bool
 in_row prev e = not (is_receive e) && e.serial.prev == prev
 
--- where the row of sends and prints with this prev begins that goes up to index i: directly before i
--- there is nothing but them
+-- where the row of sends and prints with this prev begins that goes up to index i: directly before
+-- i there is nothing but them
 abbrev pub row_start : ℕ → List Event → ℕ → ℕ
 row_start prev es zero = 0
 row_start prev es (suc i) = elim (slice_get es i) [

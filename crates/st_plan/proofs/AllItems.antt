@@ -1,7 +1,7 @@
--- The items of streams are all that is there, of each place its event and the hidden send of a receive that has one: so
--- an order holds all that is there.
-use Rattle.std.proofs.Common.{◌≡◌, ℕ, zero, suc, ◌+◌, true, false, cond, List, [], ◌∷◌, ◌++◌, Some, None, refl, sym}
-use Rattle.std.proofs.Common.{◌∙◌, ap, subst, arith, inl, inr}
+-- The items of streams are all that is there, of each place its event and the hidden send of a
+-- receive that has one: so an order holds all that is there.
+use Rattle.std.proofs.Common.{◌≡◌, ℕ, zero, suc, ◌+◌, true, false, cond, List, [], ◌∷◌, ◌++◌, Some}
+use Rattle.std.proofs.Common.{None, refl, sym, ◌∙◌, ap, subst, arith, inl, inr}
 use Rattle.std.specs.List.{slice_get}
 use Rattle.std.proofs.lemmas.Option.{same_Some, none-some}
 use Rattle.std.proofs.lemmas.List.Sorted.{IsPermutation-sym}
@@ -32,10 +32,12 @@ behind : (xs ys : List Item) (z : Item) → IsIn ys z → IsIn (xs ++ ys) z
 behind [] ys z m = m
 behind (x ∷ xs) ys z m = inr (behind xs ys z m)
 
-among_at : (all : List Stream) (p : Pid) (k : ℕ) (e : Event) → IsIn (items_at all p k e) (item.Reported p k)
+among_at : (all : List Stream) (p : Pid) (k : ℕ) (e : Event)
+    → IsIn (items_at all p k e) (item.Reported p k)
 among_at all p k e =
     let reported = item.Reported p k ∷ [] in
-    elim (is_hidden all e) as (λ b. IsIn (cond b (item.Hidden p k ∷ reported) reported) (item.Reported p k)) [
+    elim (is_hidden all e) as (λ b. IsIn (cond b (item.Hidden p k ∷ reported) reported)
+    (item.Reported p k)) [
       | true ↦ inr (inl refl)
       | false ↦ inl refl
     ]
@@ -44,9 +46,11 @@ hidden_at : (all : List Stream) (p : Pid) (k : ℕ) (e : Event) → is_hidden al
     → IsIn (items_at all p k e) (item.Hidden p k)
 hidden_at all p k e h =
     let reported = item.Reported p k ∷ [] in
-    subst (λ b. IsIn (cond b (item.Hidden p k ∷ reported) reported) (item.Hidden p k)) (sym h) (inl refl)
+    subst (λ b. IsIn (cond b (item.Hidden p k ∷ reported) reported) (item.Hidden p k)) (sym h)
+    (inl refl)
 
-among_from : (all : List Stream) (p : Pid) (k : ℕ) (es : List Event) (j : ℕ) (e : Event) (z : ℕ → Item)
+among_from : (all : List Stream) (p : Pid) (k : ℕ) (es : List Event) (j : ℕ) (e : Event)
+    (z : ℕ → Item)
     → ((n : ℕ) → n ≡ k + j → IsIn (items_at all p n e) (z n)) → slice_get es j ≡ Some e
     → IsIn (items_from all p k es) (z (k + j))
 among_from all p k [] j e z one at = absurd (none-some e at)
@@ -81,7 +85,8 @@ in_all all (s ∷ streams) p i e z one at =
           (in_all all streams p i e z one at)
     ] refl at
 
-items_whole : (streams : List Stream) (z : Item) (d : Event) → IsAt streams z d → IsIn (items streams) z
+items_whole : (streams : List Stream) (z : Item) (d : Event) → IsAt streams z d
+    → IsIn (items streams) z
 items_whole streams (item.Reported p i) d at = in_all streams streams p i d (λ n. item.Reported p n)
     (λ n h. among_at streams p n d) at
 items_whole streams (item.Hidden p i) d at = in_all streams streams p i d (λ n. item.Hidden p n)

@@ -1,7 +1,8 @@
--- The acts of all moves in a row: each move's go on from what those before left, so that they run and report what is
--- told of the moves.
-use Rattle.std.proofs.Common.{◌≡◌, ℕ, List, [], ◌∷◌, ◌++◌, Some, None, option_map, option_and_then, option_to_list}
-use Rattle.std.proofs.Common.{append_assoc, get_or, All, refl, sym, ◌∙◌, ap, subst, if◌then◌else◌}
+-- The acts of all moves in a row: each move's go on from what those before left, so that they run
+-- and report what is told of the moves.
+use Rattle.std.proofs.Common.{◌≡◌, ℕ, List, [], ◌∷◌, ◌++◌, Some, None, option_map, option_and_then}
+use Rattle.std.proofs.Common.{option_to_list, append_assoc, get_or, All, refl, sym, ◌∙◌, ap, subst}
+use Rattle.std.proofs.Common.{if◌then◌else◌}
 use Rattle.std.proofs.lemmas.Option.{same_Some}
 use Rattle.st_core.specs.declared.types.Pid.{Pid}
 use Rattle.st_core.specs.declared.types.Event.{Event}
@@ -21,8 +22,10 @@ use Rattle.st_plan.proofs.KeptState.{IsKept, Continues}
 use Rattle.st_plan.proofs.Tracers.{opens}
 
 pub stream_append : (top : ℕ) (s : State) (xs ys : List Act) (os ps : List Outcome) (p : Pid)
-    → run_from top s xs ≡ Some os → stream (xs ++ ys) (os ++ ps) p ≡ stream xs os p ++ stream ys ps p
-stream_append top s [] ys os ps p runs = ap (λ zs. stream ys (zs ++ ps) p) (sym (same_Some [] os runs))
+    → run_from top s xs ≡ Some os → stream (xs ++ ys) (os ++ ps) p
+    ≡ stream xs os p ++ stream ys ps p
+stream_append top s [] ys os ps p runs =
+    ap (λ zs. stream ys (zs ++ ps) p) (sym (same_Some [] os runs))
 stream_append top s (a ∷ xs) ys os ps p runs =
     let t = run_parts top s a xs os runs in
     let here : List Event = if pid_eq (actor a) p then option_to_list t.first.report else [] in
@@ -36,7 +39,8 @@ abbrev pub Serves : ℕ → List Stream → Marks → List Move → Move → Typ
 Serves top streams marks earlier m =
     (s : State) → IsKept streams marks earlier s → Continues top streams marks earlier s m
 
-pub record IsBuilt (top : ℕ) (streams : List Stream) (marks : Marks) (s : State) (ms : List Move) : Type 0 where
+pub record IsBuilt (top : ℕ) (streams : List Stream) (marks : Marks) (s : State)
+    (ms : List Move) : Type 0 where
   pub acts : List Act
   pub os : List Outcome
   pub are : build top streams marks s ms ≡ Some acts
@@ -44,7 +48,8 @@ pub record IsBuilt (top : ℕ) (streams : List Stream) (marks : Marks) (s : Stat
   pub tells : (p : Pid) → stream acts os p ≡ told_of_moves marks p ms
 
 pub built : (top : ℕ) (streams : List Stream) (marks : Marks) (earlier ms : List Move) (s : State)
-    → AllAlong (Serves top streams marks) earlier ms → IsKept streams marks earlier s → IsBuilt top streams marks s ms
+    → AllAlong (Serves top streams marks) earlier ms → IsKept streams marks earlier s
+    → IsBuilt top streams marks s ms
 built top streams marks earlier [] s all kept =
     record { acts = []; os = []; are = refl; runs = refl; tells = λ p. refl }
 built top streams marks earlier (m ∷ ms) s all kept =
@@ -61,11 +66,15 @@ built top streams marks earlier (m ∷ ms) s all kept =
           ∙ ap (λ es. told_of_move marks p m ++ es) (rest.tells p);
     }
 
--- if each move goes on, and together they tell what each process shows, the construction is a certificate
-pub construction_shows : (top : ℕ) (streams : List Stream) (marks : Marks) (shown : List Stream) (m : Move)
-    (ms : List Move) → AllAlong (Serves top streams marks) [] (m ∷ ms) → pids_of streams ≡ pids_of shown
+-- if each move goes on, and together they tell what each process shows, the construction is a
+-- certificate
+pub construction_shows : (top : ℕ) (streams : List Stream) (marks : Marks) (shown : List Stream)
+    (m : Move)
+    (ms : List Move) → AllAlong (Serves top streams marks) [] (m ∷ ms)
+    → pids_of streams ≡ pids_of shown
     → All (λ (x : Stream). told_of_moves marks x.pid (m ∷ ms) ≡ x.events) shown
-    → (acts : List Act) × (construction top streams marks (m ∷ ms) ≡ Some acts) × Shows top shown acts
+    → (acts : List Act) × (construction top streams marks (m ∷ ms) ≡ Some acts)
+    × Shows top shown acts
 construction_shows top streams marks shown m ms serve pids told =
     let opening = opens top streams marks in
     let o = opening.0 in
@@ -80,10 +89,12 @@ construction_shows top streams marks shown m ms serve pids told =
           ∙ ap (option_map (λ rest. first ++ rest)) b.are,
       (
         o.os ++ b.os,
-        subst (λ ps. run_from top (zero_state ps) (first ++ b.acts) ≡ Some (o.os ++ b.os)) pids runs,
+        subst (λ ps. run_from top (zero_state ps) (first ++ b.acts)
+            ≡ Some (o.os ++ b.os)) pids runs,
         λ k d within.
             let p = (get_or shown k d).pid in
             stream_append top start first b.acts o.os b.os p o.runs
-            ∙ ap (λ es. es ++ stream b.acts b.os p) (stream_silent first o.os p o.silent) ∙ b.tells p ∙ told k d within,
+            ∙ ap (λ es. es ++ stream b.acts b.os p) (stream_silent first o.os p o.silent)
+            ∙ b.tells p ∙ told k d within,
       ),
     )

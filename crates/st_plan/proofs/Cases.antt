@@ -1,4 +1,5 @@
--- Worked cases: the definitions computed. Nothing cites this file; it shows that the definitions say what is meant.
+-- Worked cases: the definitions computed. Nothing cites this file; it shows that the definitions
+-- say what is meant.
 use Rattle.std.specs.Prelude.{◌≡◌, ℕ, Bool, true, false, List, [], ◌∷◌, ◌++◌, Some, refl}
 use Rattle.st_core.specs.declared.types.Pid.{Pid}
 use Rattle.st_core.specs.declared.types.Event.{Event}
@@ -18,7 +19,8 @@ use Rattle.st_plan.proofs.Samples.{along}
 
 abbrev restored : Pid → ℕ → Bool → Bool → Bool → Act
 restored p n s r q =
-    act.Restore p (unstamped_token p (record { 0 = n }) (record { send = s; receive = r; print = q }))
+    act.Restore p (unstamped_token p (record { 0 = n })
+    (record { send = s; receive = r; print = q }))
 
 abbrev hidden : List Move
 hidden = moves hidden_sends (order hidden_sends)
@@ -51,7 +53,8 @@ hidden_acts = refl
 abbrev crossing : List Stream
 crossing = of a (got 1 0 1 b a 4 ∷ []) ∷ of b (got 1 0 2 a b 5 ∷ []) ∷ []
 
-crossing_uncaused : along uncaused [] (moves crossing (order crossing)) ≡ false ∷ false ∷ true ∷ false ∷ []
+crossing_uncaused : along uncaused [] (moves crossing (order crossing))
+    ≡ false ∷ false ∷ true ∷ false ∷ []
 crossing_uncaused = refl
 
 -- a thousand counts may be missing before one item, and no more
@@ -65,17 +68,19 @@ too_wide_by_one : along too_wide [] (moves (wide 1002) (order (wide 1002))) ≡ 
 too_wide_by_one = refl
 
 -- a prev above the clock begins a new trace there
-new_trace : construction top (of a (printed 17 2 3 a 5 ∷ []) ∷ []) all_told (moves (of a (printed 17 2 3 a 5 ∷ []) ∷ [])
+new_trace : construction top (of a (printed 17 2 3 a 5 ∷ []) ∷ []) all_told
+    (moves (of a (printed 17 2 3 a 5 ∷ []) ∷ [])
     (order (of a (printed 17 2 3 a 5 ∷ []) ∷ [])))
     ≡ Some (act.Tracer a true ∷ restored a 17 false false false ∷ act.Print a 0 ∷ act.Print a 0
     ∷ act.Clear a ∷ act.Set a (component.Label (record { 0 = 17 }))
     ∷ restored a 17 false false true ∷ act.Print a 5 ∷ [])
 new_trace = refl
 
--- receives of one height: the order doesn't list their process's events by index, and an act for each is no way
--- through them
+-- receives of one height: the order doesn't list their process's events by index, and an act for
+-- each is no way through them
 abbrev one_height : List Stream
-one_height = of a [] ∷ of b (got 1 0 2 a b 5 ∷ got 1 0 1 c b 4 ∷ printed 1 1 2 b 9 ∷ []) ∷ of c [] ∷ []
+one_height = of a [] ∷ of b (got 1 0 2 a b 5 ∷ got 1 0 1 c b 4 ∷ printed 1 1 2 b 9 ∷ []) ∷ of c []
+    ∷ []
 
 one_height_free : along uncaused [] (moves one_height (order one_height))
     ++ along too_wide [] (moves one_height (order one_height))
@@ -112,9 +117,11 @@ crossed_free : along uncaused [] (whole_moves crossed) ++ along out_of_turn [] (
     ≡ false ∷ false ∷ false ∷ false ∷ false ∷ false ∷ false ∷ false ∷ []
 crossed_free = refl
 
-crossed_acts : construction top (all_streams crossed) (marks_of crossed) (whole_moves crossed) ≡ Some (
+crossed_acts : construction top (all_streams crossed) (marks_of crossed) (whole_moves crossed)
+    ≡ Some (
     act.Tracer a true ∷ restored b 1 false true false ∷ act.Send b a 4
-    ∷ restored a 1 false false false ∷ act.Print a 0 ∷ restored a 1 false true false ∷ act.Send a b 5
+    ∷ restored a 1 false false false ∷ act.Print a 0 ∷ restored a 1 false true false
+    ∷ act.Send a b 5
     ∷ act.Receive a (want.Place 0) ∷ act.Receive b (want.Place 0) ∷ [])
 crossed_acts = refl
 
@@ -126,13 +133,15 @@ fallen_uncaused : along uncaused [] (moves fallen (order fallen)) ≡ false ∷ 
 fallen_uncaused = refl
 
 abbrev completed : List Whole
-completed = all a (told (printed 1 0 2 a 7) ∷ untold (got 1 0 1 b a 0) ∷ told (printed 1 1 3 a 8) ∷ [])
+completed = all a (told (printed 1 0 2 a 7) ∷ untold (got 1 0 1 b a 0) ∷ told (printed 1 1 3 a 8)
+    ∷ [])
     ∷ all b (untold (sent 1 0 1 b a 0) ∷ []) ∷ []
 
 completed_told : told_streams completed ≡ fallen
 completed_told = refl
 
-completed_acts : construction top (all_streams completed) (marks_of completed) (whole_moves completed) ≡ Some (
+completed_acts : construction top (all_streams completed) (marks_of completed)
+    (whole_moves completed) ≡ Some (
     act.Tracer a true ∷ restored b 1 false false false ∷ act.Send b a 0
     ∷ restored a 1 false false false ∷ act.Print a 0 ∷ restored a 1 false false true ∷ act.Print a 7
     ∷ act.Receive a (want.Place 0) ∷ restored a 1 false false true ∷ act.Print a 8 ∷ [])

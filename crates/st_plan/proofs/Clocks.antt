@@ -1,7 +1,8 @@
--- Along an order in which each process's items come in turn the clock of a stamp's process is below its count: a
--- reported stamp is above the event of its process before it, which came, and so above all that its process did.
-use Rattle.std.proofs.Common.{◌≡◌, ℕ, zero, suc, ◌+◌, ◌<◌, Bool, true, false, not, cond, List, [], ◌∷◌, Some, inl, inr}
-use Rattle.std.proofs.Common.{refl, sym, ◌∙◌, ap, subst, arith, if◌then◌else◌}
+-- Along an order in which each process's items come in turn the clock of a stamp's process is below
+-- its count: a reported stamp is above the event of its process before it, which came, and so above
+-- all that its process did.
+use Rattle.std.proofs.Common.{◌≡◌, ℕ, zero, suc, ◌+◌, ◌<◌, Bool, true, false, not, cond, List, []}
+use Rattle.std.proofs.Common.{◌∷◌, Some, inl, inr, refl, sym, ◌∙◌, ap, subst, arith, if◌then◌else◌}
 use Rattle.std.specs.List.{slice_get, AllByRecursion}
 use Rattle.std.proofs.lemmas.Bool.{not-false, cases_lt}
 use Rattle.st_core.specs.declared.types.Pid.{Pid}
@@ -19,7 +20,8 @@ use Rattle.st_plan.specs.Moves.{Move, move_by, is_taking, clock}
 use Rattle.st_plan.specs.Plain.{event_count}
 use Rattle.st_plan.proofs.FreeMoves.{AllAlong, IsInTurn}
 use Rattle.st_plan.proofs.EarlierMoves.{clock_below, IsAt, IsKeyBelow}
-use Rattle.st_plan.proofs.RisingStamps.{height_is, height_more, height_of, rank_of, this_below, IsTop, Stamps}
+use Rattle.st_plan.proofs.RisingStamps.{height_is, height_more, height_of, rank_of, this_below}
+use Rattle.st_plan.proofs.RisingStamps.{IsTop, Stamps}
 
 abbrev pub IsBelow : List Stream → Move → Move → Type 0
 IsBelow streams m y = IsKeyBelow (key_by streams y.item y.event) (key_by streams m.item m.event)
@@ -55,19 +57,23 @@ abbrev pub one_by : Pid → Item → ℕ
 one_by q (item.Reported p i) = if pid_eq p q then 1 else 0
 one_by q (item.Hidden p i) = 0
 
-later : (m : Move) (earlier : List Move) (q : Pid) (k : ℕ) → Stands earlier q k → Stands (m ∷ earlier) q k
+later : (m : Move) (earlier : List Move) (q : Pid) (k : ℕ) → Stands earlier q k
+    → Stands (m ∷ earlier) q k
 later m earlier q k s = record { number = suc s.number; move = s.move; among = s.among; is = s.is }
 
 pub have_by : (m : Move) (earlier : List Move) (x : Item) → m.item ≡ x → IsInTurn earlier x
     → ((q : Pid) (k : ℕ) → k < event_count q earlier → Stands earlier q k) → (q : Pid) (k : ℕ)
     → k < event_count q earlier + one_by q x → Stands (m ∷ earlier) q k
-have_by m earlier (item.Hidden p i) is turn have q k less = later m earlier q k (have q k (omega arith))
+have_by m earlier (item.Hidden p i) is turn have q k less =
+    later m earlier q k (have q k (omega arith))
 have_by m earlier (item.Reported p i) is turn have q k less =
-    elim (pid_eq p q) as (λ b. pid_eq p q ≡ b → k < event_count q earlier + cond b 1 0 → Stands (m ∷ earlier) q k) [
+    elim (pid_eq p q) as (λ b. pid_eq p q ≡ b → k < event_count q earlier + cond b 1 0
+    → Stands (m ∷ earlier) q k) [
       | true ↦ λ same less.
           let who = pid_same p q same in
           let count = turn in
-          let counts : event_count p earlier ≡ event_count q earlier = ap (λ r. event_count r earlier) who in
+          let counts : event_count p earlier ≡ event_count q earlier =
+          ap (λ r. event_count r earlier) who in
           elim (cases_lt k (event_count q earlier)) [
             | inl old ↦ later m earlier q k (have q k old)
             | inr now ↦
@@ -89,8 +95,10 @@ pub at_event : (streams : List Stream) (x : Item) (e : Event) → IsAt streams x
 at_event streams (item.Reported p i) e h = (p, i, h)
 at_event streams (item.Hidden p i) e h = (p, i, h.0)
 
-pub top_of : (streams : List Stream) (earlier : List Move) (x : Item) (e : Event) → IsPaired streams → IsAt streams x e
-    → IsInTurn earlier x → AllByRecursion (λ y. IsKeyBelow (key_by streams y.item y.event) (key_by streams x e)) earlier
+pub top_of : (streams : List Stream) (earlier : List Move) (x : Item) (e : Event) → IsPaired streams
+    → IsAt streams x e
+    → IsInTurn earlier x → AllByRecursion (λ y. IsKeyBelow (key_by streams y.item y.event)
+    (key_by streams x e)) earlier
     → IsKnown streams earlier → IsTop streams x e
 top_of streams earlier (item.Hidden p i) e ok at turn below known = tt
 top_of streams earlier (item.Reported p zero) e ok at turn below known = λ stamps.
@@ -101,12 +109,16 @@ top_of streams earlier (item.Reported p (suc k)) e ok at turn below known = λ s
     let s = known.have p k (omega arith) in
     let d = s.move.event in
     let came = all_at (HasCome streams) earlier s.number s.move known.each s.among in
-    let above = λ (y : Move). IsKeyBelow (key_by streams y.item y.event) (key_by streams (item.Reported p (suc k)) e) in
+    let above = λ (y : Move). IsKeyBelow (key_by streams y.item y.event)
+    (key_by streams (item.Reported p (suc k)) e) in
     let lower = all_at above earlier s.number s.move below s.among in
     let at_d : event_at streams p k ≡ Some d = subst (λ y. IsAt streams y d) s.is came.at in
-    let top_d : IsTop streams (item.Reported p k) d = subst (λ y. IsTop streams y d) s.is came.top in
-    let key_d : IsKeyBelow (key_by streams (item.Reported p k) d) (key_by streams (item.Reported p (suc k)) e) =
-    subst (λ y. IsKeyBelow (key_by streams y d) (key_by streams (item.Reported p (suc k)) e)) s.is lower in
+    let top_d : IsTop streams (item.Reported p k) d =
+    subst (λ y. IsTop streams y d) s.is came.top in
+    let key_d : IsKeyBelow (key_by streams (item.Reported p k) d)
+    (key_by streams (item.Reported p (suc k)) e) =
+    subst (λ y. IsKeyBelow (key_by streams y d) (key_by streams
+    (item.Reported p (suc k)) e)) s.is lower in
     let before = height_more streams p k d at_d in
     let here = height_more streams p (suc k) e at in
     let low = height_is streams p k in
@@ -114,7 +126,8 @@ top_of streams earlier (item.Reported p (suc k)) e ok at turn below known = λ s
     elim (is_stamp d) as (λ b. is_stamp d ≡ b → height_of streams p (suc k) < e.serial.this) [
       | true ↦ λ stamp.
           let top = top_d stamp in
-          let rise = stamp_counts_rise streams ok p k (suc k) d e (omega arith) at_d at stamp stamps in
+          let rise = stamp_counts_rise streams ok p k (suc k) d e
+          (omega arith) at_d at stamp stamps in
           omega arith
       | false ↦ λ receive.
           let one = key_d.height in
@@ -151,7 +164,8 @@ all_below streams m (y ∷ earlier) at is stamps top each below = (
 -- at each stamp its process's clock is below its count
 pub clocks_below : (streams : List Stream) (earlier ms : List Move) → IsPaired streams
     → AllAlong (IsNext streams) earlier ms → IsKnown streams earlier
-    → AllAlong (λ before m. is_taking m ≡ false → clock m.who before < m.event.serial.this) earlier ms
+    → AllAlong (λ before m. is_taking m ≡ false → clock m.who before
+    < m.event.serial.this) earlier ms
 clocks_below streams earlier [] ok all known = tt
 clocks_below streams earlier (m ∷ ms) ok all known =
     let next = all.0 in
@@ -163,6 +177,7 @@ clocks_below streams earlier (m ∷ ms) ok all known =
       have = λ q k less. have_by m earlier m.item refl next.turn known.have q k less;
     } in (
       λ stamps. clock_below m.who m.event.serial.this earlier (omega arith)
-          (all_below streams m earlier next.at next.is (stamps_of m.item m.event stamps) top known.each next.below),
+          (all_below streams m earlier next.at next.is (stamps_of m.item m.event stamps) top
+          known.each next.below),
       clocks_below streams (m ∷ earlier) ms ok all.1 more,
     )

@@ -1,8 +1,8 @@
--- What is before an item in the order has a lower key; so the counts of a hidden send's process before it are
--- lower than its own.
-use Rattle.std.proofs.Common.{◌≡◌, ℕ, zero, suc, ◌+◌, ◌<◌, ◌≤◌, ◌⊎◌, inl, inr, max, true, false, cond}
-use Rattle.std.proofs.Common.{List, [], ◌∷◌, ◌++◌, take, drop, reverse, Option, Some, None, option_map, slice_get}
-use Rattle.std.proofs.Common.{refl, sym, ◌∙◌, ap, subst, arith}
+-- What is before an item in the order has a lower key; so the counts of a hidden send's process
+-- before it are lower than its own.
+use Rattle.std.proofs.Common.{◌≡◌, ℕ, zero, suc, ◌+◌, ◌<◌, ◌≤◌, ◌⊎◌, inl, inr, max, true, false}
+use Rattle.std.proofs.Common.{cond, List, [], ◌∷◌, ◌++◌, take, drop, reverse, Option, Some, None}
+use Rattle.std.proofs.Common.{option_map, slice_get, refl, sym, ◌∙◌, ap, subst, arith}
 use Rattle.std.specs.List.{AllByRecursion}
 use Rattle.std.specs.declared.cmp.Ordering.{Ordering}
 use Rattle.std.specs.declared.cmp.Ordering.TheVariants.{Equal, Greater}
@@ -20,20 +20,23 @@ use Rattle.st_core.proofs.ForCallers.{all_at, pid_cmp-same, pid_same, nat_cmp-sa
 use Rattle.st_pair.specs.Places.{event_at}
 use Rattle.st_order.specs.declared.item.Item.{Item}
 use Rattle.st_order.specs.declared.item.Item.TheVariants as item
-use Rattle.st_order.specs.Items.{event_of, height, is_hidden, items, items_among, items_at, items_from}
+use Rattle.st_order.specs.Items.{event_of, height, is_hidden, items, items_among, items_at}
+use Rattle.st_order.specs.Items.{items_from}
 use Rattle.st_order.specs.Order.{comes_before, Key, key, key_by, key_cmp, IsOrder, KeysRise}
-use Rattle.st_order.proofs.ForCallers.{all_found, among_all, comes_before_is, drop_front, members, tallest_has, Among}
-use Rattle.st_order.proofs.ForCallers.{AreFound}
+use Rattle.st_order.proofs.ForCallers.{all_found, among_all, comes_before_is, drop_front, members}
+use Rattle.st_order.proofs.ForCallers.{tallest_has, Among, AreFound}
 use Rattle.st_plan.specs.Moves.{Move, clock, earlier_of, move_by, moves}
 
 -- LISTS
 
-pub all_append : {A : Type 0} (P : A → Type 0) (xs ys : List A) → AllByRecursion P xs → AllByRecursion P ys
+pub all_append : {A : Type 0} (P : A → Type 0) (xs ys : List A) → AllByRecursion P xs
+    → AllByRecursion P ys
     → AllByRecursion P (xs ++ ys)
 all_append P [] ys one two = two
 all_append P (x ∷ xs) ys one two = (one.0, all_append P xs ys one.1 two)
 
-all_reverse : {A : Type 0} (P : A → Type 0) (xs : List A) → AllByRecursion P xs → AllByRecursion P (reverse xs)
+all_reverse : {A : Type 0} (P : A → Type 0) (xs : List A) → AllByRecursion P xs
+    → AllByRecursion P (reverse xs)
 all_reverse P [] all = tt
 all_reverse P (x ∷ xs) all = subst (AllByRecursion P) (sym (reverse-append (x ∷ []) xs))
     (all_append P (reverse xs) (x ∷ []) (all_reverse P xs all.1) (all.0, tt))
@@ -53,7 +56,8 @@ moves_append streams (x ∷ xs) ys =
     elim (event_of streams x) as (λ found. (elim found [
       | None ↦ moves streams (xs ++ ys)
       | Some e ↦ move_by x e ∷ moves streams (xs ++ ys)
-    ]) ≡ (elim found [ None ↦ moves streams xs | Some e ↦ move_by x e ∷ moves streams xs ]) ++ moves streams ys) [
+    ]) ≡ (elim found [ None ↦ moves streams xs | Some e ↦ move_by x e ∷ moves streams xs ])
+    ++ moves streams ys) [
       | None ↦ moves_append streams xs ys
       | Some e ↦ ap (λ ms. move_by x e ∷ ms) (moves_append streams xs ys)
     ]
@@ -62,19 +66,22 @@ abbrev moves_by : List Stream → Item → List Item → Option Event → List M
 moves_by streams x xs None = moves streams xs
 moves_by streams x xs (Some e) = move_by x e ∷ moves streams xs
 
-pub one_move : (streams : List Stream) (x : Item) (e : Event) (rest : List Item) → event_of streams x ≡ Some e
+pub one_move : (streams : List Stream) (x : Item) (e : Event) (rest : List Item)
+    → event_of streams x ≡ Some e
     → moves streams (x ∷ rest) ≡ move_by x e ∷ moves streams rest
 one_move streams x e rest at = ap (moves_by streams x rest) at
 
 -- the move of an item after those before it
-pub earlier_more : (streams : List Stream) (xs : List Item) (n : ℕ) (x : Item) (e : Event) → slice_get xs n ≡ Some x
+pub earlier_more : (streams : List Stream) (xs : List Item) (n : ℕ) (x : Item) (e : Event)
+    → slice_get xs n ≡ Some x
     → event_of streams x ≡ Some e
     → earlier_of streams (take (n + 1) xs) ≡ move_by x e ∷ earlier_of streams (take n xs)
 earlier_more streams xs n x e at there =
     let next : n + 1 ≡ suc n = omega arith in
     ap (λ k. reverse (moves streams (take k xs))) next
     ∙ ap (λ ys. reverse (moves streams ys)) (take_more xs n x at)
-    ∙ ap reverse (moves_append streams (take n xs) (x ∷ []) ∙ ap (λ ms. moves streams (take n xs) ++ ms)
+    ∙ ap reverse (moves_append streams (take n xs) (x ∷ [])
+    ∙ ap (λ ms. moves streams (take n xs) ++ ms)
     (one_move streams x e [] there))
     ∙ reverse-append (moves streams (take n xs)) (move_by x e ∷ [])
 
@@ -88,14 +95,16 @@ IsAt streams (item.Hidden p i) e = (event_at streams p i ≡ Some e) × (is_hidd
 abbrev pub IsThere : List Stream → Item → Type 0
 IsThere streams x = (e : Event) × IsAt streams x e
 
-pub there_event : (streams : List Stream) (x : Item) (e : Event) → IsAt streams x e → event_of streams x ≡ Some e
+pub there_event : (streams : List Stream) (x : Item) (e : Event) → IsAt streams x e
+    → event_of streams x ≡ Some e
 there_event streams (item.Reported p i) e at = at
 there_event streams (item.Hidden p i) e at = at.0
 
 module _ (streams : List Stream) where
   at_there : (p : Pid) (i : ℕ) (e : Event) → event_at streams p i ≡ Some e
       → AllByRecursion (IsThere streams) (items_at streams p i e)
-  at_there p i e at = elim (is_hidden streams e) as (λ b. is_hidden streams e ≡ b → AllByRecursion (IsThere streams)
+  at_there p i e at = elim (is_hidden streams e) as
+      (λ b. is_hidden streams e ≡ b → AllByRecursion (IsThere streams)
       (cond b (item.Hidden p i ∷ item.Reported p i ∷ []) (item.Reported p i ∷ []))) [
         | true ↦ λ is. ((e, (at, is)), ((e, at), tt))
         | false ↦ λ is. ((e, at), tt)
@@ -149,10 +158,13 @@ cmp_less m n h = elim (cases_order m n) [
 ]
 
 place_below : (k l : Key) → k.pid ≡ l.pid
-    → is_lt (ordering_then (pid_cmp k.pid l.pid) (nat_cmp k.place l.place)) ≡ true → k.place < l.place
+    → is_lt (ordering_then (pid_cmp k.pid l.pid) (nat_cmp k.place l.place)) ≡ true
+    → k.place < l.place
 place_below k l pid h =
-    let equal : pid_cmp k.pid l.pid ≡ Equal = ap (λ p. pid_cmp k.pid p) (sym pid) ∙ pid_cmp-same k.pid in
-    cmp_less k.place l.place (ap (λ o. is_lt (ordering_then o (nat_cmp k.place l.place))) (sym equal) ∙ h)
+    let equal : pid_cmp k.pid l.pid ≡ Equal =
+    ap (λ p. pid_cmp k.pid p) (sym pid) ∙ pid_cmp-same k.pid in
+    cmp_less k.place l.place (ap (λ o. is_lt (ordering_then o (nat_cmp k.place l.place)))
+    (sym equal) ∙ h)
 
 -- two numbers compared, or on where they are equal
 step_below : (m n : ℕ) (rest : Ordering) → is_lt (ordering_then (nat_cmp m n) rest) ≡ true
@@ -160,7 +172,8 @@ step_below : (m n : ℕ) (rest : Ordering) → is_lt (ordering_then (nat_cmp m n
 step_below m n rest h = elim (cases_order m n) [
   | inl same ↦ inr (same, ap (λ o. is_lt (ordering_then o rest)) (sym (nat_cmp-same m n same)) ∙ h)
   | inr (inl less) ↦ inl less
-  | inr (inr more) ↦ absurd (false≢true (ap (λ o. is_lt (ordering_then o rest)) (sym (cmp_greater m n more)) ∙ h))
+  | inr (inr more) ↦ absurd (false≢true (ap (λ o. is_lt (ordering_then o rest))
+      (sym (cmp_greater m n more)) ∙ h))
 ]
 
 pub key_below : (k l : Key) → is_lt (key_cmp k l) ≡ true → IsKeyBelow k l
@@ -173,7 +186,11 @@ key_below k l h = elim (step_below k.height l.height _ h) [
   | inr at_height ↦ elim (step_below k.rank l.rank _ at_height.1) [
     | inl less ↦
         let height = at_height.0 in
-        record { height = omega arith; rank = λ same. omega arith; place = λ same rank. absurd (omega arith) }
+        record {
+          height = omega arith;
+          rank = λ same. omega arith;
+          place = λ same rank. absurd (omega arith);
+        }
     | inr at_rank ↦
         let height = at_height.0 in
         let rank = at_rank.0 in
@@ -190,14 +207,19 @@ pub all_before : (streams : List Stream) (xs : List Item) (n : ℕ) (x : Item) �
     → slice_get xs n ≡ Some x → AllByRecursion (λ y. comes_before streams y x ≡ true) (take n xs)
 all_before streams [] n x rise at = absurd (none-some x at)
 all_before streams (y ∷ xs) zero x rise at = tt
-all_before streams (y ∷ xs) (suc n) x rise at =
-    (all_at (λ z. comes_before streams y z ≡ true) xs n x rise.0 at, all_before streams xs n x rise.1 at)
+all_before streams (y ∷ xs) (suc n) x rise at = (
+  all_at (λ z. comes_before streams y z ≡ true) xs n x rise.0 at,
+  all_before streams xs n x
+      rise.1 at,
+)
 
 -- HEIGHTS
 
 -- an item of a hidden send's process with a lower key has a lower count
-pub hidden_above : (streams : List Stream) (y : Item) (d : Event) (p : Pid) (i : ℕ) (e : Event) → IsAt streams y d
-    → IsKeyBelow (key_by streams y d) (key_by streams (item.Hidden p i) e) → (move_by y d).who ≡ e.from
+pub hidden_above : (streams : List Stream) (y : Item) (d : Event) (p : Pid) (i : ℕ) (e : Event)
+    → IsAt streams y d
+    → IsKeyBelow (key_by streams y d) (key_by streams (item.Hidden p i) e)
+    → (move_by y d).who ≡ e.from
     → d.serial.this < e.serial.this
 hidden_above streams (item.Reported q j) d p i e at below who =
     let low = tallest_has (events_of streams q) (j + 1) j d at (omega arith) in
@@ -227,7 +249,8 @@ event_is (item.Hidden p i) e = refl
 abbrev pub AreBelow : Pid → ℕ → List Move → Type 0
 AreBelow q this = AllByRecursion (λ (m : Move). m.who ≡ q → m.event.serial.this < this)
 
-moves_below : (streams : List Stream) (p : Pid) (i : ℕ) (e : Event) → IsAt streams (item.Hidden p i) e
+moves_below : (streams : List Stream) (p : Pid) (i : ℕ) (e : Event)
+    → IsAt streams (item.Hidden p i) e
     → (ys : List Item) → AllByRecursion (IsThere streams) ys
     → AllByRecursion (λ y. comes_before streams y (item.Hidden p i) ≡ true) ys
     → AreBelow e.from e.serial.this (moves streams ys)
@@ -237,10 +260,13 @@ moves_below streams p i e at (y ∷ ys) there before =
     let d = there.0.0 in
     let at_y = there.0.1 in
     let y_event = there_event streams y d at_y in
-    let y_key : key streams y ≡ Some (key_by streams y d) = ap (option_map (key_by streams y)) y_event in
-    let x_key : key streams x ≡ Some (key_by streams x e) = ap (option_map (key_by streams x)) at.0 in
+    let y_key : key streams y ≡ Some (key_by streams y d) =
+    ap (option_map (key_by streams y)) y_event in
+    let x_key : key streams x ≡ Some (key_by streams x e) =
+    ap (option_map (key_by streams x)) at.0 in
     let lower = key_below (key_by streams y d) (key_by streams x e)
-    (sym (comes_before_is streams y x (key_by streams y d) (key_by streams x e) y_key x_key) ∙ before.0) in
+    (sym (comes_before_is streams y x (key_by streams y d) (key_by streams x e) y_key x_key)
+    ∙ before.0) in
     subst (AreBelow e.from e.serial.this) (sym (one_move streams y d ys y_event)) (
       λ who. subst (λ (f : Event). f.serial.this < e.serial.this) (sym (event_is y d))
           (hidden_above streams y d p i e at_y lower who),
@@ -258,7 +284,8 @@ clock_below q this (y ∷ earlier) some all =
       | false ↦ λ other. rest
     ] refl
 
-all_taken : {A : Type 0} (P : A → Type 0) (n : ℕ) (xs : List A) → AllByRecursion P xs → AllByRecursion P (take n xs)
+all_taken : {A : Type 0} (P : A → Type 0) (n : ℕ) (xs : List A) → AllByRecursion P xs
+    → AllByRecursion P (take n xs)
 all_taken P zero xs all = tt
 all_taken P (suc n) [] all = tt
 all_taken P (suc n) (x ∷ xs) all = (all.0, all_taken P n xs all.1)
@@ -272,8 +299,10 @@ hidden_clock streams xs n p i e rising order at is some =
     let all = order_there streams rising xs order in
     let found = all_at (IsThere streams) xs n (item.Hidden p i) all at in
     let same : found.0 ≡ e = same_Some found.0 e (sym found.1.0 ∙ is) in
-    let at_e : IsAt streams (item.Hidden p i) e = subst (IsAt streams (item.Hidden p i)) same found.1 in
+    let at_e : IsAt streams (item.Hidden p i) e =
+    subst (IsAt streams (item.Hidden p i)) same found.1 in
     clock_below e.from e.serial.this (earlier_of streams (take n xs)) some
-    (all_reverse (λ (m : Move). m.who ≡ e.from → m.event.serial.this < e.serial.this) (moves streams (take n xs))
+    (all_reverse (λ (m : Move). m.who ≡ e.from → m.event.serial.this < e.serial.this)
+    (moves streams (take n xs))
     (moves_below streams p i e at_e (take n xs) (all_taken (IsThere streams) n xs all)
     (all_before streams xs n (item.Hidden p i) order.rises at)))

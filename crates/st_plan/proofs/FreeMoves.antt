@@ -1,7 +1,7 @@
--- No reason holds of a move of the order of settled streams: each move splits the order, and of no split a reason
--- holds.
-use Rattle.std.proofs.Common.{◌≡◌, ℕ, ◌==◌, Bool, true, false, not, List, [], ◌∷◌, ◌++◌, reverse, refl, sym, ◌∙◌, ap}
-use Rattle.std.proofs.Common.{subst, append_assoc}
+-- No reason holds of a move of the order of settled streams: each move splits the order, and of no
+-- split a reason holds.
+use Rattle.std.proofs.Common.{◌≡◌, ℕ, ◌==◌, Bool, true, false, not, List, [], ◌∷◌, ◌++◌, reverse}
+use Rattle.std.proofs.Common.{refl, sym, ◌∙◌, ap, subst, append_assoc}
 use Rattle.std.proofs.lemmas.Bool.{eqb-true, not-false}
 use Rattle.std.proofs.lemmas.List.{reverse-append}
 use Rattle.st_core.specs.Run.{Stream}
@@ -26,22 +26,27 @@ reverse_more m earlier later = ap (λ ms. ms ++ later) (reverse-append (m ∷ []
     ∙ append_assoc (reverse earlier) (m ∷ []) later
 
 -- what holds along all holds along the rest, after those that came
-pub along_from : (P : List Move → Move → Type 0) (earlier ms : List Move) → AllAlong P [] (reverse earlier ++ ms)
+pub along_from : (P : List Move → Move → Type 0) (earlier ms : List Move)
+    → AllAlong P [] (reverse earlier ++ ms)
     → AllAlong P earlier ms
 along_from P [] ms all = all
 along_from P (m ∷ earlier) ms all =
     (along_from P earlier (m ∷ ms) (subst (AllAlong P []) (reverse_more m earlier ms) all)).1
 
 -- at a place of the moves
-pub along_at : (P : List Move → Move → Type 0) (ms earlier later : List Move) (m : Move) → AllAlong P [] ms
+pub along_at : (P : List Move → Move → Type 0) (ms earlier later : List Move) (m : Move)
+    → AllAlong P [] ms
     → ms ≡ reverse earlier ++ m ∷ later → P earlier m
-along_at P ms earlier later m all split = (along_from P earlier (m ∷ later) (subst (AllAlong P []) split all)).0
+along_at P ms earlier later m all split =
+    (along_from P earlier (m ∷ later) (subst (AllAlong P []) split all)).0
 
 -- WHERE A TEST HOLDS NOWHERE
 
-module _ (streams : List Stream) (xs : List Item) (order : IsOrder streams xs) (test : List Move → Move → Bool)
+module _ (streams : List Stream) (xs : List Item) (order : IsOrder streams xs)
+    (test : List Move → Move → Bool)
     (nowhere : HoldsNowhere test streams) where
-  pub holds_not : (earlier later : List Move) (m : Move) → moves streams xs ≡ reverse earlier ++ m ∷ later
+  pub holds_not : (earlier later : List Move) (m : Move)
+      → moves streams xs ≡ reverse earlier ++ m ∷ later
       → test earlier m ≡ false
   holds_not earlier later m split = elim (test earlier m) as (λ b. test earlier m ≡ b → b ≡ false) [
     | false ↦ λ no. refl
@@ -77,10 +82,12 @@ late_by earlier (item.Reported p i) = not (event_count p earlier == i)
 late_by earlier (item.Hidden p i) = false
 
 turn_by : (earlier : List Move) (x : Item) → late_by earlier x ≡ false → IsInTurn earlier x
-turn_by earlier (item.Reported p i) h = eqb-true (event_count p earlier) i (not-false (event_count p earlier == i) h)
+turn_by earlier (item.Reported p i) h =
+    eqb-true (event_count p earlier) i (not-false (event_count p earlier == i) h)
 turn_by earlier (item.Hidden p i) h = tt
 
-pub turn_of : (earlier : List Move) (m : Move) → out_of_turn earlier m ≡ false → IsInTurn earlier m.item
+pub turn_of : (earlier : List Move) (m : Move) → out_of_turn earlier m ≡ false
+    → IsInTurn earlier m.item
 turn_of earlier m h = turn_by earlier m.item h
 
 -- SETTLED STREAMS
@@ -98,7 +105,8 @@ free_from earlier (m ∷ ms) caused turn = (
   free_from (m ∷ earlier) ms caused.1 turn.1,
 )
 
-pub settled_free : (top : ℕ) (streams : List Stream) → IsSettled top streams → (xs : List Item) → IsOrder streams xs
+pub settled_free : (top : ℕ) (streams : List Stream) → IsSettled top streams → (xs : List Item)
+    → IsOrder streams xs
     → AllAlong IsFree [] (moves streams xs)
 settled_free top streams settled xs order = free_from [] (moves streams xs)
     (false_along streams xs order uncaused settled.caused [] (moves streams xs) refl)

@@ -1,8 +1,8 @@
--- What a full run says of its streams: pairing accepts them, each stamp goes on from the events before it, no send is
--- hidden, and each count is one that a clock has had.
-use Rattle.std.proofs.Common.{◌≡◌, ℕ, ◌+◌, ◌≤◌, ◌==◌, ◌&&◌, Bool, true, false, cond, if◌then◌else◌, List, []}
-use Rattle.std.proofs.Common.{◌∷◌, take, Option, Some, None, slice_get, option_and_then, refl, sym, ◌∙◌, ap, subst}
-use Rattle.std.proofs.Common.{arith}
+-- What a full run says of its streams: pairing accepts them, each stamp goes on from the events
+-- before it, no send is hidden, and each count is one that a clock has had.
+use Rattle.std.proofs.Common.{◌≡◌, ℕ, ◌+◌, ◌≤◌, ◌==◌, ◌&&◌, Bool, true, false, cond, if◌then◌else◌}
+use Rattle.std.proofs.Common.{List, [], ◌∷◌, take, Option, Some, None, slice_get, option_and_then}
+use Rattle.std.proofs.Common.{refl, sym, ◌∙◌, ap, subst, arith}
 use Rattle.std.specs.List.{All}
 use Rattle.std.proofs.lemmas.Bool.{eqb-true, false≢true, and_parts}
 use Rattle.std.proofs.lemmas.List.Elements.{All-head, All-tail}
@@ -15,19 +15,22 @@ use Rattle.st_core.specs.State.{State, process, zero_state}
 use Rattle.st_core.specs.Step.{Outcome}
 use Rattle.st_core.specs.Run.{Stream, Shows, pids_of, stream}
 use Rattle.st_core.specs.Streams.{events_of, stream_of}
-use Rattle.st_core.specs.Laws.{clock_in, GoesOnFrom, IsSound, KeepsSound, NoReset, ReportsEverything}
-use Rattle.st_core.proofs.ForCallers.{All_at, event_reported, pid_eq-true, process_holds, reported_stamps_lift}
-use Rattle.st_core.proofs.ForCallers.{run_sound, tell_counts}
+use Rattle.st_core.specs.Laws.{clock_in, GoesOnFrom, IsSound, KeepsSound, NoReset}
+use Rattle.st_core.specs.Laws.{ReportsEverything}
+use Rattle.st_core.proofs.ForCallers.{All_at, event_reported, pid_eq-true, process_holds}
+use Rattle.st_core.proofs.ForCallers.{reported_stamps_lift, run_sound, tell_counts}
 use Rattle.st_pair.specs.declared.answer.Source.{Source}
 use Rattle.st_pair.specs.declared.answer.Source.TheVariants as source
 use Rattle.st_pair.specs.Places.{event_at, is_stamp}
 use Rattle.st_pair.specs.Pairing.{source_of, stamp_of}
-use Rattle.st_pair.proofs.ForCallers.{events_in, given_from, own_rule, send_shown, shown_accepted, stamp_not_received}
+use Rattle.st_pair.proofs.ForCallers.{events_in, given_from, own_rule, send_shown, shown_accepted}
+use Rattle.st_pair.proofs.ForCallers.{stamp_not_received}
 use Rattle.st_order.specs.Items.{is_hidden}
 use Rattle.st_plan.specs.Full.{IsFull}
 
 -- a process that has an event is listed, and its events are its reports
-events_shown : (streams : List Stream) (acts : List Act) (os : List Outcome) (p : Pid) (i : ℕ) (e : Event)
+events_shown : (streams : List Stream) (acts : List Act) (os : List Outcome) (p : Pid) (i : ℕ)
+    (e : Event)
     → All (λ (x : Stream). stream acts os x.pid ≡ x.events) streams → event_at streams p i ≡ Some e
     → stream acts os p ≡ events_of streams p
 events_shown [] acts os p i e shown at = absurd (none-some e at)
@@ -36,7 +39,8 @@ events_shown (x ∷ streams) acts os p i e shown at =
     elim (pid_eq x.pid p) as (λ b. pid_eq x.pid p ≡ b
     → slice_get (events_in (cond b (Some x) (stream_of streams p))) i ≡ Some e
     → stream acts os p ≡ events_in (cond b (Some x) (stream_of streams p))) [
-      | true ↦ λ same at. ap (stream acts os) (sym (pid_eq-true x.pid p same)) ∙ All-head whole x streams shown
+      | true ↦ λ same at. ap (stream acts os) (sym (pid_eq-true x.pid p same))
+          ∙ All-head whole x streams shown
       | false ↦ λ other at. events_shown streams acts os p i e (All-tail whole x streams shown) at
     ] refl at
 
@@ -61,7 +65,8 @@ own_send : (b : Bool) (g f : ℕ × Event) → cond b (Some g) None ≡ Some f �
 own_send true g f h = refl
 own_send false g f h = absurd (none-some f h)
 
-module _ (top : ℕ) (streams : List Stream) (acts : List Act) (shows : Shows top streams acts) (none : NoReset acts)
+module _ (top : ℕ) (streams : List Stream) (acts : List Act) (shows : Shows top streams acts)
+    (none : NoReset acts)
     (all : ReportsEverything (zero_state (pids_of streams)) acts shows.0) where
   abbrev outcomes : List Outcome
   outcomes = shows.0
@@ -74,7 +79,8 @@ module _ (top : ℕ) (streams : List Stream) (acts : List Act) (shows : Shows to
       (tell_counts top (pids_of streams) acts outcomes shows.1 none all p i e
       (ap (λ es. slice_get es i) same ∙ at) (stamp_not_received e stamp))
 
-  send_reported : (p : Pid) (i : ℕ) (e : Event) → event_at streams p i ≡ Some e → is_hidden streams e ≡ false
+  send_reported : (p : Pid) (i : ℕ) (e : Event) → event_at streams p i ≡ Some e
+      → is_hidden streams e ≡ false
   send_reported p i e at = elim (is_stamp e) as (λ b. is_stamp e ≡ b
       → cond b false (hidden_by (source_of streams e)) ≡ false) [
         | true ↦ λ _. refl
@@ -89,16 +95,19 @@ module _ (top : ℕ) (streams : List Stream) (acts : List Act) (shows : Shows to
   stamp_within : (p : Pid) (i : ℕ) (e : Event) → event_at streams p i ≡ Some e → is_stamp e ≡ true
       → e.serial.this ≤ top
   stamp_within p i e at stamp =
-      let there = ap (λ es. slice_get es i) (events_shown streams acts outcomes p i e shows.2 at) ∙ at in
+      let there = ap (λ es. slice_get es i) (events_shown streams acts outcomes p i e shows.2 at)
+      ∙ at in
       let told = event_reported acts outcomes p i e there in
-      let lifts = reported_stamps_lift top (pids_of streams) acts outcomes shows.1 none p told.0 e told.1.reports
+      let lifts = reported_stamps_lift top (pids_of streams) acts outcomes shows.1 none p told.0 e
+      told.1.reports
       (stamp_not_received e stamp) in
       let sound = All_at (KeepsSound top) outcomes told.0 lifts.outcome lifts.at
       (run_sound top (pids_of streams) acts outcomes shows.1) in
       subst (λ n. n ≤ top) lifts.reaches (clock_within top lifts.outcome.after p sound.processes)
 
   -- a receive's count is its send's
-  receive_within : (p : Pid) (i : ℕ) (e : Event) → event_at streams p i ≡ Some e → is_stamp e ≡ false
+  receive_within : (p : Pid) (i : ℕ) (e : Event) → event_at streams p i ≡ Some e
+      → is_stamp e ≡ false
       → e.serial.this ≤ top
   receive_within p i e at receive =
       let this = e.serial.this in

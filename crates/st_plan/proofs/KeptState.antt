@@ -1,8 +1,10 @@
--- What the moves say of the machine, tokens aside: after the acts of the moves so far each process has the clock and
--- the last count that they leave it, and in its queue the messages that they sent to it and didn't take.
-use Rattle.std.proofs.Common.{◌≡◌, ℕ, ◌<◌, ◌≤◌, ◌&&◌, ◌⊎◌, max, nat_lt, Bool, true, false, not, ◌==◌, cond, List, []}
-use Rattle.std.proofs.Common.{◌∷◌, ◌++◌, Option, Some, None, is_some, option_map, option_to_list, inl, inr, refl, sym}
-use Rattle.std.proofs.Common.{◌∙◌, ap, subst, arith, if◌then◌else◌}
+-- What the moves say of the machine, tokens aside: after the acts of the moves so far each process
+-- has the clock and the last count that they leave it, and in its queue the messages that they sent
+-- to it and didn't take.
+use Rattle.std.proofs.Common.{◌≡◌, ℕ, ◌<◌, ◌≤◌, ◌&&◌, ◌⊎◌, max, nat_lt, Bool, true, false, not}
+use Rattle.std.proofs.Common.{◌==◌, cond, List, [], ◌∷◌, ◌++◌, Option, Some, None, is_some}
+use Rattle.std.proofs.Common.{option_map, option_to_list, inl, inr, refl, sym, ◌∙◌, ap, subst}
+use Rattle.std.proofs.Common.{arith, if◌then◌else◌}
 use Rattle.std.specs.List.{remove, position}
 use Rattle.std.specs.Option.{option_map_or}
 use Rattle.std.proofs.lemmas.Bool.{eqb-true, ltb-false, false≢true}
@@ -19,7 +21,8 @@ use Rattle.st_core.specs.Report.{report}
 use Rattle.st_core.specs.Step.{actor, changed, outcome_of, reached, Acted, Outcome}
 use Rattle.st_core.specs.Run.{Stream, run_from, stream}
 use Rattle.st_core.specs.Streams.{lists}
-use Rattle.st_core.proofs.ForCallers.{mapped, pid_same, pid_eq-refl, process_pid, run_parts, pid_eq-swap}
+use Rattle.st_core.proofs.ForCallers.{mapped, pid_same, pid_eq-refl, process_pid, run_parts}
+use Rattle.st_core.proofs.ForCallers.{pid_eq-swap}
 use Rattle.st_mail.specs.Mail.{bears_stamp}
 use Rattle.st_order.specs.declared.item.Item.{Item}
 use Rattle.st_order.specs.declared.item.Item.TheVariants as item
@@ -73,13 +76,15 @@ queue_of streams marks q (m ∷ earlier) =
     else (if sends_to q m then old ++ message_of streams marks m ∷ [] else old)
 
 -- p's record is what the moves say
-pub record IsSo (streams : List Stream) (marks : Marks) (earlier : List Move) (p : Pid) (r : Process) : Type 0 where
+pub record IsSo (streams : List Stream) (marks : Marks) (earlier : List Move) (p : Pid)
+    (r : Process) : Type 0 where
   pub clocked : r.local.clock ≡ clock p earlier
   pub lasted : r.local.last ≡ last p earlier
   pub traced : r.local.traced ≡ true
   pub queued : r.queue ≡ queue_of streams marks p earlier
 
-pub record IsKept (streams : List Stream) (marks : Marks) (earlier : List Move) (s : State) : Type 0 where
+pub record IsKept (streams : List Stream) (marks : Marks) (earlier : List Move)
+    (s : State) : Type 0 where
   pub there : (p : Pid) → lists streams p ≡ true → is_some (process s p) ≡ true
   pub each : (p : Pid) (r : Process) → process s p ≡ Some r → IsSo streams marks earlier p r
 
@@ -94,7 +99,8 @@ told_event marks m = if is_told marks m then Some m.event else None
 -- the acts of a move run from s, report what its process tells of it, and keep the invariant
 abbrev pub Continues : ℕ → List Stream → Marks → List Move → State → Move → Type 0
 Continues top streams marks earlier s m =
-    (g : GoesOn top streams marks s m) × IsKept streams marks (m ∷ earlier) (state_after s g.outcomes)
+    (g : GoesOn top streams marks s m) × IsKept streams marks (m ∷ earlier)
+    (state_after s g.outcomes)
 
 -- SMALL FACTS
 
@@ -107,10 +113,13 @@ there_mapped f None = refl
 there_mapped f (Some x) = refl
 
 -- a process that is there stays there through acts of p's own
-pub still_there : (top : ℕ) (s : State) (p : Pid) (r before : Process) (acts : List Act) (l : Lifted top s p r acts)
-    → process s p ≡ Some before → (x : Pid) → is_some (process (state_after s l.os) x) ≡ is_some (process s x)
+pub still_there : (top : ℕ) (s : State) (p : Pid) (r before : Process) (acts : List Act)
+    (l : Lifted top s p r acts)
+    → process s p ≡ Some before → (x : Pid) → is_some (process (state_after s l.os) x)
+    ≡ is_some (process s x)
 still_there top s p r before acts l is x =
-    elim (pid_eq x p) as (λ b. pid_eq x p ≡ b → is_some (process (state_after s l.os) x) ≡ is_some (process s x)) [
+    elim (pid_eq x p) as (λ b. pid_eq x p ≡ b → is_some (process (state_after s l.os) x)
+    ≡ is_some (process s x)) [
       | true ↦ λ e.
           let who = pid_same x p e in
           ap (λ y. is_some (process (state_after s l.os) y)) who
@@ -126,7 +135,8 @@ pub caused : (earlier : List Move) (m : Move) → is_taking m ≡ false → unca
 caused earlier m stamps h =
     let late = nat_lt m.event.serial.prev (clock m.who earlier) in
     let same = m.event.serial.prev == last m.who earlier in
-    let rest : (not same && late) ≡ false = ap (λ b. not b && (not same && late)) (sym stamps) ∙ h in
+    let rest : (not same && late) ≡ false =
+    ap (λ b. not b && (not same && late)) (sym stamps) ∙ h in
     elim same as (λ b. same ≡ b → (not b && late) ≡ false
     → (m.event.serial.prev ≡ last m.who earlier) ⊎ (clock m.who earlier ≤ m.event.serial.prev)) [
       | true ↦ λ e h. inl (eqb-true m.event.serial.prev (last m.who earlier) e)
@@ -138,11 +148,14 @@ caused earlier m stamps h =
 pub own_clock : (m : Move) (earlier : List Move) → clock m.who earlier < m.event.serial.this
     → clock m.who (m ∷ earlier) ≡ m.event.serial.this
 own_clock m earlier below =
-    let greater : max (clock m.who earlier) m.event.serial.this ≡ m.event.serial.this = omega arith in
-    ap (λ b. cond b (max (clock m.who earlier) m.event.serial.this) (clock m.who earlier)) (pid_eq-refl m.who)
+    let greater : max (clock m.who earlier) m.event.serial.this ≡ m.event.serial.this =
+    omega arith in
+    ap (λ b. cond b (max (clock m.who earlier) m.event.serial.this) (clock m.who earlier))
+    (pid_eq-refl m.who)
     ∙ greater
 
-pub own_last : (m : Move) (earlier : List Move) → is_taking m ≡ false → last m.who (m ∷ earlier) ≡ m.event.serial.prev
+pub own_last : (m : Move) (earlier : List Move) → is_taking m ≡ false
+    → last m.who (m ∷ earlier) ≡ m.event.serial.prev
 own_last m earlier stamps =
     let this = m.event.serial.this in
     let prev = m.event.serial.prev in
@@ -154,16 +167,19 @@ apart_from x p h = pid_eq-swap p x ∙ h
 
 pub other_clock : (m : Move) (earlier : List Move) (x : Pid) → pid_eq x m.who ≡ false
     → clock x (m ∷ earlier) ≡ clock x earlier
-other_clock m earlier x h = ap (λ b. cond b (max (clock x earlier) m.event.serial.this) (clock x earlier))
+other_clock m earlier x h =
+    ap (λ b. cond b (max (clock x earlier) m.event.serial.this) (clock x earlier))
     (apart_from x m.who h)
 
 pub other_last : (m : Move) (earlier : List Move) (x : Pid) → pid_eq x m.who ≡ false
     → last x (m ∷ earlier) ≡ last x earlier
-other_last m earlier x h = ap (λ b. cond b (cond (is_taking m) m.event.serial.this m.event.serial.prev)
+other_last m earlier x h =
+    ap (λ b. cond b (cond (is_taking m) m.event.serial.this m.event.serial.prev)
     (last x earlier)) (apart_from x m.who h)
 
 -- the queue of x after a move that stamps
-pub stamp_queue : (streams : List Stream) (marks : Marks) (m : Move) (earlier : List Move) (x : Pid) (b : Bool)
+pub stamp_queue : (streams : List Stream) (marks : Marks) (m : Move) (earlier : List Move) (x : Pid)
+    (b : Bool)
     → is_taking m ≡ false → sends_to x m ≡ b
     → queue_of streams marks x (m ∷ earlier)
     ≡ cond b (queue_of streams marks x earlier ++ message_of streams marks m ∷ [])
@@ -175,7 +191,8 @@ stamp_queue streams marks m earlier x b stamps sends =
     ∙ ap (λ t. cond t (old ++ message_of streams marks m ∷ []) old) sends
 
 -- and after one that takes
-pub taken_queue : (streams : List Stream) (marks : Marks) (m : Move) (earlier : List Move) (x : Pid) (b : Bool)
+pub taken_queue : (streams : List Stream) (marks : Marks) (m : Move) (earlier : List Move) (x : Pid)
+    (b : Bool)
     → is_taking m ≡ true → pid_eq m.who x ≡ b
     → queue_of streams marks x (m ∷ earlier)
     ≡ cond b (without m.event.from m.event.serial.this (queue_of streams marks x earlier))
@@ -189,10 +206,14 @@ taken_queue streams marks m earlier x b takes who =
 
 -- A STEP
 
--- a step keeps the invariant, if its actor's record and each other one are afterwards what the moves say
-pub step_keeps : (streams : List Stream) (marks : Marks) (earlier : List Move) (m : Move) (s : State) (a : Act)
-    (done : Acted) (r : Process) → ((x : Pid) → lists streams x ≡ true → is_some (process s x) ≡ true)
-    → process s m.who ≡ Some r → actor a ≡ m.who → IsSo streams marks (m ∷ earlier) m.who (changed a done r)
+-- a step keeps the invariant, if its actor's record and each other one are afterwards what the
+-- moves say
+pub step_keeps : (streams : List Stream) (marks : Marks) (earlier : List Move) (m : Move)
+    (s : State) (a : Act)
+    (done : Acted) (r : Process) → ((x : Pid) → lists streams x ≡ true
+    → is_some (process s x) ≡ true)
+    → process s m.who ≡ Some r → actor a ≡ m.who → IsSo streams marks (m ∷ earlier) m.who
+    (changed a done r)
     → ((x : Pid) (z : Process) → pid_eq x m.who ≡ false → process s x ≡ Some z
     → IsSo streams marks (m ∷ earlier) x (reached a done.local.token z))
     → IsKept streams marks (m ∷ earlier) (outcome_of s a done).after
@@ -204,7 +225,8 @@ step_keeps streams marks earlier m s a done r there is by own others = record {
       let parts = mapped (changed a done) (process s x) after (sym (process_then s a done x) ∙ h) in
       let z = parts.0 in
       subst (IsSo streams marks (m ∷ earlier) x) parts.2
-      (elim (pid_eq x m.who) as (λ b. pid_eq x m.who ≡ b → IsSo streams marks (m ∷ earlier) x (changed a done z)) [
+      (elim (pid_eq x m.who) as (λ b. pid_eq x m.who ≡ b
+      → IsSo streams marks (m ∷ earlier) x (changed a done z)) [
         | true ↦ λ e.
             let same = pid_same x m.who e in
             let is_r : r ≡ z = same_Some r z (sym is ∙ ap (process s) (sym same) ∙ parts.1) in
@@ -213,7 +235,8 @@ step_keeps streams marks earlier m s a done r there is by own others = record {
         | false ↦ λ e.
             let pid : z.pid ≡ x = process_pid s x z parts.1 in
             let mine : Process = record z { local = done.local; queue = done.queue } in
-            let apart : pid_eq z.pid (actor a) ≡ false = ap (λ p. pid_eq p (actor a)) pid ∙ ap (pid_eq x) by ∙ e in
+            let apart : pid_eq z.pid (actor a) ≡ false =
+            ap (λ p. pid_eq p (actor a)) pid ∙ ap (pid_eq x) by ∙ e in
             let not_own : changed a done z ≡ reached a done.local.token z =
             ap (λ b. reached a done.local.token (cond b mine z)) apart in
             subst (IsSo streams marks (m ∷ earlier) x) (sym not_own) (others x z e parts.1)
@@ -222,10 +245,13 @@ step_keeps streams marks earlier m s a done r there is by own others = record {
 
 -- ONE ACT MORE
 
-pub stream_last : (acts : List Act) (a : Act) (os : List Outcome) (o : Outcome) (p : Pid) (top : ℕ) (s : State)
+pub stream_last : (acts : List Act) (a : Act) (os : List Outcome) (o : Outcome) (p : Pid) (top : ℕ)
+    (s : State)
     → run_from top s acts ≡ Some os → Silent os
-    → stream (acts ++ a ∷ []) (os ++ o ∷ []) p ≡ (if pid_eq (actor a) p then option_to_list o.report else []) ++ []
-stream_last [] a os o p top s runs silent = ap (λ xs. stream (a ∷ []) (xs ++ o ∷ []) p) (sym (same_Some [] os runs))
+    → stream (acts ++ a ∷ []) (os ++ o ∷ []) p ≡ (if pid_eq
+    (actor a) p then option_to_list o.report else []) ++ []
+stream_last [] a os o p top s runs silent =
+    ap (λ xs. stream (a ∷ []) (xs ++ o ∷ []) p) (sym (same_Some [] os runs))
 stream_last (b ∷ acts) a os o p top s runs silent =
     let t = run_parts top s b acts os runs in
     let quiet : Silent (t.first ∷ t.others) = subst Silent t.is_whole silent in
@@ -249,10 +275,11 @@ told_item marks (item.Reported q i) e p =
     let some : Option Event = Some e in
     elim (pid_eq q p) as (λ b. (cond b (option_to_list (cond (marks q i) some None)) []) ++ []
     ≡ cond b (cond (marks q i) (e ∷ []) []) []) [
-      | true ↦ elim (marks q i) as (λ c. option_to_list (cond c some None) ++ [] ≡ cond c (e ∷ []) []) [
-        | true ↦ refl
-        | false ↦ refl
-      ]
+      | true ↦ elim (marks q i) as (λ c. option_to_list (cond c some None) ++ []
+          ≡ cond c (e ∷ []) []) [
+            | true ↦ refl
+            | false ↦ refl
+          ]
       | false ↦ refl
     ]
 told_item marks (item.Hidden q i) e p =
@@ -262,7 +289,8 @@ told_item marks (item.Hidden q i) e p =
       | false ↦ refl
     ]
 
-pub told_last : (marks : Marks) (m : Move) (report : Option Event) (p : Pid) → move_by m.item m.event ≡ m
+pub told_last : (marks : Marks) (m : Move) (report : Option Event) (p : Pid)
+    → move_by m.item m.event ≡ m
     → report ≡ told_event marks m → shown_to p m report ≡ told_of_move marks p m
 told_last marks m report p is h = ap (shown_to p m) h
     ∙ subst (λ y. shown_to p y (told_event marks y) ≡ told_of_move marks p y) is

@@ -1,7 +1,7 @@
--- Each move of an order goes on, by the kind of its item: the acts of a stamp find its clock below its count, and those
--- of a receive its message.
-use Rattle.std.proofs.Common.{◌≡◌, ℕ, ◌<◌, ◌≤◌, true, false, not, cond, List, [], ◌∷◌, Option, Some, None}
-use Rattle.std.proofs.Common.{option_map, refl, sym, ◌∙◌, ap, subst}
+-- Each move of an order goes on, by the kind of its item: the acts of a stamp find its clock below
+-- its count, and those of a receive its message.
+use Rattle.std.proofs.Common.{◌≡◌, ℕ, ◌<◌, ◌≤◌, true, false, not, cond, List, [], ◌∷◌, Option, Some}
+use Rattle.std.proofs.Common.{None, option_map, refl, sym, ◌∙◌, ap, subst}
 use Rattle.std.specs.Option.{option_map_or}
 use Rattle.std.proofs.lemmas.Bool.{false≢true}
 use Rattle.st_core.specs.declared.types.Pid.{Pid}
@@ -34,11 +34,14 @@ use Rattle.st_plan.proofs.ProperEvents.{AreProper, Got, IsProper, Printed, Sent}
 
 -- BY THE KIND OF THE ITEM
 
-module _ (top : ℕ) (streams : List Stream) (marks : Marks) (earlier : List Move) (p : Pid) (i : ℕ) (e : Event)
-    (s : State) (listed : lists streams p ≡ true) (rises : e.serial.prev < e.serial.this) (within : e.serial.this ≤ top)
+module _ (top : ℕ) (streams : List Stream) (marks : Marks) (earlier : List Move) (p : Pid) (i : ℕ)
+    (e : Event)
+    (s : State) (listed : lists streams p ≡ true) (rises : e.serial.prev < e.serial.this)
+    (within : e.serial.this ≤ top)
     (kept : IsKept streams marks earlier s) where
   hidden_serves : e.to ≡ Some p → lists streams e.from ≡ true
-      → uncaused earlier (move_by (item.Hidden p i) e) ≡ false → clock e.from earlier < e.serial.this
+      → uncaused earlier (move_by (item.Hidden p i) e) ≡ false
+      → clock e.from earlier < e.serial.this
       → Continues top streams marks earlier s (move_by (item.Hidden p i) e)
   hidden_serves to from free below =
       let m = move_by (item.Hidden p i) e in
@@ -88,7 +91,8 @@ module _ (top : ℕ) (streams : List Stream) (marks : Marks) (earlier : List Mov
         to = tos k;
         value = e.value;
       } in
-      printing top streams marks earlier s m (reported (rw kd refl) free below) (λ r. rw kd refl) (λ q. rw kd refl)
+      printing top streams marks earlier s m (reported (rw kd refl) free below) (λ r. rw kd refl)
+      (λ q. rw kd refl)
       (ap (λ b. let o : Option Event = cond b (Some (printed_event m)) None in o) seen
       ∙ ap (λ (x : Event). let o : Option Event = cond (marks p i) (Some x) None in o) same)
 
@@ -114,13 +118,16 @@ module _ (top : ℕ) (streams : List Stream) (marks : Marks) (earlier : List Mov
       (ap (λ b. let o : Option Event = cond b (Some (sent_event m q)) None in o) seen
       ∙ ap (λ (x : Event). let o : Option Event = cond (marks p i) (Some x) None in o) same)
 
-  receive_serves : e.kind ≡ kind.Receive → IsWaiting streams marks earlier (move_by (item.Reported p i) e)
+  receive_serves : e.kind ≡ kind.Receive → IsWaiting streams marks earlier
+      (move_by (item.Reported p i) e)
       → Continues top streams marks earlier s (move_by (item.Reported p i) e)
   receive_serves kd waits =
-      taking top streams marks earlier s (move_by (item.Reported p i) e) kept listed (rw kd refl) (λ r. rw kd refl)
+      taking top streams marks earlier s (move_by (item.Reported p i) e) kept listed (rw kd refl)
+      (λ r. rw kd refl)
       refl waits
 
-hidden_got : (streams : List Stream) (e : Event) → is_hidden streams e ≡ true → is_stamp e ≡ true → ⊥
+hidden_got : (streams : List Stream) (e : Event) → is_hidden streams e ≡ true → is_stamp e ≡ true
+    → ⊥
 hidden_got streams e hidden stamps = false≢true (sym (hidden_receives streams e hidden) ∙ stamps)
 
 -- ANY ITEM
@@ -132,36 +139,46 @@ record IsHere (top : ℕ) (streams : List Stream) (p : Pid) (i : ℕ) (e : Event
   rises : e.serial.prev < e.serial.this
   within : e.serial.this ≤ top
 
-reported_by : (top : ℕ) (streams : List Stream) (marks : Marks) (earlier : List Move) (p : Pid) (i : ℕ) (e : Event)
-    → IsHere top streams p i e → IsProper streams p e → IsFree earlier (move_by (item.Reported p i) e)
-    → IsClockBelow earlier (move_by (item.Reported p i) e) → Waits streams marks earlier (move_by (item.Reported p i) e)
+reported_by : (top : ℕ) (streams : List Stream) (marks : Marks) (earlier : List Move) (p : Pid)
+    (i : ℕ) (e : Event)
+    → IsHere top streams p i e → IsProper streams p e
+    → IsFree earlier (move_by (item.Reported p i) e)
+    → IsClockBelow earlier (move_by (item.Reported p i) e)
+    → Waits streams marks earlier (move_by (item.Reported p i) e)
     → Serves top streams marks earlier (move_by (item.Reported p i) e)
-reported_by top streams marks earlier p i e h (Sent to kd from is_to there) free below waits s kept =
-    send_serves top streams marks earlier p i e s h.listed h.rises h.within kept to kd from is_to there free.caused
+reported_by top streams marks earlier p i e h
+    (Sent to kd from is_to there) free below waits s kept =
+    send_serves top streams marks earlier p i e s h.listed h.rises h.within kept to kd from is_to
+    there free.caused
     (below (ap not (stamp_kind e kind.Send kd)))
 reported_by top streams marks earlier p i e h (Got kd is_to from) free below waits s kept =
     receive_serves top streams marks earlier p i e s h.listed h.rises h.within kept kd
     (waits p i e refl (record { at = h.at; kind = kd; to = is_to }))
 reported_by top streams marks earlier p i e h (Printed kd from is_to) free below waits s kept =
-    print_serves top streams marks earlier p i e s h.listed h.rises h.within kept kd from is_to free.caused
+    print_serves top streams marks earlier p i e s h.listed h.rises h.within kept kd from is_to
+    free.caused
     (below (ap not (stamp_kind e kind.Print kd)))
 
-hidden_by : (top : ℕ) (streams : List Stream) (marks : Marks) (earlier : List Move) (p : Pid) (i : ℕ) (e : Event)
+hidden_by : (top : ℕ) (streams : List Stream) (marks : Marks) (earlier : List Move) (p : Pid)
+    (i : ℕ) (e : Event)
     → IsHere top streams p i e → is_hidden streams e ≡ true → IsProper streams p e
     → IsFree earlier (move_by (item.Hidden p i) e) → clock e.from earlier < e.serial.this
     → Serves top streams marks earlier (move_by (item.Hidden p i) e)
 hidden_by top streams marks earlier p i e h hidden (Sent to kd from is_to there) free below s kept =
     absurd (hidden_got streams e hidden (stamp_kind e kind.Send kd))
 hidden_by top streams marks earlier p i e h hidden (Got kd is_to from) free below s kept =
-    hidden_serves top streams marks earlier p i e s h.listed h.rises h.within kept is_to from free.caused below
+    hidden_serves top streams marks earlier p i e s h.listed h.rises h.within kept is_to from
+    free.caused below
 hidden_by top streams marks earlier p i e h hidden (Printed kd from is_to) free below s kept =
     absurd (hidden_got streams e hidden (stamp_kind e kind.Print kd))
 
 -- the counts of all events are ones that a clock can have
 abbrev pub AreWithin : ℕ → List Stream → Type 0
-AreWithin top streams = (p : Pid) (i : ℕ) (e : Event) → event_at streams p i ≡ Some e → e.serial.this ≤ top
+AreWithin top streams =
+    (p : Pid) (i : ℕ) (e : Event) → event_at streams p i ≡ Some e → e.serial.this ≤ top
 
-module _ (top : ℕ) (streams : List Stream) (marks : Marks) (ok : IsPaired streams) (proper : AreProper streams)
+module _ (top : ℕ) (streams : List Stream) (marks : Marks) (ok : IsPaired streams)
+    (proper : AreProper streams)
     (within : AreWithin top streams) where
   here : (p : Pid) (i : ℕ) (e : Event) → event_at streams p i ≡ Some e → IsHere top streams p i e
   here p i e at = record {
@@ -171,17 +188,21 @@ module _ (top : ℕ) (streams : List Stream) (marks : Marks) (ok : IsPaired stre
     within = within p i e at;
   }
 
-  serves_by : (earlier : List Move) (x : Item) (e : Event) → IsAt streams x e → IsFree earlier (move_by x e)
+  serves_by : (earlier : List Move) (x : Item) (e : Event) → IsAt streams x e
+      → IsFree earlier (move_by x e)
       → IsClockBelow earlier (move_by x e) → Waits streams marks earlier (move_by x e)
       → Serves top streams marks earlier (move_by x e)
   serves_by earlier (item.Reported p i) e at free below waits =
-      reported_by top streams marks earlier p i e (here p i e at) (proper.own p i e at) free below waits
+      reported_by top streams marks earlier p i e (here p i e at)
+      (proper.own p i e at) free below waits
   serves_by earlier (item.Hidden p i) e at free below waits =
-      hidden_by top streams marks earlier p i e (here p i e at.0) at.1 (proper.own p i e at.0) free (below refl)
+      hidden_by top streams marks earlier p i e (here p i e at.0) at.1 (proper.own p i e at.0) free
+      (below refl)
 
   -- in an order each move goes on
   pub serves_along : (earlier : List Move) (xs : List Item) → AreThere streams xs
-      → AllAlong IsFree earlier (moves streams xs) → AllAlong IsClockBelow earlier (moves streams xs)
+      → AllAlong IsFree earlier (moves streams xs) → AllAlong IsClockBelow earlier
+      (moves streams xs)
       → AllAlong (Waits streams marks) earlier (moves streams xs)
       → AllAlong (Serves top streams marks) earlier (moves streams xs)
   serves_along earlier [] there free below waits = tt

@@ -1,6 +1,8 @@
--- None of the acts that are built is a reset: a tracer, the acts before a stamp and an item's own act are none.
-use Rattle.std.proofs.Common.{◌≡◌, ℕ, ◌-◌, ◌==◌, zero, suc, nat_lt, Bool, true, false, List, [], ◌∷◌, ◌++◌}
-use Rattle.std.proofs.Common.{Option, Some, None, position, option_map, option_and_then, refl, subst, if◌then◌else◌}
+-- None of the acts that are built is a reset: a tracer, the acts before a stamp and an item's own
+-- act are none.
+use Rattle.std.proofs.Common.{◌≡◌, ℕ, ◌-◌, ◌==◌, zero, suc, nat_lt, Bool, true, false, List, []}
+use Rattle.std.proofs.Common.{◌∷◌, ◌++◌, Option, Some, None, position, option_map, option_and_then}
+use Rattle.std.proofs.Common.{refl, subst, if◌then◌else◌}
 use Rattle.std.specs.Option.{option_map_or}
 use Rattle.std.proofs.lemmas.Option.{same_Some, option_and_then_some}
 use Rattle.st_core.specs.declared.types.Pid.{Pid}
@@ -23,9 +25,9 @@ use Rattle.st_order.specs.declared.item.Item.TheVariants as item
 use Rattle.st_plan.specs.declared.plan.Start.{Start}
 use Rattle.st_plan.specs.Marks.{Marks}
 use Rattle.st_plan.specs.Moves.{Move, is_taking}
-use Rattle.st_plan.specs.Build.{act_of, acts_of, build, construction, dress, flags_of, is_dressed, opening, quiet}
-use Rattle.st_plan.specs.Build.{raise, ready, renew, renewed_start, silent, start_of, state_after}
-use Rattle.st_plan.specs.Build.{tracers_after, unstamped_token}
+use Rattle.st_plan.specs.Build.{act_of, acts_of, build, construction, dress, flags_of, is_dressed}
+use Rattle.st_plan.specs.Build.{opening, quiet, raise, ready, renew, renewed_start, silent}
+use Rattle.st_plan.specs.Build.{start_of, state_after, tracers_after, unstamped_token}
 use Rattle.st_plan.proofs.EarlierMoves.{all_append}
 
 abbrev IsNoReset : Act → Type 0
@@ -51,13 +53,16 @@ silent_none p (suc n) = (refl, silent_none p n)
 renew_none : (p : Pid) (x : Start) (n : Label) (prev : ℕ) → NoReset (renew p x n prev)
 renew_none p x n prev =
     let up = dress p x.token n quiet ++ silent p (prev - x.clock) in
-    append_none (if nat_lt x.clock prev then up else []) (act.Clear p ∷ act.Set p (component.Label n) ∷ [])
+    append_none (if nat_lt x.clock prev then up else [])
+    (act.Clear p ∷ act.Set p (component.Label n) ∷ [])
     (either (nat_lt x.clock prev) up []
-    (append_none (dress p x.token n quiet) (silent p (prev - x.clock)) (dress_none p x.token n quiet)
+    (append_none (dress p x.token n quiet) (silent p (prev - x.clock))
+    (dress_none p x.token n quiet)
     (silent_none p (prev - x.clock))) tt)
     (refl, (refl, tt))
 
-raise_none : (p : Pid) (x : Start) (n : Label) (count : ℕ) (f : Flags) → NoReset (raise p x n count f)
+raise_none : (p : Pid) (x : Start) (n : Label) (count : ℕ) (f : Flags)
+    → NoReset (raise p x n count f)
 raise_none p x n count f =
     let on = dress p (Some (unstamped_token p n quiet)) n f in
     let up = silent p (count - x.clock) ++ on in
@@ -70,7 +75,8 @@ raise_none p x n count f =
 ready_none : (p : Pid) (x : Start) (n : Label) (s : Serial) (f : Flags) → NoReset (ready p x n s f)
 ready_none p x n s f =
     let again = renewed_start p x n s.prev in
-    either (s.prev == x.last) (raise p x n (s.this - 1) f) (renew p x n s.prev ++ raise p again n (s.this - 1) f)
+    either (s.prev == x.last) (raise p x n (s.this - 1) f)
+    (renew p x n s.prev ++ raise p again n (s.this - 1) f)
     (raise_none p x n (s.this - 1) f)
     (append_none (renew p x n s.prev) (raise p again n (s.this - 1) f) (renew_none p x n s.prev)
     (raise_none p again n (s.this - 1) f))
@@ -93,15 +99,18 @@ act_none r m a h =
             | kind.Print ↦ Some (act.Print m.who m.event.value)
           ]
     ] in o) ≡ Some a → is_reset a ≡ false) [
-      | item.Hidden p i ↦ λ h. made_none (λ to. act.Send m.who to m.event.value) m.event.to a (λ x. refl) h
+      | item.Hidden p i ↦ λ h. made_none (λ to. act.Send m.who to m.event.value) m.event.to a
+          (λ x. refl) h
       | item.Reported p i ↦
           elim m.event.kind as (λ k. (let o : Option Act = elim k [
             | kind.Send ↦ option_map (λ to. act.Send m.who to m.event.value) m.event.to
             | kind.Receive ↦ option_map (λ k. act.Receive m.who (want.Place k)) place
             | kind.Print ↦ Some (act.Print m.who m.event.value)
           ] in o) ≡ Some a → is_reset a ≡ false) [
-            | kind.Send ↦ λ h. made_none (λ to. act.Send m.who to m.event.value) m.event.to a (λ x. refl) h
-            | kind.Receive ↦ λ h. made_none (λ k. act.Receive m.who (want.Place k)) place a (λ x. refl) h
+            | kind.Send ↦ λ h. made_none (λ to. act.Send m.who to m.event.value) m.event.to a
+                (λ x. refl) h
+            | kind.Receive ↦ λ h. made_none (λ k. act.Receive m.who (want.Place k)) place a
+                (λ x. refl) h
             | kind.Print ↦ λ h. subst IsNoReset (same_Some (act.Print m.who m.event.value) a h) refl
           ]
     ] h
@@ -109,7 +118,8 @@ act_none r m a h =
 pub acts_none : (streams : List Stream) (marks : Marks) (r : Process) (m : Move) (acts : List Act)
     → acts_of streams marks r m ≡ Some acts → NoReset acts
 acts_none streams marks r m acts h =
-    let before = ready m.who (start_of r.local) m.event.label m.event.serial (flags_of streams marks m) in
+    let before = ready m.who (start_of r.local) m.event.label m.event.serial
+    (flags_of streams marks m) in
     let first : List Act = if is_taking m then [] else before in
     let parts = mapped (λ a. first ++ a ∷ []) (act_of r m) acts h in
     subst NoReset parts.2
@@ -124,18 +134,21 @@ pub tracers_none : (seen : Option ℕ) (ps : List Pid) → NoReset (tracers_afte
 tracers_none seen [] = tt
 tracers_none seen (p ∷ ps) =
     either (option_map_or (λ n. n == p.node) seen false) (tracers_after seen ps)
-    (act.Tracer p true ∷ tracers_after (Some p.node) ps) (tracers_none seen ps) (refl, tracers_none (Some p.node) ps)
+    (act.Tracer p true ∷ tracers_after (Some p.node) ps) (tracers_none seen ps)
+    (refl, tracers_none (Some p.node) ps)
 
 opening_none : (streams : List Stream) (ms : List Move) → NoReset (opening streams ms)
 opening_none streams [] = tt
 opening_none streams (m ∷ ms) = tracers_none None (pids_of streams)
 
-build_none : (top : ℕ) (streams : List Stream) (marks : Marks) (s : State) (ms : List Move) (acts : List Act)
+build_none : (top : ℕ) (streams : List Stream) (marks : Marks) (s : State) (ms : List Move)
+    (acts : List Act)
     → build top streams marks s ms ≡ Some acts → NoReset acts
 build_none top streams marks s [] acts h = subst NoReset (same_Some [] acts h) tt
 build_none top streams marks s (m ∷ ms) acts h =
     let rest = λ (os : List Outcome). build top streams marks (state_after s os) ms in
-    let ran = λ (first : List Act) (os : List Outcome). option_map (λ (xs : List Act). first ++ xs) (rest os) in
+    let ran = λ (first : List Act) (os : List Outcome). option_map (λ (xs : List Act). first ++ xs)
+    (rest os) in
     let from = λ (first : List Act). option_and_then (ran first) (run_from top s first) in
     let by = λ (r : Process). option_and_then from (acts_of streams marks r m) in
     option_and_then_some by (process s m.who) acts h (λ r is_r h.

@@ -1,7 +1,8 @@
--- In an order of all that is there each move is above those before it, and a receive's source has a lower key, so that
--- it came: each receive finds its message, and each stamp its process's clock below its count.
-use Rattle.std.proofs.Common.{◌≡◌, ℕ, zero, suc, ◌<◌, ◌⊎◌, true, false, not, List, [], ◌∷◌, Some, option_map, inl, inr}
-use Rattle.std.proofs.Common.{refl, sym, ◌∙◌, ap, subst, arith}
+-- In an order of all that is there each move is above those before it, and a receive's source has a
+-- lower key, so that it came: each receive finds its message, and each stamp its process's clock
+-- below its count.
+use Rattle.std.proofs.Common.{◌≡◌, ℕ, zero, suc, ◌<◌, ◌⊎◌, true, false, not, List, [], ◌∷◌, Some}
+use Rattle.std.proofs.Common.{option_map, inl, inr, refl, sym, ◌∙◌, ap, subst, arith}
 use Rattle.std.specs.List.{slice_get, AllByRecursion}
 use Rattle.std.proofs.lemmas.Bool.{false≢true}
 use Rattle.std.proofs.lemmas.Option.{same_Some, none-some}
@@ -18,7 +19,8 @@ use Rattle.st_order.specs.Order.{key_by, key, comes_before, KeysRise}
 use Rattle.st_order.proofs.ForCallers.{comes_before_is}
 use Rattle.st_plan.specs.Marks.{Marks}
 use Rattle.st_plan.specs.Moves.{Move, move_by, moves, is_taking, clock}
-use Rattle.st_plan.proofs.EarlierMoves.{event_is, key_below, one_move, there_event, IsAt, IsKeyBelow, IsThere}
+use Rattle.st_plan.proofs.EarlierMoves.{event_is, key_below, one_move, there_event, IsAt}
+use Rattle.st_plan.proofs.EarlierMoves.{IsKeyBelow, IsThere}
 use Rattle.st_plan.proofs.FreeMoves.{AllAlong, IsInTurn}
 use Rattle.st_plan.proofs.Receives.{IsWaiting}
 use Rattle.st_plan.proofs.RisingStamps.{IsTop}
@@ -44,8 +46,10 @@ before_below : (streams : List Stream) (y x : Item) (d e : Event) → event_of s
     → event_of streams x ≡ Some e → comes_before streams y x ≡ true
     → IsKeyBelow (key_by streams y d) (key_by streams x e)
 before_below streams y x d e at_y at_x h =
-    let y_key : key streams y ≡ Some (key_by streams y d) = ap (option_map (key_by streams y)) at_y in
-    let x_key : key streams x ≡ Some (key_by streams x e) = ap (option_map (key_by streams x)) at_x in
+    let y_key : key streams y ≡ Some (key_by streams y d) =
+    ap (option_map (key_by streams y)) at_y in
+    let x_key : key streams x ≡ Some (key_by streams x e) =
+    ap (option_map (key_by streams x)) at_x in
     key_below (key_by streams y d) (key_by streams x e)
     (sym (comes_before_is streams y x (key_by streams y d) (key_by streams x e) y_key x_key) ∙ h)
 
@@ -54,7 +58,8 @@ pub record Leads (streams : List Stream) (xs : List Item) (y : Move) : Type 0 wh
   pub at : event_of streams y.item ≡ Some y.event
   pub before : AllByRecursion (λ x. comes_before streams y.item x ≡ true) xs
 
-leads_below : (streams : List Stream) (x : Item) (xs : List Item) (e : Event) (earlier : List Move) → IsAt streams x e
+leads_below : (streams : List Stream) (x : Item) (xs : List Item) (e : Event) (earlier : List Move)
+    → IsAt streams x e
     → AllByRecursion (Leads streams (x ∷ xs)) earlier
     → AllByRecursion (λ y. IsKeyBelow (key_by streams y.item y.event) (key_by streams x e)) earlier
 leads_below streams x xs e [] at all = tt
@@ -84,8 +89,10 @@ abbrev pub AreInTurn : List Move → List Move → Type 0
 AreInTurn earlier ms = AllAlong (λ before m. IsInTurn before m.item) earlier ms
 
 -- what the order says of each move
-pub next_along : (streams : List Stream) (earlier : List Move) (xs : List Item) → AreThere streams xs
-    → AllByRecursion (Leads streams xs) earlier → KeysRise streams xs → AreInTurn earlier (moves streams xs)
+pub next_along : (streams : List Stream) (earlier : List Move) (xs : List Item)
+    → AreThere streams xs
+    → AllByRecursion (Leads streams xs) earlier → KeysRise streams xs
+    → AreInTurn earlier (moves streams xs)
     → AllAlong (IsNext streams) earlier (moves streams xs)
 next_along streams earlier [] there leads rise turns = tt
 next_along streams earlier (x ∷ xs) there leads rise turns =
@@ -96,7 +103,8 @@ next_along streams earlier (x ∷ xs) there leads rise turns =
     let turned : AreInTurn earlier (m ∷ moves streams xs) = subst (AreInTurn earlier) cons turns in
     let below = leads_below streams x xs e earlier at leads in
     let AreBelow : Item → Event → Type 0 =
-    λ z d. AllByRecursion (λ y. IsKeyBelow (key_by streams y.item y.event) (key_by streams z d)) earlier in
+    λ z d. AllByRecursion (λ y. IsKeyBelow (key_by streams y.item y.event)
+    (key_by streams z d)) earlier in
     let leading : AllByRecursion (Leads streams xs) (m ∷ earlier) =
     (leads_new streams x xs e at rise.0, leads_on streams x xs earlier leads) in
     subst (AllAlong (IsNext streams) earlier) (sym cons) (
@@ -115,7 +123,8 @@ abbrev pub Knows : List Stream → List Move → Move → Type 0
 Knows streams before m = IsKnown streams before × HasCome streams m
 
 pub known_along : (streams : List Stream) (earlier ms : List Move) → IsPaired streams
-    → AllAlong (IsNext streams) earlier ms → IsKnown streams earlier → AllAlong (Knows streams) earlier ms
+    → AllAlong (IsNext streams) earlier ms → IsKnown streams earlier
+    → AllAlong (Knows streams) earlier ms
 known_along streams earlier [] ok all known = tt
 known_along streams earlier (m ∷ ms) ok all known =
     let next = all.0 in
@@ -137,41 +146,48 @@ abbrev pub Covers : List Stream → List Move → List Item → Type 0
 Covers streams earlier xs = (z : Item) (d : Event) → IsAt streams z d
     → ((n : ℕ) × (slice_get earlier n ≡ Some (move_by z d))) ⊎ ((n : ℕ) × (slice_get xs n ≡ Some z))
 
-covers_on : (streams : List Stream) (earlier : List Move) (x : Item) (xs : List Item) (e : Event) → IsAt streams x e
+covers_on : (streams : List Stream) (earlier : List Move) (x : Item) (xs : List Item) (e : Event)
+    → IsAt streams x e
     → Covers streams earlier (x ∷ xs) → Covers streams (move_by x e ∷ earlier) xs
 covers_on streams earlier x xs e at covers z d at_z = elim (covers z d at_z) [
   | inl came ↦ inl (suc came.0, came.1)
   | inr (zero, here) ↦
       let same : x ≡ z = same_Some x z here in
-      let event : e ≡ d = same_Some e d (sym (there_event streams x e at) ∙ ap (event_of streams) same
+      let event : e ≡ d = same_Some e d (sym (there_event streams x e at)
+      ∙ ap (event_of streams) same
       ∙ there_event streams z d at_z) in
       inl (0, λ k. Some (move_by (same k) (event k)))
   | inr (suc n, there) ↦ inr (n, there)
 ]
 
-self_source : (streams : List Stream) (p : Pid) (i : ℕ) (e : Event) (source : HasSource streams p i e)
+self_source : (streams : List Stream) (p : Pid) (i : ℕ) (e : Event)
+    (source : HasSource streams p i e)
     → event_at streams p i ≡ Some e → is_stamp e ≡ false → item.Reported p i ≡ source.thing → ⊥
 self_source streams p i e source at receive same =
     let d = source.event in
     let at_d : event_at streams p i ≡ Some d = subst (λ x. IsAt streams x d) (sym same) source.at in
     let event : d ≡ e = same_Some d e (sym at_d ∙ at) in
-    let stamps : not (is_stamp d) ≡ false = ap (λ x. is_taking (move_by x d)) same ∙ source.sent.stamps in
+    let stamps : not (is_stamp d) ≡ false =
+    ap (λ x. is_taking (move_by x d)) same ∙ source.sent.stamps in
     false≢true (sym stamps ∙ ap (λ (c : Event). not (is_stamp c)) event ∙ ap not receive)
 
 -- if the item is a receive, its source came
-source_came : (streams : List Stream) (earlier : List Move) (p : Pid) (i : ℕ) (e : Event) (xs : List Item)
+source_came : (streams : List Stream) (earlier : List Move) (p : Pid) (i : ℕ) (e : Event)
+    (xs : List Item)
     → event_at streams p i ≡ Some e → is_stamp e ≡ false → KeysRise streams (item.Reported p i ∷ xs)
     → Covers streams earlier (item.Reported p i ∷ xs) → (source : HasSource streams p i e)
     → (n : ℕ) × (slice_get earlier n ≡ Some (move_by source.thing source.event))
-source_came streams earlier p i e xs at receive rise covers source = elim (covers source.thing source.event source.at) [
-  | inl came ↦ came
-  | inr (zero, here) ↦ absurd (self_source streams p i e source at receive
-      (same_Some (item.Reported p i) source.thing here))
-  | inr (suc n, there) ↦
-      let before = all_at (λ z. comes_before streams (item.Reported p i) z ≡ true) xs n source.thing rise.0 there in
-      absurd (source.before (before_below streams (item.Reported p i) source.thing e source.event at
-      (there_event streams source.thing source.event source.at) before))
-]
+source_came streams earlier p i e xs at receive rise covers source =
+    elim (covers source.thing source.event source.at) [
+      | inl came ↦ came
+      | inr (zero, here) ↦ absurd (self_source streams p i e source at receive
+          (same_Some (item.Reported p i) source.thing here))
+      | inr (suc n, there) ↦
+          let before = all_at (λ z. comes_before streams (item.Reported p i) z
+          ≡ true) xs n source.thing rise.0 there in
+          absurd (source.before (before_below streams (item.Reported p i) source.thing e source.event at
+          (there_event streams source.thing source.event source.at) before))
+    ]
 
 -- a receive of the order finds its message
 abbrev pub Waits : List Stream → Marks → List Move → Move → Type 0
@@ -180,19 +196,24 @@ Waits streams marks earlier m = (p : Pid) (i : ℕ) (e : Event) → m ≡ move_b
 
 waits_by : (streams : List Stream) (marks : Marks) → IsPaired streams → AreTops streams
     → (earlier : List Move) (p : Pid) (i : ℕ) (e : Event) (xs : List Item) → IsReceive streams p i e
-    → AllByRecursion (Leads streams (item.Reported p i ∷ xs)) earlier → KeysRise streams (item.Reported p i ∷ xs)
+    → AllByRecursion (Leads streams (item.Reported p i ∷ xs)) earlier
+    → KeysRise streams (item.Reported p i ∷ xs)
     → Covers streams earlier (item.Reported p i ∷ xs) → AllByRecursion (HasCome streams) earlier
     → IsWaiting streams marks earlier (move_by (item.Reported p i) e)
 waits_by streams marks ok tops earlier p i e xs r leads rise covers came =
     let source = source_item streams ok tops p i e r in
-    let first = source_came streams earlier p i e xs r.at (receive_unstamped e r.kind) rise covers source in
+    let first = source_came streams earlier p i e xs r.at
+    (receive_unstamped e r.kind) rise covers source in
     let below = leads_below streams (item.Reported p i) xs e earlier r.at leads in
     receive_waits streams marks ok earlier p i e r came below source first.0 first.1
 
-pub waits_along : (streams : List Stream) (marks : Marks) → IsPaired streams → AreTops streams → (earlier : List Move)
-    (xs : List Item) → AreThere streams xs → AllByRecursion (Leads streams xs) earlier → KeysRise streams xs
+pub waits_along : (streams : List Stream) (marks : Marks) → IsPaired streams → AreTops streams
+    → (earlier : List Move)
+    (xs : List Item) → AreThere streams xs → AllByRecursion (Leads streams xs) earlier
+    → KeysRise streams xs
     → Covers streams earlier xs
-    → AllAlong (Knows streams) earlier (moves streams xs) → AllAlong (Waits streams marks) earlier (moves streams xs)
+    → AllAlong (Knows streams) earlier (moves streams xs)
+    → AllAlong (Waits streams marks) earlier (moves streams xs)
 waits_along streams marks ok tops earlier [] there leads rise covers known = tt
 waits_along streams marks ok tops earlier (x ∷ xs) there leads rise covers known =
     let e = there.0.0 in
@@ -224,24 +245,27 @@ IsWhole streams xs = (z : Item) (d : Event) → IsAt streams z d → (n : ℕ) �
 abbrev pub IsClockBelow : List Move → Move → Type 0
 IsClockBelow before m = is_taking m ≡ false → clock m.who before < m.event.serial.this
 
--- what an order of all items in turn gives: at each stamp its process's clock is below its count, and each receive
--- finds its message
+-- what an order of all items in turn gives: at each stamp its process's clock is below its count,
+-- and each receive finds its message
 pub record IsOrderly (streams : List Stream) (marks : Marks) (xs : List Item) : Type 0 where
   pub clocks : AllAlong IsClockBelow [] (moves streams xs)
   pub waits : AllAlong (Waits streams marks) [] (moves streams xs)
 
 -- what came along the moves holds of each item
 tops_from : (streams : List Stream) (earlier : List Move) (xs : List Item) → AreThere streams xs
-    → AllAlong (Knows streams) earlier (moves streams xs) → (n : ℕ) (z : Item) (d : Event) → slice_get xs n ≡ Some z
+    → AllAlong (Knows streams) earlier (moves streams xs) → (n : ℕ) (z : Item) (d : Event)
+    → slice_get xs n ≡ Some z
     → IsAt streams z d → IsTop streams z d
 tops_from streams earlier [] there known n z d here at = absurd (none-some z here)
 tops_from streams earlier (x ∷ xs) there known zero z d here at =
     let e = there.0.0 in
     let at_x = there.0.1 in
     let knew : AllAlong (Knows streams) earlier (move_by x e ∷ moves streams xs) =
-    subst (AllAlong (Knows streams) earlier) (one_move streams x e xs (there_event streams x e at_x)) known in
+    subst (AllAlong (Knows streams) earlier) (one_move streams x e xs
+    (there_event streams x e at_x)) known in
     let same : x ≡ z = same_Some x z here in
-    let event : e ≡ d = same_Some e d (sym (there_event streams x e at_x) ∙ ap (event_of streams) same
+    let event : e ≡ d = same_Some e d (sym (there_event streams x e at_x)
+    ∙ ap (event_of streams) same
     ∙ there_event streams z d at) in
     let top : IsTop streams x e = subst (λ y. IsTop streams y e) (item_is x e)
     (subst (IsTop streams (move_by x e).item) (event_is x e) knew.0.1.top) in
@@ -250,11 +274,14 @@ tops_from streams earlier (x ∷ xs) there known (suc n) z d here at =
     let e = there.0.0 in
     let at_x = there.0.1 in
     let knew : AllAlong (Knows streams) earlier (move_by x e ∷ moves streams xs) =
-    subst (AllAlong (Knows streams) earlier) (one_move streams x e xs (there_event streams x e at_x)) known in
+    subst (AllAlong (Knows streams) earlier) (one_move streams x e xs
+    (there_event streams x e at_x)) known in
     tops_from streams (move_by x e ∷ earlier) xs there.1 knew.1 n z d here at
 
-pub orderly : (streams : List Stream) (marks : Marks) → IsPaired streams → (xs : List Item) → AreThere streams xs
-    → IsWhole streams xs → KeysRise streams xs → AreInTurn [] (moves streams xs) → IsOrderly streams marks xs
+pub orderly : (streams : List Stream) (marks : Marks) → IsPaired streams → (xs : List Item)
+    → AreThere streams xs
+    → IsWhole streams xs → KeysRise streams xs → AreInTurn [] (moves streams xs)
+    → IsOrderly streams marks xs
 orderly streams marks ok xs there whole rise turns =
     let next = next_along streams [] xs there tt rise turns in
     let none : IsKnown streams [] = record { each = tt; have = λ q k less. absurd (omega arith) } in
@@ -265,5 +292,6 @@ orderly streams marks ok xs there whole rise turns =
     tops_from streams [] xs there known place.0 x d place.1 at in
     record {
       clocks = clocks_below streams [] (moves streams xs) ok next none;
-      waits = waits_along streams marks ok tops [] xs there tt rise (λ z d at. inr (whole z d at)) known;
+      waits = waits_along streams marks ok tops [] xs there tt rise
+          (λ z d at. inr (whole z d at)) known;
     }

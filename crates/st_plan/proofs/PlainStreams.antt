@@ -1,4 +1,5 @@
--- If all events are told, the told ones are all: so the acts that are built of plain streams show these.
+-- If all events are told, the told ones are all: so the acts that are built of plain streams show
+-- these.
 use Rattle.std.proofs.Common.{◌≡◌, ℕ, ◌+◌, true, List, [], ◌∷◌, Some, refl, ◌∙◌, ap, subst}
 use Rattle.st_core.specs.declared.types.Event.{Event}
 use Rattle.st_core.specs.declared.types.Act.{Act}
@@ -23,7 +24,8 @@ only_whole (x ∷ streams) =
     ∙ ap (λ ss. x ∷ ss) (only_whole streams)
 
 pub plain_is_shown : (top : ℕ) (streams : List Stream) → IsStreams streams → IsPlain top streams
-    → (acts : List Act) × (construction top streams all_told (moves streams (order streams)) ≡ Some acts)
+    → (acts : List Act) × (construction top streams all_told (moves streams (order streams))
+    ≡ Some acts)
     × Shows top streams acts
 plain_is_shown top streams sound plain =
     let shown = settled_is_shown top streams all_told sound plain.settled in

@@ -1,8 +1,8 @@
--- Full streams are plain: each stamp counts one more than its process's clock, so nothing is missing, and its
--- prev is the last count or the clock.
-use Rattle.std.proofs.Common.{◌≡◌, ℕ, zero, suc, ◌+◌, ◌-◌, ◌<◌, ◌≤◌, ◌==◌, ◌&&◌, ◌||◌, nat_lt, Bool, true, false, not}
-use Rattle.std.proofs.Common.{cond, List, [], ◌∷◌, ◌++◌, take, drop, reverse, filter, Some, inl, inr, slice_get, refl}
-use Rattle.std.proofs.Common.{sym, ◌∙◌, ap, subst, arith}
+-- Full streams are plain: each stamp counts one more than its process's clock, so nothing is
+-- missing, and its prev is the last count or the clock.
+use Rattle.std.proofs.Common.{◌≡◌, ℕ, zero, suc, ◌+◌, ◌-◌, ◌<◌, ◌≤◌, ◌==◌, ◌&&◌, ◌||◌, nat_lt, Bool}
+use Rattle.std.proofs.Common.{true, false, not, cond, List, [], ◌∷◌, ◌++◌, take, drop, reverse}
+use Rattle.std.proofs.Common.{filter, Some, inl, inr, slice_get, refl, sym, ◌∙◌, ap, subst, arith}
 use Rattle.std.proofs.lemmas.Bool.{eq-eqb, false≢true}
 use Rattle.std.proofs.lemmas.Bool.Decides.{nat_tests}
 use Rattle.std.proofs.lemmas.Option.{none-some, same_Some}
@@ -24,7 +24,8 @@ use Rattle.st_plan.specs.Reasons.{most_skipped, most_skipped_in_all, too_wide, u
 use Rattle.st_plan.specs.Plain.{IsPlain, out_of_turn, event_count}
 use Rattle.st_plan.specs.Full.{IsFull}
 use Rattle.st_plan.proofs.FullRuns.{run_full}
-use Rattle.st_plan.proofs.Turns.{After, after, event_move, event_move_there, is_move_of, move_back, own_step, turned}
+use Rattle.st_plan.proofs.Turns.{After, after, event_move, event_move_there, is_move_of, move_back}
+use Rattle.st_plan.proofs.Turns.{own_step, turned}
 
 -- HEIGHTS
 
@@ -39,7 +40,8 @@ greatest_has (d ∷ es) (suc n) (suc j) e at less =
     let rest = greatest_has es n j e at (omega arith) in
     omega arith
 
-stamps_lead : (top : ℕ) (streams : List Stream) → IsFull top streams → (p : Pid) → StampsLead streams p
+stamps_lead : (top : ℕ) (streams : List Stream) → IsFull top streams → (p : Pid)
+    → StampsLead streams p
 stamps_lead top streams full p j i d e less at_d at_e stamp =
     let count = (full.goes_on p i e at_e stamp).count in
     let low = greatest_has (events_of streams p) i j d at_d less in
@@ -59,7 +61,8 @@ not_below m n h = grind (arith, nat_tests)
 at_move : (streams : List Stream) (p : Pid) (i : ℕ) (e : Event) (earlier later : List Move)
     → ((i : ℕ) (e : Event) → event_at streams p i ≡ Some e → is_stamp e ≡ true
     → GoesOnFrom (take i (events_of streams p)) e)
-    → After (events_of streams p) p earlier (event_move p i e ∷ later) → IsNext earlier (event_move p i e)
+    → After (events_of streams p) p earlier (event_move p i e ∷ later)
+    → IsNext earlier (event_move p i e)
 at_move streams p i e earlier later goes_on before =
     let events = events_of streams p in
     let n = event_count p earlier in
@@ -76,38 +79,46 @@ at_move streams p i e earlier later goes_on before =
       caused = elim (is_stamp e) as (λ b. is_stamp e ≡ b
           → (not (not b) && (not (prev == l) && nat_lt prev c)) ≡ false) [
             | true ↦ λ stamp. elim (goes_on n e own.1 stamp).prev [
-              | inl same ↦ ap (λ b. not b && nat_lt prev c) (eq-eqb prev l (same ∙ sym before.counted))
-              | inr same ↦ and_false (not (prev == l)) (nat_lt prev c) (not_below prev c (same ∙ sym clocked))
+              | inl same ↦ ap (λ b. not b && nat_lt prev c)
+                  (eq-eqb prev l (same ∙ sym before.counted))
+              | inr same ↦ and_false (not (prev == l)) (nat_lt prev c)
+                  (not_below prev c (same ∙ sym clocked))
             ]
             | false ↦ λ receive. refl
           ] refl;
-      skipped = elim (is_stamp e) as (λ b. is_stamp e ≡ b → cond (not b) 0 (e.serial.this - 1 - c) ≡ 0) [
-        | true ↦ λ stamp. let count = (goes_on n e own.1 stamp).count in omega arith
-        | false ↦ λ receive. refl
-      ] refl;
+      skipped = elim (is_stamp e) as (λ b. is_stamp e ≡ b
+          → cond (not b) 0 (e.serial.this - 1 - c) ≡ 0) [
+            | true ↦ λ stamp. let count = (goes_on n e own.1 stamp).count in omega arith
+            | false ↦ λ receive. refl
+          ] refl;
     }
 
 -- nothing is skipped, here and before
 narrow_by : (taking : Bool) (here before : ℕ) → here ≡ 0 → before ≡ 0
-    → (not taking && (nat_lt most_skipped here || nat_lt most_skipped_in_all (here + before))) ≡ false
+    → (not taking && (nat_lt most_skipped here || nat_lt most_skipped_in_all (here + before)))
+    ≡ false
 narrow_by true here before none nothing = refl
 narrow_by false here before none nothing =
     ap (λ n. nat_lt most_skipped n || nat_lt most_skipped_in_all (n + before)) none
     ∙ ap (λ n. nat_lt most_skipped_in_all (0 + n)) nothing
 
-module _ (top : ℕ) (streams : List Stream) (rising : IsRising (pids_of streams)) (full : IsFull top streams)
+module _ (top : ℕ) (streams : List Stream) (rising : IsRising (pids_of streams))
+    (full : IsFull top streams)
     (xs : List Item) (order : IsOrder streams xs) where
-  along : (earlier : List Move) (m : Move) (later : List Move) → moves streams xs ≡ reverse earlier ++ m ∷ later
+  along : (earlier : List Move) (m : Move) (later : List Move)
+      → moves streams xs ≡ reverse earlier ++ m ∷ later
       → IsNext earlier m
   along earlier m later split =
       let lead = stamps_lead top streams full in
       let own = event_move_there streams rising full.reported lead xs order earlier m later split in
       let p = m.who in
       let before = after streams rising full.reported lead xs order p earlier (m ∷ later) split in
-      subst (IsNext earlier) (sym own.1) (at_move streams p own.0 m.event earlier later (full.goes_on p)
+      subst (IsNext earlier) (sym own.1) (at_move streams p own.0 m.event earlier later
+      (full.goes_on p)
       (subst (λ x. After (events_of streams p) p earlier (x ∷ later)) own.1 before))
 
-  no_skips : (earlier later : List Move) → moves streams xs ≡ reverse earlier ++ later → skips earlier ≡ 0
+  no_skips : (earlier later : List Move) → moves streams xs ≡ reverse earlier ++ later
+      → skips earlier ≡ 0
   no_skips [] later split = refl
   no_skips (m ∷ earlier) later split =
       let before = split ∙ move_back m earlier later in
@@ -115,7 +126,8 @@ module _ (top : ℕ) (streams : List Stream) (rising : IsRising (pids_of streams
       let rest = no_skips earlier (m ∷ later) before in
       omega arith
 
-  narrow : (earlier : List Move) (m : Move) (later : List Move) → moves streams xs ≡ reverse earlier ++ m ∷ later
+  narrow : (earlier : List Move) (m : Move) (later : List Move)
+      → moves streams xs ≡ reverse earlier ++ m ∷ later
       → too_wide earlier m ≡ false
   narrow earlier m later split =
       narrow_by (is_taking m) (skip earlier m) (skips earlier) (along earlier m later split).skipped
@@ -123,23 +135,29 @@ module _ (top : ℕ) (streams : List Stream) (rising : IsRising (pids_of streams
 
 -- THE LAWS
 
-pub full_streams_plain : (top : ℕ) (streams : List Stream) → IsRising (pids_of streams) → IsFull top streams
+pub full_streams_plain : (top : ℕ) (streams : List Stream) → IsRising (pids_of streams)
+    → IsFull top streams
     → IsPlain top streams
 full_streams_plain top streams rising full = record {
   settled = record {
     accepted = full.accepted;
     in_turn = λ p i h. false≢true
-        (sym (along top streams rising full h.order h.is_order h.earlier h.move h.later h.split).turn ∙ h.holds);
+        (sym (along top streams rising full h.order h.is_order h.earlier h.move h.later
+        h.split).turn ∙ h.holds);
     caused = λ p i h. false≢true
-        (sym (along top streams rising full h.order h.is_order h.earlier h.move h.later h.split).caused ∙ h.holds);
+        (sym (along top streams rising full h.order h.is_order h.earlier h.move h.later
+        h.split).caused ∙ h.holds);
     within = full.within;
   };
   narrow = λ p i h. false≢true
-      (sym (narrow top streams rising full h.order h.is_order h.earlier h.move h.later h.split) ∙ h.holds);
+      (sym (narrow top streams rising full h.order h.is_order h.earlier h.move h.later h.split)
+      ∙ h.holds);
 }
 
-pub full_plain : (top : ℕ) (streams : List Stream) (acts : List Act) (shows : Shows top streams acts)
-    → IsRising (pids_of streams) → NoReset acts → ReportsEverything (zero_state (pids_of streams)) acts shows.0
+pub full_plain : (top : ℕ) (streams : List Stream) (acts : List Act)
+    (shows : Shows top streams acts)
+    → IsRising (pids_of streams) → NoReset acts → ReportsEverything
+    (zero_state (pids_of streams)) acts shows.0
     → IsPlain top streams
 full_plain top streams acts shows rising none all =
     full_streams_plain top streams rising (run_full top streams acts shows none all)

@@ -1,8 +1,8 @@
--- The acts before a stamp do what they are for: nothing of them is reported, and they leave the process ready to stamp
--- the serial.
-use Rattle.std.proofs.Common.{◌≡◌, ℕ, ◌+◌, ◌-◌, ◌<◌, ◌≤◌, ◌==◌, ◌&&◌, ◌⊎◌, zero, suc, nat_lt, Bool, true, false}
-use Rattle.std.proofs.Common.{cond, List, [], ◌∷◌, ◌++◌, Option, Some, None, inl, inr, refl, sym, ◌∙◌}
-use Rattle.std.proofs.Common.{ap, subst, arith, if◌then◌else◌}
+-- The acts before a stamp do what they are for: nothing of them is reported, and they leave the
+-- process ready to stamp the serial.
+use Rattle.std.proofs.Common.{◌≡◌, ℕ, ◌+◌, ◌-◌, ◌<◌, ◌≤◌, ◌==◌, ◌&&◌, ◌⊎◌, zero, suc, nat_lt, Bool}
+use Rattle.std.proofs.Common.{true, false, cond, List, [], ◌∷◌, ◌++◌, Option, Some, None, inl, inr}
+use Rattle.std.proofs.Common.{refl, sym, ◌∙◌, ap, subst, arith, if◌then◌else◌}
 use Rattle.std.proofs.lemmas.Bool.{and_parts, eqb-true, eq-eqb, ltb-true, ltb-false, false≢true}
 use Rattle.std.proofs.lemmas.Bool.Decides.{nat_tests}
 use Rattle.st_core.specs.declared.types.Pid.{Pid}
@@ -21,8 +21,8 @@ use Rattle.st_core.specs.Stamp.{stamped_token}
 use Rattle.st_core.specs.Local.{default_token}
 use Rattle.st_core.specs.Step.{acted}
 use Rattle.st_plan.specs.declared.plan.Start.{Start}
-use Rattle.st_plan.specs.Build.{bool_eq, dress, flags_eq, is_dressed, quiet, raise, ready, renew, renewed_start, silent}
-use Rattle.st_plan.specs.Build.{start_of, unstamped_token}
+use Rattle.st_plan.specs.Build.{bool_eq, dress, flags_eq, is_dressed, quiet, raise, ready, renew}
+use Rattle.st_plan.specs.Build.{renewed_start, silent, start_of, unstamped_token}
 
 -- QUIET ACTS
 
@@ -47,13 +47,16 @@ abbrev pub QuietRun : ℕ → Pid → LocalState → List Act → LocalState →
 QuietRun top p l [] m = l ≡ m
 QuietRun top p l (a ∷ rest) m = (x : LocalState) × IsQuiet top p l a x × QuietRun top p x rest m
 
-pub quiet_append : (top : ℕ) (p : Pid) (xs ys : List Act) (l m n : LocalState) → QuietRun top p l xs m
+pub quiet_append : (top : ℕ) (p : Pid) (xs ys : List Act) (l m n : LocalState)
+    → QuietRun top p l xs m
     → QuietRun top p m ys n → QuietRun top p l (xs ++ ys) n
 quiet_append top p [] ys l m n one two = subst (λ x. QuietRun top p x ys n) (sym one) two
-quiet_append top p (a ∷ xs) ys l m n one two = (one.0, one.1, quiet_append top p xs ys one.0 m n one.2 two)
+quiet_append top p (a ∷ xs) ys l m n one two =
+    (one.0, one.1, quiet_append top p xs ys one.0 m n one.2 two)
 
 -- where the acts lead: clock and last, and a token of this label and these flags
-pub record Reaches (top : ℕ) (p : Pid) (l : LocalState) (acts : List Act) (clock last : ℕ) (n : Label) (f : Flags)
+pub record Reaches (top : ℕ) (p : Pid) (l : LocalState) (acts : List Act) (clock last : ℕ)
+    (n : Label) (f : Flags)
     : Type 0 where
   pub end : LocalState
   pub token : Token
@@ -66,7 +69,8 @@ pub record Reaches (top : ℕ) (p : Pid) (l : LocalState) (acts : List Act) (clo
   pub traced : end.traced ≡ l.traced
 
 -- one part after another
-both_reach : (top : ℕ) (p : Pid) (l : LocalState) (xs ys : List Act) (c z : ℕ) (n : Label) (f : Flags)
+both_reach : (top : ℕ) (p : Pid) (l : LocalState) (xs ys : List Act) (c z : ℕ) (n : Label)
+    (f : Flags)
     (d y : ℕ) (g : Flags) (one : Reaches top p l xs c z n f)
     → Reaches top p one.end ys d y n g → Reaches top p l (xs ++ ys) d y n g
 both_reach top p l xs ys c z n f d y g one two = record {
@@ -91,7 +95,8 @@ same_bool false false h = refl
 
 same_flags : (f g : Flags) → flags_eq f g ≡ true → f ≡ g
 same_flags f g h =
-    let one = and_parts (bool_eq f.send g.send) (bool_eq f.receive g.receive && bool_eq f.print g.print) h in
+    let one = and_parts (bool_eq f.send g.send) (bool_eq f.receive g.receive
+    && bool_eq f.print g.print) h in
     let two = and_parts (bool_eq f.receive g.receive) (bool_eq f.print g.print) one.1 in
     let send = same_bool f.send g.send one.0 in
     let receive = same_bool f.receive g.receive two.0 in
@@ -119,7 +124,8 @@ restored top p l n f = record {
   traced = refl;
 }
 
-stays : (top : ℕ) (p : Pid) (l : LocalState) (n : Label) (f : Flags) (token : Option Token) → l.token ≡ token
+stays : (top : ℕ) (p : Pid) (l : LocalState) (n : Label) (f : Flags) (token : Option Token)
+    → l.token ≡ token
     → is_dressed n f token ≡ true → Reaches top p l [] l.clock l.last n f
 stays top p l n f None e h = absurd (false≢true h)
 stays top p l n f (Some t) e h =
@@ -137,7 +143,8 @@ stays top p l n f (Some t) e h =
     }
 
 dressed : (top : ℕ) (p : Pid) (l : LocalState) (token : Option Token) (n : Label) (f : Flags)
-    → is_dressed n f token ≡ is_dressed n f l.token → Reaches top p l (dress p token n f) l.clock l.last n f
+    → is_dressed n f token ≡ is_dressed n f l.token
+    → Reaches top p l (dress p token n f) l.clock l.last n f
 dressed top p l token n f same =
     elim (is_dressed n f token) as (λ b. is_dressed n f token ≡ b
     → Reaches top p l (cond b [] (act.Restore p (unstamped_token p n f) ∷ [])) l.clock l.last n f) [
@@ -151,15 +158,22 @@ and_false : (b : Bool) → (b && false) ≡ false
 and_false true = refl
 and_false false = refl
 
-printed : (top : ℕ) (p : Pid) (l : LocalState) (t : Token) → l.token ≡ Some t → t.flags.print ≡ false → l.clock < top
-    → IsQuiet top p l (act.Print p 0) (record l { token = Some (stamped_token p l t); clock = l.clock + 1 })
+printed : (top : ℕ) (p : Pid) (l : LocalState) (t : Token) → l.token ≡ Some t
+    → t.flags.print ≡ false → l.clock < top
+    → IsQuiet top p l (act.Print p 0) (record l {
+      token = Some (stamped_token p l t);
+      clock = l.clock + 1;
+    })
 printed top p l t is flag below =
     let now : nat_lt l.clock top ≡ true = grind (arith, nat_tests) in
-    let unseen : (l.traced && t.flags.print) ≡ false = ap (λ b. l.traced && b) flag ∙ and_false l.traced in
+    let unseen : (l.traced && t.flags.print) ≡ false =
+    ap (λ b. l.traced && b) flag ∙ and_false l.traced in
     record { reply = reply.Done; alone = refl; acts = λ queue. rw (is, now, unseen) refl }
 
-silent_reaches : (top : ℕ) (p : Pid) (k : ℕ) (l : LocalState) (t : Token) (n : Label) → l.token ≡ Some t → t.label ≡ n
-    → t.flags ≡ quiet → l.clock + k ≤ top → Reaches top p l (silent p k) (l.clock + k) l.last n quiet
+silent_reaches : (top : ℕ) (p : Pid) (k : ℕ) (l : LocalState) (t : Token) (n : Label)
+    → l.token ≡ Some t → t.label ≡ n
+    → t.flags ≡ quiet → l.clock + k ≤ top → Reaches top p l (silent p k)
+    (l.clock + k) l.last n quiet
 silent_reaches top p zero l t n is label flags within = record {
   end = l;
   token = t;
@@ -187,31 +201,38 @@ silent_reaches top p (suc k) l t n is label flags within =
     }
 
 -- a token stands for each other of its label and flags
-alike : (t : Token) (n : Label) (g : Flags) (p : Pid) (l : LocalState) → l.token ≡ Some t → t.label ≡ n → t.flags ≡ g
-    → (m : Label) (f : Flags) → is_dressed m f (Some (unstamped_token p n g)) ≡ is_dressed m f l.token
+alike : (t : Token) (n : Label) (g : Flags) (p : Pid) (l : LocalState) → l.token ≡ Some t
+    → t.label ≡ n → t.flags ≡ g
+    → (m : Label) (f : Flags) → is_dressed m f (Some (unstamped_token p n g))
+    ≡ is_dressed m f l.token
 alike t n g p l is label flags m f = ap (λ (x : Label). x.0 == m.0 && flags_eq g f) (sym label)
-    ∙ ap (λ (x : Flags). t.label.0 == m.0 && flags_eq x f) (sym flags) ∙ ap (is_dressed m f) (sym is)
+    ∙ ap (λ (x : Flags). t.label.0 == m.0 && flags_eq x f) (sym flags)
+    ∙ ap (is_dressed m f) (sym is)
 
 -- THE PARTS
 
 raised : (top : ℕ) (p : Pid) (l : LocalState) (x : Start) (n : Label) (count : ℕ) (f : Flags)
-    → ((m : Label) (g : Flags) → is_dressed m g x.token ≡ is_dressed m g l.token) → x.clock ≡ l.clock
+    → ((m : Label) (g : Flags) → is_dressed m g x.token ≡ is_dressed m g l.token)
+    → x.clock ≡ l.clock
     → l.clock ≤ count → count ≤ top → Reaches top p l (raise p x n count f) count l.last n f
 raised top p l x n count f same now least within =
     elim (nat_lt x.clock count) as (λ b. nat_lt x.clock count ≡ b → Reaches top p l
-    (cond b (dress p x.token n quiet ++ (silent p (count - x.clock) ++ dress p (Some (unstamped_token p n quiet)) n f))
+    (cond b (dress p x.token n quiet ++ (silent p (count - x.clock)
+    ++ dress p (Some (unstamped_token p n quiet)) n f))
     (dress p x.token n f)) count l.last n f) [
       | true ↦ λ e.
           let less = ltb-true x.clock count e in
           let one = dressed top p l x.token n quiet (same n quiet) in
           let here = one.clocked in
-          let two = silent_reaches top p (count - x.clock) one.end one.token n one.is one.label one.flags
+          let two = silent_reaches top p (count - x.clock) one.end one.token n one.is one.label
+          one.flags
           (omega arith) in
           let there = two.clocked in
           let three = dressed top p two.end (Some (unstamped_token p n quiet)) n f
           (alike two.token n quiet p two.end two.is two.label two.flags n f) in
           let last_parts = both_reach top p one.end (silent p (count - x.clock))
-          (dress p (Some (unstamped_token p n quiet)) n f) (one.end.clock + (count - x.clock)) one.end.last n quiet
+          (dress p (Some (unstamped_token p n quiet)) n f)
+          (one.end.clock + (count - x.clock)) one.end.last n quiet
           two.end.clock two.end.last f two three in
           let all = both_reach top p l (dress p x.token n quiet)
           (silent p (count - x.clock) ++ dress p (Some (unstamped_token p n quiet)) n f)
@@ -252,7 +273,8 @@ record Brings (top : ℕ) (p : Pid) (l : LocalState) (acts : List Act) (clock : 
   pub traced : end.traced ≡ l.traced
 
 brought : (top : ℕ) (p : Pid) (l : LocalState) (n : Label) (prev : ℕ) → l.clock ≤ prev → prev ≤ top
-    → Brings top p l (if nat_lt l.clock prev then dress p l.token n quiet ++ silent p (prev - l.clock) else []) prev
+    → Brings top p l (if nat_lt l.clock prev then dress p l.token n quiet
+    ++ silent p (prev - l.clock) else []) prev
 brought top p l n prev least within =
     elim (nat_lt l.clock prev) as (λ b. nat_lt l.clock prev ≡ b
     → Brings top p l (cond b (dress p l.token n quiet ++ silent p (prev - l.clock)) []) prev) [
@@ -260,12 +282,14 @@ brought top p l n prev least within =
           let less = ltb-true l.clock prev e in
           let one = dressed top p l l.token n quiet refl in
           let here = one.clocked in
-          let two = silent_reaches top p (prev - l.clock) one.end one.token n one.is one.label one.flags
+          let two = silent_reaches top p (prev - l.clock) one.end one.token n one.is one.label
+          one.flags
           (omega arith) in
           let there = two.clocked in
           record {
             end = two.end;
-            runs = quiet_append top p (dress p l.token n quiet) (silent p (prev - l.clock)) l one.end two.end
+            runs = quiet_append top p (dress p l.token n quiet)
+                (silent p (prev - l.clock)) l one.end two.end
                 one.runs two.runs;
             clocked = omega arith;
             traced = two.traced ∙ one.traced;
@@ -275,7 +299,8 @@ brought top p l n prev least within =
           record { end = l; runs = refl; clocked = omega arith; traced = refl }
     ] refl
 
-renew_reaches : (top : ℕ) (p : Pid) (l : LocalState) (n : Label) (prev : ℕ) → l.clock ≤ prev → prev ≤ top
+renew_reaches : (top : ℕ) (p : Pid) (l : LocalState) (n : Label) (prev : ℕ) → l.clock ≤ prev
+    → prev ≤ top
     → Reaches top p l (renew p (start_of l) n prev) prev prev n quiet
 renew_reaches top p l n prev least within =
     let up = brought top p l n prev least within in
@@ -290,7 +315,8 @@ renew_reaches top p l n prev least within =
     record {
       end = end;
       token = made;
-      runs = quiet_append top p _ (act.Clear p ∷ act.Set p (component.Label n) ∷ []) l up.end end up.runs begins;
+      runs = quiet_append top p _ (act.Clear p ∷ act.Set p (component.Label n)
+          ∷ []) l up.end end up.runs begins;
       is = refl;
       label = refl;
       flags = refl;
@@ -299,8 +325,10 @@ renew_reaches top p l n prev least within =
       traced = up.traced;
     }
 
--- p is ready: its clock is one below the count, its last count is prev, and its token has the label and the flags
-pub is_ready : (top : ℕ) (p : Pid) (l : LocalState) (n : Label) (s : Serial) (f : Flags) → s.prev < s.this
+-- p is ready: its clock is one below the count, its last count is prev, and its token has the label
+-- and the flags
+pub is_ready : (top : ℕ) (p : Pid) (l : LocalState) (n : Label) (s : Serial) (f : Flags)
+    → s.prev < s.this
     → s.this ≤ top → l.clock < s.this → (s.prev ≡ l.last) ⊎ (l.clock ≤ s.prev)
     → Reaches top p l (ready p (start_of l) n s f) (s.this - 1) s.prev n f
 is_ready top p l n s f rises within below caused =
@@ -310,7 +338,8 @@ is_ready top p l n s f rises within below caused =
     (renew p (start_of l) n s.prev ++ raise p again n (s.this - 1) f)) (s.this - 1) s.prev n f) [
       | true ↦ λ e.
           let same = eqb-true s.prev l.last e in
-          let all = raised top p l (start_of l) n (s.this - 1) f (λ m g. refl) refl (omega arith) (omega arith) in
+          let all = raised top p l (start_of l) n (s.this - 1) f (λ m g. refl) refl (omega arith)
+          (omega arith) in
           record {
             end = all.end;
             token = all.token;
@@ -332,7 +361,8 @@ is_ready top p l n s f rises within below caused =
           let two = raised top p one.end again n (s.this - 1) f
           (λ m g. alike one.token n quiet p one.end one.is one.label one.flags m g)
           (omega arith) (omega arith) (omega arith) in
-          let all = both_reach top p l (renew p (start_of l) n s.prev) (raise p again n (s.this - 1) f)
+          let all = both_reach top p l (renew p (start_of l) n s.prev)
+          (raise p again n (s.this - 1) f)
           s.prev s.prev n quiet (s.this - 1) one.end.last f one two in
           record {
             end = all.end;

@@ -1,7 +1,7 @@
--- A receive keeps the invariant: it takes the message that waits for it, which leaves the queue and gives the event.
-use Rattle.std.proofs.Common.{Option}
-use Rattle.std.proofs.Common.{◌≡◌, ℕ, zero, suc, ◌+◌, max, true, false, cond, List, [], ◌∷◌, Some, None, option_map}
-use Rattle.std.proofs.Common.{refl, sym, ◌∙◌, ap, subst, arith}
+-- A receive keeps the invariant: it takes the message that waits for it, which leaves the queue and
+-- gives the event.
+use Rattle.std.proofs.Common.{Option, ◌≡◌, ℕ, zero, suc, ◌+◌, max, true, false, cond, List, [], ◌∷◌}
+use Rattle.std.proofs.Common.{Some, None, option_map, refl, sym, ◌∙◌, ap, subst, arith}
 use Rattle.std.specs.List.{remove, position, slice_get}
 use Rattle.std.proofs.lemmas.Bool.{eq-eqb, ne_eqb}
 use Rattle.std.proofs.lemmas.Option.{same_Some, none-some}
@@ -36,7 +36,8 @@ pick_place : (n k : ℕ) (queue : List Message) (x : Message) → slice_get queu
 pick_place n k [] x at = absurd (none-some x at)
 pick_place n zero (y ∷ queue) x at =
     let here : n + 0 ≡ n = omega arith in
-    ap (λ b. cond b (Some (n, y)) (pick_from (n + 1) (want.Place (n + 0)) queue)) (eq-eqb n (n + 0) (sym here))
+    ap (λ b. cond b (Some (n, y)) (pick_from (n + 1) (want.Place (n + 0)) queue))
+    (eq-eqb n (n + 0) (sym here))
     ∙ ap (λ k. Some (k, y)) (sym here) ∙ ap (λ z. Some (n + 0, z)) (same_Some y x at)
 pick_place n (suc k) (y ∷ queue) x at =
     let sum : n + 1 + k ≡ n + suc k = omega arith in
@@ -50,7 +51,8 @@ pub pick_at : (k : ℕ) (queue : List Message) (x : Message) → slice_get queue
     → pick (want.Place k) queue ≡ Some (k, x)
 pick_at k queue x at =
     let same : 0 + k ≡ k = omega arith in
-    ap (λ j. pick_from 0 (want.Place j) queue) (sym same) ∙ pick_place 0 k queue x at ∙ ap (λ j. Some (j, x)) same
+    ap (λ j. pick_from 0 (want.Place j) queue) (sym same) ∙ pick_place 0 k queue x at
+    ∙ ap (λ j. Some (j, x)) same
 
 -- the event of p's receive of a message with this value and token
 abbrev pub got_of : Pid → ℕ → Token → Event
@@ -64,11 +66,13 @@ got_of p v t = record {
 }
 
 -- the message that a receive takes is in its queue, gives its event, and is seen where that is told
-pub record IsWaiting (streams : List Stream) (marks : Marks) (earlier : List Move) (m : Move) : Type 0 where
+pub record IsWaiting (streams : List Stream) (marks : Marks) (earlier : List Move)
+    (m : Move) : Type 0 where
   pub place : ℕ
   pub message : Message
   pub token : Token
-  pub is : position (λ x. bears_stamp m.event.from m.event.serial.this x.token) (queue_of streams marks m.who earlier)
+  pub is : position (λ x. bears_stamp m.event.from m.event.serial.this x.token)
+      (queue_of streams marks m.who earlier)
       ≡ Some place
   pub at : slice_get (queue_of streams marks m.who earlier) place ≡ Some message
   pub has : message.token ≡ Some token
@@ -80,9 +84,11 @@ abbrev taken_by : Process → Move → Option Act
 taken_by r m = option_map (λ k. act.Receive m.who (want.Place k))
     (position (λ x. bears_stamp m.event.from m.event.serial.this x.token) r.queue)
 
-pub taking : (top : ℕ) (streams : List Stream) (marks : Marks) (earlier : List Move) (s : State) (m : Move)
+pub taking : (top : ℕ) (streams : List Stream) (marks : Marks) (earlier : List Move) (s : State)
+    (m : Move)
     → IsKept streams marks earlier s → lists streams m.who ≡ true → is_taking m ≡ true
-    → ((r : Process) → act_of r m ≡ taken_by r m) → move_by m.item m.event ≡ m → IsWaiting streams marks earlier m
+    → ((r : Process) → act_of r m ≡ taken_by r m) → move_by m.item m.event ≡ m
+    → IsWaiting streams marks earlier m
     → Continues top streams marks earlier s m
 taking top streams marks earlier s m kept listed takes is_act is w =
     let at = found (process s m.who) (kept.there m.who listed) in
@@ -98,30 +104,44 @@ taking top streams marks earlier s m kept listed takes is_act is w =
     let acted_is : acted top r a ≡ Some done = ap (λ f. Some (receives r f)) picked in
     let o = outcome_of s a done in
     let stepped : step top s a ≡ Some o = step_done top s a r r done at.1 at.1 acted_is in
-    let this : w.token.serial.this ≡ m.event.serial.this = ap (λ (e : Event). e.serial.this) w.gives in
+    let this : w.token.serial.this ≡ m.event.serial.this =
+    ap (λ (e : Event). e.serial.this) w.gives in
     let report_is : o.report ≡ told_event marks m =
     ap (λ t. report r.local.traced kind.Receive t (Some r.pid) w.message.value) w.has
     ∙ ap (λ b. report b kind.Receive (Some w.token) (Some r.pid) w.message.value) so.traced
     ∙ ap (λ p. report true kind.Receive (Some w.token) (Some p) w.message.value) who
     ∙ ap (λ b. cond b (Some (got_of m.who w.message.value w.token)) None) w.seen
-    ∙ ap (λ (e : Event). let o : Option Event = cond (is_told marks m) (Some e) None in o) w.gives in
-    let put : Process = record r { local = received r.local w.message.token; queue = remove r.queue k } in
-    let put_is : put ≡ record r { local = received r.local (Some w.token); queue = remove r.queue k } =
-    ap (λ t. let y : Process = record r { local = received r.local t; queue = remove r.queue k } in y) w.has in
+    ∙ ap (λ (e : Event). let o : Option Event = cond (is_told marks m)
+    (Some e) None in o) w.gives in
+    let put : Process = record r {
+      local = received r.local w.message.token;
+      queue = remove r.queue k;
+    } in
+    let put_is : put ≡ record r {
+      local = received r.local (Some w.token);
+      queue = remove r.queue k;
+    } =
+    ap (λ t. let y : Process = record r {
+      local = received r.local t;
+      queue = remove r.queue k;
+    } in y) w.has in
     let count = m.event.serial.this in
     let before = clock m.who earlier in
     let waiting = queue_of streams marks m.who earlier in
     let own_clock : clock m.who (m ∷ earlier) ≡ max before count =
     ap (λ b. cond b (max before count) before) (pid_eq-refl m.who) in
     let own_last : last m.who (m ∷ earlier) ≡ count =
-    ap (λ b. cond b (cond (is_taking m) count m.event.serial.prev) (last m.who earlier)) (pid_eq-refl m.who)
+    ap (λ b. cond b (cond (is_taking m) count m.event.serial.prev) (last m.who earlier))
+    (pid_eq-refl m.who)
     ∙ ap (λ b. cond b count m.event.serial.prev) takes in
     let own_queue : queue_of streams marks m.who (m ∷ earlier) ≡ remove waiting k =
     taken_queue streams marks m earlier m.who true takes (pid_eq-refl m.who)
     ∙ ap (λ p. elim p [ None ↦ waiting | Some j ↦ remove waiting j ]) w.is in
     let own : IsSo streams marks (m ∷ earlier) m.who (changed a done r) =
-    subst (IsSo streams marks (m ∷ earlier) m.who) (sym (changed_own a done r who ∙ put_is)) (record {
-      clocked = ap (λ c. max c w.token.serial.this) so.clocked ∙ ap (max before) this ∙ sym own_clock;
+    subst (IsSo streams marks (m ∷ earlier) m.who) (sym (changed_own a done r who ∙ put_is))
+    (record {
+      clocked = ap (λ c. max c w.token.serial.this) so.clocked ∙ ap (max before) this
+          ∙ sym own_clock;
       lasted = this ∙ sym own_last;
       traced = so.traced;
       queued = ap (λ q. remove q k) so.queued ∙ sym own_queue;
@@ -134,7 +154,8 @@ taking top streams marks earlier s m kept listed takes is_act is w =
       clocked = there.clocked ∙ sym (other_clock m earlier x apart);
       lasted = there.lasted ∙ sym (other_last m earlier x apart);
       traced = there.traced;
-      queued = there.queued ∙ sym (taken_queue streams marks m earlier x false takes (apart_from x m.who apart));
+      queued = there.queued ∙ sym (taken_queue streams marks m earlier x false takes
+          (apart_from x m.who apart));
     } in (
       record {
         before = r;
@@ -142,7 +163,8 @@ taking top streams marks earlier s m kept listed takes is_act is w =
         acts = a ∷ [];
         are = rw (is_act r, takes) (ap (λ q. option_map (λ b. b ∷ [])
             (option_map (λ k. act.Receive m.who (want.Place k)) (position test q))) so.queued
-            ∙ ap (λ p. option_map (λ b. b ∷ []) (option_map (λ k. act.Receive m.who (want.Place k)) p)) w.is);
+            ∙ ap (λ p. option_map (λ b. b ∷ []) (option_map (λ k. act.Receive m.who
+            (want.Place k)) p)) w.is);
         outcomes = o ∷ [];
         runs = run_from-one top s a o stepped;
         tells = λ p. told_last marks m o.report p is report_is;

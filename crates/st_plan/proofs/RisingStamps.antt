@@ -1,7 +1,8 @@
--- A stamp that is above all events of its process before it is above each item of its process with a lower key: a
--- reported one has a lower index, and a hidden one another count.
-use Rattle.std.proofs.Common.{◌≡◌, ℕ, zero, suc, ◌+◌, ◌<◌, ◌≤◌, ◌==◌, ◌&&◌, max, Bool, true, false, cond, List, [], ◌∷◌}
-use Rattle.std.proofs.Common.{map, take, Option, Some, None, inl, inr, refl, sym, ◌∙◌, ap, arith, if◌then◌else◌}
+-- A stamp that is above all events of its process before it is above each item of its process with
+-- a lower key: a reported one has a lower index, and a hidden one another count.
+use Rattle.std.proofs.Common.{◌≡◌, ℕ, zero, suc, ◌+◌, ◌<◌, ◌≤◌, ◌==◌, ◌&&◌, max, Bool, true, false}
+use Rattle.std.proofs.Common.{cond, List, [], ◌∷◌, map, take, Option, Some, None, inl, inr, refl}
+use Rattle.std.proofs.Common.{sym, ◌∙◌, ap, arith, if◌then◌else◌}
 use Rattle.std.proofs.lemmas.Bool.{eq-eqb, and_from, false≢true, cases_order, cases_lt}
 use Rattle.std.proofs.lemmas.Option.{none-some}
 use Rattle.st_core.specs.declared.types.Pid.{Pid}
@@ -27,7 +28,8 @@ use Rattle.st_plan.proofs.EarlierMoves.{hidden_above, IsAt, IsKeyBelow}
 abbrev pub height_of : List Stream → Pid → ℕ → ℕ
 height_of streams p n = greatest (map (λ (e : Event). e.serial.this) (take n (events_of streams p)))
 
-pub height_more : (streams : List Stream) (p : Pid) (n : ℕ) (e : Event) → event_at streams p n ≡ Some e
+pub height_more : (streams : List Stream) (p : Pid) (n : ℕ) (e : Event)
+    → event_at streams p n ≡ Some e
     → height_of streams p (suc n) ≡ max e.serial.this (height_of streams p n)
 height_more streams p n e at = greatest_more (events_of streams p) n e at
 
@@ -47,9 +49,11 @@ heights_rise : (es : List Event) (m n : ℕ) → m ≤ n
 heights_rise es zero n le = omega arith
 heights_rise es (suc m) zero le = absurd (omega arith)
 heights_rise [] (suc m) (suc n) le = omega arith
-heights_rise (e ∷ es) (suc m) (suc n) le = let rest = heights_rise es m n (omega arith) in omega arith
+heights_rise (e ∷ es) (suc m) (suc n) le =
+    let rest = heights_rise es m n (omega arith) in omega arith
 
-pub height_is : (streams : List Stream) (p : Pid) (i : ℕ) → height streams p i ≡ height_of streams p (suc i)
+pub height_is : (streams : List Stream) (p : Pid) (i : ℕ)
+    → height streams p i ≡ height_of streams p (suc i)
 height_is streams p i = let e : i + 1 ≡ suc i = omega arith in ap (height_of streams p) e
 
 abbrev pub rank_of : Event → ℕ
@@ -80,16 +84,20 @@ not_found streams d false h = nothing_found d.from (stamp_of streams d.from d.se
 hidden_apart : (streams : List Stream) (d e : Event) (i : ℕ) → is_hidden streams d ≡ true
     → event_at streams d.from i ≡ Some e → is_stamp e ≡ true → d.serial.this ≡ e.serial.this → ⊥
 hidden_apart streams d e i hidden at stamps same =
-    let sought : stamp_of streams d.from d.serial.this ≡ None = not_found streams d (is_stamp d) hidden in
-    let none = from_none (own_rule d.serial.this) d.from 0 (events_of streams d.from) sought i e at in
+    let sought : stamp_of streams d.from d.serial.this ≡ None =
+    not_found streams d (is_stamp d) hidden in
+    let none = from_none (own_rule d.serial.this) d.from 0
+    (events_of streams d.from) sought i e at in
     let count = eq-eqb e.serial.this d.serial.this (sym same) in
     let test : (is_stamp e && e.serial.this == d.serial.this) ≡ true =
     and_from (is_stamp e) (e.serial.this == d.serial.this) stamps count in
     none-some (0 + i, e) (sym none ∙ ap (λ b. cond b (Some (0 + i, e)) None) test)
 
 -- an item of the same process with a lower key has a lower count than a stamp
-pub this_below : (streams : List Stream) (y x : Item) (d e : Event) → IsAt streams y d → IsAt streams x e → Stamps x e
-    → IsTop streams x e → IsKeyBelow (key_by streams y d) (key_by streams x e) → (move_by y d).who ≡ (move_by x e).who
+pub this_below : (streams : List Stream) (y x : Item) (d e : Event) → IsAt streams y d
+    → IsAt streams x e → Stamps x e
+    → IsTop streams x e → IsKeyBelow (key_by streams y d) (key_by streams x e)
+    → (move_by y d).who ≡ (move_by x e).who
     → d.serial.this < e.serial.this
 this_below streams (item.Reported q j) (item.Reported p i) d e at_d at_e stamps tops below who =
     let top = tops stamps in
@@ -113,7 +121,8 @@ this_below streams (item.Reported q j) (item.Reported p i) d e at_d at_e stamps 
           absurd (omega arith)
     ] in
     let low = tallest_has (events_of streams q) i j d at_d less in
-    let same : height_of streams q i ≡ height_of streams p i = ap (λ r. height_of streams r i) who in
+    let same : height_of streams q i ≡ height_of streams p i =
+    ap (λ r. height_of streams r i) who in
     omega arith
 this_below streams (item.Hidden a b) (item.Reported p i) d e at_d at_e stamps tops below who =
     let top = tops stamps in
@@ -121,7 +130,8 @@ this_below streams (item.Hidden a b) (item.Reported p i) d e at_d at_e stamps to
     height_is streams p i ∙ height_more streams p i e at_e in
     let one = below.height in
     elim (cases_order d.serial.this e.serial.this) [
-      | inl same ↦ absurd (hidden_apart streams d e i at_d.1 (ap (λ r. event_at streams r i) who ∙ at_e) stamps same)
+      | inl same ↦ absurd (hidden_apart streams d e i at_d.1
+          (ap (λ r. event_at streams r i) who ∙ at_e) stamps same)
       | inr (inl less) ↦ less
       | inr (inr more) ↦ absurd (omega arith)
     ]

@@ -1,7 +1,7 @@
--- Of settled streams each move of the order goes on, whichever events are told, and the moves tell those of each
--- process: so the construction goes through, and its acts show the told events.
-use Rattle.std.proofs.Common.{◌≡◌, ℕ, zero, suc, ◌<◌, ◌≤◌, false, List, [], ◌∷◌, ◌++◌, reverse, Some, All, get_or, refl}
-use Rattle.std.proofs.Common.{slice_get, ◌∙◌, ap, subst}
+-- Of settled streams each move of the order goes on, whichever events are told, and the moves tell
+-- those of each process: so the construction goes through, and its acts show the told events.
+use Rattle.std.proofs.Common.{◌≡◌, ℕ, zero, suc, ◌<◌, ◌≤◌, false, List, [], ◌∷◌, ◌++◌, reverse}
+use Rattle.std.proofs.Common.{Some, All, get_or, refl, slice_get, ◌∙◌, ap, subst}
 use Rattle.std.proofs.lemmas.Option.{none-some, same_Some, slice_get-get_or}
 use Rattle.std.specs.List.{AllByRecursion}
 use Rattle.st_core.specs.declared.types.Pid.{Pid}
@@ -26,7 +26,8 @@ use Rattle.st_plan.proofs.KeptState.{IsKept}
 use Rattle.st_plan.proofs.FreeMoves.{along_at, settled_free, AllAlong, IsFree, IsInTurn}
 use Rattle.st_plan.proofs.BuiltActs.{construction_shows, Serves}
 use Rattle.st_plan.proofs.Clocks.{at_event, IsNext}
-use Rattle.st_plan.proofs.OrderedMoves.{item_is, next_along, orderly, AreInTurn, AreThere, IsClockBelow, IsOrderly}
+use Rattle.st_plan.proofs.OrderedMoves.{item_is, next_along, orderly, AreInTurn, AreThere}
+use Rattle.st_plan.proofs.OrderedMoves.{IsClockBelow, IsOrderly}
 use Rattle.st_plan.proofs.NextMoves.{serves_along}
 use Rattle.st_plan.proofs.ProperEvents.{are_proper}
 use Rattle.st_plan.proofs.ToldMoves.{tells_all, AreMoved}
@@ -38,7 +39,8 @@ turns_of earlier [] all = tt
 turns_of earlier (m ∷ ms) all = (all.0.turn, turns_of (m ∷ earlier) ms all.1)
 
 -- an item of the order is that of a move at the same place
-move_at : (streams : List Stream) (xs : List Item) (n : ℕ) (x : Item) → AreThere streams xs → slice_get xs n ≡ Some x
+move_at : (streams : List Stream) (xs : List Item) (n : ℕ) (x : Item) → AreThere streams xs
+    → slice_get xs n ≡ Some x
     → (m : Move) × (slice_get (moves streams xs) n ≡ Some m) × (m.item ≡ x)
 move_at streams [] n x there at = absurd (none-some x at)
 move_at streams (y ∷ xs) zero x there at =
@@ -63,12 +65,14 @@ module _ (top : ℕ) (streams : List Stream) (marks : Marks) (sound : IsStreams 
   next = next_along streams [] xs there tt is_order.rises (turns_of [] (moves streams xs) free)
 
   known : IsOrderly streams marks xs
-  known = orderly streams marks (paired streams settled.accepted) xs there (order_whole streams xs is_order)
+  known = orderly streams marks (paired streams settled.accepted) xs there
+      (order_whole streams xs is_order)
       is_order.rises (turns_of [] (moves streams xs) free)
 
   -- each move goes on
   pub each_serves : AllAlong (Serves top streams marks) [] (moves streams xs)
-  each_serves = serves_along top streams marks (paired streams settled.accepted) (are_proper streams sound)
+  each_serves = serves_along top streams marks (paired streams settled.accepted)
+      (are_proper streams sound)
       settled.within [] xs there free known.clocks known.waits
 
   -- the moves tell the told events
@@ -81,11 +85,15 @@ module _ (top : ℕ) (streams : List Stream) (marks : Marks) (sound : IsStreams 
       (place.0, m.0, m.1, m.2) in
       tells_all streams marks p (moves streams xs) next moved
 
-  module _ (earlier later : List Move) (m : Move) (split : moves streams xs ≡ reverse earlier ++ m ∷ later) where
-    -- the acts of a move run from what those before it left, report what is told of it, and keep the invariant
+  module _ (earlier later : List Move) (m : Move)
+      (split : moves streams xs ≡ reverse earlier ++ m ∷ later) where
+    -- the acts of a move run from what those before it left, report what is told of it, and keep
+    -- the invariant
     pub goes_on : (s : State) → IsKept streams marks earlier s
-        → (g : GoesOn top streams marks s m) × IsKept streams marks (m ∷ earlier) (state_after s g.outcomes)
-    goes_on = along_at (Serves top streams marks) (moves streams xs) earlier later m each_serves split
+        → (g : GoesOn top streams marks s m) × IsKept streams marks (m ∷ earlier)
+        (state_after s g.outcomes)
+    goes_on = along_at (Serves top streams marks)
+        (moves streams xs) earlier later m each_serves split
 
     free_at : IsFree earlier m
     free_at = along_at IsFree (moves streams xs) earlier later m free split
@@ -111,7 +119,8 @@ module _ (top : ℕ) (streams : List Stream) (marks : Marks) (sound : IsStreams 
 
 -- WHAT IS SHOWN
 
-pub told_pids : (marks : Marks) (streams : List Stream) → pids_of streams ≡ pids_of (told_parts marks streams)
+pub told_pids : (marks : Marks) (streams : List Stream)
+    → pids_of streams ≡ pids_of (told_parts marks streams)
 told_pids marks [] = refl
 told_pids marks (x ∷ streams) = ap (λ ps. x.pid ∷ ps) (told_pids marks streams)
 
@@ -119,10 +128,14 @@ told_pids marks (x ∷ streams) = ap (λ ps. x.pid ∷ ps) (told_pids marks stre
 told_some : (marks : Marks) (all some : List Stream) (ms : List Move)
     → ((p : Pid) → told_of_moves marks p ms ≡ told_events_from (marks p) 0 (events_of all p))
     → AreFound all some
-    → AllByRecursion (λ (x : Stream). told_of_moves marks x.pid ms ≡ x.events) (told_parts marks some)
+    → AllByRecursion (λ (x : Stream). told_of_moves marks x.pid ms ≡ x.events)
+    (told_parts marks some)
 told_some marks all [] ms told found = tt
-told_some marks all (x ∷ some) ms told found =
-    (told x.pid ∙ ap (told_events_from (marks x.pid) 0) found.0, told_some marks all some ms told found.1)
+told_some marks all (x ∷ some) ms told found = (
+  told x.pid ∙ ap (told_events_from (marks x.pid) 0) found.0,
+  told_some marks all some ms told
+      found.1,
+)
 
 pub tells_only : (streams : List Stream) (marks : Marks) (ms : List Move) → IsStreams streams
     → ((p : Pid) → told_of_moves marks p ms ≡ told_events_from (marks p) 0 (events_of streams p))
@@ -130,7 +143,8 @@ pub tells_only : (streams : List Stream) (marks : Marks) (ms : List Move) → Is
 tells_only streams marks ms sound told k d within =
     let shown = told_parts marks streams in
     let found = told_some marks streams streams ms told (all_found streams sound.draft.rising) in
-    all_at (λ (x : Stream). told_of_moves marks x.pid ms ≡ x.events) shown k (get_or shown k d) found
+    all_at (λ (x : Stream). told_of_moves marks x.pid ms ≡ x.events) shown k
+    (get_or shown k d) found
     (slice_get-get_or shown k d within)
 
 abbrev IsShown : ℕ → List Stream → Marks → List Stream → List Move → Type 0
@@ -139,14 +153,17 @@ IsShown top streams marks shown ms =
 
 shown_by : (top : ℕ) (streams : List Stream) (marks : Marks) (shown : List Stream) (ms : List Move)
     → AllAlong (Serves top streams marks) [] ms → pids_of streams ≡ pids_of shown
-    → All (λ (x : Stream). told_of_moves marks x.pid ms ≡ x.events) shown → IsShown top streams marks shown ms
+    → All (λ (x : Stream). told_of_moves marks x.pid ms ≡ x.events) shown
+    → IsShown top streams marks shown ms
 shown_by top streams marks shown [] serve pids told = ([], refl, ([], refl, told))
 shown_by top streams marks shown (m ∷ ms) serve pids told =
     construction_shows top streams marks shown m ms serve pids told
 
 -- so the acts of the construction show the told events
-pub settled_is_shown : (top : ℕ) (streams : List Stream) (marks : Marks) → IsStreams streams → IsSettled top streams
-    → (acts : List Act) × (construction top streams marks (moves streams (order streams)) ≡ Some acts)
+pub settled_is_shown : (top : ℕ) (streams : List Stream) (marks : Marks) → IsStreams streams
+    → IsSettled top streams
+    → (acts : List Act) × (construction top streams marks (moves streams (order streams))
+    ≡ Some acts)
     × Shows top (told_parts marks streams) acts × NoReset acts
 settled_is_shown top streams marks sound settled =
     let ok = paired streams settled.accepted in
@@ -154,6 +171,7 @@ settled_is_shown top streams marks sound settled =
     let ms = moves streams (order streams) in
     let told = tells_told_events top streams marks sound settled (order streams) is_order in
     let serve = each_serves top streams marks sound settled (order streams) is_order in
-    let shown = shown_by top streams marks (told_parts marks streams) ms serve (told_pids marks streams)
+    let shown = shown_by top streams marks (told_parts marks streams) ms serve
+    (told_pids marks streams)
     (tells_only streams marks ms sound told) in
     (shown.0, shown.1, shown.2, no_reset top streams marks ms shown.0 shown.1)

@@ -1,7 +1,9 @@
--- A receive's message is of its source, a hidden send or its sender's stamp with its count, which has a lower key: it
--- is a send, and at most as high. And each send that came with its sender and count gives its event.
-use Rattle.std.proofs.Common.{◌≡◌, ℕ, suc, ◌+◌, ◌==◌, ◌&&◌, max, Bool, true, false, not, cond, List, Option, Some, None}
-use Rattle.std.proofs.Common.{option_and_then, refl, sym, ◌∙◌, ap, subst, arith, if◌then◌else◌}
+-- A receive's message is of its source, a hidden send or its sender's stamp with its count, which
+-- has a lower key: it is a send, and at most as high. And each send that came with its sender and
+-- count gives its event.
+use Rattle.std.proofs.Common.{◌≡◌, ℕ, suc, ◌+◌, ◌==◌, ◌&&◌, max, Bool, true, false, not, cond, List}
+use Rattle.std.proofs.Common.{Option, Some, None, option_and_then, refl, sym, ◌∙◌, ap, subst, arith}
+use Rattle.std.proofs.Common.{if◌then◌else◌}
 use Rattle.std.specs.List.{slice_get, AllByRecursion}
 use Rattle.std.specs.Option.{option_map_or}
 use Rattle.std.proofs.lemmas.Bool.{eqb-true, false≢true, not-false, and_parts}
@@ -28,7 +30,8 @@ use Rattle.st_plan.specs.Moves.{Move, move_by}
 use Rattle.st_plan.specs.Build.{quiet}
 use Rattle.st_plan.proofs.Receives.{IsWaiting}
 use Rattle.st_plan.proofs.EarlierMoves.{IsAt, IsKeyBelow}
-use Rattle.st_plan.proofs.RisingStamps.{height_is, height_more, height_of, hidden_by, rank_of, source_by, IsTop}
+use Rattle.st_plan.proofs.RisingStamps.{height_is, height_more, height_of, hidden_by, rank_of}
+use Rattle.st_plan.proofs.RisingStamps.{source_by, IsTop}
 use Rattle.st_plan.proofs.Clocks.{HasCome, IsBelow}
 use Rattle.st_plan.proofs.WaitingMessages.{is_waiting, Fits, IsSendTo}
 use Rattle.st_plan.proofs.MatchedSends.{matched_send, same_place, untaken}
@@ -84,8 +87,10 @@ receive_rank : (e : Event) → is_stamp e ≡ false → rank_of e ≡ 1
 receive_rank e h = ap (λ b. let n : ℕ = if b then 0 else 1 in n) h
 
 -- no key of that height and rank 0 is above a receive's that is as high
-not_after : (streams : List Stream) (p : Pid) (i : ℕ) (e : Event) (x : Item) (d : Event) → event_at streams p i ≡ Some e
-    → is_stamp e ≡ false → (key_by streams x d).height ≡ e.serial.this → (key_by streams x d).rank ≡ 0
+not_after : (streams : List Stream) (p : Pid) (i : ℕ) (e : Event) (x : Item) (d : Event)
+    → event_at streams p i ≡ Some e
+    → is_stamp e ≡ false → (key_by streams x d).height ≡ e.serial.this
+    → (key_by streams x d).rank ≡ 0
     → IsKeyBelow (key_by streams (item.Reported p i) e) (key_by streams x d) → ⊥
 not_after streams p i e x d at receive high low below =
     let one = below.height in
@@ -95,7 +100,8 @@ not_after streams p i e x d at receive high low below =
     let ranked = receive_rank e receive in
     omega arith
 
-hidden_is : (streams : List Stream) (e : Event) → is_stamp e ≡ false → stamp_of streams e.from e.serial.this ≡ None
+hidden_is : (streams : List Stream) (e : Event) → is_stamp e ≡ false
+    → stamp_of streams e.from e.serial.this ≡ None
     → is_hidden streams e ≡ true
 hidden_is streams e receive none =
     ap (λ b. if b then false else hidden_by (source_of streams e)) receive
@@ -108,7 +114,8 @@ to_is p to h = ap (λ (o : Option Pid). option_map_or (λ x. pid_eq p x) o false
 abbrev pub AreTops : List Stream → Type 0
 AreTops streams = (x : Item) (d : Event) → IsAt streams x d → IsTop streams x d
 
-pub source_item : (streams : List Stream) → IsPaired streams → AreTops streams → (p : Pid) (i : ℕ) (e : Event)
+pub source_item : (streams : List Stream) → IsPaired streams → AreTops streams
+    → (p : Pid) (i : ℕ) (e : Event)
     → IsReceive streams p i e → HasSource streams p i e
 source_item streams ok tops p i e r =
     let receive = receive_unstamped e r.kind in
@@ -122,14 +129,18 @@ source_item streams ok tops p i e r =
         before = not_after streams p i e (item.Hidden p i) e r.at receive refl refl;
       }
       | Some g ↦ λ some.
-          let found = given_from (own_rule e.serial.this) e.from 0 (events_of streams e.from) g some in
+          let found = given_from (own_rule e.serial.this) e.from 0
+          (events_of streams e.from) g some in
           let f = found.1 in
-          let test = (cond_some (is_stamp f && f.serial.this == e.serial.this) (0 + found.0, f) g found.3).0 in
+          let test = (cond_some (is_stamp f && f.serial.this == e.serial.this)
+          (0 + found.0, f) g found.3).0 in
           let tests = and_parts (is_stamp f) (f.serial.this == e.serial.this) test in
           let count = eqb-true f.serial.this e.serial.this tests.1 in
           let top = tops (item.Reported e.from found.0) f found.2 tests.0 in
-          let agreed = matched_send streams ok p i e e.from found.0 f r.at receive found.2 tests.0 refl count in
-          let high : height streams e.from found.0 ≡ max f.serial.this (height_of streams e.from found.0) =
+          let agreed = matched_send streams ok p i e e.from found.0 f r.at receive found.2 tests.0
+          refl count in
+          let high : height streams e.from found.0 ≡ max f.serial.this
+          (height_of streams e.from found.0) =
           height_is streams e.from found.0 ∙ height_more streams e.from found.0 f found.2 in
           let ranked : rank_of f ≡ 0 = ap (λ b. let n : ℕ = if b then 0 else 1 in n) tests.0 in
           record {
@@ -142,7 +153,8 @@ source_item streams ok tops p i e r =
               who = refl;
               count = count;
             };
-            before = not_after streams p i e (item.Reported e.from found.0) f r.at receive (omega arith) ranked;
+            before = not_after streams p i e (item.Reported e.from found.0) f r.at receive
+                (omega arith) ranked;
           }
     ] refl
 
@@ -184,7 +196,8 @@ fits_by streams marks ok p i e r (item.Reported q j) d at sent =
     ∙ ap (receive_of streams e.from) count
     ∙ once_place streams ok p i e r.at receive in
     let receiver : receiver_at streams q j ≡ Some (p, i) =
-    ap (option_and_then (λ (f : Event). if is_send f then receive_of streams q f.serial.this else None)) at
+    ap (option_and_then (λ (f : Event). if is_send f then receive_of streams q f.serial.this else
+    None)) at
     ∙ ap (λ b. cond b (receive_of streams q d.serial.this) None) agreed.sends ∙ first in
     let kinds = sym r.kind in
     let tos = sym r.to in
@@ -218,13 +231,17 @@ fits streams marks ok p i e r y came sent = subst (Fits streams marks p e (marks
     (subst (IsSendTo p e.from e.serial.this) (sym came.is) sent))
 
 -- so a receive whose source came finds its message waiting
-pub receive_waits : (streams : List Stream) (marks : Marks) → IsPaired streams → (earlier : List Move) (p : Pid)
+pub receive_waits : (streams : List Stream) (marks : Marks) → IsPaired streams
+    → (earlier : List Move) (p : Pid)
     (i : ℕ) (e : Event) → IsReceive streams p i e → AllByRecursion (HasCome streams) earlier
     → AllByRecursion (IsBelow streams (move_by (item.Reported p i) e)) earlier
-    → (source : HasSource streams p i e) (n : ℕ) → slice_get earlier n ≡ Some (move_by source.thing source.event)
+    → (source : HasSource streams p i e) (n : ℕ) → slice_get earlier n
+    ≡ Some (move_by source.thing source.event)
     → IsWaiting streams marks earlier (move_by (item.Reported p i) e)
 receive_waits streams marks ok earlier p i e r came below source n at =
     let free = untaken streams ok p i e earlier r.at (receive_unstamped e r.kind) came below p in
-    is_waiting streams marks earlier (move_by (item.Reported p i) e) n (move_by source.thing source.event) free at
+    is_waiting streams marks earlier (move_by (item.Reported p i) e) n
+    (move_by source.thing source.event) free at
     source.sent
-    (λ k y among sent. fits streams marks ok p i e r y (all_at (HasCome streams) earlier k y came among) sent)
+    (λ k y among sent. fits streams marks ok p i e r y
+    (all_at (HasCome streams) earlier k y came among) sent)

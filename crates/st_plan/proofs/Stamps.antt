@@ -1,7 +1,8 @@
--- A stamp keeps the invariant: the acts before it leave its process ready, and then its act stamps the move's serial,
--- so that it reports the move's event and queues its message.
-use Rattle.std.proofs.Common.{◌≡◌, ℕ, ◌+◌, ◌<◌, ◌≤◌, ◌⊎◌, Bool, true, false, cond, List, [], ◌∷◌, ◌++◌, Option, Some}
-use Rattle.std.proofs.Common.{None, is_some, inl, inr, refl, sym, ◌∙◌, ap, subst, arith, option_to_list, if◌then◌else◌}
+-- A stamp keeps the invariant: the acts before it leave its process ready, and then its act stamps
+-- the move's serial, so that it reports the move's event and queues its message.
+use Rattle.std.proofs.Common.{◌≡◌, ℕ, ◌+◌, ◌<◌, ◌≤◌, ◌⊎◌, Bool, true, false, cond, List, [], ◌∷◌}
+use Rattle.std.proofs.Common.{◌++◌, Option, Some, None, is_some, inl, inr, refl, sym, ◌∙◌, ap}
+use Rattle.std.proofs.Common.{subst, arith, option_to_list, if◌then◌else◌}
 use Rattle.std.proofs.lemmas.Bool.{lt-ltb}
 use Rattle.st_core.specs.declared.types.Pid.{Pid}
 use Rattle.st_core.specs.declared.types.Token.{Token}
@@ -10,7 +11,8 @@ use Rattle.st_core.specs.declared.types.Kind.{Kind}
 use Rattle.st_core.specs.declared.types.Kind.TheVariants as kind
 use Rattle.st_core.specs.declared.types.Event.{Event}
 use Rattle.st_core.specs.declared.types.Reply.TheVariants as reply
-use Rattle.st_core.specs.Step.{actor, answers, receiver, Acted, acted, reached, changed, outcome_of, step}
+use Rattle.st_core.specs.Step.{actor, answers, receiver, Acted, acted, reached, changed, outcome_of}
+use Rattle.st_core.specs.Step.{step}
 use Rattle.st_core.specs.Run.{stream, Stream}
 use Rattle.st_core.specs.declared.types.Act.{Act}
 use Rattle.st_core.specs.declared.types.Act.TheVariants as act
@@ -25,17 +27,18 @@ use Rattle.st_plan.specs.Plain.{told_of_move}
 use Rattle.st_plan.specs.Moves.{Move, is_taking, clock, move_by}
 use Rattle.st_plan.specs.Reasons.{uncaused}
 use Rattle.st_plan.specs.Build.{ready, flags_of, act_of, state_after, start_of}
-use Rattle.st_plan.proofs.KeptState.{step_keeps, token_of, message_of, sends_to, queue_of, IsSo, IsKept, told_event}
-use Rattle.st_plan.proofs.KeptState.{Continues, found, still_there, caused, own_clock, own_last}
-use Rattle.st_plan.proofs.KeptState.{other_clock, other_last}
-use Rattle.st_plan.proofs.KeptState.{stamp_queue, stream_last, told_last}
+use Rattle.st_plan.proofs.KeptState.{step_keeps, token_of, message_of, sends_to, queue_of, IsSo}
+use Rattle.st_plan.proofs.KeptState.{IsKept, told_event, Continues, found, still_there, caused}
+use Rattle.st_plan.proofs.KeptState.{own_clock, own_last, other_clock, other_last, stamp_queue}
+use Rattle.st_plan.proofs.KeptState.{stream_last, told_last}
 use Rattle.st_plan.proofs.Readiness.{is_ready}
 use Rattle.st_plan.proofs.OwnActs.{run_append, state_append, Lifted, lifted, changed_own}
 
 -- READY
 
 -- what a stamp's acts need
-pub record CanStamp (top : ℕ) (streams : List Stream) (marks : Marks) (earlier : List Move) (s : State) (m : Move)
+pub record CanStamp (top : ℕ) (streams : List Stream) (marks : Marks) (earlier : List Move)
+    (s : State) (m : Move)
     : Type 0 where
   pub kept : IsKept streams marks earlier s
   pub listed : lists streams m.who ≡ true
@@ -47,7 +50,8 @@ pub record CanStamp (top : ℕ) (streams : List Stream) (marks : Marks) (earlier
   pub free : uncaused earlier m ≡ false
 
 -- the record that is ready for the stamp of a move, and what it took
-pub record StandsReady (top : ℕ) (streams : List Stream) (marks : Marks) (earlier : List Move) (s : State) (m : Move)
+pub record StandsReady (top : ℕ) (streams : List Stream) (marks : Marks) (earlier : List Move)
+    (s : State) (m : Move)
     : Type 0 where
   pub before : Process
   pub is_before : process s m.who ≡ Some before
@@ -61,9 +65,11 @@ pub record StandsReady (top : ℕ) (streams : List Stream) (marks : Marks) (earl
   pub lasted : end.last ≡ m.event.serial.prev
   pub traced : end.traced ≡ true
   pub queued : before.queue ≡ queue_of streams marks m.who earlier
-  pub there : (x : Pid) → lists streams x ≡ true → is_some (process (state_after s lift.os) x) ≡ true
+  pub there : (x : Pid) → lists streams x ≡ true
+      → is_some (process (state_after s lift.os) x) ≡ true
 
-pub stands_ready : (top : ℕ) (streams : List Stream) (marks : Marks) (earlier : List Move) (s : State) (m : Move)
+pub stands_ready : (top : ℕ) (streams : List Stream) (marks : Marks) (earlier : List Move)
+    (s : State) (m : Move)
     → CanStamp top streams marks earlier s m → StandsReady top streams marks earlier s m
 stands_ready top streams marks earlier s m can =
     let kept = can.kept in
@@ -78,8 +84,10 @@ stands_ready top streams marks earlier s m can =
       | inr least ↦ inr (omega arith)
     ] in
     let f = flags_of streams marks m in
-    let ready_at = is_ready top m.who r.local m.event.label m.event.serial f can.rises can.within (omega arith) why in
-    let lift = lifted top m.who (ready m.who (start_of r.local) m.event.label m.event.serial f) s r r.local ready_at.end
+    let ready_at = is_ready top m.who r.local m.event.label m.event.serial f can.rises can.within
+    (omega arith) why in
+    let lift = lifted top m.who (ready m.who (start_of r.local) m.event.label m.event.serial f) s r
+    r.local ready_at.end
     at.1 refl ready_at.runs in
     let at_clock = ready_at.clocked in
     let now : ready_at.end.clock + 1 ≡ m.event.serial.this = omega arith in
@@ -116,12 +124,16 @@ final p l t = record l { token = Some (stamped_token p l t); clock = l.clock + 1
 
 -- what a stamp of this kind does if this record is made of its process's
 abbrev stamps_as : Kind → Option Pid → ℕ → Process → LocalState → Acted
-stamps_as k to v r l = record (answers r l reply.Done) { report = report r.local.traced k l.token to v }
+stamps_as k to v r l =
+    record (answers r l reply.Done) { report = report r.local.traced k l.token to v }
 
 -- the record with the move's message, if it is for its process
 abbrev with_message : List Stream → Marks → Move → Process → Process
 with_message streams marks m z =
-    record z { queue = if sends_to z.pid m then z.queue ++ message_of streams marks m ∷ [] else z.queue }
+    record z {
+      queue = if sends_to z.pid m then z.queue ++ message_of streams marks m
+          ∷ [] else z.queue;
+    }
 
 -- the act is the stamp of the move
 record IsStampOf (streams : List Stream) (marks : Marks) (m : Move) (a : Act) : Type 0 where
@@ -132,15 +144,18 @@ record IsStampOf (streams : List Stream) (marks : Marks) (m : Move) (a : Act) : 
   listed : lists streams (receiver a) ≡ true
   acts : (top : ℕ) (r : Process) (t : Token) → r.local.token ≡ Some t → r.local.clock < top
       → acted top r a ≡ Some (stamps_as kind to m.event.value r (final r.pid r.local t))
-  reaches : (z : Process) → reached a (Some (token_of streams marks m)) z ≡ with_message streams marks m z
+  reaches : (z : Process) → reached a (Some (token_of streams marks m)) z
+      ≡ with_message streams marks m z
   reports : report true kind (Some (token_of streams marks m)) to m.event.value ≡ told_event marks m
 
 -- the record of another process, with the move's message if it is for it
-so_other : (streams : List Stream) (marks : Marks) (earlier : List Move) (m : Move) (x : Pid) (z : Process) → z.pid ≡ x
+so_other : (streams : List Stream) (marks : Marks) (earlier : List Move) (m : Move) (x : Pid)
+    (z : Process) → z.pid ≡ x
     → pid_eq x m.who ≡ false → is_taking m ≡ false → IsSo streams marks earlier x z
     → IsSo streams marks (m ∷ earlier) x (with_message streams marks m z)
 so_other streams marks earlier m x z pid apart stamps so =
-    let push : Bool → List Message → List Message = λ b q. cond b (q ++ message_of streams marks m ∷ []) q in
+    let push : Bool → List Message → List Message =
+    λ b q. cond b (q ++ message_of streams marks m ∷ []) q in
     record {
       clocked = so.clocked ∙ sym (other_clock m earlier x apart);
       lasted = so.lasted ∙ sym (other_last m earlier x apart);
@@ -151,13 +166,15 @@ so_other streams marks earlier m x z pid apart stamps so =
     }
 
 -- the stamping process's own
-so_own : (top : ℕ) (streams : List Stream) (marks : Marks) (earlier : List Move) (s : State) (m : Move)
+so_own : (top : ℕ) (streams : List Stream) (marks : Marks) (earlier : List Move) (s : State)
+    (m : Move)
     (y : StandsReady top streams marks earlier s m) → y.before.pid ≡ m.who → is_taking m ≡ false
     → clock m.who earlier < m.event.serial.this
     → IsSo streams marks (m ∷ earlier) m.who
     (with_message streams marks m (record y.before { local = final y.before.pid y.end y.token }))
 so_own top streams marks earlier s m y pid stamps below =
-    let push : Bool → List Message → List Message = λ b q. cond b (q ++ message_of streams marks m ∷ []) q in
+    let push : Bool → List Message → List Message =
+    λ b q. cond b (q ++ message_of streams marks m ∷ []) q in
     record {
       clocked = y.clocked ∙ sym (own_clock m earlier below);
       lasted = y.lasted ∙ sym (own_last m earlier stamps);
@@ -167,27 +184,33 @@ so_own top streams marks earlier s m y pid stamps below =
           ∙ sym (stamp_queue streams marks m earlier m.who (sends_to m.who m) stamps refl);
     }
 
-stamping : (top : ℕ) (streams : List Stream) (marks : Marks) (earlier : List Move) (s : State) (m : Move) (a : Act)
-    → CanStamp top streams marks earlier s m → IsStampOf streams marks m a → Continues top streams marks earlier s m
+stamping : (top : ℕ) (streams : List Stream) (marks : Marks) (earlier : List Move) (s : State)
+    (m : Move) (a : Act)
+    → CanStamp top streams marks earlier s m → IsStampOf streams marks m a
+    → Continues top streams marks earlier s m
 stamping top streams marks earlier s m a can st =
     let kept = can.kept in
     let within = can.within in
     let y = stands_ready top streams marks earlier s m can in
     let clocked = y.clocked in
     let v = m.event.value in
-    let first_acts = ready m.who (start_of y.before.local) m.event.label m.event.serial (flags_of streams marks m) in
+    let first_acts = ready m.who (start_of y.before.local) m.event.label m.event.serial
+    (flags_of streams marks m) in
     let s1 = state_after s y.lift.os in
     let r : Process = record y.before { local = y.end } in
     let who : r.pid ≡ m.who = process_pid s m.who y.before y.is_before in
     let stamp = stamped_token r.pid y.end y.token in
-    let stamp_is : stamp ≡ token_of streams marks m = ap (λ p. stamped_token p y.end y.token) who ∙ y.stamped in
+    let stamp_is : stamp ≡ token_of streams marks m =
+    ap (λ p. stamped_token p y.end y.token) who ∙ y.stamped in
     let done = stamps_as st.kind st.to v r (final r.pid y.end y.token) in
     let acted_is : acted top r a ≡ Some done = st.acts top r y.token y.is (omega arith) in
     let other = found (process s1 (receiver a)) (y.there (receiver a) st.listed) in
     let o = outcome_of s1 a done in
     let here : process s1 (actor a) ≡ Some r = ap (process s1) st.by ∙ y.lift.here in
-    let stepped : step top s1 a ≡ Some o = step_done top s1 a r other.0 done here other.1 acted_is in
-    let report_is : o.report ≡ told_event marks m = ap (λ b. report b st.kind (Some stamp) st.to v) y.traced
+    let stepped : step top s1 a ≡ Some o =
+    step_done top s1 a r other.0 done here other.1 acted_is in
+    let report_is : o.report ≡ told_event marks m =
+    ap (λ b. report b st.kind (Some stamp) st.to v) y.traced
     ∙ ap (λ t. report true st.kind (Some t) st.to v) stamp_is
     ∙ st.reports in
     let reaches : (z : Process) → reached a (Some stamp) z ≡ with_message streams marks m z =
@@ -201,7 +224,8 @@ stamping top streams marks earlier s m a can st =
     λ x z apart is.
     let before : process s x ≡ Some z = sym (y.lift.others x apart) ∙ is in
     subst (IsSo streams marks (m ∷ earlier) x) (sym (reaches z))
-    (so_other streams marks earlier m x z (process_pid s x z before) apart can.stamps (kept.each x z before)) in
+    (so_other streams marks earlier m x z (process_pid s x z before) apart can.stamps
+    (kept.each x z before)) in
     let state : state_after s (y.lift.os ++ o ∷ []) ≡ o.after = state_append s y.lift.os (o ∷ []) in
     let shown : (p : Pid) → stream (first_acts ++ a ∷ []) (y.lift.os ++ o ∷ []) p
     ≡ told_of_move marks p m = λ p.
@@ -214,7 +238,8 @@ stamping top streams marks earlier s m a can st =
         acts = first_acts ++ a ∷ [];
         are = rw (st.is y.before, can.stamps) refl;
         outcomes = y.lift.os ++ o ∷ [];
-        runs = run_append top s first_acts (a ∷ []) y.lift.os (o ∷ []) y.lift.runs (run_from-one top s1 a o stepped);
+        runs = run_append top s first_acts (a ∷ []) y.lift.os (o ∷ []) y.lift.runs
+            (run_from-one top s1 a o stepped);
         tells = shown;
       },
       subst (IsKept streams marks (m ∷ earlier)) (sym state)
@@ -225,11 +250,20 @@ stamping top streams marks earlier s m a can st =
 
 sent : (p to : Pid) (v : ℕ) (t : Token) (z : Process) (b : Bool) → b ≡ pid_eq z.pid to
     → reached (act.Send p to v) (Some t) z
-    ≡ record z { queue = if b then z.queue ++ record { from = p; value = v; token = Some t } ∷ [] else z.queue }
+    ≡ record z {
+      queue = if b then z.queue ++ record { from = p; value = v; token = Some t }
+          ∷ [] else z.queue;
+    }
 sent p to v t z true is = ap
-    (λ b. cond b (record z { queue = z.queue ++ record { from = p; value = v; token = Some t } ∷ [] }) z) (sym is)
+    (λ b. cond b (record z {
+      queue = z.queue ++ record { from = p; value = v; token = Some t }
+          ∷ [];
+    }) z) (sym is)
 sent p to v t z false is = ap
-    (λ b. cond b (record z { queue = z.queue ++ record { from = p; value = v; token = Some t } ∷ [] }) z) (sym is)
+    (λ b. cond b (record z {
+      queue = z.queue ++ record { from = p; value = v; token = Some t }
+          ∷ [];
+    }) z) (sym is)
 
 -- what a send of the move reports
 abbrev pub sent_event : Move → Pid → Event
@@ -242,10 +276,13 @@ sent_event m to = record {
   value = m.event.value;
 }
 
-pub sending : (top : ℕ) (streams : List Stream) (marks : Marks) (earlier : List Move) (s : State) (m : Move) (to : Pid)
+pub sending : (top : ℕ) (streams : List Stream) (marks : Marks) (earlier : List Move) (s : State)
+    (m : Move) (to : Pid)
     → CanStamp top streams marks earlier s m → lists streams to ≡ true
-    → ((r : Process) → act_of r m ≡ Some (act.Send m.who to m.event.value)) → ((q : Pid) → sends_to q m ≡ pid_eq q to)
-    → (if (flags_of streams marks m).send then Some (sent_event m to) else None) ≡ told_event marks m
+    → ((r : Process) → act_of r m ≡ Some (act.Send m.who to m.event.value))
+    → ((q : Pid) → sends_to q m ≡ pid_eq q to)
+    → (if (flags_of streams marks m).send then Some (sent_event m to) else None)
+    ≡ told_event marks m
     → Continues top streams marks earlier s m
 sending top streams marks earlier s m to can listed is is_to reports =
     stamping top streams marks earlier s m (act.Send m.who to m.event.value) can (record {
@@ -255,7 +292,8 @@ sending top streams marks earlier s m to can listed is is_to reports =
       by = refl;
       listed = listed;
       acts = λ top r t has below. rw (has, lt-ltb r.local.clock top below) refl;
-      reaches = λ z. sent m.who to m.event.value (token_of streams marks m) z (sends_to z.pid m) (is_to z.pid);
+      reaches = λ z. sent m.who to m.event.value (token_of streams marks m) z (sends_to z.pid m)
+          (is_to z.pid);
       reports = reports;
     })
 
@@ -270,10 +308,13 @@ printed_event m = record {
   value = m.event.value;
 }
 
-pub printing : (top : ℕ) (streams : List Stream) (marks : Marks) (earlier : List Move) (s : State) (m : Move)
-    → CanStamp top streams marks earlier s m → ((r : Process) → act_of r m ≡ Some (act.Print m.who m.event.value))
+pub printing : (top : ℕ) (streams : List Stream) (marks : Marks) (earlier : List Move) (s : State)
+    (m : Move)
+    → CanStamp top streams marks earlier s m → ((r : Process)
+    → act_of r m ≡ Some (act.Print m.who m.event.value))
     → ((q : Pid) → sends_to q m ≡ false)
-    → (if (flags_of streams marks m).print then Some (printed_event m) else None) ≡ told_event marks m
+    → (if (flags_of streams marks m).print then Some (printed_event m) else None)
+    ≡ told_event marks m
     → Continues top streams marks earlier s m
 printing top streams marks earlier s m can is is_to reports =
     stamping top streams marks earlier s m (act.Print m.who m.event.value) can (record {
@@ -284,7 +325,10 @@ printing top streams marks earlier s m can is is_to reports =
       listed = can.listed;
       acts = λ top r t has below. rw (has, lt-ltb r.local.clock top below) refl;
       reaches = λ z. ap
-          (λ b. record z { queue = if b then z.queue ++ message_of streams marks m ∷ [] else z.queue })
+          (λ b. record z {
+            queue = if b then z.queue ++ message_of streams marks m
+                ∷ [] else z.queue;
+          })
           (sym (is_to z.pid));
       reports = reports;
     })

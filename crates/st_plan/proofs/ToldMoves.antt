@@ -1,7 +1,8 @@
--- Along an order of all that is there, in turn, the moves tell each process's told events: each is the next, told where
--- it is told, and there is none that no move is of.
-use Rattle.std.proofs.Common.{◌≡◌, ℕ, zero, suc, ◌+◌, ◌<◌, ◌≤◌, Bool, true, false, cond, List, [], ◌∷◌, ◌++◌, length}
-use Rattle.std.proofs.Common.{take, Some, append_assoc, inl, inr, refl, sym, ◌∙◌, ap, subst, arith, if◌then◌else◌}
+-- Along an order of all that is there, in turn, the moves tell each process's told events: each is
+-- the next, told where it is told, and there is none that no move is of.
+use Rattle.std.proofs.Common.{◌≡◌, ℕ, zero, suc, ◌+◌, ◌<◌, ◌≤◌, Bool, true, false, cond, List, []}
+use Rattle.std.proofs.Common.{◌∷◌, ◌++◌, length, take, Some, append_assoc, inl, inr, refl, sym, ◌∙◌}
+use Rattle.std.proofs.Common.{ap, subst, arith, if◌then◌else◌}
 use Rattle.std.specs.List.{slice_get}
 use Rattle.std.proofs.lemmas.Bool.{cases_lt}
 use Rattle.std.proofs.lemmas.List.{append-nil, take_all}
@@ -23,7 +24,8 @@ use Rattle.st_plan.proofs.FreeMoves.{AllAlong, IsInTurn}
 use Rattle.st_plan.proofs.Clocks.{one_by, IsNext}
 
 -- the told ones of one event more
-told_more : (told : ℕ → Bool) (i : ℕ) (es : List Event) (n : ℕ) (e : Event) → slice_get es n ≡ Some e
+told_more : (told : ℕ → Bool) (i : ℕ) (es : List Event) (n : ℕ) (e : Event)
+    → slice_get es n ≡ Some e
     → told_events_from told i (take (suc n) es)
     ≡ told_events_from told i (take n es) ++ (if told (i + n) then e ∷ [] else [])
 told_more told i [] n e at = absurd (none-some e at)
@@ -38,7 +40,8 @@ told_more told i (d ∷ es) (suc n) e at =
     let rest : told_events_from told (i + 1) (take (suc n) es) ≡ before ++ one (i + suc n) =
     told_more told (i + 1) es n e at ∙ ap (λ k. before ++ one k) next in
     let after = told_events_from told (i + 1) (take (suc n) es) in
-    elim (told i) as (λ b. cond b (d ∷ after) after ≡ cond b (d ∷ before) before ++ one (i + suc n)) [
+    elim (told i) as (λ b. cond b (d ∷ after) after ≡ cond b (d ∷ before) before
+    ++ one (i + suc n)) [
       | true ↦ ap (λ xs. d ∷ xs) rest
       | false ↦ rest
     ]
@@ -47,8 +50,10 @@ told_more told i (d ∷ es) (suc n) e at =
 abbrev told_first : List Stream → Marks → Pid → ℕ → List Event
 told_first streams marks p n = told_events_from (marks p) 0 (take n (events_of streams p))
 
-tell_by : (streams : List Stream) (marks : Marks) (earlier : List Move) (p : Pid) (x : Item) (e : Event)
-    → IsAt streams x e → IsInTurn earlier x → told_first streams marks p (event_count p earlier + one_by p x)
+tell_by : (streams : List Stream) (marks : Marks) (earlier : List Move) (p : Pid) (x : Item)
+    (e : Event)
+    → IsAt streams x e → IsInTurn earlier x → told_first streams marks p
+    (event_count p earlier + one_by p x)
     ≡ told_first streams marks p (event_count p earlier) ++ told_of_move marks p (move_by x e)
 tell_by streams marks earlier p (item.Hidden q i) e at turn =
     let same : event_count p earlier + 0 ≡ event_count p earlier = omega arith in
@@ -78,7 +83,8 @@ tell_by streams marks earlier p (item.Reported q i) e at turn =
     ] refl
 
 tell_along : (streams : List Stream) (marks : Marks) (p : Pid) (earlier ms : List Move)
-    → AllAlong (IsNext streams) earlier ms → told_first streams marks p (event_count p earlier + event_count p ms)
+    → AllAlong (IsNext streams) earlier ms → told_first streams marks p
+    (event_count p earlier + event_count p ms)
     ≡ told_first streams marks p (event_count p earlier) ++ told_of_moves marks p ms
 tell_along streams marks p earlier [] all =
     let same : event_count p earlier + 0 ≡ event_count p earlier = omega arith in
@@ -98,10 +104,12 @@ tell_along streams marks p earlier (m ∷ ms) all =
     ap whole sum
     ∙ rest
     ∙ ap (λ xs. xs ++ told_of_moves marks p ms) step
-    ∙ append_assoc (whole (event_count p earlier)) (told_of_move marks p m) (told_of_moves marks p ms)
+    ∙ append_assoc (whole (event_count p earlier)) (told_of_move marks p m)
+    (told_of_moves marks p ms)
 
 -- a reported item that comes later has an index below the count at the end
-index_low : (streams : List Stream) (p : Pid) (i : ℕ) (earlier ms : List Move) → AllAlong (IsNext streams) earlier ms
+index_low : (streams : List Stream) (p : Pid) (i : ℕ) (earlier ms : List Move)
+    → AllAlong (IsNext streams) earlier ms
     → (n : ℕ) (m : Move) → slice_get ms n ≡ Some m → m.item ≡ item.Reported p i
     → i < event_count p earlier + event_count p ms
 index_low streams p i earlier [] all n m at is = absurd (none-some m at)
@@ -129,7 +137,8 @@ abbrev pub AreMoved : List Stream → Pid → List Move → Type 0
 AreMoved streams p ms = (i : ℕ) (e : Event) → event_at streams p i ≡ Some e
     → (n : ℕ) × (m : Move) × (slice_get ms n ≡ Some m) × (m.item ≡ item.Reported p i)
 
-no_more : (streams : List Stream) (p : Pid) (ms : List Move) → AllAlong (IsNext streams) [] ms → AreMoved streams p ms
+no_more : (streams : List Stream) (p : Pid) (ms : List Move) → AllAlong (IsNext streams) [] ms
+    → AreMoved streams p ms
     → event_count p ms < length (events_of streams p) → ⊥
 no_more streams p ms all whole less =
     let next = at_index (events_of streams p) (event_count p ms) less in
@@ -138,8 +147,10 @@ no_more streams p ms all whole less =
     omega arith
 
 -- if each event of p is among the moves, they tell all the told ones
-pub tells_all : (streams : List Stream) (marks : Marks) (p : Pid) (ms : List Move) → AllAlong (IsNext streams) [] ms
-    → AreMoved streams p ms → told_of_moves marks p ms ≡ told_events_from (marks p) 0 (events_of streams p)
+pub tells_all : (streams : List Stream) (marks : Marks) (p : Pid) (ms : List Move)
+    → AllAlong (IsNext streams) [] ms
+    → AreMoved streams p ms → told_of_moves marks p ms
+    ≡ told_events_from (marks p) 0 (events_of streams p)
 tells_all streams marks p ms all whole =
     let es = events_of streams p in
     let tell = tell_along streams marks p [] ms all in

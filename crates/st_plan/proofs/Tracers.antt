@@ -1,7 +1,8 @@
--- The tracers come first: a tracer for each node marks all its processes, reports nothing and leaves all else at zero,
--- so that after them the state is what no moves say.
-use Rattle.std.proofs.Common.{◌≡◌, ℕ, ◌==◌, ◌&&◌, zero, suc, Bool, true, false, cond, List, [], ◌∷◌, Option, Some, None}
-use Rattle.std.proofs.Common.{is_some, option_map, option_and_then, refl, sym, ◌∙◌, ap, subst}
+-- The tracers come first: a tracer for each node marks all its processes, reports nothing and
+-- leaves all else at zero, so that after them the state is what no moves say.
+use Rattle.std.proofs.Common.{◌≡◌, ℕ, ◌==◌, ◌&&◌, zero, suc, Bool, true, false, cond, List, [], ◌∷◌}
+use Rattle.std.proofs.Common.{Option, Some, None, is_some, option_map, option_and_then, refl, sym}
+use Rattle.std.proofs.Common.{◌∙◌, ap, subst}
 use Rattle.std.specs.List.{slice_get}
 use Rattle.std.specs.Option.{option_map_or}
 use Rattle.std.proofs.lemmas.Bool.{false≢true, eq-eqb}
@@ -15,7 +16,8 @@ use Rattle.st_core.specs.State.{Process, State, process, zero_local, zero_state}
 use Rattle.st_core.specs.Step.{Acted, Outcome, answers, changed, outcome_of, step}
 use Rattle.st_core.specs.Run.{Stream, pids_of, run_from}
 use Rattle.st_core.specs.Streams.{lists, stream_of}
-use Rattle.st_core.proofs.ForCallers.{pid_same, pid_eq-refl, process_pid, mapped, eqb-swap, step_done}
+use Rattle.st_core.proofs.ForCallers.{pid_same, pid_eq-refl, process_pid, mapped, eqb-swap}
+use Rattle.st_core.proofs.ForCallers.{step_done}
 use Rattle.st_plan.specs.Marks.{Marks}
 use Rattle.st_plan.specs.Build.{state_after, tracers_after}
 use Rattle.st_plan.proofs.OwnActs.{process_then, Silent}
@@ -47,7 +49,8 @@ marked b r = cond b (record r { local = record r.local { traced = true } }) r
 abbrev after_tracer : Pid → Process → Process → Process
 after_tracer p before r = changed (act.Tracer p true) (switched before) r
 
-tracer_zero : (p : Pid) (before r : Process) → IsZero before → IsZero r → IsZero (after_tracer p before r)
+tracer_zero : (p : Pid) (before r : Process) → IsZero before → IsZero r
+    → IsZero (after_tracer p before r)
 tracer_zero p before r z y =
     let own : Process = owned (pid_eq r.pid p) before r in
     let mine : IsZero own = elim (pid_eq r.pid p) as (λ b. IsZero (owned b before r)) [
@@ -60,7 +63,8 @@ tracer_zero p before r z y =
     ]
 
 own_pid : (p : Pid) (before r : Process) → (owned (pid_eq r.pid p) before r).pid ≡ r.pid
-own_pid p before r = elim (pid_eq r.pid p) as (λ b. (owned b before r).pid ≡ r.pid) [ true ↦ refl | false ↦ refl ]
+own_pid p before r = elim (pid_eq r.pid p) as
+    (λ b. (owned b before r).pid ≡ r.pid) [ true ↦ refl | false ↦ refl ]
 
 -- on p's node all are traced
 tracer_node : (p : Pid) (before r : Process) → node_eq r.pid p ≡ true
@@ -70,13 +74,16 @@ tracer_node p before r h =
     (ap (λ x. node_eq x p) (own_pid p before r) ∙ h)
 
 -- and elsewhere as before
-tracer_keeps : (p : Pid) (before r : Process) → r.local.traced ≡ true → (after_tracer p before r).local.traced ≡ true
+tracer_keeps : (p : Pid) (before r : Process) → r.local.traced ≡ true
+    → (after_tracer p before r).local.traced ≡ true
 tracer_keeps p before r h =
-    elim (node_eq r.pid p) as (λ b. node_eq r.pid p ≡ b → (after_tracer p before r).local.traced ≡ true) [
+    elim (node_eq r.pid p) as (λ b. node_eq r.pid p ≡ b
+    → (after_tracer p before r).local.traced ≡ true) [
       | true ↦ λ e. tracer_node p before r e
       | false ↦ λ e.
           let apart : pid_eq r.pid p ≡ false = ap (λ b. b && (r.pid.number == p.number)) e in
-          ap (λ b. (marked (node_eq (owned b before r).pid p) (owned b before r)).local.traced) apart
+          ap (λ b. (marked (node_eq (owned b before r).pid p)
+          (owned b before r)).local.traced) apart
           ∙ ap (λ b. (marked b r).local.traced) e
           ∙ h
     ] refl
@@ -113,8 +120,10 @@ opened top [] seen s there zeroed traced = record {
   all = λ k x h. absurd (none-some x h);
 }
 opened top (p ∷ ps) seen s there zeroed traced =
-    elim (option_map_or (λ n. n == p.node) seen false) as (λ b. option_map_or (λ n. n == p.node) seen false ≡ b
-    → IsOpened top s (cond b (tracers_after seen ps) (act.Tracer p true ∷ tracers_after (Some p.node) ps)) (p ∷ ps)) [
+    elim (option_map_or (λ n. n == p.node) seen false) as
+    (λ b. option_map_or (λ n. n == p.node) seen false ≡ b
+    → IsOpened top s (cond b (tracers_after seen ps)
+    (act.Tracer p true ∷ tracers_after (Some p.node) ps)) (p ∷ ps)) [
       | true ↦ λ e.
           let rest = opened top ps seen s (λ k x h. there (suc k) x h) zeroed traced in
           record {
@@ -136,7 +145,8 @@ opened top (p ∷ ps) seen s there zeroed traced =
           let here : (x : Pid) → process o.after x ≡ option_map (changed a now) (process s x) =
           λ x. process_then s a now x in
           let stays : (x : Pid) → is_some (process o.after x) ≡ is_some (process s x) =
-          λ x. ap (λ (q : Option Process). is_some q) (here x) ∙ there_mapped (changed a now) (process s x) in
+          λ x. ap (λ (q : Option Process). is_some q) (here x)
+          ∙ there_mapped (changed a now) (process s x) in
           let was : (x : Pid) (r2 : Process) → process o.after x ≡ Some r2
           → (z : Process) × (process s x ≡ Some z) × (changed a now z ≡ r2) =
           λ x r2 is. mapped (changed a now) (process s x) r2 (sym (here x) ∙ is) in
@@ -147,13 +157,15 @@ opened top (p ∷ ps) seen s there zeroed traced =
           let node : (x : Pid) → node_eq x p ≡ true → IsTraced o.after x =
           λ x same r2 is.
           let z = was x r2 is in
-          let near : node_eq z.0.pid p ≡ true = ap (λ q. node_eq q p) (process_pid s x z.0 z.1) ∙ same in
+          let near : node_eq z.0.pid p ≡ true =
+          ap (λ q. node_eq q p) (process_pid s x z.0 z.1) ∙ same in
           subst (λ (y : Process). y.local.traced ≡ true) z.2 (tracer_node p r z.0 near) in
           let zeros : AreZero o.after =
           λ x r2 is.
           let z = was x r2 is in
           subst IsZero z.2 (tracer_zero p r z.0 (zeroed p r at.1) (zeroed x z.0 z.1)) in
-          let rest = opened top ps (Some p.node) o.after (λ k x h. stays x ∙ there (suc k) x h) zeros
+          let rest = opened top ps (Some p.node) o.after
+          (λ k x h. stays x ∙ there (suc k) x h) zeros
           (λ x h. node x (eqb-swap x.node p.node ∙ h)) in
           record {
             os = o ∷ rest.os;
@@ -178,7 +190,8 @@ zero_found : (pids : List Pid) (x : Pid) (r : Process) → process (zero_state p
     → (k : ℕ) × (slice_get pids k ≡ Some x)
 zero_found [] x r h = absurd (none-some r h)
 zero_found (p ∷ pids) x r h =
-    elim (pid_eq p x) as (λ b. pid_eq p x ≡ b → cond b (Some (zeroes p)) (process (zero_state pids) x) ≡ Some r
+    elim (pid_eq p x) as (λ b. pid_eq p x ≡ b → cond b (Some (zeroes p))
+    (process (zero_state pids) x) ≡ Some r
     → (k : ℕ) × (slice_get (p ∷ pids) k ≡ Some x)) [
       | true ↦ λ e h. (0, ap (λ (q : Pid). Some q) (pid_same p x e))
       | false ↦ λ e h. let rest = zero_found pids x r h in (suc rest.0, rest.1)
@@ -191,7 +204,8 @@ zero_there (p ∷ pids) zero x h =
     ap (λ b. is_some (cond b (Some (zeroes p)) (process (zero_state pids) x)))
     (ap (λ q. pid_eq q x) (same_Some p x h) ∙ pid_eq-refl x)
 zero_there (p ∷ pids) (suc k) x h =
-    elim (pid_eq p x) as (λ b. is_some (cond b (Some (zeroes p)) (process (zero_state pids) x)) ≡ true) [
+    elim (pid_eq p x) as (λ b. is_some (cond b (Some (zeroes p)) (process (zero_state pids) x))
+    ≡ true) [
       | true ↦ refl
       | false ↦ zero_there pids k x h
     ]
@@ -199,8 +213,13 @@ zero_there (p ∷ pids) (suc k) x h =
 zero_zero : (pids : List Pid) → AreZero (zero_state pids)
 zero_zero [] x r h = absurd (none-some r h)
 zero_zero (p ∷ pids) x r h =
-    elim (pid_eq p x) as (λ b. cond b (Some (zeroes p)) (process (zero_state pids) x) ≡ Some r → IsZero r) [
-      | true ↦ λ h. subst IsZero (same_Some _ r h) (record { clocked = refl; lasted = refl; queued = refl })
+    elim (pid_eq p x) as (λ b. cond b (Some (zeroes p)) (process (zero_state pids) x) ≡ Some r
+    → IsZero r) [
+      | true ↦ λ h. subst IsZero (same_Some _ r h) (record {
+        clocked = refl;
+        lasted = refl;
+        queued = refl;
+      })
       | false ↦ λ h. zero_zero pids x r h
     ] h
 
@@ -215,13 +234,15 @@ listed_there (y ∷ streams) x h =
     ] h
 
 -- after the tracers the invariant holds of no moves
-pub opens : (top : ℕ) (streams : List Stream) (marks : Marks) → (o : IsOpened top (zero_state (pids_of streams))
+pub opens : (top : ℕ) (streams : List Stream) (marks : Marks)
+    → (o : IsOpened top (zero_state (pids_of streams))
     (tracers_after None (pids_of streams)) (pids_of streams))
     × IsKept streams marks [] (state_after (zero_state (pids_of streams)) o.os)
 opens top streams marks =
     let pids = pids_of streams in
     let zero = zero_state pids in
-    let o = opened top pids None zero (zero_there pids) (zero_zero pids) (λ x h. absurd (false≢true h)) in (
+    let o = opened top pids None zero (zero_there pids) (zero_zero pids)
+    (λ x h. absurd (false≢true h)) in (
       o,
       record {
         there = λ p h. o.there p ∙ listed_there streams p h;

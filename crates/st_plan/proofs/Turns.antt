@@ -1,8 +1,9 @@
--- Along the order of full streams each process's moves are its events in turn, so after any of them its clock is the
--- greatest count of its events so far, and its last count what the nearest of them leaves.
-use Rattle.std.proofs.Common.{◌≡◌, ℕ, suc, ◌+◌, max, Bool, true, false, not, cond, List, [], ◌∷◌, ◌++◌, take, drop}
-use Rattle.std.proofs.Common.{length, filter, reverse, Option, Some, None, slice_get, append_assoc, refl, sym, ◌∙◌}
-use Rattle.std.proofs.Common.{ap, subst, arith}
+-- Along the order of full streams each process's moves are its events in turn, so after any of them
+-- its clock is the greatest count of its events so far, and its last count what the nearest of them
+-- leaves.
+use Rattle.std.proofs.Common.{◌≡◌, ℕ, suc, ◌+◌, max, Bool, true, false, not, cond, List, [], ◌∷◌}
+use Rattle.std.proofs.Common.{◌++◌, take, drop, length, filter, reverse, Option, Some, None}
+use Rattle.std.proofs.Common.{slice_get, append_assoc, refl, sym, ◌∙◌, ap, subst, arith}
 use Rattle.std.specs.List.{AllByRecursion}
 use Rattle.std.proofs.lemmas.Bool.{false≢true}
 use Rattle.std.proofs.lemmas.List.{reverse-append}
@@ -54,7 +55,8 @@ module _ (streams : List Stream) where
   moves_kept p (x ∷ xs) =
       let kept = filter (is_event_of p) xs in
       let rest = moves_kept p xs in
-      elim (event_of streams x) as (λ o. event_of streams x ≡ o → filter (is_move_of p) (moves_by streams x xs o)
+      elim (event_of streams x) as (λ o. event_of streams x ≡ o
+      → filter (is_move_of p) (moves_by streams x xs o)
       ≡ moves streams (cond (is_event_of p x) (x ∷ kept) kept)) [
         | None ↦ λ none. rest ∙ elim (is_event_of p x) as
             (λ b. moves streams kept ≡ moves streams (cond b (x ∷ kept) kept)) [
@@ -87,13 +89,16 @@ IsEventMove m = (i : ℕ) × (m ≡ event_move m.who i m.event)
 
 -- nothing that is there is hidden
 abbrev IsOpen : List Stream → Type 0
-IsOpen streams = (p : Pid) (i : ℕ) (e : Event) → event_at streams p i ≡ Some e → is_hidden streams e ≡ false
+IsOpen streams = (p : Pid) (i : ℕ) (e : Event) → event_at streams p i ≡ Some e
+    → is_hidden streams e ≡ false
 
-event_moves : (streams : List Stream) → IsOpen streams → (xs : List Item) → AllByRecursion (IsThere streams) xs
+event_moves : (streams : List Stream) → IsOpen streams → (xs : List Item)
+    → AllByRecursion (IsThere streams) xs
     → AllByRecursion IsEventMove (moves streams xs)
 event_moves streams shown [] there = tt
 event_moves streams shown (item.Reported p i ∷ xs) there =
-    subst (AllByRecursion IsEventMove) (sym (one_move streams (item.Reported p i) there.0.0 xs there.0.1))
+    subst (AllByRecursion IsEventMove) (sym (one_move streams
+    (item.Reported p i) there.0.0 xs there.0.1))
     ((i, refl), event_moves streams shown xs there.1)
 event_moves streams shown (item.Hidden p i ∷ xs) there =
     absurd (false≢true (sym (shown p i there.0.0 there.0.1.0) ∙ there.0.1.1))
@@ -146,7 +151,8 @@ leaves e = elim e.kind as (λ k. cond (not (let b : Bool = elim k [
 
 -- p's own next move
 pub own_step : (events : List Event) (p : Pid) (n c l j : ℕ) (e : Event) (later : List Move)
-    → c ≡ greatest_count (take n events) → event_move p j e ∷ filter (is_move_of p) later ≡ turned p n (drop n events)
+    → c ≡ greatest_count (take n events) → event_move p j e ∷ filter (is_move_of p) later
+    ≡ turned p n (drop n events)
     → (j ≡ n) × (slice_get events n ≡ Some e) × IsAfter events p (n + 1) (max c e.serial.this)
     (cond (not (is_stamp e)) e.serial.this e.serial.prev) later
 own_step events p n c l j e later clocked left =
@@ -169,16 +175,19 @@ own_step events p n c l j e later clocked left =
 
 -- p's counts after these moves, before the later ones
 abbrev pub After : List Event → Pid → List Move → List Move → Type 0
-After events p earlier later = IsAfter events p (event_count p earlier) (clock p earlier) (last p earlier) later
+After events p earlier later =
+    IsAfter events p (event_count p earlier) (clock p earlier) (last p earlier) later
 
 step : (events : List Event) (p q : Pid) (j : ℕ) (e : Event) (earlier later : List Move)
-    → After events p earlier (event_move q j e ∷ later) → After events p (event_move q j e ∷ earlier) later
+    → After events p earlier (event_move q j e ∷ later)
+    → After events p (event_move q j e ∷ earlier) later
 step events p q j e earlier later before =
     let n = event_count p earlier in
     let c = clock p earlier in
     let l = last p earlier in
     let ms = filter (is_move_of p) later in
-    elim (pid_eq q p) as (λ b. pid_eq q p ≡ b → cond b (event_move q j e ∷ ms) ms ≡ turned p n (drop n events)
+    elim (pid_eq q p) as (λ b. pid_eq q p ≡ b → cond b (event_move q j e ∷ ms) ms
+    ≡ turned p n (drop n events)
     → IsAfter events p (n + cond b 1 0) (cond b (max c e.serial.this) c)
     (cond b (cond (not (is_stamp e)) e.serial.this e.serial.prev) l) later) [
       | true ↦ λ own left.
@@ -201,8 +210,10 @@ move_back m earlier later = ap (λ xs. xs ++ later) (reverse-append (m ∷ []) e
 
 module _ (streams : List Stream) (rising : IsRising (pids_of streams)) (shown : IsOpen streams)
     (lead : (p : Pid) → StampsLead streams p) (xs : List Item) (order : IsOrder streams xs) where
-  own_moves : (p : Pid) → filter (is_move_of p) (moves streams xs) ≡ turned p 0 (events_of streams p)
-  own_moves p = moves_kept streams p xs ∙ ap (moves streams) (keeps_turn streams xs p rising order (lead p))
+  own_moves : (p : Pid) → filter (is_move_of p) (moves streams xs)
+      ≡ turned p 0 (events_of streams p)
+  own_moves p = moves_kept streams p xs ∙ ap (moves streams)
+      (keeps_turn streams xs p rising order (lead p))
       ∙ moves_turned streams p 0 (events_of streams p) refl
 
   -- a move of the order is one of an event
@@ -210,12 +221,17 @@ module _ (streams : List Stream) (rising : IsRising (pids_of streams)) (shown : 
       → moves streams xs ≡ reverse earlier ++ m ∷ later → IsEventMove m
   event_move_there earlier m later split =
       let all = event_moves streams shown xs (order_there streams rising xs order) in
-      (all_right IsEventMove (reverse earlier) (m ∷ later) (subst (AllByRecursion IsEventMove) split all)).0
+      (all_right IsEventMove (reverse earlier) (m ∷ later)
+      (subst (AllByRecursion IsEventMove) split all)).0
 
   pub after : (p : Pid) (earlier later : List Move) → moves streams xs ≡ reverse earlier ++ later
       → After (events_of streams p) p earlier later
   after p [] later split =
-      record { clocked = refl; counted = refl; left = ap (filter (is_move_of p)) (sym split) ∙ own_moves p }
+      record {
+        clocked = refl;
+        counted = refl;
+        left = ap (filter (is_move_of p)) (sym split) ∙ own_moves p;
+      }
   after p (m ∷ earlier) later split =
       let before = split ∙ move_back m earlier later in
       let own = event_move_there earlier m later before in

@@ -1,7 +1,7 @@
--- The marks of whole streams, whose pids rise, are those of their events, place by place; so what is told of their
--- streams by places is their told events.
-use Rattle.std.proofs.Common.{◌≡◌, ℕ, suc, ◌+◌, Bool, false, cond, List, [], ◌∷◌, map, slice_get, Option}
-use Rattle.std.proofs.Common.{find, Some, None, refl, ◌∙◌, ap, subst, arith}
+-- The marks of whole streams, whose pids rise, are those of their events, place by place; so what
+-- is told of their streams by places is their told events.
+use Rattle.std.proofs.Common.{◌≡◌, ℕ, suc, ◌+◌, Bool, false, cond, List, [], ◌∷◌, map, slice_get}
+use Rattle.std.proofs.Common.{Option, find, Some, None, refl, ◌∙◌, ap, subst, arith}
 use Rattle.std.specs.List.{AllByRecursion}
 use Rattle.std.specs.Option.{option_map_or}
 use Rattle.st_core.specs.declared.types.Event.{Event}
@@ -38,23 +38,31 @@ told_marked told i (m ∷ ms) all =
 
 -- the marks among all of each of some processes are its own
 abbrev AreMarked : List Whole → List Whole → Type 0
-AreMarked all some = AllByRecursion (λ (w : Whole). (k : ℕ) (m : Marked) → slice_get w.marked k ≡ Some m
+AreMarked all some = AllByRecursion (λ (w : Whole). (k : ℕ) (m : Marked)
+    → slice_get w.marked k ≡ Some m
     → marks_of all w.pid k ≡ m.told) some
 
 abbrev mark_in : Option Whole → ℕ → Bool
-mark_in o i = elim o [ None ↦ false | Some w ↦ option_map_or (λ (m : Marked). m.told) (slice_get w.marked i) false ]
+mark_in o i = elim o [
+  | None ↦ false
+  | Some w ↦ option_map_or (λ (m : Marked). m.told)
+      (slice_get w.marked i) false
+]
 
-marked_later : (x : Whole) (all some : List Whole) → AllByRecursion (IsBelow x.pid) (pids_of (all_streams some))
+marked_later : (x : Whole) (all some : List Whole)
+    → AllByRecursion (IsBelow x.pid) (pids_of (all_streams some))
     → AreMarked all some → AreMarked (x ∷ all) some
 marked_later x all [] above marked = tt
 marked_later x all (w ∷ some) above marked = (
   λ k m at.
       let rest = find (λ (v : Whole). pid_eq v.pid w.pid) all in
-      ap (λ b. mark_in (cond b (Some x) rest) k) (IsBelow-apart x.pid w.pid above.0) ∙ marked.0 k m at,
+      ap (λ b. mark_in (cond b (Some x) rest) k) (IsBelow-apart x.pid w.pid above.0)
+      ∙ marked.0 k m at,
   marked_later x all some above.1 marked.1,
 )
 
-are_marked : (wholes : List Whole) → IsRising (pids_of (all_streams wholes)) → AreMarked wholes wholes
+are_marked : (wholes : List Whole) → IsRising (pids_of (all_streams wholes))
+    → AreMarked wholes wholes
 are_marked [] rising = tt
 are_marked (w ∷ wholes) rising = (
   λ k m at.

@@ -9,7 +9,8 @@ use Rattle.st_tasks.specs.declared.task.Task.TheVariants as task
 abbrev pub task_named : List ℕ → Bool → ℕ → Option Task
 task_named name is_json most =
     if bytes_eq name (codes "audit") then Some (if is_json then task.AuditJson else task.Audit)
-    else (if bytes_eq name (codes "check") then Some (if is_json then task.CheckJson else task.Check)
+    else (if bytes_eq name (codes "check") then Some
+    (if is_json then task.CheckJson else task.Check)
     else (if bytes_eq name (codes "lint") then Some
     (if is_json then task.LintJson most else task.Lint most)
     else (if bytes_eq name (codes "explain") then Some task.Explain

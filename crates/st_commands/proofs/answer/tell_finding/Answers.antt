@@ -6,5 +6,6 @@ use Rattle.st_commands.proofs.answer.tell_finding.Goals as goal
 
 pub returns : goal.returns
 returns g c =
-    delivers (call g.W.ByteSink _ _) (report_output c.args.streams.now c.args.finding.now) c.report-sent.result _
+    delivers (call g.W.ByteSink _ _) (report_output c.args.streams.now c.args.finding.now)
+    c.report-sent.result _
     c.report-sent.ensures (rw c.finding_status.ensures at c.status_of.ensures)

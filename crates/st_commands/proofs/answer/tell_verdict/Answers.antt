@@ -7,5 +7,6 @@ use Rattle.st_commands.proofs.answer.tell_verdict.Goals as goal
 
 pub returns : goal.returns
 returns g c =
-    delivers (call g.W.ByteSink _ _) (judged (verdict_of c.args.verdict.now)) c.send_verdict-sent.result _
+    delivers (call g.W.ByteSink _ _) (judged (verdict_of c.args.verdict.now))
+    c.send_verdict-sent.result _
     c.send_verdict-sent.ensures (rw c.verdict_status.ensures at c.status_of.ensures)

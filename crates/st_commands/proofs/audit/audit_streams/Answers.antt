@@ -13,4 +13,5 @@ returns-in-Ok g c =
     }
 
 pub returns-in-Err-Memory : goal.returns-in-Err-Memory
-returns-in-Err-Memory g c = record { output = no_memory; owed = NoRoomToAudit; delivered = c.tell_fault.ensures }
+returns-in-Err-Memory g c =
+    record { output = no_memory; owed = NoRoomToAudit; delivered = c.tell_fault.ensures }

@@ -6,7 +6,8 @@ use Rattle.st_commands.specs.Parts.{OfOrder, NoRoomToOrder}
 use Rattle.st_commands.proofs.chart.chart_paired.Goals as goal
 
 pub returns-in_default : goal.returns-in_default
-returns-in_default g c = record { output = no_memory; owed = NoRoomToOrder; delivered = c.tell_fault.ensures }
+returns-in_default g c =
+    record { output = no_memory; owed = NoRoomToOrder; delivered = c.tell_fault.ensures }
 
 pub returns-in-Ok-order : goal.returns-in-Ok-order
 returns-in-Ok-order g c =
@@ -19,4 +20,8 @@ returns-in-Ok-order g c =
     }
 
 pub returns : goal.returns
-returns g c = record { output = no_memory; owed = NoRoomToOrder; delivered = c.tell_fault-in-Err.ensures }
+returns g c = record {
+  output = no_memory;
+  owed = NoRoomToOrder;
+  delivered = c.tell_fault-in-Err.ensures;
+}

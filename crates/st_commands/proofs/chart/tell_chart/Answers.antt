@@ -1,4 +1,5 @@
--- The chart says how it ended: written whole, or the writer failed; else the writer wasn't touched, and a line is told.
+-- The chart says how it ended: written whole, or the writer failed; else the writer wasn't touched,
+-- and a line is told.
 use Rattle.st_commands.specs.Charted.{drawn, no_label}
 use Rattle.st_commands.specs.Command.{Whole, Part}
 use Rattle.st_commands.specs.Output.{no_memory}

@@ -16,4 +16,5 @@ returns-in-Some g c =
     }
 
 pub returns-in-None : goal.returns-in-None
-returns-in-None g c = record { output = no_memory; owed = NoRoomToOrder; delivered = c.tell_fault.ensures }
+returns-in-None g c =
+    record { output = no_memory; owed = NoRoomToOrder; delivered = c.tell_fault.ensures }

@@ -14,4 +14,5 @@ returns-in-Ok g c =
     }
 
 pub returns-in-Err-Memory : goal.returns-in-Err-Memory
-returns-in-Err-Memory g c = record { output = no_memory; owed = NoRoomToCheck; delivered = c.tell_fault.ensures }
+returns-in-Err-Memory g c =
+    record { output = no_memory; owed = NoRoomToCheck; delivered = c.tell_fault.ensures }

@@ -11,4 +11,5 @@ returns-in-Some g c =
     tells_of_acts _ _ _ _ _ (c.in-Some.is ∙ ap Some (sym c.as_slice.ensures)) c.check_acts.ensures
 
 pub returns-in-None : goal.returns-in-None
-returns-in-None g c = record { output = no_acts; owed = OfNone c.in-None.is; delivered = c.tell_line.ensures }
+returns-in-None g c =
+    record { output = no_acts; owed = OfNone c.in-None.is; delivered = c.tell_line.ensures }

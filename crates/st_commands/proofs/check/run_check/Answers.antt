@@ -1,4 +1,5 @@
--- The reader tells which bytes it gave, what was delivered is what they owe, and its status says what it is.
+-- The reader tells which bytes it gave, what was delivered is what they owe, and its status says
+-- what it is.
 use Rattle.st_commands.specs.Command.{call}
 use Rattle.st_commands.specs.Checked.{IsChecked, Faulty}
 use Rattle.st_commands.proofs.Deliveries.{owes_check, says, tells_as, tells_fault, was_read}
@@ -20,7 +21,8 @@ returns-in-Ok-clause-no g c =
 
 pub returns-in-Err-clause-told : goal.returns-in-Err-clause-told
 returns-in-Err-clause-told g c =
-    tells_fault c.args.limits (call g.R.ByteSource _ _) (IsChecked c.args.limits) Faulty _ _ c.in-Err.fault
+    tells_fault c.args.limits (call g.R.ByteSource _ _)
+    (IsChecked c.args.limits) Faulty _ _ c.in-Err.fault
     c.in-Err.ensures c.tell_fault.ensures
 
 pub returns-in-Err-clause-yes : goal.returns-in-Err-clause-yes

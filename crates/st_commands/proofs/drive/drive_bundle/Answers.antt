@@ -8,4 +8,8 @@ pub returns-in-Some : goal.returns-in-Some
 returns-in-Some g c = tells_of_acts _ _ _ _ _ c.in-Some.is c.drive_acts.ensures
 
 pub returns : goal.returns
-returns g c = record { output = no_acts; owed = OfNone c.in-None.is; delivered = c.tell_line.ensures }
+returns g c = record {
+  output = no_acts;
+  owed = OfNone c.in-None.is;
+  delivered = c.tell_line.ensures;
+}

@@ -1,4 +1,5 @@
--- The reader tells which bytes it gave, what was delivered is what they owe, and its status says what it is.
+-- The reader tells which bytes it gave, what was delivered is what they owe, and its status says
+-- what it is.
 use Rattle.std.proofs.Common.{arith}
 use Rattle.st_commands.specs.Command.{call}
 use Rattle.st_commands.specs.Recorded.{IsRecorded, Faulty}
@@ -13,19 +14,24 @@ returns-in-Ok-clause-told g c =
     tells_as _ _ (owes_drive _ small _ _ read) c.drive_bundle.ensures
 
 pub returns-in-Ok-clause-driven : goal.returns-in-Ok-clause-driven
-returns-in-Ok-clause-driven g c = says 0 (λ same. cc) (driven_means c.args.limits) (returns-in-Ok-clause-told g c)
+returns-in-Ok-clause-driven g c =
+    says 0 (λ same. cc) (driven_means c.args.limits) (returns-in-Ok-clause-told g c)
 
 pub returns-in-Ok-clause-stray : goal.returns-in-Ok-clause-stray
-returns-in-Ok-clause-stray g c = says 1 (λ same. cc) (stray_means c.args.limits) (returns-in-Ok-clause-told g c)
+returns-in-Ok-clause-stray g c =
+    says 1 (λ same. cc) (stray_means c.args.limits) (returns-in-Ok-clause-told g c)
 
 pub returns-in-Err-clause-told : goal.returns-in-Err-clause-told
 returns-in-Err-clause-told g c =
-    tells_fault c.args.limits (call g.R.ByteSource _ _) (IsRecorded c.args.limits) Faulty _ _ c.in-Err.fault
+    tells_fault c.args.limits (call g.R.ByteSource _ _)
+    (IsRecorded c.args.limits) Faulty _ _ c.in-Err.fault
     c.in-Err.ensures
     c.tell_fault.ensures
 
 pub returns-in-Err-clause-driven : goal.returns-in-Err-clause-driven
-returns-in-Err-clause-driven g c = says 0 (λ same. cc) (driven_means c.args.limits) (returns-in-Err-clause-told g c)
+returns-in-Err-clause-driven g c =
+    says 0 (λ same. cc) (driven_means c.args.limits) (returns-in-Err-clause-told g c)
 
 pub returns-in-Err-clause-stray : goal.returns-in-Err-clause-stray
-returns-in-Err-clause-stray g c = says 1 (λ same. cc) (stray_means c.args.limits) (returns-in-Err-clause-told g c)
+returns-in-Err-clause-stray g c =
+    says 1 (λ same. cc) (stray_means c.args.limits) (returns-in-Err-clause-told g c)

@@ -7,11 +7,13 @@ use Rattle.st_commands.proofs.drive.scripts_of.Goals as goal
 use Rattle.st_commands.proofs.drive.scripts_of.Goals.{in-Some+in_ok-push_at, in_default}
 
 pub loop-act-init : goal.loop-act-init
-loop-act-init c = c.in_ok-scripts.ensures ∙ rw c.pids.ensures.value (none_yet (pids_of c.args.streams.now))
+loop-act-init c = c.in_ok-scripts.ensures ∙ rw c.pids.ensures.value
+    (none_yet (pids_of c.args.streams.now))
 
 pub push_at-requires : goal.push_at-requires
 push_at-requires c =
-    rw c.deref_mut.ensures.value (script_within _ _ _ _ c.in-Some.place c.loop-act.invariant c.in-Some.ensures.found)
+    rw c.deref_mut.ensures.value (script_within _ _ _ _ c.in-Some.place c.loop-act.invariant
+    c.in-Some.ensures.found)
 
 pub loop-act-preserved : goal.loop-act-preserved
 loop-act-preserved c =
@@ -23,13 +25,16 @@ loop-act-preserved c =
           let at = rw (c.actor.ensures, all) at w.in-Some.ensures.found in
           let new = rw (w.deref_mut.ensures.value, all) at w.in_ok-push_at.ensures.ok in
           ap (λ v. v.items) w.scripts-is
-          ∙ with_items_is c.loop-act.scripts w.push_at.new.scripts (w.push_at.auto.scripts ∙ w.deref_mut.ensures.len)
+          ∙ with_items_is c.loop-act.scripts w.push_at.new.scripts
+          (w.push_at.auto.scripts ∙ w.deref_mut.ensures.len)
           ∙ new
-          ∙ next_scripted (pids_of c.args.streams.now) c.args.acts c.loop-act.act-index _ c.loop-act.scripts.items
+          ∙ next_scripted (pids_of c.args.streams.now) c.args.acts c.loop-act.act-index _
+          c.loop-act.scripts.items
           w.in-Some.place c.loop-act.invariant within rising at
       | in_default w ↦
           let others = rw (c.actor.ensures, all) at w.in_default.ensures.missing in
           ap (λ v. v.items) w.scripts-is
-          ∙ next_unscripted (pids_of c.args.streams.now) c.args.acts c.loop-act.act-index _ c.loop-act.scripts.items
+          ∙ next_unscripted (pids_of c.args.streams.now) c.args.acts c.loop-act.act-index _
+          c.loop-act.scripts.items
           c.loop-act.invariant within others
     ]

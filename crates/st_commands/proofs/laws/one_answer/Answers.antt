@@ -1,4 +1,5 @@
--- Bytes are the text of one bundle or have one fault; acts have one verdict and one run, and streams one order.
+-- Bytes are the text of one bundle or have one fault; acts have one verdict and one run, and
+-- streams one order.
 use Rattle.st_commands.proofs.Outputs.{one_check, one_replay}
 use Rattle.st_commands.proofs.ChartOutputs.{one_chart}
 use Rattle.st_commands.proofs.laws.one_answer.Goals as goal

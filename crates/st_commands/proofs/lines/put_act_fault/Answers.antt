@@ -17,5 +17,10 @@ returns c =
           ∙ ap (λ (xs : List ℕ). xs ++ (codes " " ++ number)) (c.put_pid.ensures.items
           ∙ ap (λ (xs : List ℕ). xs ++ pid) c.put_bytes.ensures.items)
           ∙ regroup c.args.buffer.now.items words pid (codes " ") number;
-      len = omega (arith, c.put_bytes.ensures.len, c.put_pid.ensures.len, c.put_numbered.ensures.len);
+      len = omega (
+        arith,
+        c.put_bytes.ensures.len,
+        c.put_pid.ensures.len,
+        c.put_numbered.ensures.len,
+      );
     }

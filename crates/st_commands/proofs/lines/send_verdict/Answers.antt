@@ -7,6 +7,8 @@ use Rattle.st_commands.proofs.lines.send_verdict.Goals as goal
 
 pub returns : goal.returns
 returns g c =
-    finishes g.W.ByteSink.puts g.W.ByteSink.failed (verdict_text (verdict_of c.args.verdict.now)) _ _ c.flush.result
+    finishes g.W.ByteSink.puts g.W.ByteSink.failed
+    (verdict_text (verdict_of c.args.verdict.now)) _ _ c.flush.result
     (verdict_some (verdict_of c.args.verdict.now))
-    (rw c.new-buffer.ensures at c.in_ok-write_verdict.ensures) c.flush.ensures.goes c.flush.ensures.empty
+    (rw c.new-buffer.ensures at c.in_ok-write_verdict.ensures) c.flush.ensures.goes
+    c.flush.ensures.empty

@@ -7,5 +7,6 @@ use Rattle.st_commands.proofs.lines.write_pairs.Given as goal
 
 abbrev pub invariant-loop-pair : goal.invariant-loop-pair
 invariant-loop-pair g l =
-    Goes g.W.ByteSink.puts g.W.ByteSink.failed (flat_map pair_line (take l.pair-index l.pairs)) l.initial.writer
+    Goes g.W.ByteSink.puts g.W.ByteSink.failed (flat_map pair_line
+    (take l.pair-index l.pairs)) l.initial.writer
     l.writer l.initial.buffer.items l.buffer.items

@@ -1,4 +1,5 @@
--- The reader tells which bytes it gave, what was delivered is what they owe, and its status says what it is.
+-- The reader tells which bytes it gave, what was delivered is what they owe, and its status says
+-- what it is.
 use Rattle.std.proofs.Common.{◌≤◌, arith}
 use Rattle.st_commands.specs.Checked.{top}
 use Rattle.st_commands.specs.Command.{call}
@@ -23,7 +24,8 @@ returns-in-Ok-clause-never_stuck g c e =
 
 pub returns-in-Err-clause-told : goal.returns-in-Err-clause-told
 returns-in-Err-clause-told g c =
-    tells_fault c.args.limits (call g.R.ByteSource _ _) (IsReplayed c.args.limits) Faulty _ _ c.in-Err.fault
+    tells_fault c.args.limits (call g.R.ByteSource _ _)
+    (IsReplayed c.args.limits) Faulty _ _ c.in-Err.fault
     c.in-Err.ensures c.tell_fault.ensures
 
 pub returns-in-Err-clause-ran : goal.returns-in-Err-clause-ran

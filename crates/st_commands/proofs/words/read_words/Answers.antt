@@ -19,4 +19,5 @@ pub returns-clause-refusal : goal.returns-clause-refusal
 returns-clause-refusal g c =
     let words = map g.S.AsStr.text c.args.words.now in
     let same = c.in-Ok.ensures in
-    refusal_by words _ same c.in-Err.error _ c.why_refused.ensures (c.in-Err.ensures.kinds (free words _ same))
+    refusal_by words _ same c.in-Err.error _ c.why_refused.ensures
+    (c.in-Err.ensures.kinds (free words _ same))

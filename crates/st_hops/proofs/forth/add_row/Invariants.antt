@@ -6,7 +6,8 @@ use Rattle.st_hops.proofs.forth.add_row.Given as goal
 abbrev pub invariant-events : goal.invariant-events
 invariant-events l = record {
   within : l.left ≤ length l.row;
-  added : l.waiting.items ≡ l.initial.waiting.items ++ behind l.all l.pid l.label l.first l.depth l.left l.row;
+  added : l.waiting.items ≡ l.initial.waiting.items
+      ++ behind l.all l.pid l.label l.first l.depth l.left l.row;
 }
 
 abbrev pub decreases-events : goal.decreases-events

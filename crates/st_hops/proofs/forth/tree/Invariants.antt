@@ -7,8 +7,10 @@ use Rattle.st_hops.proofs.forth.tree.Given as goal
 
 abbrev pub invariant-loop-node : goal.invariant-loop-node
 invariant-loop-node l =
-    l.nodes.items ++ flat_map (below l.origins l.reach.across l.reach.most) (reverse l.waiting.items)
+    l.nodes.items ++ flat_map (below l.origins l.reach.across l.reach.most)
+    (reverse l.waiting.items)
     ≡ tree l.origins l.reach.across l.reach.most 0 l.fn.place
 
 abbrev pub decreases-loop-node : goal.decreases-loop-node
-decreases-loop-node l = length (flat_map (weight l.origins l.reach.across l.reach.most) (reverse l.waiting.items))
+decreases-loop-node l =
+    length (flat_map (weight l.origins l.reach.across l.reach.most) (reverse l.waiting.items))

@@ -7,5 +7,6 @@ use Rattle.st_hops.proofs.origins.all_greatest.Goals as goal
 pub loop-pid-preserved : goal.loop-pid-preserved
 loop-pid-preserved c =
     c.in_ok-push.ensures.items ∙ process_passed (greatest_from 0) c.args.streams.now _ _ _ _ _ _
-    c.pids-pid-items.ensures.streams.draft.rising c.pids-pid-items.ensures.value c.loop-pid-test.true
+    c.pids-pid-items.ensures.streams.draft.rising c.pids-pid-items.ensures.value
+    c.loop-pid-test.true
     c.events.ensures.value (c.from_vec.ensures ∙ c.in_ok-list.ensures) c.loop-pid.invariant

@@ -12,5 +12,6 @@ loop-event-preserved c =
     let e = get_or es k blank in
     let now : c.max-most.result ≡ max c.loop-event.most e.serial.this =
     c.max-most.ensures ∙ greater_is c.loop-event.most e.serial.this in
-    rw c.in_ok-push.ensures.items (greatest_passed es k e c.loop-event.most c.max-most.result c.loop-event.found.items
+    rw c.in_ok-push.ensures.items (greatest_passed es k e c.loop-event.most c.max-most.result
+    c.loop-event.found.items
     (greatest_from 0 es) (at_get_or es k blank c.loop-event-test.true) now c.loop-event.invariant)

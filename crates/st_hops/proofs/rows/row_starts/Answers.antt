@@ -17,7 +17,8 @@ loop-index-preserved c =
     record {
       whole =
           ap (λ xs. xs ++ starts_from es (k + 1) (drop (k + 1) es)) c.in_ok-push.ensures.items
-          ∙ starts_passed es k e start c.loop-index.found.items (row_starts es) at (c.next_start-start.ensures e at)
+          ∙ starts_passed es k e start c.loop-index.found.items (row_starts es) at
+          (c.next_start-start.ensures e at)
           c.loop-index.invariant.whole;
       last = λ d some there.
           c.next_start-start.ensures d (ap (slice_get es) (sym number) ∙ there)

@@ -4,4 +4,5 @@ use Rattle.st_hops.proofs.origins.Origins.hop.Goals as goal
 
 pub returns-clause-truth : goal.returns-clause-truth
 returns-clause-truth c =
-    true_of c.args.self.now c.args.pid c.args.index c.args.event.now c.find_hop.result c.requires c.find_hop.ensures
+    true_of c.args.self.now c.args.pid c.args.index c.args.event.now c.find_hop.result c.requires
+    c.find_hop.ensures

@@ -7,11 +7,13 @@ use Rattle.st_lines.proofs.numbers.LineNumbers.index_on.Goals as goal
 
 pub returns-in-None-clause-missing : goal.returns-in-None-clause-missing
 returns-in-None-clause-missing c = λ i.
-    line_none_says c.args.self.now c.args.pid i c.args.line (sym c.first.ensures.value ∙ c.in-None.is)
+    line_none_says c.args.self.now c.args.pid i c.args.line
+    (sym c.first.ensures.value ∙ c.in-None.is)
 
 pub returns-then-line-first-clause-found : goal.returns-then-line-first-clause-found
 returns-then-line-first-clause-found c =
-    line_on c.args.self.now c.args.pid c.in-Some.first c.args.line (sym c.first.ensures.value ∙ c.in-Some.is)
+    line_on c.args.self.now c.args.pid c.in-Some.first c.args.line
+    (sym c.first.ensures.value ∙ c.in-Some.is)
     c.if-first-line.true (rw (c.len.ensures, c.self.view_is) at c.if-line-first.true)
 
 pub returns-else-first-line-clause-missing : goal.returns-else-first-line-clause-missing
@@ -22,5 +24,6 @@ returns-else-first-line-clause-missing c = λ i.
           line_above c.args.self.now c.args.pid c.in-Some.first c.args.line i at
           (rw (w.len.ensures, c.self.view_is) at w.if-line-first.false)
       | else-first-line-via-else-first-line w ↦
-          line_below c.args.self.now c.args.pid c.in-Some.first c.args.line i at w.if-first-line.false
+          line_below c.args.self.now c.args.pid c.in-Some.first c.args.line i at
+          w.if-first-line.false
     ]

@@ -5,4 +5,5 @@ use Rattle.st_lines.proofs.numbers.LineNumbers.place.Goals as goal
 pub returns-clause-missing : goal.returns-clause-missing
 returns-clause-missing c =
     none_at_all c.args.self.now c.pids-pid-items.result.now c.args.line c.loop-pid.pid-index
-    (rw (← c.self.view_is) c.pids-pid-items.ensures.value) c.loop-pid-test.false c.loop-pid.invariant
+    (rw (← c.self.view_is) c.pids-pid-items.ensures.value) c.loop-pid-test.false
+    c.loop-pid.invariant
