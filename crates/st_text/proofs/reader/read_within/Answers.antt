@@ -19,7 +19,7 @@ loop-feed-init g c =
       bytes = [];
       given = NoCall _;
       fed = c.within-feed.ensures.fed;
-      counted = refl;
+      counted = omega arith;
       limits_are = c.within-feed.ensures.limits;
       size = refl;
       mark = refl;
@@ -99,8 +99,8 @@ returns-in-Ok-eq0 g c =
           (c.end.ensures.exact i.bytes i.fed fresh)) c.end.ensures.again;
     }
 
-pub returns-in-Ok-then-n : goal.returns-in-Ok-then-n
-returns-in-Ok-then-n g c =
+pub returns-then-n-left : goal.returns-then-n-left
+returns-then-n-left g c =
     let i = c.loop-feed.invariant in
     let given : List ℕ = take c.in-Ok.n c.take.new.piece in
     let within : c.in-Ok.n ≤ length c.take.new.piece = c.in-Ok.ensures.bound in
