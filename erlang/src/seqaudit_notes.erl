@@ -11,8 +11,8 @@
 -import(seqaudit_errors, [text/2]).
 
 %% The limits of `seqtool audit', which are greater than those of `seqaudit'.
--define(MOST_BYTES, 1_073_741_824).
--define(MOST_PROCESSES, 16_000).
+-define(MOST_BYTES, 17_179_869_184).
+-define(MOST_PROCESSES, 1_000_000).
 -define(MOST_EVENTS, 16_000_000).
 %% This many entries of one kind are listed; `NAME.terms' has them all.
 -define(LISTED, 50).

@@ -156,9 +156,9 @@ limits_test() ->
                     seqaudit_notes:facts(#{collections => [], counts => #{}, listed => [], labels => []},
                                          #{events => 1, processes => Processes})
             end,
-    [] = Facts(16_000),
-    [{limits, Note}] = Facts(16_001),
-    true = has(Note, "it has 16,001 processes, and `seqtool audit' takes 16,000").
+    [] = Facts(1_000_000),
+    [{limits, Note}] = Facts(1_000_001),
+    true = has(Note, "it has 1,000,001 processes, and `seqtool audit' takes 1,000,000").
 
 %% A node has 65,536 numbers; events of processes beyond are left out and counted.
 too_many_test_() ->

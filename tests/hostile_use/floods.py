@@ -19,7 +19,7 @@ LINE = 66
 # The first of the counts that follow one another, at which `audit` stops (toowide), as it stops early in a flood: else a
 # flood would be compared with a text for which acts are built to its end.
 FIRST = 1 << 44
-# So many processes whose pids share places, as many as `seqtool` reads, and their acts: of MANY, 64 MB.
+# So many processes whose pids share places, and their acts: of MANY, 64 MB.
 PROCESSES, ACTS, MANY = 16_000, 400_000, 3_400_000
 # How far apart the slots of equal numbers on neighbouring nodes lie in the tables of guesses; the numbers of a node.
 NODE_STEP, NUMBERS = 67, 1 << 16

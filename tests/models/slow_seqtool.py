@@ -24,8 +24,8 @@ import slow_seqaudit as model
 import slow_why
 from slow_seqaudit import Event, NotABundle, Unfit, show
 
-MOST_PROCESSES = 16_000
-MOST_ACTS = 64_000_000
+MOST_PROCESSES = 1_000_000
+MOST_ACTS = 100_000_000
 
 
 # Streams whose events may be unreported

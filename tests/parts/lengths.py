@@ -1,9 +1,10 @@
-"""How long `seqtool` lets tables and vector clocks be: they have limits of their own, since they grow as processes times
-events."""
+"""How much `seqtool` takes: each command as many processes as the limit, and not one more; and tables and vector clocks, which
+have limits of their own, since they grow as processes times events."""
 import subprocess
 
 from hostile_use.program import Answer, Check, expect
 
+MOST_PROCESSES = 1_000_000
 MOST_MARKS, MOST_COUNTS = 2_048_000_000, 100_000_000
 # So many lanes and rows have as many marks.
 LANES, ROWS = 16_000, 128_000
@@ -11,10 +12,39 @@ LONG_CHART = (f"note: standard input: its tables would have more than {MOST_MARK
               "(--label) or a part (seqtool cut), or take --mermaid, --dot or seqtool export --as perfetto\n")
 LONG_CLOCKS = (f"note: standard input: the clocks of its events would have more than {MOST_COUNTS} counts; export a part "
                "(seqtool cut), or take --as perfetto\n")
+# The commands that take streams, and those that want acts.
+OF_STREAMS = (("lint",), ("audit",), ("complete",), ("complete", "--as", "acts"), ("complete", "--as", "streams"), ("renumber",),
+              ("why", "--line", "3"), ("list",), ("cut",), ("stats",), ("chart",), ("chart", "--mermaid"), ("chart", "--dot"),
+              ("export", "--as", "perfetto"), ("export", "--as", "shiviz"))
+OF_ACTS = (("check",), ("explain",))
 
 
 def pid(number):
     return f"<{number >> 16}.{number & 0xffff}.0>"
+
+
+def of_processes(count):
+    """So many processes, of which the first prints."""
+    lines = (f"process {pid(n)}\n" for n in range(1, count))
+    return f"seqtrace 2\nprocess {pid(0)}\n{{seq_trace,17,{{print,{{0,1}},{pid(0)},[],7}}}}\n{''.join(lines)}"
+
+
+def processes(program):
+    most, more = of_processes(MOST_PROCESSES), of_processes(MOST_PROCESSES + 1)
+    for words in (*OF_STREAMS, *OF_ACTS):
+        end = "acts\n" if words in OF_ACTS else ""
+        got = program.run(words, (most + end).encode())
+        # No act prints what the first process reported.
+        yield Check(f"lengths: {' '.join(words)} of as many processes as the limit",
+                    None if got.status == (1 if end else 0) else str(got))
+        got = program.run(words, (more + end).encode())
+        refusal = f"error: standard input: too many {MOST_PROCESSES + 3}; see seqtool lint\n".encode()
+        if words == ("lint",):
+            first = f"line {MOST_PROCESSES + 3}, column 1: expected no process more than {MOST_PROCESSES}\n".encode()
+            is_right = got.status == 2 and got.output.startswith(first)
+        else:
+            is_right = got == Answer(2, b"", refusal)
+        yield Check(f"lengths: {' '.join(words)} of one process more", None if is_right else str(got))
 
 
 def prints(rows, labels=1):
@@ -81,5 +111,6 @@ def clocks(program):
 
 
 def lengths(program):
+    yield from processes(program)
     yield from tables(program)
     yield from clocks(program)

@@ -95,7 +95,7 @@ pub(crate) const AUDIT: &str = "Finds acts that explain the trace, or names an e
 pub(crate) const AUDIT_EXAMPLE: &str = "Example:
   seqtool audit trace.txt
 
-Its limits are some 16 times those of `seqaudit audit`.";
+It takes 1,000,000 processes and 16,000,000 events, as all commands here.";
 
 pub(crate) const LIST: &str = "Lists events: line, process, index, label, serial, partner";
 

@@ -320,7 +320,7 @@ impl<'a> Judge<'a> {
         self.current = Some(process.text);
         let count = self.listed.len() as u64;
         if is_new && count == u64::from(LIMITS.processes).saturating_add(1) {
-            found.push(too_many(line, "no process more than 16000"))?;
+            found.push(too_many(line, "process", LIMITS.processes))?;
         }
         Ok(())
     }
@@ -341,7 +341,7 @@ impl<'a> Judge<'a> {
         }
         self.events = self.events.saturating_add(1);
         if self.events == u64::from(LIMITS.events).saturating_add(1) {
-            found.push(too_many(line, "no event more than 16000000"))?;
+            found.push(too_many(line, "event", LIMITS.events))?;
         }
         for place in scan.pids() {
             // Below a process line that can't be read its own process is taken to report.
@@ -367,7 +367,7 @@ impl<'a> Judge<'a> {
     ) -> Result<(), AllocError> {
         self.acts = self.acts.saturating_add(1);
         if self.acts == u64::from(LIMITS.acts).saturating_add(1) {
-            found.push(too_many(line, "no act more than 64000000"))?;
+            found.push(too_many(line, "act", LIMITS.acts))?;
         }
         if let Some(place) = actor {
             self.take_pid(line, *place, found)?;
@@ -417,10 +417,10 @@ fn repeated<'a>(line: &Line<'a>) -> Mistake<'a> {
     mistake_at(line, PID_COLUMN, wanted, RISING)
 }
 
-/// The mistake of a line that is one too many of its kind.
-fn too_many<'a>(line: &Line<'a>, words: &'static str) -> Mistake<'a> {
+/// The mistake of a line of this noun, of which a text has so many at most.
+fn too_many<'a>(line: &Line<'a>, noun: &'static str, most: u32) -> Mistake<'a> {
     let remedy = "cut the trace: a shorter time, or fewer processes";
-    mistake_at(line, 0, Wanted::Words(words), remedy)
+    mistake_at(line, 0, Wanted::NoMore(noun, most), remedy)
 }
 
 /// The mistake of an event that this process reports, below the line of another.

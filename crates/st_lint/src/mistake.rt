@@ -15,6 +15,8 @@ pub(crate) enum Wanted<'a> {
     Listed(&'a str),
     /// A number above this one.
     Greater(u64),
+    /// No more than so many lines of this noun.
+    NoMore(&'static str, u32),
     /// These words.
     Words(&'static str),
 }

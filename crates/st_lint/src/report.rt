@@ -62,6 +62,12 @@ fn say_wanted<W: ByteSink>(
             say(writer, buffer, b"a number above ")?;
             say_number(writer, buffer, count)
         }
+        Wanted::NoMore(noun, most) => {
+            say(writer, buffer, b"no ")?;
+            say(writer, buffer, noun.as_bytes())?;
+            say(writer, buffer, b" more than ")?;
+            say_number(writer, buffer, u64::from(most))
+        }
         Wanted::Words(words) => say(writer, buffer, words.as_bytes()),
     }
 }

@@ -1,6 +1,6 @@
 -- A reader on its way: the calls so far gave some bytes in a row, its feed was fed them, and it asks for no byte past
 -- the first one too many.
-use Rattle.std.proofs.Common.{◌≡◌, ℕ, ◌+◌, ◌<◌, ◌≤◌, Bool, false, List, [], ◌++◌, length, Option, Some, None}
+use Rattle.std.proofs.Common.{◌≡◌, ℕ, ◌+◌, ◌≤◌, Bool, List, [], ◌++◌, length, Option, Some, None}
 use Rattle.std.proofs.Common.{refl, sym, ap, ◌∙◌}
 use Rattle.std.proofs.Common.{append_assoc}
 use Rattle.std.specs.Prelude.{Result, Err}
@@ -19,16 +19,14 @@ use Rattle.st_text.specs.declared.limits.Limits.{Limits}
 
 pub record IsReading (limits : Limits) {S : Type 0} (gives : S → List ℕ → S → Type 0) (failed : S → Bool)
     (old now : S) (feed : Feed)
-    (count : ℕ) (buffer : List ℕ) : Type 0 where
+    (left : ℕ) (buffer : List ℕ) : Type 0 where
   pub bytes : List ℕ
   pub given : InARow gives old bytes now
   pub fed : IsFed bytes feed
-  pub counted : count ≡ length bytes
+  pub counted : length bytes + left ≡ limits.bytes
   pub limits_are : feed.limits ≡ limits
-  pub few : count ≤ limits.bytes + 1
   pub size : length buffer ≡ 8192
   pub mark : failed now ≡ failed old
-  pub sound : 0 < count → failed old ≡ false
   pub memory : fed_refusal feed ≡ Some faults.Memory → HadGrowth limits gives bytes old
 
 -- a new feed has refused nothing

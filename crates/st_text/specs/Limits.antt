@@ -24,7 +24,12 @@ standard = record {
   acts = most_acts;
 }
 
--- some 16 times as much, for certificates of texts within the standard ones, which can be longer
--- than those allow
+-- those of seqtool: a service that starts a process for each request reports so much, and an audit
+-- of it has no more acts
 abbrev pub greater : Limits
-greater = record { bytes = 1073741824; processes = 16000; events = 16000000; acts = 64000000 }
+greater = record {
+  bytes = 17179869184;
+  processes = 1000000;
+  events = 16000000;
+  acts = 100000000;
+}

@@ -72,7 +72,7 @@ impl Feed {
             return Err(ReadFault::Memory);
         }
         let len = piece.len() as u64;
-        if len > u64::from(self.limits.bytes) - self.count {
+        if len > self.limits.bytes - self.count {
             self.large = true;
             return Err(ReadFault::TooLarge);
         }

@@ -1,10 +1,10 @@
 //! How much of a text the reader takes.
 
-/// The most bytes, processes, events and acts that a text may have. Each is a `u32`, so that no
-/// count of lines overflows.
+/// The most bytes, processes, events and acts that a text may have. Those of lines are `u32`, so that
+/// no count of lines overflows.
 #[derive(Clone, Copy, Debug, PartialEq, Eq)]
 pub struct Limits {
-    pub bytes: u32,
+    pub bytes: u64,
     pub processes: u32,
     pub events: u32,
     pub acts: u32,
@@ -20,12 +20,14 @@ impl Limits {
         acts: 4_000_000,
     };
 
-    /// Some 16 times as much, for certificates: that of a text within the standard limits has the
-    /// same events and some acts for each, and can be longer than those limits allow.
+    /// Those of `seqtool`: what a service reports that starts a process for each request, and each
+    /// certificate of such a trace. The acts of 16,000,000 events are at most 98,065,536: six for
+    /// each event, 1,000,000 prints, and one for each process and each of 65,536 nodes. So many of
+    /// the longest lines have fewer bytes.
     pub const GREATER: Limits = Limits {
-        bytes: 1_073_741_824,
-        processes: 16_000,
+        bytes: 17_179_869_184,
+        processes: 1_000_000,
         events: 16_000_000,
-        acts: 64_000_000,
+        acts: 100_000_000,
     };
 }

@@ -35,23 +35,24 @@ pub fn read_within<S: ByteSource>(
 ) -> Result<Bundle, ReadFault>
     ensures { ReadsSourceWithin limits S.gives S.ended S.failed source.old source.new result }
 {
-    let most = u64::from(limits.bytes);
     let mut feed = Feed::within(alloc, limits);
     // The feed stops counting once it fails: the source is still read to its end then, for `Device`
     // and `TooLarge` come before `Memory`.
-    let mut count: u64 = 0;
+    let mut left = limits.bytes;
     let mut buffer = [0u8; 8_192];
-    while count <= most {
+    loop {
         // No byte past the first one too many is asked for.
-        let room = (most + 1 - count).min(PIECE) as usize;
+        let room = left.saturating_add(1).min(PIECE) as usize;
         match source.take(&mut buffer[..room]) {
             Err(_) => return Err(ReadFault::Device),
             Ok(0) => return feed.end(),
             Ok(n) => {
                 let _answer = feed.piece(&buffer[..n]);
-                count += n as u64;
+                if n as u64 > left {
+                    return Err(ReadFault::TooLarge);
+                }
+                left -= n as u64;
             }
         }
     }
-    Err(ReadFault::TooLarge)
 }

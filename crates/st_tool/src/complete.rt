@@ -29,9 +29,9 @@ use std::alloc::Global;
 use std::thread::Threads;
 
 /// The most acts and processes that the reader of the greater limits takes.
-const MOST_ACTS: u64 = 64_000_000;
+const MOST_ACTS: u64 = Limits::GREATER.acts as u64;
 
-const MOST_PROCESSES: usize = 16_000;
+const MOST_PROCESSES: usize = Limits::GREATER.processes as usize;
 
 /// How a completion is written.
 #[derive(Clone, Copy, Debug, PartialEq, Eq)]

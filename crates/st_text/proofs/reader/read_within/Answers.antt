@@ -13,53 +13,49 @@ use Rattle.st_text.proofs.TextFaults.{reads_end}
 use Rattle.st_text.proofs.ReaderSteps.{growth_after, growth_at_end, never_fresh}
 use Rattle.st_text.proofs.reader.read_within.Goals as goal
 
-pub loop-count-init : goal.loop-count-init
-loop-count-init g c =
+pub loop-feed-init : goal.loop-feed-init
+loop-feed-init g c =
     record {
       bytes = [];
       given = NoCall _;
       fed = c.within-feed.ensures.fed;
-      counted = refl;
+      counted = omega arith;
       limits_are = c.within-feed.ensures.limits;
-      few = omega arith;
       size = refl;
       mark = refl;
-      sound = λ some. absurd (omega arith);
       memory = λ ran. absurd (never_fresh _ faults.Memory c.within-feed.ensures.fresh ran);
     }
 
-pub loop-count-preserved : goal.loop-count-preserved
-loop-count-preserved g c =
-    let i = c.loop-count.invariant in
+pub loop-feed-preserved : goal.loop-feed-preserved
+loop-feed-preserved g c =
+    let i = c.loop-feed.invariant in
     let gives = g.S.ByteSource.gives in
     let piece = c.take.new.piece in
     let given : List ℕ = take c.in-Ok.n piece in
     let within : c.in-Ok.n ≤ length piece = c.in-Ok.ensures.bound in
-    let asked = length-take c.min-room.result c.loop-count.buffer in
-    let left = length-drop c.min-room.result c.loop-count.buffer in
+    let asked = length-take c.min-room.result c.loop-feed.buffer in
+    let left = length-drop c.min-room.result c.loop-feed.buffer in
     let room : length piece ≤ c.min-room.result = omega (arith, c.take.auto.piece, asked) in
-    let len : length (i.bytes ++ given) ≡ c.loop-count.count + c.in-Ok.n =
-    omega (arith, length-append i.bytes given, length-take c.in-Ok.n piece, i.counted, within) in
-    let back = drop c.min-room.result c.loop-count.buffer in
+    let len : length (i.bytes ++ given) ≡ length i.bytes + c.in-Ok.n =
+    omega (arith, length-append i.bytes given, length-take c.in-Ok.n piece, within) in
+    let back = drop c.min-room.result c.loop-feed.buffer in
     let same : take c.in-Ok.n (piece ++ back) ≡ given = take-append-le c.in-Ok.n piece back within in
     let feed = c.piece-answer.new.self in
-    let memory : (fed_refusal c.loop-count.feed ≡ None) → fed_refusal feed ≡ Some faults.Memory
+    let memory : (fed_refusal c.loop-feed.feed ≡ None) → fed_refusal feed ≡ Some faults.Memory
     → Grows c.args.limits i.bytes given =
     λ fresh ran. subst (λ (l : Limits). Grows l i.bytes given) i.limits_are
-    (subst (λ (x : List ℕ). Grows c.loop-count.feed.limits i.bytes x) same
+    (subst (λ (x : List ℕ). Grows c.loop-feed.feed.limits i.bytes x) same
     (c.piece-answer.ensures.memory i.bytes i.fed fresh ran)) in
     record {
       bytes = i.bytes ++ given;
       given = OneMore _ _ _ i.bytes given i.given c.in-Ok.ensures.given;
       fed = subst (λ (x : List ℕ). IsFed (i.bytes ++ x) feed) same (c.piece-answer.ensures.fed i.bytes i.fed);
-      counted = sym len;
+      counted = omega (arith, len, i.counted);
       limits_are = c.piece-answer.ensures.limits ∙ i.limits_are;
-      few = omega (arith, c.min-room.ensures, room, within, i.few);
       size = omega (arith, length-append piece back, left, c.take.auto.piece, asked, c.min-room.ensures, i.size);
       mark = c.in-Ok.ensures.mark.1 ∙ sym c.in-Ok.ensures.mark.0 ∙ i.mark;
-      sound = λ _. sym i.mark ∙ c.in-Ok.ensures.mark.0;
       memory =
-          growth_after c.args.limits gives _ _ _ i.bytes given (fed_refusal c.loop-count.feed) (fed_refusal feed)
+          growth_after c.args.limits gives _ _ _ i.bytes given (fed_refusal c.loop-feed.feed) (fed_refusal feed)
           i.given
           c.in-Ok.ensures.given i.memory
           memory c.piece-answer.ensures.again;
@@ -67,7 +63,7 @@ loop-count-preserved g c =
 
 pub returns-in-Err : goal.returns-in-Err
 returns-in-Err g c =
-    let i = c.loop-count.invariant in
+    let i = c.loop-feed.invariant in
     record {
       bytes = i.bytes;
       given = put_none g.S.ByteSource.gives i.given c.in-Err.ensures.given;
@@ -77,15 +73,15 @@ returns-in-Err g c =
 
 pub returns-in-Ok-eq0 : goal.returns-in-Ok-eq0
 returns-in-Ok-eq0 g c =
-    let i = c.loop-count.invariant in
+    let i = c.loop-feed.invariant in
     let e = c.in-Ok-eq0.ensures in
     let gives = g.S.ByteSource.gives in
     let failed = g.S.ByteSource.failed in
     let piece = c.take.new.piece in
-    let asked = length-take c.min-room.result c.loop-count.buffer in
+    let asked = length-take c.min-room.result c.loop-feed.buffer in
     let room : 0 < length piece = omega (arith, c.take.auto.piece, c.min-room.ensures, asked, i.size) in
     let zero = c.in-Ok-eq0.field-0-test in
-    let none = subst (λ (k : ℕ). gives c.loop-count.source (take k piece) c.take.new.self) zero e.given in
+    let none = subst (λ (k : ℕ). gives c.loop-feed.source (take k piece) c.take.new.self) zero e.given in
     let small : length i.bytes ≤ c.args.limits.bytes = omega (arith, i.counted) in
     record {
       bytes = i.bytes;
@@ -98,19 +94,34 @@ returns-in-Ok-eq0 g c =
         answer =
             subst (λ (l : Limits). Answers l i.bytes c.end.result) i.limits_are (c.end.ensures.answers i.bytes i.fed);
       });
-      memory = growth_at_end c.args.limits gives _ i.bytes (fed_refusal c.loop-count.feed) c.end.result small i.memory
+      memory = growth_at_end c.args.limits gives _ i.bytes (fed_refusal c.loop-feed.feed) c.end.result small i.memory
           (λ fresh. subst (λ (l : Limits). IsAnswer l i.bytes c.end.result) i.limits_are
           (c.end.ensures.exact i.bytes i.fed fresh)) c.end.ensures.again;
     }
 
-pub returns : goal.returns
-returns g c =
-    let i = c.loop-count.invariant in
-    let some : 0 < c.loop-count.count = omega arith in
+pub returns-then-n-left : goal.returns-then-n-left
+returns-then-n-left g c =
+    let i = c.loop-feed.invariant in
+    let given : List ℕ = take c.in-Ok.n c.take.new.piece in
+    let within : c.in-Ok.n ≤ length c.take.new.piece = c.in-Ok.ensures.bound in
+    let asked = length-take c.min-room.result c.loop-feed.buffer in
+    let room : length c.take.new.piece ≤ c.min-room.result = omega (arith, c.take.auto.piece, asked) in
     record {
-      bytes = i.bytes;
-      given = i.given;
-      answer =
-          record { count = omega (arith, i.counted, i.few); before = i.sound some; after = i.mark ∙ i.sound some };
+      bytes = i.bytes ++ given;
+      given = OneMore _ _ _ i.bytes given i.given c.in-Ok.ensures.given;
+      answer = record {
+        count =
+            omega (
+              arith,
+              length-append i.bytes given,
+              length-take c.in-Ok.n c.take.new.piece,
+              i.counted,
+              within,
+              room,
+              c.min-room.ensures,
+            );
+        before = sym i.mark ∙ c.in-Ok.ensures.mark.0;
+        after = c.in-Ok.ensures.mark.1;
+      };
       memory = λ e. absurd cc;
     }
