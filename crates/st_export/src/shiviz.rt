@@ -27,13 +27,13 @@ fn say_clock<W: ByteSink>(
     streams: &Streams,
     clock: &Clock,
 ) -> Result<(), Device> {
-    let mut mark = "{";
+    let mut is_first = true;
     for (place, count) in clock {
         if let Some(pid) = streams.pids().get(*place) {
-            out.say(mark)?;
+            out.say(if is_first { "{" } else { "," })?;
             out.say_pid_word(*pid)?;
             out.say_part(":", *count)?;
-            mark = ",";
+            is_first = false;
         }
     }
     out.say("}")
