@@ -11,7 +11,7 @@ FILE ?= examples/collected.txt
 SOURCES := crates.txt $(shell find crates -path '*/out' -prune -o -type f -print)
 CODE := crates.txt .ci/quick .ci/quick-clang $(filter %.rt,$(SOURCES))
 
-.PHONY: help quick try program demo install uninstall test wrong-bodies layout layers clauses docs test-program test-erlang test-conformance test-rust rust dist bench hostile clean distclean
+.PHONY: help quick try program demo install uninstall test wrong-bodies layout layers clauses plan docs test-program test-erlang test-conformance test-rust rust dist bench hostile clean distclean
 .DELETE_ON_ERROR:
 
 help:
@@ -69,7 +69,7 @@ install: $(PROGRAMS:%=bin/%) ## copies the proved programs, man pages and comple
 uninstall: ## removes from PREFIX what install copied there (at once)
 	rm -f $(PROGRAMS:%=$(BIN)/%) $(PROGRAMS:%=$(MAN)/%.1) $(PROGRAMS:%=$(BASH_COMPLETIONS)/%) $(ZSH_COMPLETIONS)/_seqtool
 
-test: layout layers clauses docs ## the merge gate: all proofs from nothing, the wrong bodies of must-fail/, the tests (more than an hour on four processors)
+test: layout layers clauses plan docs ## the merge gate: all proofs from nothing, the wrong bodies of must-fail/, the tests (more than an hour on four processors)
 	rt ci
 	@$(MAKE) --no-print-directory test-program
 	@$(MAKE) --no-print-directory test-erlang
@@ -92,6 +92,9 @@ layers: ## looks what each crate cites of the others, and for names that two hav
 
 clauses: ## looks for functions without a clause in crates that have definitions (1 second)
 	@.ci/clauses
+
+plan: ## plans builds of made-up crates, as make program plans the real one (1 second)
+	@.ci/prove --self-test
 
 docs: ## holds the docs to the sources, and plants falsehoods, which must be refused (8 seconds)
 	@.ci/docs --self-test
