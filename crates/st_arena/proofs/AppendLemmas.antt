@@ -5,9 +5,9 @@ use Rattle.std.proofs.lemmas.Bool.{cases_lt, lt-ltb, le-ltb, cond-true, cond-fal
 use Rattle.std.proofs.lemmas.List.{same_lists, length_push, get_or_append_left, get_or_push}
 use Rattle.st_arena.specs.declared.node.Node.{Node}
 use Rattle.st_arena.specs.declared.node.Ends.{Ends}
-use Rattle.st_arena.specs.Chain.{len_of, ends_at, item_of, next_key, previous_key, items_of, IsChain, AreChains}
+use Rattle.st_arena.specs.Chain.{len_of, ends_at, value_in, next_key, previous_key, values_of, IsChain, AreChains}
 use Rattle.st_arena.specs.Chain.{Appends}
-use Rattle.st_arena.proofs.ChainLemmas.{SameAt, length-items_of, get_or-items_of, vacant_apart}
+use Rattle.st_arena.proofs.ChainLemmas.{SameAt, length-values_of, get_or-values_of, vacant_apart}
 use Rattle.st_arena.proofs.ArenaLemmas.{sound_with, lists_with, list_of_map}
 
 -- ---- on one chain
@@ -15,14 +15,14 @@ module _ {T : Type 0} (old new : ℕ → Option (Node T)) (ends : Ends) (key : �
     (after : Ends) (value : T) (change : Appends old new ends after value) (row : ℕ → ℕ)
     (below : (place : ℕ) → place < ends.len → row place ≡ key place) (at_end : row ends.len ≡ change.key) where
   -- the nodes before the new one hold what they held
-  append_same : (place : ℕ) → place < ends.len → item_of (new (row place)) ≡ item_of (old (key place))
+  append_same : (place : ℕ) → place < ends.len → value_in (new (row place)) ≡ value_in (old (key place))
   append_same place within =
       rw (below place within)
       (change.items_stay (key place)
       (vacant_apart old new ends key chain change.key place change.was_vacant within))
 
   -- the new node holds the value
-  append_holds : (place : ℕ) → place ≡ ends.len → item_of (new (row place)) ≡ Some value
+  append_holds : (place : ℕ) → place ≡ ends.len → value_in (new (row place)) ≡ Some value
   append_holds place is = rw (is, at_end) change.holds
 
   -- no node before it is under the new key
@@ -111,31 +111,31 @@ module _ {T : Type 0} (old new : ℕ → Option (Node T)) (ends : Ends) (key : �
               absurd (omega arith)
 
   -- and its value the list
-  pub append_items : items_of new after ≡ items_of old ends ++ value ∷ []
+  pub append_items : values_of new after ≡ values_of old ends ++ value ∷ []
   append_items =
-      same_lists (items_of new after) (items_of old ends ++ value ∷ [])
+      same_lists (values_of new after) (values_of old ends ++ value ∷ [])
       (omega (
         arith,
-        length-items_of new after row append_chain,
-        length-items_of old ends key chain,
-        length_push (items_of old ends) value,
+        length-values_of new after row append_chain,
+        length-values_of old ends key chain,
+        length_push (values_of old ends) value,
         change.len,
       ))
       (λ place default within.
-      let inside : place < after.len = omega (arith, length-items_of new after row append_chain) in
-      get_or-items_of new after row append_chain place default inside
+      let inside : place < after.len = omega (arith, length-values_of new after row append_chain) in
+      get_or-values_of new after row append_chain place default inside
       ∙ (elim (cases_lt place ends.len) [
         | inl before ↦
             ap (λ item. unwrap_or item default) (append_same place before)
-            ∙ sym (get_or-items_of old ends key chain place default before)
+            ∙ sym (get_or-values_of old ends key chain place default before)
             ∙ sym
-            (get_or_append_left (items_of old ends) (value ∷ []) default place
-            (omega (arith, length-items_of old ends key chain)))
+            (get_or_append_left (values_of old ends) (value ∷ []) default place
+            (omega (arith, length-values_of old ends key chain)))
         | inr past ↦
             ap (λ item. unwrap_or item default) (append_holds place (omega (arith, change.len)))
             ∙ sym
-            (get_or_push (items_of old ends) value default place
-            (omega (arith, change.len, length-items_of old ends key chain)))
+            (get_or_push (values_of old ends) value default place
+            (omega (arith, change.len, length-values_of old ends key chain)))
       ]))
 
 -- ---- among all lists: the new key holds nothing of any list, and the last node is this list's
@@ -210,11 +210,11 @@ module _ {T : Type 0} (old new : ℕ → Option (Node T)) (ends : List Ends) (co
       within
 
   -- and of all lists only that one changed: the value is at its end
-  pub append_lists : map (items_of new) (set ends list after)
-      ≡ set (map (items_of old) ends) list (get_or (map (items_of old) ends) list [] ++ value ∷ [])
+  pub append_lists : map (values_of new) (set ends list after)
+      ≡ set (map (values_of old) ends) list (get_or (map (values_of old) ends) list [] ++ value ∷ [])
   append_lists =
       lists_with old new ends count capacity sound list in_range after
-      (get_or (map (items_of old) ends) list [] ++ value ∷ []) append_others
+      (get_or (map (values_of old) ends) list [] ++ value ∷ []) append_others
       (append_items old new (ends_at ends list) (sound.key list) (sound.chain list) after value change append_row
       append_row-below append_row-end
       ∙ ap (λ xs. xs ++ value ∷ []) (sym (list_of_map old new ends count capacity sound list in_range after)))

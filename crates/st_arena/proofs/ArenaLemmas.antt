@@ -9,7 +9,7 @@ use Rattle.std.proofs.lemmas.List.Sums.{sum_by-set, sum_by-cons}
 use Rattle.std.specs.Prelude.{replicate}
 use Rattle.st_arena.specs.declared.node.Node.{Node}
 use Rattle.st_arena.specs.declared.node.Ends.{Ends}
-use Rattle.st_arena.specs.Chain.{len_of, no_ends, ends_at, items_of, IsChain, AreChains}
+use Rattle.st_arena.specs.Chain.{len_of, no_ends, ends_at, values_of, IsChain, AreChains}
 use Rattle.st_arena.proofs.ChainLemmas.{SameAt, chain_stays, items_stay}
 
 -- two functions that agree at each element map a list alike
@@ -116,10 +116,10 @@ module _ {T : Type 0} (old new : ℕ → Option (Node T)) (ends : List Ends) (co
   pub lists_with : (items : List T)
       → ((other place : ℕ) → other ≢ list → place < len_of (ends_at ends other)
       → SameAt old new (sound.key other place))
-      → items_of new after ≡ items
-      → map (items_of new) (set ends list after) ≡ set (map (items_of old) ends) list items
+      → values_of new after ≡ items
+      → map (values_of new) (set ends list after) ≡ set (map (values_of old) ends) list items
   lists_with items same is =
-      map-set_one (items_of old) (items_of new) ends list after no_ends items
+      map-set_one (values_of old) (values_of new) ends list after no_ends items
       (λ other differs inside.
       items_stay old new (ends_at ends other) (sound.key other) (sound.chain other) (ends_at ends other)
       (sound.key other)
@@ -130,8 +130,8 @@ module _ {T : Type 0} (old new : ℕ → Option (Node T)) (ends : List Ends) (co
       is
 
   -- a list's items, among all lists
-  pub list_of_map : get_or (map (items_of old) ends) list [] ≡ items_of old (ends_at ends list)
-  list_of_map = get_or-map (items_of old) ends list no_ends [] in_range
+  pub list_of_map : get_or (map (values_of old) ends) list [] ≡ values_of old (ends_at ends list)
+  list_of_map = get_or-map (values_of old) ends list no_ends [] in_range
 
 -- a sound arena is sound with more room
 pub more_room : {T : Type 0} (slots : ℕ → Option (Node T)) (ends : List Ends) (count capacity : ℕ)
@@ -179,9 +179,10 @@ empty_sound slots empty lists capacity none =
 
 -- their items are as many empty lists
 pub empty_lists : {T : Type 0} (slots : ℕ → Option (Node T)) (empty : Ends) (lists : ℕ) → empty.len ≡ 0
-    → map (items_of slots) (replicate lists empty) ≡ replicate lists []
+    → map (values_of slots) (replicate lists empty) ≡ replicate lists []
 empty_lists slots empty zero none = refl
 empty_lists slots empty (suc lists) none =
-    let nothing : items_of slots empty ≡ [] = rw none refl in
-    let rest : map (items_of slots) (replicate lists empty) ≡ replicate lists [] = empty_lists slots empty lists none in
+    let nothing : values_of slots empty ≡ [] = rw none refl in
+    let rest : map (values_of slots) (replicate lists empty)
+    ≡ replicate lists [] = empty_lists slots empty lists none in
     cc

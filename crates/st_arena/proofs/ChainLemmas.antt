@@ -8,79 +8,81 @@ use Rattle.std.proofs.lemmas.List.{same_lists, length-drop, drop_more}
 use Rattle.std.proofs.lemmas.Option.{unwrap_or-slice_get, slice_get-get_or}
 use Rattle.st_arena.specs.declared.node.Node.{Node}
 use Rattle.st_arena.specs.declared.node.Ends.{Ends}
-use Rattle.st_arena.specs.Chain.{item_of, next_key, previous_key, items, items_of, key_after, IsChain, IsChained}
+use Rattle.st_arena.specs.Chain.{value_in, next_key, previous_key, values_from}
+use Rattle.st_arena.specs.Chain.{values_of, key_after, IsChain, IsChained}
 
 module _ {T : Type 0} where
   -- a slot that holds a value is a node
-  pub held_node : (slot : Option (Node T)) → IsSome (item_of slot) → (node : Node T) × (slot ≡ Some node)
+  pub held_node : (slot : Option (Node T)) → IsSome (value_in slot) → (node : Node T) × (slot ≡ Some node)
   held_node None held = absurd (cc)
   held_node (Some node) held = (node, refl)
 
   -- a slot that holds a value is not empty
-  pub held_slot : (slot : Option (Node T)) → IsSome (item_of slot) → IsSome slot
+  pub held_slot : (slot : Option (Node T)) → IsSome (value_in slot) → IsSome slot
   held_slot None held = held
   held_slot (Some node) held = refl
 
   -- a slot holds a value exactly if it has a node
-  pub is_some-item_of : (slot : Option (Node T)) → is_some (item_of slot) ≡ is_some slot
-  is_some-item_of None = refl
-  is_some-item_of (Some node) = refl
+  pub is_some-value_in : (slot : Option (Node T)) → is_some (value_in slot) ≡ is_some slot
+  is_some-value_in None = refl
+  is_some-value_in (Some node) = refl
 
 module _ {T : Type 0} (slots : ℕ → Option (Node T)) where
   -- the items from a node on begin with its own
   pub items_at_node : (count key : ℕ) (node : Node T) → slots key ≡ Some node
-      → items slots (suc count) key ≡ node.value ∷ items slots count node.next
+      → values_from slots (suc count) key ≡ node.value ∷ values_from slots count node.next
   items_at_node count key node is = rw is refl
 
 module _ {T : Type 0} (slots : ℕ → Option (Node T)) (ends : Ends) (key : ℕ → ℕ) (chain : IsChain slots ends key) where
   -- from any node on, the items are as many as the nodes that are left
-  length-items_from : (count start : ℕ) → start + count ≡ ends.len → length (items slots count (key start)) ≡ count
-  length-items_from zero start all = refl
-  length-items_from (suc zero) start all =
+  length-values_from : (count start : ℕ) → start + count ≡ ends.len
+      → length (values_from slots count (key start)) ≡ count
+  length-values_from zero start all = refl
+  length-values_from (suc zero) start all =
       let node = held_node (slots (key start)) (chain.held start (omega arith)) in
       rw (items_at_node slots zero (key start) node.0 node.1) refl
-  length-items_from (suc (suc count)) start all =
+  length-values_from (suc (suc count)) start all =
       let node = held_node (slots (key start)) (chain.held start (omega arith)) in
       let link : node.0.next ≡ key (suc start) = sym (ap next_key node.1) ∙ chain.next start (omega arith) in
       rw (items_at_node slots (suc count) (key start) node.0 node.1, link)
-      (ap suc (length-items_from (suc count) (suc start) (omega arith)))
+      (ap suc (length-values_from (suc count) (suc start) (omega arith)))
 
   -- and each is what its node holds
-  get-items_from : (count start place : ℕ) → start + count ≡ ends.len → place < count
-      → slice_get (items slots count (key start)) place ≡ item_of (slots (key (start + place)))
-  get-items_from zero start place all within = absurd (omega arith)
-  get-items_from (suc count) start zero all within =
+  get-values_from : (count start place : ℕ) → start + count ≡ ends.len → place < count
+      → slice_get (values_from slots count (key start)) place ≡ value_in (slots (key (start + place)))
+  get-values_from zero start place all within = absurd (omega arith)
+  get-values_from (suc count) start zero all within =
       let node = held_node (slots (key start)) (chain.held start (omega arith)) in
       let here : start + 0 ≡ start = omega arith in
-      rw (items_at_node slots count (key start) node.0 node.1, here) (sym (ap item_of node.1))
-  get-items_from (suc count) start (suc place) all within =
+      rw (items_at_node slots count (key start) node.0 node.1, here) (sym (ap value_in node.1))
+  get-values_from (suc count) start (suc place) all within =
       let node = held_node (slots (key start)) (chain.held start (omega arith)) in
       let link : node.0.next ≡ key (suc start) = sym (ap next_key node.1) ∙ chain.next start (omega arith) in
       let there : start + suc place ≡ suc start + place = omega arith in
       rw (items_at_node slots count (key start) node.0 node.1, link, there)
-      (get-items_from count (suc start) place (omega arith) (omega arith))
+      (get-values_from count (suc start) place (omega arith) (omega arith))
 
   -- a list has as many items as its ends say
-  pub length-items_of : length (items_of slots ends) ≡ ends.len
-  length-items_of =
+  pub length-values_of : length (values_of slots ends) ≡ ends.len
+  length-values_of =
       elim (cases_lt 0 ends.len) [
-        | inl some ↦ rw (chain.first some) (length-items_from ends.len 0 (omega arith))
+        | inl some ↦ rw (chain.first some) (length-values_from ends.len 0 (omega arith))
         | inr nothing ↦ let empty : ends.len ≡ 0 = omega arith in rw empty refl
       ]
 
   -- the item at a place is what the node there holds
-  pub get-items_of : (place : ℕ) → place < ends.len
-      → slice_get (items_of slots ends) place ≡ item_of (slots (key place))
-  get-items_of place within =
+  pub get-values_of : (place : ℕ) → place < ends.len
+      → slice_get (values_of slots ends) place ≡ value_in (slots (key place))
+  get-values_of place within =
       let there : 0 + place ≡ place = omega arith in
-      rw (chain.first (omega arith)) (rw there at (get-items_from ends.len 0 place (omega arith) within))
+      rw (chain.first (omega arith)) (rw there at (get-values_from ends.len 0 place (omega arith) within))
 
   -- the same, read with a default
-  pub get_or-items_of : (place : ℕ) (default : T) → place < ends.len
-      → get_or (items_of slots ends) place default ≡ unwrap_or (item_of (slots (key place))) default
-  get_or-items_of place default within =
-      sym (unwrap_or-slice_get (items_of slots ends) place default)
-      ∙ ap (λ item. unwrap_or item default) (get-items_of place within)
+  pub get_or-values_of : (place : ℕ) (default : T) → place < ends.len
+      → get_or (values_of slots ends) place default ≡ unwrap_or (value_in (slots (key place))) default
+  get_or-values_of place default within =
+      sym (unwrap_or-slice_get (values_of slots ends) place default)
+      ∙ ap (λ item. unwrap_or item default) (get-values_of place within)
 
   -- so many steps from the first node lead to the node at that place
   pub key_after-first : (place : ℕ) → place < ends.len → key_after slots ends.first place ≡ key place
@@ -103,10 +105,10 @@ module _ {T : Type 0} (slots : ℕ → Option (Node T)) (ends : Ends) (chained :
       ap (λ k. is_some (slots k)) (step_is place within) ∙ held_at slots ends chained.key chained.chain place within
 
   pub item_after : (place : ℕ) → place < ends.len
-      → slice_get (items_of slots ends) place ≡ item_of (slots (key_after slots ends.first place))
+      → slice_get (values_of slots ends) place ≡ value_in (slots (key_after slots ends.first place))
   item_after place within =
-      get-items_of slots ends chained.key chained.chain place within
-      ∙ ap (λ k. item_of (slots k)) (sym (step_is place within))
+      get-values_of slots ends chained.key chained.chain place within
+      ∙ ap (λ k. value_in (slots k)) (sym (step_is place within))
 
   -- the last node is so many steps from the first
   pub last_after : (place : ℕ) → suc place ≡ ends.len → ends.last ≡ key_after slots ends.first place
@@ -168,24 +170,25 @@ module _ {T : Type 0} (slots : ℕ → Option (Node T)) (ends : Ends) (chained :
 -- one step along the items that are left of a list
 module _ {T : Type 0} (slots : ℕ → Option (Node T)) (whole : List T) (place : ℕ) (within : place < length whole) where
   -- while items are left, the node at the key is there
-  pub left_there : (count key : ℕ) → items slots count key ≡ drop place whole → IsSome (slots key)
+  pub left_there : (count key : ℕ) → values_from slots count key ≡ drop place whole → IsSome (slots key)
   left_there zero key left = absurd (omega (arith, ap length left, length-drop place whole))
   left_there (suc count) key left = by_slot (slots key) refl
     where
       by_slot : (slot : Option (Node T)) → slots key ≡ slot → IsSome slot
       by_slot None nothing =
-          let none : items slots (suc count) key ≡ [] = rw nothing refl in
+          let none : values_from slots (suc count) key ≡ [] = rw nothing refl in
           absurd (omega (arith, ap length (sym none ∙ left), length-drop place whole))
       by_slot (Some node) is = refl
 
   -- it holds the first of them, and its next has those after it
   pub left_step : (count rest key : ℕ) (node : Node T) → slots key ≡ Some node
-      → items slots count key ≡ drop place whole → suc rest ≡ count
-      → (items slots rest node.next ≡ drop (place + 1) whole) × (slice_get whole place ≡ Some node.value)
+      → values_from slots count key ≡ drop place whole → suc rest ≡ count
+      → (values_from slots rest node.next ≡ drop (place + 1) whole) × (slice_get whole place ≡ Some node.value)
   left_step count rest key node is left one_less =
-      let parts : node.value ∷ items slots rest node.next ≡ get_or whole place node.value ∷ drop (place + 1) whole =
+      let parts : node.value ∷ values_from slots rest node.next
+      ≡ get_or whole place node.value ∷ drop (place + 1) whole =
       sym (items_at_node slots rest key node is)
-      ∙ ap (λ n. items slots n key) one_less
+      ∙ ap (λ n. values_from slots n key) one_less
       ∙ left
       ∙ drop_more whole place node.value within in
       let first : node.value ≡ get_or whole place node.value = cc in
@@ -193,7 +196,7 @@ module _ {T : Type 0} (slots : ℕ → Option (Node T)) (whole : List T) (place 
 
 -- the slot under a key tells the same in both
 pub record SameAt {T : Type 0} (old new : ℕ → Option (Node T)) (key : ℕ) : Type 0 where
-  pub item : item_of (new key) ≡ item_of (old key)
+  pub item : value_in (new key) ≡ value_in (old key)
   pub next : next_key (new key) ≡ next_key (old key)
   pub previous : previous_key (new key) ≡ previous_key (old key)
 
@@ -212,21 +215,21 @@ module _ {T : Type 0} (old new : ℕ → Option (Node T)) (ends : Ends) (key : �
 
   -- two chains of one length that hold the same at each place have the same items
   pub items_stay : (after : Ends) (row : ℕ → ℕ) → IsChain new after row → after.len ≡ ends.len
-      → ((place : ℕ) → place < ends.len → item_of (new (row place)) ≡ item_of (old (key place)))
-      → items_of new after ≡ items_of old ends
+      → ((place : ℕ) → place < ends.len → value_in (new (row place)) ≡ value_in (old (key place)))
+      → values_of new after ≡ values_of old ends
   items_stay after row later len same =
-      same_lists (items_of new after) (items_of old ends)
-      (length-items_of new after row later ∙ len ∙ sym (length-items_of old ends key chain))
+      same_lists (values_of new after) (values_of old ends)
+      (length-values_of new after row later ∙ len ∙ sym (length-values_of old ends key chain))
       (λ place default within.
-      let inside : place < after.len = omega (arith, length-items_of new after row later) in
+      let inside : place < after.len = omega (arith, length-values_of new after row later) in
       let inside_old : place < ends.len = omega arith in
-      get_or-items_of new after row later place default inside
+      get_or-values_of new after row later place default inside
       ∙ ap (λ item. unwrap_or item default) (same place inside_old)
-      ∙ sym (get_or-items_of old ends key chain place default inside_old))
+      ∙ sym (get_or-values_of old ends key chain place default inside_old))
 
   -- a key that holds nothing is no node's
   pub vacant_apart : (vacant place : ℕ) → old vacant ≡ None → place < ends.len → key place ≢ vacant
   vacant_apart vacant place nothing within same =
-      let held : IsSome (item_of (old vacant)) = rw (← same) (chain.held place within) in
-      let none : is_some (item_of (old vacant)) ≡ false = rw nothing refl in
+      let held : IsSome (value_in (old vacant)) = rw (← same) (chain.held place within) in
+      let none : is_some (value_in (old vacant)) ≡ false = rw nothing refl in
       absurd (cc)

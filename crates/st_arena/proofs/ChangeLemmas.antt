@@ -6,10 +6,10 @@ use Rattle.std.proofs.lemmas.List.{set-get_or}
 use Rattle.std.specs.List.{AllZip}
 use Rattle.st_arena.specs.declared.node.Node.{Node}
 use Rattle.st_arena.specs.declared.node.Ends.{Ends}
-use Rattle.st_arena.specs.Chain.{len_of, no_ends, ends_at, item_of, next_key, items_of, key_after, IsChain}
+use Rattle.st_arena.specs.Chain.{len_of, no_ends, ends_at, value_in, next_key, values_of, key_after, IsChain}
 use Rattle.st_arena.specs.Chain.{AreChains, Turns, ChangesItems, IsChained, SetsItem}
-use Rattle.st_arena.proofs.ChainLemmas.{SameAt, held_after, steps_apart, is_some-item_of, length-items_of}
-use Rattle.st_arena.proofs.ChainLemmas.{get-items_of, key_after-first}
+use Rattle.st_arena.proofs.ChainLemmas.{SameAt, held_after, steps_apart, is_some-value_in, length-values_of}
+use Rattle.st_arena.proofs.ChainLemmas.{get-values_of, key_after-first}
 use Rattle.st_arena.proofs.ArenaLemmas.{lists_with}
 use Rattle.st_arena.proofs.CallLemmas.{AllZip-from_places}
 
@@ -21,10 +21,10 @@ module _ {T : Type 0} (old now new : ℕ → Option (Node T)) (ends : Ends) (cha
   -- the next node to be changed is there
   pub change_there : IsSome (now key)
   change_there =
-      sym (is_some-item_of (now key))
-      ∙ ap (λ k. is_some (item_of (now k))) is_there
+      sym (is_some-value_in (now key))
+      ∙ ap (λ k. is_some (value_in (now k))) is_there
       ∙ ap is_some (so_far.items_stay (key_after old ends.first count) not_yet)
-      ∙ is_some-item_of (old (key_after old ends.first count))
+      ∙ is_some-value_in (old (key_after old ends.first count))
       ∙ held_after old ends chained count within
     where
       not_yet : (place : ℕ) → place < count → key_after old ends.first count ≢ key_after old ends.first place
@@ -66,9 +66,9 @@ module _ {T : Type 0} (old now new : ℕ → Option (Node T)) (ends : Ends) (cha
                       after = value;
                       was =
                           sym (so_far.items_stay (key_after old ends.first place) (not_yet place here))
-                          ∙ ap (λ k. item_of (now k)) (sym at_key)
-                          ∙ ap item_of is_node;
-                      is = ap (λ k. item_of (new k)) (sym at_key) ∙ change.changed;
+                          ∙ ap (λ k. value_in (now k)) (sym at_key)
+                          ∙ ap value_in is_node;
+                      is = ap (λ k. value_in (new k)) (sym at_key) ∙ change.changed;
                       related = related;
                     }
               ];
@@ -97,7 +97,7 @@ module _ {T : Type 0} (old new : ℕ → Option (Node T)) (ends : List Ends) (co
 
   -- each item of the list became one that R relates to it
   change_turns : (place : ℕ) → place < len_of (ends_at ends list)
-      → Turns R (item_of (old (sound.key list place))) (item_of (new (sound.key list place)))
+      → Turns R (value_in (old (sound.key list place))) (value_in (new (sound.key list place)))
   change_turns place within = rw (change_steps place within) at (change.changed place within)
 
   -- the nodes of all other lists stay as they were
@@ -145,27 +145,27 @@ module _ {T : Type 0} (old new : ℕ → Option (Node T)) (ends : List Ends) (co
       }
 
   -- of all lists only that one changed
-  pub change_lists : map (items_of new) ends ≡ set (map (items_of old) ends) list (items_of new (ends_at ends list))
+  pub change_lists : map (values_of new) ends ≡ set (map (values_of old) ends) list (values_of new (ends_at ends list))
   change_lists =
-      ap (map (items_of new)) (sym (set-get_or ends list no_ends))
+      ap (map (values_of new)) (sym (set-get_or ends list no_ends))
       ∙ lists_with old new ends count capacity sound list in_range (ends_at ends list)
-      (items_of new (ends_at ends list)) change_others refl
+      (values_of new (ends_at ends list)) change_others refl
 
   -- and R relates its items, place by place
-  pub change_each : AllZip R (items_of old (ends_at ends list)) (items_of new (ends_at ends list))
+  pub change_each : AllZip R (values_of old (ends_at ends list)) (values_of new (ends_at ends list))
   change_each =
-      AllZip-from_places R (items_of old (ends_at ends list)) (items_of new (ends_at ends list))
+      AllZip-from_places R (values_of old (ends_at ends list)) (values_of new (ends_at ends list))
       (many_old ∙ sym many_new)
       (λ place here.
       let within : place < len_of (ends_at ends list) = omega (arith, many_old) in
       rw (
-        get-items_of old (ends_at ends list) (sound.key list) (sound.chain list) place within,
-        get-items_of new (ends_at ends list) (sound.key list) (change_chain list) place within,
+        get-values_of old (ends_at ends list) (sound.key list) (sound.chain list) place within,
+        get-values_of new (ends_at ends list) (sound.key list) (change_chain list) place within,
       )
       (change_turns place within))
     where
-      many_old : length (items_of old (ends_at ends list)) ≡ len_of (ends_at ends list)
-      many_old = length-items_of old (ends_at ends list) (sound.key list) (sound.chain list)
+      many_old : length (values_of old (ends_at ends list)) ≡ len_of (ends_at ends list)
+      many_old = length-values_of old (ends_at ends list) (sound.key list) (sound.chain list)
 
-      many_new : length (items_of new (ends_at ends list)) ≡ len_of (ends_at ends list)
-      many_new = length-items_of new (ends_at ends list) (sound.key list) (change_chain list)
+      many_new : length (values_of new (ends_at ends list)) ≡ len_of (ends_at ends list)
+      many_new = length-values_of new (ends_at ends list) (sound.key list) (change_chain list)

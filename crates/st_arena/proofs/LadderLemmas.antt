@@ -12,7 +12,7 @@ use Rattle.std.proofs.lemmas.List.Edits.{length-remove, get_or-remove_below, get
 use Rattle.std.proofs.lemmas.Option.{slice_get-get_or, same_Some}
 use Rattle.st_arena.specs.declared.node.Node.{Node}
 use Rattle.st_arena.specs.declared.node.Ends.{Ends}
-use Rattle.st_arena.specs.Chain.{len_of, no_ends, ends_at, key_after, keys, keys_of, IsChain, AreChains, AreLadders}
+use Rattle.st_arena.specs.Chain.{len_of, no_ends, ends_at, key_after, keys, node_keys, IsChain, AreChains, AreLadders}
 use Rattle.st_arena.specs.Chain.{KeepsLadder}
 use Rattle.st_arena.specs.Chain.{Appends, Unlinks, ChangesItems}
 use Rattle.st_arena.proofs.ChainLemmas.{SameAt, chain_stays, key_after-first}
@@ -63,9 +63,9 @@ keys_are slots count first found len each =
 
 -- a chain keeps its keys where its nodes' links stay
 pub keys_stay : {T : Type 0} (old new : ℕ → Option (Node T)) (ends : Ends) (key : ℕ → ℕ) → IsChain old ends key
-    → IsChain new ends key → keys_of old ends ≡ keys_of new ends
+    → IsChain new ends key → node_keys old ends ≡ node_keys new ends
 keys_stay old new ends key chain later =
-    keys_are new ends.len ends.first (keys_of old ends) (length-keys old ends.len ends.first)
+    keys_are new ends.len ends.first (node_keys old ends) (length-keys old ends.len ends.first)
     (λ place default inside.
     get_or-keys old ends.len ends.first place default inside
     ∙ key_after-first old ends key chain place inside
@@ -75,22 +75,22 @@ keys_stay old new ends key chain later =
 pub keys_push : {T : Type 0} (old new : ℕ → Option (Node T)) (ends after : Ends) (key row : ℕ → ℕ)
     → IsChain old ends key → IsChain new after row → after.len ≡ suc ends.len
     → ((place : ℕ) → place < ends.len → row place ≡ key place) → (last : ℕ) → row ends.len ≡ last
-    → keys_of old ends ++ last ∷ [] ≡ keys_of new after
+    → node_keys old ends ++ last ∷ [] ≡ node_keys new after
 keys_push old new ends after key row chain later longer below last at_end =
     let many = length-keys old ends.len ends.first in
-    keys_are new after.len after.first (keys_of old ends ++ last ∷ [])
-    (omega (arith, many, longer, length_push (keys_of old ends) last))
+    keys_are new after.len after.first (node_keys old ends ++ last ∷ [])
+    (omega (arith, many, longer, length_push (node_keys old ends) last))
     (λ place default inside.
     elim (cases_lt place ends.len) [
       | inl before ↦
-          get_or_append_left (keys_of old ends) (last ∷ []) default place (omega (arith, many, before))
+          get_or_append_left (node_keys old ends) (last ∷ []) default place (omega (arith, many, before))
           ∙ get_or-keys old ends.len ends.first place default before
           ∙ key_after-first old ends key chain place before
           ∙ sym (below place before)
           ∙ sym (key_after-first new after row later place inside)
       | inr past ↦
           let here : place ≡ ends.len = omega (arith, inside, longer, past) in
-          get_or_push (keys_of old ends) last default place (omega (arith, many, here))
+          get_or_push (node_keys old ends) last default place (omega (arith, many, here))
           ∙ sym at_end
           ∙ ap row (sym here)
           ∙ sym (key_after-first new after row later place inside)
@@ -101,23 +101,23 @@ pub keys_remove : {T : Type 0} (old new : ℕ → Option (Node T)) (ends after :
     → IsChain old ends key → IsChain new after row → suc after.len ≡ ends.len → place < ends.len
     → ((other : ℕ) → other < place → row other ≡ key other)
     → ((other : ℕ) → place ≤ other → row other ≡ key (suc other))
-    → remove (keys_of old ends) place ≡ keys_of new after
+    → remove (node_keys old ends) place ≡ node_keys new after
 keys_remove old new ends after key row place chain later shorter within below above =
     let many = length-keys old ends.len ends.first in
-    let fewer = length-remove (keys_of old ends) place (omega (arith, many, within)) in
-    keys_are new after.len after.first (remove (keys_of old ends) place) (omega (arith, many, fewer, shorter))
+    let fewer = length-remove (node_keys old ends) place (omega (arith, many, within)) in
+    keys_are new after.len after.first (remove (node_keys old ends) place) (omega (arith, many, fewer, shorter))
     (λ other default inside.
     elim (cases_lt other place) [
       | inl before ↦
-          get_or-remove_below (keys_of old ends) place default other before (omega (arith, many, within))
+          get_or-remove_below (node_keys old ends) place default other before (omega (arith, many, within))
           ∙ get_or-keys old ends.len ends.first other default (omega (arith, before, within))
           ∙ key_after-first old ends key chain other (omega (arith, before, within))
           ∙ sym (below other before)
           ∙ sym (key_after-first new after row later other inside)
       | inr behind ↦
           let next : other + 1 ≡ suc other = omega arith in
-          get_or-remove_above (keys_of old ends) place default other behind (omega (arith, many, within))
-          ∙ ap (λ p. get_or (keys_of old ends) p default) next
+          get_or-remove_above (node_keys old ends) place default other behind (omega (arith, many, within))
+          ∙ ap (λ p. get_or (node_keys old ends) p default) next
           ∙ get_or-keys old ends.len ends.first (suc other) default (omega (arith, inside, shorter))
           ∙ key_after-first old ends key chain (suc other) (omega (arith, inside, shorter))
           ∙ sym (above other behind)
@@ -127,13 +127,13 @@ keys_remove old new ends after key row place chain later shorter within below ab
 -- ---- a list's ladder
 -- what a ladder holds at a place is the key there
 pub ladder_key : {T : Type 0} (slots : ℕ → Option (Node T)) (ends : Ends) (place key : ℕ) (ladder : List ℕ)
-    (found : Option (List ℕ)) → IfSome found (λ l. l ≡ keys_of slots ends) → found ≡ Some ladder → place < ends.len
+    (found : Option (List ℕ)) → IfSome found (λ l. l ≡ node_keys slots ends) → found ≡ Some ladder → place < ends.len
     → slice_get ladder place ≡ Some key → key ≡ key_after slots ends.first place
 ladder_key slots ends place key ladder found holds is inside there =
-    let same : ladder ≡ keys_of slots ends = rw is at holds in
+    let same : ladder ≡ node_keys slots ends = rw is at holds in
     let many = length-keys slots ends.len ends.first in
-    let read : slice_get (keys_of slots ends) place ≡ Some (get_or (keys_of slots ends) place key) =
-    slice_get-get_or (keys_of slots ends) place key (omega (arith, many, inside)) in
+    let read : slice_get (node_keys slots ends) place ≡ Some (get_or (node_keys slots ends) place key) =
+    slice_get-get_or (node_keys slots ends) place key (omega (arith, many, inside)) in
     same_Some _ _ (sym there ∙ ap (λ l. slice_get l place) same ∙ read)
     ∙ get_or-keys slots ends.len ends.first place key inside
 
@@ -187,7 +187,7 @@ module _ {T : Type 0} (old new : ℕ → Option (Node T)) (ends : List Ends) (co
     ladders_with : (later : ℕ → Option (List ℕ))
         → ((other place : ℕ) → other ≢ list → place < len_of (ends_at ends other)
         → SameAt old new (sound.key other place))
-        → KeepsLadder ladders later list (keys_of new after) → AreLadders new (set ends list after) later
+        → KeepsLadder ladders later list (node_keys new after) → AreLadders new (set ends list after) later
     ladders_with later same kept other =
         elim (cases_eq other list) [
           | inl is ↦
@@ -206,7 +206,7 @@ module _ {T : Type 0} (old new : ℕ → Option (Node T)) (ends : List Ends) (co
 
     module _ (value : T) (change : Appends old new (ends_at ends list) after value) where
       -- a push adds the key of the last node to the list's ladder
-      pub append_ladder : IfSome (ladders list) (λ l. l ++ after.last ∷ [] ≡ keys_of new after)
+      pub append_ladder : IfSome (ladders list) (λ l. l ++ after.last ∷ [] ≡ node_keys new after)
       append_ladder =
           let more =
           keys_push old new (ends_at ends list) after (sound.key list)
@@ -217,7 +217,7 @@ module _ {T : Type 0} (old new : ℕ → Option (Node T)) (ends : List Ends) (co
           if_some_then _ _ (ladders list) (λ l is. ap (λ ks. ks ++ after.last ∷ []) is ∙ more) (have list)
 
       -- and leaves all others
-      pub append_ladders : (later : ℕ → Option (List ℕ)) → KeepsLadder ladders later list (keys_of new after)
+      pub append_ladders : (later : ℕ → Option (List ℕ)) → KeepsLadder ladders later list (node_keys new after)
           → AreLadders new (set ends list after) later
       append_ladders later =
           ladders_with later (append_others old new ends count capacity sound list in_range after value change)
@@ -225,7 +225,7 @@ module _ {T : Type 0} (old new : ℕ → Option (Node T)) (ends : List Ends) (co
     module _ (place gone : ℕ) (value : T) (change : Unlinks old new (ends_at ends list) after place gone value)
         (within : place < len_of (ends_at ends list)) (is_there : gone ≡ sound.key list place) where
       -- a take takes the key at the place out of the list's ladder
-      pub unlink_ladder : IfSome (ladders list) (λ l. remove l place ≡ keys_of new after)
+      pub unlink_ladder : IfSome (ladders list) (λ l. remove l place ≡ node_keys new after)
       unlink_ladder =
           let fewer =
           keys_remove old new (ends_at ends list) after (sound.key list)
@@ -240,7 +240,7 @@ module _ {T : Type 0} (old new : ℕ → Option (Node T)) (ends : List Ends) (co
           if_some_then _ _ (ladders list) (λ l is. ap (λ ks. remove ks place) is ∙ fewer) (have list)
 
       -- and leaves all others
-      pub unlink_ladders : (later : ℕ → Option (List ℕ)) → KeepsLadder ladders later list (keys_of new after)
+      pub unlink_ladders : (later : ℕ → Option (List ℕ)) → KeepsLadder ladders later list (node_keys new after)
           → AreLadders new (set ends list after) later
       unlink_ladders later =
           ladders_with later

@@ -9,11 +9,11 @@ use Rattle.std.proofs.lemmas.Option.{slice_get_past}
 use Rattle.st_arena.specs.declared.node.Node.{Node}
 use Rattle.st_arena.specs.declared.node.Ends.{Ends}
 use Rattle.st_arena.specs.Calls.{Computes}
-use Rattle.st_arena.specs.Chain.{len_of, no_ends, ends_at, item_of, items_of, key_after, IsChained, AreChains}
-use Rattle.st_arena.specs.Chain.{keys_of, AreLadders, KeepsLadder}
+use Rattle.st_arena.specs.Chain.{len_of, no_ends, ends_at, value_in, values_of, key_after, IsChained, AreChains}
+use Rattle.st_arena.specs.Chain.{node_keys, AreLadders, KeepsLadder}
 use Rattle.st_arena.specs.Chain.{Appends, Unlinks, ChangesItems}
 use Rattle.st_arena.proofs.CallLemmas.{map-from_AllZip}
-use Rattle.st_arena.proofs.ChainLemmas.{length-items_of, held_after, last_after, item_after, key_after-first}
+use Rattle.st_arena.proofs.ChainLemmas.{length-values_of, held_after, last_after, item_after, key_after-first}
 use Rattle.st_arena.proofs.ArenaLemmas.{list_of_map}
 use Rattle.st_arena.proofs.AppendLemmas.{append_here, append_sound, append_lists}
 use Rattle.st_arena.proofs.UnlinkLemmas.{unlink_here, unlink_sound, unlink_lists}
@@ -21,30 +21,30 @@ use Rattle.st_arena.proofs.LadderLemmas.{append_ladder, append_ladders, unlink_l
 use Rattle.st_arena.proofs.ChangeLemmas.{change_sound, change_lists, change_each}
 
 module _ {T : Type 0} (slots : ℕ → Option (Node T)) (ends : List Ends) (count capacity : ℕ)
-    (sound : AreChains slots ends count capacity) (lists : List (List T)) (view : map (items_of slots) ends ≡ lists)
+    (sound : AreChains slots ends count capacity) (lists : List (List T)) (view : map (values_of slots) ends ≡ lists)
     (list : ℕ) (in_range : list < length lists) (found : Ends) (read : found ≡ get_or ends list found) where
   -- the list has ends
   in_ends : list < length ends
-  in_ends = omega (arith, in_range, ap length view, length-map ends (items_of slots))
+  in_ends = omega (arith, in_range, ap length view, length-map ends (values_of slots))
 
   -- they are what was read
   found_is : found ≡ ends_at ends list
   found_is = get_or_read ends list found in_ends read no_ends
 
   -- the list that a contract sees is the chain's items
-  pub list_is : get_or lists list [] ≡ items_of slots found
+  pub list_is : get_or lists list [] ≡ values_of slots found
   list_is =
       ap (λ xs. get_or xs list []) (sym view)
       ∙ list_of_map slots slots ends count capacity sound list in_ends found
-      ∙ ap (items_of slots) (sym found_is)
+      ∙ ap (values_of slots) (sym found_is)
 
   -- its nodes are a chain
   pub chained : IsChained slots found
   chained = rw found_is (record { key = sound.key list; chain = sound.chain list })
 
   -- it has as many items as the ends say
-  pub whole : length (items_of slots found) ≡ found.len
-  whole = length-items_of slots found chained.key chained.chain
+  pub whole : length (values_of slots found) ≡ found.len
+  whole = length-values_of slots found chained.key chained.chain
 
   -- so the ends' length is the list's
   pub len_is : found.len ≡ length (get_or lists list [])
@@ -60,16 +60,16 @@ module _ {T : Type 0} (slots : ℕ → Option (Node T)) (ends : List Ends) (coun
   get_at place key node within is_there is_node =
       ap (λ xs. slice_get xs place) list_is
       ∙ item_after slots found chained place within
-      ∙ ap (λ k. item_of (slots k)) (sym is_there)
-      ∙ ap item_of is_node
+      ∙ ap (λ k. value_in (slots k)) (sym is_there)
+      ∙ ap value_in is_node
 
   -- the same, of a slot that holds the value
   pub get_held : (place key : ℕ) (value : T) → place < found.len → key ≡ key_after slots found.first place
-      → item_of (slots key) ≡ Some value → slice_get (get_or lists list []) place ≡ Some value
+      → value_in (slots key) ≡ Some value → slice_get (get_or lists list []) place ≡ Some value
   get_held place key value within is_there held =
       ap (λ xs. slice_get xs place) list_is
       ∙ item_after slots found chained place within
-      ∙ ap (λ k. item_of (slots k)) (sym is_there)
+      ∙ ap (λ k. value_in (slots k)) (sym is_there)
       ∙ held
 
   -- no list has more nodes than there are
@@ -87,7 +87,7 @@ module _ {T : Type 0} (slots : ℕ → Option (Node T)) (ends : List Ends) (coun
 
   -- the list's ladder, if it has one, holds the keys of the nodes
   pub ladder_is : (ladders : ℕ → Option (List ℕ)) → AreLadders slots ends ladders
-      → IfSome (ladders list) (λ l. l ≡ keys_of slots found)
+      → IfSome (ladders list) (λ l. l ≡ node_keys slots found)
   ladder_is ladders have = rw found_is (have list)
 
   module _ (new : ℕ → Option (Node T)) (after : Ends) where
@@ -102,7 +102,7 @@ module _ {T : Type 0} (slots : ℕ → Option (Node T)) (ends : List Ends) (coun
       push_sound = append_sound slots new ends count capacity sound list in_ends after value appends
 
       -- and the value is at the end of that list alone
-      pub push_lists : map (items_of new) (set ends list after) ≡ set lists list (get_or lists list [] ++ value ∷ [])
+      pub push_lists : map (values_of new) (set ends list after) ≡ set lists list (get_or lists list [] ++ value ∷ [])
       push_lists = rw view at (append_lists slots new ends count capacity sound list in_ends after value appends)
 
       -- the list is a chain with the value at its end
@@ -115,13 +115,13 @@ module _ {T : Type 0} (slots : ℕ → Option (Node T)) (ends : List Ends) (coun
 
       -- and its ladder has the new node's key to come
       pub push_ladder : (ladders : ℕ → Option (List ℕ)) → AreLadders slots ends ladders
-          → IfSome (ladders list) (λ l. l ++ after.last ∷ [] ≡ keys_of new after)
+          → IfSome (ladders list) (λ l. l ++ after.last ∷ [] ≡ node_keys new after)
       push_ladder ladders have =
           append_ladder slots new ends count capacity sound ladders have list in_ends after value appends
 
       -- once it has it, all ladders are right
       pub push_ladders : (ladders later : ℕ → Option (List ℕ)) → AreLadders slots ends ladders
-          → KeepsLadder ladders later list (keys_of new after) → AreLadders new (set ends list after) later
+          → KeepsLadder ladders later list (node_keys new after) → AreLadders new (set ends list after) later
       push_ladders ladders later have =
           append_ladders slots new ends count capacity sound ladders have list in_ends after value appends later
 
@@ -149,7 +149,7 @@ module _ {T : Type 0} (slots : ℕ → Option (Node T)) (ends : List Ends) (coun
           unlink_sound slots new ends count capacity sound list in_ends after place key value unlinks inside there
 
       -- and that list alone lost the item at the place
-      pub take_lists : map (items_of new) (set ends list after) ≡ set lists list (remove (get_or lists list []) place)
+      pub take_lists : map (values_of new) (set ends list after) ≡ set lists list (remove (get_or lists list []) place)
       take_lists =
           rw view at
           (unlink_lists slots new ends count capacity sound list in_ends after place key value unlinks inside there)
@@ -165,14 +165,14 @@ module _ {T : Type 0} (slots : ℕ → Option (Node T)) (ends : List Ends) (coun
 
       -- and its ladder has that node's key to lose
       pub take_ladder : (ladders : ℕ → Option (List ℕ)) → AreLadders slots ends ladders
-          → IfSome (ladders list) (λ l. remove l place ≡ keys_of new after)
+          → IfSome (ladders list) (λ l. remove l place ≡ node_keys new after)
       take_ladder ladders have =
           unlink_ladder slots new ends count capacity sound ladders have list in_ends after place key value unlinks
           inside there
 
       -- once it has lost it, all ladders are right
       pub take_ladders : (ladders later : ℕ → Option (List ℕ)) → AreLadders slots ends ladders
-          → KeepsLadder ladders later list (keys_of new after) → AreLadders new (set ends list after) later
+          → KeepsLadder ladders later list (node_keys new after) → AreLadders new (set ends list after) later
       take_ladders ladders later have =
           unlink_ladders slots new ends count capacity sound ladders have list in_ends after place key value unlinks
           inside there later
@@ -194,23 +194,23 @@ module _ {T : Type 0} (slots : ℕ → Option (Node T)) (ends : List Ends) (coun
         change_ladders slots new ends count capacity sound ladders have list in_ends R changes
 
     -- the changed list, among all lists
-    new_list : get_or (map (items_of new) ends) list [] ≡ items_of new (ends_at ends list)
+    new_list : get_or (map (values_of new) ends) list [] ≡ values_of new (ends_at ends list)
     new_list = list_of_map new new ends count capacity (changed_sound count capacity refl refl) list in_ends found
 
     -- that list alone changed
-    pub changed_lists : map (items_of new) ends ≡ set lists list (get_or (map (items_of new) ends) list [])
+    pub changed_lists : map (values_of new) ends ≡ set lists list (get_or (map (values_of new) ends) list [])
     changed_lists = rw new_list (rw view at (change_lists slots new ends count capacity sound list in_ends R changes))
 
     -- each of its items became one that R relates to it
-    pub changed_each : AllZip R (get_or lists list []) (get_or (map (items_of new) ends) list [])
+    pub changed_each : AllZip R (get_or lists list []) (get_or (map (values_of new) ends) list [])
     changed_each =
         rw (new_list, list_is, found_is) (change_each slots new ends count capacity sound list in_ends R changes)
 
     -- and where a function computes R, the list is mapped by it
     pub changed_mapped : (f : T → T) → Computes R f (get_or lists list [])
-        → map (items_of new) ends ≡ set lists list (map f (get_or lists list []))
+        → map (values_of new) ends ≡ set lists list (map f (get_or lists list []))
     changed_mapped f computes =
         changed_lists
         ∙ ap (λ xs. set lists list xs)
-        (map-from_AllZip R f (get_or lists list []) (get_or (map (items_of new) ends) list []) computes
+        (map-from_AllZip R f (get_or lists list []) (get_or (map (values_of new) ends) list []) computes
         changed_each)

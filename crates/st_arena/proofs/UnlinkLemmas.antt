@@ -5,10 +5,10 @@ use Rattle.std.proofs.lemmas.Bool.{cases_lt, lt-ltb, le-ltb, cond-true, cond-fal
 use Rattle.std.proofs.lemmas.List.{same_lists}
 use Rattle.st_arena.specs.declared.node.Node.{Node}
 use Rattle.st_arena.specs.declared.node.Ends.{Ends}
-use Rattle.st_arena.specs.Chain.{len_of, ends_at, item_of, next_key, previous_key, items_of, IsChain, AreChains}
+use Rattle.st_arena.specs.Chain.{len_of, ends_at, value_in, next_key, previous_key, values_of, IsChain, AreChains}
 use Rattle.st_arena.specs.Chain.{Unlinks}
 use Rattle.std.proofs.lemmas.List.Edits.{length-remove, get_or-remove_below, get_or-remove_above}
-use Rattle.st_arena.proofs.ChainLemmas.{SameAt, length-items_of, get_or-items_of}
+use Rattle.st_arena.proofs.ChainLemmas.{SameAt, length-values_of, get_or-values_of}
 use Rattle.st_arena.proofs.ArenaLemmas.{sound_with, lists_with, list_of_map}
 
 -- ---- on one chain
@@ -50,13 +50,13 @@ module _ {T : Type 0} (old new : ℕ → Option (Node T)) (ends : Ends) (key : �
       (λ more same. absurd (not_behind (chain.apart other (suc place) inside more (same ∙ front_key more))))
 
   -- the nodes before the place hold what they held
-  unlink_same_below : (other : ℕ) → other < place → item_of (new (row other)) ≡ item_of (old (key other))
+  unlink_same_below : (other : ℕ) → other < place → value_in (new (row other)) ≡ value_in (old (key other))
   unlink_same_below other before =
       rw (below other before) (change.items_stay (key other) (not_gone other (omega arith) (omega arith)))
 
   -- and those behind it what the ones a place further held
   unlink_same_above : (other : ℕ) → place ≤ other → suc other < ends.len
-      → item_of (new (row other)) ≡ item_of (old (key (suc other)))
+      → value_in (new (row other)) ≡ value_in (old (key (suc other)))
   unlink_same_above other behind inside =
       rw (above other behind) (change.items_stay (key (suc other)) (not_gone (suc other) inside (omega arith)))
 
@@ -158,27 +158,27 @@ module _ {T : Type 0} (old new : ℕ → Option (Node T)) (ends : Ends) (key : �
       }
 
   -- and its value the list
-  pub unlink_items : items_of new after ≡ remove (items_of old ends) place
+  pub unlink_items : values_of new after ≡ remove (values_of old ends) place
   unlink_items =
-      let many : length (items_of old ends) ≡ ends.len = length-items_of old ends key chain in
-      let fewer : length (remove (items_of old ends) place) + 1 ≡ length (items_of old ends) =
-      length-remove (items_of old ends) place (omega arith) in
-      same_lists (items_of new after) (remove (items_of old ends) place)
-      (omega (arith, length-items_of new after row unlink_chain, change.len))
+      let many : length (values_of old ends) ≡ ends.len = length-values_of old ends key chain in
+      let fewer : length (remove (values_of old ends) place) + 1 ≡ length (values_of old ends) =
+      length-remove (values_of old ends) place (omega arith) in
+      same_lists (values_of new after) (remove (values_of old ends) place)
+      (omega (arith, length-values_of new after row unlink_chain, change.len))
       (λ other default here.
-      let inside : other < after.len = omega (arith, length-items_of new after row unlink_chain) in
-      get_or-items_of new after row unlink_chain other default inside
+      let inside : other < after.len = omega (arith, length-values_of new after row unlink_chain) in
+      get_or-values_of new after row unlink_chain other default inside
       ∙ (elim (cases_lt other place) [
         | inl before ↦
             ap (λ item. unwrap_or item default) (unlink_same_below other before)
-            ∙ sym (get_or-items_of old ends key chain other default (omega arith))
-            ∙ sym (get_or-remove_below (items_of old ends) place default other before (omega arith))
+            ∙ sym (get_or-values_of old ends key chain other default (omega arith))
+            ∙ sym (get_or-remove_below (values_of old ends) place default other before (omega arith))
         | inr behind ↦
             let there : suc other ≡ other + 1 = omega arith in
             ap (λ item. unwrap_or item default) (unlink_same_above other behind (omega (arith, change.len)))
-            ∙ sym (get_or-items_of old ends key chain (suc other) default (omega (arith, change.len)))
-            ∙ ap (λ p. get_or (items_of old ends) p default) there
-            ∙ sym (get_or-remove_above (items_of old ends) place default other behind (omega arith))
+            ∙ sym (get_or-values_of old ends key chain (suc other) default (omega (arith, change.len)))
+            ∙ ap (λ p. get_or (values_of old ends) p default) there
+            ∙ sym (get_or-remove_above (values_of old ends) place default other behind (omega arith))
       ]))
 
 -- ---- among all lists: the node that goes and its neighbours are this list's
@@ -259,11 +259,11 @@ module _ {T : Type 0} (old new : ℕ → Option (Node T)) (ends : List Ends) (co
       room
 
   -- and of all lists only that one changed: it lost the item at the place
-  pub unlink_lists : map (items_of new) (set ends list after)
-      ≡ set (map (items_of old) ends) list (remove (get_or (map (items_of old) ends) list []) place)
+  pub unlink_lists : map (values_of new) (set ends list after)
+      ≡ set (map (values_of old) ends) list (remove (get_or (map (values_of old) ends) list []) place)
   unlink_lists =
       lists_with old new ends count capacity sound list in_range after
-      (remove (get_or (map (items_of old) ends) list []) place) unlink_others
+      (remove (get_or (map (values_of old) ends) list []) place) unlink_others
       (unlink_items old new (ends_at ends list) (sound.key list) (sound.chain list) after place gone value change
       within is_there unlink_row unlink_row-below unlink_row-above
       ∙ ap (λ xs. remove xs place) (sym (list_of_map old new ends count capacity sound list in_range after)))

@@ -20,8 +20,8 @@ ends_at ends list = slice_index_or ends list no_ends
 
 module _ {T : Type 0} where
   -- what is in a slot: its value, and the keys of its neighbours (0 if the slot is empty)
-  abbrev pub item_of : Option (Node T) → Option T
-  item_of slot = option_map (λ node. node.value) slot
+  abbrev pub value_in : Option (Node T) → Option T
+  value_in slot = option_map (λ node. node.value) slot
 
   abbrev pub next_key : Option (Node T) → ℕ
   next_key slot = option_map_or (λ node. node.next) slot 0
@@ -40,13 +40,13 @@ pub record Turns {T : Type 0} (R : T → T → Type 0) (old new : Option T) : Ty
 -- from here on, `slots` gives what is under a key
 module _ {T : Type 0} (slots : ℕ → Option (Node T)) where
   -- the values of so many nodes in a row, from a key on
-  abbrev pub items : ℕ → ℕ → List T
-  items zero key = []
-  items (suc count) key = option_map_or (λ node. node.value ∷ items count node.next) (slots key) []
+  abbrev pub values_from : ℕ → ℕ → List T
+  values_from zero key = []
+  values_from (suc count) key = option_map_or (λ node. node.value ∷ values_from count node.next) (slots key) []
 
   -- the values of a list
-  abbrev pub items_of : Ends → List T
-  items_of ends = items ends.len ends.first
+  abbrev pub values_of : Ends → List T
+  values_of ends = values_from ends.len ends.first
 
   -- the key so many steps after this one
   abbrev pub key_after : ℕ → ℕ → ℕ
@@ -59,18 +59,18 @@ module _ {T : Type 0} (slots : ℕ → Option (Node T)) where
   keys (suc count) first = keys count first ++ key_after first count ∷ []
 
   -- the keys of a list's nodes
-  abbrev pub keys_of : Ends → List ℕ
-  keys_of ends = keys ends.len ends.first
+  abbrev pub node_keys : Ends → List ℕ
+  node_keys ends = keys ends.len ends.first
 
   -- each ladder holds the keys of its list's nodes; `ladders` gives that of a list which has one
   abbrev pub AreLadders : List Ends → (ℕ → Option (List ℕ)) → Type 0
   AreLadders ends ladders = (list : ℕ)
-      → IfSome (ladders list) (λ ladder. ladder ≡ keys_of (ends_at ends list))
+      → IfSome (ladders list) (λ ladder. ladder ≡ node_keys (ends_at ends list))
 
   -- the nodes of a list are under the keys key 0, key 1, .., each once, and each names its
   -- neighbours. What the last node names as its next, and the first as its previous, is left open
   pub record IsChain (ends : Ends) (key : ℕ → ℕ) : Type 0 where
-    pub held : (place : ℕ) → place < ends.len → IsSome (item_of (slots (key place)))
+    pub held : (place : ℕ) → place < ends.len → IsSome (value_in (slots (key place)))
     pub apart : (place other : ℕ) → place < ends.len → other < ends.len → key place ≡ key other
         → place ≡ other
     pub first : 0 < ends.len → ends.first ≡ key 0
@@ -105,7 +105,7 @@ module _ {T : Type 0} (old new : ℕ → Option (Node T)) where
   -- if the condition holds, the node under the key names another as its next, and nothing else
   -- changed
   pub record SetsNext (condition : Type 0) (key next : ℕ) : Type 0 where
-    pub items_stay : (other : ℕ) → item_of (new other) ≡ item_of (old other)
+    pub items_stay : (other : ℕ) → value_in (new other) ≡ value_in (old other)
     pub previous_stay : (other : ℕ) → previous_key (new other) ≡ previous_key (old other)
     pub next_stay : (other : ℕ) → (condition → other ≢ key)
         → next_key (new other) ≡ next_key (old other)
@@ -113,7 +113,7 @@ module _ {T : Type 0} (old new : ℕ → Option (Node T)) where
 
   -- the same of its previous
   pub record SetsPrevious (condition : Type 0) (key previous : ℕ) : Type 0 where
-    pub items_stay : (other : ℕ) → item_of (new other) ≡ item_of (old other)
+    pub items_stay : (other : ℕ) → value_in (new other) ≡ value_in (old other)
     pub next_stay : (other : ℕ) → next_key (new other) ≡ next_key (old other)
     pub previous_stay : (other : ℕ) → (condition → other ≢ key)
         → previous_key (new other) ≡ previous_key (old other)
@@ -123,15 +123,15 @@ module _ {T : Type 0} (old new : ℕ → Option (Node T)) where
   pub record SetsItem (key : ℕ) (item : T) : Type 0 where
     pub next_stay : (other : ℕ) → next_key (new other) ≡ next_key (old other)
     pub previous_stay : (other : ℕ) → previous_key (new other) ≡ previous_key (old other)
-    pub items_stay : (other : ℕ) → other ≢ key → item_of (new other) ≡ item_of (old other)
-    pub changed : item_of (new key) ≡ Some item
+    pub items_stay : (other : ℕ) → other ≢ key → value_in (new other) ≡ value_in (old other)
+    pub changed : value_in (new key) ≡ Some item
 
   -- a list with these ends got one node more, behind its last one, and has the ends `after`
   pub record Appends (ends after : Ends) (item : T) : Type 0 where
     pub key : ℕ
     pub was_vacant : old key ≡ None
-    pub holds : item_of (new key) ≡ Some item
-    pub items_stay : (other : ℕ) → other ≢ key → item_of (new other) ≡ item_of (old other)
+    pub holds : value_in (new key) ≡ Some item
+    pub items_stay : (other : ℕ) → other ≢ key → value_in (new other) ≡ value_in (old other)
     pub next_stay : (other : ℕ) → other ≢ key → (0 < ends.len → other ≢ ends.last)
         → next_key (new other) ≡ next_key (old other)
     pub previous_stay : (other : ℕ) → other ≢ key
@@ -146,8 +146,8 @@ module _ {T : Type 0} (old new : ℕ → Option (Node T)) where
   -- a list with these ends lost the node under the key, which was at the place, and has the ends
   -- `after`
   pub record Unlinks (ends after : Ends) (place key : ℕ) (item : T) : Type 0 where
-    pub held : item_of (old key) ≡ Some item
-    pub items_stay : (other : ℕ) → other ≢ key → item_of (new other) ≡ item_of (old other)
+    pub held : value_in (old key) ≡ Some item
+    pub items_stay : (other : ℕ) → other ≢ key → value_in (new other) ≡ value_in (old other)
     pub next_stay : (other : ℕ) → other ≢ key → (0 < place → other ≢ previous_key (old key))
         → next_key (new other) ≡ next_key (old other)
     pub previous_stay : (other : ℕ) → other ≢ key
@@ -168,7 +168,7 @@ module _ {T : Type 0} (old new : ℕ → Option (Node T)) where
     pub next_stay : (other : ℕ) → next_key (new other) ≡ next_key (old other)
     pub previous_stay : (other : ℕ) → previous_key (new other) ≡ previous_key (old other)
     pub items_stay : (other : ℕ) → ((place : ℕ) → place < count → other ≢ key_after old first place)
-        → item_of (new other) ≡ item_of (old other)
+        → value_in (new other) ≡ value_in (old other)
     pub changed : (place : ℕ) → place < count
-        → Turns R (item_of (old (key_after old first place)))
-        (item_of (new (key_after old first place)))
+        → Turns R (value_in (old (key_after old first place)))
+        (value_in (new (key_after old first place)))

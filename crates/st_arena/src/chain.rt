@@ -7,7 +7,7 @@ ghost use Rattle.std.specs.Prelude.{IfSome, IfNone};
 ghost use Rattle.std.specs.Fn.{FnReturnsAt};
 ghost use Rattle.slab.specs.Slab.{get, ContainsKey, slab_len, HasRoomFor};
 ghost use Rattle.st_arena.specs.Calls.{IsAnswered, IsFirstAnswered};
-ghost use Rattle.st_arena.specs.Chain.{items_of, key_after, IsChained, SetsNext, SetsPrevious};
+ghost use Rattle.st_arena.specs.Chain.{values_of, key_after, IsChained, SetsNext, SetsPrevious};
 ghost use Rattle.st_arena.specs.Chain.{Appends, Unlinks, ChangesItems};
 
 use crate::node::{Ends, NONE, Node, set_next, set_previous, set_value};
@@ -168,12 +168,12 @@ pub(crate) fn first_answered<T, F: Fn(&T) -> bool>(
     ends: Ends,
     pred: &F,
 ) -> Option<u64>
-    requires whole { length (items_of (get nodes.now) ends) ≡ ends.len }
+    requires whole { length (values_of (get nodes.now) ends) ≡ ends.len }
     requires callable { F.IsAlwaysCallable pred.now }
     ensures found { IfSome result (
-        IsFirstAnswered (FnReturnsAt F.Fn pred.now) (items_of (get nodes.now) ends)) }
+        IsFirstAnswered (FnReturnsAt F.Fn pred.now) (values_of (get nodes.now) ends)) }
     ensures absent { IfNone result ((place : ℕ) → place < ends.len →
-        IsAnswered (FnReturnsAt F.Fn pred.now) (items_of (get nodes.now) ends) place false) }
+        IsAnswered (FnReturnsAt F.Fn pred.now) (values_of (get nodes.now) ends) place false) }
 {
     let mut key = ends.first;
     for place in 0..ends.len {
@@ -196,9 +196,9 @@ pub(crate) fn any_answered<T, F: Fn(&T) -> bool>(
     requires chained { IsChained (get nodes.now) ends }
     requires callable { F.IsAlwaysCallable pred.now }
     ensures found { IfSome result (λ place.
-        IsAnswered (FnReturnsAt F.Fn pred.now) (items_of (get nodes.now) ends) place true) }
+        IsAnswered (FnReturnsAt F.Fn pred.now) (values_of (get nodes.now) ends) place true) }
     ensures absent { IfNone result ((place : ℕ) → place < ends.len →
-        IsAnswered (FnReturnsAt F.Fn pred.now) (items_of (get nodes.now) ends) place false) }
+        IsAnswered (FnReturnsAt F.Fn pred.now) (values_of (get nodes.now) ends) place false) }
 {
     if ends.len <= FEW {
         first_answered(nodes, ends, pred)
@@ -216,9 +216,9 @@ fn answered_from_ends<T, F: Fn(&T) -> bool>(
     requires chained { IsChained (get nodes.now) ends }
     requires callable { F.IsAlwaysCallable pred.now }
     ensures found { IfSome result (λ place.
-        IsAnswered (FnReturnsAt F.Fn pred.now) (items_of (get nodes.now) ends) place true) }
+        IsAnswered (FnReturnsAt F.Fn pred.now) (values_of (get nodes.now) ends) place true) }
     ensures absent { IfNone result ((place : ℕ) → place < ends.len →
-        IsAnswered (FnReturnsAt F.Fn pred.now) (items_of (get nodes.now) ends) place false) }
+        IsAnswered (FnReturnsAt F.Fn pred.now) (values_of (get nodes.now) ends) place false) }
 {
     let mut front = ends.first;
     let mut back = ends.last;

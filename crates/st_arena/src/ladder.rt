@@ -6,7 +6,7 @@ ghost use Rattle.std.specs.Prelude.{◌≡◌, ◌<◌, [], ◌∷◌, ◌++◌,
 ghost use Rattle.std.specs.Prelude.{Some, None, IfSome, IfOk, OnOk};
 ghost use Rattle.std.specs.HashMap.{get as get_in};
 ghost use Rattle.slab.specs.Slab.{get};
-ghost use Rattle.st_arena.specs.Chain.{IsChained, key_after, keys_of, KeepsLadder};
+ghost use Rattle.st_arena.specs.Chain.{IsChained, key_after, node_keys, KeepsLadder};
 
 use crate::chain::key_at;
 use crate::node::{Ends, Node};
@@ -58,7 +58,7 @@ impl Ladder {
     // The ladder of a list, with slots for at least half as many nodes more.
     fn new<T>(alloc: Global, nodes: &Slab<Node<T>>, ends: Ends) -> Result<Ladder, AllocError>
         requires chained { IsChained (get nodes.now) ends }
-        ensures { IfOk result (λ ladder. ladder ≡ keys_of (get nodes.now) ends) }
+        ensures { IfOk result (λ ladder. ladder ≡ node_keys (get nodes.now) ends) }
     {
         let len = ends.len as usize;
         let slot_count = len.saturating_add(len / 2);
@@ -114,7 +114,8 @@ fn push_keys<T>(
 ) -> Result<(), AllocError>
     requires empty { slots.old.items ≡ [] }
     requires chained { IsChained (get nodes.now) ends }
-    ensures { OnOk result (slots.new.items ≡ map (λ key. Some key) (keys_of (get nodes.now) ends)) }
+    ensures { OnOk result (slots.new.items
+        ≡ map (λ key. Some key) (node_keys (get nodes.now) ends)) }
 {
     let mut key = ends.first;
     for _ in 0..ends.len {
@@ -136,7 +137,7 @@ pub(crate) fn find_key<T>(
     requires chained { IsChained (get nodes.now) ends }
     requires in_range { place < ends.len }
     requires ladder { IfSome (get_in nat_eq ladders.now list)
-        (λ ladder. ladder ≡ keys_of (get nodes.now) ends) }
+        (λ ladder. ladder ≡ node_keys (get nodes.now) ends) }
     ensures { result ≡ key_after (get nodes.now) ends.first place }
 {
     let is_near = place < NEAR || ends.len - place <= NEAR || ends.len < SHORT;
@@ -163,9 +164,9 @@ pub(crate) fn follow_push<T>(
 )
     requires chained { IsChained (get nodes.now) ends }
     requires ladder { IfSome (get_in nat_eq ladders.old list)
-        (λ ladder. ladder ++ ends.last ∷ [] ≡ keys_of (get nodes.now) ends) }
+        (λ ladder. ladder ++ ends.last ∷ [] ≡ node_keys (get nodes.now) ends) }
     ensures { KeepsLadder (get_in nat_eq ladders.old) (get_in nat_eq ladders.new)
-        list (keys_of (get nodes.now) ends) }
+        list (node_keys (get nodes.now) ends) }
 {
     if ladders.is_empty() {
         return;
@@ -188,9 +189,9 @@ pub(crate) fn follow_take<T>(
 )
     requires chained { IsChained (get nodes.now) ends }
     requires ladder { IfSome (get_in nat_eq ladders.old list)
-        (λ ladder. remove ladder place ≡ keys_of (get nodes.now) ends) }
+        (λ ladder. remove ladder place ≡ node_keys (get nodes.now) ends) }
     ensures { KeepsLadder (get_in nat_eq ladders.old) (get_in nat_eq ladders.new)
-        list (keys_of (get nodes.now) ends) }
+        list (node_keys (get nodes.now) ends) }
 {
     let is_far = place >= FAR && ends.len.saturating_sub(place) >= FAR;
     if !is_far && ladders.is_empty() {
@@ -220,10 +221,10 @@ fn keep_ladder<T>(
     ends: Ends,
 )
     requires chained { IsChained (get nodes.now) ends }
-    requires ladder { IfSome ladder (λ ladder. ladder ≡ keys_of (get nodes.now) ends) }
+    requires ladder { IfSome ladder (λ ladder. ladder ≡ node_keys (get nodes.now) ends) }
     requires absent { get_in nat_eq ladders.old list ≡ None }
     ensures { KeepsLadder (get_in nat_eq ladders.old) (get_in nat_eq ladders.new)
-        list (keys_of (get nodes.now) ends) }
+        list (node_keys (get nodes.now) ends) }
 {
     if ends.len < SHORT || ladders.reserve(1).is_err() {
         return;

@@ -31,10 +31,10 @@ impl<T> Model for Lists<T> {
 
     ghost use Rattle.std.specs.Prelude.{nat_eq};
     ghost use Rattle.std.specs.HashMap.{get as get_in};
-    ghost use Rattle.st_arena.specs.Chain.{items_of, AreChains, AreLadders};
+    ghost use Rattle.st_arena.specs.Chain.{values_of, AreChains, AreLadders};
 
     ghost view = { λ a. record {
-      lists = map (items_of (get a.nodes)) a.ends.items;
+      lists = map (values_of (get a.nodes)) a.ends.items;
       spare = a.nodes.capacity - slab_len a.nodes;
     } };
 

@@ -23,20 +23,20 @@ impl<'a, T> Model for Walk<'a, T> {
 
     ghost Value = { List T };
 
-    ghost use Rattle.st_arena.specs.Chain.{items};
+    ghost use Rattle.st_arena.specs.Chain.{values_from};
 
-    ghost view = { λ w. items (get w.nodes.now) w.left w.key };
+    ghost view = { λ w. values_from (get w.nodes.now) w.left w.key };
 
-    ghost invariant = { λ w. length (items (get w.nodes.now) w.left w.key) ≡ w.left };
+    ghost invariant = { λ w. length (values_from (get w.nodes.now) w.left w.key) ≡ w.left };
 }
 
 impl<'a, T> Walk<'a, T> {
     ghost use Rattle.slab.specs.Slab.{get};
-    ghost use Rattle.st_arena.specs.Chain.{items};
+    ghost use Rattle.st_arena.specs.Chain.{values_from};
 
     pub(crate) fn new(nodes: &'a Slab<Node<T>>, key: usize, left: u64) -> Walk<'a, T>
-        requires { length (items (get nodes.now) left key) ≡ left }
-        ensures { result ≡ items (get nodes.now) left key }
+        requires { length (values_from (get nodes.now) left key) ≡ left }
+        ensures { result ≡ values_from (get nodes.now) left key }
     {
         Walk { nodes, key, left }
     }

@@ -28,7 +28,7 @@ use Rattle.st_audit.specs.declared.finding.Finding.TheVariants as finding
 use Rattle.st_audit.specs.declared.finding.Reason.TheVariants as reason
 use Rattle.st_audit.specs.Construction.{acts_from, attempt, compared_turn, end_of, turn}
 use Rattle.st_audit.specs.Construction.{Judged, Through, Stopped, IsAudit, IsFoundAt, IsFoundBy}
-use Rattle.st_audit.specs.Findings.{IsCertificate, IsNo}
+use Rattle.st_audit.specs.Findings.{HasCertificate, IsNo}
 use Rattle.st_audit.proofs.Course.{begins_course, course_ends, course_item, course_next, IsOnCourse}
 use Rattle.st_audit.proofs.Fullness.{certain_plain}
 use Rattle.st_audit.proofs.MoveOutcomes.{marked_shown}
@@ -110,7 +110,7 @@ module _ (top : ℕ) (streams : List Stream) (sound : IsStreams streams) (plain 
 -- acts that are judged are a certificate if no verdict but sure is theirs
 judged_fits : (top : ℕ) (streams : List Stream) (acts : List Act) (place : Option (Pid × ℕ)) (found : Finding)
     → ((v : verdicts.Verdict) → verdicts.IsVerdict top streams acts v → IsNo v → ⊥)
-    → IsFoundAt top streams (Judged acts place) found → IsCertificate found
+    → IsFoundAt top streams (Judged acts place) found → HasCertificate found
 judged_fits top streams acts place (finding.Fits xs ps) sure is = tt
 judged_fits top streams acts place (finding.Unfit p i (reason.NotReplayed xs v)) sure is =
     sure (verdict_of v) is.2 is.3
@@ -123,7 +123,7 @@ judged_fits top streams acts place (finding.Unfit p i (reason.Mismatch q j)) sur
 
 plain_fits : (top : ℕ) (streams : List Stream) (xs : List Item) (found : Finding) → IsStreams streams
     → IsPlain top streams → IsOrder streams xs → IsFoundAt top streams (end_of top streams xs) found
-    → IsCertificate found
+    → HasCertificate found
 plain_fits top streams [] found sound plain order is =
     judged_fits top streams [] None found (λ v. accepts_nothing top streams v order) is
 plain_fits top streams (x ∷ xs) found sound plain order is =
@@ -132,7 +132,7 @@ plain_fits top streams (x ∷ xs) found sound plain order is =
     (subst (λ end. IsFoundAt top streams end found) e.ends is)
 
 pub certain_streams_fit : (top : ℕ) (streams : List Stream) (found : Finding) → IsStreams streams
-    → IsPlain top streams ⊎ IsFullyShown top streams → IsAudit top streams found → IsCertificate found
+    → IsPlain top streams ⊎ IsFullyShown top streams → IsAudit top streams found → HasCertificate found
 certain_streams_fit top streams found sound certain is =
     let rising = sound.draft.rising in
     let plain = certain_plain top streams rising certain in

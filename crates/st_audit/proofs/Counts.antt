@@ -25,7 +25,7 @@ use Rattle.st_core.specs.Step.{Acted, Outcome, acted, actor, reached, changed, p
 use Rattle.st_core.specs.Run.{run_from}
 use Rattle.st_core.proofs.ForCallers.{mapped, process_after, process_pid, run_parts, step_parts, pid_eq-refl}
 use Rattle.st_plan.specs.declared.plan.Start.{Start}
-use Rattle.st_plan.specs.Build.{dress, is_dressed, quiet, raise, ready, renew, renewed_start, silent}
+use Rattle.st_plan.specs.Build.{dress, is_dressed, quiet, raise, ready, renew, renewed_start, silent_prints}
 use Rattle.st_plan.specs.Build.{state_after, unstamped_token}
 use Rattle.st_plan.proofs.ForCallers.{is_alone}
 
@@ -314,21 +314,21 @@ module _ (p : Pid) where
   dress_alone token n f = elim (is_dressed n f token) as (λ b. AllByRecursion (is_alone p)
       (cond b [] (act.Restore p (unstamped_token p n f) ∷ []))) [ true ↦ tt | false ↦ (refl, tt) ]
 
-  silent_alone : (n : ℕ) → AllByRecursion (is_alone p) (silent p n)
+  silent_alone : (n : ℕ) → AllByRecursion (is_alone p) (silent_prints p n)
   silent_alone zero = tt
   silent_alone (suc n) = (refl, silent_alone n)
 
   brought_alone : (token : Option Token) (n : Label) (count : ℕ) (rest : List Act)
       → AllByRecursion (is_alone p) rest
-      → AllByRecursion (is_alone p) (dress p token n quiet ++ (silent p count ++ rest))
+      → AllByRecursion (is_alone p) (dress p token n quiet ++ (silent_prints p count ++ rest))
   brought_alone token n count rest h =
-      all_both p (dress p token n quiet) (silent p count ++ rest) (dress_alone token n quiet)
-      (all_both p (silent p count) rest (silent_alone count) h)
+      all_both p (dress p token n quiet) (silent_prints p count ++ rest) (dress_alone token n quiet)
+      (all_both p (silent_prints p count) rest (silent_alone count) h)
 
   raise_alone : (x : Start) (n : Label) (count : ℕ) (f : Flags) → AllByRecursion (is_alone p) (raise p x n count f)
   raise_alone x n count f = elim (nat_lt x.clock count) as (λ b. AllByRecursion (is_alone p)
       (cond b (dress p x.token n quiet
-      ++ (silent p (count - x.clock) ++ dress p (Some (unstamped_token p n quiet)) n f))
+      ++ (silent_prints p (count - x.clock) ++ dress p (Some (unstamped_token p n quiet)) n f))
       (dress p x.token n f))) [
         | true ↦ brought_alone x.token n (count - x.clock) (dress p (Some (unstamped_token p n quiet)) n f)
             (dress_alone (Some (unstamped_token p n quiet)) n f)
@@ -339,9 +339,9 @@ module _ (p : Pid) where
   renew_alone x n prev =
       let end = act.Clear p ∷ act.Set p (component.Label n) ∷ [] in
       elim (nat_lt x.clock prev) as (λ b. AllByRecursion (is_alone p)
-      (cond b (dress p x.token n quiet ++ silent p (prev - x.clock)) [] ++ end)) [
-        | true ↦ all_both p (dress p x.token n quiet ++ silent p (prev - x.clock)) end
-            (all_both p (dress p x.token n quiet) (silent p (prev - x.clock)) (dress_alone x.token n quiet)
+      (cond b (dress p x.token n quiet ++ silent_prints p (prev - x.clock)) [] ++ end)) [
+        | true ↦ all_both p (dress p x.token n quiet ++ silent_prints p (prev - x.clock)) end
+            (all_both p (dress p x.token n quiet) (silent_prints p (prev - x.clock)) (dress_alone x.token n quiet)
             (silent_alone (prev - x.clock))) (refl, (refl, tt))
         | false ↦ (refl, (refl, tt))
       ]

@@ -30,7 +30,7 @@ use Rattle.st_plan.specs.Build.{state_after}
 use Rattle.st_plan.specs.Marks.{all_told, Marks}
 use Rattle.st_plan.specs.Moves.{Move, move_by, moves}
 use Rattle.st_plan.specs.Plain.{out_of_turn}
-use Rattle.st_plan.specs.Reasons.{too_wide, uncaused, HoldsAt}
+use Rattle.st_plan.specs.Reasons.{too_wide, uncaused, HoldsOfMoveAt}
 use Rattle.st_audit.specs.declared.finding.Reason.{Reason}
 use Rattle.st_audit.specs.declared.finding.Reason.TheVariants as reason
 use Rattle.st_audit.specs.declared.finding.Finding.{Finding}
@@ -129,8 +129,8 @@ against top streams marks s earlier m =
 
 -- the reason is one of the auditor's own, and holds at this place
 abbrev HoldsFor : List Stream → Pid × ℕ → Reason → Type 0
-HoldsFor streams at reason.Uncaused = HoldsAt uncaused streams at.0 at.1
-HoldsFor streams at reason.TooWide = HoldsAt too_wide streams at.0 at.1
+HoldsFor streams at reason.Uncaused = HoldsOfMoveAt uncaused streams at.0 at.1
+HoldsFor streams at reason.TooWide = HoldsOfMoveAt too_wide streams at.0 at.1
 HoldsFor streams at r = ⊥
 
 -- the construction ends at the place of an event, and if it is for a reason, this holds there

@@ -15,7 +15,7 @@ use Rattle.st_audit.specs.declared.finding.Reason.TheVariants as reason
 use Rattle.st_audit.specs.declared.finding.Finding.{Finding}
 use Rattle.st_audit.specs.declared.finding.Finding.TheVariants as finding
 use Rattle.st_plan.specs.Marks.{told_parts, Marks}
-use Rattle.st_plan.specs.Reasons.{HoldsAt, uncaused, too_wide}
+use Rattle.st_plan.specs.Reasons.{HoldsOfMoveAt, uncaused, too_wide}
 
 -- the verdict is no yes
 abbrev pub IsNo : verdicts.Verdict → Type 0
@@ -28,8 +28,8 @@ IsReason top streams p i reason.PrevNotBefore = refusal streams ≡ Some (fault.
 IsReason top streams p i (reason.NotRising j) = refusal streams ≡ Some (fault.NotRising p i j)
 IsReason top streams p i (reason.Repeated q j) = refusal streams ≡ Some (fault.Repeated p i q j)
 IsReason top streams p i (reason.Mismatch q j) = refusal streams ≡ Some (fault.Mismatch p i q j)
-IsReason top streams p i reason.Uncaused = (refusal streams ≡ None) × HoldsAt uncaused streams p i
-IsReason top streams p i reason.TooWide = (refusal streams ≡ None) × HoldsAt too_wide streams p i
+IsReason top streams p i reason.Uncaused = (refusal streams ≡ None) × HoldsOfMoveAt uncaused streams p i
+IsReason top streams p i reason.TooWide = (refusal streams ≡ None) × HoldsOfMoveAt too_wide streams p i
 IsReason top streams p i (reason.NotReplayed acts v) =
     (refusal streams ≡ None) × verdicts.IsVerdict top streams acts (verdict_of v)
     × IsNo (verdict_of v)
@@ -62,9 +62,9 @@ fault_of (finding.Unfit p i (reason.Mismatch q j)) = Some (fault.Mismatch p i q 
 fault_of found = None
 
 -- what is found is a certificate
-abbrev pub IsCertificate : Finding → Type 0
-IsCertificate (finding.Fits acts pairs) = Unit {0}
-IsCertificate (finding.Unfit p i r) = ⊥
+abbrev pub HasCertificate : Finding → Type 0
+HasCertificate (finding.Fits acts pairs) = Unit {0}
+HasCertificate (finding.Unfit p i r) = ⊥
 
 -- there are acts, none of them is a reset, and they show those events that are told
 abbrev pub ShowTold : ℕ → List Stream → Marks → Option (List Act) → Type 0

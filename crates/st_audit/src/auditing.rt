@@ -12,7 +12,7 @@ ghost use Rattle.st_pair.specs.Links.{IsPairing};
 ghost use Rattle.st_pair.specs.Pairing.{refusal};
 ghost use Rattle.st_pair.specs.Final.{RulesOut};
 ghost use Rattle.st_audit.specs.Construction.{end_of, IsAudit, IsFoundAt, Judged};
-ghost use Rattle.st_audit.specs.Findings.{fault_of, unfit_by, HandsOn, IsFinding, IsCertificate};
+ghost use Rattle.st_audit.specs.Findings.{fault_of, unfit_by, HandsOn, IsFinding, HasCertificate};
 ghost use Rattle.st_plan.specs.Plain.{IsPlain};
 ghost use Rattle.st_plan.specs.Full.{IsFullyShown};
 
@@ -203,7 +203,7 @@ pub fn audit<const TOP: u64>(
     // It certainly finds a certificate if no reason holds of the streams, or if some run reported
     // all of itself.
     ensures certain { IfOk result (λ found.
-        IsPlain TOP streams.now ⊎ IsFullyShown TOP streams.now → IsCertificate found) }
+        IsPlain TOP streams.now ⊎ IsFullyShown TOP streams.now → HasCertificate found) }
 {
     finding_of::<TOP>(rt, alloc, streams)
 }

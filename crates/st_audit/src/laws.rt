@@ -9,7 +9,7 @@ ghost use Rattle.st_plan.specs.Plain.{IsPlain};
 ghost use Rattle.st_plan.specs.Full.{IsFullyShown};
 ghost use Rattle.st_audit.specs.declared.finding.Finding.{Finding as FindingValue};
 ghost use Rattle.st_audit.specs.Construction.{IsAudit};
-ghost use Rattle.st_audit.specs.Findings.{IsCertificate, IsFinding};
+ghost use Rattle.st_audit.specs.Findings.{HasCertificate, IsFinding};
 
 /// The streams have one finding at most, its acts and pairs included: so `audit` returns the same
 /// one each time, for every number of threads, unless memory runs out.
@@ -30,5 +30,5 @@ pub fn findings_hold()
 pub fn certain_streams_fit()
     ensures { (top : ℕ) (streams : List Stream) (found : FindingValue) → IsStreams streams
         → IsPlain top streams ⊎ IsFullyShown top streams → IsAudit top streams found
-        → IsCertificate found }
+        → HasCertificate found }
 {}

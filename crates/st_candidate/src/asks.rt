@@ -2,7 +2,7 @@
 //! leaves.
 
 use crate::entries::Entries;
-use crate::hidden::HiddenSend;
+use crate::hidden_sends::HiddenSend;
 use crate::links::short;
 use st_core::{Event, Kind, Label, Pid, Serial, Streams};
 use st_needs::{Left, is_stamp};

@@ -3,7 +3,7 @@
 use crate::asks::{Ask, split_asks, split_hidden};
 use crate::candidate::{Candidate, items_from};
 use crate::entries::{Entries, Origin};
-use crate::hidden::HiddenSend;
+use crate::hidden_sends::HiddenSend;
 use crate::inventions::Invention;
 use crate::links::{links_of, short};
 use crate::positions::Positions;

@@ -10,9 +10,9 @@
 
 use crate::asks::Asks;
 use crate::assembly::{Parts, assemble};
-use crate::hidden::hidden_sends;
+use crate::hidden_sends::hidden_sends;
 use crate::inventions::invent;
-use crate::lost::give_lost;
+use crate::lost_messages::give_lost;
 use crate::senders::give_senders;
 use crate::walk::place_hidden;
 use st_core::{Pid, Sequence, Streams};

@@ -3,7 +3,7 @@
 ghost use Rattle.std.specs.Iterator.{at_most};
 
 use crate::asks::Ask;
-use crate::hidden::HiddenSend;
+use crate::hidden_sends::HiddenSend;
 use st_core::{Event, Kind, Streams};
 
 /// Where an event comes from.

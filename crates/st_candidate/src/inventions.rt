@@ -2,7 +2,7 @@
 
 use crate::asks::{Ask, Message, split_asks, split_hidden};
 use crate::entries::Entries;
-use crate::hidden::HiddenSend;
+use crate::hidden_sends::HiddenSend;
 use crate::sorting::sorted_by_number;
 use st_core::{Event, Kind, Label, Pid, Serial, Streams};
 use st_needs::{Left, is_stamp};

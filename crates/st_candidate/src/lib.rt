@@ -9,15 +9,15 @@ mod asks;
 mod assembly;
 mod candidate;
 mod entries;
-mod hidden;
+mod hidden_sends;
 mod inventions;
 mod links;
-mod lost;
+mod lost_messages;
 mod positions;
 mod senders;
 mod sorting;
 mod stretch;
-mod unlisted;
+mod unlisted_pids;
 mod walk;
 
 pub use candidate::{Candidate, build_candidate};

@@ -5,7 +5,7 @@
 
 use crate::asks::{Ask, Message};
 use crate::assembly::Parts;
-use crate::hidden::HiddenSend;
+use crate::hidden_sends::HiddenSend;
 use crate::inventions::Invention;
 use crate::positions::Positions;
 use st_core::{Event, Kind, Pid, Sequence, Streams};

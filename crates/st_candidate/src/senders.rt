@@ -6,11 +6,11 @@
 
 use crate::asks::{Ask, Message};
 use crate::candidate::items_from;
-use crate::hidden::HiddenSend;
+use crate::hidden_sends::HiddenSend;
 use crate::inventions::Invention;
 use crate::links::short;
 use crate::sorting::sorted_by_number;
-use crate::unlisted::UnlistedPids;
+use crate::unlisted_pids::UnlistedPids;
 use st_core::{Event, Pid, Streams};
 use st_needs::is_stamp;
 use std::alloc::{AllocError, Global};

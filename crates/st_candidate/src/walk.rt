@@ -13,7 +13,7 @@
 //! finds one that costs nothing up to there.
 
 use crate::candidate::items_between;
-use crate::hidden::HiddenSend;
+use crate::hidden_sends::HiddenSend;
 use crate::links::short;
 use crate::stretch::{Ground, Stretch};
 use st_core::{Event, Label, Streams};

@@ -15,7 +15,7 @@ use Rattle.st_pair.specs.Pairing.{stamp_of, refusal}
 use Rattle.st_pair.proofs.ForCallers.{own_rule}
 use Rattle.st_pair.proofs.ForCallers.{stamp_at}
 use Rattle.st_pair.proofs.ForCallers.{IsPaired, paired, serial_rises}
-use Rattle.st_chain.specs.Causes.{received_before, of_source, of_receive, cause_by, cause_at, event_in}
+use Rattle.st_chain.specs.Causes.{received_before, of_source, of_receive, cause_by, cause_at, place_of_cause}
 use Rattle.st_chain.specs.Causes.{weight, far}
 
 record IsReceive (es : List Event) (this j : ℕ) : Type 0 where
@@ -77,7 +77,7 @@ weight_by e b is = ap (λ (c : Bool). 2 * e.serial.this + (if c then 1 else 2)) 
 module _ (streams : List Stream) (ok : IsPaired streams) (p : Pid) (i : ℕ) (e : Event)
     (at : event_at streams p i ≡ Some e) where
   stamp_back : is_stamp e ≡ true → (o : Option ℕ) → received_before (events_of streams p) e.serial.prev i ≡ o
-      → far streams (event_in (Some (of_receive p o))) < 1 + weight e
+      → far streams (place_of_cause (Some (of_receive p o))) < 1 + weight e
   stamp_back is None found = omega arith
   stamp_back is (Some j) found =
       let r = before_found (events_of streams p) e.serial.prev i j found in
@@ -90,7 +90,7 @@ module _ (streams : List Stream) (ok : IsPaired streams) (p : Pid) (i : ℕ) (e 
       omega arith
 
   receive_back : is_stamp e ≡ false → (o : Option (ℕ × Event)) → stamp_of streams e.from e.serial.this ≡ o
-      → far streams (event_in (Some (of_source
+      → far streams (place_of_cause (Some (of_source
       (elim o [ None ↦ source.Hidden | Some f ↦ source.Event e.from f.0 ])))) < 1 + weight e
   receive_back is None found = omega arith
   receive_back is (Some f) found =
@@ -101,10 +101,11 @@ module _ (streams : List Stream) (ok : IsPaired streams) (p : Pid) (i : ℕ) (e 
       let count = parts.1 in
       omega arith
 
-  event_back : far streams (event_in (Some (cause_by streams p i e))) < 1 + weight e
+  event_back : far streams (place_of_cause (Some (cause_by streams p i e))) < 1 + weight e
   event_back = elim (is_stamp e)
       as (λ b. is_stamp e ≡ b → far streams
-      (event_in (Some (if b then of_receive p (received_before (events_of streams p) e.serial.prev i) else of_source
+      (place_of_cause (Some (if b then of_receive p
+      (received_before (events_of streams p) e.serial.prev i) else of_source
       (elim (stamp_of streams e.from e.serial.this) [
         | None ↦ source.Hidden
         | Some f ↦
@@ -115,10 +116,11 @@ module _ (streams : List Stream) (ok : IsPaired streams) (p : Pid) (i : ℕ) (e 
       ] refl
 
 pub back_smaller : (streams : List Stream) → refusal streams ≡ None → (p : Pid) (i : ℕ)
-    → far streams (event_in (cause_at streams p i)) < far streams (Some (p, i))
+    → far streams (place_of_cause (cause_at streams p i)) < far streams (Some (p, i))
 back_smaller streams accepted p i = elim (event_at streams p i)
     as (λ o. event_at streams p i ≡ o
-    → far streams (event_in (option_map (cause_by streams p i) o)) < 1 + (elim o [ None ↦ 0 | Some e ↦ weight e ])) [
+    → far streams (place_of_cause (option_map (cause_by streams p i) o)) < 1
+    + (elim o [ None ↦ 0 | Some e ↦ weight e ])) [
       | None ↦ λ at. omega arith
       | Some e ↦ λ at. event_back streams (paired streams accepted) p i e at
     ] refl

@@ -40,17 +40,17 @@ abbrev pub cause_at : List Stream → Pid → ℕ → Option Cause
 cause_at streams p i = option_map (cause_by streams p i) (event_at streams p i)
 
 -- the event that a cause is, if it is one
-abbrev pub event_in : Option Cause → Option (Pid × ℕ)
-event_in None = None
-event_in (Some (cause.Event q j)) = Some (q, j)
-event_in (Some cause.Hidden) = None
-event_in (Some cause.Start) = None
+abbrev pub place_of_cause : Option Cause → Option (Pid × ℕ)
+place_of_cause None = None
+place_of_cause (Some (cause.Event q j)) = Some (q, j)
+place_of_cause (Some cause.Hidden) = None
+place_of_cause (Some cause.Start) = None
 
 -- the list goes on from this place, each place the cause of the one before, until Hidden or Start
 abbrev pub IsBackFrom : List Stream → Option (Pid × ℕ) → List (Pid × ℕ) → Type 0
 IsBackFrom streams at [] = at ≡ None
 IsBackFrom streams at (x ∷ rest) =
-    (at ≡ Some x) × IsBackFrom streams (event_in (cause_at streams x.0 x.1)) rest
+    (at ≡ Some x) × IsBackFrom streams (place_of_cause (cause_at streams x.0 x.1)) rest
 
 -- the place of the event at (p, i), if there is one
 abbrev pub place_at : List Stream → Pid → ℕ → Option (Pid × ℕ)

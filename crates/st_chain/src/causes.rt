@@ -10,7 +10,8 @@ ghost use Rattle.st_core.specs.Streams.{events_of, IsStreams};
 ghost use Rattle.st_pair.specs.Links.{IsPairing};
 ghost use Rattle.st_pair.specs.Pairing.{refusal};
 ghost use Rattle.st_pair.specs.Places.{is_stamp};
-ghost use Rattle.st_chain.specs.Causes.{backs_from, cause_at, event_in, place_at, received_before};
+ghost use Rattle.st_chain.specs.Causes.{backs_from, cause_at, place_of_cause};
+ghost use Rattle.st_chain.specs.Causes.{place_at, received_before};
 ghost use Rattle.st_chain.specs.Causes.{IsBackFrom};
 
 use crate::cause::Cause;
@@ -137,7 +138,7 @@ impl<'a> Causes<'a> {
 
     /// The event that the event at this place follows.
     fn before(&self, pid: Pid, index: u64) -> Option<(Pid, u64)>
-        ensures before { result ≡ event_in (cause_at self.now pid index) }
+        ensures before { result ≡ place_of_cause (cause_at self.now pid index) }
         ensures accepted { refusal self.now ≡ None }
     {
         // Reading a field shows what the type keeps: that pairing accepted the streams, so that the

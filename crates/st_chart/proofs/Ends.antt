@@ -9,7 +9,7 @@ use Rattle.st_core.specs.declared.types.Pid.{Pid}
 use Rattle.st_core.specs.declared.types.Label.{Label}
 use Rattle.st_core.specs.Run.{Stream, pids_of}
 use Rattle.st_order.specs.declared.item.Item.{Item}
-use Rattle.st_chart.specs.declared.charted.ChartedItem.{ChartedItem}
+use Rattle.st_chart.specs.declared.charted_item.ChartedItem.{ChartedItem}
 use Rattle.st_chart.specs.Chart.{charted_of, all_charted, is_end, lanes}
 use Rattle.st_chart.specs.Parts.{is_end_in}
 

@@ -9,7 +9,7 @@ use Rattle.st_core.specs.Run.{Stream}
 use Rattle.st_order.specs.declared.item.Item.{Item}
 use Rattle.st_text.specs.Writing.{Goes}
 use Rattle.st_text.proofs.ForCallers.{goes_then}
-use Rattle.st_chart.specs.declared.charted.ChartedItem.{ChartedItem}
+use Rattle.st_chart.specs.declared.charted_item.ChartedItem.{ChartedItem}
 use Rattle.st_chart.specs.Chart.{charted_of, all_charted, item_line, lane_line, lane_lines}
 use Rattle.st_chart.specs.Parts.{line_in}
 

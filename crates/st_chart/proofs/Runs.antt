@@ -4,7 +4,7 @@ use Rattle.std.specs.List.{flat_map}
 use Rattle.std.proofs.lemmas.List.{take-append-drop}
 use Rattle.std.proofs.lemmas.List.Concat.{flat_map-append}
 use Rattle.st_core.specs.declared.types.Pid.{Pid}
-use Rattle.st_chart.specs.declared.charted.ChartedItem.{ChartedItem}
+use Rattle.st_chart.specs.declared.charted_item.ChartedItem.{ChartedItem}
 use Rattle.st_chart.specs.Chart.{mark}
 
 pub parts_marks : (x : ChartedItem) (ps front back left middle : List Pid) (m n : ℕ) → front ≡ take n ps

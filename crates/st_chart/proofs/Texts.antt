@@ -8,7 +8,7 @@ use Rattle.st_text.specs.Spelling as spelled
 use Rattle.st_text.proofs.ForCallers.{front_some, line_some}
 use Rattle.st_audit.specs.declared.finding.Reason.{Reason}
 use Rattle.st_chart.specs.Words.{place_words}
-use Rattle.st_chart.specs.declared.charted.ChartedItem.{ChartedItem}
+use Rattle.st_chart.specs.declared.charted_item.ChartedItem.{ChartedItem}
 use Rattle.st_chart.specs.Chart.{label_line, lane_lines, item_line, chart_lines}
 use Rattle.st_chart.specs.Report.{unfit_line, reason_words, event_line, evidence, unfit_text}
 

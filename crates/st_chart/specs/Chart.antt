@@ -19,7 +19,7 @@ use Rattle.st_order.specs.Items.{event_of}
 use Rattle.st_chain.specs.declared.cause.Cause.{Cause}
 use Rattle.st_chain.specs.declared.cause.Cause.TheVariants as cause
 use Rattle.st_chain.specs.Causes.{cause_at}
-use Rattle.st_chart.specs.declared.charted.ChartedItem.{ChartedItem}
+use Rattle.st_chart.specs.declared.charted_item.ChartedItem.{ChartedItem}
 use Rattle.st_chart.specs.Words.{place_words}
 
 -- ---- what is shown

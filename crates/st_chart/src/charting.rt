@@ -11,7 +11,7 @@ ghost use Rattle.st_chart.specs.Chart.{all_charted, lane_line, lane_lines, mark,
 ghost use Rattle.st_chart.specs.Chart.{label_line, chart_lines, chart_text};
 ghost use Rattle.st_chart.specs.Parts.{bars, line_in, HasNoEndBeforeLast};
 
-use crate::charted::{ChartedItem, is_any_charted};
+use crate::charted_item::{ChartedItem, is_any_charted};
 use crate::fault::ChartFault;
 use crate::lanes::{lanes_of, lanes_to_ends};
 use crate::marks::{RUN, put_bars, put_item, put_mark};

@@ -9,7 +9,7 @@ ghost use Rattle.st_core.specs.Streams.{is_among};
 ghost use Rattle.st_chart.specs.Chart.{all_charted, is_end, lanes};
 ghost use Rattle.st_chart.specs.Parts.{is_end_in, IsNoOther, AreCutAtEnds};
 
-use crate::charted::ChartedItem;
+use crate::charted_item::ChartedItem;
 use st_core::{Event, Label, Pid, Streams};
 use st_order::Item;
 use std::alloc::{AllocError, Global};

@@ -5,7 +5,7 @@
 //! here judges: the findings, the order and the causes come from the crates below.
 #![tactic(auto)]
 
-mod charted;
+mod charted_item;
 mod charting;
 mod fault;
 mod lanes;

@@ -8,7 +8,7 @@ ghost use Rattle.st_chart.specs.Parts.{bars};
 ghost use Rattle.st_chart.specs.Chart.{item_words};
 ghost use Rattle.st_chart.specs.Room.{mark_room, item_word_room, origin_room, item_room};
 
-use crate::charted::{ChartedItem, is_end};
+use crate::charted_item::{ChartedItem, is_end};
 use crate::words::put_place;
 use st_chain::{Cause, Causes};
 use st_core::{Kind, Pid};

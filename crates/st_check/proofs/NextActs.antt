@@ -19,7 +19,7 @@ use Rattle.st_world.specs.declared.outcome.StepFault.{StepFault}
 use Rattle.st_world.specs.declared.outcome.StepFault.TheVariants as fault
 use Rattle.st_world.specs.World.{IsFault}
 use Rattle.st_core.proofs.ForCallers.{step_no_actor, step_no_receiver}
-use Rattle.st_check.specs.Progress.{tags_of, count_of, counts_with, pair_to, stop_of, Differ, IsEven, IsPassed}
+use Rattle.st_check.specs.Progress.{tags_of, reported_count, counts_with, pair_to, stop_of, Differ, IsEven, IsPassed}
 use Rattle.st_check.specs.Progress.{IsPassedBy, IsStop}
 use Rattle.st_check.specs.declared.comparison.Comparison.{Comparison}
 use Rattle.st_check.proofs.OneMoreAct.{pair_of}
@@ -30,7 +30,7 @@ pub length-counts : (top : ℕ) (streams : List Stream) (acts : List Act) (s : S
     (tags : List (List ℕ)) (ps : List (ℕ × ℕ)) → IsPassed top streams acts s counts tags ps
     → length counts ≡ length (pids_of streams)
 length-counts top streams acts s counts tags ps p =
-    ap length p.are_counts ∙ length-map (pids_of streams) (count_of acts p.outcomes)
+    ap length p.are_counts ∙ length-map (pids_of streams) (reported_count acts p.outcomes)
 
 pub length-tags : (top : ℕ) (streams : List Stream) (acts : List Act) (s : State) (counts : List ℕ)
     (tags : List (List ℕ)) (ps : List (ℕ × ℕ)) → IsPassed top streams acts s counts tags ps

@@ -21,7 +21,7 @@ use Rattle.st_core.specs.Verdict.{Passes}
 use Rattle.st_core.proofs.ForCallers.{zero_pids, pid_eq-true, pid_eq-same, pid_eq-swap}
 use Rattle.st_core.proofs.ForCallers.{run_parts, leaves_others}
 use Rattle.st_world.proofs.ForCallers.{map_agree}
-use Rattle.st_check.specs.Progress.{state_from, tags_of, count_of, counts_with, IsPassed}
+use Rattle.st_check.specs.Progress.{state_from, tags_of, reported_count, counts_with, IsPassed}
 use Rattle.st_check.proofs.OneMoreAct.{length-run, run-append, state_from-append, stream-append, tags_from-append}
 use Rattle.st_check.proofs.OneMoreAct.{pair_of, pairs_from-append}
 use Rattle.st_check.proofs.Places.{map_at, entry_at, events_at}
@@ -128,21 +128,23 @@ module _ (acts : List Act) (a : Act) (os : List Outcome) (o : Outcome) (even : l
 
   counts_more : (pids : List Pid) (i : ℕ) → IsRising pids → slice_get pids i ≡ Some (actor a)
       → (report : Option Event) → o.report ≡ report
-      → counts_with (map (count_of acts os) pids) i report ≡ map (count_of (acts ++ a ∷ []) (os ++ o ∷ [])) pids
+      → counts_with (map (reported_count acts os) pids) i report
+      ≡ map (reported_count (acts ++ a ∷ []) (os ++ o ∷ [])) pids
   counts_more pids i rising at None silent =
-      map_agree (count_of acts os) (count_of (acts ++ a ∷ []) (os ++ o ∷ [])) pids
+      map_agree (reported_count acts os) (reported_count (acts ++ a ∷ []) (os ++ o ∷ [])) pids
       (λ q. ap length (sym (stream_silent q silent)))
   counts_more pids i rising at (Some e) is =
-      let own : get_or (map (count_of acts os) pids) i 0 + 1 ≡ count_of (acts ++ a ∷ []) (os ++ o ∷ []) (actor a) =
-      ap (λ n. n + 1) (entry_at (count_of acts os) pids i (actor a) 0 at)
+      let own : get_or (map (reported_count acts os) pids) i 0 + 1
+      ≡ reported_count (acts ++ a ∷ []) (os ++ o ∷ []) (actor a) =
+      ap (λ n. n + 1) (entry_at (reported_count acts os) pids i (actor a) 0 at)
       ∙ sym (ap length (stream_own e is) ∙ length-append (stream acts os (actor a)) (e ∷ [])) in
-      ap (set (map (count_of acts os) pids) i) own
-      ∙ sym (map_at (count_of acts os) (count_of (acts ++ a ∷ []) (os ++ o ∷ [])) pids i (actor a) rising at
+      ap (set (map (reported_count acts os) pids) i) own
+      ∙ sym (map_at (reported_count acts os) (reported_count (acts ++ a ∷ []) (os ++ o ∷ [])) pids i (actor a) rising at
       (λ q apart. ap length (stream_other q (pid_eq-swap (actor a) q ∙ apart))))
 
   -- a front of a process's stream stays one
   front_kept : (x : Stream) (report : Option Event) → o.report ≡ report
-      → ForSome report (λ e. pid_eq (actor a) x.pid ≡ true → slice_get x.events (count_of acts os x.pid) ≡ Some e)
+      → ForSome report (λ e. pid_eq (actor a) x.pid ≡ true → slice_get x.events (reported_count acts os x.pid) ≡ Some e)
       → IsPrefix (stream acts os x.pid) x.events → IsPrefix (stream (acts ++ a ∷ []) (os ++ o ∷ []) x.pid) x.events
   front_kept x None silent next front = subst (λ es. IsPrefix es x.events) (sym (stream_silent x.pid silent)) front
   front_kept x (Some e) is next front =
@@ -170,8 +172,8 @@ pub passed_more : (top : ℕ) (streams : List Stream) (acts : List Act) (s : Sta
 passed_more top streams acts s counts tags ps a o i n later rising at number p h next are =
     let os = p.outcomes in
     let even = length-run top (zero_state (pids_of streams)) acts os p.passing.runs in
-    let count : get_or counts i 0 ≡ count_of acts os (actor a) = ap (λ xs. get_or xs i 0) p.are_counts
-    ∙ entry_at (count_of acts os) (pids_of streams) i (actor a) 0 at in
+    let count : get_or counts i 0 ≡ reported_count acts os (actor a) = ap (λ xs. get_or xs i 0) p.are_counts
+    ∙ entry_at (reported_count acts os) (pids_of streams) i (actor a) 0 at in
     let nth : n ≡ 0 + length acts = number ∙ (omega arith) in
     record {
       outcomes = os ++ o ∷ [];
@@ -181,9 +183,9 @@ passed_more top streams acts s counts tags ps a o i n later rising at number p h
             let x = get_or streams k d in
             front_kept acts a os o even x o.report refl (λ e is same.
             let who = pid_eq-true (actor a) x.pid same in
-            ap (λ q. slice_get x.events (count_of acts os q)) (sym who)
-            ∙ ap (λ es. slice_get es (count_of acts os (actor a))) (sym (events_at streams k d rising within))
-            ∙ ap (λ q. slice_get (events_of streams q) (count_of acts os (actor a))) (sym who)
+            ap (λ q. slice_get x.events (reported_count acts os q)) (sym who)
+            ∙ ap (λ es. slice_get es (reported_count acts os (actor a))) (sym (events_at streams k d rising within))
+            ∙ ap (λ q. slice_get (events_of streams q) (reported_count acts os (actor a))) (sym who)
             ∙ ap (slice_get (events_of streams (actor a))) (sym count) ∙ next e is) (p.passing.fronts k d within);
       };
       is_state = state_from-append (zero_state (pids_of streams)) os o;
@@ -208,8 +210,8 @@ differs_more top streams acts s counts tags ps a o i e rising at p h is other =
     let os = p.outcomes in
     let even = length-run top (zero_state (pids_of streams)) acts os p.passing.runs in
     let whole = run_more top streams acts s counts tags ps a o p h in
-    let count : get_or counts i 0 ≡ count_of acts os (actor a) = ap (λ xs. get_or xs i 0) p.are_counts
-    ∙ entry_at (count_of acts os) (pids_of streams) i (actor a) 0 at in
+    let count : get_or counts i 0 ≡ reported_count acts os (actor a) = ap (λ xs. get_or xs i 0) p.are_counts
+    ∙ entry_at (reported_count acts os) (pids_of streams) i (actor a) 0 at in
     let d : Stream = record { pid = actor a; events = [] } in
     let within : i < length streams = let below = slice_get_within (pids_of streams) i (actor a) at in let size =
     length-map streams (λ (x : Stream). x.pid) in omega arith in
@@ -223,10 +225,10 @@ differs_more top streams acts s counts tags ps a o i e rising at p h is other =
           ap (λ (xs : List Outcome). stream (acts ++ a ∷ []) xs x.pid) same
           ∙ ap (stream (acts ++ a ∷ []) (os ++ o ∷ [])) who
           ∙ stream_own acts a os o even e is in
-          let found : slice_get x.events (count_of acts os (actor a)) ≡ Some e =
+          let found : slice_get x.events (reported_count acts os (actor a)) ≡ Some e =
           front_next (stream acts os (actor a)) x.events e
           (subst (λ es. IsPrefix es x.events) grows (passes.1.fronts i d within)) in
           other (ap (slice_get (events_of streams (actor a))) count
-          ∙ ap (λ q. slice_get (events_of streams q) (count_of acts os (actor a))) (sym who)
-          ∙ ap (λ es. slice_get es (count_of acts os (actor a))) (events_at streams i d rising within) ∙ found),
+          ∙ ap (λ q. slice_get (events_of streams q) (reported_count acts os (actor a))) (sym who)
+          ∙ ap (λ es. slice_get es (reported_count acts os (actor a))) (events_at streams i d rising within) ∙ found),
     )

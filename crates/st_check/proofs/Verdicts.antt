@@ -21,7 +21,7 @@ use Rattle.st_core.specs.Verdict.{Verdict, Stuck, Differs, Left, Yes, left_over,
 use Rattle.st_core.specs.Laws.{KeepsSound}
 use Rattle.st_core.specs.State.{State}
 use Rattle.st_core.proofs.ForCallers.{run_sound, receives_follow, receives_are_paired}
-use Rattle.st_check.specs.Progress.{count_of, IsPassed}
+use Rattle.st_check.specs.Progress.{reported_count, IsPassed}
 use Rattle.st_check.specs.Answers.{FollowsAll, PairsAll, RisesOnYes}
 use Rattle.st_check.proofs.Places.{entry_at, events_at}
 
@@ -51,7 +51,7 @@ module _ (top : ℕ) (streams : List Stream) (acts : List Act) (s : State) (coun
       → get_or counts k 0 ≡ length (stream acts p.outcomes (get_or streams k d).pid)
   count_at k d within =
       ap (λ xs. get_or xs k 0) p.are_counts
-      ∙ entry_at (count_of acts p.outcomes) (pids_of streams) k (get_or streams k d).pid 0 (pid_at k d within)
+      ∙ entry_at (reported_count acts p.outcomes) (pids_of streams) k (get_or streams k d).pid 0 (pid_at k d within)
 
   -- no event is left of the process at a place
   none_at : (k : ℕ) (d : Stream) → k < length streams

@@ -32,8 +32,8 @@ abbrev pub tags_of : List Act → List Outcome → Tags
 tags_of acts os = tags_from (λ p. []) 0 acts os
 
 -- how many events p reported
-abbrev pub count_of : List Act → List Outcome → Pid → ℕ
-count_of acts os p = length (stream acts os p)
+abbrev pub reported_count : List Act → List Outcome → Pid → ℕ
+reported_count acts os p = length (stream acts os p)
 
 -- the counts after an act of the process at this place: one more for it if it reported an event
 abbrev pub counts_with : List ℕ → ℕ → Option Event → List ℕ
@@ -59,7 +59,7 @@ pub record IsPassed (top : ℕ) (streams : List Stream) (acts : List Act) (s : S
   pub outcomes : List Outcome
   pub passing : IsPassing top streams acts outcomes
   pub is_state : s ≡ state_from (zero_state (pids_of streams)) outcomes
-  pub are_counts : counts ≡ map (count_of acts outcomes) (pids_of streams)
+  pub are_counts : counts ≡ map (reported_count acts outcomes) (pids_of streams)
   pub are_tags : tags ≡ map (tags_of acts outcomes) (pids_of streams)
   pub are_pairs : ps ≡ pairs acts outcomes
 

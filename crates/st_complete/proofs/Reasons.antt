@@ -36,7 +36,7 @@ use Rattle.st_completions.proofs.ForCallers.{count_at}
 use Rattle.st_open.specs.OpenReasons.{IsUnfounded}
 use Rattle.st_complete.specs.declared.answer.Never.{Never}
 use Rattle.st_complete.specs.declared.answer.Never.TheVariants as never
-use Rattle.st_complete.specs.Answers.{reason_rank, IsAgainst, IsLast, IsReason, IsSendOf}
+use Rattle.st_complete.specs.Answers.{reason_rank, IsAgainst, IsLast, IsFirstReason, IsSendOf}
 use Rattle.st_complete.specs.Found.{IsFoundReason}
 
 -- TESTS
@@ -462,7 +462,7 @@ module _ (top : ℕ) (streams : List Stream) (sound : IsStreams streams) where
 
   reason_if : (p : Pid) (i : ℕ) (e : Event) (reason : Never) → event_at streams p i ≡ Some e
       → IsAgainst top streams p i e reason → ((n : ℕ) → n < reason_rank reason → AreQuiet n)
-      → AreQuietBefore p i (reason_rank reason) → IsReason top streams p i reason
+      → AreQuietBefore p i (reason_rank reason) → IsFirstReason top streams p i reason
   reason_if p i e reason at holds before earlier = record {
     event = e;
     at = at;
@@ -480,10 +480,10 @@ module _ (top : ℕ) (streams : List Stream) (sound : IsStreams streams) where
   -- what pairing's reason is in the words of the results
   abbrev IsMeant : PairFault → Type 0
   IsMeant fault.Memory = Unit {0}
-  IsMeant (fault.PrevNotBefore p i) = IsReason top streams p i never.PrevNotBefore
-  IsMeant (fault.NotRising p i j) = IsReason top streams p i (never.NotRising j)
-  IsMeant (fault.Repeated p i q j) = IsReason top streams p i (never.Repeated q j)
-  IsMeant (fault.Mismatch p i q j) = IsReason top streams p i (never.Mismatch q j)
+  IsMeant (fault.PrevNotBefore p i) = IsFirstReason top streams p i never.PrevNotBefore
+  IsMeant (fault.NotRising p i j) = IsFirstReason top streams p i (never.NotRising j)
+  IsMeant (fault.Repeated p i q j) = IsFirstReason top streams p i (never.Repeated q j)
+  IsMeant (fault.Mismatch p i q j) = IsFirstReason top streams p i (never.Mismatch q j)
 
   -- the rules before one of them give nothing
   record AreNone (n : ℕ) : Type 0 where
@@ -660,7 +660,7 @@ module _ (top : ℕ) (streams : List Stream) (sound : IsStreams streams) where
       absurd (omega (arith, less))
 
   pub reason_means : (p : Pid) (i : ℕ) (reason : Never) → IsFoundReason top streams p i reason
-      → IsReason top streams p i reason
+      → IsFirstReason top streams p i reason
   reason_means p i never.PrevNotBefore is = pair_meant (fault.PrevNotBefore p i) is
   reason_means p i (never.NotRising j) is = pair_meant (fault.NotRising p i j) is
   reason_means p i (never.Repeated q j) is = pair_meant (fault.Repeated p i q j) is

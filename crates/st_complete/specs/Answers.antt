@@ -80,7 +80,7 @@ reason_rank never.TooHigh = 6
 
 -- The reason holds of event i of p; none that comes before it holds of any event, and none of its
 -- kind of an event before this one.
-pub record IsReason (top : ℕ) (streams : List Stream) (p : Pid) (i : ℕ) (reason : Never)
+pub record IsFirstReason (top : ℕ) (streams : List Stream) (p : Pid) (i : ℕ) (reason : Never)
     : Type 0 where
   pub event : Event
   pub at : event_at streams p i ≡ Some event
@@ -123,7 +123,7 @@ pub record IsWhole (top : ℕ) (streams : List Stream) (completed : Completed) :
 -- the reason holds, and is final
 pub record IsNever (top : ℕ) (streams : List Stream) (p : Pid) (i : ℕ) (reason : Never)
     : Type 0 where
-  pub holds : IsReason top streams p i reason
+  pub holds : IsFirstReason top streams p i reason
   pub final : IsFinal top streams reason
 
 -- these acts show the streams without a reset and are at most so many, and the checker's yes has

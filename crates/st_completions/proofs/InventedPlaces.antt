@@ -14,7 +14,7 @@ use Rattle.st_core.specs.Laws.{greatest_count, prev_after}
 use Rattle.st_core.proofs.ForCallers.{greatest_push, prev_push}
 use Rattle.st_pair.specs.Places.{is_stamp}
 use Rattle.st_plan.specs.Marks.{Marked, told_events}
-use Rattle.st_completions.specs.Completion.{begins, place_below, prev_between}
+use Rattle.st_completions.specs.Completion.{begins_trace, place_below, prev_between}
 use Rattle.st_completions.specs.Needs.{is_need}
 use Rattle.st_completions.specs.Supply.{needs_from}
 use Rattle.st_completions.proofs.FedNeeds.{events}
@@ -100,7 +100,7 @@ prev_low v before e low =
     let c = greatest_count before in
     let left = prev_after before in
     let prev = e.serial.prev in
-    elim (begins v c left e) as (λ b. begins v c left e ≡ b → cond b prev left < v) [
+    elim (begins_trace v c left e) as (λ b. begins_trace v c left e ≡ b → cond b prev left < v) [
       | false ↦ λ _. low
       | true ↦ λ is.
           let one = and_parts (is_stamp e) (not (prev == left)

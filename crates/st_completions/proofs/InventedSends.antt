@@ -10,7 +10,7 @@ use Rattle.st_core.specs.Laws.{greatest_count, prev_after}
 use Rattle.st_core.proofs.ForCallers.{and_false, greatest_push, prev_push}
 use Rattle.st_pair.specs.Places.{is_stamp}
 use Rattle.st_plan.specs.Marks.{Marked, told_events}
-use Rattle.st_completions.specs.Completion.{begins}
+use Rattle.st_completions.specs.Completion.{begins_trace}
 use Rattle.st_completions.specs.Needs.{is_late, is_need}
 use Rattle.st_completions.proofs.FedNeeds.{events}
 use Rattle.st_completions.specs.Placed.{AreTimely}
@@ -44,7 +44,7 @@ keeps_told all before (e ∷ es) alike timely = (
 
 -- the prev of the send of v that is put before e
 abbrev pub prev_for : ℕ → List Event → Event → ℕ
-prev_for v before e = cond (begins v (greatest_count before) (prev_after before) e) e.serial.prev
+prev_for v before e = cond (begins_trace v (greatest_count before) (prev_after before) e) e.serial.prev
     (prev_after before)
 
 -- these events, after those before, with the send of v put in before the first that reaches v

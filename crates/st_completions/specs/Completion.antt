@@ -78,8 +78,8 @@ place_below v (e ∷ es) = if nat_lt e.serial.this v then 1 + place_below v es e
 
 -- if e's prev is neither what is left nor below the greatest count c, but below v, a send of v
 -- before it begins its trace
-abbrev pub begins : ℕ → ℕ → ℕ → Event → Bool
-begins v c left e =
+abbrev pub begins_trace : ℕ → ℕ → ℕ → Event → Bool
+begins_trace v c left e =
     is_stamp e && (not (e.serial.prev == left)
     && (not (nat_lt e.serial.prev c) && nat_lt e.serial.prev v))
 
@@ -87,7 +87,7 @@ begins v c left e =
 abbrev pub prev_between : ℕ → List Event → Option Event → ℕ
 prev_between v before None = prev_after before
 prev_between v before (Some e) =
-    if begins v (greatest_count before) (prev_after before) e then e.serial.prev
+    if begins_trace v (greatest_count before) (prev_after before) e then e.serial.prev
     else prev_after before
 
 -- the send that is invented for a supply, with this prev

@@ -5,8 +5,8 @@ use Rattle.std.specs.Prelude.{◌++◌, length, drop, replicate, min, Option, So
 use Rattle.std.specs.Prelude.{MatchResult, option_map, if◌then◌else◌}
 
 -- the mark of a device is false until a call fails, then true, and each later call fails
-abbrev pub Marks : {T E : Type 0} → Bool → Bool → Result T E → Type 0
-Marks old new r = MatchResult r (λ _. (old ≡ false) × (new ≡ false)) (λ _. new ≡ true)
+abbrev pub MarksFailure : {T E : Type 0} → Bool → Bool → Result T E → Type 0
+MarksFailure old new r = MatchResult r (λ _. (old ≡ false) × (new ≡ false)) (λ _. new ≡ true)
 
 -- a device that hasn't failed takes an empty piece, of which it passes nothing, and stays as it was
 abbrev pub PassesEmpty : {S E : Type 0} → Bool → List ℕ → S → S → Result ℕ E → Type 0
@@ -74,7 +74,7 @@ abbrev pub AreZeros : List ℕ → Type 0
 AreZeros bytes = bytes ≡ replicate (length bytes) 0
 
 -- a reader or writer of std with its mark
-pub record Marked (A : Type 0) : Type 0 where
+pub record MarkedDevice (A : Type 0) : Type 0 where
   pub inner : A
   pub failed : Bool
 

@@ -7,7 +7,7 @@ use Rattle.std.specs.declared.cmp.Ordering.{Ordering}
 use Rattle.std.specs.List.{sum}
 use Rattle.st_core.specs.declared.types.Message.{Message}
 use Rattle.st_index.specs.declared.index.Index.{Index}
-use Rattle.st_index.specs.declared.keyed.Keyed.{Keyed}
+use Rattle.st_index.specs.declared.keyed_slots.Keyed.{Keyed}
 use Rattle.st_index.specs.Keyed.{has_key, is_kept, IsFirst}
 use Rattle.st_index.specs.Index.{IsKeyedBy, HasSlots}
 use Rattle.st_index.specs.Slots.{item_at, passes}

@@ -12,7 +12,7 @@ use Rattle.std.proofs.lemmas.Bool.Decides.{nat_tests}
 use Rattle.std.proofs.lemmas.Cmp.{then_total, on_total, nat_cmp_total, tied_itself, tied_back}
 use Rattle.std.proofs.lemmas.Map.Keys.{le_from_not_gt}
 use Rattle.std.specs.Option.{option_map_or}
-use Rattle.st_index.specs.declared.keyed.Keyed.{Keyed}
+use Rattle.st_index.specs.declared.keyed_slots.Keyed.{Keyed}
 use Rattle.st_index.specs.Keyed.{pair_cmp, has_key, IsFirst}
 
 -- PAIRS

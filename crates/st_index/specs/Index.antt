@@ -8,7 +8,7 @@ use Rattle.st_core.specs.declared.types.Pid.{Pid}
 use Rattle.st_core.specs.declared.types.Token.{Token}
 use Rattle.st_core.specs.Pid.{pid_cmp, pid_eq}
 use Rattle.st_index.specs.declared.index.Index.{Index}
-use Rattle.st_index.specs.declared.keyed.Keyed.{Keyed}
+use Rattle.st_index.specs.declared.keyed_slots.Keyed.{Keyed}
 use Rattle.st_index.specs.declared.keys.Keys.{Keys}
 use Rattle.st_index.specs.Keyed.{has_key, is_kept}
 use Rattle.st_index.specs.Slots.{item_at, passes}

@@ -4,7 +4,7 @@ use Rattle.std.specs.declared.cmp.Ordering.{Ordering}
 use Rattle.std.specs.Ordering.{nat_cmp, ordering_then}
 use Rattle.std.specs.Option.{option_map_or}
 use Rattle.std.specs.BTreeSet.{contains}
-use Rattle.st_index.specs.declared.keyed.Keyed.{Keyed}
+use Rattle.st_index.specs.declared.keyed_slots.Keyed.{Keyed}
 
 -- by key, then slot
 abbrev pub pair_cmp : {K : Type 0} → (K → K → Ordering) → K × ℕ → K × ℕ → Ordering

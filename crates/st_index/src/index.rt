@@ -6,7 +6,7 @@ ghost use Rattle.std.specs.Prelude.{slice_get};
 ghost use Rattle.st_core.specs.declared.types.Message.{Message};
 ghost use Rattle.st_core.specs.Pid.{pid_eq};
 
-use crate::keyed::Keyed;
+use crate::keyed_slots::Keyed;
 use crate::keys::Keys;
 use st_core::{Message, Pid, Token};
 use st_ranks::Ranks;

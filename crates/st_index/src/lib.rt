@@ -17,7 +17,7 @@
 #![tactic(auto)]
 
 mod index;
-mod keyed;
+mod keyed_slots;
 mod keys;
 
 pub use index::Index;

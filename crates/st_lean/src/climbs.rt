@@ -13,7 +13,7 @@
 
 use crate::insertion::{Insertion, with_insertions_by_count};
 use crate::lean::missing_before;
-use crate::marked::{LongerStreams, MarkedStreams, pid_at};
+use crate::marked_streams::{LongerStreams, MarkedStreams, pid_at};
 use st_core::{Event, Kind, Label, Pid, Serial, Streams};
 use st_needs::{Left, is_stamp};
 use st_pair::{PairFault, Pairing, pair};

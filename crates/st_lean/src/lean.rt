@@ -5,7 +5,7 @@
 //! is told. The label and the other flags are left as they are. The acts are judged by the checker,
 //! so a mistake here costs time and no more.
 
-use crate::marked::MarkedStreams;
+use crate::marked_streams::MarkedStreams;
 use st_core::{
     Act, Component, Event, Flags, Kind, Label, Pid, Sequence, Serial, Streams, Token, Want,
 };

@@ -9,7 +9,7 @@ mod climbs;
 mod homes;
 mod insertion;
 mod lean;
-mod marked;
+mod marked_streams;
 
 pub use acts::lean_acts;
 pub use lean::LeanFault;

@@ -8,7 +8,7 @@ use Rattle.st_core.specs.Pick.{pick}
 use Rattle.st_core.specs.Step.{untraced}
 use Rattle.st_core.proofs.ForCallers.{All_at, pick_found}
 use Rattle.st_mail.specs.Actor.{QueueFits}
-use Rattle.st_mail.specs.Mail.{left_by}
+use Rattle.st_mail.specs.Mail.{queue_without}
 
 module _ (top : ℕ) where
   abbrev Fits : Message → Type 0
@@ -20,7 +20,7 @@ module _ (top : ℕ) where
   pick_fits w ms k m fit picked = All_at Fits ms k m (pick_found w ms (k, m) picked) fit
 
   -- what is left
-  pub left_fits : (o : Option (ℕ × Message)) (ms : List Message) → QueueFits top ms → QueueFits top (left_by o ms)
+  pub left_fits : (o : Option (ℕ × Message)) (ms : List Message) → QueueFits top ms → QueueFits top (queue_without o ms)
   left_fits None ms fit = fit
   left_fits (Some found) ms fit =
       let front : All Fits (take found.0 ms) = All-take Fits found.0 ms fit in

@@ -15,6 +15,6 @@ queue_in boxes i = slice_index_or boxes i []
 
 -- a queue after a receive of what pick gave: the message leaves its place, and without one nothing
 -- changes
-abbrev pub left_by : Option (ℕ × Message) → List Message → List Message
-left_by None queue = queue
-left_by (Some found) queue = remove queue found.0
+abbrev pub queue_without : Option (ℕ × Message) → List Message → List Message
+queue_without None queue = queue
+queue_without (Some found) queue = remove queue found.0

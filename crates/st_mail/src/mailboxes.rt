@@ -7,7 +7,7 @@ ghost use Rattle.st_core.specs.Pick.{pick};
 ghost use Rattle.st_core.specs.Pid.{pid_eq};
 ghost use Rattle.st_core.specs.Step.{untraced};
 ghost use Rattle.st_arena.specs.Calls.{PassesOnce};
-ghost use Rattle.st_mail.specs.Mail.{queue_in, left_by, bears_stamp};
+ghost use Rattle.st_mail.specs.Mail.{queue_in, queue_without, bears_stamp};
 
 use crate::finder::Search;
 use crate::queues::Queues;
@@ -188,7 +188,7 @@ impl Mailboxes {
         requires { mailbox < length self.old.boxes }
         ensures took { result ≡ pick want.now (queue_in self.old.boxes mailbox) }
         ensures boxes { self.new.boxes
-            ≡ set self.old.boxes mailbox (left_by result (queue_in self.old.boxes mailbox)) }
+            ≡ set self.old.boxes mailbox (queue_without result (queue_in self.old.boxes mailbox)) }
         ensures spare { self.new.spare ≡ self.old.spare + (if is_some result then 1 else 0) }
     {
         let search = Search::of(want, self.was_wiped);

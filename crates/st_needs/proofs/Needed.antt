@@ -25,7 +25,7 @@ use Rattle.st_completions.specs.Completion.{supplies_of, Supply}
 use Rattle.st_completions.specs.Needs.{is_need}
 use Rattle.st_completions.specs.Renumbering.{counts_of}
 use Rattle.st_completions.specs.Supply.{is_free, is_own_supply}
-use Rattle.st_needs.specs.declared.told.Told.{Told}
+use Rattle.st_needs.specs.declared.told_facts.Told.{Told}
 use Rattle.st_needs.specs.Counts.{all_counts, counts_in}
 use Rattle.st_needs.specs.Told.{is_untaken, is_unused, told_of}
 use Rattle.st_needs.proofs.Counted.{above_in, AllAbove, Climbs, IsIn, counts_climb, counts_has}

@@ -21,7 +21,7 @@ use Rattle.st_pair.proofs.ForCallers.{event_none, given_at}
 use Rattle.st_order.specs.Items.{is_hidden}
 use Rattle.st_completions.specs.Reasons.{HoldsAt}
 use Rattle.st_open.specs.OpenReasons.{IsLeastPlace, IsUnfounded}
-use Rattle.st_needs.specs.Unfounded.{has_receive, is_below, is_unfounded, lower_count, lowest_count}
+use Rattle.st_needs.specs.Unfounded.{has_receive, is_known_below, is_unfounded, lower_count, lowest_count}
 use Rattle.st_needs.specs.Unfounded.{lowest_from}
 use Rattle.st_needs.specs.Unfounded.{lowest_in, lowest_with, tells_of}
 
@@ -49,8 +49,8 @@ min_below k m n = elim (nat_lt k n) as (λ b. nat_lt k n ≡ b
           ] refl
     ] refl
 
-lower_below : (low : Option ℕ) (m n : ℕ) → is_below (Some (lower_count low m)) n
-    ≡ (is_below low n || nat_lt m n)
+lower_below : (low : Option ℕ) (m n : ℕ) → is_known_below (Some (lower_count low m)) n
+    ≡ (is_known_below low n || nat_lt m n)
 lower_below None m n = refl
 lower_below (Some k) m n = min_below k m n
 
@@ -69,34 +69,34 @@ or_false false = refl
 
 -- one event more
 below_step : (tells less : Bool) (low : Option ℕ) (m n : ℕ) → less ≡ nat_lt m n
-    → is_below (cond tells (Some (lower_count low m)) low) n ≡ (is_below low n || (tells && less))
-below_step true less low m n is = lower_below low m n ∙ ap (λ b. is_below low n || b) (sym is)
-below_step false less low m n is = sym (or_false (is_below low n))
+    → is_known_below (cond tells (Some (lower_count low m)) low) n ≡ (is_known_below low n || (tells && less))
+below_step true less low m n is = lower_below low m n ∙ ap (λ b. is_known_below low n || b) (sym is)
+below_step false less low m n is = sym (or_false (is_known_below low n))
 
 in_below : (q p : Pid) (n i : ℕ) (low : Option ℕ) (es : List Event)
-    → is_below (lowest_in q low es) n ≡ (is_below low n || is_some (first_from (below q n) p i es))
-in_below q p n i low [] = sym (or_false (is_below low n))
+    → is_known_below (lowest_in q low es) n ≡ (is_known_below low n || is_some (first_from (below q n) p i es))
+in_below q p n i low [] = sym (or_false (is_known_below low n))
 in_below q p n i low (e ∷ es) =
     let here = tells_below q n e in
     let rest : Option (Pid × ℕ) = first_from (below q n) p (i + 1) es in
     in_below q p n (i + 1) (lowest_with q low e) es
     ∙ ap (λ b. b || is_some rest) (below_step (tells_of q e) (nat_lt e.serial.this n) low
     e.serial.this n refl)
-    ∙ or_assoc (is_below low n) here (is_some rest)
-    ∙ sym (ap (λ b. is_below low n || b) (or_given (cond here (Some (p, i)) None) rest
+    ∙ or_assoc (is_known_below low n) here (is_some rest)
+    ∙ sym (ap (λ b. is_known_below low n || b) (or_given (cond here (Some (p, i)) None) rest
     ∙ ap (λ b. b || is_some rest) (some_if here (p, i))))
 
 all_below : (q : Pid) (n : ℕ) (low : Option ℕ) (streams : List Stream)
-    → is_below (lowest_from q low streams) n ≡ (is_below low n
+    → is_known_below (lowest_from q low streams) n ≡ (is_known_below low n
     || is_some (first (below q n) streams))
-all_below q n low [] = sym (or_false (is_below low n))
+all_below q n low [] = sym (or_false (is_known_below low n))
 all_below q n low (x ∷ rest) =
     let here : Option (Pid × ℕ) = first_from (below q n) x.pid 0 x.events in
     let later : Option (Pid × ℕ) = first (below q n) rest in
     all_below q n (lowest_in q low x.events) rest
     ∙ ap (λ b. b || is_some later) (in_below q x.pid n 0 low x.events)
-    ∙ or_assoc (is_below low n) (is_some here) (is_some later)
-    ∙ sym (ap (λ b. is_below low n || b) (or_given here later))
+    ∙ or_assoc (is_known_below low n) (is_some here) (is_some later)
+    ∙ sym (ap (λ b. is_known_below low n || b) (or_given here later))
 
 -- WHAT IS FOUND
 
@@ -110,7 +110,7 @@ none_false false x is = refl
 
 -- if a count is higher than the lowest, one of the lower ones is there
 lower_there : (streams : List Stream) (rising : IsRising (pids_of streams)) (q : Pid) (n : ℕ)
-    → is_below (lowest_count streams q) n ≡ true → (x : Pid × ℕ)
+    → is_known_below (lowest_count streams q) n ≡ true → (x : Pid × ℕ)
     × (first (below q n) streams ≡ Some x)
 lower_there streams rising q n is =
     elim (first (below q n) streams) as (λ o. is_some o ≡ true → (x : Pid × ℕ) × (o ≡ Some x)) [
@@ -177,7 +177,7 @@ module _ (streams : List Stream) (rising : IsRising (pids_of streams)) where
       let e = h.event in
       let before = take i (events_of streams p) in
       let own = is_stamp e || is_hidden streams e in
-      let low = is_below (lowest_count streams e.from) e.serial.this in
+      let low = is_known_below (lowest_count streams e.from) e.serial.this in
       let parts = and_parts (e.serial.prev == 0) ((is_stamp e && has_receive before)
       || (own && low)) h.holds in
       let zero = eqb-true e.serial.prev 0 parts.0 in
@@ -225,7 +225,7 @@ module _ (streams : List Stream) (rising : IsRising (pids_of streams)) where
 
   low_told : (e d : Event) (p : Pid) (i : ℕ) → event_at streams p i ≡ Some d → d.from ≡ e.from
       → d.serial.this < e.serial.this → 0 < d.serial.prev
-      → is_below (lowest_count streams e.from) e.serial.this ≡ true
+      → is_known_below (lowest_count streams e.from) e.serial.this ≡ true
   low_told e d p i at same lower above =
       let tells : tells_below e.from e.serial.this d ≡ true =
       and_from (tells_of e.from d) (nat_lt d.serial.this e.serial.this)
@@ -234,7 +234,7 @@ module _ (streams : List Stream) (rising : IsRising (pids_of streams)) where
       (lt-ltb d.serial.this e.serial.this lower) in
       elim (first (below e.from e.serial.this) streams)
       as (λ o. first (below e.from e.serial.this) streams ≡ o
-      → is_below (lowest_count streams e.from) e.serial.this ≡ true) [
+      → is_known_below (lowest_count streams e.from) e.serial.this ≡ true) [
         | None ↦ λ nobody. absurd (false≢true (sym (none_false (tells_below e.from e.serial.this d)
             (p, i)
             (event_none (below e.from e.serial.this) streams nobody p i d at)) ∙ tells))
@@ -248,7 +248,7 @@ module _ (streams : List Stream) (rising : IsRising (pids_of streams)) where
       let e = z.event in
       let before = take i (events_of streams p) in
       let behind = (is_stamp e || is_hidden streams e)
-      && is_below (lowest_count streams e.from) e.serial.this in
+      && is_known_below (lowest_count streams e.from) e.serial.this in
       let here : (is_stamp e && has_receive before) ≡ true =
       and_from (is_stamp e) (has_receive before) z.stamps
       (there_receive (events_of streams p) i z.index z.received z.received_at z.receives
@@ -264,7 +264,7 @@ module _ (streams : List Stream) (rising : IsRising (pids_of streams)) where
       let e = z.event in
       let before = take i (events_of streams p) in
       let own = is_stamp e || is_hidden streams e in
-      let low = is_below (lowest_count streams e.from) e.serial.this in
+      let low = is_known_below (lowest_count streams e.from) e.serial.this in
       let behind : (own && low) ≡ true = and_from own low t.tells
       (low_told e z.first z.pid z.index z.first_at z.same z.lower z.above) in
       record {

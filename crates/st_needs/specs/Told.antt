@@ -8,7 +8,7 @@ use Rattle.st_core.specs.declared.types.Event.{Event}
 use Rattle.st_core.specs.Run.{Stream}
 use Rattle.st_pair.specs.Pairing.{is_send, receive_of, stamp_of, to_eq}
 use Rattle.st_pair.specs.Places.{is_stamp}
-use Rattle.st_needs.specs.declared.told.Told.{Told}
+use Rattle.st_needs.specs.declared.told_facts.Told.{Told}
 
 -- whose messages of this count these events receive
 abbrev pub senders_in : ℕ → List Event → List Pid

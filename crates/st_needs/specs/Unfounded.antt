@@ -43,9 +43,9 @@ pub record IsNoted (pids : List Pid) (low : Pid → Option ℕ) (lows : List (Op
   pub each : (k : ℕ) (p : Pid) → slice_get pids k ≡ Some p → slice_get lows k ≡ Some (low p)
 
 -- a count is known that is less than n
-abbrev pub is_below : Option ℕ → ℕ → Bool
-is_below None n = false
-is_below (Some m) n = nat_lt m n
+abbrev pub is_known_below : Option ℕ → ℕ → Bool
+is_known_below None n = false
+is_known_below (Some m) n = nat_lt m n
 
 -- one of these events is a receive
 abbrev pub has_receive : List Event → Bool
@@ -57,5 +57,5 @@ has_receive es = list_any (λ d. not (is_stamp d)) es
 abbrev pub is_unfounded : List Stream → List Event → Event → Bool
 is_unfounded streams es e = e.serial.prev == 0
     && ((is_stamp e && has_receive es)
-    || ((is_stamp e || is_hidden streams e) && is_below (lowest_count streams e.from)
+    || ((is_stamp e || is_hidden streams e) && is_known_below (lowest_count streams e.from)
     e.serial.this))

@@ -21,7 +21,7 @@ use crate::completion::{Completion, completion_of};
 use crate::flaws::Left;
 use crate::ranks::{add_own, close_draft, open_last};
 use crate::supplies::{Supply, supplies};
-use crate::told::stamp_in;
+use crate::told_facts::stamp_in;
 use st_completions::laws::streams_without_a_reason_are_completed;
 use st_core::{Draft, Event, Kind, Pid, Sequence, Serial, Streams};
 use std::alloc::{AllocError, Global};

@@ -8,7 +8,7 @@ ghost use Rattle.st_needs.specs.Earliest.{ComesLater};
 
 use crate::construction::{Marked, Whole};
 use crate::flaws::is_stamp;
-use crate::hidden::hidden_sends_of;
+use crate::hidden_sends::hidden_sends_of;
 use st_core::{Event, Streams};
 use st_pair::Pairing;
 use std::alloc::{AllocError, Global};

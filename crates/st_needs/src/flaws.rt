@@ -5,7 +5,7 @@ ghost use Rattle.std.specs.Prelude.{◌≡◌, ◌↔◌, [], ◌∷◌, ◌++�
 ghost use Rattle.st_core.specs.declared.types.Event.{Event as EventValue};
 ghost use Rattle.st_pair.specs.Places.{first, first_from, is_stamp};
 ghost use Rattle.st_core.specs.Laws.{greatest_count, prev_after};
-ghost use Rattle.st_completions.specs.Completion.{begins};
+ghost use Rattle.st_completions.specs.Completion.{begins_trace};
 ghost use Rattle.st_completions.specs.Needs.{HoldsOfNone};
 ghost use Rattle.st_needs.specs.Flaws.{is_hidden_in, left_by, test_of, GoesOnWithin};
 ghost use Rattle.st_completions.specs.Reasons.{HoldsAt};
@@ -134,7 +134,7 @@ impl Left {
     /// left, at least the greatest count and less than this.
     pub(crate) fn begins(self, event: &Event, count: u64) -> bool
         ensures { (es : List EventValue) → self ≡ left_by es
-            → result ≡ begins count (greatest_count es) (prev_after es) event.now }
+            → result ≡ begins_trace count (greatest_count es) (prev_after es) event.now }
     {
         is_stamp(event)
             && (event.serial.prev != self.prev

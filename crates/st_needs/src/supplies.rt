@@ -10,7 +10,7 @@ ghost use Rattle.st_needs.specs.Told.{told_of};
 
 use crate::flaws::Left;
 use crate::ranks::counts_of;
-use crate::told::{Told, is_untaken, is_unused, told_of_each};
+use crate::told_facts::{Told, is_untaken, is_unused, told_of_each};
 use st_core::{Event, Pid, Streams};
 use std::alloc::{AllocError, Global};
 use std::marker::Model;

@@ -15,7 +15,7 @@ use Rattle.st_core.specs.declared.types.Event.{Event}
 use Rattle.st_core.specs.Pid.{pid_eq}
 use Rattle.st_core.specs.Run.{Stream, pids_of}
 use Rattle.st_core.specs.Streams.{events_of, stream_of}
-use Rattle.st_pair.specs.declared.stamped.Row.{Row}
+use Rattle.st_pair.specs.declared.stamp_table.Row.{Row}
 use Rattle.st_pair.specs.Pairing.{not_rising, stamp_of}
 use Rattle.st_pair.specs.Places.{is_stamp, first, first_from, or_else}
 use Rattle.st_pair.specs.Tables.{row_under, rows_in, stamp_rows, AreRising, AreStamps}

@@ -14,7 +14,7 @@ use Rattle.st_pair.specs.declared.pairing.Tables.{Tables}
 use Rattle.st_pair.specs.declared.receives.Key.{Key}
 use Rattle.st_pair.specs.declared.receives.Mark.{Mark}
 use Rattle.st_pair.specs.declared.receives.Receives.{Receives}
-use Rattle.st_pair.specs.declared.stamped.Row.{Row}
+use Rattle.st_pair.specs.declared.stamp_table.Row.{Row}
 use Rattle.st_pair.specs.Places.{is_stamp, first, or_else}
 use Rattle.st_pair.specs.Pairing.{receive_of, stamp_of, not_rising}
 
@@ -58,8 +58,8 @@ pub record IsMark (streams : List Stream) (lists : List (List (Option (Pid × �
   pub first : mark_at lists mark.process mark.index ≡ Some mark.first
 
 -- the place that the tables give for a key
-abbrev pub place_at : List Stream → Receives → Key → Option (Pid × ℕ)
-place_at streams receives k = elim (mark_of streams receives.shown.items k) [
+abbrev pub place_for : List Stream → Receives → Key → Option (Pid × ℕ)
+place_for streams receives k = elim (mark_of streams receives.shown.items k) [
   | None ↦ get stamp_key_cmp receives.hidden k
   | Some place ↦ place
 ]
@@ -110,5 +110,5 @@ pub record AreStamps (streams : List Stream) (stamps : List (List Row)) : Type 0
 
 -- the tables of streams
 pub record AreTables (streams : List Stream) (tables : Tables) : Type 0 where
-  pub got : HasReceives streams (place_at streams tables.got)
+  pub got : HasReceives streams (place_for streams tables.got)
   pub sent : AreStamps streams tables.sent

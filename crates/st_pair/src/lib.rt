@@ -11,7 +11,7 @@ pub mod laws;
 mod pairing;
 mod receives;
 mod rules;
-mod stamped;
+mod stamp_table;
 
 pub use answer::{PairFault, Source};
 pub use pairing::{Pairing, pair};

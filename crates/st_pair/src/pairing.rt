@@ -17,7 +17,7 @@ ghost use Rattle.st_pair.specs.Tables.{AreTables};
 use crate::answer::{PairFault, Source};
 use crate::receives::Receives;
 use crate::rules::{Rule, mismatch_at};
-use crate::stamped::Stamps;
+use crate::stamp_table::Stamps;
 use st_core::{Event, Kind, Pid, Sequence, Streams, place_of};
 use st_guesses::Guesses;
 use std::alloc::{AllocError, Global};

@@ -10,12 +10,12 @@ ghost use Rattle.st_pair.specs.declared.receives.Key.{Key as KeyValue};
 ghost use Rattle.st_pair.specs.Pairing.{repeated};
 ghost use Rattle.st_pair.specs.Places.{first, first_from, or_else};
 ghost use Rattle.st_pair.specs.Rules.{IsFirstFault};
-ghost use Rattle.st_pair.specs.Tables.{here, mark_at, mark_of, no_marks, place_at, receive_rule};
+ghost use Rattle.st_pair.specs.Tables.{here, mark_at, mark_of, no_marks, place_for, receive_rule};
 ghost use Rattle.st_pair.specs.Tables.{AreStamps, HasReceives, HasReceivesWith, IsMark};
 
 use crate::answer::PairFault;
 use crate::rules::repetition_at;
-use crate::stamped::Stamps;
+use crate::stamp_table::Stamps;
 use st_core::{Event, Kind, Pid, Streams};
 use std::alloc::{AllocError, Global};
 use std::collections::BTreeMap;
@@ -106,7 +106,7 @@ pub struct Receives {
 impl Receives {
     /// None yet.
     fn new(alloc: Global, streams: &Streams) -> Result<Receives, AllocError>
-        ensures { IfOk result (λ receives. (k : KeyValue) → place_at streams.now receives k ≡ None) }
+        ensures { IfOk result (λ receives. (k : KeyValue) → place_for streams.now receives k ≡ None) }
     {
         let shown = all_marks(alloc, streams)?;
         Ok(Receives {
@@ -118,7 +118,7 @@ impl Receives {
     /// Those of these streams, if no message was received twice. The sends and prints are theirs.
     pub fn of(alloc: Global, streams: &Streams, sent: &mut Stamps) -> Result<Receives, PairFault>
         requires { AreStamps streams.now sent.old }
-        ensures table { IfOk result (λ receives. HasReceives streams.now (place_at streams.now receives)) }
+        ensures table { IfOk result (λ receives. HasReceives streams.now (place_for streams.now receives)) }
         ensures once { OnOk result (first (repeated streams.now) streams.now ≡ None) }
         ensures fault { IfErr result (IsFirstFault (first (repeated streams.now) streams.now)) }
         ensures sent { sent.new ≡ sent.old }
@@ -162,10 +162,10 @@ impl Receives {
     ) -> Result<(Pid, u64), AllocError>
         requires { AreStamps streams.now sent.old }
         ensures first { IfOk result (λ first.
-            Some first ≡ or_else (place_at streams.now self.old key) (Some place)) }
+            Some first ≡ or_else (place_for streams.now self.old key) (Some place)) }
         ensures noted { IfOk result (λ first. first ≡ place → (k : KeyValue) →
-            place_at streams.now self.new k
-            ≡ or_else (place_at streams.now self.old k) (here key place k)) }
+            place_for streams.now self.new k
+            ≡ or_else (place_for streams.now self.old k) (here key place k)) }
         ensures sent { sent.new ≡ sent.old }
     {
         match self.mark(streams, sent, key) {
@@ -183,10 +183,10 @@ impl Receives {
     ) -> Result<(Pid, u64), AllocError>
         requires { mark_of streams.now self.old.shown.items key ≡ None }
         ensures first { IfOk result (λ first.
-            Some first ≡ or_else (place_at streams.now self.old key) (Some place)) }
+            Some first ≡ or_else (place_for streams.now self.old key) (Some place)) }
         ensures noted { IfOk result (λ first. first ≡ place → (k : KeyValue) →
-            place_at streams.now self.new k
-            ≡ or_else (place_at streams.now self.old k) (here key place k)) }
+            place_for streams.now self.new k
+            ≡ or_else (place_for streams.now self.old k) (here key place k)) }
     {
         match self.hidden.insert(key, place) {
             Err(_) => Err(AllocError),
@@ -204,10 +204,10 @@ impl Receives {
         place: (Pid, u64),
     ) -> (Pid, u64)
         requires { IsMark streams.now self.old.shown.items key mark }
-        ensures first { Some result ≡ or_else (place_at streams.now self.old key) (Some place) }
+        ensures first { Some result ≡ or_else (place_for streams.now self.old key) (Some place) }
         ensures noted { result ≡ place → (k : KeyValue) →
-            place_at streams.now self.new k
-            ≡ or_else (place_at streams.now self.old k) (here key place k) }
+            place_for streams.now self.new k
+            ≡ or_else (place_for streams.now self.old k) (here key place k) }
     {
         match mark.first {
             Some(earlier) => earlier,
@@ -227,7 +227,7 @@ impl Receives {
         this: u64,
     ) -> Option<(Pid, u64)>
         requires { AreStamps streams.now sent.old }
-        ensures found { result ≡ place_at streams.now self.now (record { from = from; this = this }) }
+        ensures found { result ≡ place_for streams.now self.now (record { from = from; this = this }) }
         ensures sent { sent.new ≡ sent.old }
     {
         let key = Key { from, this };
@@ -269,14 +269,14 @@ fn note_receives(
 ) -> Result<(), PairFault>
     requires { AreStamps streams.now sent.old }
     ensures noted { OnOk result ((k : KeyValue) →
-        place_at streams.now receives.new k
-        ≡ or_else (place_at streams.now receives.old k) (first_from (receive_rule k) pid 0 events.now)) }
+        place_for streams.now receives.new k
+        ≡ or_else (place_for streams.now receives.old k) (first_from (receive_rule k) pid 0 events.now)) }
     ensures once { (rest : KeyValue → Option (PidValue × ℕ)) →
-        HasReceivesWith streams.now (place_at streams.now receives.old)
+        HasReceivesWith streams.now (place_for streams.now receives.old)
         (λ k. or_else (first_from (receive_rule k) pid 0 events.now) (rest k)) →
         OnOk result (first_from (repeated streams.now) pid 0 events.now ≡ None) }
     ensures fault { (rest : KeyValue → Option (PidValue × ℕ)) →
-        HasReceivesWith streams.now (place_at streams.now receives.old)
+        HasReceivesWith streams.now (place_for streams.now receives.old)
         (λ k. or_else (first_from (receive_rule k) pid 0 events.now) (rest k)) →
         IfErr result (IsFirstFault (first_from (repeated streams.now) pid 0 events.now)) }
     ensures sent { sent.new ≡ sent.old }

@@ -26,7 +26,7 @@ use Rattle.st_plan.specs.declared.plan.Start.{Start}
 use Rattle.st_plan.specs.Marks.{Marks}
 use Rattle.st_plan.specs.Moves.{Move, is_taking}
 use Rattle.st_plan.specs.Build.{act_of, acts_of, build, construction, dress, flags_of, is_dressed}
-use Rattle.st_plan.specs.Build.{opening, quiet, raise, ready, renew, renewed_start, silent}
+use Rattle.st_plan.specs.Build.{opening, quiet, raise, ready, renew, renewed_start, silent_prints}
 use Rattle.st_plan.specs.Build.{start_of, state_after, tracers_after, unstamped_token}
 use Rattle.st_plan.proofs.EarlierMoves.{all_append}
 
@@ -46,17 +46,17 @@ dress_none : (p : Pid) (token : Option Token) (n : Label) (f : Flags) → NoRese
 dress_none p token n f =
     either (is_dressed n f token) [] (act.Restore p (unstamped_token p n f) ∷ []) tt (refl, tt)
 
-silent_none : (p : Pid) (n : ℕ) → NoReset (silent p n)
+silent_none : (p : Pid) (n : ℕ) → NoReset (silent_prints p n)
 silent_none p zero = tt
 silent_none p (suc n) = (refl, silent_none p n)
 
 renew_none : (p : Pid) (x : Start) (n : Label) (prev : ℕ) → NoReset (renew p x n prev)
 renew_none p x n prev =
-    let up = dress p x.token n quiet ++ silent p (prev - x.clock) in
+    let up = dress p x.token n quiet ++ silent_prints p (prev - x.clock) in
     append_none (if nat_lt x.clock prev then up else [])
     (act.Clear p ∷ act.Set p (component.Label n) ∷ [])
     (either (nat_lt x.clock prev) up []
-    (append_none (dress p x.token n quiet) (silent p (prev - x.clock))
+    (append_none (dress p x.token n quiet) (silent_prints p (prev - x.clock))
     (dress_none p x.token n quiet)
     (silent_none p (prev - x.clock))) tt)
     (refl, (refl, tt))
@@ -65,10 +65,10 @@ raise_none : (p : Pid) (x : Start) (n : Label) (count : ℕ) (f : Flags)
     → NoReset (raise p x n count f)
 raise_none p x n count f =
     let on = dress p (Some (unstamped_token p n quiet)) n f in
-    let up = silent p (count - x.clock) ++ on in
+    let up = silent_prints p (count - x.clock) ++ on in
     either (nat_lt x.clock count) (dress p x.token n quiet ++ up) (dress p x.token n f)
     (append_none (dress p x.token n quiet) up (dress_none p x.token n quiet)
-    (append_none (silent p (count - x.clock)) on (silent_none p (count - x.clock))
+    (append_none (silent_prints p (count - x.clock)) on (silent_none p (count - x.clock))
     (dress_none p (Some (unstamped_token p n quiet)) n f)))
     (dress_none p x.token n f)
 

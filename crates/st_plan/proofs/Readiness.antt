@@ -22,7 +22,7 @@ use Rattle.st_core.specs.Local.{default_token}
 use Rattle.st_core.specs.Step.{acted}
 use Rattle.st_plan.specs.declared.plan.Start.{Start}
 use Rattle.st_plan.specs.Build.{bool_eq, dress, flags_eq, is_dressed, quiet, raise, ready, renew}
-use Rattle.st_plan.specs.Build.{renewed_start, silent, start_of, unstamped_token}
+use Rattle.st_plan.specs.Build.{renewed_start, silent_prints, start_of, unstamped_token}
 
 -- QUIET ACTS
 
@@ -172,7 +172,7 @@ printed top p l t is flag below =
 
 silent_reaches : (top : ℕ) (p : Pid) (k : ℕ) (l : LocalState) (t : Token) (n : Label)
     → l.token ≡ Some t → t.label ≡ n
-    → t.flags ≡ quiet → l.clock + k ≤ top → Reaches top p l (silent p k)
+    → t.flags ≡ quiet → l.clock + k ≤ top → Reaches top p l (silent_prints p k)
     (l.clock + k) l.last n quiet
 silent_reaches top p zero l t n is label flags within = record {
   end = l;
@@ -217,7 +217,7 @@ raised : (top : ℕ) (p : Pid) (l : LocalState) (x : Start) (n : Label) (count :
     → l.clock ≤ count → count ≤ top → Reaches top p l (raise p x n count f) count l.last n f
 raised top p l x n count f same now least within =
     elim (nat_lt x.clock count) as (λ b. nat_lt x.clock count ≡ b → Reaches top p l
-    (cond b (dress p x.token n quiet ++ (silent p (count - x.clock)
+    (cond b (dress p x.token n quiet ++ (silent_prints p (count - x.clock)
     ++ dress p (Some (unstamped_token p n quiet)) n f))
     (dress p x.token n f)) count l.last n f) [
       | true ↦ λ e.
@@ -230,12 +230,12 @@ raised top p l x n count f same now least within =
           let there = two.clocked in
           let three = dressed top p two.end (Some (unstamped_token p n quiet)) n f
           (alike two.token n quiet p two.end two.is two.label two.flags n f) in
-          let last_parts = both_reach top p one.end (silent p (count - x.clock))
+          let last_parts = both_reach top p one.end (silent_prints p (count - x.clock))
           (dress p (Some (unstamped_token p n quiet)) n f)
           (one.end.clock + (count - x.clock)) one.end.last n quiet
           two.end.clock two.end.last f two three in
           let all = both_reach top p l (dress p x.token n quiet)
-          (silent p (count - x.clock) ++ dress p (Some (unstamped_token p n quiet)) n f)
+          (silent_prints p (count - x.clock) ++ dress p (Some (unstamped_token p n quiet)) n f)
           l.clock l.last n quiet two.end.clock two.end.last f one last_parts in
           record {
             end = all.end;
@@ -274,10 +274,10 @@ record Brings (top : ℕ) (p : Pid) (l : LocalState) (acts : List Act) (clock : 
 
 brought : (top : ℕ) (p : Pid) (l : LocalState) (n : Label) (prev : ℕ) → l.clock ≤ prev → prev ≤ top
     → Brings top p l (if nat_lt l.clock prev then dress p l.token n quiet
-    ++ silent p (prev - l.clock) else []) prev
+    ++ silent_prints p (prev - l.clock) else []) prev
 brought top p l n prev least within =
     elim (nat_lt l.clock prev) as (λ b. nat_lt l.clock prev ≡ b
-    → Brings top p l (cond b (dress p l.token n quiet ++ silent p (prev - l.clock)) []) prev) [
+    → Brings top p l (cond b (dress p l.token n quiet ++ silent_prints p (prev - l.clock)) []) prev) [
       | true ↦ λ e.
           let less = ltb-true l.clock prev e in
           let one = dressed top p l l.token n quiet refl in
@@ -289,7 +289,7 @@ brought top p l n prev least within =
           record {
             end = two.end;
             runs = quiet_append top p (dress p l.token n quiet)
-                (silent p (prev - l.clock)) l one.end two.end
+                (silent_prints p (prev - l.clock)) l one.end two.end
                 one.runs two.runs;
             clocked = omega arith;
             traced = two.traced ∙ one.traced;

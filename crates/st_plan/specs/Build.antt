@@ -56,21 +56,21 @@ abbrev pub dress : Pid → Option Token → Label → Flags → List Act
 dress p token n f = if is_dressed n f token then [] else act.Restore p (unstamped_token p n f) ∷ []
 
 -- so many prints of p that nobody sees
-abbrev pub silent : Pid → ℕ → List Act
-silent p zero = []
-silent p (suc n) = act.Print p 0 ∷ silent p n
+abbrev pub silent_prints : Pid → ℕ → List Act
+silent_prints p zero = []
+silent_prints p (suc n) = act.Print p 0 ∷ silent_prints p n
 
 -- if the prev isn't the last count: the clock is brought up to it, and a new trace begun there
 abbrev pub renew : Pid → Start → Label → ℕ → List Act
 renew p x n prev =
-    (if nat_lt x.clock prev then dress p x.token n quiet ++ silent p (prev - x.clock) else [])
+    (if nat_lt x.clock prev then dress p x.token n quiet ++ silent_prints p (prev - x.clock) else [])
     ++ act.Clear p ∷ act.Set p (component.Label n) ∷ []
 
 -- the clock is brought up to that count, then the flags are put on
 abbrev pub raise : Pid → Start → Label → ℕ → Flags → List Act
 raise p x n count f = if nat_lt x.clock count
     then dress p x.token n quiet
-    ++ (silent p (count - x.clock) ++ dress p (Some (unstamped_token p n quiet)) n f)
+    ++ (silent_prints p (count - x.clock) ++ dress p (Some (unstamped_token p n quiet)) n f)
     else dress p x.token n f
 
 -- what p has after a new trace began at prev

@@ -11,7 +11,7 @@ use Rattle.st_pair.specs.Places.{event_at}
 use Rattle.st_order.specs.declared.item.Item.TheVariants as item
 use Rattle.st_plan.specs.Marks.{Marks}
 use Rattle.st_plan.specs.Moves.{Move}
-use Rattle.st_plan.specs.Reasons.{too_wide, uncaused, HoldsAt}
+use Rattle.st_plan.specs.Reasons.{too_wide, uncaused, HoldsOfMoveAt}
 
 -- what p tells of a move: the event of its own item, if that is told
 abbrev pub told_of_move : Marks → Pid → Move → List Event
@@ -42,7 +42,7 @@ out_of_turn earlier m = elim m.item [
 
 -- the test holds of no move of the order
 abbrev pub HoldsNowhere : (List Move → Move → Bool) → List Stream → Type 0
-HoldsNowhere test streams = (p : Pid) (i : ℕ) → ¬ HoldsAt test streams p i
+HoldsNowhere test streams = (p : Pid) (i : ℕ) → ¬ HoldsOfMoveAt test streams p i
 
 -- Pairing accepts the streams, the order lists each process's reported items by rising index,
 -- nothing is uncaused, and a clock can have each count.

@@ -28,7 +28,7 @@ too_wide earlier m = not (is_taking m) &&
     (nat_lt most_skipped (skip earlier m) || nat_lt most_skipped_in_all (skips (m ∷ earlier)))
 
 -- in the order there is a move at place (p, i) of which the test holds
-pub record HoldsAt (test : List Move → Move → Bool) (streams : List Stream) (p : Pid)
+pub record HoldsOfMoveAt (test : List Move → Move → Bool) (streams : List Stream) (p : Pid)
     (i : ℕ) : Type 0 where
   pub order : List Item
   pub earlier : List Move

@@ -2,7 +2,8 @@
 //! nothing here steps a world.
 
 ghost use Rattle.std.specs.Prelude.{◌≡◌, ◌++◌, OnOk};
-ghost use Rattle.st_plan.specs.Build.{dress, flags_eq, is_dressed, raise, ready, renew, silent};
+ghost use Rattle.st_plan.specs.Build.{dress, flags_eq, is_dressed, raise};
+ghost use Rattle.st_plan.specs.Build.{ready, renew, silent_prints};
 ghost use Rattle.st_plan.specs.Build.{unstamped_token};
 
 use st_core::{Act, Component, Flags, Label, Pid, Serial, Token};
@@ -74,7 +75,7 @@ fn dress(
 
 /// So many prints of the process that nobody sees.
 fn print_silently(plan: &mut Vec<Act>, pid: Pid, count: u64) -> Result<(), AllocError>
-    ensures { OnOk result (plan.new.items ≡ plan.old.items ++ silent pid count) }
+    ensures { OnOk result (plan.new.items ≡ plan.old.items ++ silent_prints pid count) }
 {
     for _ in 0..count {
         plan.push(Act::Print(pid, 0))?;

@@ -10,8 +10,8 @@ use Rattle.st_runtime.specs.declared.fault.DriveFault.{DriveFault}
 use Rattle.st_runtime.specs.declared.fault.DriveFault.TheVariants as fault
 use Rattle.st_runtime.specs.declared.fault.JoinFault.{JoinFault}
 use Rattle.st_runtime.specs.declared.fault.JoinFault.TheVariants as joining
-use Rattle.st_runtime.specs.declared.fault.OpenFault.{OpenFault}
-use Rattle.st_runtime.specs.declared.fault.OpenFault.TheVariants as opening
+use Rattle.st_runtime.specs.declared.fault.SystemFault.{SystemFault}
+use Rattle.st_runtime.specs.declared.fault.SystemFault.TheVariants as opening
 use Rattle.st_runtime.specs.declared.driver.worker.Ending.{Ending}
 use Rattle.st_runtime.specs.Driven.{IsOwn, IsRefused}
 
@@ -60,7 +60,7 @@ IsOwnFault fault.Thread = Unit {0}
 IsOwnFault fault.NotRising = ⊥
 
 -- a refusal to open a system, as the drive's
-abbrev pub opening_fault : OpenFault → DriveFault
+abbrev pub opening_fault : SystemFault → DriveFault
 opening_fault opening.Memory = fault.Memory
 opening_fault opening.NotRising = fault.NotRising
 

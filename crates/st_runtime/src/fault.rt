@@ -46,7 +46,7 @@ pub enum ActFault {
 
 /// Why no system was opened.
 #[derive(Clone, Copy, Debug, PartialEq, Eq, Error)]
-pub enum OpenFault {
+pub enum SystemFault {
     /// Memory ran out.
     #[error("no memory")]
     Memory,
@@ -115,13 +115,13 @@ impl From<AllocError> for DriveFault {
     }
 }
 
-impl From<OpenFault> for DriveFault {
+impl From<SystemFault> for DriveFault {
     ghost from_gives = { λ opening fault. fault ≡ opening_fault opening };
 
-    fn from(fault: OpenFault) -> DriveFault {
+    fn from(fault: SystemFault) -> DriveFault {
         match fault {
-            OpenFault::Memory => DriveFault::Memory,
-            OpenFault::NotRising => DriveFault::NotRising,
+            SystemFault::Memory => DriveFault::Memory,
+            SystemFault::NotRising => DriveFault::NotRising,
         }
     }
 }

@@ -18,7 +18,7 @@ mod system;
 
 pub use driver::worker::WORKER_STACK;
 pub use driver::{drive, drive_on};
-pub use fault::{ActFault, DriveFault, JoinFault, OpenFault, PcbFault};
+pub use fault::{ActFault, DriveFault, JoinFault, PcbFault, SystemFault};
 pub use join::join_pieces;
 pub use join::record::Record;
 pub use pcb::Pcb;

@@ -22,7 +22,7 @@ pub mod pids;
 pub mod pieces;
 pub mod seat;
 
-use crate::fault::{ActFault, OpenFault, PcbFault};
+use crate::fault::{ActFault, PcbFault, SystemFault};
 use crate::pcb::Pcb;
 use crate::pcb::acts::{is_wide, receiver_of};
 use crate::pcb::entry::Entry;
@@ -60,12 +60,12 @@ impl<const TOP: u64, const RANKS: u64> Model for System<TOP, RANKS> {
 impl<const TOP: u64, const RANKS: u64> System<TOP, RANKS> {
     /// A system of these processes, each at its start, and a seat for each, in order. `NotRising`
     /// comes before memory is asked for, then `Memory`.
-    pub fn open(alloc: Global, pids: &[Pid]) -> Result<(System<TOP, RANKS>, Vec<Seat>), OpenFault>
+    pub fn open(alloc: Global, pids: &[Pid]) -> Result<(System<TOP, RANKS>, Vec<Seat>), SystemFault>
         ensures system { IfOk result (λ r. r.0 ≡ pids.now) }
         ensures seats { IfOk result (λ r. r.1.items ≡ map no_calls pids.now) }
         ensures rising { OnOk result (IsRising pids.now) }
-        ensures memory { result ≡ Err OpenFault.Memory → IsRising pids.now }
-        ensures not_rising { (result ≡ Err OpenFault.NotRising) ↔ ¬ IsRising pids.now }
+        ensures memory { result ≡ Err SystemFault.Memory → IsRising pids.now }
+        ensures not_rising { (result ≡ Err SystemFault.NotRising) ↔ ¬ IsRising pids.now }
     {
         System::open_for(alloc, pids, &[])
     }
@@ -75,19 +75,19 @@ impl<const TOP: u64, const RANKS: u64> System<TOP, RANKS> {
         alloc: Global,
         pids: &[Pid],
         scripts: &[Sequence<Act>],
-    ) -> Result<(System<TOP, RANKS>, Vec<Seat>), OpenFault>
+    ) -> Result<(System<TOP, RANKS>, Vec<Seat>), SystemFault>
         ensures system { IfOk result (λ r. r.0 ≡ pids.now) }
         ensures seats { IfOk result (λ r. r.1.items ≡ map no_calls pids.now) }
         ensures rising { OnOk result (IsRising pids.now) }
-        ensures memory { result ≡ Err OpenFault.Memory → IsRising pids.now }
-        ensures not_rising { (result ≡ Err OpenFault.NotRising) ↔ ¬ IsRising pids.now }
+        ensures memory { result ≡ Err SystemFault.Memory → IsRising pids.now }
+        ensures not_rising { (result ≡ Err SystemFault.NotRising) ↔ ¬ IsRising pids.now }
     {
         if !is_rising(pids) {
-            return Err(OpenFault::NotRising);
+            return Err(SystemFault::NotRising);
         }
         match open_system(alloc, pids, scripts) {
             Ok(made) => Ok(made),
-            Err(_) => Err(OpenFault::Memory),
+            Err(_) => Err(SystemFault::Memory),
         }
     }
 

@@ -11,7 +11,7 @@ mod steps;
 
 use crate::helpers::same;
 use st_core::{Act, Pid, Reply};
-use st_runtime::{ActFault, Gate, OpenFault, Pieces, Seat, System};
+use st_runtime::{ActFault, Gate, Pieces, Seat, System, SystemFault};
 use std::alloc::{AllocError, Global};
 use std::process::Abort;
 use std::sync::Wait;
@@ -30,9 +30,9 @@ fn room_at_last<T>(alloc: Global, count: usize) -> Result<Vec<T>, AllocError>
 fn open_at_last<const TOP: u64, const RANKS: u64>(
     alloc: Global,
     pids: &[Pid],
-) -> Result<(System<TOP, RANKS>, Vec<Seat>), OpenFault> {
+) -> Result<(System<TOP, RANKS>, Vec<Seat>), SystemFault> {
     match System::open(alloc, pids) {
-        Err(OpenFault::Memory) => System::open(alloc, pids),
+        Err(SystemFault::Memory) => System::open(alloc, pids),
         answer => answer,
     }
 }

@@ -7,7 +7,7 @@ use Rattle.st_commands.specs.Audited.{IsAudited}
 use Rattle.st_text.specs.Limits.{greater}
 use Rattle.st_tasks.specs.declared.task.Task.{Task}
 use Rattle.st_tasks.specs.declared.task.Task.TheVariants as task
-use Rattle.st_tool.specs.Complete.{IsCompleted}
+use Rattle.st_tool.specs.Complete.{IsOutputOfComplete}
 use Rattle.st_tool.specs.Renumber.{IsRenumbered}
 use Rattle.st_why.specs.Why.{IsWhy}
 
@@ -19,7 +19,7 @@ module _ {R W : Type 0} (reader : ReaderCall R) (writer : WriterCall W) where
   -- what each command does; of the words of those for people nothing is claimed
   abbrev pub Does : Task → ℕ → Type 0
   Does (task.Why question) status = TellsOf (IsWhy question) status
-  Does (task.Complete form) status = TellsOf (IsCompleted form) status
+  Does (task.Complete form) status = TellsOf (IsOutputOfComplete form) status
   Does task.Renumber status = TellsOf IsRenumbered status
   Does task.Check status = TellsOf (IsChecked greater) status
   Does task.Audit status = TellsOf (IsAudited greater) status

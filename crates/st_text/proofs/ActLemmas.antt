@@ -13,18 +13,18 @@ use Rattle.st_core.specs.declared.types.Act.{Act}
 use Rattle.st_core.specs.declared.types.Act.TheVariants as acts
 use Rattle.st_text.specs.Spelling.{bool, pid, label, component, want, flags, token, act}
 use Rattle.st_text.specs.Range.{FitsComponent, FitsWant, FitsToken, FitsAct}
-use Rattle.st_text.specs.Parsing.{component_at, both_at, want_at, flags_at, token_at, send_at}
-use Rattle.st_text.specs.Parsing.{receive_at, print_at, printat_at, set_at, restore_at, tracer_at}
-use Rattle.st_text.specs.Parsing.{alone_at, act_at}
+use Rattle.st_text.specs.Parsing.{parse_component, parse_both, parse_want, parse_flags, parse_token, parse_send}
+use Rattle.st_text.specs.Parsing.{parse_receive, parse_print, parse_printat, parse_set, parse_restore, parse_tracer}
+use Rattle.st_text.specs.Parsing.{parse_alone, parse_act}
 use Rattle.st_text.proofs.Numbers.{Stops}
 use Rattle.st_text.proofs.Fields.{Takes, Any, unread, begins_cases, word_next, field_next}
 use Rattle.st_text.proofs.Fields.{actor_next, made, none_left, five_parts, value_takes}
 use Rattle.st_text.proofs.Fields.{value_again, bool_takes, bool_again, pid_takes, pid_again}
 use Rattle.st_text.proofs.Fields.{label_takes, label_again, actor_again, actor_then}
 
-component_takes : (bytes : List ℕ) (x : Component × List ℕ) → component_at bytes ≡ Some x
+component_takes : (bytes : List ℕ) (x : Component × List ℕ) → parse_component bytes ≡ Some x
     → Takes component FitsComponent bytes x
-unfolding component_at
+unfolding parse_component
 component_takes bytes x e =
     begins_cases (codes "label ") bytes e
     (λ rest s e. field_next (label_takes rest) s e λ l fits s e. made e s fits) λ e.
@@ -36,16 +36,16 @@ component_takes bytes x e =
     (λ rest s e. field_next (bool_takes rest) s e λ b fits s e. made e s fits) none_left
 
 component_again : (c : Component) (rest : List ℕ) → FitsComponent c → Stops rest
-    → component_at (component c ++ rest) ≡ Some (c, rest)
-unfolding component_at
+    → parse_component (component c ++ rest) ≡ Some (c, rest)
+unfolding parse_component
 component_again (components.Label l) rest fits stops = rw (label_again l rest fits stops)
 component_again (components.Send b) rest fits stops = rw (bool_again b rest)
 component_again (components.Receive b) rest fits stops = rw (bool_again b rest)
 component_again (components.Print b) rest fits stops = rw (bool_again b rest)
 
-want_takes : (bytes : List ℕ) (x : Want × List ℕ) → want_at bytes ≡ Some x
+want_takes : (bytes : List ℕ) (x : Want × List ℕ) → parse_want bytes ≡ Some x
     → Takes want FitsWant bytes x
-unfolding want_at both_at
+unfolding parse_want parse_both
 want_takes bytes x e =
     begins_cases (codes "first") bytes e (λ rest s e. made e s tt) λ e.
     begins_cases (codes "from ") bytes e
@@ -59,8 +59,8 @@ want_takes bytes x e =
     (λ rest s e. field_next (value_takes rest) s e λ k fits s e. made e s fits) none_left
 
 want_again : (w : Want) (rest : List ℕ) → FitsWant w → Stops rest
-    → want_at (want w ++ rest) ≡ Some (w, rest)
-unfolding want_at both_at
+    → parse_want (want w ++ rest) ≡ Some (w, rest)
+unfolding parse_want parse_both
 want_again wants.First rest fits stops = refl
 want_again (wants.From p) rest fits stops = rw (pid_again p rest fits)
 want_again (wants.Value v) rest fits stops = rw (value_again v rest fits stops)
@@ -70,9 +70,9 @@ want_again (wants.Place k) rest fits stops = rw (value_again k rest fits stops)
 
 -- ---- tokens
 
-flags_takes : (bytes : List ℕ) (x : Flags × List ℕ) → flags_at bytes ≡ Some x
+flags_takes : (bytes : List ℕ) (x : Flags × List ℕ) → parse_flags bytes ≡ Some x
     → Takes flags Any bytes x
-unfolding flags_at
+unfolding parse_flags
 flags_takes bytes x e =
     field_next (bool_takes bytes) (unread bytes) e λ send any s e.
     word_next (codes " ") s e λ a s e.
@@ -81,13 +81,13 @@ flags_takes bytes x e =
     field_next (bool_takes b) s e λ print any s e.
     made e s any
 
-flags_again : (f : Flags) (rest : List ℕ) → flags_at (flags f ++ rest) ≡ Some (f, rest)
-unfolding flags_at
+flags_again : (f : Flags) (rest : List ℕ) → parse_flags (flags f ++ rest) ≡ Some (f, rest)
+unfolding parse_flags
 flags_again f rest = simp (append_assoc, bool_again)
 
-token_takes : (bytes : List ℕ) (x : Token × List ℕ) → token_at bytes ≡ Some x
+token_takes : (bytes : List ℕ) (x : Token × List ℕ) → parse_token bytes ≡ Some x
     → Takes token FitsToken bytes x
-unfolding token_at
+unfolding parse_token
 token_takes bytes x e =
     field_next (label_takes bytes) (unread bytes) e λ l label s e.
     word_next (codes " ") s e λ a s e.
@@ -101,8 +101,8 @@ token_takes bytes x e =
     made e s (record { label = label; serial = record { prev = prev; this = this }; from = from })
 
 token_again : (t : Token) (rest : List ℕ) → FitsToken t
-    → token_at (token t ++ rest) ≡ Some (t, rest)
-unfolding token_at
+    → parse_token (token t ++ rest) ≡ Some (t, rest)
+unfolding parse_token
 token_again t rest fits =
     let m : List ℕ = decimal t.serial.prev in
     let front : List ℕ = label t.label ++ codes " " ++ flags t.flags ++ codes " " ++ m in
@@ -118,9 +118,9 @@ token_again t rest fits =
 
 -- ---- acts, each behind its word
 
-pub act_takes : (bytes : List ℕ) (x : Act × List ℕ) → act_at bytes ≡ Some x
+pub act_takes : (bytes : List ℕ) (x : Act × List ℕ) → parse_act bytes ≡ Some x
     → Takes act FitsAct bytes x
-unfolding act_at send_at receive_at print_at printat_at set_at restore_at tracer_at alone_at
+unfolding parse_act parse_send parse_receive parse_print parse_printat parse_set parse_restore parse_tracer parse_alone
 act_takes bytes x e =
     begins_cases (codes "send ") bytes e
     (λ rest s e. actor_next s e λ p p_fits s e.
@@ -154,8 +154,8 @@ act_takes bytes x e =
     (λ rest s e. field_next (pid_takes rest) s e λ p fits s e. made e s fits) none_left
 
 pub act_again : (a : Act) (rest : List ℕ) → FitsAct a → Stops rest
-    → act_at (act a ++ rest) ≡ Some (a, rest)
-unfolding act_at alone_at send_at receive_at print_at printat_at set_at restore_at tracer_at
+    → parse_act (act a ++ rest) ≡ Some (a, rest)
+unfolding parse_act parse_alone parse_send parse_receive parse_print parse_printat parse_set parse_restore parse_tracer
 act_again (acts.Send p q v) rest fits stops =
     rw (
       five_parts (pid p) (codes " ") (pid q) (codes " ") (decimal v),

@@ -18,7 +18,7 @@ use Rattle.st_text.specs.declared.builder.BundleBuilder.{BundleBuilder}
 use Rattle.st_text.specs.Parts.Counts.{acts_len}
 use Rattle.st_text.specs.Parts.Remote.{is_event_remote, is_act_remote}
 use Rattle.st_text.specs.Text.{is_away, is_remote}
-use Rattle.st_text.specs.Growth.{is_kept}
+use Rattle.st_text.specs.Growth.{is_kept_line}
 use Rattle.st_text.specs.Parts.Builder.{IsBuilt, NeedsRoom}
 use Rattle.st_text.specs.Fault.{pids, last_of, last_passes, has_acts, may_follow, may_stand, is_out_of_order}
 use Rattle.st_text.specs.Fault.{is_foreign}
@@ -182,5 +182,5 @@ act_good limits p ls a list s some out few =
     (below limits.acts (acts_len p.acts) few)
 
 pub needs_room : (limits : Limits) (ls : List Line) (l : Line) → line_fault limits ls (Some l) ≡ None
-    → is_kept l ≡ true → NeedsRoom limits ls (Some l)
+    → is_kept_line l ≡ true → NeedsRoom limits ls (Some l)
 needs_room limits ls l good kept = record { line = l; said_is = refl; good = good; kept = kept }

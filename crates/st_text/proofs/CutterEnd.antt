@@ -23,7 +23,7 @@ use Rattle.st_text.specs.Parts.Builder.{so_far, IsBuilt}
 use Rattle.st_text.specs.Parts.Finish.{IsFinished, Finishes}
 use Rattle.st_text.specs.Parts.Cutter.{IsTail}
 use Rattle.st_text.specs.Parts.CutterState.{HasTakenAs}
-use Rattle.st_text.specs.Answer.{Answers, IsAnswer, Reads}
+use Rattle.st_text.specs.Answer.{IsReadResultOrMemory, IsReadResult, Reads}
 use Rattle.st_text.proofs.Newlines.{spelled_by, no_lines, fault_of_line, fault_truncated, fault_at_end, truncated_tail}
 use Rattle.st_text.proofs.Newlines.{truncated_nothing, truncated_none}
 use Rattle.st_text.proofs.CountLimits.{all_few}
@@ -32,8 +32,8 @@ use Rattle.st_text.proofs.Headers.{spelled_whole, body_fits}
 use Rattle.st_text.specs.declared.limits.Limits.{Limits}
 
 -- an answer that isn't Memory is one
-pub answers : (limits : Limits) (bytes : List ℕ) (r : Result Bundle ReadFault) → IsAnswer limits bytes r
-    → Answers limits bytes r
+pub answers : (limits : Limits) (bytes : List ℕ) (r : Result Bundle ReadFault) → IsReadResult limits bytes r
+    → IsReadResultOrMemory limits bytes r
 answers limits bytes (Ok b) h = h
 answers limits bytes (Err faults.Memory) h = tt
 answers limits bytes (Err faults.Device) h = h
@@ -183,7 +183,7 @@ pub end_finish : (limits : Limits) (bytes : List ℕ) (long : Bool) (kept : List
     (r : Result Bundle ReadFault)
     → long ≡ false → kept ≡ [] → o ≡ Some p → length bytes ≤ limits.bytes
     → ((ls : List Line) → IsBuilt p ls → length ls < 2 ^ 64 → Finishes ls p r)
-    → HasTakenAs limits false None bytes long kept o → IsAnswer limits bytes r
+    → HasTakenAs limits false None bytes long kept o → IsReadResult limits bytes r
 end_finish limits bytes long kept o p r el empty eo few fin h =
     let ls = h.0 in
     let s : IsBuilt p ls = some_held o p ls eo h.1.held in
@@ -196,6 +196,6 @@ end_finish limits bytes long kept o p r el empty eo few fin h =
     by r (fin ls s (small_count ls p s)) s over whole
   where
     by : (r : Result Bundle ReadFault) → Finishes h.0 p r → IsBuilt p h.0 → (cut bytes).1 ≡ []
-        → fault_within limits bytes ≡ closing_fault h.0 → IsAnswer limits bytes r
+        → fault_within limits bytes ≡ closing_fault h.0 → IsReadResult limits bytes r
     by (Ok b) f s over whole = reads limits bytes h.0 p b few over h.1.said h.1.good s f
     by (Err e) f s over whole = whole ∙ f

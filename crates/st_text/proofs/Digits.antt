@@ -49,9 +49,9 @@ no_digit b bs none = by (is_ascii_digit b) refl none
     by true e len = absurd (omega (arith, len))
     by false e len = e
 
-ends_at : (bytes : List ℕ) (count : ℕ) → digits_len (drop count bytes) ≡ 0 → count < length bytes
+parse_ends : (bytes : List ℕ) (count : ℕ) → digits_len (drop count bytes) ≡ 0 → count < length bytes
     → is_ascii_digit (get_or bytes count 0) ≡ false
-ends_at bytes count none inside =
+parse_ends bytes count none inside =
     let cut : drop count bytes ≡ get_or bytes count 0 ∷ drop (count + 1) bytes =
     rw add-one (drop-cons bytes count 0 inside) in
     no_digit (get_or bytes count 0) (drop (count + 1) bytes) (ap digits_len (sym cut) ∙ none)
@@ -146,7 +146,7 @@ record IsWhole (most : ℕ) (bytes rest : List ℕ) (n : ℕ) : Type 0 where
 whole : (most n : ℕ) (bytes rest : List ℕ) → HasRead bytes rest n → digits_len rest ≡ 0 → IsWhole most bytes rest n
 whole most n bytes rest h none =
     let stop : digits_len (drop h.count bytes) ≡ 0 = ap digits_len (sym h.left) ∙ none in
-    let both = all_digits bytes h.count n h.within (ends_at bytes h.count stop) h.small h.value in
+    let both = all_digits bytes h.count n h.within (parse_ends bytes h.count stop) h.small h.value in
     let is = number_is most bytes n h.count (take h.count bytes) rest both.1 refl h.left in
     record {
       digits = take h.count bytes;

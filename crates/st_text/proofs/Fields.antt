@@ -9,8 +9,8 @@ use Rattle.st_core.specs.declared.types.Label.{Label}
 use Rattle.st_core.specs.declared.types.Serial.{Serial}
 use Rattle.st_text.specs.Spelling.{bool, pid, label, serial}
 use Rattle.st_text.specs.Range.{FitsPid, FitsSerial, most_pid, most_label, most_number}
-use Rattle.st_text.specs.Parsing.{◌>>=◌, on_some, begins, after, number, bool_at, pid_at}
-use Rattle.st_text.specs.Parsing.{label_at, serial_at, actor_at}
+use Rattle.st_text.specs.Parsing.{◌>>=◌, on_some, begins, after, number, parse_bool, parse_pid}
+use Rattle.st_text.specs.Parsing.{parse_label, parse_serial, parse_actor}
 use Rattle.st_text.proofs.Numbers.{Stops, after_takes, number_takes, number_again}
 
 -- ---- A reader goes along the whole: the front is what it has read, and the rest is still to be
@@ -106,21 +106,21 @@ pub value_again : (v : ℕ) (rest : List ℕ) → v ≤ most_number → Stops re
     → number most_number (decimal v ++ rest) ≡ Some (v, rest)
 value_again v rest fits stops = number_again most_number v rest fits (omega arith) stops
 
-pub bool_takes : (bytes : List ℕ) (x : Bool × List ℕ) → bool_at bytes ≡ Some x
+pub bool_takes : (bytes : List ℕ) (x : Bool × List ℕ) → parse_bool bytes ≡ Some x
     → Takes bool Any bytes x
-unfolding bool_at
+unfolding parse_bool
 bool_takes bytes x e =
     begins_cases (codes "true") bytes e (λ rest s e. made e s tt) λ e.
     begins_cases (codes "false") bytes e (λ rest s e. made e s tt) none_left
 
-pub bool_again : (b : Bool) (rest : List ℕ) → bool_at (bool b ++ rest) ≡ Some (b, rest)
-unfolding bool_at
+pub bool_again : (b : Bool) (rest : List ℕ) → parse_bool (bool b ++ rest) ≡ Some (b, rest)
+unfolding parse_bool
 bool_again true rest = refl
 bool_again false rest = refl
 
-pub pid_takes : (bytes : List ℕ) (x : Pid × List ℕ) → pid_at bytes ≡ Some x
+pub pid_takes : (bytes : List ℕ) (x : Pid × List ℕ) → parse_pid bytes ≡ Some x
     → Takes pid FitsPid bytes x
-unfolding pid_at
+unfolding parse_pid
 pid_takes bytes x e =
     word_next (codes "<") (unread bytes) e λ a s e.
     field_next (most_takes most_pid a) s e λ node node_fits s e.
@@ -129,8 +129,8 @@ pid_takes bytes x e =
     word_next (codes ".0>") s e λ c s e.
     made e s (record { node = node_fits; number = num_fits })
 
-pub pid_again : (p : Pid) (rest : List ℕ) → FitsPid p → pid_at (pid p ++ rest) ≡ Some (p, rest)
-unfolding pid_at
+pub pid_again : (p : Pid) (rest : List ℕ) → FitsPid p → parse_pid (pid p ++ rest) ≡ Some (p, rest)
+unfolding parse_pid
 pid_again p rest fits =
     let small : most_pid < 2 ^ 64 = omega arith in
     rw (
@@ -142,20 +142,20 @@ pid_again p rest fits =
 abbrev pub FitsLabel : Label → Type 0
 FitsLabel l = l.0 ≤ most_label
 
-pub label_takes : (bytes : List ℕ) (x : Label × List ℕ) → label_at bytes ≡ Some x
+pub label_takes : (bytes : List ℕ) (x : Label × List ℕ) → parse_label bytes ≡ Some x
     → Takes label FitsLabel bytes x
-unfolding label_at
+unfolding parse_label
 label_takes bytes x e =
     field_next (most_takes most_label bytes) (unread bytes) e λ n fits s e. made e s fits
 
 pub label_again : (l : Label) (rest : List ℕ) → l.0 ≤ most_label → Stops rest
-    → label_at (label l ++ rest) ≡ Some (l, rest)
-unfolding label_at
+    → parse_label (label l ++ rest) ≡ Some (l, rest)
+unfolding parse_label
 label_again l rest fits stops = rw (number_again most_label l.0 rest fits (omega arith) stops)
 
-pub serial_takes : (bytes : List ℕ) (x : Serial × List ℕ) → serial_at bytes ≡ Some x
+pub serial_takes : (bytes : List ℕ) (x : Serial × List ℕ) → parse_serial bytes ≡ Some x
     → Takes serial FitsSerial bytes x
-unfolding serial_at
+unfolding parse_serial
 serial_takes bytes x e =
     word_next (codes "{") (unread bytes) e λ a s e.
     field_next (value_takes a) s e λ prev prev_fits s e.
@@ -165,8 +165,8 @@ serial_takes bytes x e =
     made e s (record { prev = prev_fits; this = this_fits })
 
 pub serial_again : (s : Serial) (rest : List ℕ) → FitsSerial s
-    → serial_at (serial s ++ rest) ≡ Some (s, rest)
-unfolding serial_at
+    → parse_serial (serial s ++ rest) ≡ Some (s, rest)
+unfolding parse_serial
 serial_again s rest fits =
     rw (
       four_parts (decimal s.prev) (codes ",") (decimal s.this) (codes "}"),
@@ -178,9 +178,9 @@ serial_again s rest fits =
 abbrev pub spaced : Pid → List ℕ
 spaced p = pid p ++ codes " "
 
-pub actor_takes : (bytes : List ℕ) (x : Pid × List ℕ) → actor_at bytes ≡ Some x
+pub actor_takes : (bytes : List ℕ) (x : Pid × List ℕ) → parse_actor bytes ≡ Some x
     → Takes spaced FitsPid bytes x
-unfolding actor_at
+unfolding parse_actor
 actor_takes bytes x e =
     field_next (pid_takes bytes) (unread bytes) e λ p fits s e.
     word_next (codes " ") s e λ a s e.
@@ -188,7 +188,7 @@ actor_takes bytes x e =
 
 -- a pid and a space that have to be next
 pub actor_next : {A P : Type 0} {whole front bytes : List ℕ} {y : A} {f : Pid × List ℕ → Option A}
-    → Split whole front bytes → (actor_at bytes >>= f) ≡ Some y
+    → Split whole front bytes → (parse_actor bytes >>= f) ≡ Some y
     → ((p : Pid × List ℕ) → FitsPid p.0 → Split whole (front ++ pid p.0 ++ codes " ") p.1
     → f p ≡ Some y → P) → P
 actor_next {front} {bytes} s e then =
@@ -196,10 +196,10 @@ actor_next {front} {bytes} s e then =
     then p fits (record { parts = rw (append_assoc front (pid p.0) (codes " ")) s.parts }) e
 
 pub actor_again : (p : Pid) (rest : List ℕ) → FitsPid p
-    → actor_at (pid p ++ (codes " " ++ rest)) ≡ Some (p, rest)
-unfolding actor_at
+    → parse_actor (pid p ++ (codes " " ++ rest)) ≡ Some (p, rest)
+unfolding parse_actor
 actor_again p rest fits = rw (pid_again p (codes " " ++ rest) fits)
 
 pub actor_then : (p : Pid) (xs rest : List ℕ) → FitsPid p
-    → actor_at ((pid p ++ codes " " ++ xs) ++ rest) ≡ Some (p, xs ++ rest)
+    → parse_actor ((pid p ++ codes " " ++ xs) ++ rest) ≡ Some (p, xs ++ rest)
 actor_then p xs rest fits = rw (three_parts (pid p) (codes " ") xs, actor_again p _ fits)

@@ -18,7 +18,7 @@ use Rattle.st_core.specs.Pid.{pid_cmp, IsRising}
 use Rattle.st_core.specs.Run.{Stream}
 use Rattle.st_core.specs.Streams.{is_own}
 use Rattle.st_text.specs.Text.{is_remote, process_lines}
-use Rattle.st_text.specs.Fault.{first_fault, line_fault, fault_at, may_stand, may_follow, has_acts, last_of}
+use Rattle.st_text.specs.Fault.{first_fault, line_fault, fault_behind, may_stand, may_follow, has_acts, last_of}
 use Rattle.st_text.specs.Fault.{last_passes}
 use Rattle.st_text.specs.Fault.{pids, pid_of, is_wide_header, is_acts, is_out_of_order, is_foreign, is_one_too_many}
 use Rattle.st_text.specs.Fault.{is_event}
@@ -61,7 +61,7 @@ pub line_passes : (limits : Limits) (ls : List Line) (wide : Bool) (ps : List Pi
     → line_fault limits ls (Some l) ≡ None
 unfolding line_fault
 line_passes limits ls wide ps events acts begun l c follows open_to order own few =
-    let P : List Line → Type 0 = λ x. fault_at limits (length ls + 1) x l ≡ None in
+    let P : List Line → Type 0 = λ x. fault_behind limits (length ls + 1) x l ≡ None in
     let stands : may_stand ls l ≡ true = ap (λ (x : List Line). may_stand x l) c.header.2
     ∙ rw (
       sym (ap has_acts c.header.2) ∙ c.begun_is,

@@ -11,7 +11,7 @@ use Rattle.st_text.specs.declared.line.Line.{Line}
 use Rattle.st_text.specs.declared.line.Line.TheVariants as lines
 use Rattle.st_text.specs.Spelling.{act, line}
 use Rattle.st_text.specs.Range.{Fits}
-use Rattle.st_text.specs.Parsing.{on_some, alone_at, act_at, rare_at, line_at, line_of}
+use Rattle.st_text.specs.Parsing.{on_some, parse_alone, parse_act, parse_rare, parse_line, line_of}
 use Rattle.st_text.proofs.Numbers.{Stops, chosen}
 use Rattle.st_text.proofs.Fields.{Takes, begins_cases, field_next, made, none_left, pid_takes}
 use Rattle.st_text.proofs.Fields.{pid_again}
@@ -26,8 +26,8 @@ IsRare (lines.Event v) = ⊥
 IsRare lines.Acts = Unit {0}
 IsRare (lines.Act a) = ⊥
 
-rare_takes : (bytes : List ℕ) (x : Line × List ℕ) → rare_at bytes ≡ Some x → Takes line Fits bytes x
-unfolding rare_at
+rare_takes : (bytes : List ℕ) (x : Line × List ℕ) → parse_rare bytes ≡ Some x → Takes line Fits bytes x
+unfolding parse_rare
 rare_takes bytes x e =
     begins_cases (codes "process ") bytes e
     (λ rest s e. field_next (pid_takes rest) s e λ p fits s e. made e s fits) λ e.
@@ -35,23 +35,23 @@ rare_takes bytes x e =
     begins_cases (codes "seqtrace 1") bytes e (λ rest s e. made e s tt) λ e.
     begins_cases (codes "seqtrace 2") bytes e (λ rest s e. made e s tt) none_left
 
-line_at_takes : (bytes : List ℕ) (x : Line × List ℕ) → line_at bytes ≡ Some x → Takes line Fits bytes x
-unfolding line_at
+line_at_takes : (bytes : List ℕ) (x : Line × List ℕ) → parse_line bytes ≡ Some x → Takes line Fits bytes x
+unfolding parse_line
 line_at_takes bytes x e =
     begins_cases (codes "{seq_trace,") bytes e
     (λ rest s e. field_next (event_takes rest) s e λ v fits s e. made e s fits) λ e.
-    either (act_at bytes) refl e
+    either (parse_act bytes) refl e
   where
-    either : (o : Option (Act × List ℕ)) → act_at bytes ≡ o
-        → on_some o (λ a. Some (lines.Act a.0, a.1)) (rare_at bytes) ≡ Some x → Takes line Fits bytes x
+    either : (o : Option (Act × List ℕ)) → parse_act bytes ≡ o
+        → on_some o (λ a. Some (lines.Act a.0, a.1)) (parse_rare bytes) ≡ Some x → Takes line Fits bytes x
     either (Some a) ea e =
         let t = act_takes bytes a ea in
         made e t.split t.fits
     either None ea e = rare_takes bytes x e
 
 -- a rare line begins as no event and no act does
-no_other : (l : Line) (rest : List ℕ) → IsRare l → line_at (line l ++ rest) ≡ rare_at (line l ++ rest)
-unfolding line_at act_at alone_at
+no_other : (l : Line) (rest : List ℕ) → IsRare l → parse_line (line l ++ rest) ≡ parse_rare (line l ++ rest)
+unfolding parse_line parse_act parse_alone
 no_other (lines.Header false) rest rare = refl
 no_other (lines.Header true) rest rare = refl
 no_other (lines.Process p) rest rare = refl
@@ -59,8 +59,8 @@ no_other lines.Acts rest rare = refl
 no_other (lines.Event v) rest rare = absurd rare
 no_other (lines.Act a) rest rare = absurd rare
 
-rare_again : (l : Line) (rest : List ℕ) → Fits l → IsRare l → rare_at (line l ++ rest) ≡ Some (l, rest)
-unfolding rare_at
+rare_again : (l : Line) (rest : List ℕ) → Fits l → IsRare l → parse_rare (line l ++ rest) ≡ Some (l, rest)
+unfolding parse_rare
 rare_again (lines.Header false) rest fits rare = refl
 rare_again (lines.Header true) rest fits rare = refl
 rare_again (lines.Process p) rest fits rare = rw (pid_again p rest fits)
@@ -68,8 +68,8 @@ rare_again lines.Acts rest fits rare = refl
 rare_again (lines.Event v) rest fits rare = absurd rare
 rare_again (lines.Act a) rest fits rare = absurd rare
 
-line_again : (l : Line) (rest : List ℕ) → Fits l → Stops rest → line_at (line l ++ rest) ≡ Some (l, rest)
-unfolding line_at
+line_again : (l : Line) (rest : List ℕ) → Fits l → Stops rest → parse_line (line l ++ rest) ≡ Some (l, rest)
+unfolding parse_line
 line_again (lines.Header wide) rest fits stops =
     no_other (lines.Header wide) rest tt ∙ rare_again (lines.Header wide) rest fits tt
 line_again (lines.Process p) rest fits stops =
@@ -80,8 +80,8 @@ line_again lines.Acts rest fits stops = no_other lines.Acts rest tt ∙ rare_aga
 line_again (lines.Act a) rest fits stops = rw (no_word a rest) (rw (act_again a rest fits stops) refl)
   where
     no_word : (a : Act) (rest : List ℕ)
-        → line_at (act a ++ rest) ≡ on_some (act_at (act a ++ rest)) (λ b. Some (lines.Act b.0, b.1))
-        (rare_at (act a ++ rest))
+        → parse_line (act a ++ rest) ≡ on_some (parse_act (act a ++ rest)) (λ b. Some (lines.Act b.0, b.1))
+        (parse_rare (act a ++ rest))
     no_word (acts.Send p q v) rest = refl
     no_word (acts.Receive p w) rest = refl
     no_word (acts.Print p v) rest = refl
@@ -97,7 +97,7 @@ line_again (lines.Act a) rest fits stops = rw (no_word a rest) (rw (act_again a 
 pub line_takes : (bytes : List ℕ) (l : Line) → line_of bytes ≡ Some l → (bytes ≡ line l) × Fits l
 unfolding line_of
 line_takes bytes l e =
-    option_and_then_some _ (line_at bytes) l e λ x ex e.
+    option_and_then_some _ (parse_line bytes) l e λ x ex e.
     let t = line_at_takes bytes x ex in
     let g = chosen (eqb (length x.1) 0) (Some x.0) l e in
     let none : x.1 ≡ [] = nil_from_length x.1 (eqb-true _ _ g.0) in
@@ -108,5 +108,6 @@ line_takes bytes l e =
 pub line_is : (l : Line) → Fits l → line_of (line l) ≡ Some l
 unfolding line_of
 line_is l fits =
-    let at : line_at (line l) ≡ Some (l, []) = ap line_at (sym (append-nil (line l))) ∙ line_again l [] fits refl in
+    let at : parse_line (line l) ≡ Some (l, []) = ap parse_line (sym (append-nil (line l)))
+    ∙ line_again l [] fits refl in
     rw at refl

@@ -17,7 +17,7 @@ use Rattle.st_text.specs.Text.{Contents, process_lines, act_lines, body, lines_o
 use Rattle.st_text.specs.Text.{IsWithinLimits}
 use Rattle.st_text.specs.Contents.{contents}
 use Rattle.st_text.specs.Fault.{sayings, fault_within}
-use Rattle.st_text.specs.Answer.{Reads, Answers}
+use Rattle.st_text.specs.Answer.{Reads, IsReadResultOrMemory}
 use Rattle.st_text.specs.Laws.{IsReadBack}
 use Rattle.st_text.proofs.GoodText.{sayings_spelled, text_sound}
 
@@ -130,7 +130,7 @@ no_fault limits bytes f e g = cc
 
 -- what is written is read
 pub read_back : (limits : Limits) (c : Contents) (r : Result Bundle ReadFault) → IsBundle c → IsWithinLimits limits c
-    → Answers limits (spelling c) r
+    → IsReadResultOrMemory limits (spelling c) r
     → IsReadBack c r
 read_back limits c r b w a = by r a
   where
@@ -140,7 +140,7 @@ read_back limits c r b w a = by r a
     clean : fault_within limits (spelling c) ≡ None
     clean = text_sound limits (spelling c) c reads
 
-    by : (r : Result Bundle ReadFault) → Answers limits (spelling c) r → IsReadBack c r
+    by : (r : Result Bundle ReadFault) → IsReadResultOrMemory limits (spelling c) r → IsReadBack c r
     by (Ok x) a = text_one (spelling c) (contents x) c a.text reads.text
     by (Err faults.Memory) a = tt
     by (Err faults.Device) a = no_fault limits (spelling c) faults.Device clean a

@@ -10,9 +10,9 @@ use Rattle.st_text.specs.declared.bundle.Bundle.{Bundle}
 use Rattle.st_text.specs.declared.fault.ReadFault.{ReadFault}
 use Rattle.st_text.specs.declared.fault.ReadFault.TheVariants as faults
 use Rattle.st_text.specs.declared.feed.Feed.{Feed}
-use Rattle.st_text.specs.Answer.{IsAnswer}
+use Rattle.st_text.specs.Answer.{IsReadResult}
 use Rattle.st_text.specs.Growth.{Grows}
-use Rattle.st_text.specs.Fed.{IsFed, fed_refusal}
+use Rattle.st_text.specs.Fed.{WasFed, fed_refusal}
 use Rattle.st_text.specs.Reads.{HadGrowth}
 use Rattle.st_text.proofs.TextFaults.{no_memory}
 use Rattle.st_text.specs.declared.limits.Limits.{Limits}
@@ -22,7 +22,7 @@ pub record IsReading (limits : Limits) {S : Type 0} (gives : S → List ℕ → 
     (left : ℕ) (buffer : List ℕ) : Type 0 where
   pub bytes : List ℕ
   pub given : InARow gives old bytes now
-  pub fed : IsFed bytes feed
+  pub fed : WasFed bytes feed
   pub counted : length bytes + left ≡ limits.bytes
   pub limits_are : feed.limits ≡ limits
   pub size : length buffer ≡ 8192
@@ -77,7 +77,7 @@ pub growth_at_end : (limits : Limits) {S : Type 0} (gives : S → List ℕ → S
     (was : Option ReadFault)
     (r : Result Bundle ReadFault)
     → length bytes ≤ limits.bytes → (was ≡ Some faults.Memory → HadGrowth limits gives bytes old)
-    → (was ≡ None → IsAnswer limits bytes r)
+    → (was ≡ None → IsReadResult limits bytes r)
     → ((f : ReadFault) → was ≡ Some f → r ≡ Err f) → r ≡ Err faults.Memory → HadGrowth limits gives bytes old
 growth_at_end limits gives old bytes None r small before exact again e =
     absurd (no_memory limits bytes r small (exact refl) e)

@@ -13,7 +13,7 @@ use Rattle.st_text.specs.Fault.{cut, pids, last_of, is_event, is_act, may_stand,
 use Rattle.st_text.specs.Fault.{is_one_too_many, line_fault, first_fault, first_of, truncated, needless, is_wide_header}
 use Rattle.st_text.specs.Fault.{is_unknown, unknown_from, closing_fault, fault_within, sayings, said}
 use Rattle.st_text.specs.Text.{is_remote}
-use Rattle.st_text.specs.Answer.{IsAnswer}
+use Rattle.st_text.specs.Answer.{IsReadResult}
 use Rattle.st_text.specs.Reads.{Ends, ReadsAs}
 use Rattle.st_text.specs.declared.limits.Limits.{Limits}
 
@@ -99,7 +99,7 @@ reads_end limits ended failed bytes old new (Err faults.Truncated) small e = e
 
 -- no text has Memory for its fault
 pub no_memory : (limits : Limits) (bytes : List ℕ) (r : Result Bundle ReadFault) → length bytes ≤ limits.bytes
-    → IsAnswer limits bytes r
+    → IsReadResult limits bytes r
     → r ≡ Err faults.Memory → ⊥
 no_memory limits bytes (Ok b) small h e = absurd cc
 no_memory limits bytes (Err f) small h e =

@@ -14,12 +14,12 @@ pub record Reads (limits : Limits) (bytes : List ℕ) (c : Contents) : Type 0 wh
   pub within : IsWithinLimits limits c
 
 -- a bundle of which the bytes are the text, or their fault
-abbrev pub IsAnswer : Limits → List ℕ → Result Bundle ReadFault → Type 0
-IsAnswer limits bytes (Ok b) = Reads limits bytes (contents b)
-IsAnswer limits bytes (Err f) = fault_within limits bytes ≡ Some f
+abbrev pub IsReadResult : Limits → List ℕ → Result Bundle ReadFault → Type 0
+IsReadResult limits bytes (Ok b) = Reads limits bytes (contents b)
+IsReadResult limits bytes (Err f) = fault_within limits bytes ≡ Some f
 
 -- The same, but Memory may be in place of each but TooLarge.
-abbrev pub Answers : Limits → List ℕ → Result Bundle ReadFault → Type 0
-Answers limits bytes (Ok b) = Reads limits bytes (contents b)
-Answers limits bytes (Err faults.Memory) = Unit {0}
-Answers limits bytes (Err f) = fault_within limits bytes ≡ Some f
+abbrev pub IsReadResultOrMemory : Limits → List ℕ → Result Bundle ReadFault → Type 0
+IsReadResultOrMemory limits bytes (Ok b) = Reads limits bytes (contents b)
+IsReadResultOrMemory limits bytes (Err faults.Memory) = Unit {0}
+IsReadResultOrMemory limits bytes (Err f) = fault_within limits bytes ≡ Some f

@@ -111,8 +111,8 @@ is_one_too_many limits processes events acts (lines.Act a) = nat_le limits.acts 
 is_one_too_many limits processes events acts l = false
 
 -- the fault of a line behind good ones, by its number n
-abbrev pub fault_at : Limits → ℕ → List Line → Line → Option ReadFault
-fault_at limits n ls l =
+abbrev pub fault_behind : Limits → ℕ → List Line → Line → Option ReadFault
+fault_behind limits n ls l =
     if not (may_stand ls l) then Some (faults.Line n)
     else (if is_out_of_order (last_of (pids ls)) l then Some (faults.Order n)
     else (if is_foreign (last_of (pids ls)) l then Some (faults.Foreign n)
@@ -122,7 +122,7 @@ fault_at limits n ls l =
 -- the same of bytes that may say no line; lines count from 1
 unfoldable pub line_fault : Limits → List Line → Option Line → Option ReadFault
 line_fault limits ls None = Some (faults.Line (length ls + 1))
-line_fault limits ls (Some l) = fault_at limits (length ls + 1) ls l
+line_fault limits ls (Some l) = fault_behind limits (length ls + 1) ls l
 
 abbrev pub first_of : {A : Type 0} → Option A → Option A → Option A
 first_of (Some x) o = Some x

@@ -31,8 +31,8 @@ FedAs limits false true bytes count cutter = Unit {0}
 FedAs limits false false bytes count cutter = AreBytesCounted limits bytes count cutter
 
 -- the feed was fed these bytes, within its own limits
-abbrev pub IsFed : List ℕ → Feed → Type 0
-IsFed bytes f = FedAs f.limits f.large f.cutter.out bytes f.count f.cutter
+abbrev pub WasFed : List ℕ → Feed → Type 0
+WasFed bytes f = FedAs f.limits f.large f.cutter.out bytes f.count f.cutter
 
 -- what a piece returns
 abbrev pub answer_of : Option ReadFault → Result (Unit {0}) ReadFault

@@ -8,12 +8,12 @@ use Rattle.st_text.specs.declared.limits.Limits.{Limits}
 use Rattle.st_text.specs.Fault.{cut, sayings, first_fault}
 
 -- a process, an event or an act
-abbrev pub is_kept : Line → Bool
-is_kept (lines.Header b) = false
-is_kept (lines.Process p) = true
-is_kept (lines.Event e) = true
-is_kept lines.Acts = false
-is_kept (lines.Act a) = true
+abbrev pub is_kept_line : Line → Bool
+is_kept_line (lines.Header b) = false
+is_kept_line (lines.Process p) = true
+is_kept_line (lines.Event e) = true
+is_kept_line lines.Acts = false
+is_kept_line (lines.Act a) = true
 
 -- the lines are good, and the last of them is kept
 pub record EndsKept (limits : Limits) (bytes : List ℕ) : Type 0 where
@@ -21,7 +21,7 @@ pub record EndsKept (limits : Limits) (bytes : List ℕ) : Type 0 where
   pub line : Line
   pub lines : sayings bytes ≡ map Some (before ++ line ∷ [])
   pub good : first_fault limits [] (sayings bytes) ≡ None
-  pub kept : is_kept line ≡ true
+  pub kept : is_kept_line line ≡ true
 
 -- the lines are good, and some bytes of another follow
 pub record EndsWithin (limits : Limits) (bytes : List ℕ) : Type 0 where

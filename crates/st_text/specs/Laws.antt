@@ -14,7 +14,7 @@ use Rattle.st_text.specs.Parsing.{line_of}
 use Rattle.st_text.specs.Text.{Contents, spelling, IsBundle, IsText, IsWithinLimits}
 use Rattle.st_text.specs.Contents.{contents}
 use Rattle.st_text.specs.Fault.{line_fault, first_fault, is_unknown, unknown_from, fault_within}
-use Rattle.st_text.specs.Answer.{Reads, Answers}
+use Rattle.st_text.specs.Answer.{Reads, IsReadResultOrMemory}
 
 -- what is read from the bytes of a line is spelled so
 abbrev pub ReadIsSpelled : Type 0
@@ -78,4 +78,4 @@ IsReadBack c (Err f) = ⊥
 abbrev pub WrittenIsRead : Type 0
 WrittenIsRead = (limits : Limits) (c : Contents) (r : Result Bundle ReadFault) → IsBundle c
     → IsWithinLimits limits c
-    → Answers limits (spelling c) r → IsReadBack c r
+    → IsReadResultOrMemory limits (spelling c) r → IsReadBack c r

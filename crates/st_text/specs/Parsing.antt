@@ -57,13 +57,13 @@ number most bytes =
     number_from most (take (prefix_len is_ascii_digit bytes) bytes)
     (drop (prefix_len is_ascii_digit bytes) bytes)
 
-unfoldable pub bool_at : List ℕ → Option (Bool × List ℕ)
-bool_at bytes =
+unfoldable pub parse_bool : List ℕ → Option (Bool × List ℕ)
+parse_bool bytes =
     begins (codes "true") bytes (λ rest. Some (true, rest))
     (begins (codes "false") bytes (λ rest. Some (false, rest)) None)
 
-unfoldable pub pid_at : List ℕ → Option (Pid × List ℕ)
-pid_at bytes = do
+unfoldable pub parse_pid : List ℕ → Option (Pid × List ℕ)
+parse_pid bytes = do
   a ← after (codes "<") bytes
   node ← number most_pid a
   b ← after (codes ".") node.1
@@ -71,13 +71,13 @@ pid_at bytes = do
   c ← after (codes ".0>") num.1
   Some (pid_on node.0 num.0, c)
 
-unfoldable pub label_at : List ℕ → Option (Label × List ℕ)
-label_at bytes = do
+unfoldable pub parse_label : List ℕ → Option (Label × List ℕ)
+parse_label bytes = do
   n ← number most_label bytes
   Some (record { 0 = n.0 }, n.1)
 
-unfoldable pub serial_at : List ℕ → Option (Serial × List ℕ)
-serial_at bytes = do
+unfoldable pub parse_serial : List ℕ → Option (Serial × List ℕ)
+parse_serial bytes = do
   a ← after (codes "{") bytes
   prev ← number most_number a
   b ← after (codes ",") prev.1
@@ -87,44 +87,44 @@ serial_at bytes = do
 
 -- ---- events
 
-unfoldable pub kind_at : List ℕ → Option (Kind × List ℕ)
-kind_at bytes =
+unfoldable pub parse_kind : List ℕ → Option (Kind × List ℕ)
+parse_kind bytes =
     begins (codes "send") bytes (λ rest. Some (kinds.Send, rest))
     (begins (codes "'receive'") bytes (λ rest. Some (kinds.Receive, rest))
     (begins (codes "print") bytes (λ rest. Some (kinds.Print, rest)) None))
 
-unfoldable pub head_at : List ℕ → Option ((Label × Kind) × List ℕ)
-head_at bytes = do
-  l ← label_at bytes
+unfoldable pub parse_head : List ℕ → Option ((Label × Kind) × List ℕ)
+parse_head bytes = do
+  l ← parse_label bytes
   a ← after (codes ",{") l.1
-  k ← kind_at a
+  k ← parse_kind a
   b ← after (codes ",") k.1
   Some ((l.0, k.0), b)
 
-unfoldable pub some_pid_at : List ℕ → Option (Option Pid × List ℕ)
-some_pid_at bytes = do
-  p ← pid_at bytes
+unfoldable pub parse_some_pid : List ℕ → Option (Option Pid × List ℕ)
+parse_some_pid bytes = do
+  p ← parse_pid bytes
   Some (Some p.0, p.1)
 
-unfoldable pub place_at : Kind → List ℕ → Option (Option Pid × List ℕ)
-place_at kinds.Send bytes = some_pid_at bytes
-place_at kinds.Receive bytes = some_pid_at bytes
-place_at kinds.Print bytes = begins (codes "[]") bytes (λ rest. Some (None, rest)) None
+unfoldable pub parse_place : Kind → List ℕ → Option (Option Pid × List ℕ)
+parse_place kinds.Send bytes = parse_some_pid bytes
+parse_place kinds.Receive bytes = parse_some_pid bytes
+parse_place kinds.Print bytes = begins (codes "[]") bytes (λ rest. Some (None, rest)) None
 
-unfoldable pub ends_at : Kind → List ℕ → Option ((Pid × Option Pid) × List ℕ)
-ends_at kind bytes = do
-  p ← pid_at bytes
+unfoldable pub parse_ends : Kind → List ℕ → Option ((Pid × Option Pid) × List ℕ)
+parse_ends kind bytes = do
+  p ← parse_pid bytes
   a ← after (codes ",") p.1
-  q ← place_at kind a
+  q ← parse_place kind a
   Some ((p.0, q.0), q.1)
 
 -- an event behind `{seq_trace,`
-unfoldable pub event_at : List ℕ → Option (Event × List ℕ)
-event_at bytes = do
-  h ← head_at bytes
-  s ← serial_at h.1
+unfoldable pub parse_event : List ℕ → Option (Event × List ℕ)
+parse_event bytes = do
+  h ← parse_head bytes
+  s ← parse_serial h.1
   a ← after (codes ",") s.1
-  x ← ends_at h.0.1 a
+  x ← parse_ends h.0.1 a
   b ← after (codes ",") x.1
   v ← number most_number b
   c ← after (codes "}}") v.1
@@ -143,57 +143,57 @@ event_at bytes = do
 -- ---- acts
 
 -- a pid and the space behind it
-unfoldable pub actor_at : List ℕ → Option (Pid × List ℕ)
-actor_at bytes = do
-  p ← pid_at bytes
+unfoldable pub parse_actor : List ℕ → Option (Pid × List ℕ)
+parse_actor bytes = do
+  p ← parse_pid bytes
   a ← after (codes " ") p.1
   Some (p.0, a)
 
-unfoldable pub component_at : List ℕ → Option (Component × List ℕ)
-component_at bytes =
-    begins (codes "label ") bytes (λ rest. label_at rest >>= λ l. Some (components.Label l.0, l.1))
-    (begins (codes "send ") bytes (λ rest. bool_at rest >>= λ b. Some (components.Send b.0, b.1))
+unfoldable pub parse_component : List ℕ → Option (Component × List ℕ)
+parse_component bytes =
+    begins (codes "label ") bytes (λ rest. parse_label rest >>= λ l. Some (components.Label l.0, l.1))
+    (begins (codes "send ") bytes (λ rest. parse_bool rest >>= λ b. Some (components.Send b.0, b.1))
     (begins (codes "receive ") bytes
-    (λ rest. bool_at rest >>= λ b. Some (components.Receive b.0, b.1))
+    (λ rest. parse_bool rest >>= λ b. Some (components.Receive b.0, b.1))
     (begins (codes "print ") bytes
-    (λ rest. bool_at rest >>= λ b. Some (components.Print b.0, b.1)) None)))
+    (λ rest. parse_bool rest >>= λ b. Some (components.Print b.0, b.1)) None)))
 
-unfoldable pub both_at : List ℕ → Option (Want × List ℕ)
-both_at bytes = do
-  p ← actor_at bytes
+unfoldable pub parse_both : List ℕ → Option (Want × List ℕ)
+parse_both bytes = do
+  p ← parse_actor bytes
   v ← number most_number p.1
   Some (wants.Both p.0 v.0, v.1)
 
-unfoldable pub want_at : List ℕ → Option (Want × List ℕ)
-want_at bytes =
+unfoldable pub parse_want : List ℕ → Option (Want × List ℕ)
+parse_want bytes =
     begins (codes "first") bytes (λ rest. Some (wants.First, rest))
-    (begins (codes "from ") bytes (λ rest. pid_at rest >>= λ p. Some (wants.From p.0, p.1))
+    (begins (codes "from ") bytes (λ rest. parse_pid rest >>= λ p. Some (wants.From p.0, p.1))
     (begins (codes "value ") bytes
     (λ rest. number most_number rest >>= λ v. Some (wants.Value v.0, v.1))
-    (begins (codes "both ") bytes both_at
+    (begins (codes "both ") bytes parse_both
     (begins (codes "place ") bytes
     (λ rest. number most_number rest >>= λ k. Some (wants.Place k.0, k.1)) None))))
 
-unfoldable pub flags_at : List ℕ → Option (Flags × List ℕ)
-flags_at bytes = do
-  s ← bool_at bytes
+unfoldable pub parse_flags : List ℕ → Option (Flags × List ℕ)
+parse_flags bytes = do
+  s ← parse_bool bytes
   a ← after (codes " ") s.1
-  r ← bool_at a
+  r ← parse_bool a
   b ← after (codes " ") r.1
-  p ← bool_at b
+  p ← parse_bool b
   Some (record { send = s.0; receive = r.0; print = p.0 }, p.1)
 
-unfoldable pub token_at : List ℕ → Option (Token × List ℕ)
-token_at bytes = do
-  l ← label_at bytes
+unfoldable pub parse_token : List ℕ → Option (Token × List ℕ)
+parse_token bytes = do
+  l ← parse_label bytes
   a ← after (codes " ") l.1
-  f ← flags_at a
+  f ← parse_flags a
   b ← after (codes " ") f.1
   prev ← number most_number b
   c ← after (codes " ") prev.1
   this ← number most_number c
   d ← after (codes " ") this.1
-  p ← pid_at d
+  p ← parse_pid d
   Some (
     record {
       label = l.0;
@@ -204,85 +204,85 @@ token_at bytes = do
     p.1,
   )
 
-unfoldable pub send_at : List ℕ → Option (Act × List ℕ)
-send_at bytes = do
-  p ← actor_at bytes
-  q ← actor_at p.1
+unfoldable pub parse_send : List ℕ → Option (Act × List ℕ)
+parse_send bytes = do
+  p ← parse_actor bytes
+  q ← parse_actor p.1
   v ← number most_number q.1
   Some (acts.Send p.0 q.0 v.0, v.1)
 
-unfoldable pub receive_at : List ℕ → Option (Act × List ℕ)
-receive_at bytes = do
-  p ← actor_at bytes
-  w ← want_at p.1
+unfoldable pub parse_receive : List ℕ → Option (Act × List ℕ)
+parse_receive bytes = do
+  p ← parse_actor bytes
+  w ← parse_want p.1
   Some (acts.Receive p.0 w.0, w.1)
 
-unfoldable pub print_at : List ℕ → Option (Act × List ℕ)
-print_at bytes = do
-  p ← actor_at bytes
+unfoldable pub parse_print : List ℕ → Option (Act × List ℕ)
+parse_print bytes = do
+  p ← parse_actor bytes
   v ← number most_number p.1
   Some (acts.Print p.0 v.0, v.1)
 
-unfoldable pub printat_at : List ℕ → Option (Act × List ℕ)
-printat_at bytes = do
-  p ← actor_at bytes
-  l ← label_at p.1
+unfoldable pub parse_printat : List ℕ → Option (Act × List ℕ)
+parse_printat bytes = do
+  p ← parse_actor bytes
+  l ← parse_label p.1
   a ← after (codes " ") l.1
   v ← number most_number a
   Some (acts.PrintAt p.0 l.0 v.0, v.1)
 
-unfoldable pub set_at : List ℕ → Option (Act × List ℕ)
-set_at bytes = do
-  p ← actor_at bytes
-  c ← component_at p.1
+unfoldable pub parse_set : List ℕ → Option (Act × List ℕ)
+parse_set bytes = do
+  p ← parse_actor bytes
+  c ← parse_component p.1
   Some (acts.Set p.0 c.0, c.1)
 
-unfoldable pub restore_at : List ℕ → Option (Act × List ℕ)
-restore_at bytes = do
-  p ← actor_at bytes
-  t ← token_at p.1
+unfoldable pub parse_restore : List ℕ → Option (Act × List ℕ)
+parse_restore bytes = do
+  p ← parse_actor bytes
+  t ← parse_token p.1
   Some (acts.Restore p.0 t.0, t.1)
 
-unfoldable pub tracer_at : List ℕ → Option (Act × List ℕ)
-tracer_at bytes = do
-  p ← actor_at bytes
-  b ← bool_at p.1
+unfoldable pub parse_tracer : List ℕ → Option (Act × List ℕ)
+parse_tracer bytes = do
+  p ← parse_actor bytes
+  b ← parse_bool p.1
   Some (acts.Tracer p.0 b.0, b.1)
 
 -- an act that only names its actor
-unfoldable pub alone_at : List ℕ → Option (Act × List ℕ)
-alone_at bytes =
-    begins (codes "clear ") bytes (λ rest. pid_at rest >>= λ p. Some (acts.Clear p.0, p.1))
-    (begins (codes "look ") bytes (λ rest. pid_at rest >>= λ p. Some (acts.Look p.0, p.1))
-    (begins (codes "reset ") bytes (λ rest. pid_at rest >>= λ p. Some (acts.Reset p.0, p.1)) None))
+unfoldable pub parse_alone : List ℕ → Option (Act × List ℕ)
+parse_alone bytes =
+    begins (codes "clear ") bytes (λ rest. parse_pid rest >>= λ p. Some (acts.Clear p.0, p.1))
+    (begins (codes "look ") bytes (λ rest. parse_pid rest >>= λ p. Some (acts.Look p.0, p.1))
+    (begins (codes "reset ") bytes (λ rest. parse_pid rest >>= λ p. Some (acts.Reset p.0, p.1)) None))
 
-unfoldable pub act_at : List ℕ → Option (Act × List ℕ)
-act_at bytes =
-    begins (codes "send ") bytes send_at
-    (begins (codes "receive ") bytes receive_at
-    (begins (codes "print ") bytes print_at
-    (begins (codes "printat ") bytes printat_at
-    (begins (codes "set ") bytes set_at
-    (begins (codes "restore ") bytes restore_at
-    (begins (codes "tracer ") bytes tracer_at
-    (alone_at bytes)))))))
+unfoldable pub parse_act : List ℕ → Option (Act × List ℕ)
+parse_act bytes =
+    begins (codes "send ") bytes parse_send
+    (begins (codes "receive ") bytes parse_receive
+    (begins (codes "print ") bytes parse_print
+    (begins (codes "printat ") bytes parse_printat
+    (begins (codes "set ") bytes parse_set
+    (begins (codes "restore ") bytes parse_restore
+    (begins (codes "tracer ") bytes parse_tracer
+    (parse_alone bytes)))))))
 
 -- ---- lines
 
 -- a line that occurs once in a text, or once for each process
-unfoldable pub rare_at : List ℕ → Option (Line × List ℕ)
-rare_at bytes =
-    begins (codes "process ") bytes (λ rest. pid_at rest >>= λ p. Some (lines.Process p.0, p.1))
+unfoldable pub parse_rare : List ℕ → Option (Line × List ℕ)
+parse_rare bytes =
+    begins (codes "process ") bytes (λ rest. parse_pid rest >>= λ p. Some (lines.Process p.0, p.1))
     (begins (codes "acts") bytes (λ rest. Some (lines.Acts, rest))
     (begins (codes "seqtrace 1") bytes (λ rest. Some (lines.Header false, rest))
     (begins (codes "seqtrace 2") bytes (λ rest. Some (lines.Header true, rest)) None)))
 
 -- No two lines begin alike, so the order of the tests is free: the commonest come first.
-unfoldable pub line_at : List ℕ → Option (Line × List ℕ)
-line_at bytes =
-    begins (codes "{seq_trace,") bytes (λ rest. event_at rest >>= λ e. Some (lines.Event e.0, e.1))
-    (on_some (act_at bytes) (λ a. Some (lines.Act a.0, a.1)) (rare_at bytes))
+unfoldable pub parse_line : List ℕ → Option (Line × List ℕ)
+parse_line bytes =
+    begins (codes "{seq_trace,") bytes (λ rest. parse_event rest >>= λ e. Some (lines.Event e.0, e.1))
+    (on_some (parse_act bytes) (λ a. Some (lines.Act a.0, a.1)) (parse_rare bytes))
 
 -- what all the bytes of a line say
 unfoldable pub line_of : List ℕ → Option Line
-line_of bytes = line_at bytes >>= λ l. if length l.1 == 0 then Some l.0 else None
+line_of bytes = parse_line bytes >>= λ l. if length l.1 == 0 then Some l.0 else None

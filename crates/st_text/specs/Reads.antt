@@ -7,7 +7,7 @@ use Rattle.st_text.specs.declared.fault.ReadFault.{ReadFault}
 use Rattle.st_text.specs.declared.fault.ReadFault.TheVariants as faults
 use Rattle.st_text.specs.declared.limits.Limits.{Limits}
 use Rattle.st_text.specs.Limits.{standard}
-use Rattle.st_text.specs.Answer.{Answers}
+use Rattle.st_text.specs.Answer.{IsReadResultOrMemory}
 use Rattle.st_text.specs.Growth.{Grows}
 
 -- a call failed, and there weren't too many bytes before it
@@ -31,7 +31,7 @@ pub record Ends (limits : Limits) {S : Type 0} (ended : S → Type 0) (failed : 
   pub small : length bytes ≤ limits.bytes
   pub before : failed old ≡ false
   pub after : failed new ≡ false
-  pub answer : Answers limits bytes r
+  pub answer : IsReadResultOrMemory limits bytes r
 
 abbrev pub ReadsAs : Limits → {S : Type 0} → (S → Type 0) → (S → Bool) → List ℕ → S → S
     → Result Bundle ReadFault

@@ -101,7 +101,7 @@ fn whole_line(long: bool, tail: &mut Vec<u8>, rest: &[u8]) -> Result<Option<Line
 impl Cutter {
     ghost use Rattle.st_text.specs.Parts.CutterState.{HasTaken, HasTakenAs, Comes, AddsBytes};
     ghost use Rattle.st_text.specs.Parts.CutterState.{EndsOne};
-    ghost use Rattle.st_text.specs.Answer.{IsAnswer};
+    ghost use Rattle.st_text.specs.Answer.{IsReadResult};
 
     /// No bytes so far. Takes no memory.
     pub(crate) fn new(alloc: Global) -> Cutter
@@ -224,7 +224,7 @@ impl Cutter {
         requires { self.out ≡ false }
         ensures { (limits : Limits) (bytes : List ℕ) → length bytes ≤ limits.bytes
             → HasTaken limits bytes self
-            → IsAnswer limits bytes result }
+            → IsReadResult limits bytes result }
     {
         let Cutter {
             alloc: _,

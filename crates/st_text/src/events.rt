@@ -1,15 +1,16 @@
 //! The system tracer's tuples, from the front of some bytes.
 
 ghost use Rattle.st_text.specs.Parts.Words.{Gives};
-ghost use Rattle.st_text.specs.Parsing.{kind_at, head_at, some_pid_at, place_at, ends_at, event_at};
+ghost use Rattle.st_text.specs.Parsing.{parse_kind, parse_head, parse_some_pid};
+ghost use Rattle.st_text.specs.Parsing.{parse_place, parse_ends, parse_event};
 
 use crate::number::number;
-use crate::words::{after, label_at, pid_at, serial_at};
+use crate::words::{after, parse_label, parse_pid, parse_serial};
 use st_core::{Event, Kind, Label, Pid};
 
-#[tactic(auto, unfolding(crate::specs::Parsing::kind_at))]
-fn kind_at(bytes: &[u8]) -> Option<(Kind, &[u8])>
-    ensures { Gives (λ x. (x.0, x.1.now)) result (kind_at bytes.now) }
+#[tactic(auto, unfolding(crate::specs::Parsing::parse_kind))]
+fn parse_kind(bytes: &[u8]) -> Option<(Kind, &[u8])>
+    ensures { Gives (λ x. (x.0, x.1.now)) result (parse_kind bytes.now) }
 {
     if let Some(rest) = after(b"send", bytes) {
         return Some((Kind::Send, rest));
@@ -23,33 +24,33 @@ fn kind_at(bytes: &[u8]) -> Option<(Kind, &[u8])>
     None
 }
 
-#[tactic(auto, unfolding(crate::specs::Parsing::head_at))]
-fn head_at(bytes: &[u8]) -> Option<((Label, Kind), &[u8])>
-    ensures { Gives (λ x. (x.0, x.1.now)) result (head_at bytes.now) }
+#[tactic(auto, unfolding(crate::specs::Parsing::parse_head))]
+fn parse_head(bytes: &[u8]) -> Option<((Label, Kind), &[u8])>
+    ensures { Gives (λ x. (x.0, x.1.now)) result (parse_head bytes.now) }
 {
-    let (label, rest) = label_at(bytes)?;
+    let (label, rest) = parse_label(bytes)?;
     let rest = after(b",{", rest)?;
-    let (kind, rest) = kind_at(rest)?;
+    let (kind, rest) = parse_kind(rest)?;
     let rest = after(b",", rest)?;
     Some(((label, kind), rest))
 }
 
-#[tactic(auto, unfolding(crate::specs::Parsing::some_pid_at))]
-fn some_pid_at(bytes: &[u8]) -> Option<(Option<Pid>, &[u8])>
-    ensures { Gives (λ x. (x.0, x.1.now)) result (some_pid_at bytes.now) }
+#[tactic(auto, unfolding(crate::specs::Parsing::parse_some_pid))]
+fn parse_some_pid(bytes: &[u8]) -> Option<(Option<Pid>, &[u8])>
+    ensures { Gives (λ x. (x.0, x.1.now)) result (parse_some_pid bytes.now) }
 {
-    let (pid, rest) = pid_at(bytes)?;
+    let (pid, rest) = parse_pid(bytes)?;
     Some((Some(pid), rest))
 }
 
 /// The receiver, or the unused place of a print.
-#[tactic(auto, unfolding(crate::specs::Parsing::place_at))]
-fn place_at(kind: Kind, bytes: &[u8]) -> Option<(Option<Pid>, &[u8])>
-    ensures { Gives (λ x. (x.0, x.1.now)) result (place_at kind bytes.now) }
+#[tactic(auto, unfolding(crate::specs::Parsing::parse_place))]
+fn parse_place(kind: Kind, bytes: &[u8]) -> Option<(Option<Pid>, &[u8])>
+    ensures { Gives (λ x. (x.0, x.1.now)) result (parse_place kind bytes.now) }
 {
     match kind {
-        Kind::Send => some_pid_at(bytes),
-        Kind::Receive => some_pid_at(bytes),
+        Kind::Send => parse_some_pid(bytes),
+        Kind::Receive => parse_some_pid(bytes),
         Kind::Print => {
             if let Some(rest) = after(b"[]", bytes) {
                 return Some((None, rest));
@@ -59,25 +60,25 @@ fn place_at(kind: Kind, bytes: &[u8]) -> Option<(Option<Pid>, &[u8])>
     }
 }
 
-#[tactic(auto, unfolding(crate::specs::Parsing::ends_at))]
-fn ends_at(kind: Kind, bytes: &[u8]) -> Option<((Pid, Option<Pid>), &[u8])>
-    ensures { Gives (λ x. (x.0, x.1.now)) result (ends_at kind bytes.now) }
+#[tactic(auto, unfolding(crate::specs::Parsing::parse_ends))]
+fn parse_ends(kind: Kind, bytes: &[u8]) -> Option<((Pid, Option<Pid>), &[u8])>
+    ensures { Gives (λ x. (x.0, x.1.now)) result (parse_ends kind bytes.now) }
 {
-    let (from, rest) = pid_at(bytes)?;
+    let (from, rest) = parse_pid(bytes)?;
     let rest = after(b",", rest)?;
-    let (to, rest) = place_at(kind, rest)?;
+    let (to, rest) = parse_place(kind, rest)?;
     Some(((from, to), rest))
 }
 
 /// An event after its first word.
-#[tactic(auto, unfolding(crate::specs::Parsing::event_at))]
-pub(crate) fn event_at(bytes: &[u8]) -> Option<(Event, &[u8])>
-    ensures { Gives (λ x. (x.0, x.1.now)) result (event_at bytes.now) }
+#[tactic(auto, unfolding(crate::specs::Parsing::parse_event))]
+pub(crate) fn parse_event(bytes: &[u8]) -> Option<(Event, &[u8])>
+    ensures { Gives (λ x. (x.0, x.1.now)) result (parse_event bytes.now) }
 {
-    let ((label, kind), rest) = head_at(bytes)?;
-    let (serial, rest) = serial_at(rest)?;
+    let ((label, kind), rest) = parse_head(bytes)?;
+    let (serial, rest) = parse_serial(rest)?;
     let rest = after(b",", rest)?;
-    let ((from, to), rest) = ends_at(kind, rest)?;
+    let ((from, to), rest) = parse_ends(kind, rest)?;
     let rest = after(b",", rest)?;
     let (value, rest) = number(u64::MAX, rest)?;
     let rest = after(b"}}", rest)?;

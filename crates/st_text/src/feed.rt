@@ -25,14 +25,14 @@ pub struct Feed {
 
 impl Feed {
     ghost use Rattle.st_text.specs.declared.fault.ReadFault.{ReadFault};
-    ghost use Rattle.st_text.specs.Fed.{IsFed, fed_refusal, answer_of};
-    ghost use Rattle.st_text.specs.Answer.{Answers, IsAnswer};
+    ghost use Rattle.st_text.specs.Fed.{WasFed, fed_refusal, answer_of};
+    ghost use Rattle.st_text.specs.Answer.{IsReadResultOrMemory, IsReadResult};
     ghost use Rattle.st_text.specs.declared.fault.ReadFault.TheVariants as faults;
 
     /// No bytes yet, within the standard limits. Takes no memory.
     pub fn new(alloc: Global) -> Feed
         ensures limits { result.limits ≡ standard }
-        ensures fed { IsFed [] result }
+        ensures fed { WasFed [] result }
         ensures fresh { fed_refusal result ≡ None }
     {
         Feed::within(alloc, Limits::STANDARD)
@@ -41,7 +41,7 @@ impl Feed {
     /// No bytes yet, within these limits. Takes no memory.
     pub fn within(alloc: Global, limits: Limits) -> Feed
         ensures limits { result.limits ≡ limits }
-        ensures fed { IsFed [] result }
+        ensures fed { WasFed [] result }
         ensures fresh { fed_refusal result ≡ None }
     {
         Feed {
@@ -57,12 +57,12 @@ impl Feed {
     pub fn piece(&mut self, piece: &[u8]) -> Result<(), ReadFault>
         ensures limits { self.new.limits ≡ self.old.limits }
         // However the text is cut into pieces.
-        ensures fed { (bytes : List ℕ) → IsFed bytes self.old
-            → IsFed (bytes ++ piece.now) self.new }
+        ensures fed { (bytes : List ℕ) → WasFed bytes self.old
+            → WasFed (bytes ++ piece.now) self.new }
         ensures answer { result ≡ answer_of (fed_refusal self.new) }
         ensures again { (f : ReadFault) → fed_refusal self.old ≡ Some f
             → fed_refusal self.new ≡ Some f }
-        ensures memory { (bytes : List ℕ) → IsFed bytes self.old → fed_refusal self.old ≡ None
+        ensures memory { (bytes : List ℕ) → WasFed bytes self.old → fed_refusal self.old ≡ None
             → fed_refusal self.new ≡ Some faults.Memory → Grows self.old.limits bytes piece.now }
     {
         if self.large {
@@ -86,9 +86,10 @@ impl Feed {
 
     /// The bundle whose text the pieces were, or why there is none. Takes no memory.
     pub fn end(self) -> Result<Bundle, ReadFault>
-        ensures answers { (bytes : List ℕ) → IsFed bytes self → Answers self.limits bytes result }
-        ensures exact { (bytes : List ℕ) → IsFed bytes self → fed_refusal self ≡ None
-            → IsAnswer self.limits bytes result }
+        ensures answers { (bytes : List ℕ) → WasFed bytes self
+            → IsReadResultOrMemory self.limits bytes result }
+        ensures exact { (bytes : List ℕ) → WasFed bytes self → fed_refusal self ≡ None
+            → IsReadResult self.limits bytes result }
         ensures again { (f : ReadFault) → fed_refusal self ≡ Some f → result ≡ Err f }
     {
         let Feed {

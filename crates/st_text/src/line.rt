@@ -3,11 +3,11 @@
 
 ghost use Rattle.std.specs.Prelude.{◌≡◌};
 ghost use Rattle.st_text.specs.Parts.Words.{Gives};
-ghost use Rattle.st_text.specs.Parsing.{rare_at, line_at, line_of};
+ghost use Rattle.st_text.specs.Parsing.{parse_rare, parse_line, line_of};
 
-use crate::acts::act_at;
-use crate::events::event_at;
-use crate::words::{after, pid_at};
+use crate::acts::parse_act;
+use crate::events::parse_event;
+use crate::words::{after, parse_pid};
 use st_core::{Act, Event, Pid};
 
 /// What a line says.
@@ -23,12 +23,12 @@ pub enum Line {
 }
 
 /// A line that a text has once, or once for each process.
-#[tactic(auto, unfolding(crate::specs::Parsing::rare_at))]
-fn rare_at(bytes: &[u8]) -> Option<(Line, &[u8])>
-    ensures { Gives (λ x. (x.0, x.1.now)) result (rare_at bytes.now) }
+#[tactic(auto, unfolding(crate::specs::Parsing::parse_rare))]
+fn parse_rare(bytes: &[u8]) -> Option<(Line, &[u8])>
+    ensures { Gives (λ x. (x.0, x.1.now)) result (parse_rare bytes.now) }
 {
     if let Some(rest) = after(b"process ", bytes) {
-        let (pid, rest) = pid_at(rest)?;
+        let (pid, rest) = parse_pid(rest)?;
         return Some((Line::Process(pid), rest));
     }
     if let Some(rest) = after(b"acts", bytes) {
@@ -44,18 +44,18 @@ fn rare_at(bytes: &[u8]) -> Option<(Line, &[u8])>
 }
 
 /// The commonest lines are tried first.
-#[tactic(auto, unfolding(crate::specs::Parsing::line_at))]
-fn line_at(bytes: &[u8]) -> Option<(Line, &[u8])>
-    ensures { Gives (λ x. (x.0, x.1.now)) result (line_at bytes.now) }
+#[tactic(auto, unfolding(crate::specs::Parsing::parse_line))]
+fn parse_line(bytes: &[u8]) -> Option<(Line, &[u8])>
+    ensures { Gives (λ x. (x.0, x.1.now)) result (parse_line bytes.now) }
 {
     if let Some(rest) = after(b"{seq_trace,", bytes) {
-        let (event, rest) = event_at(rest)?;
+        let (event, rest) = parse_event(rest)?;
         return Some((Line::Event(event), rest));
     }
-    if let Some((act, rest)) = act_at(bytes) {
+    if let Some((act, rest)) = parse_act(bytes) {
         return Some((Line::Act(act), rest));
     }
-    rare_at(bytes)
+    parse_rare(bytes)
 }
 
 /// What a line says, all of it, without its newline.
@@ -63,6 +63,6 @@ fn line_at(bytes: &[u8]) -> Option<(Line, &[u8])>
 pub(crate) fn read_line(bytes: &[u8]) -> Option<Line>
     ensures { result ≡ line_of bytes.now }
 {
-    let (line, rest) = line_at(bytes)?;
+    let (line, rest) = parse_line(bytes)?;
     if rest.is_empty() { Some(line) } else { None }
 }

@@ -2,7 +2,8 @@
 //! bytes after it.
 
 ghost use Rattle.st_text.specs.Parts.Words.{Gives};
-ghost use Rattle.st_text.specs.Parsing.{after, bool_at, pid_at, label_at, serial_at, actor_at};
+ghost use Rattle.st_text.specs.Parsing.{after, parse_bool, parse_pid};
+ghost use Rattle.st_text.specs.Parsing.{parse_label, parse_serial, parse_actor};
 
 use crate::number::number;
 use st_core::{Label, Pid, Serial};
@@ -22,9 +23,9 @@ pub(crate) fn after<'a>(word: &[u8], bytes: &'a [u8]) -> Option<&'a [u8]>
 }
 
 #[inline]
-#[tactic(auto, unfolding(crate::specs::Parsing::bool_at))]
-pub(crate) fn bool_at(bytes: &[u8]) -> Option<(bool, &[u8])>
-    ensures { Gives (λ x. (x.0, x.1.now)) result (bool_at bytes.now) }
+#[tactic(auto, unfolding(crate::specs::Parsing::parse_bool))]
+pub(crate) fn parse_bool(bytes: &[u8]) -> Option<(bool, &[u8])>
+    ensures { Gives (λ x. (x.0, x.1.now)) result (parse_bool bytes.now) }
 {
     if let Some(rest) = after(b"true", bytes) {
         return Some((true, rest));
@@ -35,9 +36,9 @@ pub(crate) fn bool_at(bytes: &[u8]) -> Option<(bool, &[u8])>
     None
 }
 
-#[tactic(auto, unfolding(crate::specs::Parsing::pid_at))]
-pub(crate) fn pid_at(bytes: &[u8]) -> Option<(Pid, &[u8])>
-    ensures { Gives (λ x. (x.0, x.1.now)) result (pid_at bytes.now) }
+#[tactic(auto, unfolding(crate::specs::Parsing::parse_pid))]
+pub(crate) fn parse_pid(bytes: &[u8]) -> Option<(Pid, &[u8])>
+    ensures { Gives (λ x. (x.0, x.1.now)) result (parse_pid bytes.now) }
 {
     let rest = after(b"<", bytes)?;
     let (node, rest) = number(MOST_PID, rest)?;
@@ -48,18 +49,18 @@ pub(crate) fn pid_at(bytes: &[u8]) -> Option<(Pid, &[u8])>
 }
 
 #[inline]
-#[tactic(auto, unfolding(crate::specs::Parsing::label_at))]
-pub(crate) fn label_at(bytes: &[u8]) -> Option<(Label, &[u8])>
-    ensures { Gives (λ x. (x.0, x.1.now)) result (label_at bytes.now) }
+#[tactic(auto, unfolding(crate::specs::Parsing::parse_label))]
+pub(crate) fn parse_label(bytes: &[u8]) -> Option<(Label, &[u8])>
+    ensures { Gives (λ x. (x.0, x.1.now)) result (parse_label bytes.now) }
 {
     let (label, rest) = number(MOST_LABEL, bytes)?;
     Some((Label(label as u32), rest))
 }
 
 #[inline]
-#[tactic(auto, unfolding(crate::specs::Parsing::serial_at))]
-pub(crate) fn serial_at(bytes: &[u8]) -> Option<(Serial, &[u8])>
-    ensures { Gives (λ x. (x.0, x.1.now)) result (serial_at bytes.now) }
+#[tactic(auto, unfolding(crate::specs::Parsing::parse_serial))]
+pub(crate) fn parse_serial(bytes: &[u8]) -> Option<(Serial, &[u8])>
+    ensures { Gives (λ x. (x.0, x.1.now)) result (parse_serial bytes.now) }
 {
     let rest = after(b"{", bytes)?;
     let (prev, rest) = number(u64::MAX, rest)?;
@@ -71,11 +72,11 @@ pub(crate) fn serial_at(bytes: &[u8]) -> Option<(Serial, &[u8])>
 
 /// A pid and the space after it.
 #[inline]
-#[tactic(auto, unfolding(crate::specs::Parsing::actor_at))]
-pub(crate) fn actor_at(bytes: &[u8]) -> Option<(Pid, &[u8])>
-    ensures { Gives (λ x. (x.0, x.1.now)) result (actor_at bytes.now) }
+#[tactic(auto, unfolding(crate::specs::Parsing::parse_actor))]
+pub(crate) fn parse_actor(bytes: &[u8]) -> Option<(Pid, &[u8])>
+    ensures { Gives (λ x. (x.0, x.1.now)) result (parse_actor bytes.now) }
 {
-    let (pid, rest) = pid_at(bytes)?;
+    let (pid, rest) = parse_pid(bytes)?;
     let rest = after(b" ", rest)?;
     Some((pid, rest))
 }

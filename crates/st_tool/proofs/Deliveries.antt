@@ -7,7 +7,7 @@ use Rattle.st_commands.specs.Command.{ReaderCall, Owes, OfBytes, ForMemory}
 use Rattle.st_commands.proofs.ForCallers.{WasRead}
 use Rattle.st_tool.specs.Renumber.{IsRenumbered, Ranked, streams_output}
 use Rattle.st_tool.specs.declared.complete.Form.{Form}
-use Rattle.st_tool.specs.Complete.{IsCompleted, Answered}
+use Rattle.st_tool.specs.Complete.{IsOutputOfComplete, Answered}
 use Rattle.st_tool.specs.Parts.{CompletesTo, Finds, NoRoomToComplete}
 use Rattle.st_tool.specs.Parts.{RenumbersTo, Ranks, NoRoomToRenumber}
 
@@ -21,7 +21,8 @@ module _ {R : Type 0} (reader : ReaderCall R) (c : Contents) (h : WasRead greate
 
   -- ---- complete
 
-  pub owes_complete : (f : Form) (out : Output) → CompletesTo f c.streams out → Owes greater reader (IsCompleted f) out
+  pub owes_complete : (f : Form) (out : Output) → CompletesTo f c.streams out
+      → Owes greater reader (IsOutputOfComplete f) out
   owes_complete f out (Finds found o is answers) =
       OfBytes h.bytes o h.all
       (Answered h.bytes c.streams found o (record { given = c.acts; spelled = h.spelled; is = is }) answers)

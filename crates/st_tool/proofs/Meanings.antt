@@ -13,7 +13,7 @@ use Rattle.st_complete.specs.declared.answer.Answer.{Answer}
 use Rattle.st_complete.specs.Answers.{IsFinal, NeverShownWithOthers}
 use Rattle.st_tool.specs.declared.complete.Form.{Form}
 use Rattle.st_tool.specs.Complete.{Adds, Answered, Answers, Certifies, Completes, Faulty, HasAnswer}
-use Rattle.st_tool.specs.Complete.{IsCompleted, IsLong, IsNever, IsUncertified}
+use Rattle.st_tool.specs.Complete.{IsOutputOfComplete, IsLong, IsNever, IsUncertified}
 use Rattle.st_tool.specs.Complete.{completed_text, MeansCompleted, MeansLong, MeansNever}
 
 final_here : (streams : List Stream) (r : Never) → IsFinal top streams r → NeverShownWithOthers top streams
@@ -73,7 +73,7 @@ completion_of f bytes streams _ _ has (IsLong c is) e = absurd (omega arith)
 completion_of f bytes streams _ _ has (IsUncertified c is) e = absurd (omega arith)
 completion_of f bytes streams _ _ has (IsNever p i r) e = absurd (omega arith)
 
-pub completed_means : (f : Form) (bytes : List ℕ) (out : Output) → IsCompleted f bytes out → out.status ≡ 0
+pub completed_means : (f : Form) (bytes : List ℕ) (out : Output) → IsOutputOfComplete f bytes out → out.status ≡ 0
     → MeansCompleted f bytes out
 completed_means f bytes out (Answered b streams found o has is) e = completion_of f bytes streams found out has is e
 completed_means f bytes out (Faulty b x is) e = let high = fault_status_high x in absurd (omega arith)
@@ -98,7 +98,7 @@ reason_of f bytes streams _ _ has (IsNever p i r) e =
       text = refl;
     }
 
-pub never_means : (f : Form) (bytes : List ℕ) (out : Output) → IsCompleted f bytes out → out.status ≡ 1
+pub never_means : (f : Form) (bytes : List ℕ) (out : Output) → IsOutputOfComplete f bytes out → out.status ≡ 1
     → MeansNever bytes out
 never_means f bytes out (Answered b streams found o has is) e = reason_of f bytes streams found out has is e
 never_means f bytes out (Faulty b x is) e = let high = fault_status_high x in absurd (omega arith)
@@ -132,7 +132,7 @@ fault_status_low (faults.Unknown n) = omega arith
 fault_status_low (faults.TooMany n) = omega arith
 fault_status_low faults.Truncated = omega arith
 
-pub long_means : (f : Form) (bytes : List ℕ) (out : Output) → IsCompleted f bytes out → out.status ≡ 5
+pub long_means : (f : Form) (bytes : List ℕ) (out : Output) → IsOutputOfComplete f bytes out → out.status ≡ 5
     → MeansLong f bytes out
 long_means f bytes out (Answered b streams found o has is) e = long_of f bytes streams found out has is e
 long_means f bytes out (Faulty b x is) e = let low = fault_status_low x in absurd (omega arith)

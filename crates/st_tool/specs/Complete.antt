@@ -23,7 +23,7 @@ use Rattle.st_complete.specs.declared.answer.Never.{Never}
 use Rattle.st_complete.specs.declared.answer.Never.TheVariants as never
 use Rattle.st_complete.specs.declared.answer.Answer.{Answer}
 use Rattle.st_complete.specs.declared.answer.Answer.TheVariants as answer
-use Rattle.st_complete.specs.Answers.{IsAnswer, IsReason, IsWhole, LacksNothing}
+use Rattle.st_complete.specs.Answers.{IsAnswer, IsFirstReason, IsWhole, LacksNothing}
 use Rattle.st_complete.specs.Bounds.{act_bound}
 use Rattle.st_needs.specs.Completions.{added_in, Completed}
 use Rattle.st_text.specs.Spelling as spelled
@@ -119,11 +119,12 @@ pub record HasAnswer (bytes : List ℕ) (streams : List Stream) (found : Answer)
   pub spelled : Spells greater bytes streams given
   pub is : IsAnswer top streams found
 
-pub data IsCompleted (f : Form) : List ℕ → Output → Type 0 where
+pub data IsOutputOfComplete (f : Form) : List ℕ → Output → Type 0 where
   Answered : (bytes : List ℕ) (streams : List Stream) (found : Answer) (out : Output)
       → HasAnswer bytes streams found
-      → Answers f streams found out → IsCompleted f bytes out
-  Faulty : (bytes : List ℕ) (x : ReadFault) → fault_within greater bytes ≡ Some x → IsCompleted f bytes (refused x)
+      → Answers f streams found out → IsOutputOfComplete f bytes out
+  Faulty : (bytes : List ℕ) (x : ReadFault) → fault_within greater bytes ≡ Some x
+      → IsOutputOfComplete f bytes (refused x)
 
 -- ---- what a completion and a reason mean, each as one record of plain facts
 
@@ -169,7 +170,7 @@ pub record MeansNever (bytes : List ℕ) (out : Output) : Type 0 where
   pub ruled_out : (others : List Pid) (acts : List Act) → NoReset acts
       → ¬ Shows top (with_silent streams others) acts
   -- the reason holds at the event, at no event before it, and no reason that comes before it holds
-  pub holds : IsReason top streams pid index reason
+  pub holds : IsFirstReason top streams pid index reason
   -- the text names the event and the reason
   pub text : out.text ≡ never_text streams pid index reason
 

@@ -11,7 +11,7 @@ ghost use Rattle.st_commands.specs.Command.{Owes, Tells, call};
 ghost use Rattle.st_commands.specs.Meaning.{Says};
 ghost use Rattle.st_complete.specs.Answers.{IsAnswer, IsWhole};
 ghost use Rattle.st_open.specs.Silent.{with_silent};
-ghost use Rattle.st_tool.specs.Complete.{IsCompleted, MeansCompleted, MeansLong, MeansNever};
+ghost use Rattle.st_tool.specs.Complete.{IsOutputOfComplete, MeansCompleted, MeansLong, MeansNever};
 ghost use Rattle.st_tool.specs.declared.lines.OutputLine.TheVariants as lines;
 ghost use Rattle.st_tool.specs.Lines.{words_of};
 ghost use Rattle.st_tool.specs.Parts.{CompletesTo, IsStandard};
@@ -211,7 +211,7 @@ pub fn run_complete<H: Threads + Sync, R: ByteSource, W: ByteSink, N: ByteSink>(
     form: Form,
 ) -> u8
     ensures told { Tells (call W.ByteSink writer.old writer.new)
-        (Owes greater (call R.ByteSource reader.old reader.new) (IsCompleted form)) result }
+        (Owes greater (call R.ByteSource reader.old reader.new) (IsOutputOfComplete form)) result }
 
     // What that says of a completion, of a reason and of a completion that is too long, in the
     // machine's own words.

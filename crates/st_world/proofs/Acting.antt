@@ -10,7 +10,7 @@ use Rattle.st_core.specs.Pid.{pid_eq}
 use Rattle.st_core.specs.State.{LocalState, zero_local}
 use Rattle.st_mail.specs.Actor.{process_of, part_of, ActsOutside}
 use Rattle.st_mail.specs.declared.outcome.Outcome.{Outcome as Told}
-use Rattle.st_world.specs.Nodes.{Groups, tracers, traced_at, flags, flagged, AreByNode, IsListed, IsCleanOrListed}
+use Rattle.st_world.specs.Nodes.{Groups, tracers, traced_at, are_traced, flagged, AreByNode, IsListed, IsCleanOrListed}
 use Rattle.st_world.specs.Rows.{AreRows, AreKept}
 use Rattle.st_world.proofs.Kept.{listed_after, marked_at, marked_rows, same_flags, written_rows}
 use Rattle.st_world.proofs.Marks.{acted_mark}
@@ -27,7 +27,7 @@ module _ (top : ℕ) (ps : List Pid) (g : Groups) (raw : List LocalState) (bs : 
     (others : (j : ℕ) → j < length g.places → IsListed g j → IsListed h j) where
   -- the world after an act, by its rows and its lists
   pub kept_after : (raw2 : List LocalState) (bs2 : List (List Message)) (ls2 : List LocalState)
-      → length raw2 ≡ length raw → flagged (flags h) raw2 ≡ ls2 → AreRows top ps ls2 bs2
+      → length raw2 ≡ length raw → flagged (are_traced h) raw2 ≡ ls2 → AreRows top ps ls2 bs2
       → ((j : ℕ) → j < length ps → IsCleanOrListed h raw2 bs2 j) → AreKept top ps h raw2 bs2
   kept_after raw2 bs2 ls2 len is rows listed = record {
     rows = subst (λ ls. AreRows top ps ls bs2) (sym is) rows;
@@ -46,23 +46,23 @@ module _ (top : ℕ) (ps : List Pid) (g : Groups) (raw : List LocalState) (bs : 
     pub read_is : (x : LocalState) → x ≡ get_or (set raw i l1) i x → x ≡ record l { traced = traced_at g i }
     read_is x e = e ∙ get_or-set_same raw i l1 x within ∙ put
 
-    pub read_at : (x : LocalState) → x ≡ get_or (set raw i l1) i x → x ≡ get_or (flagged (flags g) raw) i x
+    pub read_at : (x : LocalState) → x ≡ get_or (set raw i l1) i x → x ≡ get_or (flagged (are_traced g) raw) i x
     read_at x e =
-        subst (λ (y : LocalState). y ≡ get_or (flagged (flags g) raw) i y) (sym (read_is x e))
+        subst (λ (y : LocalState). y ≡ get_or (flagged (are_traced g) raw) i y) (sym (read_is x e))
         (marked_at top ps g raw bs kept p i at l el)
 
     pub read_mark : (x : LocalState) → x ≡ get_or (set raw i l1) i x → x.traced ≡ traced_at g i
     read_mark x e = ap (λ (y : LocalState). y.traced) (read_is x e)
 
     -- the rows while nothing but the mark is written, and afterwards
-    pub ready_rows : flagged (flags h) (set raw i l1) ≡ flagged (flags g) raw
+    pub ready_rows : flagged (are_traced h) (set raw i l1) ≡ flagged (are_traced g) raw
     ready_rows =
         ap (λ fs. flagged fs (set raw i l1)) (same_flags g h places same)
-        ∙ ap (λ (x : LocalState). flagged (flags g) (set raw i x)) put
+        ∙ ap (λ (x : LocalState). flagged (are_traced g) (set raw i x)) put
         ∙ marked_rows top ps g raw bs kept p i at l el
 
     pub act_rows : (l2 : LocalState) → l2.traced ≡ traced_at g i
-        → flagged (flags h) (set (set raw i l1) i l2) ≡ set (flagged (flags g) raw) i l2
+        → flagged (are_traced h) (set (set raw i l1) i l2) ≡ set (flagged (are_traced g) raw) i l2
     act_rows l2 mark =
         ap (λ fs. flagged fs (set (set raw i l1) i l2)) (same_flags g h places same)
         ∙ written_rows top ps g raw bs kept p i at l el l1 l2 mark

@@ -16,7 +16,7 @@ use Rattle.st_core.specs.Pid.{pid_eq}
 use Rattle.st_core.specs.State.{LocalState, Process, State, zero_local}
 use Rattle.st_core.specs.Step.{reached, untraced}
 use Rattle.st_mail.specs.Actor.{process_of}
-use Rattle.st_world.specs.Nodes.{Groups, tracers, traced_at, flags, flagged, IsListed, IsCleanOrListed}
+use Rattle.st_world.specs.Nodes.{Groups, tracers, traced_at, are_traced, flagged, IsListed, IsCleanOrListed}
 use Rattle.st_world.specs.Rows.{state_of, AreKept}
 use Rattle.st_world.proofs.Groups.{at_map}
 use Rattle.st_world.proofs.RowLemmas.{number_within}
@@ -60,15 +60,15 @@ flagged_at (f ∷ fs) (x ∷ ls) zero l b len h mark e = rw (mark, e) refl
 flagged_at (f ∷ fs) (x ∷ ls) (suc i) l b len h mark e = flagged_at fs ls i l b (omega arith) (omega arith) mark e
 
 -- the mark of a process is its node's
-pub flag_at : (g : Groups) (i : ℕ) (d : Bool) → i < length g.places → get_or (flags g) i d ≡ traced_at g i
+pub flag_at : (g : Groups) (i : ℕ) (d : Bool) → i < length g.places → get_or (are_traced g) i d ≡ traced_at g i
 flag_at g i d h =
     let f : ℕ → Bool = λ k. get_or (tracers g) k false in
     get_or_default (map f g.places) i d (f 0) (omega (arith, length-map g.places f)) ∙ at_map f g.places i 0
 
-pub length-flags : (g : Groups) → length (flags g) ≡ length g.places
+pub length-flags : (g : Groups) → length (are_traced g) ≡ length g.places
 length-flags g = length-map g.places (λ k. get_or (tracers g) k false)
 
-pub same_flags : (g h : Groups) → h.places ≡ g.places → tracers h ≡ tracers g → flags h ≡ flags g
+pub same_flags : (g h : Groups) → h.places ≡ g.places → tracers h ≡ tracers g → are_traced h ≡ are_traced g
 same_flags g h places same =
     ap (map (λ k. get_or (tracers h) k false)) places ∙ ap (λ ts. map (λ k. get_or ts k false) g.places) same
 
@@ -95,7 +95,7 @@ listed_after count g h ls ls2 bs bs2 i locals queues others here all j below = e
 
 module _ (top : ℕ) (ps : List Pid) (g : Groups) (raw : List LocalState) (bs : List (List Message))
     (kept : AreKept top ps g raw bs) where
-  pub marks_len : length (flags g) ≡ length raw
+  pub marks_len : length (are_traced g) ≡ length raw
   marks_len = length-flags g ∙ kept.by_node.len ∙ sym kept.locals_len
 
   module _ (p : Pid) (i : ℕ) (at : position (λ x. pid_eq x p) ps ≡ Some i) (l : LocalState)
@@ -108,20 +108,21 @@ module _ (top : ℕ) (ps : List Pid) (g : Groups) (raw : List LocalState) (bs : 
     Marked = record l { traced = traced_at g i }
 
     pub marked_at : record l { traced = traced_at g i }
-        ≡ get_or (flagged (flags g) raw) i (record l { traced = traced_at g i })
+        ≡ get_or (flagged (are_traced g) raw) i (record l { traced = traced_at g i })
     marked_at =
-        flagged_at (flags g) raw i l (traced_at g i) marks_len
+        flagged_at (are_traced g) raw i l (traced_at g i) marks_len
         (omega (arith, within_places, length-flags g)) (sym (flag_at g i (traced_at g i) within_places)) el
 
     -- with the mark put in, and then written with the same mark
-    pub marked_rows : flagged (flags g) (set raw i (record l { traced = traced_at g i })) ≡ flagged (flags g) raw
-    marked_rows = flagged_put (flags g) raw i l (traced_at g i) el
+    pub marked_rows : flagged (are_traced g) (set raw i (record l { traced = traced_at g i }))
+        ≡ flagged (are_traced g) raw
+    marked_rows = flagged_put (are_traced g) raw i l (traced_at g i) el
 
     pub written_rows : (l1 l2 : LocalState) → l2.traced ≡ traced_at g i
-        → flagged (flags g) (set (set raw i l1) i l2) ≡ set (flagged (flags g) raw) i l2
+        → flagged (are_traced g) (set (set raw i l1) i l2) ≡ set (flagged (are_traced g) raw) i l2
     written_rows l1 l2 mark =
-        ap (flagged (flags g)) (set-set raw i l1 l2)
-        ∙ flagged_set (flags g) raw i l2 (flag_at g i l2.traced within_places ∙ sym mark)
+        ap (flagged (are_traced g)) (set-set raw i l1 l2)
+        ∙ flagged_set (are_traced g) raw i l2 (flag_at g i l2.traced within_places ∙ sym mark)
 
 -- WHOLE WORLDS
 

@@ -15,7 +15,7 @@ use Rattle.st_core.specs.State.{LocalState, State, zero_local}
 use Rattle.st_core.specs.Step.{reached, step}
 use Rattle.st_core.proofs.ForCallers.{pid_eq-true}
 use Rattle.st_mail.specs.declared.outcome.Outcome.{Outcome as Told}
-use Rattle.st_world.specs.Nodes.{Groups, tracers, traced_at, flags, flagged, AreByNode, IsClean, IsListed}
+use Rattle.st_world.specs.Nodes.{Groups, tracers, traced_at, are_traced, flagged, AreByNode, IsClean, IsListed}
 use Rattle.st_world.specs.Nodes.{IsCleanOrListed}
 use Rattle.st_world.specs.Rows.{state_of, AreKept}
 use Rattle.st_world.specs.World.{outcome_to}
@@ -33,7 +33,7 @@ module _ (top : ℕ) (ps : List Pid) (g : Groups) (raw : List LocalState) (bs : 
     (kept : AreKept top ps g raw bs) (me : Pid) (i : ℕ) (at : position (λ p. pid_eq p me) ps ≡ Some i) (h : Groups)
     (places : h.places ≡ g.places) where
   abbrev Locals : List LocalState
-  Locals = flagged (flags g) raw
+  Locals = flagged (are_traced g) raw
 
   pub own_pid : me ≡ get_or ps i me
   own_pid = sym (pid_eq-true (get_or ps i me) me (position-Some (λ p. pid_eq p me) ps i me at).1)
@@ -42,13 +42,13 @@ module _ (top : ℕ) (ps : List Pid) (g : Groups) (raw : List LocalState) (bs : 
   within = number_within ps me i at
 
   -- the mark of the actor, in the state
-  pub actor_at : get_or (flagged (flags g) raw) i zero_local
-      ≡ get_or (flagged (flags g) raw) i (get_or (flagged (flags g) raw) i zero_local)
+  pub actor_at : get_or (flagged (are_traced g) raw) i zero_local
+      ≡ get_or (flagged (are_traced g) raw) i (get_or (flagged (are_traced g) raw) i zero_local)
   actor_at =
-      get_or_default (flagged (flags g) raw) i zero_local (get_or (flagged (flags g) raw) i zero_local)
+      get_or_default (flagged (are_traced g) raw) i zero_local (get_or (flagged (are_traced g) raw) i zero_local)
       (omega (arith, within, kept.rows.aligned.locals_len))
 
-  flags_len : length (flags h) ≡ length ps
+  flags_len : length (are_traced h) ≡ length ps
   flags_len = length-flags h ∙ ap length places ∙ kept.by_node.len
 
   by_places : AreByNode ps h.places
@@ -59,16 +59,16 @@ module _ (top : ℕ) (ps : List Pid) (g : Groups) (raw : List LocalState) (bs : 
   module _ (same : tracers h ≡ tracers g) (ls2 : List LocalState) (bs2 : List (List Message))
       (locals_len : length ls2 ≡ length raw) (queues_len : length bs2 ≡ length ps)
       (reset : state_of ps ls2 bs2 ≡ map (reached (act.Reset me) None) (state_of ps raw bs)) where
-    whole_reset : state_of ps (flagged (flags h) ls2) bs2
-        ≡ map (reached (act.Reset me) None) (state_of ps (flagged (flags g) raw) bs)
+    whole_reset : state_of ps (flagged (are_traced h) ls2) bs2
+        ≡ map (reached (act.Reset me) None) (state_of ps (flagged (are_traced g) raw) bs)
     whole_reset =
         ap (λ fs. state_of ps (flagged fs ls2) bs2) (same_flags g h places same)
-        ∙ reset_flagged me ps (flags g) raw ls2 bs bs2
+        ∙ reset_flagged me ps (are_traced g) raw ls2 bs bs2
         (marks_len top ps g raw bs kept ∙ kept.locals_len) kept.locals_len
         (locals_len ∙ kept.locals_len) kept.rows.aligned.queues_len queues_len reset
 
-    pub reset_step : step top (state_of ps (flagged (flags g) raw) bs) (act.Reset me)
-        ≡ Some (outcome_to (told_of reply.Done) (state_of ps (flagged (flags h) ls2) bs2))
+    pub reset_step : step top (state_of ps (flagged (are_traced g) raw) bs) (act.Reset me)
+        ≡ Some (outcome_to (told_of reply.Done) (state_of ps (flagged (are_traced h) ls2) bs2))
     reset_step =
         step_node top ps Locals bs kept.rows.aligned (act.Reset me) i (get_or Locals i zero_local) reply.Done refl
         (λ t x. refl) at actor_at refl
@@ -77,8 +77,8 @@ module _ (top : ℕ) (ps : List Pid) (g : Groups) (raw : List LocalState) (bs : 
     pub reset_kept : ((j : ℕ) → j < length ps → IsCleanOrListed h ls2 bs2 j) → AreKept top ps h ls2 bs2
     reset_kept listed = record {
       rows =
-          rows_after top ps Locals (flagged (flags h) ls2) bs bs2 (act.Reset me) (told_of reply.Done) kept.rows
-          (length-flagged (flags h) ls2 (flags_len ∙ sym (locals_len ∙ kept.locals_len))
+          rows_after top ps Locals (flagged (are_traced h) ls2) bs bs2 (act.Reset me) (told_of reply.Done) kept.rows
+          (length-flagged (are_traced h) ls2 (flags_len ∙ sym (locals_len ∙ kept.locals_len))
           ∙ locals_len
           ∙ kept.locals_len
           ∙ sym kept.rows.aligned.locals_len)
@@ -110,17 +110,18 @@ module _ (top : ℕ) (ps : List Pid) (g : Groups) (raw : List LocalState) (bs : 
       (here : (j : ℕ) → get_or g.places j 0 ≡ get_or g.places i 0 → traced_at h j ≡ on)
       (elsewhere : (j : ℕ) → get_or g.places j 0 ≢ get_or g.places i 0 → traced_at h j ≡ traced_at g j) where
     marks : (j : ℕ) → j < length ps
-        → get_or (flags h) j false ≡ (if (get_or ps j me).node == me.node then on else get_or (flags g) j false)
+        → get_or (are_traced h) j false ≡
+        (if (get_or ps j me).node == me.node then on else get_or (are_traced g) j false)
     marks j below = by ((get_or ps j me).node == me.node) refl
       where
-        new : get_or (flags h) j false ≡ traced_at h j
+        new : get_or (are_traced h) j false ≡ traced_at h j
         new = flag_at h j false (omega (arith, below, by_places.len))
 
-        old : get_or (flags g) j false ≡ traced_at g j
+        old : get_or (are_traced g) j false ≡ traced_at g j
         old = flag_at g j false (omega (arith, below, kept.by_node.len))
 
         by : (t : Bool) → ((get_or ps j me).node == me.node) ≡ t
-            → get_or (flags h) j false ≡ (if t then on else get_or (flags g) j false)
+            → get_or (are_traced h) j false ≡ (if t then on else get_or (are_traced g) j false)
         by true e =
             let node : (get_or ps j me).node ≡ me.node = eqb-true (get_or ps j me).node me.node e in
             new ∙ here j (kept.by_node.same j i me below within (node ∙ ap (λ (p : Pid). p.node) own_pid))
@@ -131,15 +132,16 @@ module _ (top : ℕ) (ps : List Pid) (g : Groups) (raw : List LocalState) (bs : 
             absurd (false≢true (sym e ∙ eq-eqb (get_or ps j me).node me.node node)))
             ∙ sym old
 
-    whole_trace : state_of ps (flagged (flags h) raw) bs
-        ≡ map (reached (act.Tracer me on) None) (state_of ps (flagged (flags g) raw) bs)
+    whole_trace : state_of ps (flagged (are_traced h) raw) bs
+        ≡ map (reached (act.Tracer me on) None) (state_of ps (flagged (are_traced g) raw) bs)
     whole_trace =
-        trace_flagged me on ps (flags g) (flags h) raw bs (marks_len top ps g raw bs kept ∙ kept.locals_len) flags_len
+        trace_flagged me on ps (are_traced g) (are_traced h) raw bs
+        (marks_len top ps g raw bs kept ∙ kept.locals_len) flags_len
         marks
 
     pub trace_step : (was : Bool) → was ≡ traced_at g i
-        → step top (state_of ps (flagged (flags g) raw) bs) (act.Tracer me on)
-        ≡ Some (outcome_to (told_of (reply.Was was)) (state_of ps (flagged (flags h) raw) bs))
+        → step top (state_of ps (flagged (are_traced g) raw) bs) (act.Tracer me on)
+        ≡ Some (outcome_to (told_of (reply.Was was)) (state_of ps (flagged (are_traced h) raw) bs))
     trace_step was is =
         let l : LocalState = get_or raw i zero_local in
         let el : l ≡ get_or raw i l = get_or_default raw i zero_local l (omega (arith, within, kept.locals_len)) in
@@ -154,8 +156,9 @@ module _ (top : ℕ) (ps : List Pid) (g : Groups) (raw : List LocalState) (bs : 
         → AreKept top ps h raw bs
     trace_kept was is listed = record {
       rows =
-          rows_after top ps Locals (flagged (flags h) raw) bs bs (act.Tracer me on) (told_of (reply.Was was)) kept.rows
-          (length-flagged (flags h) raw (flags_len ∙ sym kept.locals_len)
+          rows_after top ps Locals (flagged (are_traced h) raw) bs bs (act.Tracer me on)
+          (told_of (reply.Was was)) kept.rows
+          (length-flagged (are_traced h) raw (flags_len ∙ sym kept.locals_len)
           ∙ kept.locals_len
           ∙ sym kept.rows.aligned.locals_len)
           refl (trace_step was is);

@@ -36,8 +36,8 @@ abbrev pub traced_at : Groups → ℕ → Bool
 traced_at g i = slice_index_or (tracers g) (slice_index_or g.places i 0) false
 
 -- for each process, whether its node is
-abbrev pub flags : Groups → List Bool
-flags g = map (λ k. slice_index_or (tracers g) k false) g.places
+abbrev pub are_traced : Groups → List Bool
+are_traced g = map (λ k. slice_index_or (tracers g) k false) g.places
 
 -- what processes keep, with these as their marks traced
 abbrev pub flagged : List Bool → List LocalState → List LocalState

@@ -6,7 +6,7 @@ use Rattle.st_core.specs.Pid.{node_of, IsRising}
 use Rattle.st_core.specs.State.{LocalState, State}
 use Rattle.st_core.specs.Laws.{IsSound}
 use Rattle.st_mail.specs.Actor.{process_of}
-use Rattle.st_world.specs.Nodes.{Groups, flags, flagged, AreByNode, IsCleanOrListed}
+use Rattle.st_world.specs.Nodes.{Groups, are_traced, flagged, AreByNode, IsCleanOrListed}
 
 -- the processes of rows of one length
 abbrev pub state_of : List Pid → List LocalState → List (List Message) → State
@@ -32,7 +32,7 @@ pub record AreRows (top : ℕ) (pids : List Pid) (locals : List LocalState)
 pub record AreKept (top : ℕ) (pids : List Pid) (g : Groups) (locals : List LocalState)
     (queues : List (List Message))
     : Type 0 where
-  pub rows : AreRows top pids (flagged (flags g) locals) queues
+  pub rows : AreRows top pids (flagged (are_traced g) locals) queues
   pub locals_len : length locals ≡ length pids
   pub by_node : AreByNode pids g.places
   pub listed : (i : ℕ) → i < length pids → IsCleanOrListed g locals queues i

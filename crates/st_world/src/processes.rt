@@ -34,13 +34,13 @@ pub(crate) struct Processes<const TOP: u64> {
 
 impl<const TOP: u64> Model for Processes<TOP> {
     ghost use Rattle.st_core.specs.State.{State};
-    ghost use Rattle.st_world.specs.Nodes.{flags, flagged};
+    ghost use Rattle.st_world.specs.Nodes.{are_traced, flagged};
     ghost use Rattle.st_world.specs.Rows.{state_of, AreKept};
 
     ghost Value = { State };
 
     ghost view = { λ a.
-        state_of a.pids (flagged (flags a.nodes) a.locals.items) a.queues.boxes };
+        state_of a.pids (flagged (are_traced a.nodes) a.locals.items) a.queues.boxes };
 
     ghost invariant = { λ a. AreKept TOP a.pids a.nodes a.locals.items a.queues.boxes };
 }

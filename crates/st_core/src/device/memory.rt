@@ -6,7 +6,7 @@ ghost use Rattle.std.specs.Prelude.{◌≡◌, ◌≤◌, ◌<◌, ◌-◌, [], 
 ghost use Rattle.std.specs.Prelude.{IsOk, MatchResult, Some, None};
 ghost use Rattle.std.specs.Result.{result_ok};
 ghost use Rattle.std.specs.Io.KnownBytes.{ReadConsumes, WriteAppends};
-ghost use Rattle.st_core.specs.Device.{Marks, PassesEmpty, through, burnt, let_through};
+ghost use Rattle.st_core.specs.Device.{MarksFailure, PassesEmpty, through, burnt, let_through};
 ghost use Rattle.st_core.specs.Device.{taken_count, put_count, after_take, after_put, AreZeros};
 
 use crate::device::sink::ByteSink;
@@ -99,7 +99,7 @@ impl<'a> ByteSource for MemorySource<'a> {
             (λ _. self.old.left ≡ [] ++ self.new.left) }
         ensures end { IfOk result (λ n. n ≡ 0 → 0 < length piece.new → self.new.left ≡ []) }
         ensures empty { PassesEmpty self.old.failed piece.new self.old self.new result }
-        ensures mark { Marks self.old.failed self.new.failed result }
+        ensures mark { MarksFailure self.old.failed self.new.failed result }
         // How much it gives, when it fails, and what is left.
         ensures count { result_ok result ≡ taken_count self.old (length piece.new) }
         ensures after { MatchResult result
@@ -196,7 +196,7 @@ impl ByteSink for MemorySink {
         ensures wrote { MatchResult result
             (λ n. self.new.written ≡ self.old.written ++ take n piece.now)
             (λ _. self.new.written ≡ self.old.written ++ []) }
-        ensures mark { Marks self.old.failed self.new.failed result }
+        ensures mark { MarksFailure self.old.failed self.new.failed result }
         // How much it takes, when it fails, and what it has then.
         ensures count { result_ok result ≡ put_count self.old (length piece.now) }
         ensures after { MatchResult result
@@ -254,7 +254,7 @@ impl ByteSource for EndlessSource {
         ensures given { MatchResult result (λ n. AreZeros (take n piece.new)) (λ _. AreZeros []) }
         ensures end { IfOk result (λ n. n ≡ 0 → 0 < length piece.new → ⊥) }
         ensures empty { PassesEmpty false piece.new self.old self.new result }
-        ensures mark { Marks false false result }
+        ensures mark { MarksFailure false false result }
         ensures whole { result ≡ Ok (length piece.new) }
     {
         piece.fill(0);

@@ -3,7 +3,7 @@
 ghost use Rattle.std.specs.Prelude.{◌≤◌, ◌<◌, take, List, [], ℕ, Bool, Option, IfOk, MatchResult};
 ghost use Rattle.std.specs.Prelude.{length};
 ghost use Rattle.std.specs.Io.KnownBytes.{WriteAppends, Appends};
-ghost use Rattle.st_core.specs.Device.{Marks, PassesEmpty};
+ghost use Rattle.st_core.specs.Device.{MarksFailure, PassesEmpty};
 
 use crate::device::source::Failed;
 
@@ -30,7 +30,7 @@ pub trait ByteSink {
         ensures wrote { MatchResult result
             (λ n. puts self.old (take n piece.now) self.new)
             (λ _. puts self.old [] self.new) }
-        ensures mark { Marks (failed self.old) (failed self.new) result };
+        ensures mark { MarksFailure (failed self.old) (failed self.new) result };
 
     // What was put is at the end of what was written, if the sink tells it.
     ghost puts_appends: { (a : Self) (bytes : List ℕ) (b : Self) → puts a bytes b

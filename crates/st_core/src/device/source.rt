@@ -3,7 +3,7 @@
 ghost use Rattle.std.specs.Prelude.{◌≡◌, ◌≤◌, ◌<◌, take, List, [], ℕ, Bool, Option, IfOk};
 ghost use Rattle.std.specs.Prelude.{MatchResult, length};
 ghost use Rattle.std.specs.Io.KnownBytes.{ReadConsumes, Consumes};
-ghost use Rattle.st_core.specs.Device.{Marks, PassesEmpty};
+ghost use Rattle.st_core.specs.Device.{MarksFailure, PassesEmpty};
 
 use thiserror::Error;
 
@@ -38,7 +38,7 @@ pub trait ByteSource {
             (λ _. gives self.old [] self.new) }
         ensures end { IfOk result (λ n. n ≡ 0 → 0 < length piece.new → ended self.new) }
         ensures empty { PassesEmpty (failed self.old) piece.new self.old self.new result }
-        ensures mark { Marks (failed self.old) (failed self.new) result };
+        ensures mark { MarksFailure (failed self.old) (failed self.new) result };
 
     // What was given stood at the front of what was left, if the source tells it.
     ghost gives_consumes: { (a : Self) (bytes : List ℕ) (b : Self) → gives a bytes b

@@ -16,9 +16,9 @@ pub struct ReadFrom<R> {
 }
 
 impl<R> Model for ReadFrom<R> {
-    ghost use Rattle.st_core.specs.Device.{Marked};
+    ghost use Rattle.st_core.specs.Device.{MarkedDevice};
 
-    ghost Value = { Marked R };
+    ghost Value = { MarkedDevice R };
 
     ghost view = { λ a. record { inner = a.reader; failed = a.failed } };
 }
@@ -77,9 +77,9 @@ pub struct WriteTo<W> {
 }
 
 impl<W> Model for WriteTo<W> {
-    ghost use Rattle.st_core.specs.Device.{Marked};
+    ghost use Rattle.st_core.specs.Device.{MarkedDevice};
 
-    ghost Value = { Marked W };
+    ghost Value = { MarkedDevice W };
 
     ghost view = { λ a. record { inner = a.writer; failed = a.failed } };
 }

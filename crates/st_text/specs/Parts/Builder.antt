@@ -15,7 +15,7 @@ use Rattle.st_text.specs.declared.limits.Limits.{Limits}
 use Rattle.st_text.specs.Text.{body, is_remote}
 use Rattle.st_text.specs.Fault.{pids, last_of, has_acts, is_event, is_act, is_wide_header}
 use Rattle.st_text.specs.Fault.{line_fault}
-use Rattle.st_text.specs.Growth.{is_kept}
+use Rattle.st_text.specs.Growth.{is_kept_line}
 use Rattle.st_text.specs.Parts.Counts.{acts_len}
 
 -- the lines of a header and what is behind it
@@ -41,7 +41,7 @@ pub record NeedsRoom (limits : Limits) (ls : List Line) (said : Option Line) : T
   pub line : Line
   pub said_is : said ≡ Some line
   pub good : line_fault limits ls (Some line) ≡ None
-  pub kept : is_kept line ≡ true
+  pub kept : is_kept_line line ≡ true
 
 -- a next line goes on, or has a fault, or there was no room for it
 abbrev pub Takes : Limits → List Line → Line → BundleBuilder → Step → Type 0

@@ -3,7 +3,7 @@
 use Rattle.std.proofs.Common.{◌≡◌, ◌∙◌, ◌+◌, ◌-◌, suc, inl, inr, refl, sym, ap, arith, below_more}
 use Rattle.std.proofs.lemmas.Bool.{cases_lt}
 use Rattle.slab.specs.Slab.{get}
-use Rattle.st_arena.specs.Chain.{item_of, key_after, next_key, previous_key}
+use Rattle.st_arena.specs.Chain.{value_in, key_after, next_key, previous_key}
 use Rattle.st_arena.proofs.ChainLemmas.{held_after, item_after, last_after, previous_after}
 use Rattle.st_arena.proofs.chain.answered_from_ends.Goals as goal
 
@@ -26,8 +26,8 @@ returns-then-pred-clause-found g c =
       item = c.index-near.result.now.value;
       is_there =
           item_after slots c.args.ends c.requires.chained c.loop-place.place (omega arith)
-          ∙ ap (λ k. item_of (slots k)) (sym c.loop-place.invariant.0)
-          ∙ ap item_of c.index-near.ensures;
+          ∙ ap (λ k. value_in (slots k)) (sym c.loop-place.invariant.0)
+          ∙ ap value_in c.index-near.ensures;
       answered = record { shown = _; shows = refl; says = record { met = c.if-pred.ensures } };
     }
 
@@ -44,8 +44,8 @@ returns-then-pred-2-clause-found g c =
       item = c.index-far.result.now.value;
       is_there =
           item_after slots c.args.ends c.requires.chained k (omega arith)
-          ∙ ap (λ x. item_of (slots x)) (sym (c.loop-place.invariant.1 k (omega arith)))
-          ∙ ap item_of c.index-far.ensures;
+          ∙ ap (λ x. value_in (slots x)) (sym (c.loop-place.invariant.1 k (omega arith)))
+          ∙ ap value_in c.index-far.ensures;
       answered = record { shown = _; shows = refl; says = record { met = c.if-pred-2.ensures } };
     }
 
@@ -66,8 +66,8 @@ loop-place-preserved g c =
             item = c.index-near.result.now.value;
             is_there =
                 item_after slots c.args.ends c.requires.chained place (omega arith)
-                ∙ ap (λ k. item_of (slots k)) (sym c.loop-place.invariant.0)
-                ∙ ap item_of c.index-near.ensures;
+                ∙ ap (λ k. value_in (slots k)) (sym c.loop-place.invariant.0)
+                ∙ ap value_in c.index-near.ensures;
             answered = record { shown = _; shows = refl; says = record { met = c.if-pred.ensures } };
           }),
       λ k within past. elim (cases_lt (k + place) c.args.ends.len) [
@@ -76,8 +76,8 @@ loop-place-preserved g c =
           item = c.index-far.result.now.value;
           is_there =
               item_after slots c.args.ends c.requires.chained k within
-              ∙ ap (λ x. item_of (slots x)) (sym (c.loop-place.invariant.1 k (omega (arith, here, past))))
-              ∙ ap item_of c.index-far.ensures;
+              ∙ ap (λ x. value_in (slots x)) (sym (c.loop-place.invariant.1 k (omega (arith, here, past))))
+              ∙ ap value_in c.index-far.ensures;
           answered = record { shown = _; shows = refl; says = record { met = c.if-pred-2.ensures } };
         }
       ],

@@ -1,20 +1,20 @@
 -- The search: the node at the key holds the item at the place, and what `pred` gave is its answer.
 use Rattle.std.proofs.Common.{refl, ◌-◌, ◌+◌, arith, below_more}
 use Rattle.slab.specs.Slab.{get}
-use Rattle.st_arena.specs.Chain.{items_of}
+use Rattle.st_arena.specs.Chain.{values_of}
 use Rattle.st_arena.proofs.ChainLemmas.{left_there, left_step}
 use Rattle.st_arena.proofs.chain.first_answered.Goals as goal
 
 pub index-node-requires : goal.index-node-requires
 index-node-requires g c =
-    left_there (get c.args.nodes.now) (items_of (get c.args.nodes.now) c.args.ends) c.loop-place.place
+    left_there (get c.args.nodes.now) (values_of (get c.args.nodes.now) c.args.ends) c.loop-place.place
     (omega (arith, c.requires.whole))
     (c.args.ends.len - c.loop-place.place) c.loop-place.key c.loop-place.invariant.0
 
 pub returns-then-pred-clause-found : goal.returns-then-pred-clause-found
 returns-then-pred-clause-found g c =
     let step =
-    left_step (get c.args.nodes.now) (items_of (get c.args.nodes.now) c.args.ends) c.loop-place.place
+    left_step (get c.args.nodes.now) (values_of (get c.args.nodes.now) c.args.ends) c.loop-place.place
     (omega (arith, c.requires.whole)) (c.args.ends.len - c.loop-place.place)
     (c.args.ends.len - (c.loop-place.place + 1)) c.loop-place.key c.index-node.result.now c.index-node.ensures
     c.loop-place.invariant.0 (omega arith) in
@@ -31,7 +31,7 @@ returns-then-pred-clause-found g c =
 pub loop-place-preserved : goal.loop-place-preserved
 loop-place-preserved g c =
     let step =
-    left_step (get c.args.nodes.now) (items_of (get c.args.nodes.now) c.args.ends) c.loop-place.place
+    left_step (get c.args.nodes.now) (values_of (get c.args.nodes.now) c.args.ends) c.loop-place.place
     (omega (arith, c.requires.whole)) (c.args.ends.len - c.loop-place.place)
     (c.args.ends.len - (c.loop-place.place + 1)) c.loop-place.key c.index-node.result.now c.index-node.ensures
     c.loop-place.invariant.0 (omega arith) in (

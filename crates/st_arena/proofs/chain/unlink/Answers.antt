@@ -1,6 +1,6 @@
 -- The take from one chain: the node is there, and so are the neighbours whose links are mended.
 use Rattle.std.proofs.Common.{ap, is_some, ◌∙◌, sym}
-use Rattle.st_arena.proofs.ChainLemmas.{held_after, back_there, front_there, is_some-item_of}
+use Rattle.st_arena.proofs.ChainLemmas.{held_after, back_there, front_there, is_some-value_in}
 use Rattle.st_arena.proofs.chain.unlink.Goals as goal
 
 pub remove-value-requires : goal.remove-value-requires
@@ -18,8 +18,8 @@ mend_previous-last-requires-clause-there g c more =
     let front =
     front_there _ _ c.requires.chained c.args.place c.args.key _ c.requires.in_range c.requires.at_place
     c.remove-value.ensures.value more in
-    sym (is_some-item_of _)
+    sym (is_some-value_in _)
     ∙ ap is_some (c.mend_next-first.ensures.links.items_stay _)
-    ∙ is_some-item_of _
+    ∙ is_some-value_in _
     ∙ ap is_some (c.remove-value.ensures.updates.others _ front.1)
     ∙ front.0

@@ -4,14 +4,14 @@ use Rattle.std.specs.Prelude.{nat_eq}
 use Rattle.std.specs.Map.{lookup}
 use Rattle.std.specs.HashMap.{get as get_in}
 use Rattle.slab.specs.Slab.{get}
-use Rattle.st_arena.specs.Chain.{keys_of, KeepsLadder}
+use Rattle.st_arena.specs.Chain.{node_keys, KeepsLadder}
 use Rattle.st_arena.proofs.LadderLemmas.{if_some, if_ok, either_way, ladder_joins, ladder_stays_out}
 use Rattle.st_arena.proofs.ladder.keep_ladder.Goals as goal
 use Rattle.st_arena.proofs.ladder.keep_ladder.Goals.{in-None, in_default-2, in_default}
 
 pub returns-in-Some : goal.returns-in-Some
 returns-in-Some g c =
-    let wanted = keys_of (get c.args.nodes.now) c.args.ends in
+    let wanted = node_keys (get c.args.nodes.now) c.args.ends in
     let old = get_in nat_eq c.args.ladders.now in
     let new = get_in nat_eq c.insert.new.self in
     let same : c.in-Some.ladder ≡ wanted =

@@ -4,7 +4,7 @@ use Rattle.st_pair.specs.Pairing.{repeated}
 use Rattle.st_pair.specs.Places.{first_from, is_stamp, or_else}
 use Rattle.st_pair.specs.declared.receives.Key.{Key}
 use Rattle.st_pair.specs.declared.receives.Receives.{Receives}
-use Rattle.st_pair.specs.Tables.{here, place_at, receive_rule}
+use Rattle.st_pair.specs.Tables.{here, place_for, receive_rule}
 use Rattle.std.proofs.lemmas.Grind.{common_steps}
 use Rattle.st_pair.proofs.Firsts.{at_get_or, first_from-end, first_from-given, first_from-passed}
 use Rattle.st_pair.proofs.Received.{first_fault, key_in, noted_more, own_place, repeated_at, stamp_unrepeated}
@@ -22,8 +22,9 @@ returns-in-Some-clause-fault c = λ rest all.
     let at = at_get_or es i blank c.loop-i-test.true in
     let receives = receive_unstamped e c.in-Receive.is in
     let first = c.in-Ok.ensures.first
-    ∙ ap (λ k. or_else (place_at streams c.loop-i.receives k) (Some (c.args.pid, i))) c.of.ensures in
-    let given = repeated_at (place_at streams c.args.receives.now) (place_at streams c.loop-i.receives) c.args.pid i es
+    ∙ ap (λ k. or_else (place_for streams c.loop-i.receives k) (Some (c.args.pid, i))) c.of.ensures in
+    let given = repeated_at (place_for streams c.args.receives.now)
+    (place_for streams c.loop-i.receives) c.args.pid i es
     e at receives c.loop-i.invariant.noted streams rest c.in-Ok.first all first in
     first_fault _ c.in-Some.fault (first_from-given (repeated streams) c.args.pid i es e c.in-Some.fault at
     (given ∙ sym c.in-Some.ensures) (c.loop-i.invariant.once rest all))
@@ -40,9 +41,9 @@ loop-i-preserved c =
       | in-Send w ↦
           let stamps : is_stamp e ≡ true = grind (arith, common_steps, w.in-Send.is) in
           record {
-            noted = λ k. ap (λ (r : Receives). or_else (place_at streams r k)
+            noted = λ k. ap (λ (r : Receives). or_else (place_for streams r k)
                 (first_from (receive_rule k) p (i + 1) (drop (i + 1) es))) w.receives-is
-                ∙ sym (ap (or_else (place_at streams c.loop-i.receives k)) (unnoted_passed k p i es e at stamps))
+                ∙ sym (ap (or_else (place_for streams c.loop-i.receives k)) (unnoted_passed k p i es e at stamps))
                 ∙ c.loop-i.invariant.noted k;
             once = λ rest all. first_from-passed (repeated streams) p i es e at
                 (stamp_unrepeated streams p i e stamps) (c.loop-i.invariant.once rest all);
@@ -53,16 +54,16 @@ loop-i-preserved c =
           let accepted = sym w.repetition_at.ensures ∙ w.in_default-repetition_at.is in
           let own = own_place w.in-Ok.first p i accepted in
           let first = w.in-Ok.ensures.first
-          ∙ ap (λ k. or_else (place_at streams c.loop-i.receives k) (Some (p, i))) w.of.ensures in
-          let added : (k : Key) → place_at streams c.match-event.receives k
-          ≡ or_else (place_at streams c.loop-i.receives k) (here (key_in e) (p, i) k) =
-          λ k. ap (λ (r : Receives). place_at streams r k) w.receives-is ∙ w.in-Ok.ensures.noted own k
-          ∙ ap (λ l. or_else (place_at streams c.loop-i.receives k) (here l (p, i) k)) w.of.ensures in
+          ∙ ap (λ k. or_else (place_for streams c.loop-i.receives k) (Some (p, i))) w.of.ensures in
+          let added : (k : Key) → place_for streams c.match-event.receives k
+          ≡ or_else (place_for streams c.loop-i.receives k) (here (key_in e) (p, i) k) =
+          λ k. ap (λ (r : Receives). place_for streams r k) w.receives-is ∙ w.in-Ok.ensures.noted own k
+          ∙ ap (λ l. or_else (place_for streams c.loop-i.receives k) (here l (p, i) k)) w.of.ensures in
           record {
-            noted = noted_more (place_at streams c.args.receives.now) (place_at streams c.loop-i.receives) p i es e at
-                receives c.loop-i.invariant.noted (place_at streams c.match-event.receives) added;
+            noted = noted_more (place_for streams c.args.receives.now) (place_for streams c.loop-i.receives) p i es e at
+                receives c.loop-i.invariant.noted (place_for streams c.match-event.receives) added;
             once = λ rest all. first_from-passed (repeated streams) p i es e at
-                (repeated_at (place_at streams c.args.receives.now) (place_at streams c.loop-i.receives) p i es e at
+                (repeated_at (place_for streams c.args.receives.now) (place_for streams c.loop-i.receives) p i es e at
                 receives c.loop-i.invariant.noted streams rest w.in-Ok.first all first ∙ accepted)
                 (c.loop-i.invariant.once rest all);
             sent = w.sent-is ∙ w.in-Ok.ensures.sent ∙ c.loop-i.invariant.sent;

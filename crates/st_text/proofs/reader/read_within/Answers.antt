@@ -5,9 +5,9 @@ use Rattle.std.proofs.lemmas.List.{length-append, length-take, length-drop, take
 use Rattle.st_core.specs.Device.{NoCall, OneMore}
 use Rattle.st_text.specs.declared.fault.ReadFault.TheVariants as faults
 use Rattle.st_text.specs.declared.limits.Limits.{Limits}
-use Rattle.st_text.specs.Answer.{Answers, IsAnswer}
+use Rattle.st_text.specs.Answer.{IsReadResultOrMemory, IsReadResult}
 use Rattle.st_text.specs.Growth.{Grows}
-use Rattle.st_text.specs.Fed.{IsFed, fed_refusal}
+use Rattle.st_text.specs.Fed.{WasFed, fed_refusal}
 use Rattle.st_text.proofs.Puts.{put_none}
 use Rattle.st_text.proofs.TextFaults.{reads_end}
 use Rattle.st_text.proofs.ReaderSteps.{growth_after, growth_at_end, never_fresh}
@@ -49,7 +49,7 @@ loop-feed-preserved g c =
     record {
       bytes = i.bytes ++ given;
       given = OneMore _ _ _ i.bytes given i.given c.in-Ok.ensures.given;
-      fed = subst (λ (x : List ℕ). IsFed (i.bytes ++ x) feed) same (c.piece-answer.ensures.fed i.bytes i.fed);
+      fed = subst (λ (x : List ℕ). WasFed (i.bytes ++ x) feed) same (c.piece-answer.ensures.fed i.bytes i.fed);
       counted = omega (arith, len, i.counted);
       limits_are = c.piece-answer.ensures.limits ∙ i.limits_are;
       size = omega (arith, length-append piece back, left, c.take.auto.piece, asked, c.min-room.ensures, i.size);
@@ -92,10 +92,11 @@ returns-in-Ok-eq0 g c =
         before = sym i.mark ∙ e.mark.0;
         after = e.mark.1;
         answer =
-            subst (λ (l : Limits). Answers l i.bytes c.end.result) i.limits_are (c.end.ensures.answers i.bytes i.fed);
+            subst (λ (l : Limits). IsReadResultOrMemory l i.bytes c.end.result) i.limits_are
+            (c.end.ensures.answers i.bytes i.fed);
       });
       memory = growth_at_end c.args.limits gives _ i.bytes (fed_refusal c.loop-feed.feed) c.end.result small i.memory
-          (λ fresh. subst (λ (l : Limits). IsAnswer l i.bytes c.end.result) i.limits_are
+          (λ fresh. subst (λ (l : Limits). IsReadResult l i.bytes c.end.result) i.limits_are
           (c.end.ensures.exact i.bytes i.fed fresh)) c.end.ensures.again;
     }
 

@@ -2,7 +2,7 @@
 use Rattle.st_text.specs.Limits.{greater}
 use Rattle.st_commands.specs.Command.{call}
 use Rattle.st_commands.proofs.ForCallers.{says, tells_as, tells_fault, was_read}
-use Rattle.st_tool.specs.Complete.{IsCompleted, Faulty}
+use Rattle.st_tool.specs.Complete.{IsOutputOfComplete, Faulty}
 use Rattle.st_tool.proofs.Meanings.{completed_means, long_means, never_means}
 use Rattle.st_tool.proofs.Deliveries.{owes_complete}
 use Rattle.st_tool.proofs.complete.run_complete.Goals as goal
@@ -14,7 +14,7 @@ returns-in-Ok-clause-told g c =
 
 pub returns-in-Err-clause-told : goal.returns-in-Err-clause-told
 returns-in-Err-clause-told g c =
-    tells_fault greater (call g.R.ByteSource _ _) (IsCompleted c.args.form) Faulty _ _ c.in-Err.fault
+    tells_fault greater (call g.R.ByteSource _ _) (IsOutputOfComplete c.args.form) Faulty _ _ c.in-Err.fault
     c.in-Err.ensures c.tell_fault.ensures
 
 pub returns-in-Ok-clause-completed : goal.returns-in-Ok-clause-completed

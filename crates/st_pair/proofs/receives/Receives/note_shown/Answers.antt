@@ -3,7 +3,7 @@ use Rattle.std.proofs.Common.{◌≡◌, ◌<◌, [], ap, get_or, length, List, 
 use Rattle.std.proofs.lemmas.List.{get_or_default}
 use Rattle.std.specs.BTreeMap.{get}
 use Rattle.st_pair.specs.Places.{or_else}
-use Rattle.st_pair.specs.Tables.{stamp_key_cmp, mark_of, place_at}
+use Rattle.st_pair.specs.Tables.{stamp_key_cmp, mark_of, place_for}
 use Rattle.st_pair.proofs.Marks.{given, mark_read, mark_within, noted_again, noted_at, Mark}
 use Rattle.st_pair.proofs.receives.Receives.note_shown.Goals as goal
 
@@ -22,7 +22,7 @@ returns-in-Some-clause-noted c = λ same.
     let marked = mark_read c.args.streams.now lists c.args.key c.args.mark.process c.args.mark.index c.requires.rising
     c.requires.process c.requires.index ∙ c.requires.first in
     let hidden = get stamp_key_cmp c.args.self.now.hidden c.args.key in
-    noted_again (place_at c.args.streams.now c.args.self.now) c.args.key c.args.place
+    noted_again (place_for c.args.streams.now c.args.self.now) c.args.key c.args.place
     (ap (λ o. given o hidden) marked ∙ c.in-Some.is ∙ ap Some same)
 
 pub returns-in-None-clause-first : goal.returns-in-None-clause-first

@@ -3,7 +3,7 @@ use Rattle.std.proofs.Common.{◌∙◌, ap, sym, rules, IfErr}
 use Rattle.st_pair.specs.Pairing.{repeated}
 use Rattle.st_pair.specs.Places.{first_from}
 use Rattle.st_pair.specs.Rules.{IsFirstFault}
-use Rattle.st_pair.specs.Tables.{place_at, receive_rule}
+use Rattle.st_pair.specs.Tables.{place_for, receive_rule}
 use Rattle.st_pair.proofs.Firsts.{first-given, first-passed, table-passed}
 use Rattle.st_pair.proofs.Received.{all_with, err_along}
 use Rattle.st_pair.proofs.receives.Receives.of.Goals as goal
@@ -14,7 +14,7 @@ returns-in_err-note_receives-clause-fault c =
     let rising = c.pids-pid-items.ensures.streams.draft.rising in
     let are = c.pids-pid-items.ensures.value in
     let events = c.events.ensures.value in
-    let all = all_with streams rising _ _ _ _ (place_at streams c.loop-pid.receives) are c.loop-pid-test.true events
+    let all = all_with streams rising _ _ _ _ (place_for streams c.loop-pid.receives) are c.loop-pid-test.true events
     c.loop-pid.invariant.table in
     let given = c.in_err-note_receives.ensures.fault _ all in
     let here : IfErr c.from_residual.result (IsFirstFault (first_from (repeated streams) _ 0 c.events.result.now)) =
@@ -28,7 +28,7 @@ loop-pid-preserved c =
     let rising = c.pids-pid-items.ensures.streams.draft.rising in
     let are = c.pids-pid-items.ensures.value in
     let events = c.events.ensures.value in
-    let all = all_with streams rising _ _ _ _ (place_at streams c.loop-pid.receives) are c.loop-pid-test.true events
+    let all = all_with streams rising _ _ _ _ (place_for streams c.loop-pid.receives) are c.loop-pid-test.true events
     c.loop-pid.invariant.table in
     record {
       table = λ k. table-passed (receive_rule k) streams rising _ _ _ _ _ _ are c.loop-pid-test.true events

@@ -4,7 +4,7 @@ use Rattle.std.proofs.lemmas.List.{set-get_or}
 use Rattle.st_core.specs.Pid.{pid_eq}
 use Rattle.st_core.specs.State.{LocalState, State, process}
 use Rattle.st_core.specs.Step.{actor, receiver, step}
-use Rattle.st_world.specs.Nodes.{flags, flagged}
+use Rattle.st_world.specs.Nodes.{are_traced, flagged}
 use Rattle.st_world.specs.Rows.{state_of}
 use Rattle.st_world.proofs.Acting.{inner_mark, kept_after, read_at, read_mark, act_rows, act_listed, act_other, act_len}
 use Rattle.st_world.proofs.Answering.{refused_unknown, refused_full, answered, rows_after_inner}
@@ -15,7 +15,7 @@ use Rattle.st_world.proofs.processes.Processes.inner.Goals as goal
 pub returns-in_default : goal.returns-in_default
 returns-in_default g c =
     let ps = c.self.inside.pids in
-    let ls = flagged (flags c.self.inside.nodes) c.self.inside.locals.items in
+    let ls = flagged (are_traced c.self.inside.nodes) c.self.inside.locals.items in
     let bs = c.self.inside.queues.boxes in
     let at : position (λ p. pid_eq p c.args.me) c.self.inside.pids ≡ None =
     sym c.number_of.ensures ∙ c.in_default.is in
@@ -26,7 +26,7 @@ pub invariant_of-self : goal.invariant_of-self
 invariant_of-self g c =
     let ps = c.self.inside.pids in
     let raw = c.self.inside.locals.items in
-    let ls = flagged (flags c.self.inside.nodes) c.self.inside.locals.items in
+    let ls = flagged (are_traced c.self.inside.nodes) c.self.inside.locals.items in
     let bs = c.self.inside.queues.boxes in
     let a = c.args.act.now in
     let i = c.in-Some.number in
@@ -71,7 +71,7 @@ pub returns-in_default-inner : goal.returns-in_default-inner
 returns-in_default-inner g c =
     let ps = c.self.inside.pids in
     let raw = c.self.inside.locals.items in
-    let ls = flagged (flags c.self.inside.nodes) c.self.inside.locals.items in
+    let ls = flagged (are_traced c.self.inside.nodes) c.self.inside.locals.items in
     let bs = c.self.inside.queues.boxes in
     let a = c.args.act.now in
     let i = c.in-Some.number in
@@ -105,7 +105,7 @@ returns-in_default-inner g c =
     (rw c.requires.me (c.in_default-inner.ensures.full (get_or bs i []))) in
     let back : set ls i c.inner.new.local ≡ ls =
     ap (set ls i) (c.in_default-inner.ensures.err ∙ el) ∙ set-get_or ls i x in
-    let after : State = state_of ps (flagged (flags c.ready.new.self) (set (set raw i l1) i l2)) bs in
+    let after : State = state_of ps (flagged (are_traced c.ready.new.self) (set (set raw i l1) i l2)) bs in
     let same = ap (λ (y : List LocalState). state_of ps y bs) (rows ∙ back) in
     rw (← c.self.view_is) (refused_full g.row.TOP state a after same there both none)
 
@@ -113,7 +113,7 @@ pub invariant_of-self-2 : goal.invariant_of-self-2
 invariant_of-self-2 g c =
     let ps = c.self.inside.pids in
     let raw = c.self.inside.locals.items in
-    let ls = flagged (flags c.self.inside.nodes) c.self.inside.locals.items in
+    let ls = flagged (are_traced c.self.inside.nodes) c.self.inside.locals.items in
     let bs = c.self.inside.queues.boxes in
     let a = c.args.act.now in
     let i = c.in-Some.number in
@@ -158,7 +158,7 @@ pub returns : goal.returns
 returns g c =
     let ps = c.self.inside.pids in
     let raw = c.self.inside.locals.items in
-    let ls = flagged (flags c.self.inside.nodes) c.self.inside.locals.items in
+    let ls = flagged (are_traced c.self.inside.nodes) c.self.inside.locals.items in
     let bs = c.self.inside.queues.boxes in
     let a = c.args.act.now in
     let i = c.in-Some.number in
@@ -187,6 +187,6 @@ returns g c =
     step_inner g.row.TOP ps ls bs c.self.invariant.rows.aligned a i x c.in-Ok.outcome l2 c.requires.inner at el
     (rw c.requires.me c.in-Ok.ensures.acted) in
     let whole = rw (← rows) at steps in
-    let after : State = state_of ps (flagged (flags c.ready.new.self) (set (set raw i l1) i l2)) bs in
+    let after : State = state_of ps (flagged (are_traced c.ready.new.self) (set (set raw i l1) i l2)) bs in
     rw (← c.self.view_is)
     (answered g.row.TOP (state_of ps ls bs) a c.in-Ok.outcome after c.self.invariant.rows.sound whole)

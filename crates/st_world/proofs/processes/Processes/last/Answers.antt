@@ -3,7 +3,7 @@ use Rattle.std.proofs.Common.{◌≡◌, Option, Some, None, option_map, positio
 use Rattle.st_core.specs.Pid.{pid_eq}
 use Rattle.st_core.specs.State.{LocalState, Process}
 use Rattle.st_mail.specs.Actor.{process_of}
-use Rattle.st_world.specs.Nodes.{flags, flagged, traced_at}
+use Rattle.st_world.specs.Nodes.{are_traced, flagged, traced_at}
 use Rattle.st_world.specs.Rows.{state_of}
 use Rattle.st_world.proofs.Answering.{ordered, reads}
 use Rattle.st_world.proofs.Kept.{marked_at}
@@ -13,7 +13,7 @@ use Rattle.st_world.proofs.processes.Processes.last.Goals as goal
 pub returns-in_default-clause-value : goal.returns-in_default-clause-value
 returns-in_default-clause-value g c =
     let ps = c.self.inside.pids in
-    let ls = flagged (flags c.self.inside.nodes) c.self.inside.locals.items in
+    let ls = flagged (are_traced c.self.inside.nodes) c.self.inside.locals.items in
     let bs = c.self.inside.queues.boxes in
     let at : position (λ p. pid_eq p c.args.pid) c.self.inside.pids ≡ None =
     sym c.number_of.ensures ∙ c.in_default.is in
@@ -24,7 +24,7 @@ returns-in_default-clause-value g c =
 pub returns-clause-value : goal.returns-clause-value
 returns-clause-value g c =
     let ps = c.self.inside.pids in
-    let ls = flagged (flags c.self.inside.nodes) c.self.inside.locals.items in
+    let ls = flagged (are_traced c.self.inside.nodes) c.self.inside.locals.items in
     let bs = c.self.inside.queues.boxes in
     let i = c.in-Some.number in
     let at : position (λ p. pid_eq p c.args.pid) c.self.inside.pids ≡ Some c.in-Some.number =
@@ -42,12 +42,12 @@ returns-clause-value g c =
 
 pub returns-in_default-clause-ordered : goal.returns-in_default-clause-ordered
 returns-in_default-clause-ordered g c =
-    let ls = flagged (flags c.self.inside.nodes) c.self.inside.locals.items in
+    let ls = flagged (are_traced c.self.inside.nodes) c.self.inside.locals.items in
     let state = state_of c.self.inside.pids ls c.self.inside.queues.boxes in
     rw (← c.self.view_is) (ordered g.row.TOP state c.args.pid c.self.invariant.rows.sound)
 
 pub returns-clause-ordered : goal.returns-clause-ordered
 returns-clause-ordered g c =
-    let ls = flagged (flags c.self.inside.nodes) c.self.inside.locals.items in
+    let ls = flagged (are_traced c.self.inside.nodes) c.self.inside.locals.items in
     let state = state_of c.self.inside.pids ls c.self.inside.queues.boxes in
     rw (← c.self.view_is) (ordered g.row.TOP state c.args.pid c.self.invariant.rows.sound)

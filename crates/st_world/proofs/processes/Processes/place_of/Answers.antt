@@ -6,7 +6,7 @@ use Rattle.st_core.specs.Pid.{pid_eq}
 use Rattle.st_core.specs.State.{LocalState, Process, zero_local}
 use Rattle.st_mail.specs.Actor.{process_of}
 use Rattle.st_mail.specs.Mail.{bears_stamp}
-use Rattle.st_world.specs.Nodes.{flags, flagged}
+use Rattle.st_world.specs.Nodes.{are_traced, flagged}
 use Rattle.st_world.specs.Rows.{state_of}
 use Rattle.st_world.proofs.Answering.{stamped, reads}
 use Rattle.st_world.proofs.RowLemmas.{unknown, stands, number_within}
@@ -15,7 +15,7 @@ use Rattle.st_world.proofs.processes.Processes.place_of.Goals as goal
 pub returns-in_default-clause-value : goal.returns-in_default-clause-value
 returns-in_default-clause-value g c =
     let ps = c.self.inside.pids in
-    let ls = flagged (flags c.self.inside.nodes) c.self.inside.locals.items in
+    let ls = flagged (are_traced c.self.inside.nodes) c.self.inside.locals.items in
     let bs = c.self.inside.queues.boxes in
     let at : position (λ p. pid_eq p c.args.pid) c.self.inside.pids ≡ None =
     sym c.number_of.ensures ∙ c.in_default.is in
@@ -27,14 +27,14 @@ returns-in_default-clause-value g c =
 pub returns-clause-value : goal.returns-clause-value
 returns-clause-value g c =
     let ps = c.self.inside.pids in
-    let ls = flagged (flags c.self.inside.nodes) c.self.inside.locals.items in
+    let ls = flagged (are_traced c.self.inside.nodes) c.self.inside.locals.items in
     let bs = c.self.inside.queues.boxes in
     let i = c.in-Some.number in
     let at : position (λ p. pid_eq p c.args.pid) c.self.inside.pids ≡ Some c.in-Some.number =
     sym c.number_of.ensures ∙ c.in-Some.is in
-    let l : LocalState = get_or (flagged (flags c.self.inside.nodes) c.self.inside.locals.items)
+    let l : LocalState = get_or (flagged (are_traced c.self.inside.nodes) c.self.inside.locals.items)
     c.in-Some.number zero_local in
-    let within : c.in-Some.number < length (flagged (flags c.self.inside.nodes) c.self.inside.locals.items) =
+    let within : c.in-Some.number < length (flagged (are_traced c.self.inside.nodes) c.self.inside.locals.items) =
     omega (arith, number_within ps c.args.pid i at, c.self.invariant.rows.aligned.locals_len) in
     let here = stands ps ls bs c.self.invariant.rows.aligned c.args.pid i at l
     (get_or_default ls i zero_local l within) in
@@ -45,12 +45,12 @@ returns-clause-value g c =
 
 pub returns-in_default-clause-stamped : goal.returns-in_default-clause-stamped
 returns-in_default-clause-stamped g c =
-    let ls = flagged (flags c.self.inside.nodes) c.self.inside.locals.items in
+    let ls = flagged (are_traced c.self.inside.nodes) c.self.inside.locals.items in
     let state = state_of c.self.inside.pids ls c.self.inside.queues.boxes in
     rw (← c.self.view_is) (stamped g.row.TOP state c.args.pid c.self.invariant.rows.sound)
 
 pub returns-clause-stamped : goal.returns-clause-stamped
 returns-clause-stamped g c =
-    let ls = flagged (flags c.self.inside.nodes) c.self.inside.locals.items in
+    let ls = flagged (are_traced c.self.inside.nodes) c.self.inside.locals.items in
     let state = state_of c.self.inside.pids ls c.self.inside.queues.boxes in
     rw (← c.self.view_is) (stamped g.row.TOP state c.args.pid c.self.invariant.rows.sound)

@@ -8,7 +8,7 @@ use Rattle.st_core.specs.Pid.{pid_eq}
 use Rattle.st_core.specs.State.{State}
 use Rattle.st_mail.specs.Actor.{process_of, part_of}
 use Rattle.st_mail.specs.Mail.{queue_in}
-use Rattle.st_world.specs.Nodes.{flags, flagged}
+use Rattle.st_world.specs.Nodes.{are_traced, flagged}
 use Rattle.st_world.specs.Rows.{state_of}
 use Rattle.st_world.specs.World.{outcome_to}
 use Rattle.st_world.proofs.Acting.{kept_after, read_at, read_mark, act_rows, act_listed, act_other, act_len}
@@ -21,7 +21,7 @@ use Rattle.st_world.proofs.processes.Processes.receive.Goals as goal
 pub returns-in_default : goal.returns-in_default
 returns-in_default g c =
     let ps = c.self.inside.pids in
-    let ls = flagged (flags c.self.inside.nodes) c.self.inside.locals.items in
+    let ls = flagged (are_traced c.self.inside.nodes) c.self.inside.locals.items in
     let bs = c.self.inside.queues.boxes in
     let at : position (λ p. pid_eq p c.args.me) c.self.inside.pids ≡ None =
     sym c.number_of.ensures ∙ c.in_default.is in
@@ -33,7 +33,7 @@ pub receive-requires : goal.receive-requires
 receive-requires g c =
     let ps = c.self.inside.pids in
     let raw = c.self.inside.locals.items in
-    let ls = flagged (flags c.self.inside.nodes) c.self.inside.locals.items in
+    let ls = flagged (are_traced c.self.inside.nodes) c.self.inside.locals.items in
     let bs = c.self.inside.queues.boxes in
     let i = c.in-Some.number in
     let l1 = c.ready.new.local in
@@ -53,7 +53,7 @@ pub invariant_of-self : goal.invariant_of-self
 invariant_of-self g c =
     let ps = c.self.inside.pids in
     let raw = c.self.inside.locals.items in
-    let ls = flagged (flags c.self.inside.nodes) c.self.inside.locals.items in
+    let ls = flagged (are_traced c.self.inside.nodes) c.self.inside.locals.items in
     let bs = c.self.inside.queues.boxes in
     let i = c.in-Some.number in
     let l1 = c.ready.new.local in
@@ -109,7 +109,7 @@ pub returns : goal.returns
 returns g c =
     let ps = c.self.inside.pids in
     let raw = c.self.inside.locals.items in
-    let ls = flagged (flags c.self.inside.nodes) c.self.inside.locals.items in
+    let ls = flagged (are_traced c.self.inside.nodes) c.self.inside.locals.items in
     let bs = c.self.inside.queues.boxes in
     let i = c.in-Some.number in
     let l1 = c.ready.new.local in
@@ -141,7 +141,7 @@ returns g c =
     ∙ ap (λ (y : List (List Message)). Some (outcome_to told (state_of ps (set ls i l2) y)))
     (sym c.receive.ensures.others) in
     let whole = rw (← rows) at steps in
-    let after : State = state_of ps (flagged (flags c.ready.new.self) (set (set raw i l1) i l2)) bs2 in
+    let after : State = state_of ps (flagged (are_traced c.ready.new.self) (set (set raw i l1) i l2)) bs2 in
     rw (← c.self.view_is)
     (answered g.row.TOP (state_of ps ls bs) (act.Receive c.args.me c.args.want.now) told after
     c.self.invariant.rows.sound whole)

@@ -7,7 +7,7 @@ use Rattle.st_core.specs.declared.types.Act.TheVariants as act
 use Rattle.st_core.specs.declared.types.Reply.TheVariants as reply
 use Rattle.st_core.specs.Pid.{pid_eq}
 use Rattle.st_core.specs.State.{State}
-use Rattle.st_world.specs.Nodes.{flags, flagged}
+use Rattle.st_world.specs.Nodes.{are_traced, flagged}
 use Rattle.st_world.specs.Rows.{state_of, AreKept}
 use Rattle.st_world.proofs.Answering.{refused_unknown, answered}
 use Rattle.st_world.proofs.NodeActs.{own_pid, told_of, reset_step, reset_kept, reset_listed}
@@ -17,7 +17,7 @@ use Rattle.st_world.proofs.processes.Processes.reset.Goals as goal
 pub returns-in_default : goal.returns-in_default
 returns-in_default g c =
     let ps = c.self.inside.pids in
-    let ls = flagged (flags c.self.inside.nodes) c.self.inside.locals.items in
+    let ls = flagged (are_traced c.self.inside.nodes) c.self.inside.locals.items in
     let bs = c.self.inside.queues.boxes in
     let at : position (λ p. pid_eq p c.args.me) c.self.inside.pids ≡ None =
     sym c.number_of.ensures ∙ c.in_default.is in
@@ -66,13 +66,13 @@ returns g c =
     with_items_is c.self.inside.locals c.wipe.new.locals (c.wipe.auto.locals ∙ c.deref_mut.ensures.len) in
     let locals_len = c.wipe.auto.locals ∙ ap length c.deref_mut.ensures.value in
     let queues_len = own.queues_len ∙ c.self.invariant.by_node.len in
-    let ls = flagged (flags c.self.inside.nodes) c.self.inside.locals.items in
+    let ls = flagged (are_traced c.self.inside.nodes) c.self.inside.locals.items in
     let step =
     reset_step g.row.TOP ps c.self.inside.nodes raw bs c.self.invariant c.args.me i at c.clear.new.self
     c.clear.ensures.places c.clear.ensures.tracers ls2 bs2 locals_len queues_len state in
     let whole = rw (← items) at step in
     let after : State =
-    state_of ps (flagged (flags c.clear.new.self) (with_items c.self.inside.locals c.wipe.new.locals).items) bs2 in
+    state_of ps (flagged (are_traced c.clear.new.self) (with_items c.self.inside.locals c.wipe.new.locals).items) bs2 in
     rw (← c.self.view_is) (rw c.answer.ensures
     (answered g.row.TOP (state_of ps ls bs) (act.Reset c.args.me) (told_of reply.Done) after
     c.self.invariant.rows.sound whole))

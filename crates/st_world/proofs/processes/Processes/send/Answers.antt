@@ -11,7 +11,7 @@ use Rattle.st_core.specs.Report.{report}
 use Rattle.st_core.specs.State.{LocalState, State}
 use Rattle.st_mail.specs.Mail.{queue_in}
 use Rattle.st_mail.specs.declared.outcome.Outcome.{Outcome as Told}
-use Rattle.st_world.specs.Nodes.{flags, flagged, IsListed}
+use Rattle.st_world.specs.Nodes.{are_traced, flagged, IsListed}
 use Rattle.st_world.specs.Rows.{state_of, AreRows}
 use Rattle.st_world.specs.World.{outcome_to}
 use Rattle.st_world.proofs.Acting.{kept_after, read_at, read_mark, ready_rows, ready_other, act_rows, act_listed}
@@ -25,7 +25,7 @@ use Rattle.st_world.proofs.processes.Processes.send.Goals as goal
 pub returns-in_default : goal.returns-in_default
 returns-in_default g c =
     let ps = c.self.inside.pids in
-    let ls = flagged (flags c.self.inside.nodes) c.self.inside.locals.items in
+    let ls = flagged (are_traced c.self.inside.nodes) c.self.inside.locals.items in
     let bs = c.self.inside.queues.boxes in
     let at : position (λ p. pid_eq p c.args.me) c.self.inside.pids ≡ None =
     sym c.number_of.ensures ∙ c.in_default.is in
@@ -36,7 +36,7 @@ returns-in_default g c =
 pub returns-in_default-number_of : goal.returns-in_default-number_of
 returns-in_default-number_of g c =
     let ps = c.self.inside.pids in
-    let ls = flagged (flags c.self.inside.nodes) c.self.inside.locals.items in
+    let ls = flagged (are_traced c.self.inside.nodes) c.self.inside.locals.items in
     let bs = c.self.inside.queues.boxes in
     let at : position (λ p. pid_eq p c.args.to) c.self.inside.pids ≡ None =
     sym c.number_of-2.ensures ∙ c.in_default-number_of.is in
@@ -48,7 +48,7 @@ pub invariant_of-self : goal.invariant_of-self
 invariant_of-self g c =
     let ps = c.self.inside.pids in
     let raw = c.self.inside.locals.items in
-    let ls = flagged (flags c.self.inside.nodes) c.self.inside.locals.items in
+    let ls = flagged (are_traced c.self.inside.nodes) c.self.inside.locals.items in
     let bs = c.self.inside.queues.boxes in
     let i = c.in-Some.from_number in
     let j = c.in-Some-number_of.to_number in
@@ -87,7 +87,7 @@ pub returns-in_default-stamp : goal.returns-in_default-stamp
 returns-in_default-stamp g c =
     let ps = c.self.inside.pids in
     let raw = c.self.inside.locals.items in
-    let ls = flagged (flags c.self.inside.nodes) c.self.inside.locals.items in
+    let ls = flagged (are_traced c.self.inside.nodes) c.self.inside.locals.items in
     let bs = c.self.inside.queues.boxes in
     let i = c.in-Some.from_number in
     let j = c.in-Some-number_of.to_number in
@@ -120,7 +120,7 @@ returns-in_default-stamp g c =
     let none =
     full_send g.row.TOP ps ls bs aligned c.args.me c.args.to c.args.value i x from el
     (sym c.in_default-stamp.ensures.stamp) in
-    let after : State = state_of ps (flagged (flags c.touch.new.self) (set raw i l1)) bs in
+    let after : State = state_of ps (flagged (are_traced c.touch.new.self) (set raw i l1)) bs in
     let same = ap (λ (y : List LocalState). state_of ps y bs) rows in
     rw (← c.self.view_is)
     (refused_full g.row.TOP (state_of ps ls bs) (act.Send c.args.me c.args.to c.args.value) after same actor_there
@@ -130,7 +130,7 @@ pub invariant_of-self-in_default-put : goal.invariant_of-self-in_default-put
 invariant_of-self-in_default-put g c =
     let ps = c.self.inside.pids in
     let raw = c.self.inside.locals.items in
-    let ls = flagged (flags c.self.inside.nodes) c.self.inside.locals.items in
+    let ls = flagged (are_traced c.self.inside.nodes) c.self.inside.locals.items in
     let bs = c.self.inside.queues.boxes in
     let i = c.in-Some.from_number in
     let j = c.in-Some-number_of.to_number in
@@ -172,7 +172,7 @@ pub returns-in_default-put : goal.returns-in_default-put
 returns-in_default-put g c =
     let ps = c.self.inside.pids in
     let raw = c.self.inside.locals.items in
-    let ls = flagged (flags c.self.inside.nodes) c.self.inside.locals.items in
+    let ls = flagged (are_traced c.self.inside.nodes) c.self.inside.locals.items in
     let bs = c.self.inside.queues.boxes in
     let i = c.in-Some.from_number in
     let j = c.in-Some-number_of.to_number in
@@ -204,9 +204,9 @@ returns-in_default-put g c =
     let steps =
     step_send g.row.TOP ps ls bs aligned c.args.me c.args.to c.args.value i j x l2 from to el
     (sym c.in-Ok.ensures.stamp) in
-    let after : State = state_of ps (flagged (flags c.touch.new.self) (set raw i l1)) c.put.new.self.boxes in
+    let after : State = state_of ps (flagged (are_traced c.touch.new.self) (set raw i l1)) c.put.new.self.boxes in
     let same =
-    ap (λ (y : List (List Message)). state_of ps (flagged (flags c.touch.new.self) (set raw i l1)) y)
+    ap (λ (y : List (List Message)). state_of ps (flagged (are_traced c.touch.new.self) (set raw i l1)) y)
     c.in_default-put.ensures.err
     ∙ ap (λ (y : List LocalState). state_of ps y bs) rows in
     rw (← c.self.view_is)
@@ -217,7 +217,7 @@ pub invariant_of-self-2 : goal.invariant_of-self-2
 invariant_of-self-2 g c =
     let ps = c.self.inside.pids in
     let raw = c.self.inside.locals.items in
-    let ls = flagged (flags c.self.inside.nodes) c.self.inside.locals.items in
+    let ls = flagged (are_traced c.self.inside.nodes) c.self.inside.locals.items in
     let bs = c.self.inside.queues.boxes in
     let i = c.in-Some.from_number in
     let j = c.in-Some-number_of.to_number in
@@ -290,7 +290,7 @@ pub returns : goal.returns
 returns g c =
     let ps = c.self.inside.pids in
     let raw = c.self.inside.locals.items in
-    let ls = flagged (flags c.self.inside.nodes) c.self.inside.locals.items in
+    let ls = flagged (are_traced c.self.inside.nodes) c.self.inside.locals.items in
     let bs = c.self.inside.queues.boxes in
     let i = c.in-Some.from_number in
     let j = c.in-Some-number_of.to_number in
@@ -340,7 +340,7 @@ returns g c =
     ∙ ap (λ t. report c.index.result.now.traced kind.Send t (Some c.args.to) c.args.value) c.token-token.ensures in
     let done = rw (← rows) at whole in
     let after : State =
-    state_of ps (flagged (flags c.touch.new.self) (set (set raw i l1) i l2)) c.put.new.self.boxes in
+    state_of ps (flagged (are_traced c.touch.new.self) (set (set raw i l1) i l2)) c.put.new.self.boxes in
     rw (← c.self.view_is) (rw event
     (answered g.row.TOP (state_of ps ls bs) (act.Send c.args.me c.args.to c.args.value) told after
     c.self.invariant.rows.sound done))

@@ -4,7 +4,7 @@ use Rattle.st_core.specs.declared.types.Act.TheVariants as act
 use Rattle.st_core.specs.declared.types.Reply.TheVariants as reply
 use Rattle.st_core.specs.Pid.{pid_eq}
 use Rattle.st_core.specs.State.{State}
-use Rattle.st_world.specs.Nodes.{flags, flagged}
+use Rattle.st_world.specs.Nodes.{are_traced, flagged}
 use Rattle.st_world.specs.Rows.{state_of}
 use Rattle.st_world.proofs.Answering.{refused_unknown, answered}
 use Rattle.st_world.proofs.NodeActs.{told_of, trace_step, trace_kept}
@@ -14,7 +14,7 @@ use Rattle.st_world.proofs.processes.Processes.trace.Goals as goal
 pub returns-in_default : goal.returns-in_default
 returns-in_default g c =
     let ps = c.self.inside.pids in
-    let ls = flagged (flags c.self.inside.nodes) c.self.inside.locals.items in
+    let ls = flagged (are_traced c.self.inside.nodes) c.self.inside.locals.items in
     let bs = c.self.inside.queues.boxes in
     let at : position (λ p. pid_eq p c.args.me) c.self.inside.pids ≡ None =
     sym c.number_of.ensures ∙ c.in_default.is in
@@ -41,12 +41,12 @@ returns g c =
     let i = c.in-Some.number in
     let at : position (λ p. pid_eq p c.args.me) c.self.inside.pids ≡ Some c.in-Some.number =
     sym c.number_of.ensures ∙ c.in-Some.is in
-    let ls = flagged (flags c.self.inside.nodes) c.self.inside.locals.items in
+    let ls = flagged (are_traced c.self.inside.nodes) c.self.inside.locals.items in
     let step =
     trace_step g.row.TOP ps c.self.inside.nodes raw bs c.self.invariant c.args.me i at c.trace-was.new.self
     c.trace-was.ensures.places c.args.on c.trace-was.ensures.here c.trace-was.ensures.elsewhere
     c.trace-was.result c.trace-was.ensures.was in
-    let after : State = state_of ps (flagged (flags c.trace-was.new.self) raw) bs in
+    let after : State = state_of ps (flagged (are_traced c.trace-was.new.self) raw) bs in
     rw (← c.self.view_is) (rw c.answer.ensures
     (answered g.row.TOP (state_of ps ls bs) (act.Tracer c.args.me c.args.on)
     (told_of (reply.Was c.trace-was.result)) after c.self.invariant.rows.sound step))
