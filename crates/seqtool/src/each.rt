@@ -3,9 +3,9 @@
 use crate::screen::{FAILED, Screen, finish, name_of, tell_closed, tell_end, tell_no_memory};
 use st_console::{Inlet, Outlet};
 use st_core::{ReadFrom, WriteTo};
+use st_options::Input;
 use st_tasks::{Task, run};
 use st_terminal::{Cleared, Lines, Watched, heading_of};
-use st_words::Input;
 use std::alloc::AllocError;
 use std::fs;
 use std::io::Read;

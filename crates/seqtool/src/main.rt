@@ -15,7 +15,7 @@ use crate::two::serve_two;
 use clap::Error;
 use clap::error::ErrorKind;
 use st_notes::tell_unwritten;
-use st_words::{Request, Wanted, read_words};
+use st_options::{Request, Wanted, read_words};
 use std::process::ExitCode;
 use std::thread::Threads;
 use std::{env, io};

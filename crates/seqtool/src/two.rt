@@ -5,9 +5,9 @@ use st_console::{Inlet, Outlet};
 use st_core::{ReadFrom, WriteTo};
 use st_diff::Input as Which;
 use st_export::TimesFault;
+use st_options::Input;
 use st_pair_tasks::{PairTask, run_pair};
 use st_terminal::{Cleared, Lines, Watched};
-use st_words::Input;
 use std::fs;
 use std::io::Read;
 

@@ -18,14 +18,14 @@ use Rattle.st_pair.specs.Pairing.{refusal}
 use Rattle.st_pair.specs.Places.{event_at, is_stamp}
 use Rattle.st_pair.proofs.ForCallers.{paired, serial_rises, stamp_counts_rise}
 use Rattle.st_plan.specs.Marks.{all_streams}
-use Rattle.st_completions.specs.Completed.{IsCompleted, IsShownInOneTrace}
-use Rattle.st_completions.specs.Local.{IsNeedless}
-use Rattle.st_completions.specs.Needs.{is_late}
-use Rattle.st_completions.specs.Reasons.{HoldsAt}
-use Rattle.st_open.specs.OpenReasons.{Late, OpenReason, Refused, StandsAgainstOpen, TooHigh}
-use Rattle.st_open.specs.OpenReasons.{Unfounded}
-use Rattle.st_open.specs.Silent.{with_silent}
-use Rattle.st_open.proofs.ForCallers.{silent_sound}
+use Rattle.st_closed_world.specs.Completed.{IsCompleted, IsShownInOneTrace}
+use Rattle.st_closed_world.specs.Local.{IsNeedless}
+use Rattle.st_closed_world.specs.Needs.{is_late}
+use Rattle.st_closed_world.specs.Reasons.{HoldsAt}
+use Rattle.st_open_world.specs.OpenReasons.{Late, OpenReason, Refused, StandsAgainstOpen, TooHigh}
+use Rattle.st_open_world.specs.OpenReasons.{Unfounded}
+use Rattle.st_open_world.specs.Silent.{with_silent}
+use Rattle.st_open_world.proofs.ForCallers.{silent_sound}
 use Rattle.st_needs.specs.Completions.{Completed}
 use Rattle.st_complete.specs.declared.answer.Never.{Never}
 use Rattle.st_complete.specs.declared.answer.Never.TheVariants as never

@@ -20,8 +20,8 @@ use Rattle.st_pair.specs.declared.answer.Source.{Source}
 use Rattle.st_pair.specs.declared.answer.Source.TheVariants as source
 use Rattle.st_pair.proofs.ForCallers.{events_in, paired, stamp_once}
 use Rattle.st_order.specs.Items.{is_hidden}
-use Rattle.st_completions.specs.Local.{IsNeedless}
-use Rattle.st_completions.proofs.ForCallers.{accepted_if, own_at, received_to, FitTogether}
+use Rattle.st_closed_world.specs.Local.{IsNeedless}
+use Rattle.st_closed_world.proofs.ForCallers.{accepted_if, own_at, received_to, FitTogether}
 use Rattle.st_core.proofs.ForCallers.{place_within}
 use Rattle.st_complete.specs.Links.{other_end, receipt_of, AreEventsFit, IsEventFit, IsLinked}
 

@@ -30,10 +30,10 @@ use Rattle.st_pair.specs.Places.{event_at, first, is_stamp}
 use Rattle.st_pair.proofs.ForCallers.{cond_none, event_none, first_least, got_rule, paired}
 use Rattle.st_pair.proofs.ForCallers.{pid_total, Rule}
 use Rattle.st_order.specs.Items.{is_hidden}
-use Rattle.st_completions.specs.Needs.{HoldsOfNone, is_late}
-use Rattle.st_completions.specs.Reasons.{is_too_high}
-use Rattle.st_completions.proofs.ForCallers.{count_at}
-use Rattle.st_open.specs.OpenReasons.{IsUnfounded}
+use Rattle.st_closed_world.specs.Needs.{HoldsOfNone, is_late}
+use Rattle.st_closed_world.specs.Reasons.{is_too_high}
+use Rattle.st_closed_world.proofs.ForCallers.{count_at}
+use Rattle.st_open_world.specs.OpenReasons.{IsUnfounded}
 use Rattle.st_complete.specs.declared.answer.Never.{Never}
 use Rattle.st_complete.specs.declared.answer.Never.TheVariants as never
 use Rattle.st_complete.specs.Answers.{reason_rank, IsAgainst, IsLast, IsFirstReason, IsSendOf}

@@ -13,9 +13,9 @@ use Rattle.st_pair.specs.Laws.{IsEarlier}
 use Rattle.st_pair.specs.Pairing.{is_send, stamp_of}
 use Rattle.st_pair.specs.Places.{event_at, is_stamp}
 use Rattle.st_plan.specs.Marks.{all_streams}
-use Rattle.st_completions.specs.Completed.{IsShownInOneTrace}
-use Rattle.st_completions.specs.Needs.{is_need}
-use Rattle.st_open.specs.Silent.{with_silent}
+use Rattle.st_closed_world.specs.Completed.{IsShownInOneTrace}
+use Rattle.st_closed_world.specs.Needs.{is_need}
+use Rattle.st_open_world.specs.Silent.{with_silent}
 use Rattle.st_needs.specs.Completions.{Completed, Completes}
 use Rattle.st_complete.specs.declared.answer.Never.{Never}
 use Rattle.st_complete.specs.declared.answer.Never.TheVariants as never

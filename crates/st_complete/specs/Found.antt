@@ -7,9 +7,9 @@ use Rattle.st_core.specs.Run.{Stream}
 use Rattle.st_pair.specs.declared.answer.PairFault.TheVariants as fault
 use Rattle.st_pair.specs.Pairing.{refusal}
 use Rattle.st_pair.specs.Places.{event_at, is_stamp}
-use Rattle.st_completions.specs.Needs.{HoldsOfNone, is_late}
-use Rattle.st_completions.specs.Reasons.{HoldsAt, is_too_high}
-use Rattle.st_open.specs.OpenReasons.{IsLeastPlace, IsUnfounded}
+use Rattle.st_closed_world.specs.Needs.{HoldsOfNone, is_late}
+use Rattle.st_closed_world.specs.Reasons.{HoldsAt, is_too_high}
+use Rattle.st_open_world.specs.OpenReasons.{IsLeastPlace, IsUnfounded}
 use Rattle.st_needs.specs.Completions.{Completes}
 use Rattle.st_complete.specs.declared.answer.Never.{Never}
 use Rattle.st_complete.specs.declared.answer.Never.TheVariants as never

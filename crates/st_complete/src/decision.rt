@@ -4,9 +4,9 @@
 ghost use Rattle.std.specs.Prelude.{◌≡◌, ◌≤◌, length, IfNone, IfOk, IfSome, None};
 ghost use Rattle.st_pair.specs.Links.{IsPairing};
 ghost use Rattle.st_pair.specs.Pairing.{refusal, IsPairFault};
-ghost use Rattle.st_completions.specs.Needs.{is_late};
-ghost use Rattle.st_completions.specs.Reasons.{HoldsAt};
-ghost use Rattle.st_open.specs.OpenReasons.{HasNoOpenReason, IsLeastPlace};
+ghost use Rattle.st_closed_world.specs.Needs.{is_late};
+ghost use Rattle.st_closed_world.specs.Reasons.{HoldsAt};
+ghost use Rattle.st_open_world.specs.OpenReasons.{HasNoOpenReason, IsLeastPlace};
 ghost use Rattle.st_needs.specs.Completions.{Completes};
 ghost use Rattle.st_complete.specs.Answers.{IsAnswer};
 ghost use Rattle.st_complete.specs.Found.{IsFound, IsFoundReason};
@@ -15,10 +15,10 @@ ghost use Rattle.st_complete.specs.Higher.{LastHigher};
 use crate::answer::{Answer, CompleteFault, Never};
 use crate::judge::judge;
 use st_candidate::build_candidate;
-use st_completions::laws::{needless_streams_are_shown, shown_exactly_where_nothing_is_needed};
+use st_closed_world::laws::{needless_streams_are_shown, shown_exactly_where_nothing_is_needed};
 use st_core::{Event, Pid, Streams};
 use st_needs::{Completion, Flaw, complete_by_definition, find_flaw, find_unfounded};
-use st_open::laws::open_reasons_are_final;
+use st_open_world::laws::open_reasons_are_final;
 use st_pair::{PairFault, Pairing, pair};
 use std::alloc::{AllocError, Global};
 

@@ -20,9 +20,9 @@ use Rattle.st_core.proofs.ForCallers.{all_at}
 use Rattle.st_pair.specs.Pairing.{stamp_of}
 use Rattle.st_pair.proofs.ForCallers.{at_get_or, blank, events_in, take_map}
 use Rattle.st_plan.specs.Marks.{all_streams, told_streams, Marked, Whole}
-use Rattle.st_completions.specs.Completion.{count_of, place_below, place_of_need, put, receive_for}
-use Rattle.st_completions.specs.Completion.{send_among, Supply, with_receive_of, with_send_of}
-use Rattle.st_completions.specs.Needs.{is_need}
+use Rattle.st_closed_world.specs.Completion.{count_of, place_below, place_of_need, put, receive_for}
+use Rattle.st_closed_world.specs.Completion.{send_among, Supply, with_receive_of, with_send_of}
+use Rattle.st_closed_world.specs.Needs.{is_need}
 use Rattle.st_needs.specs.Completions.{marked_with, wholes_with, IsCompletionOf}
 use Rattle.st_needs.proofs.Ranking.{added_last}
 use Rattle.st_needs.proofs.Supplied.{has, stamp_found}

@@ -16,7 +16,7 @@ use Rattle.st_core.specs.Run.{Stream, pids_of}
 use Rattle.st_core.specs.Streams.{events_of, stream_of}
 use Rattle.st_pair.specs.Places.{event_at}
 use Rattle.st_pair.proofs.ForCallers.{at_get_or, events_in, is_at}
-use Rattle.st_completions.specs.Renumbering.{counts_of, insert_count, insert_counts}
+use Rattle.st_closed_world.specs.Renumbering.{counts_of, insert_count, insert_counts}
 use Rattle.st_needs.specs.Counts.{all_counts, counts_in}
 
 -- NOTING THE COUNTS

@@ -14,7 +14,7 @@ use Rattle.st_core.specs.Run.{Stream, pids_of}
 use Rattle.st_pair.specs.Places.{is_stamp}
 use Rattle.st_pair.proofs.ForCallers.{blank}
 use Rattle.st_plan.specs.Marks.{Marked, Whole}
-use Rattle.st_completions.specs.Placed.{comes_first, earliest, earliest_of, earliest_wholes}
+use Rattle.st_closed_world.specs.Placed.{comes_first, earliest, earliest_of, earliest_wholes}
 use Rattle.st_needs.specs.Earliest.{ComesLater}
 
 pub drop_from : (es : List Event) (i : ℕ) (e : Event) → slice_get es i ≡ Some e

@@ -17,10 +17,10 @@ use Rattle.st_pair.specs.declared.answer.Source.TheVariants as source
 use Rattle.st_pair.specs.Pairing.{source_at, source_of}
 use Rattle.st_pair.specs.Places.{event_at, first, first_from, is_stamp, or_else}
 use Rattle.st_pair.proofs.ForCallers.{event_none, first_from-at, first_least, first-loop}
-use Rattle.st_completions.specs.Needs.{HoldsOfNone}
+use Rattle.st_closed_world.specs.Needs.{HoldsOfNone}
 use Rattle.st_needs.specs.declared.flaws.Left.{Left}
-use Rattle.st_completions.specs.Reasons.{HoldsAt}
-use Rattle.st_open.specs.OpenReasons.{IsLeastPlace}
+use Rattle.st_closed_world.specs.Reasons.{HoldsAt}
+use Rattle.st_open_world.specs.OpenReasons.{IsLeastPlace}
 use Rattle.st_needs.specs.Places.{flaw_place, place_where}
 use Rattle.st_needs.specs.Flaws.{is_hidden_in, left_by}
 use Rattle.st_plan.proofs.ForCallers.{take_more}

@@ -27,9 +27,9 @@ use Rattle.st_pair.specs.Places.{event_at, is_stamp}
 use Rattle.st_pair.proofs.ForCallers.{blank, events_in, paired}
 use Rattle.st_order.specs.Items.{is_hidden}
 use Rattle.st_order.proofs.ForCallers.{all_found, AreFound, only_receive}
-use Rattle.st_completions.specs.HiddenSends.{hidden_send, hidden_sends, send_of}
-use Rattle.st_completions.proofs.ForCallers.{count_at, greatest_among, HasCount, hidden_all}
-use Rattle.st_completions.proofs.ForCallers.{hidden_is, highest, RisesFrom}
+use Rattle.st_closed_world.specs.HiddenSends.{hidden_send, hidden_sends, send_of}
+use Rattle.st_closed_world.proofs.ForCallers.{count_at, greatest_among, HasCount, hidden_all}
+use Rattle.st_closed_world.proofs.ForCallers.{hidden_is, highest, RisesFrom}
 use Rattle.st_needs.proofs.Counted.{drop_stream, stream_here}
 use Rattle.st_needs.specs.Hidden.{hidden_among, hidden_in, rising_from}
 

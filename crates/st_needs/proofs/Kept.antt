@@ -15,7 +15,7 @@ use Rattle.st_core.specs.Streams.{events_of, stream_of}
 use Rattle.st_core.proofs.ForCallers.{pid_eq-refl, above_apart}
 use Rattle.st_pair.proofs.ForCallers.{events_in}
 use Rattle.st_plan.specs.Marks.{all_streams, marks_of, Marked, Whole}
-use Rattle.st_completions.specs.Needs.{marked_of}
+use Rattle.st_closed_world.specs.Needs.{marked_of}
 use Rattle.st_needs.specs.Completions.{marked_with, wholes_with}
 
 all_events : (es : List Event) (ms : List Bool) → map (λ (m : Marked). m.event) (marked_with es ms)

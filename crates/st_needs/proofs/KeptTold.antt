@@ -10,12 +10,12 @@ use Rattle.st_core.specs.Run.{Stream}
 use Rattle.st_core.specs.Streams.{events_of, IsStreams}
 use Rattle.st_pair.specs.Pairing.{stamp_of}
 use Rattle.st_plan.specs.Marks.{all_streams, told_events, told_streams, Marked, Whole}
-use Rattle.st_completions.specs.Completion.{completion, count_of, place_below, place_of_need, put}
-use Rattle.st_completions.specs.Completion.{receive_for}
-use Rattle.st_completions.specs.Completion.{send_among, supplies, Supply, told_wholes}
-use Rattle.st_completions.specs.Completion.{with_receive_of, with_receives}
-use Rattle.st_completions.specs.Completion.{with_send_of, with_sends}
-use Rattle.st_completions.specs.Local.{IsNeedless}
+use Rattle.st_closed_world.specs.Completion.{completion, count_of, place_below, place_of_need, put}
+use Rattle.st_closed_world.specs.Completion.{receive_for}
+use Rattle.st_closed_world.specs.Completion.{send_among, supplies, Supply, told_wholes}
+use Rattle.st_closed_world.specs.Completion.{with_receive_of, with_receives}
+use Rattle.st_closed_world.specs.Completion.{with_send_of, with_sends}
+use Rattle.st_closed_world.specs.Local.{IsNeedless}
 use Rattle.st_needs.specs.Completions.{IsCompletionOf}
 use Rattle.st_needs.specs.Filled.{filled}
 

@@ -15,8 +15,8 @@ use Rattle.st_core.specs.Pid.{pid_cmp, pid_eq, IsBelow, IsRising}
 use Rattle.st_core.specs.Run.{Stream, pids_of}
 use Rattle.st_core.specs.Streams.{lists, ComesLast, IsStreams}
 use Rattle.st_core.proofs.ForCallers.{IsBelow-trans, is_lt-true, not_below_itself}
-use Rattle.st_open.specs.Silent.{inserted, silent, with_silent}
-use Rattle.st_open.proofs.ForCallers.{above_first, listed_rest, silent_sound, unlisted_with}
+use Rattle.st_open_world.specs.Silent.{inserted, silent, with_silent}
+use Rattle.st_open_world.proofs.ForCallers.{above_first, listed_rest, silent_sound, unlisted_with}
 use Rattle.st_needs.proofs.Counted.{drop_stream}
 use Rattle.st_needs.specs.Merged.{is_other_next, merged}
 

@@ -20,11 +20,11 @@ use Rattle.st_core.specs.Streams.{events_of, stream_of}
 use Rattle.st_pair.specs.Places.{is_stamp}
 use Rattle.st_pair.proofs.ForCallers.{at_get_or, events_in}
 use Rattle.st_order.specs.Items.{greatest}
-use Rattle.st_completions.specs.Completion.{needs_of, own, supplied_by, supplies, supplies_below}
-use Rattle.st_completions.specs.Completion.{supplies_of, Supply}
-use Rattle.st_completions.specs.Needs.{is_need}
-use Rattle.st_completions.specs.Renumbering.{counts_of}
-use Rattle.st_completions.specs.Supply.{is_free, is_own_supply}
+use Rattle.st_closed_world.specs.Completion.{needs_of, own, supplied_by, supplies, supplies_below}
+use Rattle.st_closed_world.specs.Completion.{supplies_of, Supply}
+use Rattle.st_closed_world.specs.Needs.{is_need}
+use Rattle.st_closed_world.specs.Renumbering.{counts_of}
+use Rattle.st_closed_world.specs.Supply.{is_free, is_own_supply}
 use Rattle.st_needs.specs.declared.told_facts.Told.{Told}
 use Rattle.st_needs.specs.Counts.{all_counts, counts_in}
 use Rattle.st_needs.specs.Told.{is_untaken, is_unused, told_of}

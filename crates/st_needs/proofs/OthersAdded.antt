@@ -13,14 +13,14 @@ use Rattle.st_core.specs.Pid.{pid_cmp, IsBelow, IsRising}
 use Rattle.st_core.specs.Run.{Stream}
 use Rattle.st_core.specs.Streams.{lists, IsStreams}
 use Rattle.st_plan.specs.Marks.{all_streams, told_streams}
-use Rattle.st_completions.specs.Placed.{earliest_wholes}
-use Rattle.st_open.specs.OpenReasons.{HasNoOpenReason}
-use Rattle.st_open.specs.Silent.{with_silent}
+use Rattle.st_closed_world.specs.Placed.{earliest_wholes}
+use Rattle.st_open_world.specs.OpenReasons.{HasNoOpenReason}
+use Rattle.st_open_world.specs.Silent.{with_silent}
 use Rattle.st_core.proofs.ForCallers.{is_lt-true, IsBelow-trans}
 use Rattle.st_plan.specs.Marks.{Whole}
 use Rattle.st_plan.proofs.ForCallers.{take_more}
-use Rattle.st_open.specs.SilentWholes.{silent_whole, whole_inserted, whole_with}
-use Rattle.st_open.proofs.ForCallers.{earliest_open, earliest_told, unlisted_with, IsOpenTo}
+use Rattle.st_open_world.specs.SilentWholes.{silent_whole, whole_inserted, whole_with}
+use Rattle.st_open_world.proofs.ForCallers.{earliest_open, earliest_told, unlisted_with, IsOpenTo}
 use Rattle.st_needs.specs.Others.{place_above, AreAdded, AreSilent}
 
 pub place_bound : (q : Pid) (ws : List Whole) → place_above q ws ≤ length ws

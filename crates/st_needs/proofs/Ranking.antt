@@ -15,7 +15,7 @@ use Rattle.st_core.specs.Run.{Stream, pids_of}
 use Rattle.st_core.specs.Streams.{added, AreOwn, ComesLast, events_of, is_own, lists, stream_of}
 use Rattle.st_core.proofs.ForCallers.{all_at, IsBelow-apart, pid_eq-refl}
 use Rattle.st_pair.proofs.ForCallers.{blank, take_map}
-use Rattle.st_completions.specs.Renumbering.{event_with, rank, with_counts}
+use Rattle.st_closed_world.specs.Renumbering.{event_with, rank, with_counts}
 use Rattle.st_needs.specs.Counts.{ranked_stream}
 use Rattle.st_needs.proofs.Counted.{stream_here}
 

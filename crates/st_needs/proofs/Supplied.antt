@@ -18,7 +18,7 @@ use Rattle.st_core.specs.Streams.{events_of}
 use Rattle.st_pair.specs.Pairing.{is_send, receive_of, stamp_of, to_eq}
 use Rattle.st_pair.specs.Places.{first, first_from, is_stamp}
 use Rattle.st_pair.proofs.ForCallers.{blank}
-use Rattle.st_completions.specs.Supply.{is_free, is_own_supply}
+use Rattle.st_closed_world.specs.Supply.{is_free, is_own_supply}
 use Rattle.st_needs.specs.declared.told_facts.Told.{Told}
 use Rattle.st_needs.specs.Told.{is_untaken, is_unused, senders, senders_in, told_of}
 use Rattle.st_needs.proofs.Counted.{drop_stream, stream_here}

@@ -19,8 +19,8 @@ use Rattle.st_core.proofs.ForCallers.{pid_eq-refl, pid_same}
 use Rattle.st_pair.specs.Places.{event_at, first, first_from, is_stamp, or_else}
 use Rattle.st_pair.proofs.ForCallers.{event_none, given_at}
 use Rattle.st_order.specs.Items.{is_hidden}
-use Rattle.st_completions.specs.Reasons.{HoldsAt}
-use Rattle.st_open.specs.OpenReasons.{IsLeastPlace, IsUnfounded}
+use Rattle.st_closed_world.specs.Reasons.{HoldsAt}
+use Rattle.st_open_world.specs.OpenReasons.{IsLeastPlace, IsUnfounded}
 use Rattle.st_needs.specs.Unfounded.{has_receive, is_known_below, is_unfounded, lower_count, lowest_count}
 use Rattle.st_needs.specs.Unfounded.{lowest_from}
 use Rattle.st_needs.specs.Unfounded.{lowest_in, lowest_with, tells_of}

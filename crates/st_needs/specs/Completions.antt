@@ -7,8 +7,8 @@ use Rattle.st_core.specs.Pid.{IsRising}
 use Rattle.st_core.specs.Run.{Stream}
 use Rattle.st_core.specs.Streams.{IsStreams, lists}
 use Rattle.st_plan.specs.Marks.{all_streams, told_streams, Marked, Whole}
-use Rattle.st_completions.specs.Local.{IsNeedless}
-use Rattle.st_open.specs.Silent.{with_silent}
+use Rattle.st_closed_world.specs.Local.{IsNeedless}
+use Rattle.st_open_world.specs.Silent.{with_silent}
 
 -- These whole streams have the streams as their told events. In all their events pairing accepts,
 -- no send is hidden, no stamp is late, and no receive is missing: so acts without a reset show the

@@ -3,7 +3,7 @@ use Rattle.std.specs.Prelude.{ℕ, List, [], ◌∷◌, ◌++◌, map}
 use Rattle.st_core.specs.declared.types.Pid.{Pid}
 use Rattle.st_core.specs.declared.types.Event.{Event}
 use Rattle.st_core.specs.Run.{Stream}
-use Rattle.st_completions.specs.Renumbering.{event_with, rank}
+use Rattle.st_closed_world.specs.Renumbering.{event_with, rank}
 
 -- the prev and the count of each of these events
 abbrev pub counts_in : List Event → List ℕ

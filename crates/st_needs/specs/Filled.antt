@@ -2,7 +2,7 @@
 use Rattle.std.specs.Prelude.{List}
 use Rattle.st_core.specs.Run.{Stream}
 use Rattle.st_plan.specs.Marks.{Whole}
-use Rattle.st_completions.specs.Completion.{supplies, with_receives, with_sends}
+use Rattle.st_closed_world.specs.Completion.{supplies, with_receives, with_sends}
 
 -- these whole streams with all sends that the needs of the streams lack, and then all receives
 abbrev pub filled : List Stream → List Whole → List Whole

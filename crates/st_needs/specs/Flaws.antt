@@ -4,8 +4,8 @@ use Rattle.st_core.specs.declared.types.Event.{Event}
 use Rattle.st_core.specs.Laws.{greatest_count, prev_after}
 use Rattle.st_pair.specs.declared.answer.Source.{Source}
 use Rattle.st_pair.specs.declared.answer.Source.TheVariants as source
-use Rattle.st_completions.specs.Needs.{is_late, is_need}
-use Rattle.st_completions.specs.Reasons.{is_too_high}
+use Rattle.st_closed_world.specs.Needs.{is_late, is_need}
+use Rattle.st_closed_world.specs.Reasons.{is_too_high}
 use Rattle.st_needs.specs.declared.flaws.Flaw.{Flaw}
 use Rattle.st_needs.specs.declared.flaws.Flaw.TheVariants as flaw
 use Rattle.st_needs.specs.declared.flaws.Left.{Left}

@@ -7,7 +7,7 @@ use Rattle.st_core.specs.declared.types.Event.{Event}
 use Rattle.st_core.specs.Pid.{pid_eq}
 use Rattle.st_core.specs.Run.{Stream}
 use Rattle.st_order.specs.Items.{is_hidden}
-use Rattle.st_completions.specs.HiddenSends.{send_of}
+use Rattle.st_closed_world.specs.HiddenSends.{send_of}
 
 -- the hidden sends of q whose messages these events receive
 abbrev pub hidden_in : List Stream → Pid → List Event → List Event

@@ -4,7 +4,7 @@ use Rattle.std.specs.Ordering.{is_lt}
 use Rattle.st_core.specs.declared.types.Pid.{Pid}
 use Rattle.st_core.specs.Pid.{pid_cmp}
 use Rattle.st_core.specs.Run.{Stream}
-use Rattle.st_open.specs.Silent.{silent}
+use Rattle.st_open_world.specs.Silent.{silent}
 
 -- of these listed processes and these others, one of the others comes next
 abbrev pub is_other_next : List Pid → List Pid → Bool

@@ -7,7 +7,7 @@ use Rattle.st_core.specs.Pid.{pid_cmp, IsRising}
 use Rattle.st_core.specs.Run.{Stream}
 use Rattle.st_core.specs.Streams.{lists}
 use Rattle.st_plan.specs.Marks.{Whole}
-use Rattle.st_open.specs.SilentWholes.{whole_with}
+use Rattle.st_open_world.specs.SilentWholes.{whole_with}
 
 -- how many of these processes come before the first one above q
 abbrev pub place_above : Pid → List Whole → ℕ

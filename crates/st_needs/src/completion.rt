@@ -2,8 +2,8 @@
 
 ghost use Rattle.std.specs.Prelude.{◌≡◌, length, option_map, slice_get, List, get_or, false, []};
 ghost use Rattle.st_core.specs.declared.types.Event.{Event as EventValue};
-ghost use Rattle.st_completions.specs.Needs.{marked_of};
-ghost use Rattle.st_open.specs.Silent.{with_silent};
+ghost use Rattle.st_closed_world.specs.Needs.{marked_of};
+ghost use Rattle.st_open_world.specs.Silent.{with_silent};
 ghost use Rattle.st_plan.specs.Marks.{all_streams, marks_of, told_streams};
 ghost use Rattle.st_needs.specs.Completions.{added_in, marked_with, wholes_with};
 

@@ -1,4 +1,4 @@
-//! `construct`: the completion of whole streams by st_completions's definition, if no send is hidden in
+//! `construct`: the completion of whole streams by st_closed_world's definition, if no send is hidden in
 //! them and no reason holds.
 
 ghost use Rattle.std.specs.Prelude.{◌≡◌, ◌∷◌, ◌++◌, ◌≤◌, [], length, map, slice_get, take, true};
@@ -7,12 +7,12 @@ ghost use Rattle.std.specs.List.{AllByRecursion};
 ghost use Rattle.st_core.specs.Pid.{pid_eq};
 ghost use Rattle.st_core.specs.Streams.{events_of, is_own, ComesLast, IsStreams};
 ghost use Rattle.st_plan.specs.Marks.{all_streams, told_streams};
-ghost use Rattle.st_completions.specs.Completion.{place_below, place_of_need};
-ghost use Rattle.st_completions.specs.Completion.{prev_between, put, receive_for, send_among};
-ghost use Rattle.st_completions.specs.Completion.{with_receive_of, with_receives};
-ghost use Rattle.st_completions.specs.Completion.{with_send_of, with_sends};
-ghost use Rattle.st_completions.specs.Reasons.{HasEachSend, HasNoReason};
-ghost use Rattle.st_open.specs.Silent.{with_silent};
+ghost use Rattle.st_closed_world.specs.Completion.{place_below, place_of_need};
+ghost use Rattle.st_closed_world.specs.Completion.{prev_between, put, receive_for, send_among};
+ghost use Rattle.st_closed_world.specs.Completion.{with_receive_of, with_receives};
+ghost use Rattle.st_closed_world.specs.Completion.{with_send_of, with_sends};
+ghost use Rattle.st_closed_world.specs.Reasons.{HasEachSend, HasNoReason};
+ghost use Rattle.st_open_world.specs.Silent.{with_silent};
 ghost use Rattle.st_needs.specs.Completions.{IsCompletionOf};
 ghost use Rattle.st_needs.specs.Flaws.{left_by};
 ghost use Rattle.st_needs.specs.Filled.{filled};
@@ -22,7 +22,7 @@ use crate::flaws::Left;
 use crate::ranks::{add_own, close_draft, open_last};
 use crate::supplies::{Supply, supplies};
 use crate::told_facts::stamp_in;
-use st_completions::laws::streams_without_a_reason_are_completed;
+use st_closed_world::laws::streams_without_a_reason_are_completed;
 use st_core::{Draft, Event, Kind, Pid, Sequence, Serial, Streams};
 use std::alloc::{AllocError, Global};
 use std::marker::Model;

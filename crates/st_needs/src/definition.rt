@@ -1,8 +1,8 @@
-//! Completions by st_completions's definition, of streams of which no reason holds, with their hidden
+//! Completions by st_closed_world's definition, of streams of which no reason holds, with their hidden
 //! sends at the earliest places.
 
 ghost use Rattle.std.specs.Prelude.{IfOk};
-ghost use Rattle.st_open.specs.OpenReasons.{HasNoOpenReason};
+ghost use Rattle.st_open_world.specs.OpenReasons.{HasNoOpenReason};
 ghost use Rattle.st_pair.specs.Links.{IsPairing};
 ghost use Rattle.st_needs.specs.Completions.{Completes};
 

@@ -3,7 +3,7 @@
 ghost use Rattle.std.specs.Prelude.{◌≡◌, ◌++◌, drop, IfOk, None};
 ghost use Rattle.st_pair.specs.Links.{IsPairing};
 ghost use Rattle.st_pair.specs.Pairing.{refusal};
-ghost use Rattle.st_completions.specs.Placed.{comes_first, earliest, earliest_wholes};
+ghost use Rattle.st_closed_world.specs.Placed.{comes_first, earliest, earliest_wholes};
 ghost use Rattle.st_needs.specs.Earliest.{ComesLater};
 
 use crate::construction::{Marked, Whole};

@@ -5,11 +5,11 @@ ghost use Rattle.std.specs.Prelude.{◌≡◌, ◌↔◌, [], ◌∷◌, ◌++�
 ghost use Rattle.st_core.specs.declared.types.Event.{Event as EventValue};
 ghost use Rattle.st_pair.specs.Places.{first, first_from, is_stamp};
 ghost use Rattle.st_core.specs.Laws.{greatest_count, prev_after};
-ghost use Rattle.st_completions.specs.Completion.{begins_trace};
-ghost use Rattle.st_completions.specs.Needs.{HoldsOfNone};
+ghost use Rattle.st_closed_world.specs.Completion.{begins_trace};
+ghost use Rattle.st_closed_world.specs.Needs.{HoldsOfNone};
 ghost use Rattle.st_needs.specs.Flaws.{is_hidden_in, left_by, test_of, GoesOnWithin};
-ghost use Rattle.st_completions.specs.Reasons.{HoldsAt};
-ghost use Rattle.st_open.specs.OpenReasons.{IsLeastPlace};
+ghost use Rattle.st_closed_world.specs.Reasons.{HoldsAt};
+ghost use Rattle.st_open_world.specs.OpenReasons.{IsLeastPlace};
 ghost use Rattle.st_needs.specs.Places.{flaw_place, place_where};
 
 use st_core::{Event, Kind, Pid, Streams};

@@ -9,7 +9,7 @@ ghost use Rattle.st_pair.specs.Pairing.{refusal};
 ghost use Rattle.st_pair.specs.Places.{event_at};
 ghost use Rattle.st_core.specs.Pid.{pid_eq};
 ghost use Rattle.st_order.specs.Items.{is_hidden};
-ghost use Rattle.st_completions.specs.HiddenSends.{hidden_sends, send_of};
+ghost use Rattle.st_closed_world.specs.HiddenSends.{hidden_sends, send_of};
 ghost use Rattle.st_needs.specs.Hidden.{hidden_among, hidden_in, next_count, rising_from};
 
 use crate::flaws::is_hidden_source;

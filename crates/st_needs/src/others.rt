@@ -5,7 +5,7 @@ ghost use Rattle.std.specs.List.{AllByRecursion};
 ghost use Rattle.std.specs.Ordering.{is_lt};
 ghost use Rattle.st_core.specs.Pid.{pid_cmp, IsBelow, IsRising};
 ghost use Rattle.st_core.specs.Streams.{lists};
-ghost use Rattle.st_open.specs.SilentWholes.{whole_inserted};
+ghost use Rattle.st_open_world.specs.SilentWholes.{whole_inserted};
 ghost use Rattle.st_needs.specs.Others.{place_above, AreAdded};
 
 use crate::construction::Whole;

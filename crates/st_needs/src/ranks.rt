@@ -5,7 +5,7 @@ ghost use Rattle.std.specs.Prelude.{◌≡◌, ◌∷◌, ◌++◌, [], nat_lt, 
 ghost use Rattle.std.specs.List.{AllByRecursion};
 ghost use Rattle.std.specs.List.Sorted.{IsNonDecreasing};
 ghost use Rattle.st_core.specs.Streams.{added, is_own, lists, unlisted, ComesLast};
-ghost use Rattle.st_completions.specs.Renumbering.{counts_of, event_with, rank, renumbered_streams};
+ghost use Rattle.st_closed_world.specs.Renumbering.{counts_of, event_with, rank, renumbered_streams};
 ghost use Rattle.st_needs.specs.Counts.{all_counts, counts_in, ranked_stream};
 
 use st_core::{AddFault, Draft, Event, OpenFault, Pid, Serial, Streams};

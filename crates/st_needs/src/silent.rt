@@ -4,7 +4,7 @@ ghost use Rattle.std.specs.Prelude.{◌≡◌, drop, true, false, IfOk};
 ghost use Rattle.std.specs.List.{AllByRecursion};
 ghost use Rattle.st_core.specs.Pid.{IsRising};
 ghost use Rattle.st_core.specs.Streams.{lists};
-ghost use Rattle.st_open.specs.Silent.{with_silent};
+ghost use Rattle.st_open_world.specs.Silent.{with_silent};
 ghost use Rattle.st_needs.specs.Merged.{is_other_next};
 
 use crate::construction::add_process;

@@ -3,9 +3,9 @@
 ghost use Rattle.std.specs.Prelude.{◌≡◌, ◌-◌, ◌++◌, [], drop, filter, length, map, IfOk, OnOk};
 ghost use Rattle.st_core.specs.Run.{pids_of};
 ghost use Rattle.st_core.specs.Streams.{events_of};
-ghost use Rattle.st_completions.specs.Completion.{needs_of, own, supplied_by, supplies};
-ghost use Rattle.st_completions.specs.Completion.{supplies_of};
-ghost use Rattle.st_completions.specs.Supply.{is_free};
+ghost use Rattle.st_closed_world.specs.Completion.{needs_of, own, supplied_by, supplies};
+ghost use Rattle.st_closed_world.specs.Completion.{supplies_of};
+ghost use Rattle.st_closed_world.specs.Supply.{is_free};
 ghost use Rattle.st_needs.specs.Told.{told_of};
 
 use crate::flaws::Left;
@@ -27,7 +27,7 @@ pub(crate) struct Supply {
 }
 
 impl Model for Supply {
-    ghost use Rattle.st_completions.specs.Completion.{Supply as SupplyValue};
+    ghost use Rattle.st_closed_world.specs.Completion.{Supply as SupplyValue};
 
     ghost Value = { SupplyValue };
 

@@ -14,7 +14,7 @@ ghost use Rattle.st_pair.specs.Places.{event_at, first, first_from, is_stamp};
 ghost use Rattle.st_needs.specs.Places.{flaw_place, place_where};
 ghost use Rattle.st_needs.specs.Unfounded.{has_receive, is_known_below, is_unfounded, lower_count};
 ghost use Rattle.st_needs.specs.Unfounded.{lowest_count, lowest_in, lowest_with, IsNoted};
-ghost use Rattle.st_open.specs.OpenReasons.{IsLeastPlace, IsUnfounded};
+ghost use Rattle.st_open_world.specs.OpenReasons.{IsLeastPlace, IsUnfounded};
 
 use crate::flaws::{is_hidden_source, is_stamp};
 use st_core::{Event, Pid, Streams};

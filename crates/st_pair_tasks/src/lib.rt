@@ -1,6 +1,6 @@
 //! Nothing is proved of commands on two inputs but that they are safe and return.
 //!
-//! Which of them a command line asks for is read in `st_words`.
+//! Which of them a command line asks for is read in `st_options`.
 #![tactic(auto)]
 
 use st_commands::tell_fault;

@@ -12,11 +12,11 @@ use Rattle.st_core.specs.declared.types.Event.{Event}
 use Rattle.st_core.specs.Run.{Stream, pids_of}
 use Rattle.st_pair.specs.Places.{event_at}
 use Rattle.st_plan.specs.Marks.{all_streams, Marked, Whole}
-use Rattle.st_completions.specs.Needs.{marked_of}
-use Rattle.st_completions.proofs.ForCallers.{events_all}
+use Rattle.st_closed_world.specs.Needs.{marked_of}
+use Rattle.st_closed_world.proofs.ForCallers.{events_all}
 use Rattle.st_complete.specs.declared.answer.Never.{Never}
 use Rattle.st_complete.specs.declared.answer.Never.TheVariants as never
-use Rattle.st_open.specs.Silent.{with_silent}
+use Rattle.st_open_world.specs.Silent.{with_silent}
 use Rattle.st_needs.specs.Completions.{added_in, Completed}
 use Rattle.st_text.specs.Writing.{Goes, WritesOn, WritesPart, WritesText}
 use Rattle.st_text.proofs.ForCallers.{finishes, front_some, line_some}

@@ -1,7 +1,7 @@
 -- What the parts of a command say adds up to what the command owes: the bytes that were read go with each answer.
 use Rattle.st_text.specs.Limits.{greater}
 use Rattle.st_text.specs.Text.{Contents}
-use Rattle.st_completions.specs.Renumbering.{renumbered_streams}
+use Rattle.st_closed_world.specs.Renumbering.{renumbered_streams}
 use Rattle.st_commands.specs.Output.{Output}
 use Rattle.st_commands.specs.Command.{ReaderCall, Owes, OfBytes, ForMemory}
 use Rattle.st_commands.proofs.ForCallers.{WasRead}

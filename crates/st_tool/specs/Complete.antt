@@ -17,8 +17,8 @@ use Rattle.st_text.specs.Spelling.{ended_line}
 use Rattle.st_text.specs.Text.{spelling}
 use Rattle.st_pair.specs.Places.{event_at}
 use Rattle.st_plan.specs.Marks.{all_streams, told_streams, Marked}
-use Rattle.st_completions.specs.Needs.{marked_of}
-use Rattle.st_open.specs.Silent.{with_silent}
+use Rattle.st_closed_world.specs.Needs.{marked_of}
+use Rattle.st_open_world.specs.Silent.{with_silent}
 use Rattle.st_complete.specs.declared.answer.Never.{Never}
 use Rattle.st_complete.specs.declared.answer.Never.TheVariants as never
 use Rattle.st_complete.specs.declared.answer.Answer.{Answer}

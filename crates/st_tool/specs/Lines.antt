@@ -8,7 +8,7 @@ use Rattle.st_core.specs.Run.{Stream, pids_of}
 use Rattle.st_core.specs.Streams.{events_of}
 use Rattle.st_pair.specs.Places.{event_at}
 use Rattle.st_plan.specs.Marks.{all_streams, Whole}
-use Rattle.st_completions.specs.Needs.{marked_of}
+use Rattle.st_closed_world.specs.Needs.{marked_of}
 use Rattle.st_needs.specs.Completions.{added_in, Completed}
 use Rattle.st_complete.specs.declared.answer.Never.{Never}
 use Rattle.st_complete.specs.declared.answer.Never.TheVariants as never

@@ -4,7 +4,7 @@ use Rattle.std.specs.Prelude.{ℕ, ◌≤◌, List, length}
 use Rattle.st_core.specs.Run.{Stream, pids_of}
 use Rattle.st_core.specs.Streams.{total_of}
 use Rattle.st_text.specs.Limits.{standard}
-use Rattle.st_completions.specs.Renumbering.{renumbered_streams}
+use Rattle.st_closed_world.specs.Renumbering.{renumbered_streams}
 use Rattle.st_commands.specs.Output.{Output, no_memory}
 use Rattle.st_tool.specs.Renumber.{streams_output}
 use Rattle.st_tool.specs.declared.complete.Form.{Form}

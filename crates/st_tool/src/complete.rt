@@ -10,7 +10,7 @@ ghost use Rattle.st_plan.specs.Marks.{all_streams};
 ghost use Rattle.st_commands.specs.Command.{Owes, Tells, call};
 ghost use Rattle.st_commands.specs.Meaning.{Says};
 ghost use Rattle.st_complete.specs.Answers.{IsAnswer, IsWhole};
-ghost use Rattle.st_open.specs.Silent.{with_silent};
+ghost use Rattle.st_open_world.specs.Silent.{with_silent};
 ghost use Rattle.st_tool.specs.Complete.{IsOutputOfComplete, MeansCompleted, MeansLong, MeansNever};
 ghost use Rattle.st_tool.specs.declared.lines.OutputLine.TheVariants as lines;
 ghost use Rattle.st_tool.specs.Lines.{words_of};

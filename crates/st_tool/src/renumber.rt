@@ -9,9 +9,9 @@ ghost use Rattle.st_tool.specs.Parts.{RenumbersTo};
 ghost use Rattle.st_tool.specs.Renumber.{IsRenumbered, MeansRefused, MeansRenumbered};
 
 use crate::answer::tell_streams;
+use st_closed_world::laws::{counts_can_be_put_back, shown_if_renumbered_is};
 use st_commands::tell_fault;
 use st_complete::renumbered;
-use st_completions::laws::{counts_can_be_put_back, shown_if_renumbered_is};
 use st_core::{ByteSink, ByteSource, Streams};
 use st_text::{Limits, ReadFault, read_within};
 use std::alloc::Global;
@@ -28,7 +28,7 @@ fn renumber_streams<W: ByteSink>(alloc: Global, streams: &Streams, writer: &mut 
 
 /// Reads a bundle and writes its streams with each count replaced by its rank, with status 0. If
 /// these have a run without a reset at a TOP that fits, so have the given ones
-/// (`shown_if_renumbered_is` of `st_completions`). Faulty input is 2; running out of memory, and a
+/// (`shown_if_renumbered_is` of `st_closed_world`). Faulty input is 2; running out of memory, and a
 /// reader or a writer that fails, are 4.
 pub fn run_renumber<R: ByteSource, W: ByteSink>(alloc: Global, reader: &mut R, writer: &mut W) -> u8
     ensures told { Tells (call W.ByteSink writer.old writer.new)

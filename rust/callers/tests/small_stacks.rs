@@ -8,7 +8,7 @@ use st_core::{MemorySink, MemorySource};
 use st_library::prelude::{AllocGlobal, HostRuntime};
 use st_pair_tasks::run_pair;
 use st_tasks::run as run_seqtool;
-use st_words::{Wanted, read_words};
+use st_options::{Wanted, read_words};
 use std::fmt::Write;
 use std::thread::{self, Builder};
 

@@ -6,8 +6,8 @@ use Rattle.std.proofs.lemmas.Option.{same_Some}
 use Rattle.st_core.specs.declared.types.Pid.{Pid}
 use Rattle.st_core.specs.Pid.{IsRising}
 use Rattle.st_core.specs.Streams.{IsStreams, lists}
-use Rattle.st_completions.specs.Local.{IsNeedless}
-use Rattle.st_open.specs.Silent.{with_silent}
+use Rattle.st_closed_world.specs.Local.{IsNeedless}
+use Rattle.st_open_world.specs.Silent.{with_silent}
 use Rattle.st_plan.specs.Marks.{told_streams}
 use Rattle.st_needs.specs.Completions.{wholes_with, Completed, IsCompletionOf}
 use Rattle.st_needs.proofs.ForCallers.{all_kept}

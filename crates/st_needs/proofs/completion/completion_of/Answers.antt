@@ -2,7 +2,7 @@
 use Rattle.std.proofs.Common.{◌∙◌, ap, arith}
 use Rattle.st_core.specs.Streams.{total_of}
 use Rattle.st_needs.specs.Completions.{wholes_with}
-use Rattle.st_open.proofs.ForCallers.{silent_total}
+use Rattle.st_open_world.proofs.ForCallers.{silent_total}
 use Rattle.st_needs.proofs.ToldEvents.{added_count}
 use Rattle.st_needs.proofs.Kept.{all_kept}
 use Rattle.st_needs.proofs.completion.completion_of.Goals as goal

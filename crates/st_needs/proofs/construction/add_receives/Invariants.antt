@@ -1,6 +1,6 @@
 -- The receives of the supplies that were taken are there.
 use Rattle.std.proofs.Common.{◌≡◌, drop}
-use Rattle.st_completions.specs.Completion.{with_receives}
+use Rattle.st_closed_world.specs.Completion.{with_receives}
 use Rattle.st_needs.proofs.construction.add_receives.Given as goal
 
 abbrev pub invariant-loop-supply : goal.invariant-loop-supply

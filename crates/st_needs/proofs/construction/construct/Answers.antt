@@ -2,7 +2,7 @@
 -- whatever is told of these.
 use Rattle.std.proofs.Common.{◌≡◌, sym, ◌∙◌, ap, subst}
 use Rattle.st_core.specs.Streams.{IsStreams}
-use Rattle.st_open.specs.Silent.{with_silent}
+use Rattle.st_open_world.specs.Silent.{with_silent}
 use Rattle.st_plan.specs.Marks.{all_streams, told_streams}
 use Rattle.st_needs.specs.Completions.{IsCompletionOf}
 use Rattle.st_needs.specs.Filled.{filled}

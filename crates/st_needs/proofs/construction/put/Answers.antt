@@ -1,6 +1,6 @@
 -- One process more.
 use Rattle.std.proofs.Common.{refl, arith}
-use Rattle.st_completions.specs.Completion.{put}
+use Rattle.st_closed_world.specs.Completion.{put}
 use Rattle.st_needs.proofs.Constructed.{put_next}
 use Rattle.st_needs.proofs.construction.put.Goals as goal
 

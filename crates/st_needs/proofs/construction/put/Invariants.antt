@@ -1,6 +1,6 @@
 -- The processes that were taken are changed, and no other.
 use Rattle.std.proofs.Common.{◌≡◌, ◌++◌, drop, map, take}
-use Rattle.st_completions.specs.Completion.{put}
+use Rattle.st_closed_world.specs.Completion.{put}
 use Rattle.st_needs.proofs.construction.put.Given as goal
 
 abbrev pub invariant-loop-whole : goal.invariant-loop-whole

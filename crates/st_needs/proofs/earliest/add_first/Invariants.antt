@@ -1,6 +1,6 @@
 -- What was added, with the earliest places of the rest, is as before.
 use Rattle.std.proofs.Common.{◌≡◌, ◌++◌, drop}
-use Rattle.st_completions.specs.Placed.{earliest}
+use Rattle.st_closed_world.specs.Placed.{earliest}
 use Rattle.st_needs.proofs.earliest.add_first.Given as goal
 
 abbrev pub invariant-loop-next : goal.invariant-loop-next

@@ -1,6 +1,6 @@
 -- None of the events that were taken is a stamp.
 use Rattle.std.proofs.Common.{◌≡◌, drop}
-use Rattle.st_completions.specs.Placed.{comes_first}
+use Rattle.st_closed_world.specs.Placed.{comes_first}
 use Rattle.st_needs.proofs.earliest.comes_first.Given as goal
 
 -- what is left decides

@@ -1,6 +1,6 @@
 -- What was added, with the earliest places of the rest, comes to all.
 use Rattle.std.proofs.Common.{◌≡◌, ◌++◌, drop}
-use Rattle.st_completions.specs.Placed.{earliest}
+use Rattle.st_closed_world.specs.Placed.{earliest}
 use Rattle.st_needs.proofs.earliest.earliest.Given as goal
 
 abbrev pub invariant-loop-i : goal.invariant-loop-i

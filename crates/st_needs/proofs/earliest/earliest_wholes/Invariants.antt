@@ -1,7 +1,7 @@
 -- The processes that were taken have their hidden sends at the earliest places.
 use Rattle.std.proofs.Common.{◌≡◌, map, take}
 use Rattle.st_core.specs.Run.{pids_of}
-use Rattle.st_completions.specs.Placed.{earliest_of}
+use Rattle.st_closed_world.specs.Placed.{earliest_of}
 use Rattle.st_needs.proofs.earliest.earliest_wholes.Given as goal
 
 abbrev pub invariant-loop-pid : goal.invariant-loop-pid

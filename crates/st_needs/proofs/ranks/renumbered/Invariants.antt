@@ -1,6 +1,6 @@
 -- The draft has the streams that were taken, with their ranks.
 use Rattle.std.proofs.Common.{◌≡◌, take}
-use Rattle.st_completions.specs.Renumbering.{rank, with_counts}
+use Rattle.st_closed_world.specs.Renumbering.{rank, with_counts}
 use Rattle.st_needs.proofs.ranks.renumbered.Given as goal
 
 abbrev pub invariant-loop-pid : goal.invariant-loop-pid

@@ -6,7 +6,7 @@ use Rattle.st_core.specs.declared.types.Pid.{Pid}
 use Rattle.st_core.specs.declared.types.Event.{Event}
 use Rattle.st_core.specs.Run.{Stream, pids_of}
 use Rattle.st_core.specs.Streams.{unlisted}
-use Rattle.st_open.proofs.ForCallers.{silent_sound}
+use Rattle.st_open_world.proofs.ForCallers.{silent_sound}
 use Rattle.st_needs.specs.Merged.{merged}
 use Rattle.st_needs.proofs.Counted.{stream_here}
 use Rattle.st_needs.proofs.Ranking.{own_events}

@@ -1,6 +1,6 @@
 -- The supplies of the needs that were taken are added.
 use Rattle.std.proofs.Common.{◌≡◌, ◌++◌, drop}
-use Rattle.st_completions.specs.Completion.{supplied_by}
+use Rattle.st_closed_world.specs.Completion.{supplied_by}
 use Rattle.st_needs.proofs.supplies.add_supplied.Given as goal
 
 -- with those of what is left they come to all

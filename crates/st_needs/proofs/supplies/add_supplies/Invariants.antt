@@ -1,8 +1,8 @@
 -- The supplies of the processes that were taken are added.
 use Rattle.std.proofs.Common.{◌≡◌, ◌++◌, drop, filter}
 use Rattle.st_core.specs.Run.{pids_of}
-use Rattle.st_completions.specs.Completion.{supplies_of}
-use Rattle.st_completions.specs.Supply.{is_free}
+use Rattle.st_closed_world.specs.Completion.{supplies_of}
+use Rattle.st_closed_world.specs.Supply.{is_free}
 use Rattle.st_needs.proofs.supplies.add_supplies.Given as goal
 
 -- with those of what is left they come to all

@@ -4,7 +4,7 @@ use Rattle.st_core.specs.Run.{Shows, Stream}
 use Rattle.st_commands.specs.Output.{no_memory, bundled}
 use Rattle.st_commands.specs.Checked.{top}
 use Rattle.st_complete.specs.declared.answer.Answer.TheVariants as answer
-use Rattle.st_open.specs.Silent.{with_silent}
+use Rattle.st_open_world.specs.Silent.{with_silent}
 use Rattle.st_tool.specs.Complete.{Certifies, HasActs, IsLong, IsUncertified, long, uncertified}
 use Rattle.st_tool.specs.Parts.{Finds, NoRoomToComplete}
 use Rattle.st_tool.proofs.complete.tell_shown.Goals as goal

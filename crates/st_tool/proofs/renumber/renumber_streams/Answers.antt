@@ -1,6 +1,6 @@
 -- The renumbered streams are written, and running out of memory has a line of its own.
 use Rattle.st_commands.specs.Output.{no_memory}
-use Rattle.st_completions.specs.Renumbering.{renumbered_streams}
+use Rattle.st_closed_world.specs.Renumbering.{renumbered_streams}
 use Rattle.st_tool.specs.Renumber.{streams_output}
 use Rattle.st_tool.specs.Parts.{Ranks, NoRoomToRenumber}
 use Rattle.st_tool.proofs.renumber.renumber_streams.Goals as goal

@@ -3,7 +3,7 @@ use Rattle.std.proofs.Common.{ℕ, Bool, List, [], Option, option_map, slice_get
 use Rattle.std.proofs.Common.{◌∙◌, ap}
 use Rattle.st_core.specs.Streams.{events_of}
 use Rattle.st_plan.specs.Marks.{Marked}
-use Rattle.st_completions.specs.Needs.{marked_of}
+use Rattle.st_closed_world.specs.Needs.{marked_of}
 use Rattle.st_needs.specs.Completions.{marked_with, Completed}
 use Rattle.st_needs.proofs.Kept.{marked_kept, marked_missing}
 use Rattle.st_needs.proofs.completion.Completion.told.Goals as goal

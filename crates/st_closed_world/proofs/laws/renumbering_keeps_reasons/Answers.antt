@@ -1,0 +1,13 @@
+-- The lemma says it.
+use Rattle.st_closed_world.proofs.Renumbering.{late_as_before, rootless_as_before}
+use Rattle.st_closed_world.proofs.SamePairing.{refusal_same}
+use Rattle.st_closed_world.proofs.SameSupply.{supply_same}
+use Rattle.st_closed_world.proofs.laws.renumbering_keeps_reasons.Goals as goal
+
+pub returns : goal.returns
+returns c = λ f keeps streams. (
+  refusal_same f keeps streams,
+  late_as_before f keeps streams,
+  rootless_as_before f keeps streams,
+  supply_same f keeps streams,
+)
