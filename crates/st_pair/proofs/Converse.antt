@@ -207,13 +207,7 @@ module _ (streams : List Stream) (rising : first (not_rising streams) streams �
       let more = rises_at i e before.stamp at_e stamp_e before.is in
       omega arith
 
-module _ (streams : List Stream) (ok : IsPaired streams) (p : Pid) where
-  -- the same if no reason holds
-  pub stamp_counts_rise : (j i : ℕ) (d e : Event) → j < i → event_at streams p j ≡ Some d
-      → event_at streams p i ≡ Some e
-      → is_stamp d ≡ true → is_stamp e ≡ true → d.serial.this < e.serial.this
-  stamp_counts_rise = counts_rise streams ok.rising p
-
+module _ (streams : List Stream) (rising : first (not_rising streams) streams ≡ None) (p : Pid) where
   stamp_there : (j : ℕ) (f : Event) → event_at streams p j ≡ Some f → is_stamp f ≡ true
       → stamp_of streams p f.serial.this ≡ None → ⊥
   stamp_there j f at stamp none =
@@ -224,9 +218,9 @@ module _ (streams : List Stream) (ok : IsPaired streams) (p : Pid) where
       none-some place (sym given ∙ ap (λ (b : Bool). cond b (Some place) None) test)
 
   -- a send or print is the only one with its count
-  pub stamp_once : (j : ℕ) (f : Event) → event_at streams p j ≡ Some f → is_stamp f ≡ true
+  pub stamp_alone : (j : ℕ) (f : Event) → event_at streams p j ≡ Some f → is_stamp f ≡ true
       → stamp_of streams p f.serial.this ≡ Some (j, f)
-  stamp_once j f at stamp = elim (stamp_of streams p f.serial.this)
+  stamp_alone j f at stamp = elim (stamp_of streams p f.serial.this)
       as (λ o. stamp_of streams p f.serial.this ≡ o → o ≡ Some (j, f)) [
         | None ↦ λ none. absurd (stamp_there j f at stamp none)
         | Some g ↦ λ is.
@@ -235,10 +229,10 @@ module _ (streams : List Stream) (ok : IsPaired streams) (p : Pid) where
             let count = says.count in
             let number : 0 + found.0 ≡ found.0 = omega arith in
             let same : found.0 ≡ j = elim (cases_lt found.0 j) [
-              | inl below ↦ let rise = stamp_counts_rise found.0 j found.1 f below found.2 at says.stamps stamp in
+              | inl below ↦ let rise = counts_rise streams rising p found.0 j found.1 f below found.2 at says.stamps stamp in
                   absurd (omega arith)
               | inr above ↦ elim (cases_lt j found.0) [
-                | inl below ↦ let rise = stamp_counts_rise j found.0 f found.1 below at found.2 stamp says.stamps in
+                | inl below ↦ let rise = counts_rise streams rising p j found.0 f found.1 below at found.2 stamp says.stamps in
                     absurd (omega arith)
                 | inr least ↦ omega arith
               ]
@@ -248,6 +242,17 @@ module _ (streams : List Stream) (ok : IsPaired streams) (p : Pid) where
             ∙ same_Some found.1 f (sym found.2 ∙ ap (event_at streams p) same ∙ at) in
             λ k. Some (index k, event k)
       ] refl
+
+module _ (streams : List Stream) (ok : IsPaired streams) (p : Pid) where
+  -- the same if no reason holds
+  pub stamp_counts_rise : (j i : ℕ) (d e : Event) → j < i → event_at streams p j ≡ Some d
+      → event_at streams p i ≡ Some e
+      → is_stamp d ≡ true → is_stamp e ≡ true → d.serial.this < e.serial.this
+  stamp_counts_rise = counts_rise streams ok.rising p
+
+  pub stamp_once : (j : ℕ) (f : Event) → event_at streams p j ≡ Some f → is_stamp f ≡ true
+      → stamp_of streams p f.serial.this ≡ Some (j, f)
+  stamp_once = stamp_alone streams ok.rising p
 
 -- BOTH DIRECTIONS
 

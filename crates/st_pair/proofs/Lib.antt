@@ -7,6 +7,9 @@ pub mod Linkage
 pub mod AcceptedEvents
 pub mod Converse
 pub mod Received
+pub mod HiddenOnce
+pub mod KeyOrder
+pub mod BackLinks
 pub mod Marks
 pub mod StampRows
 pub mod Matches

@@ -36,13 +36,13 @@ both_equal Greater b h = absurd (cc)
 
 cmp_true : (k l : Key) → is_eq (stamp_key_cmp k l) ≡ true → k ≡ l
 cmp_true k l h =
-    let parts = both_equal (pid_cmp k.from l.from) (nat_cmp k.this l.this) h in
-    let from = pid_cmp-Equal k.from l.from parts.0 in
-    let this = nat_cmp-Equal k.this l.this parts.1 in
+    let parts = both_equal (nat_cmp k.this l.this) (pid_cmp k.from l.from) h in
+    let this = nat_cmp-Equal k.this l.this parts.0 in
+    let from = pid_cmp-Equal k.from l.from parts.1 in
     λ i. record { from = from i; this = this i }
 
 cmp_same : (k : Key) → is_eq (stamp_key_cmp k k) ≡ true
-cmp_same k = rw (pid_cmp-same k.from, nat_cmp-same k.this k.this refl) refl
+cmp_same k = rw (nat_cmp-same k.this k.this refl, pid_cmp-same k.from) refl
 
 -- what compares equal is one key
 pub cmp_eq : (k l : Key) → is_eq (stamp_key_cmp k l) ≡ key_eq k l

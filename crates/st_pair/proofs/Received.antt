@@ -17,16 +17,12 @@ use Rattle.st_pair.specs.declared.receives.Key.{Key}
 use Rattle.st_pair.specs.Places.{is_stamp, first, first_from, or_else}
 use Rattle.st_pair.specs.Pairing.{receive_of, repeated}
 use Rattle.st_pair.specs.Rules.{repeated_by, IsFirstFault}
-use Rattle.st_pair.specs.Tables.{key_eq, here, receive_rule, HasReceivesWith}
+use Rattle.st_pair.specs.Tables.{here, key_eq, key_in, receive_rule, HasReceivesWith}
 use Rattle.st_pair.proofs.AcceptedEvents.{cond_none}
 use Rattle.st_pair.proofs.Firsts.{first-events, first_from-step, or_none, or_assoc}
 
 abbrev pub Table : Type 0
 Table = Key → Option (Pid × ℕ)
-
--- the key of a receive
-abbrev pub key_in : Event → Key
-key_in e = record { from = e.from; this = e.serial.this }
 
 pub key_eq-true : (k l : Key) → key_eq k l ≡ true → k ≡ l
 key_eq-true k l h =
@@ -69,6 +65,44 @@ key_eq-same k = and_from (pid_eq k.from k.from) (k.this == k.this) (pid_eq-same 
 pub here_same : (k : Key) (place : Pid × ℕ) → here k place k ≡ Some place
 here_same k place = ap (λ (b : Bool). cond b (Some place) None) (key_eq-same k)
 
+-- of one key: what a table gave before these events and gives now, at the next one
+module _ (k : Key) (before now : Option (Pid × ℕ)) (p : Pid) (i : ℕ) (es : List Event) (e : Event)
+    (at : slice_get es i ≡ Some e) (receives : is_stamp e ≡ false)
+    (so_far : or_else now (first_from (receive_rule k) p i (drop i es))
+    ≡ or_else before (first_from (receive_rule k) p 0 es)) where
+  -- once it is noted
+  pub key_noted : (after : Option (Pid × ℕ)) → after ≡ or_else now (here (key_in e) (p, i) k)
+      → or_else after (first_from (receive_rule k) p (i + 1) (drop (i + 1) es))
+      ≡ or_else before (first_from (receive_rule k) p 0 es)
+  key_noted after is =
+      let rest = first_from (receive_rule k) p (i + 1) (drop (i + 1) es) in
+      ap (λ (o : Option (Pid × ℕ)). or_else o rest) (is ∙ ap (or_else now) (sym (here_rule k p i e receives)))
+      ∙ or_assoc now (receive_rule k p i e) rest
+      ∙ ap (or_else now) (sym (first_from-step (receive_rule k) p i es e at)) ∙ so_far
+
+  -- the first receive with the key is that of the table, or it is itself the first
+  pub key_repeated : key_in e ≡ k → (streams : List Stream) (rest : Option (Pid × ℕ)) (first : Pid × ℕ)
+      → or_else before (or_else (first_from (receive_rule k) p 0 es) rest) ≡ receive_of streams k.from k.this
+      → Some first ≡ or_else now (Some (p, i)) → repeated streams p i e ≡ repeated_by first p i
+  key_repeated own_key streams rest first all is =
+      let later = first_from (receive_rule k) p (i + 1) (drop (i + 1) es) in
+      let given = first_from (receive_rule k) p 0 es in
+      let own : receive_rule k p i e ≡ Some (p, i) = here_rule k p i e receives
+      ∙ ap (λ (l : Key). here l (p, i) k) own_key ∙ here_same k (p, i) in
+      let front : first_from (receive_rule k) p i (drop i es) ≡ Some (p, i) =
+      first_from-step (receive_rule k) p i es e at ∙ ap (λ (o : Option (Pid × ℕ)). or_else o later) own in
+      let found : or_else before given ≡ Some first =
+      sym so_far ∙ ap (or_else now) front ∙ sym is in
+      let sought : receive_of streams e.from e.serial.this ≡ Some first =
+      ap (λ (l : Key). receive_of streams l.from l.this) own_key
+      ∙ sym all ∙ sym (or_assoc before given rest)
+      ∙ ap (λ (o : Option (Pid × ℕ)). or_else o rest) found in
+      ap (option_and_then (λ (at : Pid × ℕ). if is_stamp e || (pid_eq at.0 p && at.1 == i) then None
+      else Some (fault.Repeated p i at.0 at.1))) sought
+      ∙ ap (λ (b : Bool). cond (b || (pid_eq first.0 p && first.1 == i)) None
+      (Some (fault.Repeated p i first.0 first.1)))
+      receives
+
 module _ (before now : Table) (p : Pid) (i : ℕ) (es : List Event) (e : Event)
     (at : slice_get es i ≡ Some e) (receives : is_stamp e ≡ false)
     (so_far : (k : Key) → or_else (now k) (first_from (receive_rule k) p i (drop i es))
@@ -77,33 +111,14 @@ module _ (before now : Table) (p : Pid) (i : ℕ) (es : List Event) (e : Event)
   pub noted_more : (after : Table) → ((k : Key) → after k ≡ or_else (now k) (here (key_in e) (p, i) k)) → (k : Key)
       → or_else (after k) (first_from (receive_rule k) p (i + 1) (drop (i + 1) es))
       ≡ or_else (before k) (first_from (receive_rule k) p 0 es)
-  noted_more after is k =
-      let rest = first_from (receive_rule k) p (i + 1) (drop (i + 1) es) in
-      ap (λ (o : Option (Pid × ℕ)). or_else o rest) (is k ∙ ap (or_else (now k)) (sym (here_rule k p i e receives)))
-      ∙ or_assoc (now k) (receive_rule k p i e) rest
-      ∙ ap (or_else (now k)) (sym (first_from-step (receive_rule k) p i es e at)) ∙ so_far k
+  noted_more after is k = key_noted k (before k) (now k) p i es e at receives (so_far k) (after k) (is k)
 
-  -- the first receive with its key is that of the table, or it is itself the first
   pub repeated_at : (streams : List Stream) (rest : Table) (first : Pid × ℕ)
       → HasReceivesWith streams before (λ k. or_else (first_from (receive_rule k) p 0 es) (rest k))
       → Some first ≡ or_else (now (key_in e)) (Some (p, i)) → repeated streams p i e ≡ repeated_by first p i
   repeated_at streams rest first all is =
       let k = key_in e in
-      let later = first_from (receive_rule k) p (i + 1) (drop (i + 1) es) in
-      let given = first_from (receive_rule k) p 0 es in
-      let own : receive_rule k p i e ≡ Some (p, i) = here_rule k p i e receives ∙ here_same k (p, i) in
-      let front : first_from (receive_rule k) p i (drop i es) ≡ Some (p, i) =
-      first_from-step (receive_rule k) p i es e at ∙ ap (λ (o : Option (Pid × ℕ)). or_else o later) own in
-      let found : or_else (before k) given ≡ Some first =
-      sym (so_far k) ∙ ap (or_else (now k)) front ∙ sym is in
-      let sought : receive_of streams e.from e.serial.this ≡ Some first =
-      sym (all k) ∙ sym (or_assoc (before k) given (rest k))
-      ∙ ap (λ (o : Option (Pid × ℕ)). or_else o (rest k)) found in
-      ap (option_and_then (λ (at : Pid × ℕ). if is_stamp e || (pid_eq at.0 p && at.1 == i) then None
-      else Some (fault.Repeated p i at.0 at.1))) sought
-      ∙ ap (λ (b : Bool). cond (b || (pid_eq first.0 p && first.1 == i)) None
-      (Some (fault.Repeated p i first.0 first.1)))
-      receives
+      key_repeated k (before k) (now k) p i es e at receives (so_far k) refl streams (rest k) first (all k) is
 
 -- a send or print gives nothing
 pub unnoted_passed : (k : Key) (p : Pid) (i : ℕ) (es : List Event) (e : Event) → slice_get es i ≡ Some e
@@ -125,6 +140,15 @@ stamp_unrepeated streams p i e stamps = elim (receive_of streams e.from e.serial
     ]
 
 -- a process's receives between those before it and those after it
+pub key_with : (streams : List Stream) → IsRising (pids_of streams) → (pids : List Pid) (k : ℕ) (d : Pid)
+    (es : List Event) (key : Key) (before : Option (Pid × ℕ)) → pids ≡ pids_of streams → k < length pids
+    → es ≡ events_of streams (get_or pids k d)
+    → or_else before (first (receive_rule key) (drop k streams)) ≡ first (receive_rule key) streams
+    → or_else before (or_else (first_from (receive_rule key) (get_or pids k d) 0 es)
+    (first (receive_rule key) (drop (k + 1) streams))) ≡ receive_of streams key.from key.this
+key_with streams rising pids k d es key before are within events so_far =
+    ap (or_else before) (sym (first-events (receive_rule key) streams rising pids k d es are within events)) ∙ so_far
+
 pub all_with : (streams : List Stream) → IsRising (pids_of streams) → (pids : List Pid) (k : ℕ) (d : Pid)
     (es : List Event) (table : Table) → pids ≡ pids_of streams → k < length pids
     → es ≡ events_of streams (get_or pids k d)
@@ -132,8 +156,7 @@ pub all_with : (streams : List Stream) → IsRising (pids_of streams) → (pids 
     → HasReceivesWith streams table (λ key. or_else (first_from (receive_rule key) (get_or pids k d) 0 es)
     (first (receive_rule key) (drop (k + 1) streams)))
 all_with streams rising pids k d es table are within events so_far key =
-    ap (or_else (table key)) (sym (first-events (receive_rule key) streams rising pids k d es are within events))
-    ∙ so_far key
+    key_with streams rising pids k d es key (table key) are within events (so_far key)
 
 -- what is given first is the first fault
 pub first_fault : (o : Option PairFault) (f : PairFault) → o ≡ Some f → IsFirstFault o f

@@ -25,6 +25,9 @@ blank = record {
 pub receive_unstamped : (e : Event) → e.kind ≡ kind.Receive → is_stamp e ≡ false
 receive_unstamped e is = ap (λ k. elim k [ kind.Send ↦ true | kind.Receive ↦ false | kind.Print ↦ true ]) is
 
+pub send_stamped : (e : Event) → e.kind ≡ kind.Send → is_stamp e ≡ true
+send_stamped e is = ap (λ k. elim k [ kind.Send ↦ true | kind.Receive ↦ false | kind.Print ↦ true ]) is
+
 -- WHAT `stamp_of` FINDS
 
 pub record IsStampAt (es : List Event) (i : ℕ) (f : ℕ × Event) : Type 0 where

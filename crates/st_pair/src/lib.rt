@@ -8,6 +8,7 @@
 
 mod answer;
 pub mod laws;
+mod links;
 mod pairing;
 mod receives;
 mod rules;

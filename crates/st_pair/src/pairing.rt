@@ -7,18 +7,20 @@ ghost use Rattle.st_core.specs.Pid.{pid_eq, IsRising};
 ghost use Rattle.st_core.specs.Run.{pids_of, Stream};
 ghost use Rattle.st_pair.specs.Pairing.{first_rule, mismatch, source_at, receiver_at};
 ghost use Rattle.st_pair.specs.Pairing.{refusal, IsPairFault};
-ghost use Rattle.st_pair.specs.Places.{first, first_from};
+ghost use Rattle.st_pair.specs.Places.{event_at, first, first_from};
+ghost use Rattle.st_core.specs.Streams.{events_of};
 ghost use Rattle.st_pair.specs.Final.{RulesOut};
 ghost use Rattle.st_pair.specs.Links.{IsPairing, link_at, link_of, pairing_of, links_in};
 ghost use Rattle.st_pair.specs.Links.{receiver_in, source_in};
 ghost use Rattle.st_pair.specs.Rules.{IsFirstFault};
-ghost use Rattle.st_pair.specs.Tables.{AreTables};
+ghost use Rattle.st_pair.specs.Tables.{link_back, sent_in, AreTables, IsGot};
 
 use crate::answer::{PairFault, Source};
-use crate::receives::Receives;
+use crate::links::{Links, Sources};
+use crate::receives::{Key, Receives};
 use crate::rules::{Rule, mismatch_at};
 use crate::stamp_table::Stamps;
-use st_core::{Event, Kind, Pid, Sequence, Streams, place_of};
+use st_core::{Event, Kind, Pid, Streams, place_of};
 use st_guesses::Guesses;
 use std::alloc::{AllocError, Global};
 use std::marker::Model;
@@ -50,6 +52,16 @@ impl Link {
         }
     }
 
+    /// The index of the send or print, if this is a receive of one.
+    pub fn sent(self) -> Option<u64>
+        ensures { result ≡ sent_in self }
+    {
+        match self {
+            Link::From(_, index) => Some(index),
+            Link::Printed | Link::Unpaired | Link::To(..) | Link::Hidden => None,
+        }
+    }
+
     /// The place of the receive, if this is a send that has one.
     fn receiver(self) -> Option<(Pid, u64)>
         ensures { result ≡ receiver_in self }
@@ -67,7 +79,7 @@ impl Link {
 pub struct Pairing {
     pids: Vec<Pid>,
     guesses: Guesses,
-    links: Vec<Sequence<Link>>,
+    links: Vec<Links>,
 }
 
 impl Model for Pairing {
@@ -125,10 +137,10 @@ fn nth_link(links: &[Link], index: u64) -> Option<Link>
 /// What streams are paired by, if none of the first three reasons is against them.
 #[derive(Drop)]
 struct Tables {
-    /// The first receive from each sender with each count.
+    /// The first receive from each send and print.
     got: Receives,
-    /// The sends and prints of each process.
-    sent: Stamps,
+    /// What each event is paired with, but a send with nothing.
+    links: Vec<Links>,
 }
 
 impl Tables {
@@ -148,77 +160,96 @@ impl Tables {
         let Ok(mut sent) = Stamps::of(alloc, streams) else {
             return Err(PairFault::Memory);
         };
-        let got = Receives::of(alloc, streams, &mut sent)?;
-        Ok(Tables { got, sent })
-    }
-
-    /// What an event is paired with.
-    fn link_of(&mut self, streams: &Streams, pid: Pid, event: &Event) -> Link
-        requires { AreTables streams.now self.old }
-        ensures link { result ≡ link_of streams.now pid event.now }
-        ensures tables { AreTables streams.now self.new }
-    {
-        match event.kind {
-            Kind::Print => Link::Printed,
-            Kind::Send => match self
-                .got
-                .find(streams, &mut self.sent, pid, event.serial.this)
-            {
-                None => Link::Unpaired,
-                Some((to, index)) => Link::To(to, index),
-            },
-            Kind::Receive => match self.sent.find(streams, event.from, event.serial.this) {
-                None => Link::Hidden,
-                Some((_, index)) => Link::From(event.from, index),
-            },
-        }
-    }
-
-    /// What the events of one process are paired with, up to the first receive that differs from its send.
-    fn links_of(
-        &mut self,
-        alloc: Global,
-        streams: &Streams,
-        pid: Pid,
-        events: &[Event],
-    ) -> Result<Vec<Link>, PairFault>
-        requires { AreTables streams.now self.old }
-        ensures ok { IfOk result (λ links. links.items ≡ map (link_of streams.now pid) events.now) }
-        ensures matched { OnOk result (first_from (mismatch streams.now) pid 0 events.now ≡ None) }
-        ensures err { IfErr result (IsFirstFault (first_from (mismatch streams.now) pid 0 events.now)) }
-        ensures tables { AreTables streams.now self.new }
-    {
-        let Ok(mut links) = Vec::with_capacity(alloc, events.len()) else {
+        let Ok(sources) = Sources::of(alloc, streams, &mut sent) else {
             return Err(PairFault::Memory);
         };
-        for (i, event) in events.iter().enumerate() {
-            let link = self.link_of(streams, pid, event);
-            if let Some(fault) = mismatch_at(streams, pid, i as u64, event, link) {
-                return Err(fault);
-            }
-            let Ok(()) = links.push(link) else {
-                return Err(PairFault::Memory);
-            };
-        }
-        Ok(links)
+        let Sources { links, hidden } = sources;
+        let got = Receives::of_sources(alloc, streams, &mut sent, &links, hidden)?;
+        Ok(Tables { got, links })
     }
+}
 
-    /// The links of all processes.
-    fn links(&mut self, alloc: Global, streams: &Streams) -> Result<Vec<Sequence<Link>>, PairFault>
-        requires { AreTables streams.now self.old }
-        ensures ok { IfOk result (λ lists. lists.items ≡ map (links_in streams.now) streams.now) }
-        ensures matched { OnOk result (first (mismatch streams.now) streams.now ≡ None) }
-        ensures err { IfErr result (IsFirstFault (first (mismatch streams.now) streams.now)) }
-    {
-        let mut lists = Vec::new(alloc);
-        for &pid in streams.pids() {
-            let links = self.links_of(alloc, streams, pid, streams.events(pid))?;
-            let Ok(()) = lists.push(Sequence::from_vec(links)) else {
-                return Err(PairFault::Memory);
+/// What the event at this index of the process at this place is paired with. If it is no send, it has this link.
+fn link_of(
+    got: &Receives,
+    streams: &Streams,
+    pid: Pid,
+    place: usize,
+    index: u64,
+    event: &Event,
+    link: Link,
+) -> Link
+    requires got { IsGot streams.now got.now }
+    requires place { slice_get (pids_of streams.now) place ≡ Some pid }
+    requires event { event_at streams.now pid index ≡ Some event.now }
+    requires link { link ≡ link_back streams.now event.now }
+    ensures { result ≡ link_of streams.now pid event.now }
+{
+    match event.kind {
+        Kind::Print | Kind::Receive => link,
+        Kind::Send => {
+            let key = Key {
+                this: event.serial.this,
+                from: pid,
             };
+            match got.first_of(streams, key, place, index) {
+                None => Link::Unpaired,
+                Some((to, index)) => Link::To(to, index),
+            }
         }
-        Ok(lists)
     }
+}
+
+/// Fills in the receivers of one process's sends, up to the first receive that differs from its send.
+fn fill_in(
+    got: &Receives,
+    streams: &Streams,
+    pid: Pid,
+    place: usize,
+    events: &[Event],
+    links: &mut Links,
+) -> Option<PairFault>
+    requires got { IsGot streams.now got.now }
+    requires place { slice_get (pids_of streams.now) place ≡ Some pid }
+    requires events { events.now ≡ events_of streams.now pid }
+    requires links { links.old ≡ map (link_back streams.now) events.now }
+    ensures links { result ≡ None → links.new ≡ map (link_of streams.now pid) events.now }
+    ensures fault { result ≡ first_from (mismatch streams.now) pid 0 events.now }
+{
+    for (i, event) in events.iter().enumerate() {
+        let link = link_of(
+            got,
+            streams,
+            pid,
+            place,
+            i as u64,
+            event,
+            links.as_slice()[i],
+        );
+        if let Some(fault) = mismatch_at(streams, pid, i as u64, event, link) {
+            return Some(fault);
+        }
+        links.put(i, link);
+    }
+    None
+}
+
+/// The links of all processes, up to the first receive that differs from its send.
+fn links_of(streams: &Streams, tables: Tables) -> Result<Vec<Links>, PairFault>
+    requires { AreTables streams.now tables }
+    ensures ok { IfOk result (λ lists. lists.items ≡ map (links_in streams.now) streams.now) }
+    ensures matched { OnOk result (first (mismatch streams.now) streams.now ≡ None) }
+    ensures err { IfErr result (IsFirstFault (first (mismatch streams.now) streams.now)) }
+{
+    let Tables { got, mut links } = tables;
+    let pids = streams.pids();
+    for (place, pid) in pids.iter().enumerate() {
+        let events = streams.events(*pid);
+        if let Some(fault) = fill_in(&got, streams, *pid, place, events, &mut links[place]) {
+            return Err(fault);
+        }
+    }
+    Ok(links)
 }
 
 /// Guesses at the places of these pids.
@@ -240,11 +271,7 @@ fn pids_of(alloc: Global, streams: &Streams) -> Result<Vec<Pid>, AllocError>
 }
 
 /// The pairing of links, which are those of the streams.
-fn pairing_of(
-    alloc: Global,
-    streams: &Streams,
-    links: Vec<Sequence<Link>>,
-) -> Result<Pairing, AllocError>
+fn pairing_of(alloc: Global, streams: &Streams, links: Vec<Links>) -> Result<Pairing, AllocError>
     requires { links.items ≡ map (links_in streams.now) streams.now }
     ensures { IfOk result (λ pairing. pairing ≡ pairing_of streams.now streams.now) }
 {
@@ -266,8 +293,8 @@ pub fn pair(alloc: Global, streams: &Streams) -> Result<Pairing, PairFault>
     // with any.
     ensures rules_out { IfErr result (RulesOut streams.now) }
 {
-    let mut tables = Tables::of(alloc, streams)?;
-    let links = tables.links(alloc, streams)?;
+    let tables = Tables::of(alloc, streams)?;
+    let links = links_of(streams, tables)?;
     match pairing_of(alloc, streams, links) {
         Err(_) => Err(PairFault::Memory),
         Ok(pairing) => Ok(pairing),

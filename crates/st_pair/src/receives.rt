@@ -1,19 +1,27 @@
 //! The reported receives, by the sender and the count of their message.
 //!
 //! A receive of a reported send or print is noted at the place of that, which is found among its
-//! sender's, whose counts rise. Only the receives of hidden sends are kept by key.
+//! sender's, whose counts rise. The receives of hidden sends are kept by key only if two of them have one key, or a
+//! message of a reported send was received twice: then the first of these faults is looked for.
 
-ghost use Rattle.std.specs.Prelude.{◌≡◌, ℕ, ◌<◌, Option, None, Some, IfOk, IfErr, IfNone, IfSome, OnOk};
+ghost use Rattle.std.specs.Prelude.{◌≡◌, ℕ, ◌<◌, Option, None, Some, IfOk, IfErr, IfNone, IfSome, OnOk, IsTrue};
 ghost use Rattle.std.specs.Prelude.{length, map, slice_get, slice_index_or, slice_set};
+ghost use Rattle.std.specs.Ordering.{is_lt};
 ghost use Rattle.st_core.specs.declared.types.Pid.{Pid as PidValue};
 ghost use Rattle.st_pair.specs.declared.receives.Key.{Key as KeyValue};
 ghost use Rattle.st_pair.specs.Pairing.{repeated};
 ghost use Rattle.st_pair.specs.Places.{first, first_from, or_else};
 ghost use Rattle.st_pair.specs.Rules.{IsFirstFault};
 ghost use Rattle.st_pair.specs.Tables.{here, mark_at, mark_of, no_marks, place_for, receive_rule};
-ghost use Rattle.st_pair.specs.Tables.{AreStamps, HasReceives, HasReceivesWith, IsMark};
+ghost use Rattle.st_pair.specs.Tables.{hidden_keys, link_back, links_back, stamp_index, stamp_key_cmp};
+ghost use Rattle.st_pair.specs.Tables.{AreDistinctKeys, AreHiddenOnce, AreStamps, HasReceives, HasReceivesWith};
+ghost use Rattle.st_pair.specs.Tables.{HasShownReceives, IsMark, IsShown};
+ghost use Rattle.st_core.specs.Pid.{IsRising};
+ghost use Rattle.st_core.specs.Run.{pids_of};
 
 use crate::answer::PairFault;
+use crate::links::Links;
+use crate::pairing::Link;
 use crate::rules::repetition_at;
 use crate::stamp_table::Stamps;
 use st_core::{Event, Kind, Pid, Streams};
@@ -21,18 +29,19 @@ use std::alloc::{AllocError, Global};
 use std::collections::BTreeMap;
 use std::marker::Model;
 
-/// A sender and the count that it stamped.
+/// A sender and the count that it stamped. Receives come by rising count mostly, so keys that are
+/// ordered by count lie near those that came before them.
 #[derive(Clone, Copy, Debug, PartialEq, Eq, PartialOrd, Ord)]
 pub struct Key {
-    /// The sender, which comes first in the order.
-    pub from: Pid,
-    /// The count.
+    /// The count, which comes first in the order.
     pub this: u64,
+    /// The sender.
+    pub from: Pid,
 }
 
 impl Key {
     /// Those of the message that an event received.
-    fn of(event: &Event) -> Key
+    pub fn of(event: &Event) -> Key
         ensures { result ≡ record { from = event.now.from; this = event.now.serial.this } }
     {
         Key {
@@ -99,7 +108,7 @@ pub struct Mark {
 pub struct Receives {
     /// The receives of reported sends and prints, by the process's place.
     shown: Vec<Marks>,
-    /// The receives of hidden sends.
+    /// The receives of hidden sends; none if it is known that they have different keys.
     hidden: BTreeMap<Key, (Pid, u64)>,
 }
 
@@ -115,7 +124,8 @@ impl Receives {
         })
     }
 
-    /// Those of these streams, if no message was received twice. The sends and prints are theirs.
+    /// Those of these streams, if no message was received twice. The sends and prints are theirs. Each receive's send is
+    /// searched for, and receives of hidden sends are put in a map.
     pub fn of(alloc: Global, streams: &Streams, sent: &mut Stamps) -> Result<Receives, PairFault>
         requires { AreStamps streams.now sent.old }
         ensures table { IfOk result (λ receives. HasReceives streams.now (place_for streams.now receives)) }
@@ -130,6 +140,107 @@ impl Receives {
             note_receives(&mut receives, streams, sent, pid, streams.events(pid))?;
         }
         Ok(receives)
+    }
+
+    /// Those of reported sends and prints, if each receive has a key of its own. These are the links of the events, and
+    /// the receives of hidden sends have different keys.
+    fn of_links(
+        alloc: Global,
+        streams: &Streams,
+        links: &[Links],
+    ) -> Result<Option<Receives>, AllocError>
+        requires links { links.now ≡ map (links_back streams.now) streams.now }
+        requires apart { AreDistinctKeys (hidden_keys streams.now streams.now) }
+        ensures table { IfOk result (λ found. IfSome found (λ receives.
+            HasShownReceives streams.now (place_for streams.now receives))) }
+        ensures once { IfOk result (λ found. IfSome found (λ receives. first (repeated streams.now) streams.now ≡ None)) }
+    {
+        let mut receives = Receives::new(alloc, streams)?;
+        let pids = streams.pids();
+        for (place, pid) in pids.iter().enumerate() {
+            let own = links[place].as_slice();
+            if !note_links(&mut receives, streams, *pid, streams.events(*pid), own) {
+                return Ok(None);
+            }
+        }
+        Ok(Some(receives))
+    }
+
+    /// Those of reported sends and prints, if no message was received twice. These are the links of the events, and the
+    /// keys of the receives of hidden sends.
+    pub fn of_sources(
+        alloc: Global,
+        streams: &Streams,
+        sent: &mut Stamps,
+        links: &[Links],
+        hidden: Vec<Key>,
+    ) -> Result<Receives, PairFault>
+        requires stamps { AreStamps streams.now sent.old }
+        requires links { links.now ≡ map (links_back streams.now) streams.now }
+        requires hidden { hidden.items ≡ hidden_keys streams.now streams.now }
+        ensures table { IfOk result (λ receives. HasShownReceives streams.now (place_for streams.now receives)) }
+        ensures once { OnOk result (first (repeated streams.now) streams.now ≡ None) }
+        ensures fault { IfErr result (IsFirstFault (first (repeated streams.now) streams.now)) }
+    {
+        if are_apart(hidden) {
+            match Receives::of_links(alloc, streams, links) {
+                Err(_) => return Err(PairFault::Memory),
+                Ok(Some(receives)) => return Ok(receives),
+                Ok(None) => {}
+            }
+        }
+        Receives::of(alloc, streams, sent)
+    }
+
+    /// Notes a receive of the send or print at this index, and returns the place of the first one: this one's if there is
+    /// none before it. None if there is no such event.
+    fn note_link(
+        &mut self,
+        streams: &Streams,
+        key: Key,
+        index: u64,
+        place: (Pid, u64),
+    ) -> Option<(Pid, u64)>
+        requires rising { IsRising (pids_of streams.now) }
+        requires index { stamp_index streams.now key ≡ Some index }
+        ensures first { IfSome result (λ first.
+            Some first ≡ or_else (place_for streams.now self.old key) (Some place)) }
+        ensures noted { IfSome result (λ first. first ≡ place → (k : KeyValue) →
+            place_for streams.now self.new k
+            ≡ or_else (place_for streams.now self.old k) (here key place k)) }
+    {
+        let Some(process) = streams.place_of(key.from) else {
+            return None;
+        };
+        let Some(first) = mark_at(&self.shown, process, index) else {
+            return None;
+        };
+        let mark = Mark {
+            process,
+            index,
+            first,
+        };
+        Some(self.note_shown(streams, key, mark, place))
+    }
+
+    /// The place of the first receive of the send or print with this key, which is at this index of the process at this
+    /// place.
+    pub fn first_of(
+        &self,
+        streams: &Streams,
+        key: Key,
+        process: usize,
+        index: u64,
+    ) -> Option<(Pid, u64)>
+        requires rising { IsRising (pids_of streams.now) }
+        requires process { slice_get (pids_of streams.now) process ≡ Some key.from }
+        requires index { stamp_index streams.now key ≡ Some index }
+        ensures { result ≡ place_for streams.now self.now key }
+    {
+        match mark_at(&self.shown, process, index) {
+            None => self.hidden.get(&key).copied(),
+            Some(first) => first,
+        }
     }
 
     /// Where the receives with this key are noted, if its send or print was reported.
@@ -217,25 +328,6 @@ impl Receives {
             }
         }
     }
-
-    /// The place of the first receive from this sender with this count, if there is one.
-    pub fn find(
-        &self,
-        streams: &Streams,
-        sent: &mut Stamps,
-        from: Pid,
-        this: u64,
-    ) -> Option<(Pid, u64)>
-        requires { AreStamps streams.now sent.old }
-        ensures found { result ≡ place_for streams.now self.now (record { from = from; this = this }) }
-        ensures sent { sent.new ≡ sent.old }
-    {
-        let key = Key { from, this };
-        match self.mark(streams, sent, key) {
-            None => self.hidden.get(&key).copied(),
-            Some(mark) => mark.first,
-        }
-    }
 }
 
 /// What is noted at this place and index, if there is an event.
@@ -295,4 +387,53 @@ fn note_receives(
         }
     }
     Ok(())
+}
+
+/// Whether these keys differ from one another.
+fn are_apart(mut keys: Vec<Key>) -> bool
+    ensures { IsTrue result → AreDistinctKeys keys.items }
+{
+    keys.sort_unstable();
+    keys.is_sorted_by(
+        |before: &Key, after: &Key| -> bool
+            ensures { result ≡ is_lt (stamp_key_cmp before.now after.now) }
+        { before < after },
+    )
+}
+
+/// Notes the receives of reported sends and prints of one process, whose links these are. Returns whether each is known
+/// to be the first one of its message.
+fn note_links(
+    receives: &mut Receives,
+    streams: &Streams,
+    pid: Pid,
+    events: &[Event],
+    links: &[Link],
+) -> bool
+    requires rising { IsRising (pids_of streams.now) }
+    requires links { links.now ≡ map (link_back streams.now) events.now }
+    ensures noted { IsTrue result → (k : KeyValue) → IsShown streams.now k →
+        place_for streams.now receives.new k
+        ≡ or_else (place_for streams.now receives.old k) (first_from (receive_rule k) pid 0 events.now) }
+    ensures once { (rest : KeyValue → Option (PidValue × ℕ)) →
+        HasShownReceives streams.now (λ k. or_else (place_for streams.now receives.old k)
+        (or_else (first_from (receive_rule k) pid 0 events.now) (rest k))) →
+        AreHiddenOnce streams.now pid events.now →
+        IsTrue result → first_from (repeated streams.now) pid 0 events.now ≡ None }
+{
+    for (i, event) in events.iter().enumerate() {
+        match links[i].sent() {
+            None => {}
+            Some(index) => {
+                let place = (pid, i as u64);
+                let Some(first) = receives.note_link(streams, Key::of(event), index, place) else {
+                    return false;
+                };
+                if repetition_at(first, pid, i as u64).is_some() {
+                    return false;
+                }
+            }
+        }
+    }
+    true
 }

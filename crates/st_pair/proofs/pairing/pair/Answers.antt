@@ -17,8 +17,8 @@ returns-in_err-links-clause-rules_out c =
     let refused : IfErr c.from_residual-in_err-links.result (IsPairFault c.args.streams.now) = search rules in
     answered_rules_out c.args.streams.now c.from_residual-in_err-links.result refused
 
-pub returns-clause-ok : goal.returns-clause-ok
-returns-clause-ok c =
+pub returns-in-Ok-clause-ok : goal.returns-in-Ok-clause-ok
+returns-in-Ok-clause-ok c =
     let streams = c.args.streams.now in
     record {
       accepted = c.in_ok-tables.ensures.accepted
