@@ -1,22 +1,23 @@
 //! Hidden sends: sends that only their receives tell of.
 
 use crate::links::short;
+use crate::sorting::sorted_by_number;
 use st_core::{Event, Kind, Pid, Streams};
 use st_pair::{Pairing, Source};
 use std::alloc::{AllocError, Global};
 
 /// The receive of a hidden send. Indexes have half the memory of a `usize` in all of the candidate:
 /// one past what they hold is wrong, and the judge refuses the outcome of it.
-#[derive(Clone, Copy, Debug)]
+#[derive(Clone, Copy, Debug, PartialEq, Eq, PartialOrd, Ord)]
 struct Receipt {
     /// The count of the message.
     this: u64,
-    /// Its sender.
-    from: Pid,
+    /// The place of its sender.
+    sender: u32,
+    /// The index of the receive among the events of its process.
+    index: u32,
     /// The process that received it.
     to: Pid,
-    /// The index of the receive there.
-    index: u32,
 }
 
 /// A hidden send.
@@ -33,24 +34,46 @@ pub(crate) struct HiddenSend {
 
 /// Notes the receives of hidden sends among a process's events.
 fn note_receipts(
+    streams: &Streams,
     pairing: &Pairing,
     pid: Pid,
-    events: &[Event],
     receipts: &mut Vec<Receipt>,
 ) -> Result<(), AllocError> {
-    for (index, event) in events.iter().enumerate() {
-        if event.kind == Kind::Receive
-            && pairing.source(pid, index as u64) == Some(Source::Hidden)
+    for (index, event) in streams.events(pid).iter().enumerate() {
+        if event.kind != Kind::Receive
+            || pairing.source(pid, index as u64) != Some(Source::Hidden)
         {
+            continue;
+        }
+        if let Some(sender) = streams.place_of(event.from) {
             receipts.push(Receipt {
                 this: event.serial.this,
-                from: event.from,
-                to: pid,
+                sender: short(sender),
                 index: short(index),
+                to: pid,
             })?;
         }
     }
     Ok(())
+}
+
+/// The receipts of so many senders, by sender and count. They are dealt out to their senders first:
+/// those of one are few, and are sorted where memory is near.
+fn by_sender(
+    alloc: Global,
+    receipts: &[Receipt],
+    senders: usize,
+) -> Result<Vec<Receipt>, AllocError> {
+    let sender_of = |receipt: &Receipt| receipt.sender as usize;
+    let mut sorted = sorted_by_number(alloc, receipts, senders, &sender_of)?;
+    let mut rest = sorted.as_mut_slice();
+    for sender in 0..senders {
+        let count = rest.partition_point(|receipt| receipt.sender as usize <= sender);
+        let (own, later) = rest.split_at_mut(count);
+        own.sort_unstable();
+        rest = later;
+    }
+    Ok(sorted)
 }
 
 /// The hidden sends of streams, by sender and count. They have no places yet. What is sorted is
@@ -62,11 +85,12 @@ pub(crate) fn hidden_sends(
 ) -> Result<Vec<HiddenSend>, AllocError> {
     let mut receipts = Vec::new(alloc);
     for &pid in streams.pids() {
-        note_receipts(pairing, pid, streams.events(pid), &mut receipts)?;
+        note_receipts(streams, pairing, pid, &mut receipts)?;
     }
-    receipts.sort_by_key(|receipt| (receipt.from, receipt.this))?;
-    let mut hidden = Vec::with_capacity(alloc, receipts.len())?;
-    for receipt in &receipts {
+    let sorted = by_sender(alloc, &receipts, streams.pids().len())?;
+    drop(receipts);
+    let mut hidden = Vec::with_capacity(alloc, sorted.len())?;
+    for receipt in &sorted {
         if let Some(receive) = streams.event(receipt.to, u64::from(receipt.index)) {
             let event = Event {
                 kind: Kind::Send,

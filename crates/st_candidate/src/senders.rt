@@ -189,7 +189,7 @@ struct Turn {
 
 /// The needs that are left among these stamps, by count, and those of one count as they stand.
 fn turns_of(alloc: Global, fed: &[Ask]) -> Result<Vec<Turn>, AllocError> {
-    let mut turns = Vec::new(alloc);
+    let mut turns = Vec::with_capacity(alloc, fed.len())?;
     for (number, ask) in fed.iter().enumerate() {
         if ask.message == Message::Missing {
             turns.push(Turn {

@@ -319,6 +319,7 @@ pub(crate) fn add_process(draft: &mut Draft, pid: Pid, events: &[Event]) -> Resu
         ≡ draft.old ++ record { pid = pid; events = events.now } ∷ []) }
 {
     open_last(draft, pid)?;
+    draft.reserve(pid, events.len())?;
     for event in events {
         add_own(draft, pid, *event)?;
     }
