@@ -25,7 +25,7 @@ use Rattle.st_text.specs.Spelling.{token, act, line}
 use Rattle.st_text.specs.Range.{FitsPid, FitsSerial, FitsPlace, FitsEvent, FitsComponent, FitsWant, FitsToken, FitsAct}
 use Rattle.st_text.specs.Range.{Fits, most_label, most_number}
 use Rattle.st_text.specs.Text.{Contents, process_lines, act_lines, is_remote, body, lines_of, ended, IsBundle}
-use Rattle.st_text.specs.Text.{IsWithinLimits}
+use Rattle.st_text.specs.Text.{IsWithin}
 use Rattle.st_text.specs.Parts.Cutter.{HasNoNewline}
 use Rattle.st_text.specs.Answer.{Reads}
 use Rattle.st_text.specs.Fault.{cut, onto_first, sayings, first_fault, pids, pid_of, is_wide_header, unknown_from}
@@ -255,7 +255,7 @@ acts_after limits (Some list) ls wide ps m c remote few =
     by true = refl
     by false = refl
 
-pub lines_sound : (limits : Limits) (c : Contents) → IsBundle c → IsWithinLimits limits c
+pub lines_sound : (limits : Limits) (c : Contents) → IsBundle c → IsWithin limits c
     → first_fault limits [] (map Some (lines_of c)) ≡ None
 lines_sound limits c h w =
     let wide : Bool = list_any is_remote (body c) in

@@ -14,7 +14,7 @@ use Rattle.st_text.specs.declared.fault.ReadFault.{ReadFault}
 use Rattle.st_text.specs.declared.fault.ReadFault.TheVariants as faults
 use Rattle.st_text.specs.Range.{Fits}
 use Rattle.st_text.specs.Text.{Contents, process_lines, act_lines, body, lines_of, spelling, IsBundle, IsText}
-use Rattle.st_text.specs.Text.{IsWithinLimits}
+use Rattle.st_text.specs.Text.{IsWithin}
 use Rattle.st_text.specs.Contents.{contents}
 use Rattle.st_text.specs.Fault.{sayings, fault_within}
 use Rattle.st_text.specs.Answer.{Reads, IsReadResultOrMemory}
@@ -129,7 +129,7 @@ no_fault : (limits : Limits) (bytes : List ℕ) (f : ReadFault) → fault_within
 no_fault limits bytes f e g = cc
 
 -- what is written is read
-pub read_back : (limits : Limits) (c : Contents) (r : Result Bundle ReadFault) → IsBundle c → IsWithinLimits limits c
+pub read_back : (limits : Limits) (c : Contents) (r : Result Bundle ReadFault) → IsBundle c → IsWithin limits c
     → IsReadResultOrMemory limits (spelling c) r
     → IsReadBack c r
 read_back limits c r b w a = by r a

@@ -116,6 +116,18 @@ pub on_err : {S T E : Type 0} {puts : S → List ℕ → S → Type 0} {failed :
 on_err t x y (Ok v) is h = absurd cc
 on_err t x y (Err e) is h = h
 
+-- room was made, and then the text was put behind what waits
+pub room_then : {S : Type 0} (puts : S → List ℕ → S → Type 0) (failed : S → Bool) (text : List ℕ) {a b : S}
+    {x y z : List ℕ}
+    → Goes puts failed [] a b x y → z ≡ y ++ text → Goes puts failed text a b x z
+room_then puts failed text g e = goes_then puts failed [] text g (goes_buffer puts failed e)
+
+-- no room could be made
+pub no_room : {S T E : Type 0} (puts : S → List ℕ → S → Type 0) (failed : S → Bool) (text : List ℕ) {a b : S}
+    (x y : List ℕ) (r : Result T E)
+    → IsErr r → WritesPart puts failed (x ++ []) a b → WritesOn puts failed text a b x y r
+no_room puts failed text x y r is h = on_err text x y r is (part_longer puts failed [] text x h)
+
 -- the text so far and one more failed, so all of it did
 pub failed_among : {S : Type 0} (puts : S → List ℕ → S → Type 0) (failed : S → Bool) (t u v : List ℕ) {whole : List ℕ}
     {a b c : S} {x y : List ℕ}
@@ -131,6 +143,13 @@ pub flat_map-map : {X Y A : Type 0} (f : Y → List A) (g : X → Y) (xs : List 
     → flat_map f (map g xs) ≡ flat_map (λ x. f (g x)) xs
 flat_map-map f g [] = refl
 flat_map-map f g (x ∷ xs) = ap (λ ys. f (g x) ++ ys) (flat_map-map f g xs)
+
+-- what went of items went of their images
+pub on_images : {S X Y T E : Type 0} (puts : S → List ℕ → S → Type 0) (failed : S → Bool) (f : Y → List ℕ) (g : X → Y)
+    (xs : List X) (a b : S) (x y : List ℕ) (r : Result T E)
+    → WritesOn puts failed (flat_map (λ v. f (g v)) xs) a b x y r → WritesOn puts failed (flat_map f (map g xs)) a b x y r
+on_images puts failed f g xs a b x y r h =
+    subst (λ (t : List ℕ). WritesOn puts failed t a b x y r) (sym (flat_map-map f g xs)) h
 
 pub flat_map_take : {X A : Type 0} (f : X → List A) (xs : List X) (i : ℕ) (d : X) → i < length xs
     → flat_map f (take (i + 1) xs) ≡ flat_map f (take i xs) ++ f (get_or xs i d)

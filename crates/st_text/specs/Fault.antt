@@ -15,17 +15,17 @@ use Rattle.st_text.specs.declared.line.Line.TheVariants as lines
 use Rattle.st_text.specs.declared.fault.ReadFault.{ReadFault}
 use Rattle.st_text.specs.declared.fault.ReadFault.TheVariants as faults
 use Rattle.st_text.specs.declared.limits.Limits.{Limits}
-use Rattle.st_text.specs.Limits.{standard}
 use Rattle.st_text.specs.Parsing.{line_of}
 use Rattle.st_text.specs.Text.{is_remote}
 
 -- ---- the lines of bytes
 
--- the lines, each ended by a newline, and the bytes behind the last newline
+-- the byte before the first line, or before what is behind the last newline if there is no line
 abbrev pub onto_first : ℕ → List (List ℕ) → List ℕ → List (List ℕ) × List ℕ
 onto_first b [] tail = ([], b ∷ tail)
 onto_first b (l ∷ ls) tail = ((b ∷ l) ∷ ls, tail)
 
+-- the lines, each ended by a newline, and the bytes behind the last newline
 abbrev pub cut : List ℕ → List (List ℕ) × List ℕ
 cut [] = ([], [])
 cut (b ∷ bytes) = if b == 10 then ([] ∷ (cut bytes).0, (cut bytes).1)
@@ -70,7 +70,7 @@ abbrev pub last_passes : (Pid → Bool) → Option Pid → Bool
 last_passes test None = false
 last_passes test (Some q) = test q
 
--- may the line come behind a header, by whether acts have begun and by the last process?
+-- whether the line may come behind a header, by whether acts have begun and by the last process
 abbrev pub may_follow : Bool → Option Pid → Line → Bool
 may_follow begun last (lines.Header b) = false
 may_follow begun last (lines.Process p) = not begun
@@ -178,7 +178,3 @@ fault_within limits bytes =
     if nat_lt limits.bytes (length bytes) then Some faults.TooLarge
     else first_of (first_fault limits [] (sayings bytes))
     (first_of (truncated bytes) (closing_fault (said (sayings bytes))))
-
--- the refusal of `read`
-abbrev pub fault : List ℕ → Option ReadFault
-fault bytes = fault_within standard bytes

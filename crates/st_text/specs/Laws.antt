@@ -11,7 +11,7 @@ use Rattle.st_text.specs.declared.limits.Limits.{Limits}
 use Rattle.st_text.specs.Spelling.{line}
 use Rattle.st_text.specs.Range.{Fits}
 use Rattle.st_text.specs.Parsing.{line_of}
-use Rattle.st_text.specs.Text.{Contents, spelling, IsBundle, IsText, IsWithinLimits}
+use Rattle.st_text.specs.Text.{Contents, spelling, IsBundle, IsText, IsWithin}
 use Rattle.st_text.specs.Contents.{contents}
 use Rattle.st_text.specs.Fault.{line_fault, first_fault, is_unknown, unknown_from, fault_within}
 use Rattle.st_text.specs.Answer.{Reads, IsReadResultOrMemory}
@@ -77,5 +77,5 @@ IsReadBack c (Err f) = ⊥
 -- for the text of a bundle within any limits the result is that bundle
 abbrev pub WrittenIsRead : Type 0
 WrittenIsRead = (limits : Limits) (c : Contents) (r : Result Bundle ReadFault) → IsBundle c
-    → IsWithinLimits limits c
+    → IsWithin limits c
     → IsReadResultOrMemory limits (spelling c) r → IsReadBack c r

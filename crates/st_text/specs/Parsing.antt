@@ -37,21 +37,23 @@ after [] bytes = Some bytes
 after (c ∷ word) [] = None
 after (c ∷ word) (b ∷ bytes) = if b == c then after word bytes else None
 
--- what f reads behind the word, if the bytes begin with it, and else other
+-- f of what is there, else other
 abbrev pub on_some : {A B : Type 0} → Option A → (A → Option B) → Option B → Option B
 on_some (Some x) f other = f x
 on_some None f other = other
 
+-- what f reads behind the word, if the bytes begin with it, else other
 abbrev pub begins : {A : Type 0} → List ℕ → List ℕ → (List ℕ → Option A) → Option A → Option A
 begins word bytes f other = on_some (after word bytes) f other
 
--- the number of at most `most` whose one spelling the bytes begin with, and the bytes after it
+-- the value of the digits with the rest, if they are its one spelling and it is at most `most`
 abbrev pub number_from : ℕ → List ℕ → List ℕ → Option (ℕ × List ℕ)
 number_from most digits rest =
     if bytes_eq (decimal (digits_value 10 digits)) digits
     && nat_le (digits_value 10 digits) most then Some
     (digits_value 10 digits, rest) else None
 
+-- the number of at most `most` whose one spelling the bytes begin with, and the bytes after it
 unfoldable pub number : ℕ → List ℕ → Option (ℕ × List ℕ)
 number most bytes =
     number_from most (take (prefix_len is_ascii_digit bytes) bytes)

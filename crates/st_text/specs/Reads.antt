@@ -6,7 +6,6 @@ use Rattle.st_text.specs.declared.bundle.Bundle.{Bundle}
 use Rattle.st_text.specs.declared.fault.ReadFault.{ReadFault}
 use Rattle.st_text.specs.declared.fault.ReadFault.TheVariants as faults
 use Rattle.st_text.specs.declared.limits.Limits.{Limits}
-use Rattle.st_text.specs.Limits.{standard}
 use Rattle.st_text.specs.Answer.{IsReadResultOrMemory}
 use Rattle.st_text.specs.Growth.{Grows}
 
@@ -57,7 +56,7 @@ pub record HadGrowth (limits : Limits) {S : Type 0} (gives : S → List ℕ → 
 
 -- The reader's calls gave some bytes in a row, and the result is theirs; Memory only if a call gave
 -- bytes to keep.
-pub record ReadsSourceWithin (limits : Limits) {S : Type 0} (gives : S → List ℕ → S → Type 0)
+pub record ReadsSource (limits : Limits) {S : Type 0} (gives : S → List ℕ → S → Type 0)
     (ended : S → Type 0)
     (failed : S → Bool)
     (old new : S) (r : Result Bundle ReadFault) : Type 0 where
@@ -65,9 +64,3 @@ pub record ReadsSourceWithin (limits : Limits) {S : Type 0} (gives : S → List 
   pub given : InARow gives old bytes new
   pub answer : ReadsAs limits ended failed bytes old new r
   pub memory : r ≡ Err faults.Memory → HadGrowth limits gives bytes old
-
--- The same within the limits of `read`.
-abbrev pub ReadsSource : {S : Type 0} → (S → List ℕ → S → Type 0) → (S → Type 0) → (S → Bool)
-    → S → S
-    → Result Bundle ReadFault → Type 0
-ReadsSource gives ended failed old new r = ReadsSourceWithin standard gives ended failed old new r

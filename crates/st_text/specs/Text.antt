@@ -18,7 +18,6 @@ use Rattle.st_text.specs.declared.line.Line.TheVariants as lines
 use Rattle.st_text.specs.Spelling.{line, ended_line}
 use Rattle.st_text.specs.Range.{Fits}
 use Rattle.st_text.specs.declared.limits.Limits.{Limits}
-use Rattle.st_text.specs.Limits.{standard}
 
 -- what a bundle holds: streams, and acts if there are any
 pub record Contents : Type 0 where
@@ -113,12 +112,8 @@ pub record IsText (bytes : List ℕ) (c : Contents) : Type 0 where
   pub spelled : bytes ≡ spelling c
 
 -- within these limits
-pub record IsWithinLimits (limits : Limits) (c : Contents) : Type 0 where
+pub record IsWithin (limits : Limits) (c : Contents) : Type 0 where
   pub bytes : length (spelling c) ≤ limits.bytes
   pub processes : length c.streams ≤ limits.processes
   pub events : length (flat_map (λ s. s.events) c.streams) ≤ limits.events
   pub acts : length (acts_or_none c.acts) ≤ limits.acts
-
--- within the limits of `read`
-abbrev pub IsWithin : Contents → Type 0
-IsWithin c = IsWithinLimits standard c

@@ -34,4 +34,4 @@ pub use sink::{Device, flush, make_room};
 pub use spell::{
     Buffer, put_act, put_bytes, put_event, put_number, put_numbered, put_pid, put_serial,
 };
-pub use writer::{write, write_act, write_event, write_parts, write_pid};
+pub use writer::{write, write_act, write_acts, write_event, write_parts, write_pid};

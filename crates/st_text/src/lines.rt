@@ -1,7 +1,8 @@
-//! One line on its way to a sink, whatever it says: its words and a newline wait in the buffer.
-//! Writing takes no memory.
+//! Lines on their way to a sink, whatever they say: the words and a newline of each wait in the
+//! buffer. Writing takes no memory.
 
 ghost use Rattle.std.specs.Prelude.{◌≡◌, ◌+◌, ◌<◌, ◌++◌, ℕ, List};
+ghost use Rattle.std.specs.List.{flat_map};
 ghost use Rattle.arrayvec.specs.ArrayVec.{array_vec_len};
 ghost use Rattle.st_text.specs.Room.{line_room, HasRoom};
 ghost use Rattle.st_text.specs.Spelling as spelled;
@@ -11,7 +12,7 @@ ghost use Rattle.st_text.specs.Writing.{WritesOn, WritesText};
 use crate::line::Line;
 use crate::sink::{Device, flush, make_room};
 use crate::spell::{Buffer, put_act, put_bytes, put_event, put_pid};
-use st_core::ByteSink;
+use st_core::{Act, ByteSink, Event};
 
 /// What is written as one line.
 pub trait TextLine: Copy {
@@ -44,6 +45,24 @@ impl TextLine for Line {
     }
 }
 
+impl TextLine for Event {
+    ghost words = { spelled.event };
+
+    #[inline(always)]
+    fn put_words(self, buffer: &mut Buffer) {
+        put_event(buffer, &self);
+    }
+}
+
+impl TextLine for Act {
+    ghost words = { spelled.act };
+
+    #[inline(always)]
+    fn put_words(self, buffer: &mut Buffer) {
+        put_act(buffer, &self);
+    }
+}
+
 /// Writes a line into the buffer, and first what waits there if too little room is left. Always
 /// inlined, so that no copy of the line is made on the way.
 #[inline(always)]
@@ -58,6 +77,21 @@ pub fn write_line<S: ByteSink, L: TextLine>(
     make_room(sink, buffer)?;
     line.put_words(buffer);
     put_bytes(buffer, b"\n");
+    Ok(())
+}
+
+/// Writes these lines into the buffer, one after the other.
+pub(crate) fn write_each<S: ByteSink, L: TextLine>(
+    sink: &mut S,
+    buffer: &mut Buffer,
+    lines: &[L],
+) -> Result<(), Device>
+    ensures { WritesOn S.puts S.failed (flat_map (λ line. ended_line (L.words line)) lines.now)
+        sink.old sink.new buffer.old.items buffer.new.items result }
+{
+    for line in lines {
+        write_line(sink, buffer, *line)?;
+    }
     Ok(())
 }
 

@@ -1,6 +1,7 @@
 //! Reading a bundle from a source, to the source's end or one byte too many.
 
-ghost use Rattle.st_text.specs.Reads.{ReadsSource, ReadsSourceWithin};
+ghost use Rattle.st_text.specs.Limits.{standard};
+ghost use Rattle.st_text.specs.Reads.{ReadsSource};
 
 use crate::bundle::Bundle;
 use crate::fault::ReadFault;
@@ -15,7 +16,7 @@ const PIECE: u64 = 8_192;
 /// The bundle whose text the source gives, in pieces, within the standard limits: see
 /// `read_within`.
 pub fn read<S: ByteSource>(alloc: Global, source: &mut S) -> Result<Bundle, ReadFault>
-    ensures { ReadsSource S.gives S.ended S.failed source.old source.new result }
+    ensures { ReadsSource standard S.gives S.ended S.failed source.old source.new result }
 {
     read_within(alloc, source, Limits::STANDARD)
 }
@@ -33,7 +34,7 @@ pub fn read_within<S: ByteSource>(
     source: &mut S,
     limits: Limits,
 ) -> Result<Bundle, ReadFault>
-    ensures { ReadsSourceWithin limits S.gives S.ended S.failed source.old source.new result }
+    ensures { ReadsSource limits S.gives S.ended S.failed source.old source.new result }
 {
     let mut feed = Feed::within(alloc, limits);
     // The feed stops counting once it fails: the source is still read to its end then, for `Device`

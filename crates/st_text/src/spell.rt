@@ -115,6 +115,16 @@ fn put_bool(buffer: &mut Buffer, flag: bool)
     }
 }
 
+/// Appends a word and a truth value.
+fn put_flag(buffer: &mut Buffer, word: &[u8], flag: bool)
+    requires { HasRoom (length word.now + bool_room) buffer.old }
+    ensures { Puts (length word.now + bool_room)
+        (word.now ++ spelled.bool flag) buffer.old buffer.new }
+{
+    put_bytes(buffer, word);
+    put_bool(buffer, flag);
+}
+
 /// Appends a pid, as `<0.30.0>`.
 pub fn put_pid(buffer: &mut Buffer, pid: Pid)
     requires { HasRoom pid_room buffer.old }
@@ -132,6 +142,17 @@ fn put_label(buffer: &mut Buffer, label: Label)
     ensures { Puts number_room (spelled.label label) buffer.old buffer.new }
 {
     put_number(buffer, u64::from(label.0));
+}
+
+/// Appends a pid with words before it and behind it.
+fn put_pid_between(buffer: &mut Buffer, before: &[u8], pid: Pid, behind: &[u8])
+    requires { HasRoom (length before.now + length behind.now + pid_room) buffer.old }
+    ensures { Puts (length before.now + length behind.now + pid_room)
+        (before.now ++ spelled.pid pid ++ behind.now) buffer.old buffer.new }
+{
+    put_bytes(buffer, before);
+    put_pid(buffer, pid);
+    put_bytes(buffer, behind);
 }
 
 /// Appends a serial, as `{0,1}`.
@@ -206,22 +227,10 @@ fn put_component(buffer: &mut Buffer, component: Component)
     ensures { Puts component_room (spelled.component component) buffer.old buffer.new }
 {
     match component {
-        Component::Label(label) => {
-            put_bytes(buffer, b"label ");
-            put_label(buffer, label);
-        }
-        Component::Send(flag) => {
-            put_bytes(buffer, b"send ");
-            put_bool(buffer, flag);
-        }
-        Component::Receive(flag) => {
-            put_bytes(buffer, b"receive ");
-            put_bool(buffer, flag);
-        }
-        Component::Print(flag) => {
-            put_bytes(buffer, b"print ");
-            put_bool(buffer, flag);
-        }
+        Component::Label(label) => put_numbered(buffer, b"label ", u64::from(label.0)),
+        Component::Send(flag) => put_flag(buffer, b"send ", flag),
+        Component::Receive(flag) => put_flag(buffer, b"receive ", flag),
+        Component::Print(flag) => put_flag(buffer, b"print ", flag),
     }
 }
 
@@ -231,24 +240,13 @@ fn put_want(buffer: &mut Buffer, want: Want)
 {
     match want {
         Want::First => put_bytes(buffer, b"first"),
-        Want::From(pid) => {
-            put_bytes(buffer, b"from ");
-            put_pid(buffer, pid);
-        }
-        Want::Value(value) => {
-            put_bytes(buffer, b"value ");
-            put_number(buffer, value);
-        }
+        Want::From(pid) => put_pid_between(buffer, b"from ", pid, b""),
+        Want::Value(value) => put_numbered(buffer, b"value ", value),
         Want::Both(pid, value) => {
-            put_bytes(buffer, b"both ");
-            put_pid(buffer, pid);
-            put_bytes(buffer, b" ");
+            put_pid_between(buffer, b"both ", pid, b" ");
             put_number(buffer, value);
         }
-        Want::Place(place) => {
-            put_bytes(buffer, b"place ");
-            put_number(buffer, place);
-        }
+        Want::Place(place) => put_numbered(buffer, b"place ", place),
     }
 }
 
@@ -257,10 +255,8 @@ fn put_flags(buffer: &mut Buffer, flags: Flags)
     ensures { Puts flags_room (spelled.flags flags) buffer.old buffer.new }
 {
     put_bool(buffer, flags.send);
-    put_bytes(buffer, b" ");
-    put_bool(buffer, flags.receive);
-    put_bytes(buffer, b" ");
-    put_bool(buffer, flags.print);
+    put_flag(buffer, b" ", flags.receive);
+    put_flag(buffer, b" ", flags.print);
 }
 
 fn put_token(buffer: &mut Buffer, token: &Token)
@@ -270,43 +266,28 @@ fn put_token(buffer: &mut Buffer, token: &Token)
     put_label(buffer, token.label);
     put_bytes(buffer, b" ");
     put_flags(buffer, token.flags);
-    put_bytes(buffer, b" ");
-    put_number(buffer, token.serial.prev);
-    put_bytes(buffer, b" ");
-    put_number(buffer, token.serial.this);
+    put_numbered(buffer, b" ", token.serial.prev);
+    put_numbered(buffer, b" ", token.serial.this);
     put_bytes(buffer, b" ");
     put_pid(buffer, token.from);
-}
-
-/// A word, a space, a pid and, if more follows, another space.
-fn put_actor(buffer: &mut Buffer, word: &[u8], pid: Pid, space: &[u8])
-    requires { HasRoom (length word.now + length space.now + pid_room) buffer.old }
-    ensures { Puts (length word.now + length space.now + pid_room)
-        (word.now ++ spelled.pid pid ++ space.now) buffer.old buffer.new }
-{
-    put_bytes(buffer, word);
-    put_pid(buffer, pid);
-    put_bytes(buffer, space);
 }
 
 fn put_send(buffer: &mut Buffer, sender: Pid, receiver: Pid, value: u64)
     requires { HasRoom act_room buffer.old }
     ensures { Puts act_room (spelled.act (Act.Send sender receiver value)) buffer.old buffer.new }
 {
-    put_actor(buffer, b"send ", sender, b" ");
+    put_pid_between(buffer, b"send ", sender, b" ");
     put_pid(buffer, receiver);
-    put_bytes(buffer, b" ");
-    put_number(buffer, value);
+    put_numbered(buffer, b" ", value);
 }
 
 fn put_print_at(buffer: &mut Buffer, pid: Pid, label: Label, value: u64)
     requires { HasRoom act_room buffer.old }
     ensures { Puts act_room (spelled.act (Act.PrintAt pid label value)) buffer.old buffer.new }
 {
-    put_actor(buffer, b"printat ", pid, b" ");
+    put_pid_between(buffer, b"printat ", pid, b" ");
     put_label(buffer, label);
-    put_bytes(buffer, b" ");
-    put_number(buffer, value);
+    put_numbered(buffer, b" ", value);
 }
 
 /// Appends an act, without a newline.
@@ -317,27 +298,27 @@ pub fn put_act(buffer: &mut Buffer, act: &Act)
     match act {
         Act::Send(sender, receiver, value) => put_send(buffer, *sender, *receiver, *value),
         Act::Receive(pid, want) => {
-            put_actor(buffer, b"receive ", *pid, b" ");
+            put_pid_between(buffer, b"receive ", *pid, b" ");
             put_want(buffer, *want);
         }
         Act::Print(pid, value) => {
-            put_actor(buffer, b"print ", *pid, b" ");
+            put_pid_between(buffer, b"print ", *pid, b" ");
             put_number(buffer, *value);
         }
         Act::PrintAt(pid, label, value) => put_print_at(buffer, *pid, *label, *value),
         Act::Set(pid, component) => {
-            put_actor(buffer, b"set ", *pid, b" ");
+            put_pid_between(buffer, b"set ", *pid, b" ");
             put_component(buffer, *component);
         }
-        Act::Clear(pid) => put_actor(buffer, b"clear ", *pid, b""),
+        Act::Clear(pid) => put_pid_between(buffer, b"clear ", *pid, b""),
         Act::Restore(pid, token) => {
-            put_actor(buffer, b"restore ", *pid, b" ");
+            put_pid_between(buffer, b"restore ", *pid, b" ");
             put_token(buffer, token);
         }
-        Act::Look(pid) => put_actor(buffer, b"look ", *pid, b""),
-        Act::Reset(pid) => put_actor(buffer, b"reset ", *pid, b""),
+        Act::Look(pid) => put_pid_between(buffer, b"look ", *pid, b""),
+        Act::Reset(pid) => put_pid_between(buffer, b"reset ", *pid, b""),
         Act::Tracer(pid, flag) => {
-            put_actor(buffer, b"tracer ", *pid, b" ");
+            put_pid_between(buffer, b"tracer ", *pid, b" ");
             put_bool(buffer, *flag);
         }
     }

@@ -1,36 +1,21 @@
 //! Writing a bundle: its one text, to any sink, through a buffer on the stack. Writing takes no
 //! memory.
 
-ghost use Rattle.std.specs.Prelude.{◌∷◌, map};
+ghost use Rattle.std.specs.Prelude.{Some};
 ghost use Rattle.std.specs.List.{flat_map};
 ghost use Rattle.st_core.specs.Streams.{events_of};
-ghost use Rattle.st_text.specs.declared.line.Line.TheVariants as lines;
 ghost use Rattle.st_text.specs.Spelling as spelled;
-ghost use Rattle.st_text.specs.Text.{ended, process_lines, body, parts, spelling};
+ghost use Rattle.st_text.specs.Text.{ended, process_lines, act_lines, body, parts, spelling};
 ghost use Rattle.st_text.specs.Contents.{contents};
 ghost use Rattle.st_text.specs.Writing.{WritesOn, WritesText};
 
 use crate::bundle::Bundle;
 use crate::line::Line;
-use crate::lines::write_line;
+use crate::lines::{write_each, write_line};
 use crate::remote::are_parts_remote;
 use crate::sink::{Device, flush};
 use crate::spell::{Buffer, put_act, put_event, put_pid};
 use st_core::{Act, ByteSink, Event, Pid, Streams};
-
-fn write_events<S: ByteSink>(
-    sink: &mut S,
-    buffer: &mut Buffer,
-    events: &[Event],
-) -> Result<(), Device>
-    ensures { WritesOn S.puts S.failed (flat_map ended (map lines.Event events.now))
-        sink.old sink.new buffer.old.items buffer.new.items result }
-{
-    for event in events {
-        write_line(sink, buffer, Line::Event(*event))?;
-    }
-    Ok(())
-}
 
 /// Writes a process and its events.
 fn write_process<S: ByteSink>(
@@ -44,7 +29,7 @@ fn write_process<S: ByteSink>(
         sink.old sink.new buffer.old.items buffer.new.items result }
 {
     write_line(sink, buffer, Line::Process(pid))?;
-    write_events(sink, buffer, streams.events(pid))
+    write_each(sink, buffer, streams.events(pid))
 }
 
 fn write_streams<S: ByteSink>(
@@ -61,27 +46,17 @@ fn write_streams<S: ByteSink>(
     Ok(())
 }
 
-fn write_act_list<S: ByteSink>(
+/// Writes the word `acts` and these acts into the buffer, a line each.
+pub fn write_acts<S: ByteSink>(
     sink: &mut S,
     buffer: &mut Buffer,
     acts: &[Act],
 ) -> Result<(), Device>
-    ensures { WritesOn S.puts S.failed (flat_map ended (map lines.Act acts.now))
-        sink.old sink.new buffer.old.items buffer.new.items result }
-{
-    for act in acts {
-        write_line(sink, buffer, Line::Act(*act))?;
-    }
-    Ok(())
-}
-
-/// Writes the word and the acts.
-fn write_acts<S: ByteSink>(sink: &mut S, buffer: &mut Buffer, acts: &[Act]) -> Result<(), Device>
-    ensures { WritesOn S.puts S.failed (flat_map ended (lines.Acts ∷ map lines.Act acts.now))
+    ensures { WritesOn S.puts S.failed (flat_map ended (act_lines (Some acts.now)))
         sink.old sink.new buffer.old.items buffer.new.items result }
 {
     write_line(sink, buffer, Line::Acts)?;
-    write_act_list(sink, buffer, acts)
+    write_each(sink, buffer, acts)
 }
 
 /// Writes all lines after the header.
