@@ -13,7 +13,7 @@ use Rattle.st_core.specs.Step.{actor}
 use Rattle.st_core.specs.Run.{Stream, pids_of}
 use Rattle.st_core.specs.Streams.{stream_of, lists, with_event, added, with_report, is_own, ComesLast, AreOwn}
 use Rattle.st_core.proofs.ForCallers.{pid_eq-same, IsBelow-apart, with_event_pid}
-use Rattle.st_runtime.specs.declared.pcb.entry.Entry.{Entry}
+use Rattle.st_log.specs.declared.entry.Entry.{Entry}
 use Rattle.st_runtime.specs.Joined.{reports_of, streams_of}
 use Rattle.st_runtime.specs.Joining.{report_at}
 use Rattle.st_runtime.specs.Pcb.{Control}

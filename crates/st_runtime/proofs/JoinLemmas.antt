@@ -5,7 +5,7 @@ use Rattle.std.specs.Prelude.{filter}
 use Rattle.st_core.specs.declared.types.Pid.{Pid}
 use Rattle.st_core.specs.Pid.{pid_eq}
 use Rattle.st_core.proofs.ForCallers.{pid_eq-same}
-use Rattle.st_runtime.specs.declared.pcb.entry.Entry.{Entry}
+use Rattle.st_log.specs.declared.entry.Entry.{Entry}
 use Rattle.st_runtime.specs.declared.join.record.Record.{Record}
 use Rattle.st_runtime.specs.Joined.{IsOneRun, IsJoined}
 use Rattle.st_runtime.specs.Joining.{IsLogged}

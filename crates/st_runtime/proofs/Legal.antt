@@ -9,7 +9,7 @@ use Rattle.st_core.specs.Pid.{pid_eq}
 use Rattle.st_core.specs.State.{Process}
 use Rattle.st_core.specs.Step.{Acted, acted, actor, touches, reached, changed}
 use Rattle.st_core.proofs.ForCallers.{pid_eq-true, pid_eq-same}
-use Rattle.st_runtime.specs.declared.pcb.entry.Entry.{Entry}
+use Rattle.st_log.specs.declared.entry.Entry.{Entry}
 use Rattle.st_runtime.specs.Logs.{carried_by, IsOwnPart, IsOtherPart, IsPart}
 use Rattle.st_runtime.proofs.PartLemmas.{touches_actor}
 use Rattle.st_runtime.proofs.StepLemmas.{reached_carried}

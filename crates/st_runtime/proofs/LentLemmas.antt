@@ -10,11 +10,13 @@ use Rattle.st_core.specs.Pid.{pid_eq}
 use Rattle.st_core.specs.Step.{Acted, acted, actor, outcome_of, step}
 use Rattle.st_mail.specs.Actor.{is_inner}
 use Rattle.st_runtime.specs.declared.fault.ActFault.{ActFault}
+use Rattle.st_runtime.specs.declared.fault.ActFault.TheVariants as act_fault
 use Rattle.st_runtime.specs.declared.fault.PcbFault.{PcbFault}
 use Rattle.st_runtime.specs.declared.fault.PcbFault.TheVariants as fault
 use Rattle.st_runtime.specs.Inside.{IsAppended}
-use Rattle.st_runtime.specs.Logs.{last_rank}
+use Rattle.st_log.specs.Entries.{last_rank}
 use Rattle.st_runtime.specs.Lent.{AreSame, FindsStep, FindsClockFull, FindsRankFull, IsLentStep}
+use Rattle.st_runtime.specs.Locked.{IsHeldStep}
 use Rattle.st_runtime.specs.Pcb.{Control, IsStepped, greatest_rank, is_alone, lent_state}
 use Rattle.st_runtime.proofs.StepLemmas.{step_alone, step_between, stepped_alone}
 
@@ -139,15 +141,46 @@ between_steps top x y v done apart acts =
 
 -- ---- under locks, whose refusals are those of the call
 
-pub act_ok : (top ranks : ℕ) (a : Act) (xs ys : List Control) (r : Result Reply PcbFault) (q : Result Reply ActFault)
-    → IsLentStep top ranks a xs ys r → IfOk q (λ y. r ≡ Ok y) → IfOk q (λ y. IsStepped top a y xs ys)
-act_ok top ranks a xs ys r (Ok y) is same =
-    lent_ok top ranks a xs ys (Ok y) (subst (IsLentStep top ranks a xs ys) same is)
-act_ok top ranks a xs ys r (Err f) is same = tt
+-- what the act returned is what the call did
+pub record IsTold (r : Result Reply PcbFault) (q : Result Reply ActFault) : Type 0 where
+  pub ok : IfOk q (λ y. r ≡ Ok y)
+  pub err : IfErr q (λ f. (refusal : PcbFault) × (r ≡ Err refusal))
+  pub clock : (q ≡ Err act_fault.ClockFull) ↔ (r ≡ Err fault.ClockFull)
+  pub rank : (q ≡ Err act_fault.RankFull) ↔ (r ≡ Err fault.RankFull)
 
-pub act_err : (top ranks : ℕ) (a : Act) (xs ys : List Control) (r : Result Reply PcbFault) (q : Result Reply ActFault)
+told_ok : (top ranks : ℕ) (a : Act) (xs ys : List Control) (r : Result Reply PcbFault) (q : Result Reply ActFault)
+    → IsLentStep top ranks a xs ys r → IfOk q (λ y. r ≡ Ok y) → IfOk q (λ y. IsStepped top a y xs ys)
+told_ok top ranks a xs ys r (Ok y) is same =
+    lent_ok top ranks a xs ys (Ok y) (subst (IsLentStep top ranks a xs ys) same is)
+told_ok top ranks a xs ys r (Err f) is same = tt
+
+told_err : (top ranks : ℕ) (a : Act) (xs ys : List Control) (r : Result Reply PcbFault) (q : Result Reply ActFault)
     → IsLentStep top ranks a xs ys r → IfErr q (λ f. (refusal : PcbFault) × (r ≡ Err refusal))
     → OnErr q (AreSame xs ys)
-act_err top ranks a xs ys r (Ok y) is told = tt
-act_err top ranks a xs ys r (Err f) is told =
+told_err top ranks a xs ys r (Ok y) is told = tt
+told_err top ranks a xs ys r (Err f) is told =
     lent_err top ranks a xs ys (Err told.0) (subst (IsLentStep top ranks a xs ys) told.1 is)
+
+-- the locks held the act's own processes
+pub held_step : (top ranks : ℕ) (a : Act) (AreOwn : Type 0) (xs ys : List Control)
+    (r : Result Reply PcbFault) (q : Result Reply ActFault)
+    → AreOwn → IsLentStep top ranks a xs ys r → IsTold r q → IsHeldStep top ranks a AreOwn xs ys q
+held_step top ranks a AreOwn xs ys r q own is told =
+    let clock = lent_clock top ranks a xs ys r is in
+    let rank = lent_rank top ranks a xs ys r is in
+    record {
+      ok = told_ok top ranks a xs ys r q is told.ok;
+      err = told_err top ranks a xs ys r q is told.err;
+      clock = (λ full. (own, clock.0 (told.clock.0 full)), λ both. told.clock.1 (clock.1 both.1));
+      rank = (λ full. (own, rank.0 (told.rank.0 full)), λ both. told.rank.1 (rank.1 both.1));
+    }
+
+-- the locks held others
+pub held_stray : (top ranks : ℕ) (a : Act) (AreOwn : Type 0) (xs ys : List Control)
+    → ¬ AreOwn → AreSame xs ys → IsHeldStep top ranks a AreOwn xs ys (Err act_fault.Stray)
+held_stray top ranks a AreOwn xs ys others same = record {
+  ok = tt;
+  err = same;
+  clock = (λ full. cc, λ both. absurd (others both.0));
+  rank = (λ full. cc, λ both. absurd (others both.0));
+}

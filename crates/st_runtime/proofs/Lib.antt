@@ -1,6 +1,4 @@
 -- What the step calls and the calls of a system need.
-pub mod CallLemmas
-pub mod RowLemmas
 pub mod LentLemmas
 pub mod LogLemmas
 pub mod PartLemmas

@@ -6,9 +6,10 @@ use Rattle.st_core.specs.declared.types.Message.{Message}
 use Rattle.st_core.specs.State.{LocalState, Process}
 use Rattle.st_mail.specs.Actor.{process_of, QueueFits}
 use Rattle.st_mail.specs.Mail.{queue_in}
-use Rattle.st_runtime.specs.declared.pcb.entry.Entry.{Entry}
+use Rattle.st_log.specs.declared.entry.Entry.{Entry}
 use Rattle.st_runtime.specs.Inside.{IsInside}
-use Rattle.st_runtime.specs.Logs.{IsPart, LeadTo, RanksRise, last_rank, zero_process}
+use Rattle.st_log.specs.Entries.{last_rank}
+use Rattle.st_runtime.specs.Logs.{IsPart, LeadTo, RanksRise, zero_process}
 use Rattle.st_runtime.specs.Pcb.{IsFromLog}
 use Rattle.st_runtime.proofs.PartLemmas.{part_pid}
 

@@ -4,7 +4,7 @@ use Rattle.std.proofs.Common.{refl, sym, ap, ◌∙◌, subst, arith, inl, inr, 
 use Rattle.std.specs.Prelude.{filter, All, AllPairs, Contains}
 use Rattle.st_core.specs.Step.{actor}
 use Rattle.st_core.proofs.ForCallers.{IsBelow-trans, not_below_itself}
-use Rattle.st_runtime.specs.declared.pcb.entry.Entry.{Entry}
+use Rattle.st_log.specs.declared.entry.Entry.{Entry}
 use Rattle.st_runtime.specs.Logs.{RanksRise}
 use Rattle.st_runtime.specs.Joined.{IsBefore}
 

@@ -14,7 +14,7 @@ use Rattle.st_core.specs.declared.types.Act.TheVariants as act
 use Rattle.st_core.specs.Pid.{node_of, node_eq, IsRising}
 use Rattle.st_core.specs.Step.{actor, touches}
 use Rattle.st_core.specs.Streams.{is_among}
-use Rattle.st_runtime.specs.declared.pcb.entry.Entry.{Entry}
+use Rattle.st_log.specs.declared.entry.Entry.{Entry}
 use Rattle.st_runtime.specs.Joining.{wide_of, IsAlike, IsFirstOf, IsOnNode, IsOnNodeIfWide}
 use Rattle.st_runtime.specs.Joining.{IsSettledAt, IsSharedUnlessWide, IsWholeIfOwn}
 use Rattle.st_runtime.specs.Pcb.{Control, is_wide}

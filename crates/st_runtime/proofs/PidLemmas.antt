@@ -10,7 +10,7 @@ use Rattle.std.proofs.lemmas.Option.{slice_get-get_or}
 use Rattle.st_core.specs.declared.types.Pid.{Pid}
 use Rattle.st_core.specs.Pid.{pid_cmp, pid_eq}
 use Rattle.st_core.specs.Streams.{is_among}
-use Rattle.st_core.proofs.ForCallers.{pid_cmp-Equal, pid_eq-true, is_among-found}
+use Rattle.st_core.proofs.ForCallers.{pid_cmp-Equal, pid_eq-refl, pid_eq-true, is_among-found}
 use Rattle.st_core.proofs.ForCallers.{is_among-missing}
 
 -- a place that was searched for
@@ -35,3 +35,10 @@ same_unless p q alike =
       | true ↦ λ is _. pid_eq-true p q is
       | false ↦ λ is alike. absurd (cc)
     ] refl alike
+
+-- pids that are told apart
+pub apart_if : (p q : Pid) → not (pid_eq p q) ≡ true → ¬ (p ≡ q)
+apart_if p q apart same =
+    let alike : pid_eq p q ≡ true = ap (λ x. pid_eq x q) same ∙ pid_eq-refl q in
+    let no : not (pid_eq p q) ≡ false = ap not alike in
+    absurd (cc)

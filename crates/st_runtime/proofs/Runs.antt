@@ -15,7 +15,7 @@ use Rattle.st_core.specs.Streams.{is_among}
 use Rattle.st_core.proofs.ForCallers.{pid_eq-true, some_of, step_done, run_from-more}
 use Rattle.st_core.proofs.ForCallers.{changed_pid, changed_untouched}
 use Rattle.st_core.proofs.ForCallers.{process_pid, process-map, mapped}
-use Rattle.st_runtime.specs.declared.pcb.entry.Entry.{Entry}
+use Rattle.st_log.specs.declared.entry.Entry.{Entry}
 use Rattle.st_runtime.specs.Logs.{IsPart, LeadTo, zero_process}
 use Rattle.st_runtime.specs.Pcb.{Control, IsFromLog}
 use Rattle.st_runtime.specs.Pieces.{pids_in, HasIfTouched, IsWholeEntry, AreWhole, calls_of}

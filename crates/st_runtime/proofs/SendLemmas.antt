@@ -17,7 +17,7 @@ use Rattle.st_mail.specs.Actor.{process_of, QueueFits, ActsOutside}
 use Rattle.st_mail.specs.Mail.{queue_in}
 use Rattle.st_mail.specs.declared.outcome.Outcome.{Outcome as Told}
 use Rattle.st_mail.proofs.ForCallers.{push_fits}
-use Rattle.st_runtime.specs.declared.pcb.entry.Entry.{Entry}
+use Rattle.st_log.specs.declared.entry.Entry.{Entry}
 use Rattle.st_runtime.specs.Inside.{IsInside}
 use Rattle.st_runtime.specs.Logs.{IsOwnPart, IsOtherPart}
 use Rattle.st_runtime.proofs.LogLemmas.{IsNext, inside_push}

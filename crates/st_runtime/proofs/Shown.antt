@@ -17,7 +17,7 @@ use Rattle.st_core.specs.Streams.{is_among, names_among}
 use Rattle.st_core.specs.Laws.{IsReportAmong, ReportsAmong}
 use Rattle.st_core.proofs.ForCallers.{pid_eq-true, position-none}
 use Rattle.st_core.proofs.ForCallers.{run_named}
-use Rattle.st_runtime.specs.declared.pcb.entry.Entry.{Entry}
+use Rattle.st_log.specs.declared.entry.Entry.{Entry}
 use Rattle.st_runtime.specs.Pcb.{Control}
 use Rattle.st_runtime.specs.Pieces.{pids_in}
 use Rattle.st_runtime.specs.Joined.{streams_of, IsOneRun}

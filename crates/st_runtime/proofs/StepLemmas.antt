@@ -11,10 +11,11 @@ use Rattle.st_core.specs.Pid.{pid_eq}
 use Rattle.st_core.specs.State.{Process, State, process}
 use Rattle.st_core.specs.Step.{acted, actor, receiver, reached, changed, outcome_of, step}
 use Rattle.st_core.proofs.ForCallers.{pid_eq-true, pid_eq-same, pid_eq-swap}
-use Rattle.st_runtime.specs.declared.pcb.entry.Entry.{Entry}
+use Rattle.st_log.specs.declared.entry.Entry.{Entry}
 use Rattle.st_runtime.specs.declared.fault.PcbFault.{PcbFault}
 use Rattle.st_runtime.specs.Inside.{IsAppended}
-use Rattle.st_runtime.specs.Logs.{carried_by, IsOwnPart, IsOtherPart, last_rank}
+use Rattle.st_log.specs.Entries.{last_rank}
+use Rattle.st_runtime.specs.Logs.{carried_by, IsOwnPart, IsOtherPart}
 use Rattle.st_runtime.specs.Pcb.{Control, IsStepped, is_alone, entry_outcome}
 
 -- A STEP WHOSE PROCESSES ARE KNOWN

@@ -11,7 +11,7 @@ use Rattle.st_core.specs.Pid.{pid_eq, IsBelow, IsRising}
 use Rattle.st_core.specs.Step.{actor, receiver, touches}
 use Rattle.st_core.specs.Streams.{is_among}
 use Rattle.st_core.proofs.ForCallers.{pid_eq-true, pid_eq-same, IsBelow-apart}
-use Rattle.st_runtime.specs.declared.pcb.entry.Entry.{Entry}
+use Rattle.st_log.specs.declared.entry.Entry.{Entry}
 use Rattle.st_runtime.specs.Joining.{HasAt, IsWholeIfOwn}
 use Rattle.st_runtime.specs.Pcb.{Control, is_wide}
 use Rattle.st_runtime.specs.Pieces.{pids_in, AreWhole, HasIfTouched, IsWholeEntry}

@@ -6,9 +6,10 @@ use Rattle.st_core.specs.declared.types.Act.{Act}
 use Rattle.st_core.specs.declared.types.Reply.{Reply}
 use Rattle.st_core.specs.State.{LocalState}
 use Rattle.st_mail.specs.Mail.{queue_in}
-use Rattle.st_runtime.specs.declared.pcb.entry.Entry.{Entry}
+use Rattle.st_log.specs.declared.entry.Entry.{Entry}
 use Rattle.st_mail.specs.Actor.{process_of, QueueFits}
-use Rattle.st_runtime.specs.Logs.{IsOwnPart, last_rank}
+use Rattle.st_log.specs.Entries.{last_rank}
+use Rattle.st_runtime.specs.Logs.{IsOwnPart}
 use Rattle.st_runtime.specs.Pcb.{Control, IsFromLog}
 
 -- the queue is the one box, each token in it can be met, and the process is what the log gives

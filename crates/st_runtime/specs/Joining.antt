@@ -1,6 +1,6 @@
 -- The steps of joining: where an entry is, the least pid that isn't seated, and each process's
 -- own entries and reports.
-use Rattle.std.specs.Prelude.{◌≡◌, ◌≢◌, ℕ, ◌<◌, true, false, List, length, map, filter, Option}
+use Rattle.std.specs.Prelude.{◌≡◌, ◌≢◌, ℕ, ◌<◌, Bool, true, false, MatchBool, List, length, map, filter, Option}
 use Rattle.std.specs.Prelude.{Some, None, if◌then◌else◌, All, Contains, IfSome}
 use Rattle.std.specs.Borrow.{Bor}
 use Rattle.std.specs.Ordering.{is_lt}
@@ -9,16 +9,16 @@ use Rattle.st_core.specs.declared.types.Pid.{Pid}
 use Rattle.st_core.specs.declared.types.Act.{Act}
 use Rattle.st_core.specs.declared.types.Event.{Event}
 use Rattle.st_core.specs.declared.types.Reply.{Reply}
-use Rattle.st_core.specs.Pid.{node_of, pid_cmp, pid_eq, IsBelow}
+use Rattle.st_core.specs.Pid.{node_of, pid_cmp, pid_eq, IsBelow, IsRising}
 use Rattle.st_core.specs.Step.{actor}
 use Rattle.st_core.specs.Streams.{is_among}
-use Rattle.st_runtime.specs.declared.pcb.entry.Entry.{Entry}
+use Rattle.st_log.specs.declared.entry.Entry.{Entry}
 use Rattle.st_runtime.specs.declared.join.record.Record.{Record}
 use Rattle.st_runtime.specs.Joined.{IsMerged, IsOneRun, streams_of}
-use Rattle.st_runtime.specs.Logs.{Logged}
+use Rattle.st_log.specs.Entries.{Logged}
 use Rattle.st_runtime.specs.Pcb.{Control, is_wide}
 use Rattle.st_runtime.specs.Pieces.{pids_in, Parts, IsSeated, IsWholeEntry}
-use Rattle.st_runtime.specs.Rows.{entry_at}
+use Rattle.st_log.specs.Entries.{entry_at}
 
 -- the process of this pid is there and has the entry
 pub record HasAt (xs : List Control) (p : Pid) (e : Entry) : Type 0 where
@@ -26,6 +26,15 @@ pub record HasAt (xs : List Control) (p : Pid) (e : Entry) : Type 0 where
   pub among : Contains xs control
   pub pid : control.process.pid ≡ p
   pub has : Contains control.log e
+
+-- the pids rise, and the process of this one has the entry
+pub record IsInLogOf (xs : List Control) (p : Pid) (e : Entry) : Type 0 where
+  pub rising : IsRising (pids_in xs)
+  pub here : HasAt xs p e
+
+-- true if this holds, false if it doesn't
+abbrev pub IsWhether : Bool → Type 0 → Type 0
+IsWhether b Holds = MatchBool b Holds (¬ Holds)
 
 -- the entry is in its actor's log, and whole if that is p
 pub record IsWholeIfOwn (xs : List Control) (p : Pid) (e : Entry) : Type 0 where

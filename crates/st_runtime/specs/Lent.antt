@@ -8,8 +8,8 @@ use Rattle.st_core.specs.Pid.{node_eq}
 use Rattle.st_core.specs.Step.{acted, actor, reached, step}
 use Rattle.st_runtime.specs.declared.fault.PcbFault.{PcbFault}
 use Rattle.st_runtime.specs.declared.fault.PcbFault.TheVariants as fault
-use Rattle.st_runtime.specs.declared.pcb.entry.Entry.{Entry}
-use Rattle.st_runtime.specs.Logs.{last_rank}
+use Rattle.st_log.specs.declared.entry.Entry.{Entry}
+use Rattle.st_log.specs.Entries.{last_rank}
 use Rattle.st_runtime.specs.Pcb.{Control, IsSame, IsStepped, greatest_rank, is_wide, lent_state}
 
 -- the act has no step on these processes, its own, since the actor's clock is full

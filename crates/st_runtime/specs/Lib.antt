@@ -5,7 +5,6 @@
 pub mod Logs
 pub mod Pcb
 pub mod Lent
-pub mod CallList
 pub mod Seat
 pub mod System
 pub mod Pieces
@@ -13,9 +12,6 @@ pub mod Joined
 pub mod Driven
 -- For the parts alone.
 pub mod Inside
-pub mod Briefs
-pub mod TracedActs
-pub mod Rows
 pub mod Locked
 pub mod Joining
 pub mod Working

@@ -1,7 +1,8 @@
 -- What is told of an act under its locks, of which nothing is known but what their types keep.
-use Rattle.std.specs.Prelude.{◌≡◌, Bool, Result, Ok, Err}
+use Rattle.std.specs.Prelude.{◌≡◌, ◌↔◌, ℕ, Bool, List, Result, Ok, Err, IfOk, OnErr}
 use Rattle.st_core.specs.Step.{actor, receiver}
-use Rattle.st_runtime.specs.Pcb.{Control}
+use Rattle.st_runtime.specs.Lent.{AreSame, FindsClockFull, FindsRankFull}
+use Rattle.st_runtime.specs.Pcb.{Control, IsStepped}
 use Rattle.st_core.specs.declared.types.Act.{Act}
 use Rattle.st_core.specs.declared.types.Act.TheVariants as act
 use Rattle.st_core.specs.declared.types.Reply.{Reply}
@@ -27,3 +28,13 @@ wide_reply a was = reply.Done
 -- these are the actor's process and the receiver's
 abbrev pub AreFor : Act → Control → Control → Type 0
 AreFor a from to = (from.process.pid ≡ actor a) × (to.process.pid ≡ receiver a)
+
+-- What an act returns on the processes that its locks held, if they are its own: a step or the
+-- reason that there is none. If they aren't, neither a full clock nor a full rank is found.
+pub record IsHeldStep (top ranks : ℕ) (a : Act) (AreOwn : Type 0) (before after : List Control)
+    (r : Result Reply ActFault)
+    : Type 0 where
+  pub ok : IfOk r (λ y. IsStepped top a y before after)
+  pub err : OnErr r (AreSame before after)
+  pub clock : (r ≡ Err fault.ClockFull) ↔ (AreOwn × FindsClockFull top a before)
+  pub rank : (r ≡ Err fault.RankFull) ↔ (AreOwn × FindsRankFull top ranks a before)

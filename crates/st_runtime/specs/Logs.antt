@@ -10,7 +10,7 @@ use Rattle.st_core.specs.Pid.{pid_eq}
 use Rattle.st_core.specs.State.{Process, zero_local}
 use Rattle.st_core.specs.Step.{Acted, acted, actor, touches, reached, changed}
 use Rattle.st_core.specs.Laws.{IsStamped}
-use Rattle.st_runtime.specs.declared.pcb.entry.Entry.{Entry}
+use Rattle.st_log.specs.declared.entry.Entry.{Entry}
 
 -- what an act's message carries, if its actor's token is now this: no act but a send carries a
 -- token
@@ -60,13 +60,3 @@ IsLocal top r log = LeadTo top (zero_process r.pid) log r
 abbrev pub RanksRise : ℕ → List Entry → Type 0
 RanksRise low [] = Unit {0}
 RanksRise low (e ∷ es) = (low < e.rank) × RanksRise e.rank es
-
--- the last rank, which is the greatest if ranks rise; low if there is none
-abbrev pub last_rank : ℕ → List Entry → ℕ
-last_rank low [] = low
-last_rank low (e ∷ es) = last_rank e.rank es
-
--- what contracts see of a log: its entries, and for how many more it has room
-pub record Logged : Type 0 where
-  pub entries : List Entry
-  pub spare : ℕ

@@ -8,8 +8,9 @@ use Rattle.st_core.specs.declared.types.Reply.{Reply}
 use Rattle.st_core.specs.Pid.{pid_eq}
 use Rattle.st_core.specs.State.{Process, State}
 use Rattle.st_core.specs.Step.{Outcome, step}
-use Rattle.st_runtime.specs.declared.pcb.entry.Entry.{Entry}
-use Rattle.st_runtime.specs.Logs.{IsLocal, RanksRise, last_rank}
+use Rattle.st_log.specs.declared.entry.Entry.{Entry}
+use Rattle.st_log.specs.Entries.{last_rank}
+use Rattle.st_runtime.specs.Logs.{IsLocal, RanksRise}
 
 -- a process, its log, and for how many more entries the log has room
 pub record Control : Type 0 where

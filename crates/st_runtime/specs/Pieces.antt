@@ -8,7 +8,7 @@ use Rattle.st_core.specs.declared.types.Reply.{Reply}
 use Rattle.st_core.specs.Pid.{pid_eq, IsBelow}
 use Rattle.st_core.specs.Step.{actor, receiver, touches}
 use Rattle.st_core.specs.Streams.{is_among}
-use Rattle.st_runtime.specs.declared.pcb.entry.Entry.{Entry}
+use Rattle.st_log.specs.declared.entry.Entry.{Entry}
 use Rattle.st_runtime.specs.declared.fault.JoinFault.{JoinFault}
 use Rattle.st_runtime.specs.declared.fault.JoinFault.TheVariants as fault
 use Rattle.st_runtime.specs.Pcb.{Control}

@@ -6,10 +6,9 @@ ghost use Rattle.std.specs.Prelude.{length, map, is_some, slice_get, Some, None,
 ghost use Rattle.std.specs.Prelude.{Ok, IfOk, IfErr, IfSome, OnOk, OnErr, vec_len};
 ghost use Rattle.st_core.specs.Pid.{IsRising};
 ghost use Rattle.st_core.specs.Step.{actor, receiver};
-ghost use Rattle.st_runtime.specs.Lent.{FindsClockFull, FindsRankFull};
-ghost use Rattle.st_runtime.specs.Locked.{wide_reply, AreFor, IsLockFault};
+ghost use Rattle.st_runtime.specs.Locked.{wide_reply, AreFor, IsHeldStep, IsLockFault};
 ghost use Rattle.st_runtime.specs.declared.fault.PcbFault.{PcbFault};
-ghost use Rattle.st_runtime.specs.Pcb.{is_wide, IsSame, IsStepped};
+ghost use Rattle.st_runtime.specs.Pcb.{is_wide};
 ghost use Rattle.st_runtime.specs.Pieces.{pids_in};
 ghost use Rattle.st_runtime.specs.Seat.{no_calls};
 ghost use Rattle.st_runtime.specs.System.{knows, is_stamping};
@@ -25,7 +24,6 @@ pub mod seat;
 use crate::fault::{ActFault, PcbFault, SystemFault};
 use crate::pcb::Pcb;
 use crate::pcb::acts::{is_wide, receiver_of};
-use crate::pcb::entry::Entry;
 use crate::system::gate::Gate;
 use crate::system::lock::take_lock;
 use crate::system::log_room::expected_entries;
@@ -34,6 +32,7 @@ use crate::system::pids::{first_on, place_of};
 use crate::system::pieces::Pieces;
 use crate::system::seat::Seat;
 use st_core::{Act, Pid, Reply, Sequence, is_rising};
+use st_log::Entry;
 use std::alloc::{AllocError, Global};
 use std::marker::Model;
 use std::sync::{Mutex, Wait};
@@ -342,13 +341,9 @@ fn act_alone<const TOP: u64, const RANKS: u64>(
 ) -> Result<Reply, ActFault>
     requires wide { is_wide act.now ≡ false }
     requires alone { receiver act.now ≡ actor act.now }
-    ensures ok { IfOk result (λ y. IsStepped TOP act.now y (pcb.old ∷ []) (pcb.new ∷ [])) }
-    ensures err { OnErr result (IsSame pcb.old pcb.new) }
+    ensures step { IsHeldStep TOP RANKS act.now (pcb.old.process.pid ≡ actor act.now)
+        (pcb.old ∷ []) (pcb.new ∷ []) result }
     ensures stray { (result ≡ Err ActFault.Stray) ↔ (pcb.old.process.pid ≢ actor act.now) }
-    ensures clock { (result ≡ Err ActFault.ClockFull)
-        ↔ ((pcb.old.process.pid ≡ actor act.now) × FindsClockFull TOP act.now (pcb.old ∷ [])) }
-    ensures rank { (result ≡ Err ActFault.RankFull)
-        ↔ ((pcb.old.process.pid ≡ actor act.now) × FindsRankFull TOP RANKS act.now (pcb.old ∷ [])) }
     ensures known { IsLockFault result }
     ensures stamping { result ≡ Err ActFault.ClockFull → is_stamping act.now ≡ true }
 {
@@ -366,16 +361,10 @@ fn act_between<const TOP: u64, const RANKS: u64>(
 ) -> Result<Reply, ActFault>
     requires wide { is_wide act.now ≡ false }
     requires apart { receiver act.now ≢ actor act.now }
-    ensures ok { IfOk result (λ y. IsStepped TOP act.now y (from.old ∷ to.old ∷ [])
-        (from.new ∷ to.new ∷ [])) }
-    ensures err { OnErr result (IsSame from.old from.new × IsSame to.old to.new) }
+    ensures step { IsHeldStep TOP RANKS act.now (AreFor act.now from.old to.old)
+        (from.old ∷ to.old ∷ []) (from.new ∷ to.new ∷ []) result }
     ensures stray { (result ≡ Err ActFault.Stray)
         ↔ ((from.old.process.pid ≢ actor act.now) ⊎ (to.old.process.pid ≢ receiver act.now)) }
-    ensures clock { (result ≡ Err ActFault.ClockFull)
-        ↔ (AreFor act.now from.old to.old × FindsClockFull TOP act.now (from.old ∷ to.old ∷ [])) }
-    ensures rank { (result ≡ Err ActFault.RankFull)
-        ↔ (AreFor act.now from.old to.old
-        × FindsRankFull TOP RANKS act.now (from.old ∷ to.old ∷ [])) }
     ensures known { IsLockFault result }
 {
     if from.pid() != act.actor() {
@@ -397,21 +386,44 @@ fn open_system<const TOP: u64, const RANKS: u64>(
     ensures system { IfOk result (λ r. r.0 ≡ pids.now) }
     ensures seats { IfOk result (λ r. r.1.items ≡ map no_calls pids.now) }
 {
-    let own = Vec::from_slice(alloc, pids)?;
     let entries = expected_entries(alloc, pids, scripts)?;
+    let locks = fresh_locks(alloc, pids, entries.as_slice())?;
+    let seats = fresh_seats(alloc, pids, scripts)?;
+    let own = Vec::from_slice(alloc, pids)?;
+    Ok((System { pids: own, locks }, seats))
+}
+
+/// A lock for each pid. The process that it holds has room for so many entries.
+fn fresh_locks<const TOP: u64, const RANKS: u64>(
+    alloc: Global,
+    pids: &[Pid],
+    entries: &[usize],
+) -> Result<Vec<Mutex<Pcb<TOP, RANKS>>>, AllocError>
+    requires { length entries.now ≡ length pids.now }
+    ensures { IfOk result (λ locks. vec_len locks ≡ length pids.now) }
+{
     let mut locks = Vec::with_capacity(alloc, pids.len())?;
+    for (i, pid) in pids.iter().enumerate() {
+        let process = Pcb::with_room(alloc, *pid, entries[i])?;
+        locks.push_reserved(Mutex::new(process));
+    }
+    Ok(locks)
+}
+
+/// A seat for each pid, with room for the acts of its script.
+fn fresh_seats(
+    alloc: Global,
+    pids: &[Pid],
+    scripts: &[Sequence<Act>],
+) -> Result<Vec<Seat>, AllocError>
+    ensures { IfOk result (λ seats. seats.items ≡ map no_calls pids.now) }
+{
     let mut seats = Vec::with_capacity(alloc, pids.len())?;
     for (i, pid) in pids.iter().enumerate() {
         let acts = scripts.get(i).map_or(0, |script| script.len());
-        let process = Pcb::with_room(alloc, *pid, entries[i])?;
-        let Ok(()) = locks.push(Mutex::new(process)) else {
-            return Err(AllocError);
-        };
-        let Ok(()) = seats.push(Seat::with_room(alloc, *pid, acts)?) else {
-            return Err(AllocError);
-        };
+        seats.push_reserved(Seat::with_room(alloc, *pid, acts)?);
     }
-    Ok((System { pids: own, locks }, seats))
+    Ok(seats)
 }
 
 /// A process of each pid, at the start.
@@ -423,10 +435,7 @@ fn fresh_processes<const TOP: u64, const RANKS: u64>(
 {
     let mut all = Vec::with_capacity(alloc, pids.len())?;
     for pid in pids {
-        let fresh = Pcb::new(alloc, *pid)?;
-        let Ok(()) = all.push(fresh) else {
-            return Err(AllocError);
-        };
+        all.push_reserved(Pcb::new(alloc, *pid)?);
     }
     Ok(all)
 }
@@ -444,9 +453,20 @@ fn take_processes<const TOP: u64, const RANKS: u64>(
     for (i, lock) in locks.into_iter().enumerate() {
         let mut process = lock.into_inner();
         process.release_queue(alloc);
-        if i < all.len() && process.pid() == all[i].pid() {
-            all[i] = process;
-        }
+        put_in_place(&mut all, i, process);
     }
     all
+}
+
+/// Puts the process in the place of the one there, if that has its pid.
+fn put_in_place<const TOP: u64, const RANKS: u64>(
+    all: &mut [Pcb<TOP, RANKS>],
+    place: usize,
+    process: Pcb<TOP, RANKS>,
+)
+    ensures { pids_in all.new ≡ pids_in all.old }
+{
+    if place < all.len() && process.pid() == all[place].pid() {
+        all[place] = process;
+    }
 }

@@ -7,11 +7,11 @@ ghost use Rattle.st_core.specs.Run.{Stream};
 ghost use Rattle.st_core.specs.Streams.{ComesLast, IsStreams, is_own, lists, with_report};
 ghost use Rattle.st_runtime.specs.Joined.{reports_of, streams_of};
 ghost use Rattle.st_runtime.specs.Joining.{report_at};
-ghost use Rattle.st_runtime.specs.Rows.{entry_at};
+ghost use Rattle.st_log.specs.Entries.{entry_at};
 
 use crate::pcb::Pcb;
-use crate::pcb::log::Log;
 use st_core::{AddFault, Draft, OpenFault, Pid, Streams};
+use st_log::Log;
 use std::alloc::{AllocError, Global};
 
 /// The streams of the processes' own reports.

@@ -8,11 +8,11 @@ ghost use Rattle.st_runtime.specs.Pcb.{IsFromLog};
 ghost use Rattle.st_runtime.specs.Pieces.{pids_in, AreWhole};
 ghost use Rattle.st_runtime.specs.Joined.{IsMerged};
 ghost use Rattle.st_runtime.specs.Joining.{flat_of, own_of, referred, IsReadOut, IsThere};
-ghost use Rattle.st_runtime.specs.Rows.{entry_at};
+ghost use Rattle.st_log.specs.Entries.{entry_at};
 
 use crate::pcb::Pcb;
-use crate::pcb::log::Log;
 use st_core::{Act, Pid, Reply};
+use st_log::Log;
 use std::alloc::{AllocError, Global};
 use std::marker::Model;
 use std::thread::{Threads, join};
@@ -28,8 +28,8 @@ struct Ranked<'a> {
 
 impl<'a> Model for Ranked<'a> {
     ghost use Rattle.std.specs.Prelude.{◌≡◌, ◌<◌, length};
-    ghost use Rattle.st_runtime.specs.declared.pcb.entry.Entry.{Entry};
-    ghost use Rattle.st_runtime.specs.Rows.{entry_at};
+    ghost use Rattle.st_log.specs.declared.entry.Entry.{Entry};
+    ghost use Rattle.st_log.specs.Entries.{entry_at};
 
     ghost Value = { Entry };
 
@@ -144,9 +144,7 @@ pub fn acts_of(alloc: Global, entries: &[Reference<'_>]) -> Result<Vec<Act>, All
 {
     let mut acts = Vec::with_capacity(alloc, entries.len())?;
     for reference in entries {
-        let Ok(()) = acts.push(act_of(reference)) else {
-            return Err(AllocError);
-        };
+        acts.push_reserved(act_of(reference));
     }
     Ok(acts)
 }
@@ -158,9 +156,7 @@ pub fn replies_of(alloc: Global, entries: &[Reference<'_>]) -> Result<Vec<Reply>
 {
     let mut replies = Vec::with_capacity(alloc, entries.len())?;
     for reference in entries {
-        let Ok(()) = replies.push(reply_of(reference)) else {
-            return Err(AllocError);
-        };
+        replies.push_reserved(reply_of(reference));
     }
     Ok(replies)
 }

@@ -12,8 +12,8 @@ ghost use Rattle.st_runtime.specs.Pieces.{pids_in};
 use crate::join::whole::place_in;
 use crate::pcb::Pcb;
 use crate::pcb::acts::is_wide;
-use crate::pcb::log::Log;
 use st_core::{Act, Pid};
+use st_log::Log;
 
 /// Whether the process at this place is seen to have the same entries of acts of its whole node as
 /// the first process there; if it is that one, whether the actors of these are there.

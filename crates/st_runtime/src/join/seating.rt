@@ -7,11 +7,9 @@ ghost use Rattle.st_runtime.specs.Pieces.{pids_in, calls_of, seats_at, IsSeated,
 
 use crate::join::whole::place_in;
 use crate::pcb::Pcb;
-use crate::pcb::calls::CallLog;
-use crate::pcb::log::Log;
-use crate::pcb::same::{is_same_act, is_same_reply};
 use crate::system::seat::Seat;
-use st_core::{Act, Pid, Reply};
+use st_core::Pid;
+use st_log::{CallLog, Log, is_call};
 
 /// The least pid that isn't seated. It has a log or a seat, since a pid without either is seated.
 pub fn first_unseated<const TOP: u64, const RANKS: u64>(
@@ -140,11 +138,4 @@ fn holds_calls(mine: &CallLog, pid: Pid, log: &Log) -> bool
         }
     }
     next == mine.len()
-}
-
-/// Whether this is the act with this reply.
-fn is_call(call: &(Act, Reply), act: &Act, reply: &Reply) -> bool
-    ensures { IsTrue result ↔ (call.now ≡ (act.now, reply.now)) }
-{
-    is_same_act(&call.0, act) && is_same_reply(&call.1, reply)
 }

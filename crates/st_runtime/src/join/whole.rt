@@ -1,13 +1,12 @@
 //! Which entries are in the log of each process that their acts touch.
 
 ghost use Rattle.std.specs.Prelude.{◌≡◌, ◌<◌, length, take, true, All, Contains, slice_get};
-ghost use Rattle.std.specs.Prelude.{slice_index_or, is_some, Some, IfSome, MatchBool};
-ghost use Rattle.std.specs.Prelude.{MatchOption};
+ghost use Rattle.std.specs.Prelude.{slice_index_or, is_some, Some, IfSome, MatchOption};
 ghost use Rattle.st_core.specs.Pid.{IsRising};
 ghost use Rattle.st_core.specs.Step.{actor, touches};
 ghost use Rattle.st_core.specs.Streams.{is_among};
-ghost use Rattle.st_runtime.specs.declared.pcb.entry.Entry.{Entry};
-ghost use Rattle.st_runtime.specs.Joining.{HasAt};
+ghost use Rattle.st_log.specs.declared.entry.Entry.{Entry};
+ghost use Rattle.st_runtime.specs.Joining.{HasAt, IsInLogOf, IsWhether};
 ghost use Rattle.st_runtime.specs.Logs.{RanksRise};
 ghost use Rattle.st_runtime.specs.Pcb.{is_wide};
 ghost use Rattle.st_runtime.specs.Pieces.{pids_in, AreWhole, HasIfTouched, IsWholeEntry};
@@ -16,10 +15,8 @@ ghost use Rattle.st_runtime.specs.Pieces.{IsFirstMissing};
 use crate::join::whole_at_once::are_seen_whole;
 use crate::pcb::Pcb;
 use crate::pcb::acts::{is_wide, receiver_of};
-use crate::pcb::entry::Entry;
-use crate::pcb::log::Log;
-use crate::pcb::same::is_same;
 use st_core::{Act, Pid};
+use st_log::{Entry, Log, is_same_entry};
 use std::alloc::Global;
 
 /// The least place of an entry that isn't whole. If all are, this is mostly seen at once; else each
@@ -81,10 +78,8 @@ fn is_whole<const TOP: u64, const RANKS: u64>(
     here: Pid,
     entry: &Entry,
 ) -> bool
-    requires rising { IsRising (pids_in processes.now) }
-    requires here { HasAt processes.now here entry.now }
-    ensures { MatchBool result (IsWholeEntry processes.now entry.now)
-        (¬ IsWholeEntry processes.now entry.now) }
+    requires { IsInLogOf processes.now here entry.now }
+    ensures { IsWhether result (IsWholeEntry processes.now entry.now) }
 {
     is_made(processes, here, entry) && is_shared(processes, here, entry)
 }
@@ -95,10 +90,8 @@ fn is_made<const TOP: u64, const RANKS: u64>(
     here: Pid,
     entry: &Entry,
 ) -> bool
-    requires rising { IsRising (pids_in processes.now) }
-    requires here { HasAt processes.now here entry.now }
-    ensures { MatchBool result (HasAt processes.now (actor entry.now.act) entry.now)
-        (¬ HasAt processes.now (actor entry.now.act) entry.now) }
+    requires { IsInLogOf processes.now here entry.now }
+    ensures { IsWhether result (HasAt processes.now (actor entry.now.act) entry.now) }
 {
     entry.act.actor() == here || has_at(processes, entry.act.actor(), entry)
 }
@@ -110,11 +103,9 @@ fn is_shared<const TOP: u64, const RANKS: u64>(
     here: Pid,
     entry: &Entry,
 ) -> bool
-    requires rising { IsRising (pids_in processes.now) }
-    requires here { HasAt processes.now here entry.now }
+    requires held { IsInLogOf processes.now here entry.now }
     requires made { HasAt processes.now (actor entry.now.act) entry.now }
-    ensures { MatchBool result (IsWholeEntry processes.now entry.now)
-        (¬ IsWholeEntry processes.now entry.now) }
+    ensures { IsWhether result (IsWholeEntry processes.now entry.now) }
 {
     if is_wide(&entry.act) {
         return is_everywhere(processes, here, entry);
@@ -129,11 +120,9 @@ fn is_everywhere<const TOP: u64, const RANKS: u64>(
     here: Pid,
     entry: &Entry,
 ) -> bool
-    requires rising { IsRising (pids_in processes.now) }
     requires wide { is_wide entry.now.act ≡ true }
-    requires here { HasAt processes.now here entry.now }
-    ensures { MatchBool result (All (HasIfTouched entry.now) processes.now)
-        (¬ All (HasIfTouched entry.now) processes.now) }
+    requires held { IsInLogOf processes.now here entry.now }
+    ensures { IsWhether result (All (HasIfTouched entry.now) processes.now) }
 {
     for process in processes {
         if !has_if_touched(process, here, entry) {
@@ -152,8 +141,7 @@ fn has_if_touched<const TOP: u64, const RANKS: u64>(
 ) -> bool
     requires wide { is_wide entry.now.act ≡ true }
     requires here { process.now.process.pid ≡ here → Contains process.now.log entry.now }
-    ensures { MatchBool result (HasIfTouched entry.now process.now)
-        (¬ HasIfTouched entry.now process.now) }
+    ensures { IsWhether result (HasIfTouched entry.now process.now) }
 {
     process.pid() == here
         || !is_of_node(&entry.act, process.pid())
@@ -175,8 +163,7 @@ fn has_at<const TOP: u64, const RANKS: u64>(
     entry: &Entry,
 ) -> bool
     requires { IsRising (pids_in processes.now) }
-    ensures { MatchBool result (HasAt processes.now pid entry.now)
-        (¬ HasAt processes.now pid entry.now) }
+    ensures { IsWhether result (HasAt processes.now pid entry.now) }
 {
     match place_in(processes, pid) {
         Some(place) => has_entry(processes[place].log(), entry),
@@ -206,11 +193,10 @@ pub fn place_in<const TOP: u64, const RANKS: u64>(
 /// Whether the log has the entry. Its ranks rise, so that there is one place for it.
 fn has_entry(log: &Log, entry: &Entry) -> bool
     requires { RanksRise 0 log.now.entries }
-    ensures { MatchBool result (Contains log.now.entries entry.now)
-        (¬ Contains log.now.entries entry.now) }
+    ensures { IsWhether result (Contains log.now.entries entry.now) }
 {
     match log.search(entry.rank) {
-        Ok(place) => is_same(&log.at(place), entry),
+        Ok(place) => is_same_entry(&log.at(place), entry),
         Err(_) => false,
     }
 }

@@ -10,14 +10,14 @@ ghost use Rattle.st_core.specs.Step.{actor};
 ghost use Rattle.st_runtime.specs.Joining.{HasAt, IsSharedUnlessWide, IsSettledAt};
 ghost use Rattle.st_runtime.specs.Pcb.{is_wide};
 ghost use Rattle.st_runtime.specs.Pieces.{pids_in, AreWhole, IsWholeEntry};
-ghost use Rattle.st_runtime.specs.Rows.{entry_at};
+ghost use Rattle.st_log.specs.Entries.{entry_at};
 
 use crate::join::nodes::is_alike;
 use crate::join::whole::place_in;
 use crate::pcb::Pcb;
 use crate::pcb::acts::{is_wide, receiver_of};
-use crate::pcb::log::Log;
 use st_core::{Act, Pid};
+use st_log::Log;
 use std::alloc::Global;
 
 /// Whether it is seen that all entries are whole: those that a process made are, and each entry of

@@ -3,14 +3,14 @@
 ghost use Rattle.std.specs.Prelude.{◌≡◌, ◌≢◌, ◌+◌, ◌≤◌, ◌↔◌, ◌⊎◌, true, false, max, Some, None};
 ghost use Rattle.std.specs.Prelude.{Err, IfOk, IfSome, IsSome};
 ghost use Rattle.st_runtime.specs.Locked.{wide_reply, IsLockFault};
-ghost use Rattle.st_runtime.specs.Logs.{last_rank};
+ghost use Rattle.st_log.specs.Entries.{last_rank};
 ghost use Rattle.st_runtime.specs.Pcb.{is_wide};
 
 use crate::fault::ActFault;
 use crate::pcb::Pcb;
 use crate::pcb::acts::wide_reply;
-use crate::pcb::entry::Entry;
 use st_core::{Act, Pid};
+use st_log::Entry;
 
 /// What was found under the locks so far.
 #[derive(Clone, Copy)]

@@ -3,8 +3,8 @@
 ghost use Rattle.std.specs.Prelude.{◌≡◌, IfOk};
 ghost use Rattle.st_runtime.specs.Seat.{no_calls};
 
-use crate::pcb::calls::CallLog;
 use st_core::Pid;
+use st_log::CallLog;
 use std::alloc::{AllocError, Global};
 use std::marker::Model;
 

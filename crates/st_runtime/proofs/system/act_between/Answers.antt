@@ -1,10 +1,9 @@
 -- The locks held the sender and the receiver, so the act is a send between them.
-use Rattle.std.proofs.Common.{arith, ◌≡◌, ◌∙◌, sym, [], ◌∷◌}
-use Rattle.std.proofs.lemmas.Result.{on_err_weaker}
+use Rattle.std.proofs.Common.{arith, ◌≡◌, ◌∙◌, refl, sym, [], ◌∷◌}
 use Rattle.st_core.specs.Step.{actor, receiver}
-use Rattle.st_runtime.proofs.PidLemmas.{same_unless}
+use Rattle.st_runtime.proofs.PidLemmas.{apart_if, same_unless}
 use Rattle.st_runtime.proofs.ActLemmas.{between_at}
-use Rattle.st_runtime.proofs.LentLemmas.{act_err, act_ok, lent_clock, lent_rank}
+use Rattle.st_runtime.proofs.LentLemmas.{held_step, held_stray}
 use Rattle.st_runtime.proofs.system.act_between.Goals as goal
 
 pub between-requires : goal.between-requires
@@ -17,35 +16,33 @@ between-requires g c =
           (sym c.pid-2.ensures ∙ to ∙ c.receiver_of.ensures),
     )
 
-pub returns-clause-ok : goal.returns-clause-ok
-returns-clause-ok g c = act_ok g.row.TOP g.row.RANKS c.args.act.now (c.args.from.now ∷ c.args.to.now ∷ [])
-    (c.between.new.from ∷ c.between.new.to ∷ []) c.between.result c.act_result.result c.between.ensures.step
-    c.act_result.ensures.ok
+pub returns-then-ne-clause-step : goal.returns-then-ne-clause-step
+returns-then-ne-clause-step g c =
+    let held = c.args.from.now ∷ c.args.to.now ∷ [] in
+    held_stray g.row.TOP g.row.RANKS c.args.act.now _ held held
+    (λ both. apart_if c.pid.result c.actor.result (sym c.ne.ensures ∙ c.if-ne.true)
+    (c.pid.ensures ∙ both.0 ∙ sym c.actor.ensures))
+    (record { process = refl; log = refl }, (record { process = refl; log = refl }, tt))
 
-pub returns-clause-err : goal.returns-clause-err
-returns-clause-err g c = on_err_weaker c.act_result.result (λ same. (same.0, same.1.0))
-    (act_err g.row.TOP g.row.RANKS c.args.act.now (c.args.from.now ∷ c.args.to.now ∷ [])
-    (c.between.new.from ∷ c.between.new.to ∷ []) c.between.result c.act_result.result c.between.ensures.step
-    c.act_result.ensures.err)
+pub returns-then-ne-2-clause-step : goal.returns-then-ne-2-clause-step
+returns-then-ne-2-clause-step g c =
+    let held = c.args.from.now ∷ c.args.to.now ∷ [] in
+    held_stray g.row.TOP g.row.RANKS c.args.act.now _ held held
+    (λ both. apart_if c.pid-2.result c.receiver_of.result (sym c.ne-2.ensures ∙ c.if-ne-2.true)
+    (c.pid-2.ensures ∙ both.1 ∙ sym c.receiver_of.ensures))
+    (record { process = refl; log = refl }, (record { process = refl; log = refl }, tt))
 
-pub returns-clause-clock : goal.returns-clause-clock
-returns-clause-clock g c =
+pub returns-clause-step : goal.returns-clause-step
+returns-clause-step g c =
     let from : c.args.from.now.process.pid ≡ actor c.args.act.now = sym c.pid.ensures
     ∙ same_unless c.pid.result c.actor.result (sym c.ne.ensures ∙ c.if-ne.false) ∙ c.actor.ensures in
     let to : c.args.to.now.process.pid ≡ receiver c.args.act.now = sym c.pid-2.ensures
     ∙ same_unless c.pid-2.result c.receiver_of.result (sym c.ne-2.ensures ∙ c.if-ne-2.false) ∙ c.receiver_of.ensures in
-    let full = lent_clock g.row.TOP g.row.RANKS c.args.act.now (c.args.from.now ∷ c.args.to.now ∷ [])
-    (c.between.new.from ∷ c.between.new.to ∷ []) c.between.result c.between.ensures.step in
-    let same = c.act_result.ensures.clock in
-    (λ is. ((from, to), full.0 (same.0 is)), λ both. same.1 (full.1 both.1))
-
-pub returns-clause-rank : goal.returns-clause-rank
-returns-clause-rank g c =
-    let from : c.args.from.now.process.pid ≡ actor c.args.act.now = sym c.pid.ensures
-    ∙ same_unless c.pid.result c.actor.result (sym c.ne.ensures ∙ c.if-ne.false) ∙ c.actor.ensures in
-    let to : c.args.to.now.process.pid ≡ receiver c.args.act.now = sym c.pid-2.ensures
-    ∙ same_unless c.pid-2.result c.receiver_of.result (sym c.ne-2.ensures ∙ c.if-ne-2.false) ∙ c.receiver_of.ensures in
-    let full = lent_rank g.row.TOP g.row.RANKS c.args.act.now (c.args.from.now ∷ c.args.to.now ∷ [])
-    (c.between.new.from ∷ c.between.new.to ∷ []) c.between.result c.between.ensures.step in
-    let same = c.act_result.ensures.rank in
-    (λ is. ((from, to), full.0 (same.0 is)), λ both. same.1 (full.1 both.1))
+    held_step g.row.TOP g.row.RANKS c.args.act.now _ (c.args.from.now ∷ c.args.to.now ∷ [])
+    (c.between.new.from ∷ c.between.new.to ∷ []) c.between.result c.act_result.result (from, to) c.between.ensures.step
+    (record {
+      ok = c.act_result.ensures.ok;
+      err = c.act_result.ensures.err;
+      clock = c.act_result.ensures.clock;
+      rank = c.act_result.ensures.rank;
+    })

@@ -3,7 +3,7 @@ use Rattle.std.proofs.Common.{◌≡◌, List, sym, subst, true, take}
 use Rattle.std.specs.List.{AllByRecursion}
 use Rattle.st_core.specs.declared.types.Pid.{Pid}
 use Rattle.st_core.specs.Streams.{ComesLast, is_own}
-use Rattle.st_runtime.specs.declared.pcb.entry.Entry.{Entry}
+use Rattle.st_log.specs.declared.entry.Entry.{Entry}
 use Rattle.st_runtime.specs.Joined.{reports_of, streams_of}
 use Rattle.st_runtime.proofs.Collecting.{last_at, reports_own}
 use Rattle.st_runtime.proofs.join.collect.streams_of.Goals as goal

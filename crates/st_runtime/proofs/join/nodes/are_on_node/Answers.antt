@@ -2,10 +2,9 @@
 use Rattle.std.proofs.lemmas.List.Elements.{All-more}
 use Rattle.std.proofs.Common.{◌<◌, length, arith, subst}
 use Rattle.st_core.specs.declared.types.Act.{Act}
-use Rattle.st_runtime.specs.declared.pcb.entry.Entry.{Entry}
+use Rattle.st_log.specs.declared.entry.Entry.{Entry}
 use Rattle.st_runtime.specs.Joining.{IsOnNodeIfWide}
-use Rattle.st_runtime.specs.Rows.{nowhere}
-use Rattle.st_runtime.specs.TracedActs.{with_rank}
+use Rattle.st_log.specs.Entries.{no_entry}
 use Rattle.st_runtime.proofs.Members.{All-past}
 use Rattle.st_runtime.proofs.join.nodes.are_on_node.Goals as goal
 
@@ -15,7 +14,7 @@ loop-place-preserved g c =
     let log = c.args.log.now.entries in
     let i = c.loop-place.place in
     let within : i < length log = omega (arith, c.loop-place-test.true, c.len-place-end.ensures) in
-    All-more (λ (e : Entry). OnNode e.act) log i (with_rank 0 nowhere) within c.loop-place.invariant
+    All-more (λ (e : Entry). OnNode e.act) log i no_entry within c.loop-place.invariant
     (subst OnNode c.act_at.ensures (c.is_on_node.ensures c.if-not-is_on_node.false))
 
 pub returns : goal.returns

@@ -1,7 +1,7 @@
 -- Each entry that was taken is one whose actor is there, on the node, if its act is one of a whole node.
 use Rattle.std.proofs.Common.{take}
 use Rattle.std.specs.Prelude.{All}
-use Rattle.st_runtime.specs.declared.pcb.entry.Entry.{Entry}
+use Rattle.st_log.specs.declared.entry.Entry.{Entry}
 use Rattle.st_runtime.specs.Joining.{IsOnNodeIfWide}
 use Rattle.st_runtime.proofs.join.nodes.are_on_node.Given as goal
 

@@ -11,17 +11,17 @@ returns-in-Ok c =
     let e = c.args.entry.now in
     let place = c.in-Ok.place in
     let found = c.in-Ok.ensures.position in
-    match_test c.is_same.result _ _
+    match_test c.is_same_entry.result _ _
     (λ same. (
       place,
       c.in-Ok.ensures.range,
       get_or_default log place e c.at.result c.in-Ok.ensures.range ∙ sym c.at.ensures
-          ∙ c.is_same.ensures.0 same,
+          ∙ c.is_same_entry.ensures.0 same,
     ))
     (λ apart has.
     let is = entry_found log e place c.requires c.in-Ok.ensures.range found has in
     let here = c.at.ensures ∙ get_or_default log place c.at.result e c.in-Ok.ensures.range in
-    let same = c.is_same.ensures.1 (here ∙ is) in cc)
+    let same = c.is_same_entry.ensures.1 (here ∙ is) in cc)
 
 pub returns-in-Err : goal.returns-in-Err
 returns-in-Err c =

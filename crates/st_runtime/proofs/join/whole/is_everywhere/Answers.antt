@@ -13,8 +13,8 @@ has_if_touched-requires g c =
       omega arith,
       (
         c.requires.wide,
-        λ same. has_at_one xs x c.args.here c.args.entry.now c.requires.rising
-            (c.loop-process.process-index, c.loop-process-test.true, sym c.process-item.is) same c.requires.here,
+        λ same. has_at_one xs x c.args.here c.args.entry.now c.requires.held.rising
+            (c.loop-process.process-index, c.loop-process-test.true, sym c.process-item.is) same c.requires.held.here,
       ),
     )
 

@@ -6,7 +6,7 @@ use Rattle.std.proofs.lemmas.List.Elements.{All-more}
 use Rattle.std.proofs.lemmas.Option.{slice_get-get_or}
 use Rattle.st_core.specs.declared.types.Act.TheVariants.{Reset}
 use Rattle.st_core.specs.declared.types.Reply.TheVariants.{Done}
-use Rattle.st_runtime.specs.declared.pcb.entry.Entry.{Entry}
+use Rattle.st_log.specs.declared.entry.Entry.{Entry}
 use Rattle.st_runtime.specs.Pcb.{Control}
 use Rattle.st_runtime.specs.Pieces.{IsWholeEntry}
 use Rattle.st_runtime.proofs.Members.{All-past}

@@ -1,9 +1,12 @@
 -- The first entry that isn't whole has the least place, since those before it are.
 use Rattle.std.proofs.lemmas.List.Elements.{All-more}
-use Rattle.std.proofs.Common.{◌<◌, length, arith, subst}
+use Rattle.std.proofs.Common.{◌<◌, length, arith, rules, subst}
 use Rattle.st_runtime.proofs.Members.{All-past}
 use Rattle.st_runtime.specs.Pieces.{IsWholeEntry}
 use Rattle.st_runtime.proofs.join.whole.missing_in.Goals as goal
+
+pub is_whole-requires : goal.is_whole-requires
+is_whole-requires g c = (omega arith, record { rising = c.requires.rising; here = search rules })
 
 pub loop-place-preserved : goal.loop-place-preserved
 loop-place-preserved g c =

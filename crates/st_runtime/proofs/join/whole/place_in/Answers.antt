@@ -7,7 +7,8 @@ use Rattle.st_core.proofs.ForCallers.{missing_from_search}
 use Rattle.st_runtime.specs.Pcb.{Control}
 use Rattle.st_runtime.specs.Pieces.{pids_in}
 use Rattle.st_runtime.proofs.PidLemmas.{place_tells}
-use Rattle.st_runtime.proofs.Searching.{search_keys, process_found, pids_found}
+use Rattle.st_log.proofs.ForCallers.{search_keys}
+use Rattle.st_runtime.proofs.Searching.{process_found, pids_found}
 use Rattle.st_runtime.proofs.join.whole.place_in.Goals as goal
 
 pub returns-clause-variant : goal.returns-clause-variant

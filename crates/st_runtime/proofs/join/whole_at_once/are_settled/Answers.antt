@@ -2,8 +2,7 @@
 use Rattle.std.proofs.lemmas.List.Elements.{All-more}
 use Rattle.std.proofs.Common.{◌<◌, length, arith}
 use Rattle.st_runtime.specs.Joining.{IsSharedUnlessWide}
-use Rattle.st_runtime.specs.Rows.{nowhere}
-use Rattle.st_runtime.specs.TracedActs.{with_rank}
+use Rattle.st_log.specs.Entries.{no_entry}
 use Rattle.st_runtime.proofs.Members.{All-past}
 use Rattle.st_runtime.proofs.join.whole_at_once.are_settled.Goals as goal
 
@@ -13,7 +12,7 @@ loop-place-preserved g c =
     let log = c.args.log.now.entries in
     let i = c.loop-place.place in
     let within : i < length log = omega (arith, c.loop-place-test.true, c.len-place-end.ensures) in
-    All-more Settled log i (with_rank 0 nowhere) within c.loop-place.invariant
+    All-more Settled log i no_entry within c.loop-place.invariant
     (c.is_settled.ensures c.if-not-is_settled.false)
 
 pub returns : goal.returns

@@ -5,7 +5,8 @@ use Rattle.st_core.specs.Step.{reached}
 use Rattle.st_mail.specs.Actor.{process_of}
 use Rattle.st_mail.specs.Mail.{queue_in}
 use Rattle.std.specs.Prelude.{None}
-use Rattle.st_runtime.specs.Logs.{last_rank, IsPart}
+use Rattle.st_log.specs.Entries.{last_rank}
+use Rattle.st_runtime.specs.Logs.{IsPart}
 use Rattle.st_runtime.specs.Pcb.{Control}
 use Rattle.st_runtime.proofs.LogLemmas.{IsNext, inside_push}
 use Rattle.st_runtime.proofs.PartLemmas.{wide_part, wide_entry}

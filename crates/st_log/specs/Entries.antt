@@ -1,0 +1,30 @@
+-- What contracts see of a log: entries by their places, and the last rank.
+use Rattle.std.specs.Prelude.{ℕ, List, [], ◌∷◌, None, slice_index_or}
+use Rattle.st_core.specs.declared.types.Act.TheVariants as act
+use Rattle.st_core.specs.declared.types.Reply.TheVariants as reply
+use Rattle.st_core.specs.Pid.{pid_on}
+use Rattle.st_log.specs.declared.entry.Entry.{Entry}
+
+-- the entries of a log, and for how many more it has room
+pub record Logged : Type 0 where
+  pub entries : List Entry
+  pub spare : ℕ
+
+-- stands for an entry that is at no place, which no log has
+abbrev pub no_entry : Entry
+no_entry = record {
+  rank = 0;
+  act = act.Reset (pid_on 0 0);
+  reply = reply.Done;
+  report = None;
+  carried = None;
+}
+
+-- the entry at a place of a log, if there are so many
+abbrev pub entry_at : List Entry → ℕ → Entry
+entry_at es i = slice_index_or es i no_entry
+
+-- the last rank, which is the greatest if ranks rise; low if there is none
+abbrev pub last_rank : ℕ → List Entry → ℕ
+last_rank low [] = low
+last_rank low (e ∷ es) = last_rank e.rank es

@@ -1,0 +1,290 @@
+//! The log of one process.
+
+ghost use Rattle.std.specs.Prelude.{◌≡◌, ◌+◌, ◌-◌, ◌<◌, ◌≤◌, ◌↔◌, [], ◌∷◌, ◌++◌, length, slice_get};
+ghost use Rattle.std.specs.Prelude.{slice_index_or, vec_len, IfOk, OnOk, IsOk, IsTrue};
+ghost use Rattle.std.specs.List.Sorted.{IsBinarySearchResult, IsSearchInRange};
+ghost use Rattle.std.specs.Ordering.{nat_cmp};
+ghost use Rattle.std.specs.Vec.{vec_capacity};
+ghost use Rattle.st_log.specs.Entries.{entry_at, last_rank};
+ghost use Rattle.st_log.specs.Rows.{without_rank_in, HasGrown, HasPlace};
+ghost use Rattle.st_log.specs.TracedActs.{without_rank};
+
+use crate::calls::CallLog;
+use crate::entry::Entry;
+use crate::row::{Content, Row, Unranked, content_of};
+use crate::same::is_same_entry;
+use crate::traced_act::{TracedAct, traced_of};
+use st_core::{Act, Event, Reply};
+use std::alloc::{AllocError, Global};
+use std::marker::Model;
+
+/// Among so many entries a rank is looked for one after another, since the processor fetches those
+/// ahead; only past them by halves.
+const NEAR: usize = 64;
+
+/// So many entries can be kept in one form, since a row has 32 bits for the place of one.
+const MOST_PLACES: usize = 4_294_967_295;
+
+/// The entries of the acts that touched one process, in order. One of a reset or a tracer change
+/// takes 16 bytes and at most as many again as room to grow. One of another act takes 40 if it
+/// wasn't reported and carried no token, else 56, if the act is of a frequent form (`calls`,
+/// `traced`); any other takes 192 at most.
+#[derive(Drop)]
+pub struct Log {
+    rows: Vec<Row>,
+    calls: CallLog,
+    traced: Vec<TracedAct>,
+    apart: Vec<Unranked>,
+    // For so many more entries there is room in all, whatever is logged.
+    reserved: usize,
+}
+
+impl Model for Log {
+    ghost use Rattle.std.specs.Vec.{vec_capacity};
+    ghost use Rattle.st_log.specs.Entries.{Logged};
+
+    ghost Value = { Logged };
+
+    ghost use Rattle.st_log.specs.Rows.{entries_of, IsLog};
+
+    ghost view = { λ l. record {
+      entries = entries_of l.calls.calls l.traced.items l.apart.items l.rows.items;
+      spare = l.reserved;
+    } };
+
+    ghost invariant = { λ l.
+        IsLog l.rows.items l.calls l.traced.items l.apart.items
+        (vec_capacity l.rows) (vec_capacity l.traced) (vec_capacity l.apart) l.reserved };
+}
+
+impl Log {
+    /// An empty log with room for so many entries. Fails if memory runs out, or if there are more
+    /// than can be apart.
+    pub fn with_capacity(alloc: Global, capacity: usize) -> Result<Log, AllocError>
+        ensures entries { IfOk result (λ log. log.entries ≡ []) }
+        ensures room { IfOk result (λ log. log.spare ≡ capacity) }
+    {
+        if capacity > MOST_PLACES {
+            return Err(AllocError);
+        }
+        Ok(Log {
+            rows: Vec::with_capacity(alloc, capacity)?,
+            calls: CallLog::with_capacity(alloc, capacity)?,
+            traced: Vec::with_capacity(alloc, capacity)?,
+            apart: Vec::with_capacity(alloc, capacity)?,
+            reserved: capacity,
+        })
+    }
+
+    /// The number of entries.
+    pub fn len(&self) -> usize
+        ensures { result ≡ length self.now.entries }
+    {
+        self.rows.len()
+    }
+
+    /// Whether there are no entries.
+    pub fn is_empty(&self) -> bool
+        ensures { IsTrue result ↔ (self.now.entries ≡ []) }
+    {
+        self.rows.is_empty()
+    }
+
+    /// The entry at this place, counted from 0, if there are so many.
+    pub fn get(&self, place: usize) -> Option<Entry>
+        ensures { result ≡ slice_get self.now.entries place }
+    {
+        if place < self.len() {
+            Some(self.at(place))
+        } else {
+            None
+        }
+    }
+
+    /// The first entry, if there is one.
+    pub fn first(&self) -> Option<Entry>
+        ensures { result ≡ slice_get self.now.entries 0 }
+    {
+        self.get(0)
+    }
+
+    /// The last entry, if there is one.
+    pub fn last(&self) -> Option<Entry>
+        ensures { result ≡ slice_get self.now.entries (length self.now.entries - 1) }
+    {
+        self.get(self.len().saturating_sub(1))
+    }
+
+    /// The entry at this place.
+    pub fn at(&self, place: usize) -> Entry
+        requires { place < length self.now.entries }
+        ensures { result ≡ slice_index_or self.now.entries place result }
+    {
+        let row = self.rows[place];
+        row.content
+            .without_rank(&self.calls, self.traced.as_slice(), self.apart.as_slice())
+            .with_rank(row.rank)
+    }
+
+    /// The rank of the entry at this place.
+    pub fn rank_at(&self, place: usize) -> u64
+        requires { place < length self.now.entries }
+        ensures { result ≡ (entry_at self.now.entries place).rank }
+    {
+        self.rows[place].rank
+    }
+
+    /// The act of the entry at this place.
+    pub fn act_at(&self, place: usize) -> Act
+        requires { place < length self.now.entries }
+        ensures { result ≡ (entry_at self.now.entries place).act }
+    {
+        let content = self.rows[place].content;
+        content.act(&self.calls, self.traced.as_slice(), self.apart.as_slice())
+    }
+
+    /// What the act of the entry at this place returned.
+    pub fn reply_at(&self, place: usize) -> Reply
+        requires { place < length self.now.entries }
+        ensures { result ≡ (entry_at self.now.entries place).reply }
+    {
+        let content = self.rows[place].content;
+        content.reply(&self.calls, self.traced.as_slice(), self.apart.as_slice())
+    }
+
+    /// What the actor of the entry at this place reported, if it did.
+    pub fn report_at(&self, place: usize) -> Option<Event>
+        requires { place < length self.now.entries }
+        ensures { result ≡ (entry_at self.now.entries place).report }
+    {
+        let content = self.rows[place].content;
+        content.report(&self.calls, self.traced.as_slice(), self.apart.as_slice())
+    }
+
+    /// Whether the entry at this place is seen to be the one at that place of the other log.
+    pub fn is_seen_same(&self, place: usize, other: &Log, there: usize) -> bool
+        requires here { place < length self.now.entries }
+        requires there { there < length other.now.entries }
+        ensures { IsTrue result
+            → entry_at self.now.entries place ≡ entry_at other.now.entries there }
+    {
+        let (mine, theirs) = (self.rows[place], other.rows[there]);
+        if mine.rank != theirs.rank {
+            return false;
+        }
+        match (mine.content, theirs.content) {
+            (Content::Reset(actor), Content::Reset(same)) => actor == same,
+            (Content::Tracer(actor, on, was), Content::Tracer(same, turned, before)) => {
+                actor == same && on == turned && was == before
+            }
+            _ => is_same_entry(&self.at(place), &other.at(there)),
+        }
+    }
+
+    /// The greatest rank, if ranks rise; 0 if the log is empty.
+    pub fn last_rank(&self) -> u64
+        ensures { result ≡ last_rank 0 self.now.entries }
+    {
+        match self.rows.last() {
+            Some(row) => row.rank,
+            None => 0,
+        }
+    }
+
+    /// Where a search by halves for this rank ends. If ranks rise and one is this, it is its place.
+    pub fn search(&self, rank: u64) -> Result<usize, usize>
+        ensures range { IsSearchInRange result (length self.now.entries) }
+        ensures position { IsBinarySearchResult (λ e. nat_cmp e.rank rank) self.now.entries result }
+    {
+        self.rows.binary_search_by_key(&rank, |row| row.rank)
+    }
+
+    /// The place of the rank, if ranks rise and it is there from this place on. A guess, on which
+    /// no promise rests.
+    pub fn place_from(&self, from: usize, rank: u64) -> usize {
+        let Some(rest) = self.rows.get(from..) else {
+            return from;
+        };
+        match rest.iter().take(NEAR).position(|row| row.rank >= rank) {
+            Some(near) => from.saturating_add(near),
+            None => match self.search(rank) {
+                Ok(place) | Err(place) => place,
+            },
+        }
+    }
+
+    /// Makes room for one entry. Fails if memory runs out, or if as many as can be apart do.
+    pub fn reserve(&mut self) -> Result<(), AllocError>
+        ensures entries { self.new.entries ≡ self.old.entries }
+        ensures spare { self.old.spare ≤ self.new.spare }
+        ensures room { OnOk result (0 < self.new.spare) }
+        ensures succeeds { 0 < self.old.spare → IsOk result }
+    {
+        if self.reserved > 0 {
+            return Ok(());
+        }
+        if self.traced.len() >= MOST_PLACES || self.apart.len() >= MOST_PLACES {
+            return Err(AllocError);
+        }
+        self.rows.reserve(1)?;
+        self.calls.reserve()?;
+        self.traced.reserve(1)?;
+        self.apart.reserve(1)?;
+        self.reserved = 1;
+        Ok(())
+    }
+
+    /// Appends an entry, for which there is room.
+    pub fn push_reserved(&mut self, entry: &Entry)
+        requires { 0 < self.old.spare }
+        ensures entries { self.new.entries ≡ self.old.entries ++ entry.now ∷ [] }
+        ensures spare { self.old.spare ≡ self.new.spare + 1 }
+    {
+        let content = keep_content(&mut self.calls, &mut self.traced, &mut self.apart, entry);
+        self.rows.push_reserved(Row {
+            rank: entry.rank,
+            content,
+        });
+        self.reserved -= 1;
+    }
+}
+
+/// What a row says of the entry. If that isn't all of it, the rest is kept in the smallest form
+/// that says it.
+fn keep_content(
+    calls: &mut CallLog,
+    traced: &mut Vec<TracedAct>,
+    apart: &mut Vec<Unranked>,
+    entry: &Entry,
+) -> Content
+    requires call_room { 0 < calls.old.spare }
+    requires traced_room { vec_len traced.old < vec_capacity traced.old }
+    requires traced_places { vec_len traced.old < 4294967295 }
+    requires room { vec_len apart.old < vec_capacity apart.old }
+    requires places { vec_len apart.old < 4294967295 }
+    ensures says { without_rank_in calls.new.calls traced.new.items apart.new.items result
+        ≡ without_rank entry.now }
+    ensures placed { HasPlace (length calls.new.calls) (length traced.new.items)
+        (length apart.new.items) result }
+    ensures calls { HasGrown calls.old.calls calls.new.calls }
+    ensures spare { calls.old.spare ≤ calls.new.spare + 1 }
+    ensures traced { HasGrown traced.old.items traced.new.items }
+    ensures traced_capacity { vec_capacity traced.new ≡ vec_capacity traced.old }
+    ensures apart { HasGrown apart.old.items apart.new.items }
+    ensures capacity { vec_capacity apart.new ≡ vec_capacity apart.old }
+{
+    if let Some(content) = content_of(entry) {
+        return content;
+    }
+    if let (None, None) = (entry.report, entry.carried) {
+        return Content::Call(calls.push_reserved(&entry.act, &entry.reply));
+    }
+    if let Some(form) = traced_of(entry) {
+        let place = traced.len() as u32;
+        traced.push_reserved(form);
+        return Content::Traced(place);
+    }
+    let place = apart.len() as u32;
+    apart.push_reserved(Unranked::of(entry));
+    Content::Apart(place)
+}

@@ -1,0 +1,169 @@
+//! The rows of a log. They are small, since a reset or a tracer change puts one into the log of
+//! each process of its node. Such a row says all of its entry. Of any other entry it says the rank
+//! and where the rest is: among the calls, if the act wasn't reported and carried no token; else
+//! mostly among the short forms of acts under a token (`traced`).
+
+ghost use Rattle.std.specs.Prelude.{◌≡◌, length, IfSome};
+ghost use Rattle.st_log.specs.Rows.{of_call, without_rank_in, IsAll, HasPlace};
+ghost use Rattle.st_log.specs.TracedActs.{with_rank, without_rank};
+
+use crate::calls::CallLog;
+use crate::entry::Entry;
+use crate::traced_act::TracedAct;
+use st_core::{Act, Event, Pid, Reply, Token};
+
+/// The rank of an entry, and where the rest of it is.
+#[derive(Clone, Copy)]
+pub struct Row {
+    /// The entry's rank.
+    pub rank: u64,
+    /// What else the entry says.
+    pub content: Content,
+}
+
+// So many bytes, and at most as many again as room to grow, are what an act of a node takes at each
+// of its processes.
+const _: () = prove!(size_of::<Row>() == 16);
+
+/// What an entry says beside its rank: of an act of a whole node all of it, of any other where it
+/// is.
+#[derive(Clone, Copy)]
+pub enum Content {
+    /// A reset by this process, which returned `Done`.
+    Reset(Pid),
+    /// A tracer change by this process, to some tracer or none, which returned whether the process
+    /// was traced before.
+    Tracer(Pid, bool, bool),
+    /// The call at this place, which wasn't reported and carried no token.
+    Call(u32),
+    /// What the form at this place says of an act under a token.
+    Traced(u32),
+    /// What is at this place among the entries that are kept apart.
+    Apart(u32),
+}
+
+/// An entry without its rank.
+#[derive(Clone, Copy)]
+pub struct Unranked {
+    /// The act.
+    pub act: Act,
+    /// What it returned to its actor.
+    pub reply: Reply,
+    /// What its actor reported, if it did.
+    pub report: Option<Event>,
+    /// The token of the message that a send sent, if it had one.
+    pub carried: Option<Token>,
+}
+
+/// What a row says of an entry beside its rank, if that is all of it: of a reset and of a tracer
+/// change.
+pub fn content_of(entry: &Entry) -> Option<Content>
+    ensures { IfSome result (IsAll entry.now) }
+{
+    match (entry.act, entry.reply, entry.report, entry.carried) {
+        (Act::Reset(actor), Reply::Done, None, None) => Some(Content::Reset(actor)),
+        (Act::Tracer(actor, on), Reply::Was(was), None, None) => {
+            Some(Content::Tracer(actor, on, was))
+        }
+        _ => None,
+    }
+}
+
+impl Content {
+    /// The entry without its rank, if these are the calls, the acts under a token and the entries
+    /// that are kept apart.
+    pub fn without_rank(self, calls: &CallLog, traced: &[TracedAct], apart: &[Unranked]) -> Unranked
+        requires { HasPlace (length calls.now.calls) (length traced.now) (length apart.now) self }
+        ensures { result ≡ without_rank_in calls.now.calls traced.now apart.now self }
+    {
+        match self {
+            Content::Reset(actor) => Unranked::of_call((Act::Reset(actor), Reply::Done)),
+            Content::Tracer(actor, on, was) => {
+                Unranked::of_call((Act::Tracer(actor, on), Reply::Was(was)))
+            }
+            Content::Call(place) => Unranked::of_call(calls.at(place as usize)),
+            Content::Traced(place) => traced[place as usize].without_rank(),
+            Content::Apart(place) => apart[place as usize],
+        }
+    }
+
+    /// The entry's act, if these are the calls, the acts under a token and the entries that are
+    /// kept apart.
+    pub fn act(self, calls: &CallLog, traced: &[TracedAct], apart: &[Unranked]) -> Act
+        requires { HasPlace (length calls.now.calls) (length traced.now) (length apart.now) self }
+        ensures { result ≡ (without_rank_in calls.now.calls traced.now apart.now self).act }
+    {
+        match self {
+            Content::Reset(actor) => Act::Reset(actor),
+            Content::Tracer(actor, on, _) => Act::Tracer(actor, on),
+            Content::Call(place) => calls.at(place as usize).0,
+            Content::Traced(place) => traced[place as usize].without_rank().act,
+            Content::Apart(place) => apart[place as usize].act,
+        }
+    }
+
+    /// What the entry's act returned, of the same.
+    pub fn reply(self, calls: &CallLog, traced: &[TracedAct], apart: &[Unranked]) -> Reply
+        requires { HasPlace (length calls.now.calls) (length traced.now) (length apart.now) self }
+        ensures { result ≡ (without_rank_in calls.now.calls traced.now apart.now self).reply }
+    {
+        match self {
+            Content::Reset(_) => Reply::Done,
+            Content::Tracer(_, _, was) => Reply::Was(was),
+            Content::Call(place) => calls.at(place as usize).1,
+            Content::Traced(place) => traced[place as usize].without_rank().reply,
+            Content::Apart(place) => apart[place as usize].reply,
+        }
+    }
+
+    /// What the entry's actor reported, of the same. No call among the calls was reported.
+    pub fn report(self, calls: &CallLog, traced: &[TracedAct], apart: &[Unranked]) -> Option<Event>
+        requires { HasPlace (length calls.now.calls) (length traced.now) (length apart.now) self }
+        ensures { result ≡ (without_rank_in calls.now.calls traced.now apart.now self).report }
+    {
+        match self {
+            Content::Reset(_) | Content::Tracer(..) | Content::Call(_) => None,
+            Content::Traced(place) => traced[place as usize].without_rank().report,
+            Content::Apart(place) => apart[place as usize].report,
+        }
+    }
+}
+
+impl Unranked {
+    /// That of a call which wasn't reported and carried no token.
+    fn of_call(call: (Act, Reply)) -> Unranked
+        ensures { result ≡ of_call call }
+    {
+        Unranked {
+            act: call.0,
+            reply: call.1,
+            report: None,
+            carried: None,
+        }
+    }
+
+    /// What the entry says beside its rank.
+    pub fn of(entry: &Entry) -> Unranked
+        ensures { result ≡ without_rank entry.now }
+    {
+        Unranked {
+            act: entry.act,
+            reply: entry.reply,
+            report: entry.report,
+            carried: entry.carried,
+        }
+    }
+
+    /// The entry with this rank.
+    pub fn with_rank(self, rank: u64) -> Entry
+        ensures { result ≡ with_rank rank self }
+    {
+        Entry {
+            rank,
+            act: self.act,
+            reply: self.reply,
+            report: self.report,
+            carried: self.carried,
+        }
+    }
+}

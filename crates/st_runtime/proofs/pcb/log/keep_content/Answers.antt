@@ -1,8 +1,0 @@
--- A content that says all of its entry is placed, whatever is apart.
-use Rattle.std.proofs.Common.{length}
-use Rattle.st_runtime.proofs.pcb.log.keep_content.Goals as goal
-
-pub returns-in-Some-clause-placed : goal.returns-in-Some-clause-placed
-returns-in-Some-clause-placed c =
-    c.in-Some.ensures.placed (length c.args.calls.now.calls) (length c.args.traced.now.items)
-    (length c.args.apart.now.items)
