@@ -476,6 +476,51 @@ module _ (streams : List Stream) (across : Bool) where
       (events_of streams p) i))
       (hop_to_send (source_of streams e)))) receives
 
+  -- the row of a stamp that is in the row behind a receive begins there
+  row_begins : (p : Pid) (j : ℕ) (d : Event) (m : ℕ) (e : Event) → event_at streams p j ≡ Some d
+      → is_receive d ≡ true
+      → slice_get (row_ahead d.serial.this (drop (j + 1) (events_of streams p))) m ≡ Some e
+      → row_start d.serial.this (events_of streams p) (j + 1 + m) ≡ suc j
+  row_begins p j d m e at receive there =
+      let es = events_of streams p in
+      let this = d.serial.this in
+      let i = j + 1 + m in
+      let x = taken_out (λ f. in_row this f) (drop (j + 1) es) m e there in
+      let here : slice_get es i ≡ Some e = sym (dropped (j + 1) es m) ∙ x.at in
+      let long = slice_get_within es i e here in
+      let between : IsRowBetween this es (j + 1) i = λ z low high.
+      let n = z - (j + 1) in
+      let number : j + 1 + n ≡ z = omega arith in
+      let f = get_or es z blank in
+      let found : slice_get es z ≡ Some f = at_get_or es z blank (omega arith) in (
+        f,
+        found,
+        x.all n f (omega arith) (dropped (j + 1) es n ∙ ap (slice_get es) number
+            ∙ found),
+      ) in
+      let next : j + 1 ≡ suc j = omega arith in
+      row_passes this es (j + 1) i (omega arith) between ∙ ap (row_start this es) next
+      ∙ row_stops this es j d at receive
+
+  -- evidence that names a receive of a wanted label leads to it, whatever is above
+  evidence_leads : (p : Pid) (j : ℕ) (d e : Event) → event_at streams p j ≡ Some d
+      → (across || e.label.0 == d.label.0) ≡ true → (b : Bool)
+      → next_of across p (hop_by (events_of streams p) e.label
+      (origin_evidence_by d.serial.this b (Some j))) ≡ Some (p, j)
+  evidence_leads p j d e at wanted b =
+      let es = events_of streams p in
+      let this = d.serial.this in
+      let asked = asked_label streams across es j d e at ∙ wanted in
+      let test = (label_at_or es j e.label).0 == e.label.0 in
+      elim b as (λ c. next_of across p (hop_by es e.label (origin_evidence_by this c (Some j)))
+      ≡ Some (p, j)) [
+        | true ↦ next_by_label across p (hop.After j) j (label_at_or es j e.label) e.label refl
+            ∙ wanted_leads across test (p, j) asked
+        | false ↦ next_by_label across p (hop.AfterOneLabel j) j
+            (label_at_or es j e.label) e.label refl
+            ∙ wanted_leads across test (p, j) asked
+      ]
+
   -- a stamp of the row behind a receive leads to it
   row_leads : (p : Pid) (j : ℕ) (d : Event) (m : ℕ) (e : Event) → event_at streams p j ≡ Some d
       → is_receive d ≡ true
@@ -488,44 +533,18 @@ module _ (streams : List Stream) (across : Bool) where
       let i = j + 1 + m in
       let x = taken_out (λ f. in_row this f) (drop (j + 1) es) m e there in
       let here : slice_get es i ≡ Some e = sym (dropped (j + 1) es m) ∙ x.at in
-      let long = slice_get_within es i e here in
       let own = x.all m e (omega arith) x.at in
       let prev : e.serial.prev ≡ this =
       eqb-true e.serial.prev this (and_parts (not (is_receive e)) (e.serial.prev == this) own).1 in
-      let between : IsRowBetween this es (j + 1) i = λ z low high.
-      let n = z - (j + 1) in
-      let number : j + 1 + n ≡ z = omega arith in
-      let f = get_or es z blank in
-      let found : slice_get es z ≡ Some f = at_get_or es z blank (omega arith) in (
-        f,
-        found,
-        x.all n f (omega arith) (dropped (j + 1) es n ∙ ap (slice_get es) number
-            ∙ found),
-      ) in
-      let next : j + 1 ≡ suc j = omega arith in
-      let start : row_start this es i ≡ suc j =
-      row_passes this es (j + 1) i (omega arith) between ∙ ap (row_start this es) next
-      ∙ row_stops this es j d at receive in
       let by = λ (k : ℕ). origin_evidence_by this (has_above this es k)
       (receive_before this es k) in
       let above = has_above this es (suc j) in
       let tells : origin_evidence e.serial.prev es i ≡ origin_evidence_by this above (Some j) =
-      ap (λ v. origin_evidence v es i) prev ∙ ap by start
+      ap (λ v. origin_evidence v es i) prev ∙ ap by (row_begins p j d m e at receive there)
       ∙ ap (origin_evidence_by this above) (received_at this es j d at receive refl) in
-      let leads : (b : Bool) → next_of across p (hop_by es e.label
-      (origin_evidence_by this b (Some j))) ≡ Some (p, j) = λ b.
-      let asked = asked_label streams across es j d e at ∙ wanted in
-      let test = (label_at_or es j e.label).0 == e.label.0 in
-      elim b as (λ c. next_of across p (hop_by es e.label (origin_evidence_by this c (Some j)))
-      ≡ Some (p, j)) [
-        | true ↦ next_by_label across p (hop.After j) j (label_at_or es j e.label) e.label refl
-            ∙ wanted_leads across test (p, j) asked
-        | false ↦ next_by_label across p (hop.AfterOneLabel j) j
-            (label_at_or es j e.label) e.label refl
-            ∙ wanted_leads across test (p, j) asked
-      ] in
       stamp_next p i e here (row_stamps this e own)
-      ∙ ap (λ t. next_of across p (hop_by es e.label t)) tells ∙ leads above
+      ∙ ap (λ t. next_of across p (hop_by es e.label t)) tells
+      ∙ evidence_leads p j d e at wanted above
 
   -- the receive of a send leads to it
   send_leads : IsStreams streams → refusal streams ≡ None

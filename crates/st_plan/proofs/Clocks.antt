@@ -95,6 +95,63 @@ pub at_event : (streams : List Stream) (x : Item) (e : Event) → IsAt streams x
 at_event streams (item.Reported p i) e h = (p, i, h)
 at_event streams (item.Hidden p i) e h = (p, i, h.0)
 
+-- the event of a process before a reported one, which came
+record CameBefore (streams : List Stream) (p : Pid) (k : ℕ) (e : Event) : Type 0 where
+  event : Event
+  at : event_at streams p k ≡ Some event
+  top : IsTop streams (item.Reported p k) event
+  key : IsKeyBelow (key_by streams (item.Reported p k) event)
+      (key_by streams (item.Reported p (suc k)) e)
+
+came_before : (streams : List Stream) (earlier : List Move) (p : Pid) (k : ℕ) (e : Event)
+    → IsInTurn earlier (item.Reported p (suc k))
+    → AllByRecursion (λ y. IsKeyBelow (key_by streams y.item y.event)
+    (key_by streams (item.Reported p (suc k)) e)) earlier
+    → IsKnown streams earlier → CameBefore streams p k e
+came_before streams earlier p k e turn below known =
+    let count = turn in
+    let s = known.have p k (omega arith) in
+    let d = s.move.event in
+    let here = key_by streams (item.Reported p (suc k)) e in
+    let came = all_at (HasCome streams) earlier s.number s.move known.each s.among in
+    let lower = all_at (λ (y : Move). IsKeyBelow (key_by streams y.item y.event) here) earlier
+    s.number s.move below s.among in
+    record {
+      event = d;
+      at = subst (λ y. IsAt streams y d) s.is came.at;
+      top = subst (λ y. IsTop streams y d) s.is came.top;
+      key = subst (λ y. IsKeyBelow (key_by streams y d) here) s.is lower;
+    }
+
+-- a stamp is above what its process did: above the stamp before it, and above a receive before it
+-- that isn't lower
+above_before : (streams : List Stream) (p : Pid) (k : ℕ) (e : Event) → IsPaired streams
+    → event_at streams p (suc k) ≡ Some e → is_stamp e ≡ true → CameBefore streams p k e
+    → height_of streams p (suc k) < e.serial.this
+above_before streams p k e ok at stamps came =
+    let d = came.event in
+    let before = height_more streams p k d came.at in
+    let here = height_more streams p (suc k) e at in
+    let low = height_is streams p k in
+    let high = height_is streams p (suc k) in
+    elim (is_stamp d) as (λ b. is_stamp d ≡ b → height_of streams p (suc k) < e.serial.this) [
+      | true ↦ λ stamp.
+          let top = came.top stamp in
+          let rise = stamp_counts_rise streams ok p k (suc k) d e
+          (omega arith) came.at at stamp stamps in
+          omega arith
+      | false ↦ λ receive.
+          let one = came.key.height in
+          elim (cases_lt (height streams p k) (height streams p (suc k))) [
+            | inl less ↦ omega arith
+            | inr least ↦
+                let rank = came.key.rank (omega arith) in
+                let mine : rank_of d ≡ 1 = ap (λ b. let n : ℕ = if b then 0 else 1 in n) receive in
+                let theirs : rank_of e ≡ 0 = ap (λ b. let n : ℕ = if b then 0 else 1 in n) stamps in
+                absurd (omega arith)
+          ]
+    ] refl
+
 pub top_of : (streams : List Stream) (earlier : List Move) (x : Item) (e : Event) → IsPaired streams
     → IsAt streams x e
     → IsInTurn earlier x → AllByRecursion (λ y. IsKeyBelow (key_by streams y.item y.event)
@@ -105,41 +162,7 @@ top_of streams earlier (item.Reported p zero) e ok at turn below known = λ stam
     let rises = serial_rises streams ok p 0 e at in
     omega arith
 top_of streams earlier (item.Reported p (suc k)) e ok at turn below known = λ stamps.
-    let count = turn in
-    let s = known.have p k (omega arith) in
-    let d = s.move.event in
-    let came = all_at (HasCome streams) earlier s.number s.move known.each s.among in
-    let above = λ (y : Move). IsKeyBelow (key_by streams y.item y.event)
-    (key_by streams (item.Reported p (suc k)) e) in
-    let lower = all_at above earlier s.number s.move below s.among in
-    let at_d : event_at streams p k ≡ Some d = subst (λ y. IsAt streams y d) s.is came.at in
-    let top_d : IsTop streams (item.Reported p k) d =
-    subst (λ y. IsTop streams y d) s.is came.top in
-    let key_d : IsKeyBelow (key_by streams (item.Reported p k) d)
-    (key_by streams (item.Reported p (suc k)) e) =
-    subst (λ y. IsKeyBelow (key_by streams y d) (key_by streams
-    (item.Reported p (suc k)) e)) s.is lower in
-    let before = height_more streams p k d at_d in
-    let here = height_more streams p (suc k) e at in
-    let low = height_is streams p k in
-    let high = height_is streams p (suc k) in
-    elim (is_stamp d) as (λ b. is_stamp d ≡ b → height_of streams p (suc k) < e.serial.this) [
-      | true ↦ λ stamp.
-          let top = top_d stamp in
-          let rise = stamp_counts_rise streams ok p k (suc k) d e
-          (omega arith) at_d at stamp stamps in
-          omega arith
-      | false ↦ λ receive.
-          let one = key_d.height in
-          elim (cases_lt (height streams p k) (height streams p (suc k))) [
-            | inl less ↦ omega arith
-            | inr least ↦
-                let rank = key_d.rank (omega arith) in
-                let mine : rank_of d ≡ 1 = ap (λ b. let n : ℕ = if b then 0 else 1 in n) receive in
-                let theirs : rank_of e ≡ 0 = ap (λ b. let n : ℕ = if b then 0 else 1 in n) stamps in
-                absurd (omega arith)
-          ]
-    ] refl
+    above_before streams p k e ok at stamps (came_before streams earlier p k e turn below known)
 
 -- CLOCKS
 

@@ -84,6 +84,77 @@ abbrev taken_by : Process → Move → Option Act
 taken_by r m = option_map (λ k. act.Receive m.who (want.Place k))
     (position (λ x. bears_stamp m.event.from m.event.serial.this x.token) r.queue)
 
+-- the message at its place is what the receive takes
+taken_message : (top : ℕ) (streams : List Stream) (marks : Marks) (earlier : List Move) (r : Process)
+    (m : Move)
+    → IsSo streams marks earlier m.who r → (w : IsWaiting streams marks earlier m)
+    → acted top r (act.Receive m.who (want.Place w.place))
+    ≡ Some (receives r (Some (w.place, w.message)))
+taken_message top streams marks earlier r m so w =
+    let picked : pick (want.Place w.place) r.queue ≡ Some (w.place, w.message) =
+    pick_at w.place r.queue w.message (ap (λ q. slice_get q w.place) so.queued ∙ w.at) in
+    ap (λ f. Some (receives r f)) picked
+
+-- what its process reports of it is the move's event, if that is told
+taken_event : (streams : List Stream) (marks : Marks) (earlier : List Move) (r : Process) (m : Move)
+    → IsSo streams marks earlier m.who r → r.pid ≡ m.who
+    → (w : IsWaiting streams marks earlier m)
+    → report r.local.traced kind.Receive w.message.token (Some r.pid) w.message.value
+    ≡ told_event marks m
+taken_event streams marks earlier r m so who w =
+    ap (λ t. report r.local.traced kind.Receive t (Some r.pid) w.message.value) w.has
+    ∙ ap (λ b. report b kind.Receive (Some w.token) (Some r.pid) w.message.value) so.traced
+    ∙ ap (λ p. report true kind.Receive (Some w.token) (Some p) w.message.value) who
+    ∙ ap (λ b. cond b (Some (got_of m.who w.message.value w.token)) None) w.seen
+    ∙ ap (λ (e : Event). let o : Option Event = cond (is_told marks m)
+    (Some e) None in o) w.gives
+
+-- a process that received a token, and has no message at this place any more
+abbrev after_taking : Process → ℕ → Option Token → Process
+after_taking r k token = record r { local = received r.local token; queue = remove r.queue k }
+
+-- the process that took the message is as the moves say with this one
+so_taken : (streams : List Stream) (marks : Marks) (earlier : List Move) (r : Process) (m : Move)
+    → IsSo streams marks earlier m.who r → is_taking m ≡ true
+    → (w : IsWaiting streams marks earlier m)
+    → IsSo streams marks (m ∷ earlier) m.who (after_taking r w.place w.message.token)
+so_taken streams marks earlier r m so takes w =
+    let k = w.place in
+    let count = m.event.serial.this in
+    let before = clock m.who earlier in
+    let waiting = queue_of streams marks m.who earlier in
+    let this : w.token.serial.this ≡ count = ap (λ (e : Event). e.serial.this) w.gives in
+    let own_clock : clock m.who (m ∷ earlier) ≡ max before count =
+    ap (λ b. cond b (max before count) before) (pid_eq-refl m.who) in
+    let own_last : last m.who (m ∷ earlier) ≡ count =
+    ap (λ b. cond b (cond (is_taking m) count m.event.serial.prev) (last m.who earlier))
+    (pid_eq-refl m.who)
+    ∙ ap (λ b. cond b count m.event.serial.prev) takes in
+    let own_queue : queue_of streams marks m.who (m ∷ earlier) ≡ remove waiting k =
+    taken_queue streams marks m earlier m.who true takes (pid_eq-refl m.who)
+    ∙ ap (λ p. elim p [ None ↦ waiting | Some j ↦ remove waiting j ]) w.is in
+    subst (λ t. IsSo streams marks (m ∷ earlier) m.who (after_taking r k t)) (sym w.has)
+    (record {
+      clocked = ap (λ c. max c w.token.serial.this) so.clocked ∙ ap (max before) this
+          ∙ sym own_clock;
+      lasted = this ∙ sym own_last;
+      traced = so.traced;
+      queued = ap (λ q. remove q k) so.queued ∙ sym own_queue;
+    })
+
+-- any other process is as the moves say without it
+so_beside : (streams : List Stream) (marks : Marks) (earlier : List Move) (m : Move) (x : Pid)
+    (z : Process)
+    → is_taking m ≡ true → pid_eq x m.who ≡ false → IsSo streams marks earlier x z
+    → IsSo streams marks (m ∷ earlier) x z
+so_beside streams marks earlier m x z takes apart so = record {
+  clocked = so.clocked ∙ sym (other_clock m earlier x apart);
+  lasted = so.lasted ∙ sym (other_last m earlier x apart);
+  traced = so.traced;
+  queued = so.queued ∙ sym (taken_queue streams marks m earlier x false takes
+      (apart_from x m.who apart));
+}
+
 pub taking : (top : ℕ) (streams : List Stream) (marks : Marks) (earlier : List Move) (s : State)
     (m : Move)
     → IsKept streams marks earlier s → lists streams m.who ≡ true → is_taking m ≡ true
@@ -95,68 +166,17 @@ taking top streams marks earlier s m kept listed takes is_act is w =
     let r = at.0 in
     let so = kept.each m.who r at.1 in
     let who : r.pid ≡ m.who = process_pid s m.who r at.1 in
-    let k = w.place in
-    let a = act.Receive m.who (want.Place k) in
+    let a = act.Receive m.who (want.Place w.place) in
     let test = λ (x : Message). bears_stamp m.event.from m.event.serial.this x.token in
-    let picked : pick (want.Place k) r.queue ≡ Some (k, w.message) =
-    pick_at k r.queue w.message (ap (λ q. slice_get q k) so.queued ∙ w.at) in
-    let done = receives r (Some (k, w.message)) in
-    let acted_is : acted top r a ≡ Some done = ap (λ f. Some (receives r f)) picked in
+    let done = receives r (Some (w.place, w.message)) in
     let o = outcome_of s a done in
-    let stepped : step top s a ≡ Some o = step_done top s a r r done at.1 at.1 acted_is in
-    let this : w.token.serial.this ≡ m.event.serial.this =
-    ap (λ (e : Event). e.serial.this) w.gives in
+    let stepped : step top s a ≡ Some o =
+    step_done top s a r r done at.1 at.1 (taken_message top streams marks earlier r m so w) in
     let report_is : o.report ≡ told_event marks m =
-    ap (λ t. report r.local.traced kind.Receive t (Some r.pid) w.message.value) w.has
-    ∙ ap (λ b. report b kind.Receive (Some w.token) (Some r.pid) w.message.value) so.traced
-    ∙ ap (λ p. report true kind.Receive (Some w.token) (Some p) w.message.value) who
-    ∙ ap (λ b. cond b (Some (got_of m.who w.message.value w.token)) None) w.seen
-    ∙ ap (λ (e : Event). let o : Option Event = cond (is_told marks m)
-    (Some e) None in o) w.gives in
-    let put : Process = record r {
-      local = received r.local w.message.token;
-      queue = remove r.queue k;
-    } in
-    let put_is : put ≡ record r {
-      local = received r.local (Some w.token);
-      queue = remove r.queue k;
-    } =
-    ap (λ t. let y : Process = record r {
-      local = received r.local t;
-      queue = remove r.queue k;
-    } in y) w.has in
-    let count = m.event.serial.this in
-    let before = clock m.who earlier in
-    let waiting = queue_of streams marks m.who earlier in
-    let own_clock : clock m.who (m ∷ earlier) ≡ max before count =
-    ap (λ b. cond b (max before count) before) (pid_eq-refl m.who) in
-    let own_last : last m.who (m ∷ earlier) ≡ count =
-    ap (λ b. cond b (cond (is_taking m) count m.event.serial.prev) (last m.who earlier))
-    (pid_eq-refl m.who)
-    ∙ ap (λ b. cond b count m.event.serial.prev) takes in
-    let own_queue : queue_of streams marks m.who (m ∷ earlier) ≡ remove waiting k =
-    taken_queue streams marks m earlier m.who true takes (pid_eq-refl m.who)
-    ∙ ap (λ p. elim p [ None ↦ waiting | Some j ↦ remove waiting j ]) w.is in
+    taken_event streams marks earlier r m so who w in
     let own : IsSo streams marks (m ∷ earlier) m.who (changed a done r) =
-    subst (IsSo streams marks (m ∷ earlier) m.who) (sym (changed_own a done r who ∙ put_is))
-    (record {
-      clocked = ap (λ c. max c w.token.serial.this) so.clocked ∙ ap (max before) this
-          ∙ sym own_clock;
-      lasted = this ∙ sym own_last;
-      traced = so.traced;
-      queued = ap (λ q. remove q k) so.queued ∙ sym own_queue;
-    }) in
-    let others : (x : Pid) (z : Process) → pid_eq x m.who ≡ false → process s x ≡ Some z
-    → IsSo streams marks (m ∷ earlier) x z =
-    λ x z apart is_z.
-    let there = kept.each x z is_z in
-    record {
-      clocked = there.clocked ∙ sym (other_clock m earlier x apart);
-      lasted = there.lasted ∙ sym (other_last m earlier x apart);
-      traced = there.traced;
-      queued = there.queued ∙ sym (taken_queue streams marks m earlier x false takes
-          (apart_from x m.who apart));
-    } in (
+    subst (IsSo streams marks (m ∷ earlier) m.who) (sym (changed_own a done r who))
+    (so_taken streams marks earlier r m so takes w) in (
       record {
         before = r;
         is_before = at.1;
@@ -169,5 +189,7 @@ taking top streams marks earlier s m kept listed takes is_act is w =
         runs = run_from-one top s a o stepped;
         tells = λ p. told_last marks m o.report p is report_is;
       },
-      step_keeps streams marks earlier m s a done r kept.there at.1 refl own others,
+      step_keeps streams marks earlier m s a done r kept.there at.1 refl own
+          (λ x z apart is_z.
+          so_beside streams marks earlier m x z takes apart (kept.each x z is_z)),
     )

@@ -184,25 +184,65 @@ so_own top streams marks earlier s m y pid stamps below =
           ∙ sym (stamp_queue streams marks m earlier m.who (sends_to m.who m) stamps refl);
     }
 
+-- the token that the ready process stamps is the move's
+stamped_as : (top : ℕ) (streams : List Stream) (marks : Marks) (earlier : List Move) (s : State)
+    (m : Move) (y : StandsReady top streams marks earlier s m) → y.before.pid ≡ m.who
+    → stamped_token y.before.pid y.end y.token ≡ token_of streams marks m
+stamped_as top streams marks earlier s m y who =
+    ap (λ p. stamped_token p y.end y.token) who ∙ y.stamped
+
+-- so it reports the move's event, if that is told
+reports_as : (top : ℕ) (streams : List Stream) (marks : Marks) (earlier : List Move) (s : State)
+    (m : Move) (a : Act) (y : StandsReady top streams marks earlier s m) → y.before.pid ≡ m.who
+    → (st : IsStampOf streams marks m a)
+    → report y.end.traced st.kind (Some (stamped_token y.before.pid y.end y.token)) st.to
+    m.event.value
+    ≡ told_event marks m
+reports_as top streams marks earlier s m a y who st =
+    let stamp = stamped_token y.before.pid y.end y.token in
+    ap (λ b. report b st.kind (Some stamp) st.to m.event.value) y.traced
+    ∙ ap (λ t. report true st.kind (Some t) st.to m.event.value)
+    (stamped_as top streams marks earlier s m y who)
+    ∙ st.reports
+
+-- and another process gets the move's message
+reaches_as : (top : ℕ) (streams : List Stream) (marks : Marks) (earlier : List Move) (s : State)
+    (m : Move) (a : Act) (y : StandsReady top streams marks earlier s m) → y.before.pid ≡ m.who
+    → IsStampOf streams marks m a → (z : Process)
+    → reached a (Some (stamped_token y.before.pid y.end y.token)) z
+    ≡ with_message streams marks m z
+reaches_as top streams marks earlier s m a y who st z =
+    ap (λ t. reached a (Some t) z) (stamped_as top streams marks earlier s m y who) ∙ st.reaches z
+
+-- the other processes stand as the moves then say
+others_after : (top : ℕ) (streams : List Stream) (marks : Marks) (earlier : List Move) (s : State)
+    (m : Move) (a : Act) (y : StandsReady top streams marks earlier s m) → y.before.pid ≡ m.who
+    → CanStamp top streams marks earlier s m → IsStampOf streams marks m a
+    → (x : Pid) (z : Process) → pid_eq x m.who ≡ false
+    → process (state_after s y.lift.os) x ≡ Some z
+    → IsSo streams marks (m ∷ earlier) x
+    (reached a (Some (stamped_token y.before.pid y.end y.token)) z)
+others_after top streams marks earlier s m a y who can st x z apart is =
+    let before : process s x ≡ Some z = sym (y.lift.others x apart) ∙ is in
+    subst (IsSo streams marks (m ∷ earlier) x)
+    (sym (reaches_as top streams marks earlier s m a y who st z))
+    (so_other streams marks earlier m x z (process_pid s x z before) apart can.stamps
+    (can.kept.each x z before))
+
 stamping : (top : ℕ) (streams : List Stream) (marks : Marks) (earlier : List Move) (s : State)
     (m : Move) (a : Act)
     → CanStamp top streams marks earlier s m → IsStampOf streams marks m a
     → Continues top streams marks earlier s m
 stamping top streams marks earlier s m a can st =
-    let kept = can.kept in
     let within = can.within in
     let y = stands_ready top streams marks earlier s m can in
     let clocked = y.clocked in
-    let v = m.event.value in
     let first_acts = ready m.who (start_of y.before.local) m.event.label m.event.serial
     (flags_of streams marks m) in
     let s1 = state_after s y.lift.os in
     let r : Process = record y.before { local = y.end } in
     let who : r.pid ≡ m.who = process_pid s m.who y.before y.is_before in
-    let stamp = stamped_token r.pid y.end y.token in
-    let stamp_is : stamp ≡ token_of streams marks m =
-    ap (λ p. stamped_token p y.end y.token) who ∙ y.stamped in
-    let done = stamps_as st.kind st.to v r (final r.pid y.end y.token) in
+    let done = stamps_as st.kind st.to m.event.value r (final r.pid y.end y.token) in
     let acted_is : acted top r a ≡ Some done = st.acts top r y.token y.is (omega arith) in
     let other = found (process s1 (receiver a)) (y.there (receiver a) st.listed) in
     let o = outcome_of s1 a done in
@@ -210,28 +250,12 @@ stamping top streams marks earlier s m a can st =
     let stepped : step top s1 a ≡ Some o =
     step_done top s1 a r other.0 done here other.1 acted_is in
     let report_is : o.report ≡ told_event marks m =
-    ap (λ b. report b st.kind (Some stamp) st.to v) y.traced
-    ∙ ap (λ t. report true st.kind (Some t) st.to v) stamp_is
-    ∙ st.reports in
-    let reaches : (z : Process) → reached a (Some stamp) z ≡ with_message streams marks m z =
-    λ z. ap (λ t. reached a (Some t) z) stamp_is ∙ st.reaches z in
+    reports_as top streams marks earlier s m a y who st in
     let own : IsSo streams marks (m ∷ earlier) m.who (changed a done r) =
     subst (IsSo streams marks (m ∷ earlier) m.who)
-    (sym (changed_own a done r (who ∙ sym st.by) ∙ reaches (record r { local = done.local })))
-    (so_own top streams marks earlier s m y who can.stamps can.below) in
-    let others : (x : Pid) (z : Process) → pid_eq x m.who ≡ false → process s1 x ≡ Some z
-    → IsSo streams marks (m ∷ earlier) x (reached a (Some stamp) z) =
-    λ x z apart is.
-    let before : process s x ≡ Some z = sym (y.lift.others x apart) ∙ is in
-    subst (IsSo streams marks (m ∷ earlier) x) (sym (reaches z))
-    (so_other streams marks earlier m x z (process_pid s x z before) apart can.stamps
-    (kept.each x z before)) in
-    let state : state_after s (y.lift.os ++ o ∷ []) ≡ o.after = state_append s y.lift.os (o ∷ []) in
-    let shown : (p : Pid) → stream (first_acts ++ a ∷ []) (y.lift.os ++ o ∷ []) p
-    ≡ told_of_move marks p m = λ p.
-    stream_last first_acts a y.lift.os o p top s y.lift.runs y.lift.silent
-    ∙ ap (λ q. (if pid_eq q p then option_to_list o.report else []) ++ []) st.by
-    ∙ told_last marks m o.report p can.is report_is in (
+    (sym (changed_own a done r (who ∙ sym st.by)
+    ∙ reaches_as top streams marks earlier s m a y who st (record r { local = done.local })))
+    (so_own top streams marks earlier s m y who can.stamps can.below) in (
       record {
         before = y.before;
         is_before = y.is_before;
@@ -240,10 +264,14 @@ stamping top streams marks earlier s m a can st =
         outcomes = y.lift.os ++ o ∷ [];
         runs = run_append top s first_acts (a ∷ []) y.lift.os (o ∷ []) y.lift.runs
             (run_from-one top s1 a o stepped);
-        tells = shown;
+        tells = λ p.
+            stream_last first_acts a y.lift.os o p top s y.lift.runs y.lift.silent
+            ∙ ap (λ q. (if pid_eq q p then option_to_list o.report else []) ++ []) st.by
+            ∙ told_last marks m o.report p can.is report_is;
       },
-      subst (IsKept streams marks (m ∷ earlier)) (sym state)
-          (step_keeps streams marks earlier m s1 a done r y.there y.lift.here st.by own others),
+      subst (IsKept streams marks (m ∷ earlier)) (sym (state_append s y.lift.os (o ∷ [])))
+          (step_keeps streams marks earlier m s1 a done r y.there y.lift.here st.by own
+          (others_after top streams marks earlier s m a y who can st)),
     )
 
 -- A SEND AND A PRINT
