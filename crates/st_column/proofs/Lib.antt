@@ -1,7 +1,10 @@
 -- The lemmas.
+pub mod Fronts
 pub mod Numbers
 pub mod Templates
 pub mod Pieces
+pub mod Spelled
+pub mod Lines
 pub mod Acts
 pub mod Events
 pub mod Grammar

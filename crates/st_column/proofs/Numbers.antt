@@ -1,18 +1,20 @@
 -- A front of a number is a number again, since no digit but a lone 0 leads with 0 and fewer digits
--- are worth less: so the numbers that a line begins with are the fronts of the longest one.
+-- are worth less: so how much of a line begins a number is how much of it is one.
 use Rattle.std.proofs.Common.{◌≡◌, ℕ, zero, suc, ◌+◌, ◌-◌, ◌*◌, ◌^◌, ◌<◌, ◌≤◌, true, List, [], ◌∷◌, length}
-use Rattle.std.proofs.Common.{get_or, take, sym, ap, subst, ◌∙◌, inl, inr, arith, lit<}
+use Rattle.std.proofs.Common.{get_or, take, sym, ap, subst, ◌∙◌, ◌++◌, refl, inl, inr, arith, lit<}
 use Rattle.std.specs.Prelude.{decimal}
 use Rattle.std.specs.Char.{is_ascii_digit}
 use Rattle.std.specs.Str.Parse.{AllDigits, digits_value}
 use Rattle.std.proofs.lemmas.Bool.{cases_lt}
 use Rattle.std.proofs.lemmas.Bool.Decides.{nat_tests}
 use Rattle.std.proofs.lemmas.Int.Digits.{digits_value_more, digits_more}
-use Rattle.std.proofs.lemmas.List.{length-take-le, get_or-take, take-take}
+use Rattle.std.proofs.lemmas.List.{length-append, length-take-le, get_or-take, take-take, take_all, take_at}
 use Rattle.std.proofs.lemmas.Str.{digit_value_digit}
 use Rattle.std.proofs.lemmas.Str.Parse.{IsNumeralModel, numerals_by_value, tells_digits, digits_value-take-le, digit_at}
 use Rattle.std.proofs.lemmas.Fmt.{decimal_is_IsNumeral, decimal_digit, first_decimal, decimal-digits_value}
-use Rattle.st_column.specs.Longest.{IsNumber, IsNumberFront}
+use Rattle.st_column.specs.Column.{Begins, IsLongest}
+use Rattle.st_column.specs.Longest.{IsNumber}
+use Rattle.st_column.proofs.Fronts.{begins_whole}
 
 -- digits without a needless 0, worth at most `most`
 pub record IsDecimal (most : ℕ) (ds : List ℕ) : Type 0 where
@@ -67,10 +69,13 @@ decimal_front most ds k d some le =
     }
 
 -- a front of a number
-pub number_front : (most : ℕ) (ds : List ℕ) (k : ℕ) → most < 2 ^ 64 → IsNumber most ds → 0 < k → k ≤ length ds
-    → IsNumber most (take k ds)
-number_front most ds k small x some le =
-    number_from most (take k ds) small (decimal_front most ds k (number_to most ds small x) some le)
+pub number_front : (most : ℕ) (front rest : List ℕ) → most < 2 ^ 64 → 0 < length front → IsNumber most (front ++ rest)
+    → IsNumber most front
+number_front most front rest small some x =
+    let le : length front ≤ length (front ++ rest) = omega (arith, length-append front rest) in
+    number_from most front small
+    (subst (IsDecimal most) (take_at front rest (length front) refl)
+    (decimal_front most (front ++ rest) (length front) (number_to most (front ++ rest) small x) some le))
 
 pub number_some : (most : ℕ) (ds : List ℕ) → most < 2 ^ 64 → IsNumber most ds → 0 < length ds
 number_some most ds small x = (number_to most ds small x).some
@@ -78,26 +83,49 @@ number_some most ds small x = (number_to most ds small x).some
 -- the first i bytes are a number, and with the next one they aren't
 pub stops : (most : ℕ) (line : List ℕ) (i : ℕ) → most < 2 ^ 64 → i ≤ length line
     → (0 < i → IsDecimal most (take i line)) → (i < length line → IsDecimal most (take (i + 1) line) → ⊥)
-    → IsNumberFront most line i
+    → IsLongest (IsNumber most) line i
 stops most line i small le is not =
     record {
       within = le;
-      number = λ k some below.
-          let d = is (omega (arith, some, below)) in
-          let front = decimal_front most (take i line) k d some (omega (arith, length-take-le i line le, below)) in
-          number_from most (take k line) small (subst (IsDecimal most) (take-take k i line below) front);
-      longest = λ k some within x.
+      begins = begins i is;
+      most = λ k within x.
           elim (cases_lt i k) [
             | inl more ↦
-                let d = number_to most (take k line) small x in
-                let front =
-                decimal_front most (take k line) (i + 1) d (omega arith)
-                (omega (arith, length-take-le k line within, more)) in
+                let len = length-take-le k line within in
+                let front = number_front most (take k line) x.0 small (omega (arith, len, more)) x.1 in
+                let d = number_to most (take k line) small front in
                 absurd (not (omega (arith, more, within))
-                (subst (IsDecimal most) (take-take (i + 1) k line (omega (arith, more))) front))
+                (subst (IsDecimal most) (take-take (i + 1) k line (omega (arith, more)))
+                (decimal_front most (take k line) (i + 1) d (omega arith) (omega (arith, len, more)))))
             | inr less ↦ omega (arith, less)
           ];
     }
+  where
+    begins : (k : ℕ) → (0 < k → IsDecimal most (take k line)) → Begins (IsNumber most) (take k line)
+    begins zero d = (decimal 0, (0, omega arith, refl))
+    begins (suc k) d =
+        begins_whole (IsNumber most) (take (suc k) line) (number_from most (take (suc k) line) small (d (omega arith)))
+
+-- the bytes are a number exactly if there are some and all of them begin one
+pub number_whole : (most : ℕ) (word : List ℕ) (n : ℕ) → most < 2 ^ 64 → IsLongest (IsNumber most) word n
+    → ((0 < length word) × (n ≡ length word) → IsNumber most word)
+    × (IsNumber most word → (0 < length word) × (n ≡ length word))
+number_whole most word n small l = (to, from)
+  where
+    all : take (length word) word ≡ word
+    all = take_all (length word) word (omega arith)
+
+    to : (0 < length word) × (n ≡ length word) → IsNumber most word
+    to x =
+        let begun = subst (λ (k : ℕ). IsNumber most (take k word ++ l.begins.0)) x.1 l.begins.1 in
+        number_front most word l.begins.0 small x.0
+        (subst (λ (t : List ℕ). IsNumber most (t ++ l.begins.0)) all begun)
+
+    from : IsNumber most word → (0 < length word) × (n ≡ length word)
+    from x =
+        let begun = begins_whole (IsNumber most) (take (length word) word) (subst (IsNumber most) (sym all) x) in
+        let long = l.most (length word) (omega arith) begun in
+        (number_some most word small x, omega (arith, l.within, long))
 
 -- what the byte behind i digits has to be
 pub next_digit : (most : ℕ) (line : List ℕ) (i : ℕ) → i < length line → IsDecimal most (take (i + 1) line)
