@@ -8,3 +8,4 @@ pub mod Answer
 pub mod Room
 -- For the parts alone: the functions that both texts are made of.
 pub mod Parts
+pub mod Sheet

@@ -3,11 +3,10 @@ use Rattle.std.specs.Prelude.{ℕ, List, [], ◌++◌, codes, decimal, Option, S
 use Rattle.std.specs.List.{flat_map}
 use Rattle.st_core.specs.declared.types.Pid.{Pid}
 use Rattle.st_core.specs.declared.types.Event.{Event}
-use Rattle.st_core.specs.declared.types.Act.{Act}
 use Rattle.st_core.specs.Run.{Stream}
 use Rattle.st_text.specs.Spelling as spelled
 use Rattle.st_text.specs.Spelling.{ended_line}
-use Rattle.st_text.specs.Text.{spelling}
+use Rattle.st_text.specs.Text.{spelling, act_lines, ended}
 use Rattle.st_pair.specs.Places.{event_at}
 use Rattle.st_check.specs.declared.verdict.Verdict.{Verdict}
 use Rattle.st_check.specs.declared.verdict.Verdict.TheVariants as verdict
@@ -42,22 +41,20 @@ abbrev pub event_words : Option Event → List ℕ
 event_words None = []
 event_words (Some e) = spelled.event e
 
--- a place and the event there
-abbrev pub event_front : Pid → ℕ → List ℕ
-event_front p i = codes "event " ++ place_words p i ++ codes " "
+-- a word, a place, and the event there
+abbrev pub place_line : List ℕ → Pid → ℕ → Option Event → List ℕ
+place_line word p i e = (word ++ place_words p i ++ codes " ") ++ ended_line (event_words e)
 
 abbrev pub event_line : List Stream → Pid → ℕ → List ℕ
-event_line streams p i = event_front p i ++ ended_line (event_words (event_at streams p i))
+event_line streams p i = place_line (codes "event ") p i (event_at streams p i)
 
-abbrev pub act_line : Act → List ℕ
-act_line a = ended_line (spelled.act a)
-
--- what the reason rests on: the event at the other place, or the acts that were tried
+-- what the reason rests on: the event at the other place, or the acts that were tried, as a bundle
+-- has them
 abbrev pub evidence : List Stream → Pid → Reason → List ℕ
 evidence streams p (reason.NotRising j) = event_line streams p j
 evidence streams p (reason.Repeated q j) = event_line streams q j
 evidence streams p (reason.Mismatch q j) = event_line streams q j
-evidence streams p (reason.NotReplayed acts v) = ended_line (codes "acts") ++ flat_map act_line acts
+evidence streams p (reason.NotReplayed acts v) = flat_map ended (act_lines (Some acts))
 evidence streams p r = []
 
 -- place and reason, the event there, and what the reason rests on

@@ -7,14 +7,16 @@ ghost use Rattle.st_text.specs.Room.{line_room, HasRoom};
 ghost use Rattle.st_text.specs.Writing.{WritesOn, WritesText};
 ghost use Rattle.st_order.specs.Labels.{item_has_label};
 ghost use Rattle.st_chart.specs.Answer.{WritesChart};
-ghost use Rattle.st_chart.specs.Chart.{all_charted, lane_line, lane_lines, mark, item_line};
-ghost use Rattle.st_chart.specs.Chart.{label_line, chart_lines, chart_text};
-ghost use Rattle.st_chart.specs.Parts.{bars, line_in, HasNoEndBeforeLast};
+ghost use Rattle.st_chart.specs.Chart.{lane_line, lane_lines, mark, item_line};
+ghost use Rattle.st_chart.specs.Chart.{label_line, chart_text};
+ghost use Rattle.st_chart.specs.Parts.{bars, HasNoEndBeforeLast};
+ghost use Rattle.st_chart.specs.Sheet.{line_on, sheet_lines};
 
 use crate::charted_item::{ChartedItem, is_any_charted};
 use crate::fault::ChartFault;
 use crate::lanes::{lanes_of, lanes_to_ends};
 use crate::marks::{RUN, put_bars, put_item, put_mark};
+use crate::sheet::Sheet;
 use st_chain::Causes;
 use st_core::{ByteSink, Label, Pid, Streams};
 use st_order::Item;
@@ -166,17 +168,17 @@ fn write_marks<W: ByteSink>(
 fn write_item<W: ByteSink>(
     writer: &mut W,
     buffer: &mut Buffer,
-    causes: &Causes,
-    lanes: &[Pid],
+    sheet: &Sheet<'_>,
     charted: &ChartedItem,
 ) -> Result<(), Device>
-    requires { IsRising lanes.now }
-    ensures { WritesOn W.puts W.failed (item_line causes.now lanes.now charted.now)
+    requires { IsRising sheet.now.lanes.now }
+    ensures { WritesOn W.puts W.failed
+        (item_line sheet.now.causes.now sheet.now.lanes.now charted.now)
         writer.old writer.new buffer.old.items buffer.new.items result }
 {
-    write_marks(writer, buffer, lanes, charted)?;
+    write_marks(writer, buffer, sheet.lanes, charted)?;
     make_room(writer, buffer)?;
-    put_item(buffer, causes, charted);
+    put_item(buffer, sheet.causes, charted);
     Ok(())
 }
 
@@ -184,19 +186,16 @@ fn write_item<W: ByteSink>(
 fn write_if_charted<W: ByteSink>(
     writer: &mut W,
     buffer: &mut Buffer,
-    streams: &Streams,
-    causes: &Causes,
-    lanes: &[Pid],
+    sheet: &Sheet<'_>,
     item: Item,
-    label: Label,
 ) -> Result<(), Device>
-    requires { IsRising lanes.now }
-    ensures { WritesOn W.puts W.failed (line_in streams.now label causes.now lanes.now item)
+    requires { IsRising sheet.now.lanes.now }
+    ensures { WritesOn W.puts W.failed (line_on sheet.now item)
         writer.old writer.new buffer.old.items buffer.new.items result }
 {
-    match ChartedItem::of(streams, label, item) {
+    match ChartedItem::of(sheet.streams, sheet.label, item) {
         None => Ok(()),
-        Some(charted) => write_item(writer, buffer, causes, lanes, &charted),
+        Some(charted) => write_item(writer, buffer, sheet, &charted),
     }
 }
 
@@ -204,19 +203,15 @@ fn write_if_charted<W: ByteSink>(
 fn write_items<W: ByteSink>(
     writer: &mut W,
     buffer: &mut Buffer,
-    streams: &Streams,
-    causes: &Causes,
-    lanes: &[Pid],
+    sheet: &Sheet<'_>,
     items: &[Item],
-    label: Label,
 ) -> Result<(), Device>
-    requires { IsRising lanes.now }
-    ensures { WritesOn W.puts W.failed
-        (flat_map (line_in streams.now label causes.now lanes.now) items.now)
+    requires { IsRising sheet.now.lanes.now }
+    ensures { WritesOn W.puts W.failed (flat_map (line_on sheet.now) items.now)
         writer.old writer.new buffer.old.items buffer.new.items result }
 {
     for item in items {
-        write_if_charted(writer, buffer, streams, causes, lanes, *item, label)?;
+        write_if_charted(writer, buffer, sheet, *item)?;
     }
     Ok(())
 }
@@ -225,38 +220,26 @@ fn write_items<W: ByteSink>(
 fn write_chart<W: ByteSink>(
     writer: &mut W,
     buffer: &mut Buffer,
-    streams: &Streams,
-    causes: &Causes,
-    lanes: &[Pid],
+    sheet: &Sheet<'_>,
     items: &[Item],
-    label: Label,
 ) -> Result<(), Device>
-    requires { IsRising lanes.now }
-    ensures { WritesOn W.puts W.failed
-        (chart_lines causes.now label lanes.now (all_charted streams.now items.now label))
+    requires { IsRising sheet.now.lanes.now }
+    ensures { WritesOn W.puts W.failed (sheet_lines sheet.now items.now)
         writer.old writer.new buffer.old.items buffer.new.items result }
 {
-    write_label(writer, buffer, label)?;
-    write_lanes(writer, buffer, lanes)?;
-    write_items(writer, buffer, streams, causes, lanes, items, label)
+    write_label(writer, buffer, sheet.label)?;
+    write_lanes(writer, buffer, sheet.lanes)?;
+    write_items(writer, buffer, sheet, items)
 }
 
 /// Writes a chart with these lanes to the writer.
-fn send_chart<W: ByteSink>(
-    writer: &mut W,
-    streams: &Streams,
-    causes: &Causes,
-    lanes: &[Pid],
-    items: &[Item],
-    label: Label,
-) -> Result<(), Device>
-    requires { IsRising lanes.now }
-    ensures { WritesText W.puts W.failed
-        (chart_lines causes.now label lanes.now (all_charted streams.now items.now label))
+fn send_chart<W: ByteSink>(writer: &mut W, sheet: &Sheet<'_>, items: &[Item]) -> Result<(), Device>
+    requires { IsRising sheet.now.lanes.now }
+    ensures { WritesText W.puts W.failed (sheet_lines sheet.now items.now)
         writer.old writer.new result }
 {
     let mut buffer = Buffer::new();
-    write_chart(writer, &mut buffer, streams, causes, lanes, items, label)?;
+    write_chart(writer, &mut buffer, sheet, items)?;
     flush(writer, &mut buffer)
 }
 
@@ -283,7 +266,13 @@ pub fn chart<W: ByteSink>(
     let Ok(lanes) = lanes_of(alloc, streams, label, items) else {
         return Err(ChartFault::Memory);
     };
-    match send_chart(writer, streams, causes, &lanes, items, label) {
+    let sheet = Sheet {
+        streams,
+        causes,
+        lanes: &lanes,
+        label,
+    };
+    match send_chart(writer, &sheet, items) {
         Ok(()) => Ok(()),
         Err(Device) => Err(ChartFault::Device),
     }

@@ -11,9 +11,10 @@ mod fault;
 mod lanes;
 mod marks;
 mod reporting;
+mod sheet;
 mod words;
 
 pub use charting::chart;
 pub use fault::ChartFault;
-pub use reporting::report;
-pub use words::put_place;
+pub use reporting::{report, write_event, write_place_line};
+pub use words::{put_place, put_place_after};

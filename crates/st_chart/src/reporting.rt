@@ -1,22 +1,21 @@
 //! The report of what the auditor found.
 
-ghost use Rattle.std.specs.Prelude.{◌≡◌, ◌+◌, ◌++◌, length, codes};
-ghost use Rattle.std.specs.List.{flat_map};
+ghost use Rattle.std.specs.Prelude.{◌≡◌, ◌≤◌, ◌++◌, length, codes};
 ghost use Rattle.st_text.specs.Room.{line_room, HasRoom, Puts};
 ghost use Rattle.st_text.specs.Spelling.{ended_line};
 ghost use Rattle.st_text.specs.Writing.{WritesOn, WritesText};
 ghost use Rattle.st_chart.specs.Words.{place_words};
-ghost use Rattle.st_chart.specs.Room.{place_room, verdict_room, reason_room};
+ghost use Rattle.st_chart.specs.Room.{verdict_room, reason_room};
 ghost use Rattle.st_chart.specs.Report.{verdict_words, reason_words, unfit_line, event_words};
-ghost use Rattle.st_chart.specs.Report.{event_front, event_line, act_line, evidence, unfit_text};
+ghost use Rattle.st_chart.specs.Report.{place_line, event_line, evidence, unfit_text};
 ghost use Rattle.st_chart.specs.Report.{report_text};
 
-use crate::words::put_place;
+use crate::words::put_place_after;
 use st_audit::{Finding, Reason};
 use st_check::Verdict;
-use st_core::{Act, ByteSink, Event, Pid, Streams};
+use st_core::{ByteSink, Event, Pid, Streams};
 use st_text::{
-    Buffer, Device, flush, make_room, put_act, put_bytes, put_event, put_number, put_pid,
+    Buffer, Device, flush, make_room, put_bytes, put_event, put_numbered, put_pid, write_acts,
     write_parts,
 };
 
@@ -26,30 +25,14 @@ fn put_verdict(buffer: &mut Buffer, verdict: &Verdict)
     ensures { Puts verdict_room (verdict_words verdict.now) buffer.old buffer.new }
 {
     match verdict {
-        Verdict::Stuck(n) => {
-            put_bytes(buffer, b"stuck ");
-            put_number(buffer, *n);
-        }
-        Verdict::Differs(n) => {
-            put_bytes(buffer, b"differs ");
-            put_number(buffer, *n);
-        }
+        Verdict::Stuck(n) => put_numbered(buffer, b"stuck ", *n),
+        Verdict::Differs(n) => put_numbered(buffer, b"differs ", *n),
         Verdict::Left(pid) => {
             put_bytes(buffer, b"left ");
             put_pid(buffer, *pid);
         }
         Verdict::Yes(_) => put_bytes(buffer, b"yes"),
     }
-}
-
-/// Appends a word and the other place.
-fn put_other(buffer: &mut Buffer, word: &[u8], pid: Pid, index: u64)
-    requires { HasRoom (length word.now + place_room) buffer.old }
-    ensures { Puts (length word.now + place_room)
-        (word.now ++ place_words pid index) buffer.old buffer.new }
-{
-    put_bytes(buffer, word);
-    put_place(buffer, pid, index);
 }
 
 /// Appends the reason against an event of this process.
@@ -59,9 +42,9 @@ fn put_reason(buffer: &mut Buffer, pid: Pid, reason: &Reason)
 {
     match reason {
         Reason::PrevNotBefore => put_bytes(buffer, b"prevnotbefore"),
-        Reason::NotRising(index) => put_other(buffer, b"notrising ", pid, *index),
-        Reason::Repeated(other, index) => put_other(buffer, b"repeated ", *other, *index),
-        Reason::Mismatch(other, index) => put_other(buffer, b"mismatch ", *other, *index),
+        Reason::NotRising(index) => put_place_after(buffer, b"notrising ", pid, *index),
+        Reason::Repeated(other, index) => put_place_after(buffer, b"repeated ", *other, *index),
+        Reason::Mismatch(other, index) => put_place_after(buffer, b"mismatch ", *other, *index),
         Reason::Uncaused => put_bytes(buffer, b"uncaused"),
         Reason::TooWide => put_bytes(buffer, b"toowide"),
         Reason::NotReplayed(_, verdict) => {
@@ -76,24 +59,24 @@ fn put_unfit(buffer: &mut Buffer, pid: Pid, index: u64, reason: &Reason)
     requires { HasRoom line_room buffer.old }
     ensures { buffer.new.items ≡ buffer.old.items ++ unfit_line pid index reason.now }
 {
-    put_bytes(buffer, b"unfit ");
-    put_place(buffer, pid, index);
+    put_place_after(buffer, b"unfit ", pid, index);
     put_bytes(buffer, b" ");
     put_reason(buffer, pid, reason);
     put_bytes(buffer, b"\n");
 }
 
-/// Appends the front of an event's line, which takes room by itself.
-fn put_front(buffer: &mut Buffer, pid: Pid, index: u64)
-    requires { HasRoom line_room buffer.old }
-    ensures { buffer.new.items ≡ buffer.old.items ++ event_front pid index }
+/// Appends a word, a place and a space, which take room by themselves.
+fn put_front(buffer: &mut Buffer, word: &[u8], pid: Pid, index: u64)
+    requires room { HasRoom line_room buffer.old }
+    requires short { length word.now ≤ 6 }
+    ensures { buffer.new.items
+        ≡ buffer.old.items ++ (word.now ++ place_words pid index ++ codes " ") }
 {
-    put_bytes(buffer, b"event ");
-    put_place(buffer, pid, index);
+    put_place_after(buffer, word, pid, index);
     put_bytes(buffer, b" ");
 }
 
-/// Appends the rest of an event's line.
+/// Appends an event and a newline.
 fn put_back(buffer: &mut Buffer, event: Option<Event>)
     requires { HasRoom line_room buffer.old }
     ensures { buffer.new.items ≡ buffer.old.items ++ ended_line (event_words event) }
@@ -101,15 +84,6 @@ fn put_back(buffer: &mut Buffer, event: Option<Event>)
     if let Some(event) = event {
         put_event(buffer, &event);
     }
-    put_bytes(buffer, b"\n");
-}
-
-/// Appends an act's line.
-fn put_act_line(buffer: &mut Buffer, act: &Act)
-    requires { HasRoom line_room buffer.old }
-    ensures { buffer.new.items ≡ buffer.old.items ++ act_line act.now }
-{
-    put_act(buffer, act);
     put_bytes(buffer, b"\n");
 }
 
@@ -129,9 +103,29 @@ fn write_unfit_line<W: ByteSink>(
     Ok(())
 }
 
-/// Writes a place and the event there, in two parts: together they may take more than a line's
-/// room.
-fn write_event<W: ByteSink>(
+/// Writes a word, a place, and the event there, in two parts: together they may take more than a
+/// line's room.
+pub fn write_place_line<W: ByteSink>(
+    writer: &mut W,
+    buffer: &mut Buffer,
+    word: &[u8],
+    pid: Pid,
+    index: u64,
+    event: Option<Event>,
+) -> Result<(), Device>
+    requires { length word.now ≤ 6 }
+    ensures { WritesOn W.puts W.failed (place_line word.now pid index event)
+        writer.old writer.new buffer.old.items buffer.new.items result }
+{
+    make_room(writer, buffer)?;
+    put_front(buffer, word, pid, index);
+    make_room(writer, buffer)?;
+    put_back(buffer, event);
+    Ok(())
+}
+
+/// Writes the line of the event at this place.
+pub fn write_event<W: ByteSink>(
     writer: &mut W,
     buffer: &mut Buffer,
     streams: &Streams,
@@ -141,33 +135,8 @@ fn write_event<W: ByteSink>(
     ensures { WritesOn W.puts W.failed (event_line streams.now pid index)
         writer.old writer.new buffer.old.items buffer.new.items result }
 {
-    make_room(writer, buffer)?;
-    put_front(buffer, pid, index);
-    make_room(writer, buffer)?;
-    put_back(buffer, streams.event(pid, index));
-    Ok(())
-}
-
-/// Writes a line for each act.
-fn write_acts<W: ByteSink>(writer: &mut W, buffer: &mut Buffer, acts: &[Act]) -> Result<(), Device>
-    ensures { WritesOn W.puts W.failed (flat_map act_line acts.now)
-        writer.old writer.new buffer.old.items buffer.new.items result }
-{
-    for act in acts {
-        make_room(writer, buffer)?;
-        put_act_line(buffer, act);
-    }
-    Ok(())
-}
-
-/// Writes the acts that were tried.
-fn write_tried<W: ByteSink>(writer: &mut W, buffer: &mut Buffer, acts: &[Act]) -> Result<(), Device>
-    ensures { WritesOn W.puts W.failed (ended_line (codes "acts") ++ flat_map act_line acts.now)
-        writer.old writer.new buffer.old.items buffer.new.items result }
-{
-    make_room(writer, buffer)?;
-    put_bytes(buffer, b"acts\n");
-    write_acts(writer, buffer, acts)
+    let event = streams.event(pid, index);
+    write_place_line(writer, buffer, b"event ", pid, index, event)
 }
 
 /// Writes what a reason rests on: the event at the other place, or the acts that were tried.
@@ -187,7 +156,7 @@ fn write_evidence<W: ByteSink>(
         Reason::Repeated(other, index) | Reason::Mismatch(other, index) => {
             write_event(writer, buffer, streams, *other, *index)
         }
-        Reason::NotReplayed(acts, _) => write_tried(writer, buffer, acts.as_slice()),
+        Reason::NotReplayed(acts, _) => write_acts(writer, buffer, acts.as_slice()),
     }
 }
 

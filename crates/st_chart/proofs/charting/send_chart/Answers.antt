@@ -6,8 +6,9 @@ use Rattle.st_chart.proofs.charting.send_chart.Goals as goal
 
 pub returns : goal.returns
 returns g c =
-    let xs = all_charted c.args.streams.now c.args.items.now c.args.label in
-    let text = chart_lines c.args.causes.now c.args.label c.args.lanes.now xs in
+    let s = c.args.sheet.now in
+    let xs = all_charted s.streams.now c.args.items.now s.label in
+    let text = chart_lines s.causes.now s.label s.lanes.now xs in
     finishes g.W.ByteSink.puts g.W.ByteSink.failed text _ _ c.flush.result
-    (chart_some c.args.causes.now c.args.label c.args.lanes.now xs)
+    (chart_some s.causes.now s.label s.lanes.now xs)
     (rw c.new-buffer.ensures at c.in_ok-write_chart.ensures) c.flush.ensures.goes c.flush.ensures.empty

@@ -1,9 +1,9 @@
 -- Each turn puts a run of bars behind those before.
 use Rattle.std.proofs.Common.{◌≡◌, ◌-◌, ◌≤◌, sym, arith}
-use Rattle.st_text.proofs.ForCallers.{goes_still, goes_then, on_err}
+use Rattle.st_text.proofs.ForCallers.{goes_still, goes_then, on_err, room_then}
 use Rattle.st_chart.specs.Parts.{bars}
 use Rattle.st_chart.proofs.Bars.{bars_more, bars_whole}
-use Rattle.st_chart.proofs.Rooms.{room_then, no_room_before}
+use Rattle.st_chart.proofs.Rooms.{no_room_before}
 use Rattle.st_chart.proofs.charting.write_bars.Goals as goal
 
 pub loop-left-init : goal.loop-left-init

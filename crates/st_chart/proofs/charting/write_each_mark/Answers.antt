@@ -1,8 +1,8 @@
 -- Each turn puts the next mark behind those before.
 use Rattle.std.proofs.Common.{refl}
-use Rattle.st_text.proofs.ForCallers.{goes_still, one_more, all_done, on_err}
+use Rattle.st_text.proofs.ForCallers.{goes_still, one_more, all_done, on_err, room_then}
 use Rattle.st_chart.specs.Chart.{mark}
-use Rattle.st_chart.proofs.Rooms.{room_then, no_room_among}
+use Rattle.st_chart.proofs.Rooms.{no_room_among}
 use Rattle.st_chart.proofs.charting.write_each_mark.Goals as goal
 
 pub loop-lane-init : goal.loop-lane-init

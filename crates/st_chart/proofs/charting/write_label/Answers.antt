@@ -1,6 +1,6 @@
 -- Room is made first, and the line then waits in the buffer.
+use Rattle.st_text.proofs.ForCallers.{no_room}
 use Rattle.st_chart.specs.Chart.{label_line}
-use Rattle.st_chart.proofs.Rooms.{no_room}
 use Rattle.st_chart.proofs.charting.write_label.Goals as goal
 
 pub returns-in_err-make_room : goal.returns-in_err-make_room

@@ -1,6 +1,6 @@
 -- Each turn puts the line of the next lane behind those before.
-use Rattle.st_text.proofs.ForCallers.{goes_still, on_err}
-use Rattle.st_chart.proofs.Rooms.{room_then, no_room_before}
+use Rattle.st_text.proofs.ForCallers.{goes_still, on_err, room_then}
+use Rattle.st_chart.proofs.Rooms.{no_room_before}
 use Rattle.st_chart.proofs.Lines.{lanes_split, lanes_more}
 use Rattle.st_chart.proofs.charting.write_lanes.Goals as goal
 

@@ -1,10 +1,9 @@
 -- The mark of the last lane is behind the bars of the others.
 use Rattle.std.proofs.Common.{length, sym}
-use Rattle.st_text.proofs.ForCallers.{goes_still, goes_then, then_on, part_longer, on_err}
+use Rattle.st_text.proofs.ForCallers.{goes_still, goes_then, then_on, part_longer, on_err, room_then, no_room}
 use Rattle.st_chart.specs.Chart.{mark}
 use Rattle.st_chart.specs.Parts.{bars}
 use Rattle.st_chart.proofs.Bars.{run_marks, no_marks}
-use Rattle.st_chart.proofs.Rooms.{room_then, no_room}
 use Rattle.st_chart.proofs.charting.write_run.Goals as goal
 
 pub returns-in_default : goal.returns-in_default

@@ -1,9 +1,8 @@
 -- The marks of three parts go one behind the other.
 use Rattle.std.proofs.Common.{◌++◌, sym}
 use Rattle.std.specs.List.{flat_map}
-use Rattle.st_text.proofs.ForCallers.{part_longer, then_on, goes_then, on_err}
+use Rattle.st_text.proofs.ForCallers.{part_longer, then_on, goes_then, on_err, part_then}
 use Rattle.st_chart.specs.Chart.{mark}
-use Rattle.st_chart.proofs.Rooms.{part_then}
 use Rattle.st_chart.proofs.Runs.{parts_marks}
 use Rattle.st_chart.proofs.charting.write_runs.Goals as goal
 

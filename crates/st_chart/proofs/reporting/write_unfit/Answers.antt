@@ -1,8 +1,7 @@
 -- Three texts go one behind the other.
 use Rattle.std.proofs.Common.{◌++◌}
-use Rattle.st_text.proofs.ForCallers.{part_longer, then_on, goes_then, on_err}
+use Rattle.st_text.proofs.ForCallers.{part_longer, then_on, goes_then, on_err, part_then}
 use Rattle.st_chart.specs.Report.{unfit_line, event_line, evidence}
-use Rattle.st_chart.proofs.Rooms.{part_then}
 use Rattle.st_chart.proofs.reporting.write_unfit.Goals as goal
 
 pub returns-in_err-write_unfit_line : goal.returns-in_err-write_unfit_line

@@ -1,6 +1,6 @@
 -- Room is made first, and the line then waits in the buffer.
+use Rattle.st_text.proofs.ForCallers.{no_room}
 use Rattle.st_chart.specs.Report.{unfit_line}
-use Rattle.st_chart.proofs.Rooms.{no_room}
 use Rattle.st_chart.proofs.reporting.write_unfit_line.Goals as goal
 
 pub returns-in_err-make_room : goal.returns-in_err-make_room
