@@ -17,7 +17,7 @@ use Rattle.st_text.specs.Contents.{contents}
 use Rattle.st_text.specs.declared.limits.Limits.{Limits}
 use Rattle.st_text.specs.Text.{Contents}
 use Rattle.st_text.specs.Fault.{fault_within}
-use Rattle.st_text.specs.Reads.{ReadsSourceWithin}
+use Rattle.st_text.specs.Reads.{ReadsSource}
 use Rattle.st_text.proofs.ForCallers.{fault_too_large}
 use Rattle.st_text.specs.Writing.{WritesText}
 use Rattle.st_commands.specs.Output.{Output, judged, refused, no_acts}
@@ -34,7 +34,7 @@ use Rattle.st_commands.specs.Command.{OfBytes, ForMemory, ForReader, Delivers, W
 use Rattle.st_commands.specs.Parts.{ChecksTo, AuditsTo, DrawsTo, ChartsTo, ReplaysTo, OfBundle}
 use Rattle.st_commands.specs.Parts.{OfSome, OfNone}
 use Rattle.st_commands.specs.Parts as parts
-use Rattle.st_commands.specs.Meaning.{Says}
+use Rattle.st_commands.specs.Meaning.{Says, Performs}
 
 -- ---- writing
 
@@ -64,7 +64,7 @@ module _ (limits : Limits) {R : Type 0} (reader : ReaderCall R) where
 
   abbrev Reads : Result Bundle ReadFault → Type 0
   Reads r =
-      ReadsSourceWithin limits reader.device.gives reader.device.ended reader.device.failed
+      ReadsSource limits reader.device.gives reader.device.ended reader.device.failed
       reader.old reader.new r
 
   -- all bytes up to the source's end
@@ -249,3 +249,17 @@ module _ {limits : Limits} {R W : Type 0} {reader : ReaderCall R} {writer : Writ
   pub says : {status : ℕ} → Tells writer (Owes limits reader IsOutput) status → status ≡ n
       → Says limits reader writer Means
   says told e = says_owed told.output _ told.owed told.delivered e
+
+-- ---- what a command does
+
+pub performs : {limits : Limits} {R W : Type 0} {reader : ReaderCall R} {writer : WriterCall W}
+    {IsOutput Yes No : List ℕ → Output → Type 0} {status : ℕ}
+    → ((bytes : List ℕ) (out : Output) → IsOutput bytes out → out.status ≡ 0 → Yes bytes out)
+    → ((bytes : List ℕ) (out : Output) → IsOutput bytes out → out.status ≡ 1 → No bytes out)
+    → Tells writer (Owes limits reader IsOutput) status
+    → Performs limits reader writer IsOutput Yes No status
+performs if_yes if_no told = record {
+    told = told;
+    yes = says 0 (λ same. cc) if_yes told;
+    no = says 1 (λ same. cc) if_no told;
+  }

@@ -7,7 +7,7 @@ use Rattle.st_core.specs.Verdict.{Verdict, IsVerdict}
 use Rattle.st_check.specs.Answers.{FollowsAll, PairsAll}
 use Rattle.st_text.specs.declared.fault.ReadFault.{ReadFault}
 use Rattle.st_text.specs.declared.limits.Limits.{Limits}
-use Rattle.st_text.specs.Text.{IsText, IsWithinLimits}
+use Rattle.st_text.specs.Text.{IsText, IsWithin}
 use Rattle.st_text.specs.Fault.{fault_within}
 use Rattle.st_commands.specs.Output.{Output, judged, refused, no_acts}
 
@@ -20,7 +20,7 @@ pub record Spells (limits : Limits) (bytes : List ℕ) (streams : List Stream)
     (acts : Option (List Act)) : Type 0
   where
     pub text : IsText bytes (record { streams = streams; acts = acts })
-    pub within : IsWithinLimits limits (record { streams = streams; acts = acts })
+    pub within : IsWithin limits (record { streams = streams; acts = acts })
 
 -- the bytes spell streams and acts, of which this is the verdict; on a yes each reported receive
 -- has a pair in which it follows its send

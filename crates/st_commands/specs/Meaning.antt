@@ -34,7 +34,7 @@ use Rattle.st_text.specs.Writing.{Writes}
 use Rattle.st_commands.specs.Output.{Output, pair_line, verdict_text}
 use Rattle.st_commands.specs.Checked.{top, Spells}
 use Rattle.st_commands.specs.Recorded.{ranks, scripts_of, act_fault_words}
-use Rattle.st_commands.specs.Command.{ReaderCall, WriterCall, ReadsAll}
+use Rattle.st_commands.specs.Command.{ReaderCall, WriterCall, ReadsAll, Owes, Tells}
 
 -- a yes: status 0
 pub record MeansYes (limits : Limits) (bytes : List ℕ) (out : Output) : Type 0 where
@@ -209,6 +209,10 @@ pub data MeansNoChart (limits : Limits) (label : Label) (bytes : List ℕ) (out 
     Unlabelled : MeansNoLabel limits label bytes out → MeansNoChart limits label bytes out
     Unpaired : MeansUnpaired limits bytes out → MeansNoChart limits label bytes out
 
+-- a no that never comes: no output means it
+abbrev pub NeverMeant : List ℕ → Output → Type 0
+NeverMeant bytes out = ⊥
+
 -- all bytes were read, and of them an output with this meaning was written whole
 pub record Says (limits : Limits) {R W : Type 0} (reader : ReaderCall R) (writer : WriterCall W)
     (Means : List ℕ → Output → Type 0) : Type 0 where
@@ -217,3 +221,11 @@ pub record Says (limits : Limits) {R W : Type 0} (reader : ReaderCall R) (writer
   pub reads : ReadsAll limits reader bytes
   pub writes : Writes writer.device.puts writer.device.failed output.text writer.old writer.new
   pub means : Means bytes output
+
+-- What a call of a command comes to: an output that it owes of the bytes was delivered; and a yes,
+-- which is status 0, and a no, which is status 1, each mean something.
+pub record Performs (limits : Limits) {R W : Type 0} (reader : ReaderCall R) (writer : WriterCall W)
+    (IsOutput Yes No : List ℕ → Output → Type 0) (status : ℕ) : Type 0 where
+  pub told : Tells writer (Owes limits reader IsOutput) status
+  pub yes : status ≡ 0 → Says limits reader writer Yes
+  pub no : status ≡ 1 → Says limits reader writer No

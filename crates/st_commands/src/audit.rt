@@ -1,10 +1,9 @@
 //! The command `audit`: a certificate for the streams whose text the input is, or an event and the
 //! reason why none was found. The acts in the input are ignored.
 
-ghost use Rattle.std.specs.Prelude.{◌≡◌};
 ghost use Rattle.st_commands.specs.Audited.{IsAudited};
-ghost use Rattle.st_commands.specs.Command.{Owes, Tells, call};
-ghost use Rattle.st_commands.specs.Meaning.{Says, MeansFits, MeansUnfit};
+ghost use Rattle.st_commands.specs.Command.{Tells, call};
+ghost use Rattle.st_commands.specs.Meaning.{MeansFits, MeansUnfit, Performs};
 ghost use Rattle.st_commands.specs.Parts.{AuditsTo};
 
 use crate::answer::{tell_fault, tell_finding};
@@ -40,14 +39,9 @@ pub fn run_audit<H: Threads + Sync, R: ByteSource, W: ByteSink>(
     writer: &mut W,
     limits: Limits,
 ) -> u8
-    ensures told { Tells (call W.ByteSink writer.old writer.new)
-        (Owes limits (call R.ByteSource reader.old reader.new) (IsAudited limits)) result }
-
-    // What that says of a certificate and of a reason, in the machine's own words.
-    ensures fits { result ≡ 0 → Says limits (call R.ByteSource reader.old reader.new)
-        (call W.ByteSink writer.old writer.new) (MeansFits limits) }
-    ensures unfit { result ≡ 1 → Says limits (call R.ByteSource reader.old reader.new)
-        (call W.ByteSink writer.old writer.new) (MeansUnfit limits) }
+    ensures { Performs limits (call R.ByteSource reader.old reader.new)
+        (call W.ByteSink writer.old writer.new)
+        (IsAudited limits) (MeansFits limits) (MeansUnfit limits) result }
 {
     match read_within(alloc, reader, limits) {
         Ok(bundle) => audit_streams(rt, alloc, &bundle.streams, writer),

@@ -5,8 +5,8 @@ ghost use Rattle.std.specs.Prelude.{◌≡◌};
 ghost use Rattle.st_pair.specs.Links.{IsPairing};
 ghost use Rattle.st_pair.specs.Pairing.{IsPairFault};
 ghost use Rattle.st_commands.specs.Charted.{IsCharted};
-ghost use Rattle.st_commands.specs.Command.{Owes, Tells, call};
-ghost use Rattle.st_commands.specs.Meaning.{Says, MeansCharted, MeansNoChart};
+ghost use Rattle.st_commands.specs.Command.{Tells, call};
+ghost use Rattle.st_commands.specs.Meaning.{MeansCharted, MeansNoChart, Performs};
 ghost use Rattle.st_commands.specs.Parts.{ChartsTo, DrawsTo};
 
 use crate::answer::{tell_fault, tell_finding, tell_line};
@@ -106,14 +106,9 @@ pub fn run_chart<H: Threads + Sync, R: ByteSource, W: ByteSink>(
     limits: Limits,
     label: Label,
 ) -> u8
-    ensures told { Tells (call W.ByteSink writer.old writer.new)
-        (Owes limits (call R.ByteSource reader.old reader.new) (IsCharted limits label)) result }
-
-    // What that says of a chart, and of none, in the machine's own words.
-    ensures charted { result ≡ 0 → Says limits (call R.ByteSource reader.old reader.new)
-        (call W.ByteSink writer.old writer.new) (MeansCharted limits label) }
-    ensures no_chart { result ≡ 1 → Says limits (call R.ByteSource reader.old reader.new)
-        (call W.ByteSink writer.old writer.new) (MeansNoChart limits label) }
+    ensures { Performs limits (call R.ByteSource reader.old reader.new)
+        (call W.ByteSink writer.old writer.new)
+        (IsCharted limits label) (MeansCharted limits label) (MeansNoChart limits label) result }
 {
     match read_within(alloc, reader, limits) {
         Ok(bundle) => chart_streams(rt, alloc, &bundle.streams, label, writer),

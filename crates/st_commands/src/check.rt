@@ -1,10 +1,9 @@
 //! The command `check`: the verdict of the bundle whose text the input is.
 
-ghost use Rattle.std.specs.Prelude.{◌≡◌};
 ghost use Rattle.st_text.specs.Contents.{contents};
 ghost use Rattle.st_commands.specs.Checked.{IsChecked};
-ghost use Rattle.st_commands.specs.Command.{Owes, Tells, call};
-ghost use Rattle.st_commands.specs.Meaning.{Says, MeansYes, MeansNo};
+ghost use Rattle.st_commands.specs.Command.{Tells, call};
+ghost use Rattle.st_commands.specs.Meaning.{MeansYes, MeansNo, Performs};
 ghost use Rattle.st_commands.specs.Parts.{ChecksTo, OfBundle};
 
 use crate::answer::{tell_fault, tell_line, tell_verdict};
@@ -47,14 +46,9 @@ pub fn run_check<R: ByteSource, W: ByteSink>(
     writer: &mut W,
     limits: Limits,
 ) -> u8
-    ensures told { Tells (call W.ByteSink writer.old writer.new)
-        (Owes limits (call R.ByteSource reader.old reader.new) (IsChecked limits)) result }
-
-    // What that says of a yes and a no, in the machine's own words.
-    ensures yes { result ≡ 0 → Says limits (call R.ByteSource reader.old reader.new)
-        (call W.ByteSink writer.old writer.new) (MeansYes limits) }
-    ensures no { result ≡ 1 → Says limits (call R.ByteSource reader.old reader.new)
-        (call W.ByteSink writer.old writer.new) (MeansNo limits) }
+    ensures { Performs limits (call R.ByteSource reader.old reader.new)
+        (call W.ByteSink writer.old writer.new)
+        (IsChecked limits) (MeansYes limits) (MeansNo limits) result }
 {
     match read_within(alloc, reader, limits) {
         Ok(bundle) => check_bundle(alloc, &bundle, writer),

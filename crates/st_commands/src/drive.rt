@@ -5,8 +5,8 @@ ghost use Rattle.std.specs.Prelude.{◌≡◌, ◌≢◌, ◌<◌, ◌∷◌, �
 ghost use Rattle.std.specs.Prelude.{replicate, slice_set, slice_index_or};
 ghost use Rattle.st_core.specs.Run.{pids_of};
 ghost use Rattle.st_text.specs.Contents.{contents};
-ghost use Rattle.st_commands.specs.Command.{Delivers, Owes, Tells, call};
-ghost use Rattle.st_commands.specs.Meaning.{Says, MeansDriven, MeansStray};
+ghost use Rattle.st_commands.specs.Command.{Delivers, Tells, call};
+ghost use Rattle.st_commands.specs.Meaning.{MeansDriven, MeansStray, Performs};
 ghost use Rattle.st_commands.specs.Parts.{DrivesTo, OfBundle, drive_refused};
 ghost use Rattle.st_commands.specs.Recorded.{IsRecorded, scripts_of};
 
@@ -126,14 +126,9 @@ pub fn run_drive<H: Threads + Wait + Sync, R: ByteSource, W: ByteSink>(
     writer: &mut W,
     limits: Limits,
 ) -> u8
-    ensures told { Tells (call W.ByteSink writer.old writer.new)
-        (Owes limits (call R.ByteSource reader.old reader.new) (IsRecorded limits)) result }
-
-    // What that says of a record, and of an act that was refused, in the machine's own words.
-    ensures driven { result ≡ 0 → Says limits (call R.ByteSource reader.old reader.new)
-        (call W.ByteSink writer.old writer.new) (MeansDriven limits) }
-    ensures stray { result ≡ 1 → Says limits (call R.ByteSource reader.old reader.new)
-        (call W.ByteSink writer.old writer.new) (MeansStray limits) }
+    ensures { Performs limits (call R.ByteSource reader.old reader.new)
+        (call W.ByteSink writer.old writer.new)
+        (IsRecorded limits) (MeansDriven limits) (MeansStray limits) result }
 {
     match read_within(alloc, reader, limits) {
         Ok(bundle) => drive_bundle(rt, alloc, bundle, writer),

@@ -1,10 +1,9 @@
 //! The command `replay`: what the acts of the input's bundle report. The events in the input are
 //! ignored.
 
-ghost use Rattle.std.specs.Prelude.{◌≡◌, ◌≢◌};
 ghost use Rattle.st_text.specs.Contents.{contents};
-ghost use Rattle.st_commands.specs.Command.{Delivers, Owes, Tells, call};
-ghost use Rattle.st_commands.specs.Meaning.{Says, MeansReplayed};
+ghost use Rattle.st_commands.specs.Command.{Delivers, Tells, call};
+ghost use Rattle.st_commands.specs.Meaning.{MeansReplayed, NeverMeant, Performs};
 ghost use Rattle.st_commands.specs.Parts.{OfBundle, ReplaysTo, reports_output};
 ghost use Rattle.st_commands.specs.Replayed.{IsReplayed};
 
@@ -60,13 +59,9 @@ pub fn run_replay<R: ByteSource, W: ByteSink>(
     writer: &mut W,
     limits: Limits,
 ) -> u8
-    ensures told { Tells (call W.ByteSink writer.old writer.new)
-        (Owes limits (call R.ByteSource reader.old reader.new) (IsReplayed limits)) result }
-
-    // What that says of a run, in the machine's own words; and acts of a text always have one.
-    ensures ran { result ≡ 0 → Says limits (call R.ByteSource reader.old reader.new)
-        (call W.ByteSink writer.old writer.new) (MeansReplayed limits) }
-    ensures never_stuck { result ≢ 1 }
+    ensures { Performs limits (call R.ByteSource reader.old reader.new)
+        (call W.ByteSink writer.old writer.new)
+        (IsReplayed limits) (MeansReplayed limits) NeverMeant result }
 {
     match read_within(alloc, reader, limits) {
         Ok(bundle) => replay_bundle(alloc, &bundle, writer),

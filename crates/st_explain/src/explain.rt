@@ -4,9 +4,9 @@
 //! left at the end, it shows what the act would report that could report the next one.
 
 use crate::queue::Sent;
-use crate::rerun::{Came, Rerun, TOP};
+use crate::rerun::{Came, Rerun};
 use st_check::{CheckFault, Verdict, check};
-use st_commands::{status_of, tell_fault};
+use st_commands::{TOP, status_of, tell_fault};
 use st_core::{Act, ByteSink, ByteSource, Event, Kind, Pid, Streams, Token};
 use st_lines::LineNumbers;
 use st_say::{TextWriter, send_words};

@@ -2,12 +2,10 @@
 //! the queue of one process.
 
 use crate::queue::Queue;
+use st_commands::TOP;
 use st_core::{Act, Event, Kind, Pid, Streams, Want};
 use st_world::{NewFault, StepFault, World};
 use std::alloc::{AllocError, Global};
-
-/// The greatest count that a clock of the program can have.
-pub(crate) const TOP: u64 = u64::MAX;
 
 /// A run under way: the world, by each process's place among the streams how many events it has
 /// reported, the queue of one process, and how many acts were made.

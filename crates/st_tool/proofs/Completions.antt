@@ -21,8 +21,8 @@ use Rattle.st_needs.specs.Completions.{added_in, Completed}
 use Rattle.st_text.specs.Writing.{Goes, WritesOn, WritesPart, WritesText}
 use Rattle.st_text.proofs.ForCallers.{finishes, front_some, line_some}
 use Rattle.st_chart.specs.Words.{place_words}
-use Rattle.st_chart.specs.Report.{event_line}
-use Rattle.st_tool.specs.Complete.{added_from, added_text, never_text, place_line}
+use Rattle.st_chart.specs.Report.{event_line, place_line}
+use Rattle.st_tool.specs.Complete.{added_from, added_text, never_text}
 use Rattle.st_tool.specs.Lines.{added_at, added_of, added_parts, count_line, if_untold, never_line}
 use Rattle.st_tool.specs.Lines.{never_parts, never_words, other_line, unlisted_line, up_to}
 

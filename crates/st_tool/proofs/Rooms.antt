@@ -1,14 +1,12 @@
--- Texts go one behind the other: if room is made first, what goes then is the text alone, and the texts of the
--- numbers below one are those of the numbers up to any of them and of the others.
+-- Texts go one behind the other, since the texts of the numbers below one are those of the numbers up to any of them
+-- and of the others.
 use Rattle.std.proofs.Common.{◌≡◌, ℕ, zero, suc, ◌+◌, ◌<◌, Bool, List, [], ◌++◌, sym, ap, subst}
 use Rattle.std.proofs.Common.{◌∙◌, append_assoc}
 use Rattle.std.proofs.Common.{inl, inr, arith, add-one}
 use Rattle.std.proofs.lemmas.Bool.{cases_lt}
-use Rattle.std.specs.Prelude.{Result, Err}
-use Rattle.std.specs.Result.{IsErr}
 use Rattle.std.proofs.lemmas.List.{append-nil}
-use Rattle.st_text.specs.Writing.{WritesPart, Goes, WritesOn}
-use Rattle.st_text.proofs.ForCallers.{part_longer, goes_then, goes_buffer, then_on, on_err}
+use Rattle.st_text.specs.Writing.{WritesPart, Goes}
+use Rattle.st_text.proofs.ForCallers.{part_longer, part_then, goes_then}
 use Rattle.st_tool.specs.Lines.{up_to}
 
 module _ (f : ℕ → List ℕ) where
@@ -28,28 +26,13 @@ module _ (f : ℕ → List ℕ) where
   ]
 
 module _ {S : Type 0} (puts : S → List ℕ → S → Type 0) (failed : S → Bool) where
-  -- the text was put behind what waits
-  pub room_then : (text : List ℕ) {a b : S} {x y z : List ℕ} → Goes puts failed [] a b x y → z ≡ y ++ text
-      → Goes puts failed text a b x z
-  room_then text g e = goes_then puts failed [] text g (goes_buffer puts failed e)
-
-  -- no room could be made
-  pub no_room : {T E : Type 0} (text : List ℕ) {a b : S} (x y : List ℕ) (r : Result T E) → IsErr r
-      → WritesPart puts failed (x ++ []) a b → WritesOn puts failed text a b x y r
-  no_room text x y r is h = on_err text x y r is (part_longer puts failed [] text x h)
-
-  -- the first text went, and the second failed
-  pub part_then : (t u : List ℕ) {a b c : S} {x y : List ℕ} → Goes puts failed t a b x y
-      → WritesPart puts failed (y ++ u) b c → WritesPart puts failed (x ++ (t ++ u)) a c
-  part_then t u {c} {y} g h = then_on {T = Unit {0}} {E = Unit {0}} puts failed t u c y (Err tt) g h
-
   -- the texts so far went, and the next one failed
   pub part_among : (f : ℕ → List ℕ) (i n : ℕ) {a b c : S} {x y : List ℕ} → i < n → Goes puts failed (up_to f i) a b x y
       → WritesPart puts failed (y ++ f i) b c → WritesPart puts failed (x ++ up_to f n) a c
   part_among f i n {a} {c} {x} lt g h =
       let all = split f i n lt in
       subst (λ (t : List ℕ). WritesPart puts failed (x ++ t) a c) (sym all.1)
-      (part_longer puts failed (up_to f i ++ f i) all.0 x (part_then (up_to f i) (f i) g h))
+      (part_longer puts failed (up_to f i ++ f i) all.0 x (part_then puts failed (up_to f i) (f i) g h))
 
   -- and so did the next one
   pub goes_next : (f : ℕ → List ℕ) (i : ℕ) {a b c : S} {x y z : List ℕ} → Goes puts failed (up_to f i) a b x y

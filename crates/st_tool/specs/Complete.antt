@@ -6,7 +6,6 @@ use Rattle.std.specs.List.{flat_map, AllByRecursion}
 use Rattle.std.specs.Option.{option_map_or}
 use Rattle.st_core.specs.declared.types.Pid.{Pid}
 use Rattle.st_core.specs.declared.types.Act.{Act}
-use Rattle.st_core.specs.declared.types.Event.{Event}
 use Rattle.st_core.specs.Laws.{NoReset}
 use Rattle.st_core.specs.Run.{Stream, Shows, pids_of}
 use Rattle.st_core.specs.Streams.{lists}
@@ -28,7 +27,7 @@ use Rattle.st_complete.specs.Bounds.{act_bound}
 use Rattle.st_needs.specs.Completions.{added_in, Completed}
 use Rattle.st_text.specs.Spelling as spelled
 use Rattle.st_chart.specs.Words.{place_words}
-use Rattle.st_chart.specs.Report.{event_words}
+use Rattle.st_chart.specs.Report.{place_line}
 use Rattle.st_commands.specs.Output.{Output, refused, bundled}
 use Rattle.st_commands.specs.Checked.{top, Spells}
 use Rattle.st_tool.specs.declared.complete.Form.{Form}
@@ -37,21 +36,15 @@ use Rattle.st_tool.specs.Renumber.{streams_output}
 
 -- ---- the added events
 
--- a word, a place, and the event there
-abbrev pub place_line : List ℕ → Pid → ℕ → Option Event → List ℕ
-place_line word p i e = (word ++ place_words p i ++ codes " ") ++ ended_line (event_words e)
-
 -- the lines of the untold ones of these events of p, which are from index i on
 abbrev pub added_from : Pid → ℕ → List Marked → List ℕ
 added_from p i [] = []
-added_from p i (m ∷ ms) =
-    (if m.told then [] else place_line (codes "added ") p i (Some m.event))
+added_from p i (m ∷ ms) = (if m.told then [] else place_line (codes "added ") p i (Some m.event))
     ++ added_from p (i + 1) ms
 
 -- how many events were added; the processes that aren't listed; and each event, by pid and index
 abbrev pub added_text : Completed → List ℕ
-added_text c =
-    ended_line (codes "added " ++ decimal (added_in c.wholes))
+added_text c = ended_line (codes "added " ++ decimal (added_in c.wholes))
     ++ flat_map (λ p. ended_line (codes "unlisted " ++ spelled.pid p)) c.unlisted
     ++ flat_map (λ p. added_from p 0 (marked_of c.wholes p)) (pids_of (all_streams c.wholes))
 

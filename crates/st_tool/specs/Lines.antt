@@ -15,11 +15,10 @@ use Rattle.st_complete.specs.declared.answer.Never.TheVariants as never
 use Rattle.st_chart.specs.Room.{place_room}
 use Rattle.st_text.specs.Spelling as spelled
 use Rattle.st_text.specs.Spelling.{ended_line}
-use Rattle.st_chart.specs.Report.{event_line}
+use Rattle.st_chart.specs.Report.{event_line, place_line}
 use Rattle.st_chart.specs.Words.{place_words}
 use Rattle.st_tool.specs.declared.lines.OutputLine.{OutputLine}
 use Rattle.st_tool.specs.declared.lines.OutputLine.TheVariants as lines
-use Rattle.st_tool.specs.Complete.{place_line}
 
 -- a reason against an event of p, with the other place that it names
 abbrev pub never_words : Pid → Never → List ℕ

@@ -7,8 +7,8 @@ ghost use Rattle.st_text.specs.Limits.{greater};
 ghost use Rattle.st_text.specs.Spelling.{ended_line};
 ghost use Rattle.st_text.specs.Writing.{WritesText};
 ghost use Rattle.st_plan.specs.Marks.{all_streams};
-ghost use Rattle.st_commands.specs.Command.{Owes, Tells, call};
-ghost use Rattle.st_commands.specs.Meaning.{Says};
+ghost use Rattle.st_commands.specs.Command.{Tells, call};
+ghost use Rattle.st_commands.specs.Meaning.{Performs, Says};
 ghost use Rattle.st_complete.specs.Answers.{IsAnswer, IsWhole};
 ghost use Rattle.st_open_world.specs.Silent.{with_silent};
 ghost use Rattle.st_tool.specs.Complete.{IsOutputOfComplete, MeansCompleted, MeansLong, MeansNever};
@@ -210,15 +210,11 @@ pub fn run_complete<H: Threads + Sync, R: ByteSource, W: ByteSink, N: ByteSink>(
     notes: &mut N,
     form: Form,
 ) -> u8
-    ensures told { Tells (call W.ByteSink writer.old writer.new)
-        (Owes greater (call R.ByteSource reader.old reader.new) (IsOutputOfComplete form)) result }
+    ensures performed { Performs greater (call R.ByteSource reader.old reader.new)
+        (call W.ByteSink writer.old writer.new)
+        (IsOutputOfComplete form) (MeansCompleted form) MeansNever result }
 
-    // What that says of a completion, of a reason and of a completion that is too long, in the
-    // machine's own words.
-    ensures completed { result ≡ 0 → Says greater (call R.ByteSource reader.old reader.new)
-        (call W.ByteSink writer.old writer.new) (MeansCompleted form) }
-    ensures never { result ≡ 1 → Says greater (call R.ByteSource reader.old reader.new)
-        (call W.ByteSink writer.old writer.new) MeansNever }
+    // What a completion that is too long means, in the machine's own words.
     ensures long { result ≡ 5 → Says greater (call R.ByteSource reader.old reader.new)
         (call W.ByteSink writer.old writer.new) (MeansLong form) }
 {

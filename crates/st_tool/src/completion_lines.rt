@@ -1,81 +1,17 @@
 //! The lines of the command `complete`: the events that were added, or an event with the reason why
 //! there is no completion.
 
-ghost use Rattle.std.specs.Prelude.{◌≡◌, ◌≤◌, ◌+◌, ◌++◌, codes, length};
 ghost use Rattle.std.specs.List.{flat_map};
-ghost use Rattle.st_text.specs.Room.{line_room, HasRoom};
-ghost use Rattle.st_text.specs.Spelling.{ended_line};
 ghost use Rattle.st_text.specs.Writing.{WritesOn, WritesText};
-ghost use Rattle.st_chart.specs.Words.{place_words};
-ghost use Rattle.st_chart.specs.Report.{event_line, event_words};
-ghost use Rattle.st_tool.specs.Complete.{added_text, never_text, place_line};
+ghost use Rattle.st_tool.specs.Complete.{added_text, never_text};
 ghost use Rattle.st_tool.specs.Lines.{added_at, added_of, added_parts, never_parts};
 ghost use Rattle.st_tool.specs.Lines.{other_line, unlisted_line};
 
 use crate::lines::OutputLine;
-use st_chart::put_place;
+use st_chart::{write_event, write_place_line};
 use st_complete::{Completion, Never};
-use st_core::{ByteSink, Event, Pid, Streams};
-use st_text::{Buffer, Device, flush, make_room, put_bytes, put_event, write_line};
-
-/// Appends a word, a place and a space.
-fn put_front(buffer: &mut Buffer, word: &[u8], pid: Pid, index: u64)
-    requires room { HasRoom line_room buffer.old }
-    requires short { length word.now ≤ 6 }
-    ensures { buffer.new.items
-        ≡ buffer.old.items ++ (word.now ++ place_words pid index ++ codes " ") }
-{
-    put_bytes(buffer, word);
-    put_place(buffer, pid, index);
-    put_bytes(buffer, b" ");
-}
-
-/// Appends an event and a newline.
-fn put_end(buffer: &mut Buffer, event: Option<Event>)
-    requires { HasRoom line_room buffer.old }
-    ensures { buffer.new.items ≡ buffer.old.items ++ ended_line (event_words event) }
-{
-    if let Some(event) = event {
-        put_event(buffer, &event);
-    }
-    put_bytes(buffer, b"\n");
-}
-
-/// Writes a word, a place, and the event there, in two parts: together they may take more than a
-/// line's room.
-fn write_place_line<W: ByteSink>(
-    writer: &mut W,
-    buffer: &mut Buffer,
-    word: &[u8],
-    pid: Pid,
-    index: u64,
-    event: Option<Event>,
-) -> Result<(), Device>
-    requires { length word.now ≤ 6 }
-    ensures { WritesOn W.puts W.failed (place_line word.now pid index event)
-        writer.old writer.new buffer.old.items buffer.new.items result }
-{
-    make_room(writer, buffer)?;
-    put_front(buffer, word, pid, index);
-    make_room(writer, buffer)?;
-    put_end(buffer, event);
-    Ok(())
-}
-
-/// Writes the line of the event at this place.
-fn write_event_line<W: ByteSink>(
-    writer: &mut W,
-    buffer: &mut Buffer,
-    streams: &Streams,
-    pid: Pid,
-    index: u64,
-) -> Result<(), Device>
-    ensures { WritesOn W.puts W.failed (event_line streams.now pid index)
-        writer.old writer.new buffer.old.items buffer.new.items result }
-{
-    let event = streams.event(pid, index);
-    write_place_line(writer, buffer, b"event ", pid, index, event)
-}
+use st_core::{ByteSink, Pid, Streams};
+use st_text::{Buffer, Device, flush, write_line};
 
 /// Writes the line of an event of a completion, if it was added.
 fn write_if_added<W: ByteSink>(
@@ -185,10 +121,10 @@ fn write_other<W: ByteSink>(
 {
     match never {
         Never::PrevNotBefore => Ok(()),
-        Never::NotRising(index) => write_event_line(writer, buffer, streams, pid, index),
-        Never::Repeated(other, index) => write_event_line(writer, buffer, streams, other, index),
-        Never::Mismatch(other, index) => write_event_line(writer, buffer, streams, other, index),
-        Never::Late(index) => write_event_line(writer, buffer, streams, pid, index),
+        Never::NotRising(index) => write_event(writer, buffer, streams, pid, index),
+        Never::Repeated(other, index) => write_event(writer, buffer, streams, other, index),
+        Never::Mismatch(other, index) => write_event(writer, buffer, streams, other, index),
+        Never::Late(index) => write_event(writer, buffer, streams, pid, index),
         Never::Unfounded => Ok(()),
         Never::TooHigh => Ok(()),
     }
@@ -207,7 +143,7 @@ fn write_never<W: ByteSink>(
         writer.old writer.new buffer.old.items buffer.new.items result }
 {
     write_line(writer, buffer, OutputLine::Never(pid, index, never))?;
-    write_event_line(writer, buffer, streams, pid, index)?;
+    write_event(writer, buffer, streams, pid, index)?;
     write_other(writer, buffer, streams, pid, never)
 }
 

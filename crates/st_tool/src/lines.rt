@@ -1,7 +1,7 @@
 //! The lines that stand alone. They are written through a buffer on the stack, so that writing
 //! takes no memory.
 
-ghost use Rattle.std.specs.Prelude.{◌≡◌, ◌<◌, ◌+◌, ◌++◌, codes, length};
+ghost use Rattle.std.specs.Prelude.{◌≡◌, ◌<◌, ◌+◌, ◌++◌, codes};
 ghost use Rattle.arrayvec.specs.ArrayVec.{array_vec_len};
 ghost use Rattle.st_text.specs.Room.{line_room, HasRoom, Puts};
 ghost use Rattle.st_text.specs.Spelling as spelled;
@@ -9,7 +9,7 @@ ghost use Rattle.st_chart.specs.Words.{place_words};
 ghost use Rattle.st_chart.specs.Room.{place_room};
 ghost use Rattle.st_tool.specs.Lines.{never_words, words_of, words_room};
 
-use st_chart::put_place;
+use st_chart::put_place_after;
 use st_complete::Never;
 use st_core::Pid;
 use st_text::{Buffer, TextLine, put_bytes, put_numbered, put_pid};
@@ -31,16 +31,6 @@ pub(crate) enum OutputLine {
     Unlisted(Pid),
 }
 
-/// Appends a word and a place.
-fn put_other(buffer: &mut Buffer, word: &[u8], pid: Pid, index: u64)
-    requires { HasRoom (length word.now + place_room) buffer.old }
-    ensures { Puts (length word.now + place_room)
-        (word.now ++ place_words pid index) buffer.old buffer.new }
-{
-    put_bytes(buffer, word);
-    put_place(buffer, pid, index);
-}
-
 /// Appends the words of a reason against an event of this process.
 fn put_never_words(buffer: &mut Buffer, pid: Pid, never: Never)
     requires { HasRoom (13 + place_room) buffer.old }
@@ -48,10 +38,10 @@ fn put_never_words(buffer: &mut Buffer, pid: Pid, never: Never)
 {
     match never {
         Never::PrevNotBefore => put_bytes(buffer, b"prevnotbefore"),
-        Never::NotRising(index) => put_other(buffer, b"notrising ", pid, index),
-        Never::Repeated(other, index) => put_other(buffer, b"repeated ", other, index),
-        Never::Mismatch(other, index) => put_other(buffer, b"mismatch ", other, index),
-        Never::Late(index) => put_other(buffer, b"late ", pid, index),
+        Never::NotRising(index) => put_place_after(buffer, b"notrising ", pid, index),
+        Never::Repeated(other, index) => put_place_after(buffer, b"repeated ", other, index),
+        Never::Mismatch(other, index) => put_place_after(buffer, b"mismatch ", other, index),
+        Never::Late(index) => put_place_after(buffer, b"late ", pid, index),
         Never::Unfounded => put_bytes(buffer, b"unfounded"),
         Never::TooHigh => put_bytes(buffer, b"toohigh"),
     }
@@ -64,8 +54,7 @@ fn put_never(buffer: &mut Buffer, pid: Pid, index: u64, never: Never)
         (codes "never " ++ place_words pid index ++ codes " " ++ never_words pid never)
         buffer.old buffer.new }
 {
-    put_bytes(buffer, b"never ");
-    put_place(buffer, pid, index);
+    put_place_after(buffer, b"never ", pid, index);
     put_bytes(buffer, b" ");
     put_never_words(buffer, pid, never);
 }
