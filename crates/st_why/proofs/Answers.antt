@@ -16,11 +16,8 @@ use Rattle.st_commands.specs.Audited.{report_output}
 use Rattle.st_hops.specs.declared.node.Node.{Node}
 use Rattle.st_why.specs.declared.question.Question.{Question}
 use Rattle.st_why.specs.declared.question.Style.{Style}
-use Rattle.st_why.specs.declared.question.Style.TheVariants as style
-use Rattle.st_why.specs.Json.{premises_object}
 use Rattle.st_why.specs.Parts.{AnswersOf, OfReason}
-use Rattle.st_why.specs.Why.{answer_line, last_line, node_line}
-use Rattle.st_why.specs.Words.{premises_text}
+use Rattle.st_why.specs.Why.{answer_line, last_line, last_words, node_line}
 
 module _ (streams : List Stream) (q : Question) (x : Node) where
   abbrev line_by : Option Event → List ℕ
@@ -31,8 +28,7 @@ module _ (streams : List Stream) (q : Question) (x : Node) where
   line_of o is = ap line_by is
 
 last_some : (s : Style) → 0 < length (last_line s)
-last_some style.Text = line_some premises_text
-last_some style.Json = line_some premises_object
+last_some s = line_some (last_words s)
 
 -- what is written isn't empty
 pub answer_some : (streams : List Stream) (q : Question) (nodes : List Node)

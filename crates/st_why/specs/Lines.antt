@@ -1,13 +1,17 @@
--- The words of the line that is all of an output, and how many bytes the parts of a line take at
--- most.
+-- The words of the line that says that there is no such event and of the last line, and how many
+-- bytes the parts of a line take at most.
 use Rattle.std.specs.Prelude.{ℕ, ◌+◌, List, ◌++◌, codes}
 use Rattle.st_text.specs.Room.{number_room, pid_room, serial_room}
 use Rattle.st_chart.specs.Room.{item_word_room, place_room}
+use Rattle.st_why.specs.declared.lines.LastLine.{LastLine}
 use Rattle.st_why.specs.declared.lines.NoEvent.{NoEvent}
-use Rattle.st_why.specs.Why.{start_words}
+use Rattle.st_why.specs.Why.{last_words, start_words}
 
 abbrev pub no_event_words : NoEvent → List ℕ
 no_event_words x = codes "no event " ++ start_words x.0
+
+abbrev pub last_line_words : LastLine → List ℕ
+last_line_words x = last_words x.0
 
 -- a number, a space and the greatest indent
 abbrev pub depth_room : ℕ

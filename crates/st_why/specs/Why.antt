@@ -65,10 +65,14 @@ node_line streams q x = elim (event_at streams x.place.0 x.place.1) [
   | Some e ↦ answer_line streams q x.depth x.place.0 x.place.1 e
 ]
 
--- the last line: what the sentences rest on
+-- what the sentences rest on
+abbrev pub last_words : Style → List ℕ
+last_words style.Text = premises_text
+last_words style.Json = premises_object
+
+-- the last line
 abbrev pub last_line : Style → List ℕ
-last_line style.Text = ended_line premises_text
-last_line style.Json = ended_line premises_object
+last_line x = ended_line (last_words x)
 
 -- all that is written of an event that is there
 abbrev pub found : List Stream → Question → Pid × ℕ → Output

@@ -6,13 +6,14 @@ ghost use Rattle.st_text.specs.Writing.{WritesOn, WritesText};
 ghost use Rattle.st_pair.specs.Places.{event_at};
 ghost use Rattle.st_why.specs.Why.{answer_line, last_line, node_line, nodes_from};
 
-use crate::json::{write_json, write_premises_object};
+use crate::json::write_json;
+use crate::lines::LastLine;
 use crate::question::{Direction, Question, Style};
-use crate::text::{write_premises, write_text};
+use crate::text::write_text;
 use crate::trace::NumberedOrigins;
 use st_core::{ByteSink, Event, Pid};
 use st_hops::{Node, tree, way};
-use st_text::{Buffer, Device, flush};
+use st_text::{Buffer, Device, flush, write_line};
 use std::alloc::{AllocError, Global};
 
 /// The events that are found from this place. Fails only if memory runs out.
@@ -85,17 +86,6 @@ fn write_nodes<W: ByteSink>(
     Ok(())
 }
 
-/// Writes the last line.
-fn write_last<W: ByteSink>(writer: &mut W, buffer: &mut Buffer, style: Style) -> Result<(), Device>
-    ensures { WritesOn W.puts W.failed (last_line style)
-        writer.old writer.new buffer.old.items buffer.new.items result }
-{
-    match style {
-        Style::Text => write_premises(writer, buffer),
-        Style::Json => write_premises_object(writer, buffer),
-    }
-}
-
 /// Writes the lines of these nodes and the last line.
 fn write_answer<W: ByteSink>(
     writer: &mut W,
@@ -109,7 +99,7 @@ fn write_answer<W: ByteSink>(
         writer.old writer.new buffer.old.items buffer.new.items result }
 {
     write_nodes(writer, buffer, trace, question, nodes)?;
-    write_last(writer, buffer, question.style)
+    write_line(writer, buffer, LastLine(question.style))
 }
 
 /// The same, all of it.

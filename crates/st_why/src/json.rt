@@ -12,7 +12,6 @@ ghost use Rattle.st_why.specs.Lines.{claim_fields_room, event_fields_room, field
 ghost use Rattle.st_why.specs.Lines.{kind_field_room, premise_fields_room};
 ghost use Rattle.st_why.specs.Json.{after_fields, claim_fields, event_fields, front_fields};
 ghost use Rattle.st_why.specs.Json.{hop_object, kind_field, place_fields, premise_fields};
-ghost use Rattle.st_why.specs.Json.{premises_object};
 
 use crate::parts::line_number_at;
 use crate::trace::NumberedOrigins;
@@ -183,21 +182,4 @@ pub(crate) fn write_json<W: ByteSink>(
     make_room(writer, buffer)?;
     put_front(buffer, numbers, node);
     write_rest(writer, buffer, numbers, pid, event, hop)
-}
-
-/// Writes the last object: the premises in words.
-pub(crate) fn write_premises_object<W: ByteSink>(
-    writer: &mut W,
-    buffer: &mut Buffer,
-) -> Result<(), Device>
-    ensures { WritesOn W.puts W.failed (ended_line premises_object)
-        writer.old writer.new buffer.old.items buffer.new.items result }
-{
-    make_room(writer, buffer)?;
-    put_bytes(
-        buffer,
-        b"{\"premise_1\":\"each receive of a token was reported\",\"premise_2\":\"no process cleared its token and began again under the same label\",\"standard_node\":\"2 wherever 1\"}",
-    );
-    put_bytes(buffer, b"\n");
-    Ok(())
 }

@@ -1,13 +1,13 @@
-//! The line that is all of an output.
+//! The line that says that there is no such event, and the last line of what is found.
 
-ghost use Rattle.st_why.specs.Lines.{no_event_words};
+ghost use Rattle.st_why.specs.Lines.{last_line_words, no_event_words};
 
-use crate::question::Start;
+use crate::question::{Start, Style};
 use st_chart::put_place;
 use st_text::{Buffer, TextLine, put_bytes, put_number};
 
 /// There is no such event.
-#[derive(Clone, Copy, Debug)]
+#[derive(Clone, Copy)]
 pub(crate) struct NoEvent(pub(crate) Start);
 
 impl TextLine for NoEvent {
@@ -21,6 +21,27 @@ impl TextLine for NoEvent {
                 put_bytes(buffer, b"on line ");
                 put_number(buffer, line);
             }
+        }
+    }
+}
+
+/// What the other lines rest on.
+#[derive(Clone, Copy)]
+pub(crate) struct LastLine(pub(crate) Style);
+
+impl TextLine for LastLine {
+    ghost words = { last_line_words };
+
+    fn put_words(self, buffer: &mut Buffer) {
+        match self.0 {
+            Style::Text => put_bytes(
+                buffer,
+                b"in a run without a reset; (1) if each receive of a token was reported; (2) if no process cleared its token and began again under the same label; on a standard node (2) wherever (1)",
+            ),
+            Style::Json => put_bytes(
+                buffer,
+                b"{\"premise_1\":\"each receive of a token was reported\",\"premise_2\":\"no process cleared its token and began again under the same label\",\"standard_node\":\"2 wherever 1\"}",
+            ),
         }
     }
 }

@@ -4,7 +4,7 @@ use st_core::Pid;
 use st_hops::Reach;
 
 /// The event that is asked about.
-#[derive(Clone, Copy, Debug, PartialEq, Eq)]
+#[derive(Clone, Copy)]
 pub enum Start {
     /// The event of this process at this index, counted from 0.
     Place(Pid, u64),
@@ -13,7 +13,7 @@ pub enum Start {
 }
 
 /// Which way to go from the event.
-#[derive(Clone, Copy, Debug, PartialEq, Eq)]
+#[derive(Clone, Copy)]
 pub enum Direction {
     /// To what it follows, and so on.
     Back,
@@ -22,7 +22,7 @@ pub enum Direction {
 }
 
 /// How to write what is found.
-#[derive(Clone, Copy, Debug, PartialEq, Eq)]
+#[derive(Clone, Copy)]
 pub enum Style {
     /// A line for people.
     Text,
@@ -31,7 +31,7 @@ pub enum Style {
 }
 
 /// What `why` is asked.
-#[derive(Clone, Copy, Debug, PartialEq, Eq)]
+#[derive(Clone, Copy)]
 pub struct Question {
     /// The event.
     pub start: Start,

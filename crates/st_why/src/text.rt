@@ -1,12 +1,11 @@
-//! The line of an event for people: where it is, what it is and what it follows; and the last line,
-//! which says what that rests on.
+//! The line of an event for people: where it is, what it is and what it follows.
 
 ghost use Rattle.std.specs.Prelude.{◌≡◌, ◌++◌, Some};
 ghost use Rattle.st_text.specs.Room.{line_room, HasRoom};
 ghost use Rattle.st_text.specs.Spelling.{ended_line};
 ghost use Rattle.st_text.specs.Writing.{WritesOn};
 ghost use Rattle.st_pair.specs.Places.{event_at};
-ghost use Rattle.st_why.specs.Words.{head_words, hop_line, hop_words, premises_text};
+ghost use Rattle.st_why.specs.Words.{head_words, hop_line, hop_words};
 
 use crate::parts::{put_claim, put_depth, put_located, put_premises, put_what};
 use crate::question::Direction;
@@ -69,19 +68,5 @@ pub(crate) fn write_text<W: ByteSink>(
     put_head(buffer, numbers, direction, node, event);
     make_room(writer, buffer)?;
     put_sentence(buffer, numbers, pid, event.label, hop);
-    Ok(())
-}
-
-/// Writes what the lines rest on.
-pub(crate) fn write_premises<W: ByteSink>(writer: &mut W, buffer: &mut Buffer) -> Result<(), Device>
-    ensures { WritesOn W.puts W.failed (ended_line premises_text)
-        writer.old writer.new buffer.old.items buffer.new.items result }
-{
-    make_room(writer, buffer)?;
-    put_bytes(
-        buffer,
-        b"in a run without a reset; (1) if each receive of a token was reported; (2) if no process cleared its token and began again under the same label; on a standard node (2) wherever (1)",
-    );
-    put_bytes(buffer, b"\n");
     Ok(())
 }

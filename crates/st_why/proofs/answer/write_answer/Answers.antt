@@ -15,4 +15,4 @@ pub returns : goal.returns
 returns g c =
     let lines = flat_map (node_line c.args.trace.now c.args.question) c.args.nodes.now in
     then_on g.W.ByteSink.puts g.W.ByteSink.failed lines (last_line c.args.question.style) _ _ _
-    c.in_ok-write_nodes.ensures c.write_last.ensures
+    c.in_ok-write_nodes.ensures c.write_line.ensures
