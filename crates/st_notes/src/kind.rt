@@ -4,7 +4,7 @@
 use st_core::Pid;
 
 /// What a no is about.
-#[derive(Clone, Copy, Debug, PartialEq, Eq)]
+#[derive(Clone, Copy)]
 pub(crate) enum No<'a> {
     /// The event at this place, for the reason of this word, which may name a second event.
     Event((Pid, u64), &'a str, Option<(Pid, u64)>),

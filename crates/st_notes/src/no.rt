@@ -10,45 +10,95 @@ use st_say::TextWriter;
 use st_text::{Bundle, Device, Limits, read_within};
 use std::alloc::Global;
 
-/// What the word of a reason says of an event, in front of the second event's place and behind it.
-fn clause_of(word: &str) -> (&'static str, &'static str) {
-    match word {
-        "prevnotbefore" => ("its prev isn't below its this", ""),
-        "notrising" => (
-            "it counts no higher than ",
-            ", an earlier event of its process",
-        ),
-        "repeated" => ("an earlier receive, ", ", took the same message"),
-        "mismatch" => (
-            "the sender's event with its count, ",
-            ", is no send of this message",
-        ),
-        "uncaused" => (
-            "in the order of counts its prev is below its sender's clock, and isn't its sender's last count",
-            "",
-        ),
-        "toowide" => (
-            "more than 1,000 counts are missing before it, or more than 1,000,000 in all",
-            "",
-        ),
-        "notreplayed" => ("the acts that were tried don't report the trace", ""),
-        "late" => ("it counts no higher than ", ", a receive before it"),
-        "unfounded" => (
-            "its prev is 0, though its sender had received before, or counted less with another prev",
-            "",
-        ),
-        _ => ("it counts higher than a clock can", ""),
-    }
+/// What the word of a reason means.
+#[derive(Clone, Copy)]
+struct Meaning {
+    word: &'static str,
+    /// What it says of an event, in front of the second event's place and behind it.
+    front: &'static str,
+    back: &'static str,
+    /// What that says of the whole trace.
+    conclusion: &'static str,
 }
 
-/// What that says of the whole trace.
-fn conclusion_of(word: &str) -> &'static str {
-    match word {
-        "uncaused" | "toowide" | "notreplayed" =>
-            "; seqtool complete says whether a run reports it",
-        "prevnotbefore" => "; no run reports it",
-        _ => "; no run without a reset reports it",
+/// No run without a reset reports the trace.
+const NEVER: &str = "; no run without a reset reports it";
+
+const MAYBE: &str = "; seqtool complete says whether a run reports it";
+
+const MEANINGS: [Meaning; 9] = [
+    Meaning {
+        word: "prevnotbefore",
+        front: "its prev isn't below its this",
+        back: "",
+        conclusion: "; no run reports it",
+    },
+    Meaning {
+        word: "notrising",
+        front: "it counts no higher than ",
+        back: ", an earlier event of its process",
+        conclusion: NEVER,
+    },
+    Meaning {
+        word: "repeated",
+        front: "an earlier receive, ",
+        back: ", took the same message",
+        conclusion: NEVER,
+    },
+    Meaning {
+        word: "mismatch",
+        front: "the sender's event with its count, ",
+        back: ", is no send of this message",
+        conclusion: NEVER,
+    },
+    Meaning {
+        word: "uncaused",
+        front: "in the order of counts its prev is below its sender's clock, and isn't its sender's last count",
+        back: "",
+        conclusion: MAYBE,
+    },
+    Meaning {
+        word: "toowide",
+        front: "more than 1,000 counts are missing before it, or more than 1,000,000 in all",
+        back: "",
+        conclusion: MAYBE,
+    },
+    Meaning {
+        word: "notreplayed",
+        front: "the acts that were tried don't report the trace",
+        back: "",
+        conclusion: MAYBE,
+    },
+    Meaning {
+        word: "late",
+        front: "it counts no higher than ",
+        back: ", a receive before it",
+        conclusion: NEVER,
+    },
+    Meaning {
+        word: "unfounded",
+        front: "its prev is 0, though its sender had received before, or counted less with another prev",
+        back: "",
+        conclusion: NEVER,
+    },
+];
+
+/// That of the only other word.
+const TOO_HIGH: Meaning = Meaning {
+    word: "toohigh",
+    front: "it counts higher than a clock can",
+    back: "",
+    conclusion: NEVER,
+};
+
+/// What this word of a reason means.
+fn meaning_of(word: &str) -> Meaning {
+    for meaning in MEANINGS.iter() {
+        if meaning.word == word {
+            return *meaning;
+        }
     }
+    TOO_HIGH
 }
 
 /// The bundle that a no is about, with its lines.
@@ -74,6 +124,13 @@ impl<'a> Known<'a> {
     }
 }
 
+/// What a no is written to, and the bundle that it is about, if that is known.
+#[derive(Drop)]
+struct NoWriter<'a, N> {
+    out: TextWriter<'a, N>,
+    known: Option<Known<'a>>,
+}
+
 /// What is said of a completion that is too long.
 const LONG: &str =
     "it has a completion, but with more acts or processes than seqtool reads; if its counts begin high, complete what seqtool renumber writes";
@@ -86,142 +143,15 @@ const LONG_CHART: &str =
 const LONG_CLOCKS: &str =
     "the clocks of its events would have more than 100000000 counts; export a part (seqtool cut), or take --as perfetto";
 
-/// Writes a line of the text, in front of what is there.
-fn say_line<W: ByteSink>(out: &mut TextWriter<'_, W>, line: u64) -> Result<(), Device> {
-    out.say_part("line ", line)?;
-    out.say(", ")
-}
+/// What is said of an act that is refused.
+const NO_STEP: &str = "it has no step";
 
-/// Writes where an event is, with its line if that is known.
-fn say_event_place<W: ByteSink>(
-    out: &mut TextWriter<'_, W>,
-    known: Option<&Known<'_>>,
-    place: (Pid, u64),
-) -> Result<(), Device> {
-    if let Some((line, _)) = known.and_then(|known| known.event(place)) {
-        say_line(out, line)?;
-    }
-    out.say_place(place.0, place.1)
-}
+const OTHER_EVENT: &str = "it reports something else than the next event of its process";
 
-/// Writes an event, where it is, and the reason.
-fn say_unfit<W: ByteSink>(
-    out: &mut TextWriter<'_, W>,
-    known: Option<&Known<'_>>,
-    place: (Pid, u64),
-    word: &str,
-    other: Option<(Pid, u64)>,
-) -> Result<(), Device> {
-    say_event_place(out, known, place)?;
-    out.say(": ")?;
-    if let Some((_, event)) = known.and_then(|known| known.event(place)) {
-        out.say_event(&event)?;
-        out.say(": ")?;
-    }
-    let (front, back) = clause_of(word);
-    out.say(front)?;
-    if let Some(other) = other {
-        say_event_place(out, known, other)?;
-    }
-    out.say(back)?;
-    out.say(conclusion_of(word))
-}
+/// What is said of a line without an event, and of a label without one.
+const NO_EVENT_ON_LINE: &str = ": there is no event; seqtool list has the line of each";
 
-/// Writes an act, where it is, and what is said of it.
-fn say_refused<W: ByteSink>(
-    out: &mut TextWriter<'_, W>,
-    known: Option<&Known<'_>>,
-    number: u64,
-    words: &str,
-) -> Result<(), Device> {
-    let act = known.and_then(|known| known.act(number));
-    if let Some((line, _)) = act {
-        say_line(out, line)?;
-    }
-    out.say_part("act ", number)?;
-    out.say(": ")?;
-    if let Some((_, act)) = act {
-        out.say_act(&act)?;
-        out.say(": ")?;
-    }
-    out.say(words)?;
-    out.say("; see seqtool explain")
-}
-
-/// Writes that events of a process are left, with the line of the process.
-fn say_left<W: ByteSink>(
-    out: &mut TextWriter<'_, W>,
-    known: Option<&Known<'_>>,
-    pid: Pid,
-) -> Result<(), Device> {
-    if let Some((line, _)) = known.and_then(|known| known.event((pid, 0))) {
-        say_line(out, line.saturating_sub(1))?;
-    }
-    out.say("process ")?;
-    out.say_pid(pid)?;
-    out.say(": the acts end before all its events are reported; see seqtool explain")
-}
-
-/// Writes that a process has no such event, and which it has.
-fn say_no_event<W: ByteSink>(
-    out: &mut TextWriter<'_, W>,
-    known: Option<&Known<'_>>,
-    pid: Pid,
-    index: u64,
-) -> Result<(), Device> {
-    out.say_place(pid, index)?;
-    out.say(": there is no such event")?;
-    let Some(known) = known else {
-        return Ok(());
-    };
-    let count = known.bundle.streams.len(pid);
-    match known.event((pid, 0)) {
-        None => out.say(": this process has none"),
-        Some((first, _)) => {
-            out.say_part(": this process has ", count)?;
-            out.say_part(", from line ", first)?;
-            out.say(" on")
-        }
-    }
-}
-
-/// Writes that a line has no event.
-fn say_no_line<W: ByteSink>(out: &mut TextWriter<'_, W>, line: u64) -> Result<(), Device> {
-    out.say_part("line ", line)?;
-    out.say(": there is no event; seqtool list has the line of each")
-}
-
-/// Writes that no event has this label.
-fn say_no_label<W: ByteSink>(out: &mut TextWriter<'_, W>, label: u64) -> Result<(), Device> {
-    out.say_part("label ", label)?;
-    out.say(": no event has it; seqtool stats has the labels")
-}
-
-/// Writes what a no says.
-fn say_no<W: ByteSink>(
-    out: &mut TextWriter<'_, W>,
-    known: Option<&Known<'_>>,
-    no: No<'_>,
-) -> Result<(), Device> {
-    match no {
-        No::Event(place, word, other) => say_unfit(out, known, place, word, other),
-        No::Stuck(number) => say_refused(out, known, number, "it has no step"),
-        No::Differs(number) => say_refused(
-            out,
-            known,
-            number,
-            "it reports something else than the next event of its process",
-        ),
-        No::Left(pid) => say_left(out, known, pid),
-        No::NoEvent(pid, index) => say_no_event(out, known, pid, index),
-        No::NoLine(line) => say_no_line(out, line),
-        No::NoLabel(label) => say_no_label(out, label),
-        No::NoEvents => out.say("there is no event to be drawn"),
-        No::Long => out.say(LONG),
-        No::LongChart => out.say(LONG_CHART),
-        No::LongClocks => out.say(LONG_CLOCKS),
-    }
-}
+const NO_EVENT_OF_LABEL: &str = ": no event has it; seqtool stats has the labels";
 
 /// What stands before the name of the text and behind it. What is too long is no no.
 fn marks_of(no: No<'_>) -> (&'static str, &'static str) {
@@ -232,21 +162,130 @@ fn marks_of(no: No<'_>) -> (&'static str, &'static str) {
     }
 }
 
-/// Sends what a no says of the text of this name.
-fn send_no<N: ByteSink>(
-    name: &str,
-    known: Option<&Known<'_>>,
-    no: No<'_>,
-    notes: &mut N,
-) -> Result<(), Device> {
-    let mut out = TextWriter::new(notes);
-    let (front, mark) = marks_of(no);
-    out.say(front)?;
-    out.say(name)?;
-    out.say(mark)?;
-    say_no(&mut out, known, no)?;
-    out.say("\n")?;
-    out.flush()
+impl<'a, N: ByteSink> NoWriter<'a, N> {
+    /// The line of an event and the event, if they are known.
+    fn event(&self, place: (Pid, u64)) -> Option<(u64, Event)> {
+        self.known.as_ref()?.event(place)
+    }
+
+    /// The line of an act and the act, if they are known.
+    fn act(&self, number: u64) -> Option<(u64, Act)> {
+        self.known.as_ref()?.act(number)
+    }
+
+    /// Writes a line of the text, in front of what is there.
+    fn say_line(&mut self, line: u64) -> Result<(), Device> {
+        self.out.say_part("line ", line)?;
+        self.out.say(", ")
+    }
+
+    /// Writes where an event is, with its line if that is known.
+    fn say_event_place(&mut self, place: (Pid, u64)) -> Result<(), Device> {
+        if let Some((line, _)) = self.event(place) {
+            self.say_line(line)?;
+        }
+        self.out.say_place(place.0, place.1)
+    }
+
+    /// Writes an event, where it is, and the reason.
+    fn say_unfit(
+        &mut self,
+        place: (Pid, u64),
+        word: &str,
+        other: Option<(Pid, u64)>,
+    ) -> Result<(), Device> {
+        self.say_event_place(place)?;
+        self.out.say(": ")?;
+        if let Some((_, event)) = self.event(place) {
+            self.out.say_event(&event)?;
+            self.out.say(": ")?;
+        }
+        let meaning = meaning_of(word);
+        self.out.say(meaning.front)?;
+        if let Some(other) = other {
+            self.say_event_place(other)?;
+        }
+        self.out.say(meaning.back)?;
+        self.out.say(meaning.conclusion)
+    }
+
+    /// Writes an act, where it is, and what is said of it.
+    fn say_refused(&mut self, number: u64, words: &str) -> Result<(), Device> {
+        let act = self.act(number);
+        if let Some((line, _)) = act {
+            self.say_line(line)?;
+        }
+        self.out.say_part("act ", number)?;
+        self.out.say(": ")?;
+        if let Some((_, act)) = act {
+            self.out.say_act(&act)?;
+            self.out.say(": ")?;
+        }
+        self.out.say(words)?;
+        self.out.say("; see seqtool explain")
+    }
+
+    /// Writes that events of a process are left, with the line of the process.
+    fn say_left(&mut self, pid: Pid) -> Result<(), Device> {
+        if let Some((line, _)) = self.event((pid, 0)) {
+            self.say_line(line.saturating_sub(1))?;
+        }
+        self.out.say("process ")?;
+        self.out.say_pid(pid)?;
+        self.out.say(": the acts end before all its events are reported; see seqtool explain")
+    }
+
+    /// Writes that a process has no such event, and which it has.
+    fn say_no_event(&mut self, pid: Pid, index: u64) -> Result<(), Device> {
+        self.out.say_place(pid, index)?;
+        self.out.say(": there is no such event")?;
+        let Some(known) = &self.known else {
+            return Ok(());
+        };
+        let count = known.bundle.streams.len(pid);
+        match known.event((pid, 0)) {
+            None => self.out.say(": this process has none"),
+            Some((first, _)) => {
+                self.out.say_part(": this process has ", count)?;
+                self.out.say_part(", from line ", first)?;
+                self.out.say(" on")
+            }
+        }
+    }
+
+    /// Writes a number behind the word for what it is, and words.
+    fn say_missing(&mut self, what: &str, number: u64, words: &str) -> Result<(), Device> {
+        self.out.say_part(what, number)?;
+        self.out.say(words)
+    }
+
+    /// Writes what a no says.
+    fn say_no(&mut self, no: No<'_>) -> Result<(), Device> {
+        match no {
+            No::Event(place, word, other) => self.say_unfit(place, word, other),
+            No::Stuck(number) => self.say_refused(number, NO_STEP),
+            No::Differs(number) => self.say_refused(number, OTHER_EVENT),
+            No::Left(pid) => self.say_left(pid),
+            No::NoEvent(pid, index) => self.say_no_event(pid, index),
+            No::NoLine(line) => self.say_missing("line ", line, NO_EVENT_ON_LINE),
+            No::NoLabel(label) => self.say_missing("label ", label, NO_EVENT_OF_LABEL),
+            No::NoEvents => self.out.say("there is no event to be drawn"),
+            No::Long => self.out.say(LONG),
+            No::LongChart => self.out.say(LONG_CHART),
+            No::LongClocks => self.out.say(LONG_CLOCKS),
+        }
+    }
+
+    /// Writes what a no says of the text of this name, and all that waits.
+    fn send(&mut self, name: &str, no: No<'_>) -> Result<(), Device> {
+        let (front, mark) = marks_of(no);
+        self.out.say(front)?;
+        self.out.say(name)?;
+        self.out.say(mark)?;
+        self.say_no(no)?;
+        self.out.say("\n")?;
+        self.out.flush()
+    }
 }
 
 /// The bundle whose text this is, if there is memory for it.
@@ -267,7 +306,10 @@ pub fn tell_no<N: ByteSink>(
     let Some(no) = std::str::from_utf8(line).ok().and_then(no_of) else {
         return Ok(());
     };
-    let bundle = text.and_then(|text| bundle_of(alloc, text));
+    let bundle = match text {
+        None => None,
+        Some(text) => bundle_of(alloc, text),
+    };
     let known = match &bundle {
         None => None,
         Some(bundle) => match LineNumbers::new(alloc, &bundle.streams) {
@@ -275,5 +317,7 @@ pub fn tell_no<N: ByteSink>(
             Err(_) => None,
         },
     };
-    send_no(name, known.as_ref(), no, notes)
+    let out = TextWriter::new(notes);
+    let mut writer = NoWriter { out, known };
+    writer.send(name, no)
 }
