@@ -11,7 +11,7 @@ use crate::sends::overtaken;
 use crate::table::tell_tables;
 use crate::words::send_nothing;
 use st_audit::unfit_by;
-use st_commands::{status_of, tell_fault, tell_finding};
+use st_commands::{TOP, status_of, tell_fault, tell_finding};
 use st_complete::{Answer, CompleteFault, Completion, complete};
 use st_core::{ByteSink, ByteSource, Label, Streams};
 use st_order::{Item, order};
@@ -21,11 +21,8 @@ use st_tool::send_never;
 use std::alloc::{AllocError, Global};
 use std::thread::Threads;
 
-/// The greatest count that a clock of the program can have.
-const TOP: u64 = u64::MAX;
-
 /// How a drawing is written.
-#[derive(Clone, Copy, Debug, PartialEq, Eq)]
+#[derive(Clone, Copy)]
 pub enum Form {
     /// A table for each label, as `seqaudit chart` writes it.
     Table,
@@ -36,7 +33,7 @@ pub enum Form {
 }
 
 /// What is drawn, and how.
-#[derive(Clone, Copy, Debug, PartialEq, Eq)]
+#[derive(Clone, Copy)]
 pub struct Drawing {
     /// The label of the events; those of all labels if there is none.
     pub label: Option<Label>,

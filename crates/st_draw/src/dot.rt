@@ -4,13 +4,13 @@
 use crate::lanes::Lanes;
 use crate::scene::Scene;
 use crate::words::say_content;
-use st_core::{ByteSink, Event, Kind, Pid};
+use st_core::{ByteSink, Event, Pid};
 use st_list::Partner;
-use st_say::TextWriter;
+use st_say::{TextWriter, kind_word};
 use st_text::Device;
 
 /// A node of the graph, by the number of its process and the index of its event there.
-#[derive(Clone, Copy, Debug)]
+#[derive(Clone, Copy)]
 enum Node {
     /// The event.
     Event(u64, u64),
@@ -48,15 +48,6 @@ fn say_edge<W: ByteSink>(
     out.say(";\n")
 }
 
-/// The word for what an event is.
-fn kind_word(kind: Kind) -> &'static str {
-    match kind {
-        Kind::Send => "send ",
-        Kind::Receive => "receive ",
-        Kind::Print => "print ",
-    }
-}
-
 /// Writes the node of an event, and the edge from the event before, if there is one.
 fn say_event_node<W: ByteSink>(
     out: &mut TextWriter<'_, W>,
@@ -71,6 +62,7 @@ fn say_event_node<W: ByteSink>(
     say_node(out, node)?;
     out.say(" [label=\"")?;
     out.say(kind_word(event.kind))?;
+    out.say(" ")?;
     say_content(out, scene, event)?;
     let end = if scene.is_added(pid, index) {
         "\", style=dashed];\n"

@@ -14,10 +14,12 @@ pub(crate) struct Lanes<'a> {
     numbers: Vec<Option<u64>>,
 }
 
-/// Notes that the process at this place takes part.
-fn mark(marks: &mut Vec<bool>, place: Option<usize>) {
-    if let Some(mark) = place.and_then(|place| marks.get_mut(place)) {
-        *mark = true;
+/// Notes that a process takes part, if the streams list it.
+fn mark(marks: &mut Vec<bool>, scene: &Scene<'_>, pid: Pid) {
+    if let Some(place) = scene.streams.place_of(pid) {
+        if let Some(mark) = marks.get_mut(place) {
+            *mark = true;
+        }
     }
 }
 
@@ -25,8 +27,10 @@ fn mark(marks: &mut Vec<bool>, place: Option<usize>) {
 fn mark_ends(marks: &mut Vec<bool>, scene: &Scene<'_>, events: &[Event]) {
     for event in events {
         if scene.has(event) {
-            mark(marks, scene.streams.place_of(event.from));
-            mark(marks, event.to.and_then(|to| scene.streams.place_of(to)));
+            mark(marks, scene, event.from);
+            if let Some(to) = event.to {
+                mark(marks, scene, to);
+            }
         }
     }
 }
@@ -95,7 +99,9 @@ impl<'a> Lanes<'a> {
 
     /// The number of a process; 0 if it takes no part.
     pub(crate) fn number(&self, pid: Pid) -> u64 {
-        let place = self.streams.place_of(pid);
-        place.and_then(|place| self.at(place)).unwrap_or(0)
+        match self.streams.place_of(pid) {
+            Some(place) => self.at(place).unwrap_or(0),
+            None => 0,
+        }
     }
 }

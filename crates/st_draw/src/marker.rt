@@ -57,19 +57,22 @@ impl<'a, W: ByteSink> Marker<'a, W> {
     }
 }
 
+/// The result of a writer, for a caller that knows an error of the system alone.
+fn as_io(sent: Result<(), Device>) -> io::Result<()> {
+    match sent {
+        Ok(()) => Ok(()),
+        Err(Device) => Err(Error::new(ErrorKind::WriteZero, "the writer failed")),
+    }
+}
+
 impl<W: ByteSink> Write for Marker<'_, W> {
     fn write(&mut self, bytes: &[u8]) -> io::Result<usize> {
-        match self.pass(bytes) {
-            Ok(()) => Ok(bytes.len()),
-            Err(Device) => Err(Error::new(ErrorKind::WriteZero, "the writer failed")),
-        }
+        as_io(self.pass(bytes))?;
+        Ok(bytes.len())
     }
 
     fn flush(&mut self) -> io::Result<()> {
-        match self.out.flush() {
-            Ok(()) => Ok(()),
-            Err(Device) => Err(Error::new(ErrorKind::WriteZero, "the writer failed")),
-        }
+        as_io(self.out.flush())
     }
 }
 
@@ -120,8 +123,8 @@ fn lane_marks(
     Ok(marks)
 }
 
-/// Writes the chart of a label's items, with its marks.
-pub(crate) fn marked_chart<W: ByteSink>(
+/// Writes the table of a label's items, with what a completion adds marked.
+pub(crate) fn write_table<W: ByteSink>(
     alloc: Global,
     streams: &Streams,
     scene: &Scene<'_>,
@@ -132,6 +135,9 @@ pub(crate) fn marked_chart<W: ByteSink>(
 ) -> Result<(), ChartFault>
     requires { causes.now ≡ streams.now }
 {
+    if !scene.is_completed() {
+        return chart(alloc, writer, streams, causes, items, label);
+    }
     let Ok(marks) = marks_of(alloc, &scene.of_label(label), items) else {
         return Err(ChartFault::Memory);
     };

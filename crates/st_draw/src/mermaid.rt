@@ -89,7 +89,10 @@ impl<'a> Diagram<'a> {
         words: &str,
     ) -> Result<(), Device> {
         let from = self.lanes.number(event.from);
-        let to = event.to.map(|to| self.lanes.number(to)).unwrap_or(0);
+        let to = match event.to {
+            Some(to) => self.lanes.number(to),
+            None => 0,
+        };
         out.say_part("    P", from)?;
         out.say_part(arrow, to)?;
         out.say(": ")?;

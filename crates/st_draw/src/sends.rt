@@ -28,6 +28,15 @@ impl Pass {
         self.last.get(place).copied()?
     }
 
+    /// Notes the index of the last event of a process so far.
+    fn note(&mut self, scene: &Scene<'_>, pid: Pid, index: u64) {
+        if let Some(place) = scene.streams.place_of(pid) {
+            if let Some(last) = self.last.get_mut(place) {
+                *last = Some(index);
+            }
+        }
+    }
+
     /// Takes the next event.
     fn take(&mut self, scene: &Scene<'_>, pid: Pid, index: u64) -> Result<(), AllocError> {
         let Some(event) = scene.event(pid, index) else {
@@ -38,10 +47,7 @@ impl Pass {
                 self.found.insert((from, sent))?;
             }
         }
-        let place = scene.streams.place_of(pid);
-        if let Some(last) = place.and_then(|place| self.last.get_mut(place)) {
-            *last = Some(index);
-        }
+        self.note(scene, pid, index);
         Ok(())
     }
 }

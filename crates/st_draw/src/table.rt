@@ -4,12 +4,12 @@
 ghost use Rattle.std.specs.Prelude.{◌≡◌};
 ghost use Rattle.st_pair.specs.Links.{IsPairing};
 
-use crate::marker::marked_chart;
+use crate::marker::write_table;
 use crate::scene::Scene;
 use crate::size::{are_long_tables, is_long_table};
 use crate::words::send_long;
 use st_chain::Causes;
-use st_chart::{ChartFault, chart};
+use st_chart::ChartFault;
 use st_commands::status_of;
 use st_core::{ByteSink, Label, Sequence, Streams};
 use st_order::{Item, by_label};
@@ -20,24 +20,6 @@ use std::thread::Threads;
 
 /// The status of tables that would be too long.
 const LONG: u8 = 5;
-
-/// Writes the table of a label's items, with what a completion adds marked.
-fn write_table<W: ByteSink>(
-    alloc: Global,
-    streams: &Streams,
-    scene: &Scene<'_>,
-    causes: &Causes,
-    items: &[Item],
-    label: Label,
-    writer: &mut W,
-) -> Result<(), ChartFault>
-    requires { causes.now ≡ streams.now }
-{
-    if scene.is_completed() {
-        return marked_chart(alloc, streams, scene, causes, items, label, writer);
-    }
-    chart(alloc, writer, streams, causes, items, label)
-}
 
 /// Writes the table of each group of items, which have a label, with an empty line between.
 fn write_groups<W: ByteSink>(
