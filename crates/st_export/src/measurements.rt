@@ -10,7 +10,7 @@ use std::alloc::{AllocError, Global};
 const HEADER: &str = "seqaudit times 1";
 
 /// Why there are no times.
-#[derive(Clone, Copy, Debug, PartialEq, Eq)]
+#[derive(Clone, Copy)]
 pub enum TimesFault {
     /// It can't be read, or memory runs out.
     Read(ReadFault),
@@ -41,7 +41,7 @@ pub(crate) struct Measurements<'a> {
 }
 
 /// What a line says.
-#[derive(Clone, Copy, Debug)]
+#[derive(Clone, Copy)]
 enum Entry {
     /// When the first event happened.
     Begin(u64),

@@ -19,7 +19,7 @@ use st_text::{Device, Limits, ReadFault, read_within};
 use std::alloc::{AllocError, Global};
 
 /// Why spans weren't written.
-#[derive(Clone, Copy, Debug, PartialEq, Eq)]
+#[derive(Clone, Copy)]
 pub enum OtlpFault {
     /// The bundle can't be read, or memory runs out.
     Trace(ReadFault),
@@ -40,7 +40,7 @@ const HEAD: &str = "{\"resourceSpans\":[{\"resource\":{\"attributes\":[{\"key\":
 const TAIL: &str = "]}]}]}\n";
 
 /// What a span is named after.
-#[derive(Clone, Copy, Debug, PartialEq, Eq)]
+#[derive(Clone, Copy)]
 enum Origin {
     /// The send or print at this place.
     Event(Pid, u64),
@@ -49,7 +49,7 @@ enum Origin {
 }
 
 /// A span: an event that begins it, and the receive of its message if that was reported.
-#[derive(Clone, Copy, Debug)]
+#[derive(Clone, Copy)]
 struct Span {
     origin: Origin,
     event: Event,
@@ -88,61 +88,53 @@ fn say_name_of<W: ByteSink>(
     out.say("\"")
 }
 
-/// Writes an attribute, a text.
+/// What an attribute has.
+#[derive(Clone, Copy)]
+enum Value {
+    Pid(Pid),
+    /// A string, since a number may be greater than a reader keeps of one.
+    Number(u64),
+    Bool(bool),
+    /// A process and the index of an event there.
+    Place(Pid, u64),
+}
+
+/// Writes a value behind the name of its kind.
+fn say_value<W: ByteSink>(out: &mut TextWriter<'_, W>, value: Value) -> Result<(), Device> {
+    match value {
+        Value::Pid(pid) => {
+            out.say("\"stringValue\":")?;
+            out.say_pid_word(pid)
+        }
+        Value::Number(number) => {
+            out.say_part("\"stringValue\":\"", number)?;
+            out.say("\"")
+        }
+        Value::Bool(value) => {
+            out.say("\"boolValue\":")?;
+            out.say_bool(value)
+        }
+        Value::Place(pid, index) => {
+            out.say("\"stringValue\":\"")?;
+            out.say_place(pid, index)?;
+            out.say("\"")
+        }
+    }
+}
+
+/// Writes an attribute behind this mark.
 fn say_attribute<W: ByteSink>(
     out: &mut TextWriter<'_, W>,
+    mark: &str,
     key: &str,
-    is_first: bool,
+    value: Value,
 ) -> Result<(), Device> {
-    if !is_first {
-        out.say(",")?;
-    }
+    out.say(mark)?;
     out.say("{\"key\":")?;
     out.say_word(key)?;
-    out.say(",\"value\":{")
-}
-
-/// Writes the end of an attribute.
-fn end_attribute<W: ByteSink>(out: &mut TextWriter<'_, W>) -> Result<(), Device> {
+    out.say(",\"value\":{")?;
+    say_value(out, value)?;
     out.say("}}")
-}
-
-/// Writes an attribute, a pid.
-fn say_pid_attribute<W: ByteSink>(
-    out: &mut TextWriter<'_, W>,
-    key: &str,
-    pid: Pid,
-    is_first: bool,
-) -> Result<(), Device> {
-    say_attribute(out, key, is_first)?;
-    out.say("\"stringValue\":")?;
-    out.say_pid_word(pid)?;
-    end_attribute(out)
-}
-
-/// Writes an attribute, a number, as a string: it may be greater than a reader keeps of a number.
-fn say_number_attribute<W: ByteSink>(
-    out: &mut TextWriter<'_, W>,
-    key: &str,
-    number: u64,
-) -> Result<(), Device> {
-    say_attribute(out, key, false)?;
-    out.say_part("\"stringValue\":\"", number)?;
-    out.say("\"")?;
-    end_attribute(out)
-}
-
-/// Writes an attribute, a truth value.
-fn say_bool_attribute<W: ByteSink>(
-    out: &mut TextWriter<'_, W>,
-    key: &str,
-    value: bool,
-) -> Result<(), Device> {
-    say_attribute(out, key, false)?;
-    let text = if value { "true" } else { "false" };
-    out.say("\"boolValue\":")?;
-    out.say(text)?;
-    end_attribute(out)
 }
 
 /// Writes a field that has a time.
@@ -185,6 +177,12 @@ impl<'a> Spans<'a> {
         })
     }
 
+    /// When the message of a span was received, if that is known.
+    fn end(&self, span: &Span) -> Option<u64> {
+        let (pid, index) = span.receive?;
+        self.measurements.time(pid, index)
+    }
+
     /// When a span begins and ends, if one of its ends has a time. By the clocks of two nodes a receive
     /// may seem to come first.
     fn times(&self, span: &Span) -> Option<(u64, u64)> {
@@ -192,9 +190,7 @@ impl<'a> Spans<'a> {
             Origin::Event(pid, index) => self.measurements.time(pid, index),
             Origin::Hidden(..) => None,
         };
-        let got = span
-            .receive
-            .and_then(|(pid, index)| self.measurements.time(pid, index));
+        let got = self.end(span);
         let begin = sent.or(got)?;
         Some((begin, got.unwrap_or(begin).max(begin)))
     }
@@ -293,26 +289,27 @@ impl<'a> Spans<'a> {
         span: &Span,
     ) -> Result<(), Device> {
         let event = &span.event;
-        let (is_sent, place) = match span.origin {
+        let (is_sent, (pid, index)) = match span.origin {
             Origin::Event(pid, index) => (true, (pid, index)),
             Origin::Hidden(pid, index) => (false, (pid, index)),
         };
         out.say_name("attributes")?;
-        out.say("[")?;
-        say_pid_attribute(out, "erlang.from", event.from, true)?;
+        say_attribute(out, "[", "erlang.from", Value::Pid(event.from))?;
         if let Some(to) = event.to {
-            say_pid_attribute(out, "erlang.to", to, false)?;
-            say_bool_attribute(out, "seqaudit.send_reported", is_sent)?;
             let is_received = span.receive.is_some();
-            say_bool_attribute(out, "seqaudit.receive_reported", is_received)?;
+            say_attribute(out, ",", "erlang.to", Value::Pid(to))?;
+            say_attribute(out, ",", "seqaudit.send_reported", Value::Bool(is_sent))?;
+            say_attribute(
+                out,
+                ",",
+                "seqaudit.receive_reported",
+                Value::Bool(is_received),
+            )?;
         }
-        say_number_attribute(out, "erlang.message", event.value)?;
-        say_number_attribute(out, "erlang.label", u64::from(event.label.0))?;
-        say_attribute(out, "seqaudit.event", false)?;
-        out.say("\"stringValue\":\"")?;
-        out.say_place(place.0, place.1)?;
-        out.say("\"")?;
-        end_attribute(out)?;
+        say_attribute(out, ",", "erlang.message", Value::Number(event.value))?;
+        let label = u64::from(event.label.0);
+        say_attribute(out, ",", "erlang.label", Value::Number(label))?;
+        say_attribute(out, ",", "seqaudit.event", Value::Place(pid, index))?;
         out.say("]")
     }
 

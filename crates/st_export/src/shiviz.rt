@@ -15,7 +15,7 @@ use std::alloc::{AllocError, Global};
 const LONG: u8 = 5;
 
 /// Why a log breaks off.
-#[derive(Clone, Copy, Debug)]
+#[derive(Clone, Copy)]
 enum Broken {
     Memory,
     Device,

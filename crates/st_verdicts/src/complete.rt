@@ -1,9 +1,7 @@
 //! What `complete` finds out, as JSON.
 
-use crate::audit::say_event_field;
-use crate::check::TOP;
-use crate::json::say_placed;
-use st_commands::{status_of, tell_fault};
+use crate::json::{say_placed, say_refused_event};
+use st_commands::{TOP, status_of, tell_fault};
 use st_complete::{Answer, CompleteFault, Completion, Never, complete};
 use st_core::{ByteSink, ByteSource, Pid, Streams};
 use st_say::TextWriter;
@@ -88,12 +86,9 @@ fn say_never<W: ByteSink>(
     index: u64,
     never: Never,
 ) -> Result<(), Device> {
-    out.say_first("result", "never")?;
-    out.say_word_field("reason", never_word(never))?;
-    say_event_field(out, "event", streams, pid, index)?;
-    if let Some((other, at)) = other_place(pid, never) {
-        say_event_field(out, "other", streams, other, at)?;
-    }
+    let words = ("never", never_word(never));
+    let other = other_place(pid, never);
+    say_refused_event(out, streams, words, (pid, index), other)?;
     out.say("}\n")
 }
 

@@ -1,9 +1,9 @@
 //! The finding of `audit` as JSON.
 
-use crate::check::{TOP, say_pairs, say_verdict};
-use crate::json::say_placed;
+use crate::check::{say_pairs, say_verdict};
+use crate::json::say_refused_event;
 use st_audit::{AuditFault, Finding, Reason, audit};
-use st_commands::{status_of, tell_fault};
+use st_commands::{TOP, status_of, tell_fault};
 use st_core::{Act, ByteSink, ByteSource, Pid, Streams};
 use st_say::TextWriter;
 use st_text::{Device, Limits, ReadFault, read_within};
@@ -46,18 +46,6 @@ fn say_acts<W: ByteSink>(out: &mut TextWriter<'_, W>, acts: &[Act]) -> Result<()
     Ok(())
 }
 
-/// Writes a field with the event at a place.
-pub(crate) fn say_event_field<W: ByteSink>(
-    out: &mut TextWriter<'_, W>,
-    name: &str,
-    streams: &Streams,
-    pid: Pid,
-    index: u64,
-) -> Result<(), Device> {
-    out.say_name(name)?;
-    say_placed(out, pid, index, streams.event(pid, index))
-}
-
 /// Writes a reason against the event at this place.
 fn say_unfit<W: ByteSink>(
     out: &mut TextWriter<'_, W>,
@@ -66,12 +54,9 @@ fn say_unfit<W: ByteSink>(
     index: u64,
     reason: &Reason,
 ) -> Result<(), Device> {
-    out.say_first("result", "unfit")?;
-    out.say_word_field("reason", reason_word(reason))?;
-    say_event_field(out, "event", streams, pid, index)?;
-    if let Some((other, at)) = other_place(pid, reason) {
-        say_event_field(out, "other", streams, other, at)?;
-    }
+    let words = ("unfit", reason_word(reason));
+    let other = other_place(pid, reason);
+    say_refused_event(out, streams, words, (pid, index), other)?;
     let Reason::NotReplayed(acts, verdict) = reason else {
         return out.say("}\n");
     };

@@ -15,7 +15,7 @@ const FAULTY: u8 = 2;
 const NO: u8 = 1;
 
 /// A mistake, by its line and column, and what could be there.
-#[derive(Clone, Copy, Debug)]
+#[derive(Clone, Copy)]
 struct Mistake<'a> {
     line: u64,
     column: u64,
@@ -139,7 +139,7 @@ fn send_facts<W: ByteSink>(writer: &mut W, said: &str) -> Result<(), Device> {
 }
 
 /// How many mistakes a text has, and how many of them `--fix` mends.
-#[derive(Clone, Copy, Debug)]
+#[derive(Clone, Copy)]
 struct Counts {
     mistakes: u64,
     by_fix: u64,

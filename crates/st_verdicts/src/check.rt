@@ -1,14 +1,11 @@
 //! The verdict of `check` as JSON.
 
 use st_check::{CheckFault, Verdict, check};
-use st_commands::{status_of, tell_fault};
+use st_commands::{TOP, status_of, tell_fault};
 use st_core::{ByteSink, ByteSource};
 use st_say::{TextWriter, send_words};
 use st_text::{Bundle, Device, Limits, ReadFault, read_within};
 use std::alloc::Global;
-
-/// The greatest count that a clock of the program can have.
-pub(crate) const TOP: u64 = u64::MAX;
 
 /// Writes an object for each pair of a receive's act and its send's.
 pub(crate) fn say_pairs<W: ByteSink>(
@@ -23,6 +20,17 @@ pub(crate) fn say_pairs<W: ByteSink>(
     Ok(())
 }
 
+/// Writes the object of a verdict about an act, for the reason of this word, but for its end.
+fn say_refused_act<W: ByteSink>(
+    out: &mut TextWriter<'_, W>,
+    reason: &str,
+    act: u64,
+) -> Result<(), Device> {
+    out.say_first("result", "no")?;
+    out.say_word_field("reason", reason)?;
+    out.say_field("act", act)
+}
+
 /// Writes the object of a verdict.
 pub(crate) fn say_verdict<W: ByteSink>(
     out: &mut TextWriter<'_, W>,
@@ -33,16 +41,8 @@ pub(crate) fn say_verdict<W: ByteSink>(
             out.say_first("result", "yes")?;
             out.say_field("pairs", pairs.len() as u64)?;
         }
-        Verdict::Stuck(act) => {
-            out.say_first("result", "no")?;
-            out.say_word_field("reason", "stuck")?;
-            out.say_field("act", *act)?;
-        }
-        Verdict::Differs(act) => {
-            out.say_first("result", "no")?;
-            out.say_word_field("reason", "differs")?;
-            out.say_field("act", *act)?;
-        }
+        Verdict::Stuck(act) => say_refused_act(out, "stuck", *act)?,
+        Verdict::Differs(act) => say_refused_act(out, "differs", *act)?,
         Verdict::Left(pid) => {
             out.say_first("result", "no")?;
             out.say_word_field("reason", "left")?;
