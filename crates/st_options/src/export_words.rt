@@ -64,7 +64,7 @@ pub(crate) fn complete_of(found: &ArgMatches, form: st_tool::Form) -> Result<Tas
     if !found.get_flag("json") {
         return Ok(Task::Complete(form));
     }
-    if form != st_tool::Form::Added {
+    if !matches!(form, st_tool::Form::Added) {
         return Err(JSON_WORDS);
     }
     Ok(Task::CompleteJson)

@@ -18,7 +18,7 @@ use std::alloc::{AllocError, Global};
 use std::convert::AsStr;
 
 /// Where a text comes from.
-#[derive(Clone, Copy, Debug, PartialEq, Eq)]
+#[derive(Clone, Copy)]
 pub enum Input<'a> {
     /// From standard input.
     Standard,
@@ -27,7 +27,7 @@ pub enum Input<'a> {
 }
 
 /// What the words ask for.
-#[derive(Debug, Drop)]
+#[derive(Drop)]
 pub struct Request<'a> {
     /// What is to be done.
     pub wanted: Wanted<'a>,
@@ -38,7 +38,7 @@ pub struct Request<'a> {
 }
 
 /// What is to be done, and with which inputs.
-#[derive(Debug, Drop)]
+#[derive(Drop)]
 pub enum Wanted<'a> {
     /// A command on one input after the other, in the order of the words: at least one.
     Each(Task, Vec<Input<'a>>),
@@ -49,16 +49,9 @@ pub enum Wanted<'a> {
 /// The form of this name.
 fn form_of(name: Option<&str>) -> Form {
     match name {
-        Some(name) => {
-            if name == "acts" {
-                return Form::Acts;
-            }
-            if name == "streams" {
-                return Form::Streams;
-            }
-            Form::Added
-        }
-        None => Form::Added,
+        Some("acts") => Form::Acts,
+        Some("streams") => Form::Streams,
+        _ => Form::Added,
     }
 }
 
@@ -221,10 +214,10 @@ pub(crate) fn both<'a>(
     first: Input<'a>,
     second: Input<'a>,
 ) -> Result<Wanted<'a>, &'static str> {
-    if first == Input::Standard && second == Input::Standard {
-        return Err(PAIR_WORDS);
+    match (first, second) {
+        (Input::Standard, Input::Standard) => Err(PAIR_WORDS),
+        _ => Ok(Wanted::Two(task, first, second)),
     }
-    Ok(Wanted::Two(task, first, second))
 }
 
 /// What `diff` is asked, by what `clap` found in its words.
@@ -274,7 +267,7 @@ fn each_of<'a>(
     paths: Option<&[&'a str]>,
 ) -> Result<Result<Wanted<'a>, &'static str>, AllocError> {
     let inputs = inputs_of(alloc, paths)?;
-    if task == Task::Fix && inputs.len() > 1 {
+    if matches!(task, Task::Fix) && inputs.len() > 1 {
         return Ok(Err(FIX_WORDS));
     }
     Ok(Ok(Wanted::Each(task, inputs)))

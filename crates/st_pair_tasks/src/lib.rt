@@ -14,7 +14,7 @@ use st_text::ReadFault;
 const FAULTY: u8 = 2;
 
 /// A command of the program on two inputs.
-#[derive(Clone, Copy, Debug, PartialEq, Eq)]
+#[derive(Clone, Copy)]
 pub enum PairTask {
     /// `diff`: what is new, gone or elsewhere in the second trace?
     Diff(Style),
@@ -23,7 +23,7 @@ pub enum PairTask {
 }
 
 /// How a task on two inputs ended.
-#[derive(Clone, Copy, Debug, PartialEq, Eq)]
+#[derive(Clone, Copy)]
 pub struct Ended {
     /// The exit status.
     pub status: u8,

@@ -9,10 +9,11 @@ use st_core::{ByteSink, ByteSource};
 use st_draw::run_draw;
 use st_event_commands::{run_cut, run_list, run_stats};
 use st_explain::run_explain;
-use st_export::{run_audit_json, run_check_json, run_complete_json, run_export, run_lint_json};
+use st_export::run_export;
 use st_lint::{run_fix, run_lint};
 use st_text::Limits;
 use st_tool::{run_complete, run_renumber};
+use st_verdicts::{run_audit_json, run_check_json, run_complete_json, run_lint_json};
 use st_why::run_why;
 use std::thread::Threads;
 

@@ -11,7 +11,7 @@ use st_tool::Form;
 use st_why::Question;
 
 /// A command of the program.
-#[derive(Clone, Copy, Debug, PartialEq, Eq)]
+#[derive(Clone, Copy)]
 pub enum Task {
     /// `complete`: what do the streams lack?
     Complete(Form),

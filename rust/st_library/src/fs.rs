@@ -2,7 +2,7 @@
 
 use crate::io;
 use crate::rt::Files;
-use std::fs::File;
+pub use std::fs::File;
 
 /// Opens a file to read it. As theirs.
 pub fn open<R: Files>(_: &R, path: &str) -> io::Result<File> {

@@ -1,14 +1,13 @@
 //! A command on one input after the other.
 
-use crate::screen::{FAILED, Screen, finish, name_of, tell_closed, tell_end, tell_no_memory};
+use crate::input::{OpenInput, open};
+use crate::screen::{FAILED, Screen, finish, name_of, tell_end, tell_no_memory};
 use st_console::{Inlet, Outlet};
 use st_core::{ReadFrom, WriteTo};
 use st_options::Input;
 use st_tasks::{Task, run};
-use st_terminal::{Cleared, Lines, Watched, heading_of};
+use st_terminal::{Watched, heading_of};
 use std::alloc::AllocError;
-use std::fs;
-use std::io::Read;
 use std::thread::Threads;
 
 /// How one input ended.
@@ -28,35 +27,21 @@ const UNREAD: Served = Served {
     is_closed: false,
 };
 
-/// Does the task on this reader, and says on standard error what was at fault, or what a no is
-/// about. The name is that of the input.
-fn serve<H: AllocGlobal + Threads + Sync, R: Read + Drop>(
+/// Does the task on the input of this name, below this heading, and says on standard error what was
+/// at fault, or what a no is about.
+fn serve_open_input<H: AllocGlobal + Threads + Sync>(
     screen: &Screen<'_, H>,
     task: Task,
     name: &str,
-    reader: R,
+    reader: OpenInput,
     heading: Vec<u8>,
 ) -> Served {
     let rt = screen.rt;
     let progress = &screen.progress;
     progress.begin();
     let mut inlet = Inlet::new(rt.alloc(), Watched { reader, progress });
-    let mut outlet = Outlet::new(Lines::new(
-        Cleared {
-            writer: rt.stdout(),
-            progress,
-        },
-        heading,
-        screen.is_quiet,
-    ));
-    let mut notes = WriteTo::new(Lines::new(
-        Cleared {
-            writer: rt.stderr(),
-            progress,
-        },
-        Vec::new(rt.alloc()),
-        screen.is_quiet,
-    ));
+    let mut outlet = Outlet::new(screen.lines(rt.stdout(), heading));
+    let mut notes = WriteTo::new(screen.lines(rt.stderr(), Vec::new(rt.alloc())));
     let status = run(
         screen.threads,
         task,
@@ -71,26 +56,6 @@ fn serve<H: AllocGlobal + Threads + Sync, R: Read + Drop>(
         status,
         has_written: outlet.fault().is_none() && !outlet.first_line().is_empty(),
         is_closed: outlet.reason().is_some(),
-    }
-}
-
-/// Does the task on this input.
-fn serve_input<H: AllocGlobal + Threads + Sync>(
-    screen: &Screen<'_, H>,
-    task: Task,
-    input: Input<'_>,
-    heading: Vec<u8>,
-) -> Served {
-    let name = name_of(input);
-    match input {
-        Input::Standard => serve(screen, task, name, screen.rt.stdin(), heading),
-        Input::File(path) => match fs::open(screen.rt, path) {
-            Ok(file) => serve(screen, task, name, file, heading),
-            Err(reason) => {
-                tell_closed(screen, path, &reason);
-                UNREAD
-            }
-        },
     }
 }
 
@@ -122,7 +87,10 @@ pub(crate) fn serve_each<H: AllocGlobal + Threads + Sync>(
         let Ok(heading) = heading_for(screen, inputs, *input, has_written) else {
             return tell_no_memory(screen.rt);
         };
-        let served = serve_input(screen, task, *input, heading);
+        let served = match open(screen, *input) {
+            Some(opened) => serve_open_input(screen, task, name_of(*input), opened, heading),
+            None => UNREAD,
+        };
         status = status.max(served.status);
         has_written = has_written || served.has_written;
         if served.is_closed {

@@ -6,7 +6,7 @@ use st_console::{Inlet, Outlet};
 use st_core::WriteTo;
 use st_notes::{tell_no, tell_trouble, tell_unopened, tell_unwritten};
 use st_options::{Input, Request};
-use st_terminal::{Painter, Progress};
+use st_terminal::{Cleared, Lines, Painter, Progress};
 use std::io;
 use std::io::{IsTerminal, Read, Write};
 use std::thread::Threads;
@@ -52,6 +52,18 @@ impl<'a, H: Threads> Screen<'a, H> {
     }
 }
 
+impl<H> Screen<'_, H> {
+    /// A writer of whole lines to this one, below this heading.
+    pub(crate) fn lines<W: Write>(
+        &self,
+        writer: W,
+        heading: Vec<u8>,
+    ) -> Lines<Cleared<'_, W, HostRuntime>> {
+        let progress = &self.progress;
+        Lines::new(Cleared { writer, progress }, heading, self.is_quiet)
+    }
+}
+
 /// What standard error calls an input.
 pub(crate) fn name_of<'a>(input: Input<'a>) -> &'a str {
     match input {
@@ -61,7 +73,7 @@ pub(crate) fn name_of<'a>(input: Input<'a>) -> &'a str {
 }
 
 /// Says that the file of this path can't be opened, and why.
-pub(crate) fn tell_closed<H>(screen: &Screen<'_, H>, path: &str, reason: &io::Error) {
+pub(crate) fn tell_unopenable<H>(screen: &Screen<'_, H>, path: &str, reason: &io::Error) {
     screen.painter.red();
     tell_unopened(screen.rt, path, reason);
     screen.painter.plain();

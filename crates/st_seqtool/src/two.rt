@@ -1,15 +1,14 @@
 //! A command on two inputs.
 
-use crate::screen::{FAILED, NO, Screen, finish, name_of, tell_closed, tell_end};
+use crate::input::{OpenInput, open};
+use crate::screen::{FAILED, NO, Screen, finish, name_of, tell_end};
 use st_console::{Inlet, Outlet};
 use st_core::{ReadFrom, WriteTo};
 use st_diff::Input as Which;
 use st_export::TimesFault;
 use st_options::Input;
 use st_pair_tasks::{PairTask, run_pair};
-use st_terminal::{Cleared, Lines, Watched};
-use std::fs;
-use std::io::Read;
+use st_terminal::Watched;
 
 /// Says what is wrong with the times of this name.
 fn tell_times<H>(screen: &Screen<'_, H>, name: &str, fault: TimesFault) {
@@ -32,14 +31,14 @@ fn tell_times<H>(screen: &Screen<'_, H>, name: &str, fault: TimesFault) {
     screen.painter.plain();
 }
 
-/// Does the task on these readers, and says on standard error what was at fault, or what a no is
-/// about. The names are those of the inputs.
-fn serve_both<H: AllocGlobal, R: Read + Drop, S: Read + Drop>(
+/// Does the task on the inputs of these names, and says on standard error what was at fault, or what
+/// a no is about.
+fn serve_open_input<H: AllocGlobal>(
     screen: &Screen<'_, H>,
     task: PairTask,
     names: (&str, &str),
-    first: R,
-    second: S,
+    first: OpenInput,
+    second: OpenInput,
 ) -> u8 {
     let rt = screen.rt;
     let progress = &screen.progress;
@@ -48,14 +47,7 @@ fn serve_both<H: AllocGlobal, R: Read + Drop, S: Read + Drop>(
     let mut first = Inlet::new(rt.alloc(), Watched { reader, progress });
     let reader = second;
     let mut second = Inlet::new(rt.alloc(), Watched { reader, progress });
-    let mut outlet = Outlet::new(Lines::new(
-        Cleared {
-            writer: rt.stdout(),
-            progress,
-        },
-        Vec::new(rt.alloc()),
-        screen.is_quiet,
-    ));
+    let mut outlet = Outlet::new(screen.lines(rt.stdout(), Vec::new(rt.alloc())));
     let ended = run_pair(
         rt,
         task,
@@ -68,7 +60,7 @@ fn serve_both<H: AllocGlobal, R: Read + Drop, S: Read + Drop>(
     if let Some(fault) = ended.times {
         tell_times(screen, names.1, fault);
     }
-    if status == NO || ended.input == Which::First {
+    if status == NO || matches!(ended.input, Which::First) {
         tell_end(screen, names.0, status, &first, &outlet);
     } else {
         tell_end(screen, names.1, status, &second, &outlet);
@@ -76,43 +68,19 @@ fn serve_both<H: AllocGlobal, R: Read + Drop, S: Read + Drop>(
     status
 }
 
-/// The same, with the second input still to be opened.
-fn serve_second<H: AllocGlobal, R: Read + Drop>(
-    screen: &Screen<'_, H>,
-    task: PairTask,
-    name: &str,
-    first: R,
-    second: Input<'_>,
-) -> u8 {
-    let names = (name, name_of(second));
-    match second {
-        Input::Standard => serve_both(screen, task, names, first, screen.rt.stdin()),
-        Input::File(path) => match fs::open(screen.rt, path) {
-            Ok(file) => serve_both(screen, task, names, first, file),
-            Err(reason) => {
-                tell_closed(screen, path, &reason);
-                FAILED
-            }
-        },
-    }
-}
-
-/// Does the task on these inputs.
+/// Does the task on these inputs. The second is opened once the first is.
 pub(crate) fn serve_two<H: AllocGlobal>(
     screen: &Screen<'_, H>,
     task: PairTask,
     first: Input<'_>,
     second: Input<'_>,
 ) -> u8 {
-    let name = name_of(first);
-    match first {
-        Input::Standard => serve_second(screen, task, name, screen.rt.stdin(), second),
-        Input::File(path) => match fs::open(screen.rt, path) {
-            Ok(file) => serve_second(screen, task, name, file, second),
-            Err(reason) => {
-                tell_closed(screen, path, &reason);
-                FAILED
-            }
-        },
-    }
+    let names = (name_of(first), name_of(second));
+    let Some(first) = open(screen, first) else {
+        return FAILED;
+    };
+    let Some(second) = open(screen, second) else {
+        return FAILED;
+    };
+    serve_open_input(screen, task, names, first, second)
 }
