@@ -23,7 +23,8 @@ pub(crate) const JSON: &str = "A JSON object a line, for programs (docs/FORMATS.
 
 pub(crate) const QUIET: &str = "Write no result and no note of a no: the status tells";
 
-pub(crate) const COMPLETE: &str = "Adds unreported events until none is missing, or says why not";
+pub(crate) const COMPLETE: &str =
+    "Adds unreported events until each event has what it follows, or says why not";
 
 pub(crate) const COMPLETE_EXAMPLE: &str = "Example:
   seqtool complete trace.txt

@@ -3,7 +3,7 @@
 use crate::help;
 
 /// What follows an option.
-#[derive(Clone, Copy, Debug, PartialEq, Eq)]
+#[derive(Clone, Copy)]
 pub(crate) enum Takes {
     /// Nothing: the option is there or not.
     Nothing,
@@ -25,7 +25,7 @@ pub(crate) enum Takes {
 
 /// An option of a command; or, if it has neither a long nor a short form, a word that the command
 /// takes.
-#[derive(Clone, Copy, Debug)]
+#[derive(Clone, Copy)]
 pub(crate) struct OptionRow {
     /// What the matches and the help call it.
     pub(crate) name: &'static str,
@@ -36,7 +36,7 @@ pub(crate) struct OptionRow {
 }
 
 /// A command.
-#[derive(Clone, Copy, Debug)]
+#[derive(Clone, Copy)]
 pub(crate) struct CommandRow {
     pub(crate) name: &'static str,
     /// The program's name and the command's, as a message about its words begins.

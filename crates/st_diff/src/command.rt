@@ -12,14 +12,14 @@ use st_text::{Device, Limits, ReadFault, read_within};
 use std::alloc::{AllocError, Global};
 
 /// Which of two inputs.
-#[derive(Clone, Copy, Debug, PartialEq, Eq)]
+#[derive(Clone, Copy)]
 pub enum Input {
     First,
     Second,
 }
 
 /// Why two traces weren't compared.
-#[derive(Clone, Copy, Debug, PartialEq, Eq)]
+#[derive(Clone, Copy)]
 pub struct DiffFault {
     /// The input that was read last.
     pub input: Input,

@@ -60,7 +60,7 @@ fn first_moved(
 }
 
 /// An event of two matched processes whose counts have other ranks.
-#[derive(Clone, Copy, Debug)]
+#[derive(Clone, Copy)]
 pub(crate) struct Moved {
     pub(crate) pair: Pair,
     pub(crate) index: usize,
@@ -77,7 +77,11 @@ pub(crate) fn find_moved(
     let mut found: Option<Moved> = None;
     for pair in pairs.all() {
         if let Some(index) = first_moved((first, &one), (second, &other), *pair) {
-            if found.is_none_or(|moved| pair.first < moved.pair.first) {
+            let is_first = match found {
+                None => true,
+                Some(moved) => pair.first < moved.pair.first,
+            };
+            if is_first {
                 found = Some(Moved { pair: *pair, index });
             }
         }

@@ -12,7 +12,7 @@ use std::hash::{DefaultHasher, Hasher};
 pub(crate) const HOPS: usize = 4;
 
 /// What two processes have in common.
-#[derive(Clone, Copy, Debug, PartialEq, Eq)]
+#[derive(Clone, Copy)]
 pub(crate) enum Aspect {
     /// The kinds and labels of all events.
     Kinds,
@@ -38,14 +38,18 @@ fn take_event(hasher: &mut DefaultHasher, event: &Event) {
     hasher.write_u64(event.value);
 }
 
+/// The key of the process at the other end of an event, if it is known.
+fn key_of_peer(trace: &Trace<'_>, event: &Event, known: &[u64]) -> Option<u64> {
+    known.get(trace.peer(event)?).copied()
+}
+
 /// The key of all events of a process but for pids and counts; with the keys of the processes at
 /// their other ends, as far as these are known.
 fn key_of_events(trace: &Trace<'_>, place: usize, known: &[u64]) -> u64 {
     let mut hasher = DefaultHasher::new();
     for event in trace.events(place) {
         take_event(&mut hasher, event);
-        let peer = trace.peer(event).and_then(|peer| known.get(peer));
-        hasher.write_u64(peer.copied().unwrap_or(0));
+        hasher.write_u64(key_of_peer(trace, event, known).unwrap_or(0));
     }
     hasher.finish()
 }
@@ -86,7 +90,7 @@ fn key_by(events: &[Event], aspect: Aspect) -> u64 {
     for event in events.iter().take(count) {
         hasher.write_u8(kind_number(event.kind));
         hasher.write_u32(event.label.0);
-        if aspect == Aspect::First {
+        if matches!(aspect, Aspect::First) {
             hasher.write_u64(event.value);
         }
     }

@@ -152,12 +152,7 @@ impl<'a> Search<'a> {
     fn follow_pair(&mut self, first: usize, second: usize) -> Result<(), AllocError> {
         let one = bare_items(self.alloc, self.first, first)?;
         let other = bare_items(self.alloc, self.second, second)?;
-        let alignment = align(
-            self.alloc,
-            one.as_slice(),
-            other.as_slice(),
-            &mut self.budget,
-        )?;
+        let alignment = align(self.alloc, &one, &other, &mut self.budget)?;
         for run in alignment.runs.iter() {
             self.follow_run(first, second, *run)?;
         }

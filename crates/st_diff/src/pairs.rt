@@ -4,7 +4,7 @@ use crate::items::{Part, Which};
 use std::alloc::{AllocError, Global};
 
 /// Why two processes are taken for the same.
-#[derive(Clone, Copy, Debug, PartialEq, Eq)]
+#[derive(Clone, Copy)]
 pub(crate) enum Ground {
     /// All their events are alike, and those of no other process are.
     Events,
@@ -25,12 +25,12 @@ pub(crate) enum Ground {
 impl Ground {
     /// Whether two processes of different parts may well be taken for the same on this ground.
     pub(crate) fn is_guess(self) -> bool {
-        self != Ground::Events
+        !matches!(self, Ground::Events)
     }
 }
 
 /// A process of each trace, by their places.
-#[derive(Clone, Copy, Debug, PartialEq, Eq)]
+#[derive(Clone, Copy)]
 pub(crate) struct Pair {
     pub(crate) first: usize,
     pub(crate) second: usize,

@@ -11,6 +11,7 @@ use crate::words::{
 };
 use st_core::ByteSink;
 use st_events::Style;
+use st_list::Row;
 use st_say::TextWriter;
 use st_text::Device;
 
@@ -98,6 +99,12 @@ impl<'a> Report<'a> {
         })
     }
 
+    /// The event of the second trace that is the same as that of a change of the first.
+    fn now(&self, change: &Change) -> Option<Row> {
+        let other = self.changes.second.get(change.elsewhere?)?;
+        self.second.row(other.process, other.index)
+    }
+
     /// Writes a change of the first trace.
     fn say_first<W: ByteSink>(
         &self,
@@ -107,8 +114,7 @@ impl<'a> Report<'a> {
         let Some(row) = self.first.row(change.process, change.index) else {
             return Ok(());
         };
-        let other = change.elsewhere.and_then(|at| self.changes.second.get(at));
-        match other.and_then(|other| self.second.row(other.process, other.index)) {
+        match self.now(change) {
             Some(now) => say_change(out, "elsewhere", &row, Some(&now), self.style),
             None => say_change(out, "gone", &row, None, self.style),
         }
@@ -154,7 +160,7 @@ impl<'a> Report<'a> {
 
     /// Writes what differs in two processes that are matched.
     fn say_pair<W: ByteSink>(&self, out: &mut TextWriter<'_, W>, pair: Pair) -> Result<(), Device> {
-        if self.style == Style::Text && self.has_changes(pair) {
+        if matches!(self.style, Style::Text) && self.has_changes(pair) {
             if let Some(found) = self.found(pair) {
                 say_match(out, &found)?;
             }
@@ -193,14 +199,18 @@ impl<'a> Report<'a> {
         self.say_changes(out, &[], new)
     }
 
+    /// The process at this place of the first trace with the one that it is matched with, in words.
+    fn found_at(&self, place: usize) -> Option<Match> {
+        self.found(self.pairs.of(Which::First, place)?)
+    }
+
     /// Writes an object for each two processes that are matched, by rising pid of the first.
     fn say_matches<W: ByteSink>(&self, out: &mut TextWriter<'_, W>) -> Result<(), Device> {
-        if self.style == Style::Text {
+        if let Style::Text = self.style {
             return Ok(());
         }
         for place in 0..self.first.len() {
-            let pair = self.pairs.of(Which::First, place);
-            if let Some(found) = pair.and_then(|pair| self.found(pair)) {
+            if let Some(found) = self.found_at(place) {
                 say_match_object(out, &found)?;
             }
         }

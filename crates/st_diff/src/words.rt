@@ -2,13 +2,13 @@
 
 use crate::pairs::Ground;
 use st_core::{ByteSink, Pid};
-use st_events::{Style, say_row, say_row_fields};
+use st_events::{Style, say_counts, say_row, say_row_fields};
 use st_list::Row;
 use st_say::TextWriter;
 use st_text::Device;
 
 /// How many of each there are.
-#[derive(Clone, Copy, Debug, Default)]
+#[derive(Clone, Copy)]
 pub(crate) struct Sums {
     pub(crate) gone: u64,
     pub(crate) new: u64,
@@ -29,29 +29,25 @@ impl Sums {
     }
 }
 
-/// Why two processes are matched, in words.
-fn ground_words(ground: Ground) -> &'static str {
+/// The word for why two processes are matched, and a sentence.
+fn ground_words(ground: Ground) -> (&'static str, &'static str) {
     match ground {
-        Ground::Events => "all their events are alike",
-        Ground::Several => "all their events are alike, as those of others are",
-        Ground::Message => "they are at the other ends of messages that are alike",
-        Ground::Kinds => "the kinds and labels of their events are alike",
-        Ground::First => "their first events are alike",
-        Ground::FirstKind => "their first events have the same kind and label",
-        Ground::Silent => "neither reports an event",
-    }
-}
-
-/// The word for why two processes are matched.
-fn ground_word(ground: Ground) -> &'static str {
-    match ground {
-        Ground::Events => "events",
-        Ground::Several => "several",
-        Ground::Message => "message",
-        Ground::Kinds => "kinds",
-        Ground::First => "first",
-        Ground::FirstKind => "first_kind",
-        Ground::Silent => "silent",
+        Ground::Events => ("events", "all their events are alike"),
+        Ground::Several => (
+            "several",
+            "all their events are alike, as those of others are",
+        ),
+        Ground::Message => (
+            "message",
+            "they are at the other ends of messages that are alike",
+        ),
+        Ground::Kinds => ("kinds", "the kinds and labels of their events are alike"),
+        Ground::First => ("first", "their first events are alike"),
+        Ground::FirstKind => (
+            "first_kind",
+            "their first events have the same kind and label",
+        ),
+        Ground::Silent => ("silent", "neither reports an event"),
     }
 }
 
@@ -61,27 +57,22 @@ pub(crate) fn say_sums<W: ByteSink>(
     sums: &Sums,
     style: Style,
 ) -> Result<(), Device> {
-    if style == Style::Json {
-        out.say("{\"result\":\"different\"")?;
-        out.say_fields(&[
-            ("gone", sums.gone),
-            ("new", sums.new),
-            ("elsewhere", sums.elsewhere),
-            ("gone_processes", sums.gone_processes),
-            ("new_processes", sums.new_processes),
-            ("guesses", sums.guesses),
-        ])?;
-        return out.say("}\n");
+    match style {
+        Style::Text => out.say("different:")?,
+        Style::Json => out.say("{\"result\":\"different\"")?,
     }
-    out.say_parts(&[
-        ("different: events gone ", sums.gone),
-        (", new ", sums.new),
-        (", elsewhere ", sums.elsewhere),
-        ("; processes gone ", sums.gone_processes),
-        (", new ", sums.new_processes),
-        (", matched by a guess ", sums.guesses),
-    ])?;
-    out.say("\n")
+    say_counts(
+        out,
+        style,
+        &[
+            ("gone", " events gone ", sums.gone),
+            ("new", ", new ", sums.new),
+            ("elsewhere", ", elsewhere ", sums.elsewhere),
+            ("gone_processes", "; processes gone ", sums.gone_processes),
+            ("new_processes", ", new ", sums.new_processes),
+            ("guesses", ", matched by a guess ", sums.guesses),
+        ],
+    )
 }
 
 /// Writes that two traces are the same.
@@ -96,7 +87,7 @@ pub(crate) fn say_same<W: ByteSink>(
 }
 
 /// Two processes that are matched.
-#[derive(Clone, Copy, Debug)]
+#[derive(Clone, Copy)]
 pub(crate) struct Match {
     pub(crate) first: Pid,
     pub(crate) second: Pid,
@@ -114,7 +105,7 @@ pub(crate) fn say_match_object<W: ByteSink>(
     out.say("\"")?;
     out.say_pid_field("is", found.second)?;
     out.say(",\"because\":\"")?;
-    out.say(ground_word(found.ground))?;
+    out.say(ground_words(found.ground).0)?;
     out.say("\",\"guess\":")?;
     out.say_bool(found.ground.is_guess())?;
     out.say(",\"coarse\":")?;
@@ -137,7 +128,7 @@ pub(crate) fn say_match<W: ByteSink>(
     out.say_pid(found.second)?;
     if is_guess {
         out.say(", a guess: ")?;
-        out.say(ground_words(found.ground))?;
+        out.say(ground_words(found.ground).1)?;
     }
     if found.is_coarse {
         out.say("; compared coarsely, so there may be fewer changes")?;
@@ -152,17 +143,20 @@ pub(crate) fn say_alone<W: ByteSink>(
     pid: Pid,
     style: Style,
 ) -> Result<(), Device> {
-    if style == Style::Json {
-        out.say("{\"change\":\"")?;
-        out.say(what)?;
-        out.say(" process\"")?;
-        out.say_pid_field("pid", pid)?;
-        return out.say("}\n");
+    match style {
+        Style::Text => {
+            out.say(what)?;
+            out.say(" process ")?;
+            out.say_pid(pid)?;
+        }
+        Style::Json => {
+            out.say("{\"change\":\"")?;
+            out.say(what)?;
+            out.say(" process\"")?;
+            out.say_pid_field("pid", pid)?;
+        }
     }
-    out.say(what)?;
-    out.say(" process ")?;
-    out.say_pid(pid)?;
-    out.say("\n")
+    out.say(style.end())
 }
 
 /// Writes the front of the line of an event.
@@ -172,15 +166,19 @@ fn say_front<W: ByteSink>(
     row: &Row,
     style: Style,
 ) -> Result<(), Device> {
-    if style == Style::Json {
-        out.say("{\"change\":\"")?;
-        out.say(what)?;
-        out.say("\",")?;
-        return say_row_fields(out, row);
+    match style {
+        Style::Text => {
+            out.say(what)?;
+            out.say(" ")?;
+            say_row(out, row)
+        }
+        Style::Json => {
+            out.say("{\"change\":\"")?;
+            out.say(what)?;
+            out.say("\",")?;
+            say_row_fields(out, row)
+        }
     }
-    out.say(what)?;
-    out.say(" ")?;
-    say_row(out, row)
 }
 
 /// Writes where an event of the first trace is in the second one, and its serial there if that is
@@ -191,7 +189,7 @@ fn say_now<W: ByteSink>(
     has_other_counts: bool,
     style: Style,
 ) -> Result<(), Device> {
-    if style == Style::Json {
+    if let Style::Json = style {
         out.say(",\"now\":{")?;
         say_row_fields(out, row)?;
         return out.say("}");
@@ -219,8 +217,5 @@ pub(crate) fn say_change<W: ByteSink>(
     if let Some(now) = now {
         say_now(out, now, what == "counts", style)?;
     }
-    match style {
-        Style::Text => out.say("\n"),
-        Style::Json => out.say("}\n"),
-    }
+    out.say(style.end())
 }

@@ -14,4 +14,4 @@ pub use report::send_stats;
 pub use smaller::{Open, count_open, cut, send_open};
 pub use stats::{PairStats, ProcessStats, Stats, count};
 pub use sweep::Shape;
-pub use words::{Style, say_row, say_row_fields, send_rows, send_unpaired};
+pub use words::{Style, say_counts, say_row, say_row_fields, send_rows, send_unpaired};

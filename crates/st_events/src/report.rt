@@ -2,10 +2,33 @@
 
 use crate::stats::{PairStats, ProcessStats, Stats};
 use crate::sweep::Shape;
-use crate::words::Style;
+use crate::words::{Style, say_counts};
 use st_core::{ByteSink, Pid};
 use st_say::TextWriter;
 use st_text::Device;
+
+/// Writes what a line is of, and its pids, each as a field of its name or behind its words.
+fn say_front<W: ByteSink>(
+    out: &mut TextWriter<'_, W>,
+    style: Style,
+    of: &str,
+    pids: &[(&str, &str, Pid)],
+) -> Result<(), Device> {
+    if let Style::Json = style {
+        out.say("{\"of\":")?;
+        out.say_word(of)?;
+    }
+    for (name, words, pid) in pids {
+        match style {
+            Style::Text => {
+                out.say(words)?;
+                out.say_pid(*pid)?;
+            }
+            Style::Json => out.say_pid_field(name, *pid)?,
+        }
+    }
+    Ok(())
+}
 
 /// Writes the line of a process.
 fn say_process<W: ByteSink>(
@@ -13,28 +36,18 @@ fn say_process<W: ByteSink>(
     stats: &ProcessStats,
     style: Style,
 ) -> Result<(), Device> {
-    if style == Style::Json {
-        out.say("{\"of\":\"process\"")?;
-        out.say_pid_field("pid", stats.pid)?;
-        out.say_fields(&[
-            ("sends", stats.sends),
-            ("receives", stats.receives),
-            ("prints", stats.prints),
-            ("skipped", stats.skipped),
-            ("queue", stats.queue),
-        ])?;
-        return out.say("}\n");
-    }
-    out.say("process ")?;
-    out.say_pid(stats.pid)?;
-    out.say_parts(&[
-        (": sends ", stats.sends),
-        (", receives ", stats.receives),
-        (", prints ", stats.prints),
-        (", counts skipped ", stats.skipped),
-        (", longest queue ", stats.queue),
-    ])?;
-    out.say("\n")
+    say_front(out, style, "process", &[("pid", "process ", stats.pid)])?;
+    say_counts(
+        out,
+        style,
+        &[
+            ("sends", ": sends ", stats.sends),
+            ("receives", ", receives ", stats.receives),
+            ("prints", ", prints ", stats.prints),
+            ("skipped", ", counts skipped ", stats.skipped),
+            ("queue", ", longest queue ", stats.queue),
+        ],
+    )
 }
 
 /// Writes the line of a pair of processes.
@@ -44,27 +57,17 @@ fn say_pair<W: ByteSink>(
     stats: &PairStats,
     style: Style,
 ) -> Result<(), Device> {
-    if style == Style::Json {
-        out.say("{\"of\":\"pair\"")?;
-        out.say_pid_field("from", pair.0)?;
-        out.say_pid_field("to", pair.1)?;
-        out.say_fields(&[
-            ("messages", stats.messages),
-            ("unreceived", stats.unreceived),
-            ("unsent", stats.unsent),
-        ])?;
-        return out.say("}\n");
-    }
-    out.say("messages from ")?;
-    out.say_pid(pair.0)?;
-    out.say(" to ")?;
-    out.say_pid(pair.1)?;
-    out.say_parts(&[
-        (": ", stats.messages),
-        (", without a receive ", stats.unreceived),
-        (", without a send ", stats.unsent),
-    ])?;
-    out.say("\n")
+    let ends = [("from", "messages from ", pair.0), ("to", " to ", pair.1)];
+    say_front(out, style, "pair", &ends)?;
+    say_counts(
+        out,
+        style,
+        &[
+            ("messages", ": ", stats.messages),
+            ("unreceived", ", without a receive ", stats.unreceived),
+            ("unsent", ", without a send ", stats.unsent),
+        ],
+    )
 }
 
 /// Writes the line of a label.
@@ -74,23 +77,17 @@ fn say_label<W: ByteSink>(
     shape: &Shape,
     style: Style,
 ) -> Result<(), Device> {
-    if style == Style::Json {
-        out.say("{\"of\":\"label\"")?;
-        out.say_fields(&[
-            ("label", u64::from(label)),
-            ("events", shape.events),
-            ("depth", shape.depth),
-            ("width", shape.width),
-        ])?;
-        return out.say("}\n");
-    }
-    out.say_parts(&[
-        ("label ", u64::from(label)),
-        (": events ", shape.events),
-        (", depth ", shape.depth),
-        (", width ", shape.width),
-    ])?;
-    out.say("\n")
+    say_front(out, style, "label", &[])?;
+    say_counts(
+        out,
+        style,
+        &[
+            ("label", "label ", u64::from(label)),
+            ("events", ": events ", shape.events),
+            ("depth", ", depth ", shape.depth),
+            ("width", ", width ", shape.width),
+        ],
+    )
 }
 
 /// Sends the counts.

@@ -60,7 +60,7 @@ fn has(rows: &[Row], pid: Pid, index: u64) -> bool {
 }
 
 /// What a cut leaves open that wasn't open before it.
-#[derive(Clone, Copy, Debug, Default, PartialEq, Eq)]
+#[derive(Clone, Copy, Default)]
 pub struct Open {
     /// Receives whose send was cut off.
     pub receives: u64,

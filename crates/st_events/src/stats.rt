@@ -8,7 +8,7 @@ use std::alloc::{AllocError, Global};
 use std::collections::BTreeMap;
 
 /// What one process did.
-#[derive(Clone, Copy, Debug, PartialEq, Eq)]
+#[derive(Clone, Copy)]
 pub struct ProcessStats {
     pub pid: Pid,
     pub sends: u64,
@@ -22,7 +22,7 @@ pub struct ProcessStats {
 }
 
 /// The messages from one process to another, of which at least one end was reported.
-#[derive(Clone, Copy, Debug, Default, PartialEq, Eq)]
+#[derive(Clone, Copy, Default)]
 pub struct PairStats {
     pub messages: u64,
     /// Those whose receive wasn't reported.

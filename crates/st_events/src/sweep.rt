@@ -11,7 +11,7 @@ use std::alloc::{AllocError, Global};
 use std::collections::BTreeMap;
 
 /// An event's turn in the order.
-#[derive(Clone, Copy, Debug, PartialEq, Eq, PartialOrd, Ord)]
+#[derive(Clone, Copy, PartialEq, Eq, PartialOrd, Ord)]
 struct Turn {
     height: u64,
     is_receive: bool,
@@ -20,7 +20,7 @@ struct Turn {
 }
 
 /// The tree of a label: its events, and the messages on its longest way and at its widest depth.
-#[derive(Clone, Copy, Debug, Default, PartialEq, Eq)]
+#[derive(Clone, Copy, Default)]
 pub struct Shape {
     pub events: u64,
     pub depth: u64,
@@ -76,9 +76,14 @@ struct Pass {
     labels: BTreeMap<u32, Shape>,
 }
 
+/// The number at a place, if there is one.
+fn count_at(counts: &mut Vec<u64>, place: Option<usize>) -> Option<&mut u64> {
+    counts.get_mut(place?)
+}
+
 /// One more at a place, and the number then.
 fn raise(counts: &mut Vec<u64>, place: Option<usize>) -> u64 {
-    match place.and_then(|place| counts.get_mut(place)) {
+    match count_at(counts, place) {
         Some(count) => {
             *count = count.saturating_add(1);
             *count
@@ -89,14 +94,14 @@ fn raise(counts: &mut Vec<u64>, place: Option<usize>) -> u64 {
 
 /// One less at a place.
 fn lower(counts: &mut Vec<u64>, place: Option<usize>) {
-    if let Some(count) = place.and_then(|place| counts.get_mut(place)) {
+    if let Some(count) = count_at(counts, place) {
         *count = count.saturating_sub(1);
     }
 }
 
 /// At least this number at a place.
 fn lift(counts: &mut Vec<u64>, place: Option<usize>, least: u64) {
-    if let Some(count) = place.and_then(|place| counts.get_mut(place)) {
+    if let Some(count) = count_at(counts, place) {
         *count = least.max(*count);
     }
 }

@@ -7,12 +7,37 @@ use st_say::{TextWriter, kind_word, send_words};
 use st_text::Device;
 
 /// How a result is written.
-#[derive(Clone, Copy, Debug, PartialEq, Eq)]
+#[derive(Clone, Copy)]
 pub enum Style {
     /// For people.
     Text,
     /// A JSON object a line, for programs.
     Json,
+}
+
+impl Style {
+    /// What ends a line of this style: of JSON the brace of its object too.
+    pub fn end(self) -> &'static str {
+        match self {
+            Style::Text => "\n",
+            Style::Json => "}\n",
+        }
+    }
+}
+
+/// Writes numbers, each as a field of its name or behind its words, and ends the line.
+pub fn say_counts<W: ByteSink>(
+    out: &mut TextWriter<'_, W>,
+    style: Style,
+    counts: &[(&str, &str, u64)],
+) -> Result<(), Device> {
+    for (name, words, count) in counts {
+        match style {
+            Style::Text => out.say_part(words, *count)?,
+            Style::Json => out.say_field(name, *count)?,
+        }
+    }
+    out.say(style.end())
 }
 
 /// So many blanks as bring the word to the width of the longest.
@@ -60,17 +85,6 @@ pub fn say_row<W: ByteSink>(out: &mut TextWriter<'_, W>, row: &Row) -> Result<()
     out.say_other(event)
 }
 
-/// Writes a row of a list for people.
-fn say_listed<W: ByteSink>(
-    out: &mut TextWriter<'_, W>,
-    row: &Row,
-    partner: Option<Partner>,
-) -> Result<(), Device> {
-    say_row(out, row)?;
-    say_partner(out, partner)?;
-    out.say("\n")
-}
-
 /// Writes the field of a message's partner: its place, or null if nobody reported it.
 fn say_partner_field<W: ByteSink>(
     out: &mut TextWriter<'_, W>,
@@ -97,16 +111,25 @@ pub fn say_row_fields<W: ByteSink>(out: &mut TextWriter<'_, W>, row: &Row) -> Re
     out.say_event_fields(event)
 }
 
-/// Writes a row of a list as an object.
-fn say_object<W: ByteSink>(
+/// Writes a row of a list.
+fn say_listed<W: ByteSink>(
     out: &mut TextWriter<'_, W>,
     row: &Row,
     partner: Option<Partner>,
+    style: Style,
 ) -> Result<(), Device> {
-    out.say("{")?;
-    say_row_fields(out, row)?;
-    say_partner_field(out, partner)?;
-    out.say("}\n")
+    match style {
+        Style::Text => {
+            say_row(out, row)?;
+            say_partner(out, partner)?;
+        }
+        Style::Json => {
+            out.say("{")?;
+            say_row_fields(out, row)?;
+            say_partner_field(out, partner)?;
+        }
+    }
+    out.say(style.end())
 }
 
 /// Says that the rows have no partners.
@@ -115,6 +138,11 @@ pub fn send_unpaired<N: ByteSink>(notes: &mut N) -> Result<(), Device> {
         notes,
         "note: the streams can't be paired, so no partners are shown; seqtool audit says why\n",
     )
+}
+
+/// The partner of a row, if the streams could be paired.
+fn partner_of(pairing: Option<&Pairing>, row: &Row) -> Option<Partner> {
+    Some(partner_at(pairing?, row.pid, row.index, row.event.kind))
 }
 
 /// Sends the rows, each with its partner if the streams could be paired.
@@ -126,11 +154,7 @@ pub fn send_rows<W: ByteSink>(
 ) -> Result<(), Device> {
     let mut out = TextWriter::new(writer);
     for row in rows {
-        let found = pairing.map(|pairing| partner_at(pairing, row.pid, row.index, row.event.kind));
-        match style {
-            Style::Text => say_listed(&mut out, row, found)?,
-            Style::Json => say_object(&mut out, row, found)?,
-        }
+        say_listed(&mut out, row, partner_of(pairing, row), style)?;
     }
     out.flush()
 }

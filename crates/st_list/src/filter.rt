@@ -6,14 +6,14 @@ ghost use Rattle.st_list.specs.Rows.{is_chosen, is_label, is_process, is_within}
 use st_core::{Event, Label, Pid};
 
 /// Numbers from the first to the last, both among them.
-#[derive(Clone, Copy, Debug, PartialEq, Eq)]
+#[derive(Clone, Copy)]
 pub struct Span {
     pub first: u64,
     pub last: u64,
 }
 
 /// The conditions that an event has to meet. One that is left out is met by each.
-#[derive(Clone, Copy, Debug, Default, PartialEq, Eq)]
+#[derive(Clone, Copy)]
 pub struct Filter {
     /// Its label is this one.
     pub label: Option<Label>,

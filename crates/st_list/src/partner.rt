@@ -9,7 +9,7 @@ use st_core::{Kind, Pid};
 use st_pair::{Pairing, Source};
 
 /// What an event pairs with. A place is a process and an index among its events, from 0.
-#[derive(Clone, Copy, Debug, PartialEq, Eq)]
+#[derive(Clone, Copy)]
 pub enum Partner {
     /// A print: nothing.
     Nobody,

@@ -11,7 +11,7 @@ use std::alloc::{AllocError, Global};
 const FIRST_LINE: u64 = 2;
 
 /// An event of a list.
-#[derive(Clone, Copy, Debug, PartialEq, Eq)]
+#[derive(Clone, Copy)]
 pub struct Row {
     /// The process that reports it.
     pub pid: Pid,
