@@ -21,14 +21,40 @@
 %% @doc What the commands have of a trace, once it is cut as was asked.
 -spec with_trace(file:filename(), map(), fun((map()) -> result())) -> result().
 with_trace(Name, Wish, Do) ->
-    with_file(seqaudit_legend:read(Name ++ ".terms"), fun seqaudit_legend:format_error/1, fun(Legend) ->
-        with_file(seqaudit_bundle:read(Name ++ ".seqtrace"), fun seqaudit_bundle:format_error/1, fun(Streams) ->
+    with_file(seqaudit_bundle:read(Name ++ ".seqtrace"), fun(Reason) -> unread(Reason, Name) end, fun(Streams) ->
+        with_file(legend(Name ++ ".terms", Streams), fun seqaudit_legend:format_error/1, fun(Legend) ->
             with_file(times(Name), fun seqaudit_times:format_error/1, fun(Times) ->
                 with_cut(#{name => Name, legend => Legend, times => maps:get(events, Times), timed => Times,
                            losses => losses(Name), whole => Streams}, Wish, Do)
             end)
         end)
     end).
+
+%% Whoever takes the name that a shell completes has the extension in it.
+unread({file, _, enoent} = Reason, Name) ->
+    Trace = filename:rootname(Name),
+    case filename:extension(Name) of
+        [$. | _] = Extension when Extension =/= "." ->
+            case filelib:is_regular(Trace ++ ".seqtrace") of
+                true -> seqaudit_errors:text("leave off ~ts: the name of this trace is ~ts", [Extension, Trace]);
+                false -> seqaudit_bundle:format_error(Reason)
+            end;
+        _ ->
+            seqaudit_bundle:format_error(Reason)
+    end;
+unread(Reason, _Name) ->
+    seqaudit_bundle:format_error(Reason).
+
+%% A trace that was written by hand needs no such file.
+legend(File, Streams) ->
+    case seqaudit_legend:read(File) of
+        {error, {file, _, enoent}} ->
+            io:format(standard_error, "seqaudit-node: there is no ~ts, so processes, labels and messages are shown by "
+                                      "their numbers~n", [File]),
+            {ok, seqaudit_legend:numbers(Streams)};
+        Read ->
+            Read
+    end.
 
 with_file({ok, Read}, _FormatError, Do) -> Do(Read);
 with_file({error, {file, _, _} = Reason}, FormatError, _Do) -> {?SYSTEM, FormatError(Reason)};
@@ -84,6 +110,8 @@ with_outcome(#{streams := Streams} = Trace, Do) ->
     end.
 
 %% The parts between resets, if these may be why the streams don't fit.
+parts(#{twice := _}, Streams) ->
+    [Streams];
 parts(#{said := never, finding := {Reason, _}}, Streams) ->
     case seqaudit_reasons:allows_reset(Reason) of
         true -> seqaudit_parts:split(Streams);
@@ -105,10 +133,10 @@ named(Outcomes, #{legend := Legend} = Trace) ->
     Unlisted = lists:usort(lists:append([maps:get(unlisted, Outcome) || Outcome <- Outcomes])),
     Trace#{legend := seqaudit_legend:unlisted(Unlisted, Legend)}.
 
-%% The outcome, which knows whether the trace was cut and whether anything was lost.
-ask(Streams, #{cut := Note, losses := Losses}) ->
+%% The outcome, which knows what the trace is called, whether the trace was cut and whether anything was lost.
+ask(Streams, #{name := Name, cut := Note, losses := Losses}) ->
     case seqaudit_outcome:ask(Streams) of
-        {ok, Outcome} -> {ok, Outcome#{cut => Note =/= "", lost => Losses =/= []}};
+        {ok, Outcome} -> {ok, Outcome#{name => Name, cut => Note =/= "", lost => Losses =/= []}};
         {error, Reason} -> {error, Reason}
     end.
 
@@ -145,12 +173,11 @@ status(_, _Answer) -> ?UNFIT.
 audited_parts([], _Options, _Legend) ->
     "";
 audited_parts(Parts, #{"--parts" := _}, Legend) ->
-    [seqaudit_explain:reset_places([Part || {Part, _} <- Parts], Legend),
+    [seqaudit_explain:reset_places(Parts, Legend),
      [[part_title(Which, Parts), ": ", seqaudit_explain:outcome(Outcome, [], Legend)]
       || {Which, {_, Outcome}} <- lists:enumerate(Parts)]];
 audited_parts(Parts, _Options, Legend) ->
-    {Streams, Outcomes} = lists:unzip(Parts),
-    seqaudit_explain:parts(Outcomes, Streams, Legend).
+    seqaudit_explain:parts(Parts, Legend).
 
 part_title(Which, Parts) ->
     io_lib:format("part ~b of ~b", [Which, length(Parts)]).
@@ -198,7 +225,7 @@ chart_label(Number, Label, #{streams := Streams, legend := Legend, times := Time
 charts(Number, #{parts := Parts, outcome := Outcome} = Audited, Options) ->
     io:put_chars(charted(Audited)),
     Drawn = case Parts of
-                [] -> [{"", Outcome, ""}];
+                [] -> [{"", once(Outcome), ""}];
                 _ -> [{integer_to_list(Which), Part, part_title(Which, Parts)}
                       || {Which, {_, Part}} <- lists:enumerate(Parts)]
             end,
@@ -214,7 +241,7 @@ charts(Number, #{parts := Parts, outcome := Outcome} = Audited, Options) ->
 %% The lines above a chart.
 charted(#{cut := Cut, outcome := Outcome, losses := Losses, parts := Parts, legend := Legend}) ->
     [Cut, seqaudit_explain:headline(Outcome, Legend), seqaudit_explain:losses(Losses),
-     [seqaudit_explain:reset_places([Part || {Part, _} <- Parts], Legend) || Parts =/= []]].
+     [seqaudit_explain:reset_places(Parts, Legend) || Parts =/= []]].
 
 chart_outcome(Number, Which, #{streams := Streams} = Outcome, Title,
               #{legend := Legend, timed := Times} = Audited, Options) ->
@@ -301,7 +328,7 @@ why(#{"" := [Name], "--event" := [Event | _]} = Options) ->
 why(_) ->
     {usage, "why needs the NAME of one trace, and --event"}.
 
-why(Event, Shown, Options, #{legend := Legend} = Audited) ->
+why(Event, Shown, Options, #{legend := Legend, outcome := Whole} = Audited) ->
     Found = [{Place, Outcome} || #{streams := Streams} = Outcome <- Shown,
                                  {ok, Place} <- [seqaudit_bundle:find(Event, Streams, Legend)]],
     case Found of
@@ -309,10 +336,20 @@ why(Event, Shown, Options, #{legend := Legend} = Audited) ->
             io:put_chars(told(Place, seqaudit_outcome:rows(Outcome), Options, Audited)),
             ?FITS;
         [] ->
-            All = lists:append([Streams || #{streams := Streams} <- Shown]),
-            {error, Reason} = seqaudit_bundle:find(Event, All, Legend),
-            {?UNFIT, seqaudit_bundle:format_error(Reason)}
+            {?UNFIT, not_found(Event, Whole, lists:append([Streams || #{streams := Streams} <- Shown]), Legend)}
     end.
+
+not_found(Event, #{twice := Copies, streams := Streams} = Outcome, Shown, Legend) ->
+    case seqaudit_bundle:find(Event, Streams, Legend) of
+        {ok, Copy} ->
+            {Copy, {Pid, At}} = lists:keyfind(Copy, 1, Copies),
+            [Event, " is a copy of ", seqaudit_bundle:name(Pid, At, Legend)];
+        {error, _} ->
+            not_found(Event, maps:remove(twice, Outcome), Shown, Legend)
+    end;
+not_found(Event, _Outcome, Shown, Legend) ->
+    {error, Reason} = seqaudit_bundle:find(Event, Shown, Legend),
+    seqaudit_bundle:format_error(Reason).
 
 told(Place, Rows, #{"--json" := _} = Options, #{cut := Cut, outcome := Outcome, legend := Legend} = Audited) ->
     Told = case Options of
@@ -327,8 +364,14 @@ told(Place, Rows, _Options, #{legend := Legend, timed := Times}) ->
 
 %% @doc What is shown: the outcome of the whole, or of each part between resets.
 -spec shown(map()) -> [seqaudit_outcome:outcome()].
-shown(#{parts := [], outcome := Outcome}) -> [Outcome];
+shown(#{parts := [], outcome := Outcome}) -> [once(Outcome)];
 shown(#{parts := Parts}) -> [Outcome || {_, Outcome} <- Parts].
+
+%% Of copies nothing is drawn or explained: without them the trace fits.
+once(#{twice := Copies, streams := Streams} = Outcome) ->
+    Outcome#{streams := seqaudit_bundle:without(Copies, Streams)};
+once(Outcome) ->
+    Outcome.
 
 %% @doc What comes before causes: that the trace doesn't fit, or that programs without proofs have found events in it
 %% that nobody reported.

@@ -6,7 +6,7 @@
 -module(seqaudit_bundle).
 
 -export([read/1, parse/1, text/1, event_text/1, events/1, actor/1]).
--export([complete/2, name/3, find/3, format_error/1]).
+-export([complete/2, copies/1, without/2, name/3, find/3, format_error/1]).
 -export_type([streams/0, event/0, pid_text/0, at/0, place/0]).
 
 -import(seqaudit_errors, [text/2]).
@@ -122,6 +122,26 @@ events(Streams) ->
 -spec actor(event()) -> pid_text().
 actor(#{kind := 'receive', to := To}) -> To;
 actor(#{from := From}) -> From.
+
+%% @doc The events that are copies of an earlier one of their process, each with that one.
+-spec copies(streams()) -> [{Copy :: place(), Of :: place()}].
+copies(Streams) ->
+    lists:append([copies(Pid, Events, #{}) || {Pid, Events} <- Streams]).
+
+copies(_Pid, [], _Seen) ->
+    [];
+copies(Pid, [#{at := At} = Event | Events], Seen) ->
+    Text = maps:remove(at, Event),
+    case Seen of
+        #{Text := First} -> [{{Pid, At}, {Pid, First}} | copies(Pid, Events, Seen)];
+        #{} -> copies(Pid, Events, Seen#{Text => At})
+    end.
+
+%% @doc The streams without these copies.
+-spec without([{Copy :: place(), Of :: place()}], streams()) -> streams().
+without(Copies, Streams) ->
+    Gone = maps:from_list(Copies),
+    [{Pid, [Event || #{at := At} = Event <- Events, not is_map_key({Pid, At}, Gone)]} || {Pid, Events} <- Streams].
 
 %% @doc The streams with the unreported events that `seqtool complete' found: its streams of all
 %% events, in which those of these streams are in their order, with their numbers.
@@ -283,10 +303,12 @@ names(Streams, Legend) ->
 
 %% @doc A reason of this module in words, with what to do about it.
 -spec format_error(term()) -> string().
+format_error({file, File, enoent}) ->
+    text("there is no ~ts; `seqaudit-node collect' writes one, and so does `convert' of a file of events", [File]);
 format_error({file, File, Reason}) ->
-    seqaudit_errors:unread(File, Reason);
+    text("~ts: ~ts", [File, file:format_error(Reason)]);
 format_error({not_a_bundle, File, Line}) ->
-    seqaudit_errors:wrong_line(File, Line, "a line of a bundle");
+    text("~ts, line ~b, isn't a line of a bundle; ~ts", [File, Line, seqaudit_errors:linted(File)]);
 format_error({no_event_name, Name}) ->
     text("~ts isn't the name of an event; write its process and its number there, as shop#24",
          [Name]);
@@ -296,5 +318,9 @@ format_error({no_process, Name, Names}) ->
 format_error({no_event, Name, []}) ->
     text("there is no event ~ts: that process has none", [Name]);
 format_error({no_event, Name, Places}) ->
-    text("there is no event ~ts: the numbers of that process go from ~b to ~b",
-         [Name, hd(Places), lists:last(Places)]).
+    text("there is no event ~ts: the numbers of that process go from ~b to ~b~ts",
+         [Name, hd(Places), lists:last(Places),
+          case lists:member($~, Name) of
+              true -> "; of what nobody reported, only what `audit' lists by such a name has one";
+              false -> ""
+          end]).

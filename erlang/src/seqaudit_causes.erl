@@ -37,7 +37,7 @@
 %% was put back, or it follows a message whose receive wasn't reported</dd>
 %% <dt>`start'</dt><dd>the trace begins there</dd>
 %% <dt>`open'</dt><dd>it begins there, or follows a message whose receive wasn't reported</dd>
-%% <dt>`unseen'</dt><dd>a send that wasn't reported, so nothing is known of its cause</dd>
+%% <dt>`unseen'</dt><dd>a send that only its receive tells of, of whose cause nothing is known</dd>
 %% </dl>
 
 -type row() :: #{id := id(), event := seqaudit_bundle:event(), actor := seqaudit_bundle:pid_text(),
@@ -56,7 +56,43 @@ rows(Streams) ->
     Unreported = unreported(Streams, Paired),
     Keyed = lists:append([keyed({Pid, Events}, {Ranks, Paired, Unpaired}, maps:get(Pid, Unreported, #{}))
                           || {Pid, Events} <- Streams]),
-    mark_invented([Row || {_, Row} <- lists:keysort(1, Keyed)]).
+    mark_invented(hidden_follow([Row || {_, Row} <- lists:keysort(1, Keyed)], Unpaired, Streams)).
+
+%% What a send follows that only its receive tells of. It was sent at any time: so that is certain only if one receive
+%% alone fits it. If none does, it may follow a message to its process whose receive wasn't reported either.
+hidden_follow(Rows, Unpaired, Streams) ->
+    Senders = maps:from_keys([Actor || #{hidden := true, actor := Actor} <- Rows], sender),
+    Had = maps:from_list([{Pid, had_below(Pid, Events)} || {Pid, Events} <- Streams, is_map_key(Pid, Senders)]),
+    [case Row of
+         #{hidden := true, actor := Actor, event := #{prev := Prev} = Event} ->
+             Row#{cause := hidden_cause(Event, maps:get(Actor, Had, #{}), maps:get({Actor, Prev}, Unpaired, []))};
+         #{} ->
+             Row
+     end || Row <- Rows].
+
+%% The receives of a process by count, each with its label and with what the process had counted by then; of many with
+%% one count a few. By label and prev the least count of a message that had them.
+had_below(Pid, Events) ->
+    {Had, _} = lists:foldl(fun(Event, Known) -> had_below(Event, Pid, Known) end, {#{}, 0}, Events),
+    Had.
+
+had_below(#{kind := 'receive', at := At, label := Label, prev := Prev, this := This}, Pid, {Had, Clock}) ->
+    Height = max(Clock, This),
+    {Had#{This => lists:sublist(maps:get(This, Had, []), 2) ++ [{Height, Label, {Pid, At}}],
+          {Label, Prev} => min(This, maps:get({Label, Prev}, Had, This))}, Height};
+had_below(#{this := This}, _Pid, {Had, Clock}) ->
+    {Had, max(Clock, This)}.
+
+hidden_cause(#{prev := Prev, this := This, label := Label}, Had, Sends) ->
+    Before = [{case Count of Prev -> received; _ -> spawned end, Of, Id}
+              || Count <- counts_before(Prev), {Height, Of, Id} <- maps:get(Count, Had, []), Height < This],
+    MayBePutBack = maps:get({Label, Prev}, Had, This) < This,
+    case {Before, [Id || {_, Of, Id} <- Before, Of =:= Label], [Send || {Of, Send} <- Sends, Of =:= Label]} of
+        {[{How, _, Id}], [Id], _} when not MayBePutBack -> {How, Id};
+        {_, [Id | _], _} -> {perhaps, Id};
+        {[], [], [Send | _]} when not MayBePutBack -> {unreported, Send};
+        {_, _, _} -> unseen
+    end.
 
 mark_invented(Rows) ->
     Reported = maps:from_keys(lists:append([[Id, Send] || #{id := {_, At} = Id, cause := {How, Send}} <- Rows,

@@ -53,10 +53,19 @@ from_files(Files, Name) ->
 from_files(Files, Name, Ask) ->
     alone(fun() ->
         case fold_files(Files, seqaudit_batches:new(seqaudit_build:new())) of
-            {ok, Batches} -> write(asked(seqaudit_batches:build(Batches), Ask), Name);
+            {ok, Batches} -> write_events(seqaudit_batches:build(Batches), Files, Name, Ask);
             {error, Reason} -> {error, Reason}
         end
     end).
+
+%% A file without events makes a trace only if a collector wrote it.
+write_events(#build{packed = <<>>} = Build, Files, Name, Ask) ->
+    case lists:any(fun seqaudit_events:is_collected/1, Files) of
+        true -> write(asked(Build, Ask), Name);
+        false -> {error, {no_events, Files}}
+    end;
+write_events(Build, _Files, Name, Ask) ->
+    write(asked(Build, Ask), Name).
 
 fold_files([], Batches) ->
     {ok, Batches};

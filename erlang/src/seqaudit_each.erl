@@ -60,8 +60,8 @@ tell({Label, _Own, {error, Reason}}, #{legend := Legend}, Options, Counts) ->
         #{} -> say(Label, Sentence, Legend)
     end,
     counted(failed, Counts);
-tell({Label, _Own, {ok, Outcome0}}, #{legend := Legend0} = Trace, Options, Counts) ->
-    #{unlisted := Unlisted} = Outcome = Outcome0#{cut => true, lost => false},
+tell({Label, _Own, {ok, Outcome0}}, #{name := Name, legend := Legend0} = Trace, Options, Counts) ->
+    #{unlisted := Unlisted} = Outcome = Outcome0#{name => Name, cut => true, lost => false},
     Legend = seqaudit_legend:unlisted(Unlisted, Legend0),
     case Options of
         #{"--json" := _} ->

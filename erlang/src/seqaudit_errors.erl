@@ -1,7 +1,7 @@
 %% @doc What the errors of several modules have in common.
 -module(seqaudit_errors).
 
--export([text/2, unread/2, wrong_line/3]).
+-export([text/2, unread/2, wrong_line/3, linted/1]).
 
 %% @doc As `io_lib:format/2', in one list of characters.
 -spec text(io:format(), [term()]) -> string().
@@ -17,3 +17,8 @@ unread(File, Reason) ->
 -spec wrong_line(file:filename(), pos_integer(), string()) -> string().
 wrong_line(File, Line, What) ->
     text("~ts, line ~b, isn't ~ts; `seqaudit-node convert' writes it anew", [File, Line, What]).
+
+%% @doc How to find out what is wrong with the text of a trace.
+-spec linted(file:filename()) -> string().
+linted(File) ->
+    text("`seqtool lint ~ts' says what is wrong with it", [File]).

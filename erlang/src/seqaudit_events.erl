@@ -13,7 +13,7 @@
 %% damage is taken, and the rest is counted.
 -module(seqaudit_events).
 
--export([fold/3, fold_list/3, read/1, facts/1, open/1, begin_collection/2, append/2, close/1,
+-export([fold/3, fold_list/3, read/1, is_collected/1, facts/1, open/1, begin_collection/2, append/2, close/1,
          whole_entries/3, writable/1, format_error/1]).
 -export_type([collection/0, item/0, facts/0, about/0]).
 
@@ -70,6 +70,21 @@ fold(File, Do, Acc) ->
         false -> fold_file(File, Do, Acc)
     end.
 
+%% @doc Whether a collector wrote the file, or has the folder: then it may be that no events came.
+-spec is_collected(file:filename()) -> boolean().
+is_collected(File) ->
+    filelib:is_dir(File) orelse begins_with(File, <<?HEADER>>).
+
+begins_with(File, Begin) ->
+    case file:open(File, [read, raw, binary]) of
+        {ok, Device} ->
+            Read = file:pread(Device, 0, byte_size(Begin)),
+            ok = file:close(Device),
+            Read =:= {ok, Begin};
+        {error, _} ->
+            false
+    end.
+
 fold_file(File, Do, Acc) ->
     case file:open(File, [read, raw, binary]) of
         {ok, Device} ->
@@ -84,6 +99,11 @@ fold_file(File, Do, Acc) ->
 
 fold_form({ok, <<?HEADER>>}, File, Device, Do, Acc) ->
     fold_entries(File, Device, length(?HEADER), Do, Acc);
+%% What `convert' writes begins with its name.
+fold_form({ok, <<"seqtrace ", _/binary>>}, File, _Device, _Do, _Acc) ->
+    {error, {converted, File}};
+fold_form({ok, <<"seqaudit ", _/binary>>}, File, _Device, _Do, _Acc) ->
+    {error, {written, File}};
 fold_form({ok, <<?EXTERNAL, _/binary>>}, File, _Device, Do, Acc) ->
     whole(File, fun(Bytes) -> fold_external(File, Bytes, Do, Acc) end);
 fold_form({ok, <<Op, _/binary>>}, File, Device, Do, Acc) when Op =< ?DROPPED ->
@@ -489,6 +509,17 @@ writable(Name) ->
 -spec format_error(term()) -> string().
 format_error({file, File, Reason}) ->
     text("~ts: ~ts", [File, file:format_error(Reason)]);
+format_error({no_events, [File]}) ->
+    text("~ts: no event of seq_trace is in it", [File]);
+format_error({no_events, Files}) ->
+    text("~ts: no event of seq_trace is in them", [lists:join(", ", Files)]);
+format_error({converted, File}) ->
+    text("~ts is a trace already; ~ts", [File, case filename:extension(File) of
+        ".seqtrace" -> ["`seqaudit-node audit ", filename:rootname(File), "' audits it"];
+        _ -> "called NAME.seqtrace, `seqaudit-node audit NAME' audits it"
+    end]);
+format_error({written, File}) ->
+    text("~ts is what `seqaudit-node convert' writes beside a trace, and has no events", [File]);
 format_error({not_events, File}) ->
     text("~ts has no list of events; give NAME.events, term_to_binary of a list of what the system "
          "tracer got, a trace file of dbg or ttb, or the events as text", [File]);

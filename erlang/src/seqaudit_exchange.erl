@@ -187,6 +187,9 @@ may_be_put_back(#{event := #{prev := Prev, this := This}}, _Found, Last) when Th
     {true, Last};
 may_be_put_back(#{event := #{kind := 'receive', label := Label, this := This}, actor := Actor}, Found, Last) ->
     {Found, Last#{Actor => {Label, This}}};
+%% A send that wasn't reported may have happened at another time.
+may_be_put_back(#{hidden := true}, Found, Last) ->
+    {Found, Last};
 may_be_put_back(#{event := #{label := Label, prev := Prev}, actor := Actor, cause := Cause}, Found, Last) ->
     {Found orelse is_perhaps(Cause) andalso maps:get(Actor, Last, none) =/= {Label, Prev}, Last}.
 

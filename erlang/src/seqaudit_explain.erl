@@ -2,8 +2,8 @@
 %% what to look at.
 -module(seqaudit_explain).
 
--export([count/2, number/1, headline/2, by_whom/1, outcome/3, parts/3, whole/2, sentence/2, sentence/4,
-         reset_places/2, losses/1, is_open/1]).
+-export([count/2, number/1, headline/2, by_whom/1, outcome/3, parts/2, whole/2, sentence/2, sentence/4,
+         reset_places/2, losses/1, is_open/1, shown/1]).
 
 -import(seqaudit_legend, [process/2, label/2]).
 
@@ -20,6 +20,14 @@ headline(#{said := Said, streams := Streams} = Outcome, Legend) when Said =:= fi
     [format("fits~ts: ~ts of ~ts", [by(Outcome), count(length(reported(Streams)), "event"),
                                     count(length(Streams) - length(unlisted(Outcome)), "process")]),
      left_out(missing(Outcome, Legend), Outcome), $\n];
+headline(#{said := never, finding := {Reason, _}, twice := [{Copy, First} | More]} = Outcome, Legend) ->
+    format("doesn't fit~ts: ~ts (~ts)~n",
+           [by(Outcome),
+            case More of
+                [] -> ["the same event is in the trace twice, as ", name(First, Legend), " and ", name(Copy, Legend)];
+                _ -> [number(1 + length(More)), " events are copies of others in the trace, as ", name(Copy, Legend),
+                      " of ", name(First, Legend)]
+            end, Reason]);
 headline(#{said := never, finding := {Reason, Found}} = Outcome, Legend) ->
     format("doesn't fit~ts: no run~ts reports this trace~ts (~ts)~n",
            [by(Outcome),
@@ -30,8 +38,8 @@ headline(#{said := never, finding := {Reason, Found}} = Outcome, Legend) ->
 headline(#{said := unexplained, finding := {Reason, Found}} = Outcome, Legend) ->
     format("not explained~ts: no run was found that reports this trace~ts (~ts)~n",
            [by(Outcome), about("; the search ended at ", Found, Legend), Reason]);
-headline(#{said := fault, fault := <<"fault ", _/binary>> = Fault} = Outcome, _Legend) ->
-    format("not audited~ts: ~ts~n", [by(Outcome), fault(Fault)]);
+headline(#{said := fault, fault := <<"fault", _/binary>> = Fault} = Outcome, _Legend) ->
+    format("not audited~ts: ~ts~n", [by(Outcome), fault(Fault, Outcome)]);
 headline(#{said := fault, fault := Words} = Outcome, _Legend) ->
     format("not audited~ts: the program said \"~ts\"; does it know `audit'?~n", [by(Outcome), Words]).
 
@@ -182,13 +190,21 @@ details(#{said := fault, fault := <<"fault too ", _/binary>>, tool := not_there}
     ["seqtool takes larger traces, but ", no_tool()];
 details(#{said := fault}, _Legend) ->
     "";
-details(#{finding := {Reason, Found}} = Outcome, Legend) ->
-    {Meaning, Look} = seqaudit_reasons:explain(Reason),
-    [[["  ", found(One, Legend), $\n] || One <- Found],
+details(Outcome, Legend) ->
+    {Meaning, Look} = seqaudit_reasons:why(Outcome),
+    [[["  ", found(One, Legend), $\n] || One <- shown(Outcome)],
      format("What it means: ~ts~nWhat to look at: ~ts~n", [Meaning, Look]),
      put_back(seqaudit_exchange:put_back(seqaudit_causes:rows(maps:get(streams, Outcome))), Outcome, Legend),
      renumbered(Outcome),
-     tool(maps:get(tool, Outcome))].
+     tool(maps:get(tool, Outcome), Outcome)].
+
+%% @doc The events that don't go together: of copies the first one, and what it is a copy of.
+-spec shown(seqaudit_outcome:outcome()) -> [{seqaudit_bundle:place(), seqaudit_bundle:event()}].
+shown(#{twice := [{Copy, First} | _], streams := Streams}) ->
+    [{Place, Event} || Place <- [Copy, First], {Pid, Events} <- Streams, #{at := At} = Event <- Events,
+                       {Pid, At} =:= Place];
+shown(#{finding := {_, Found}}) ->
+    Found.
 
 %% Where tokens were put back, and what was audited then.
 put_back([], #{exchanged := How}, _Legend) when How =/= none ->
@@ -215,12 +231,12 @@ exchanged(#{exchanged := counts}) ->
 exchanged(#{}) ->
     ", and the counts that the machine would have given aren't known: audited were the node's own".
 
-tool(there) ->
+tool(there, _Outcome) ->
     "";
-tool(not_there) ->
+tool(not_there, _Outcome) ->
     ["seqtool would say what the trace lacks, but ", no_tool()];
-tool({failed, Fault}) ->
-    format("seqtool can't say what the trace lacks: ~ts~n", [fault(Fault)]).
+tool({failed, Fault}, Outcome) ->
+    format("seqtool can't say what the trace lacks: ~ts~n", [fault(Fault, Outcome)]).
 
 no_tool() ->
     format("it isn't there: ~ts, and the variable SEQTOOL says where it is.~n", [seqaudit_program:how_built()]).
@@ -263,9 +279,8 @@ missing_event({added, #{id := {Pid, At}} = Row}, Legend) ->
     [seqaudit_bundle:name(Pid, At, Legend), ": ", sentence(Row, Legend)];
 missing_event({hidden, #{id := {sent_to, {Pid, At}}} = Row}, Legend) ->
     [sentence(Row, Legend), ", received as ", seqaudit_bundle:name(Pid, At, Legend)];
-missing_event({unreceived, #{id := {Pid, At}}, #{event := Send} = Row}, Legend) ->
-    [sentence(Row#{event := Send#{kind := 'receive'}}, Legend), ", before ",
-     seqaudit_bundle:name(Pid, At, Legend)].
+missing_event({unreceived, #{id := Id}, #{event := Send} = Row}, Legend) ->
+    [sentence(Row#{event := Send#{kind := 'receive'}}, Legend), ", before ", seqaudit_why:name(Id, Legend)].
 
 found({{Pid, At}, Event}, Legend) ->
     [seqaudit_bundle:name(Pid, At, Legend), ": ", sentence(Event, Legend)].
@@ -301,24 +316,40 @@ losses([]) -> "";
 losses(Losses) -> ["The trace isn't whole:\n", [["  ", Loss, $\n] || Loss <- Losses]].
 
 %% @doc Where the resets between the parts are, and the outcome of each part.
--spec parts([seqaudit_outcome:outcome()], [seqaudit_bundle:streams()], seqaudit_legend:legend()) ->
-          unicode:chardata().
-parts(Outcomes, Parts, Legend) ->
+-spec parts([{seqaudit_bundle:streams(), seqaudit_outcome:outcome()}], seqaudit_legend:legend()) -> unicode:chardata().
+parts(Parts, Legend) ->
     [reset_places(Parts, Legend),
      [[format("part ~b: ", [Which]), headline(Outcome, Legend)]
-      || {Which, Outcome} <- lists:enumerate(Outcomes)]].
+      || {Which, {_, Outcome}} <- lists:enumerate(Parts)]].
 
-%% @doc Where the resets between the parts are.
--spec reset_places([seqaudit_bundle:streams()], seqaudit_legend:legend()) -> unicode:chardata().
+%% @doc Where the resets between the parts are, and whether they would explain the trace.
+-spec reset_places([{seqaudit_bundle:streams(), seqaudit_outcome:outcome()}], seqaudit_legend:legend()) ->
+          unicode:chardata().
 reset_places(Parts, Legend) ->
-    case seqaudit_parts:places(Parts) of
-        [Places] ->
-            ["A reset would explain it, as two runs in one trace would: ", reset_at(Places, Legend), ".\n"];
-        Several ->
-            ["Resets would explain it, as several runs in one trace would:\n",
-             [format("  ~b. ~ts~n", [Which, reset_at(Places, Legend)])
-              || {Which, Places} <- lists:enumerate(Several)]]
+    Fit = lists:all(fun({_, #{said := Said}}) -> Said =:= fits orelse Said =:= completed end, Parts),
+    case {seqaudit_parts:places([Streams || {Streams, _} <- Parts]), Fit} of
+        {[Places], true} ->
+            ["A reset would explain it, as two runs in one trace would", if_lacking(Parts, Legend), ": ",
+             reset_at(Places, Legend), ".\n"];
+        {[Places], false} ->
+            ["A reset alone wouldn't explain it. Cut ", reset_at(Places, Legend), ", not all parts fit:\n"];
+        {Several, true} ->
+            ["Resets would explain it, as several runs in one trace would", if_lacking(Parts, Legend), ":\n",
+             numbered(Several, Legend)];
+        {Several, false} ->
+            ["Resets alone wouldn't explain it. Cut at these places, not all parts fit:\n", numbered(Several, Legend)]
     end.
+
+%% A message whose ends differ fits if it's taken for two, of which each lacks an end.
+if_lacking(Parts, Legend) ->
+    Lacks = lists:any(fun({_, Outcome}) ->
+                              #{events := Events, waiting := Waiting} = missing(Outcome, Legend),
+                              Events =/= [] orelse Waiting =/= []
+                      end, Parts),
+    [", if what the parts lack wasn't reported" || Lacks].
+
+numbered(Several, Legend) ->
+    [format("  ~b. ~ts~n", [Which, reset_at(Places, Legend)]) || {Which, Places} <- lists:enumerate(Several)].
 
 reset_at(Places, Legend) ->
     case [Place || {_, Last, First} = Place <- Places, Last =/= none, First =/= none] of
@@ -327,8 +358,9 @@ reset_at(Places, Legend) ->
     end.
 
 reset_place({Pid, Last, First}, Legend) ->
-    ["between ", seqaudit_bundle:name(Pid, Last, Legend), " and ",
-     seqaudit_bundle:name(Pid, First, Legend)].
+    ["between ", name({Pid, Last}, Legend), " and ", name({Pid, First}, Legend)].
+
+name({Pid, At}, Legend) -> seqaudit_bundle:name(Pid, At, Legend).
 
 %% @doc All events, a line each, and the acts that show them as the certificate has them.
 -spec whole(seqaudit_outcome:outcome(), seqaudit_legend:legend()) -> unicode:chardata().
@@ -343,11 +375,14 @@ whole(#{streams := Streams, answer := Answer}, Legend) ->
 format(Format, Values) -> io_lib:format(Format, Values).
 
 %% A refusal of a program in words. Its line numbers are those of a file that nobody sees.
-fault(<<"fault too large">>) ->
+fault(<<"fault too large">>, _Outcome) ->
     "the trace has more bytes than the program takes; " ?SMALLER;
-fault(<<"fault too many ", _/binary>>) ->
+fault(<<"fault too many ", _/binary>>, _Outcome) ->
     "the trace has more processes or events than the program takes; " ?SMALLER;
-fault(<<"fault memory">>) -> "the program ran out of memory; trace for a shorter time, or cut the trace";
-fault(<<"fault device">>) -> "the trace couldn't be read, or the answer couldn't be written";
-fault(<<"fault ", _/binary>>) -> "this isn't a bundle as `seqaudit-node convert' writes it; convert the events again";
-fault(Other) -> Other.
+fault(<<"fault memory">>, _Outcome) -> "the program ran out of memory; trace for a shorter time, or cut the trace";
+fault(<<"fault device">>, _Outcome) -> "the trace couldn't be read, or the answer couldn't be written";
+fault(<<"fault", _/binary>>, Outcome) ->
+    ["the text of this trace isn't that of a bundle; ",
+     seqaudit_errors:linted(maps:get(name, Outcome, "NAME") ++ ".seqtrace")];
+fault(Other, _Outcome) ->
+    Other.

@@ -13,8 +13,8 @@
                   jumps := counted()}.
 %% <dl>
 %% <dt>`hidden'</dt><dd>the sends that only their receives tell of</dd>
-%% <dt>`unreceived'</dt><dd>the first event that follows each message whose receive wasn't reported,
-%% and the send of that message</dd>
+%% <dt>`unreceived'</dt><dd>the first event that follows each message whose receive wasn't reported, a reported one if
+%% there is any, and the send of that message</dd>
 %% <dt>`waiting'</dt><dd>the sends of the other messages whose receive wasn't reported: these may still wait</dd>
 %% <dt>`before'</dt><dd>the counter of a process before its first stamp, if it wasn't 0</dd>
 %% <dt>`behind'</dt><dd>the same, if it had received something before that stamp, so that something unreported may
@@ -39,7 +39,8 @@ find(Rows, Streams, Legend) ->
     #{hidden => Hidden,
       unreceived => [{Row, maps:get(Send, Index)}
                      || #{cause := {unreported, Send}} = Row
-                            <- firsts([Row || #{cause := {unreported, _}} = Row <- Rows])],
+                            <- firsts([Row || Is <- [false, true],
+                                              #{hidden := One, cause := {unreported, _}} = Row <- Rows, One =:= Is])],
       waiting => [Row || #{id := Id, event := #{kind := send}} = Row <- Rows, not is_map_key(Id, Received)],
       before => counted(before, Counted), behind => counted(behind, Counted), spawns => counted(spawns, Counted),
       silent => counted(silent, Counted),

@@ -79,7 +79,8 @@ text("convert") ->
      "the whole texts of long messages; NAME.notes and NAME.facts, what was decided or left out; and\n"
      "NAME.times, if the events have timestamps.\n\n"
      "  FILE                a NAME.events, the folder of a collector, term_to_binary of a list of events,\n"
-     "                      a trace file of dbg or ttb, or events as text, as a log has them\n"
+     "                      a trace file of dbg or ttb, or events as text, as a log has them; there must be\n"
+     "                      an event of seq_trace in it, if no collector wrote it\n"
      "  -o NAME             the name of the trace\n"};
 text("audit") ->
     {"audit NAME [OPTION ..]",

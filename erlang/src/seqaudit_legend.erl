@@ -5,8 +5,8 @@
 %% the text of a bundle and in what `seqaudit' writes.
 -module(seqaudit_legend).
 
--export([text/4, read/1, unlisted/2, is_unlisted/2, process/2, about/2, label/2, value/2, brief/2, is_spawned/2]).
--export([find_label/2, format_error/1]).
+-export([text/4, read/1, numbers/1, unlisted/2, is_unlisted/2, process/2, about/2, label/2, value/2, brief/2]).
+-export([is_spawned/2, find_label/2, format_error/1]).
 -export_type([legend/0]).
 
 -import(seqaudit_errors, [text/2]).
@@ -80,6 +80,11 @@ read_lines([Line | Lines], Number, Legend, File) ->
         _ ->
             {error, {not_terms, File, Number}}
     end.
+
+%% @doc The legend of a trace that has no such file: all have their numbers.
+-spec numbers(seqaudit_bundle:streams()) -> legend().
+numbers(Streams) ->
+    maps:from_list([{{label, Label}, Label} || {_, Events} <- Streams, #{label := Label} <- Events]).
 
 %% @doc The legend with names for processes that the trace doesn't list.
 -spec unlisted([binary()], legend()) -> legend().

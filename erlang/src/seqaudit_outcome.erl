@@ -24,12 +24,14 @@
           tool := there | not_there | {failed, Fault :: binary()},
           answer := binary(),
           finding => finding(),
+          twice => [{Copy :: seqaudit_bundle:place(), Of :: seqaudit_bundle:place()}, ...],
           fault => binary(),
           exchanged := none | prevs | counts,
           asked => seqaudit_bundle:streams(),
           unlisted := [seqaudit_bundle:pid_text()],
           unproved := boolean(),
           large => boolean(),
+          name => file:filename(),
           cut => boolean(),
           lost => boolean()}.
 %% What is said:
@@ -41,19 +43,35 @@
 %% <dt>`unexplained'</dt><dd>`seqaudit' found no run, and there is no `seqtool' to ask</dd>
 %% <dt>`fault'</dt><dd>a program didn't take the bundle</dd>
 %% </dl>
-%% `answer' is otherwise what the program said. `renumbered' says whether counts were replaced, `tool'
-%% whether `seqtool' was there and did what it was asked, `cut' whether the streams are what a cut left of
-%% others, and `lost' whether the collectors lost events. `exchanged' says which counts were exchanged for
-%% those that the machine would have given (`asked' has the streams with them), `unlisted' which processes
-%% of `streams' the trace doesn't list, `unproved' whether what said it has no proofs, and `large' whether
-%% the streams are past the limits of `seqaudit'.
+%% `answer' is otherwise what the program said. `twice' has the events that are copies of others, if a run has the
+%% streams without them. `renumbered' says whether counts were replaced, `tool' whether `seqtool' was there and did
+%% what it was asked, `name' what the trace is called, `cut' whether the streams are what a cut left of others, and
+%% `lost' whether the collectors lost events. `exchanged' says which counts were exchanged for those that the machine
+%% would have given (`asked' has the streams with them), `unlisted' which processes of `streams' the trace doesn't
+%% list, `unproved' whether what said it has no proofs, and `large' whether the streams are past the limits of
+%% `seqaudit'.
 
 -define(FITS, 0).
 -define(UNFIT, 1).
 
-%% @doc Asks the programs.
+%% @doc Asks the programs. If streams don't fit, they are asked again with each event once.
 -spec ask(seqaudit_bundle:streams()) -> {ok, outcome()} | {error, term()}.
 ask(Streams) ->
+    case ask_once(Streams) of
+        {ok, #{said := never} = Outcome} -> ask_without(seqaudit_bundle:copies(Streams), Streams, Outcome);
+        Answer -> Answer
+    end.
+
+ask_without([], _Streams, Outcome) ->
+    {ok, Outcome};
+ask_without(Copies, Streams, Outcome) ->
+    case ask_once(seqaudit_bundle:without(Copies, Streams)) of
+        {ok, #{said := Said}} when Said =:= fits; Said =:= completed -> {ok, Outcome#{twice => Copies}};
+        {ok, _} -> {ok, Outcome};
+        {error, Reason} -> {error, Reason}
+    end.
+
+ask_once(Streams) ->
     Rows = seqaudit_causes:rows(Streams),
     case {seqaudit_exchange:put_back(Rows), seqaudit_exchange:may_be_put_back(Rows)} of
         {[_ | _], _} -> ask_exchanged([prevs, counts], Streams, fun() -> ask_in_doubt([], may, Streams) end);
@@ -215,7 +233,8 @@ audit_large(Ranks, File, Fault, Outcome) ->
     case seqaudit_program:ask_if_known("seqtool", ["audit"], Ranks) of
         {ok, {?FITS, Answer}} -> {ok, Outcome#{said => fits, answer := Answer}};
         {ok, {?UNFIT, Report}} -> complete(Ranks, File, Report, Outcome);
-        {ok, {_, Greater}} -> {ok, fault(Greater, Outcome)};
+        {ok, {_, Greater}} when Greater =/= <<"fault\n">> -> {ok, fault(Greater, Outcome)};
+        {ok, _} -> {ok, fault(Fault, Outcome)};
         unknown -> {ok, fault(Fault, Outcome)};
         {error, Reason} -> {error, Reason}
     end.

@@ -159,7 +159,7 @@ lanes(Streams, Rows) ->
     [Pid || {Pid, _} <- Streams, is_map_key(Pid, Named)].
 
 resets([], _Legend) -> "";
-resets(Parts, Legend) -> seqaudit_explain:reset_places([Streams || {Streams, _} <- Parts], Legend).
+resets(Parts, Legend) -> seqaudit_explain:reset_places(Parts, Legend).
 
 lines(Text) ->
     string:lexemes(unicode:characters_to_list(Text), "\n").

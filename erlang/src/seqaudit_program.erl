@@ -11,6 +11,8 @@
 -define(QUIET_SHELL, ?SHELL " 2>/dev/null").
 %% The folders of programs that aren't proved, best first, and what these are.
 -define(UNPROVED, [{"rust", "plain Rust, not proved"}, {"quick", "built without proofs"}]).
+%% The exit status of a program that doesn't take the trace.
+-define(REFUSED, 2).
 %% The exit status of a program that doesn't understand the words.
 -define(USAGE, 3).
 %% The status of a no; above it a program couldn't do what it was asked to, and seqtool says why on standard error.
@@ -31,6 +33,8 @@ ask(Name, Words, Input) ->
         {error, Reason} -> {error, Reason}
     end.
 
+%% What seqtool doesn't take it says on standard error.
+answered(_Program, {ok, {?REFUSED, <<>>}}) -> {ok, {?REFUSED, <<"fault\n">>}};
 answered(Program, {ok, {Status, <<>>}}) when Status > ?NO -> {error, {failed, Program, Status}};
 answered(Program, {ok, {_, <<>>}}) -> {error, {empty, Program}};
 answered(_Program, Answer) -> Answer.

@@ -17,11 +17,11 @@ outcome(#{said := Said, streams := Streams, unlisted := Unlisted} = Outcome, Leg
               events => length([Event || {_, Events} <- Streams, #{at := At} = Event <- Events, is_integer(At)]),
               processes => length(Streams) - length(Unlisted), renumbered => maps:get(renumbered, Outcome, false)},
     case Outcome of
-        #{finding := {Reason, Found}} when not Fits ->
-            {Meaning, Look} = seqaudit_reasons:explain(Reason),
+        #{finding := {Reason, _}} when not Fits ->
+            {Meaning, Look} = seqaudit_reasons:why(Outcome),
             Known#{reason => Reason, meaning => utf8(Meaning), look_at => utf8(Look),
                    found => [#{event => name(Place, Legend), what => utf8(seqaudit_explain:sentence(Event, Legend))}
-                             || {Place, Event} <- Found]};
+                             || {Place, Event} <- seqaudit_explain:shown(Outcome)]};
         #{fault := Fault} -> Known#{fault => Fault};
         #{} when Fits -> maps:merge(Known, missing(Streams, Legend));
         #{} -> Known
@@ -35,7 +35,7 @@ missing(Streams, Legend) ->
     #{unreported => [#{event => utf8(seqaudit_why:name(Id, Legend)),
                        what => utf8(seqaudit_explain:sentence(Row, Legend))}
                      || #{id := Id, hidden := Hidden} = Row <- Rows, Hidden orelse is_added(Id)],
-      unreceived => [#{event => name(Send, Legend), before => name(Id, Legend)}
+      unreceived => [#{event => name(Send, Legend), before => utf8(seqaudit_why:name(Id, Legend))}
                      || {#{id := Id}, #{id := Send}} <- Unreceived],
       cause_unknown => [name(Id, Legend) || #{hidden := false, id := {_, At} = Id, cause := Cause} <- Rows,
                                             is_integer(At), seqaudit_explain:is_open(Cause)],

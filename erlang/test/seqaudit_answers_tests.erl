@@ -215,9 +215,7 @@ files_test_() ->
 
 files(Name) ->
     Tool = tool(),
-    Print = fun(Label, This, Pid) ->
-                    io_lib:format("{seq_trace,~b,{print,{~b,~b},<0.~b.0>,[],0}}~n", [Label, This - 1, This, Pid])
-            end,
+    Print = fun(Label, This, Pid) -> print(Label, This, Pid, 0) end,
     Many = lists:seq(100, 1_300),
     ok = file:write_file(Name ++ ".seqtrace", printed(Many, Print)),
     ok = file:write_file(Name ++ ".terms",
@@ -242,7 +240,8 @@ files(Name) ->
         ["cut: 1 of 2 events", "<0.100.0>#0", "(status 0)"]),
     %% One label, with a reset in it.
     ok = file:write_file(Name ++ ".seqtrace",
-                         ["seqtrace 1\nprocess <0.100.0>\n", [Print(7, This, 100) || This <- [1, 2, 1]]]),
+                         ["seqtrace 1\nprocess <0.100.0>\n",
+                          [print(7, This, 100, Value) || {This, Value} <- [{1, 0}, {2, 0}, {1, 1}]]]),
     has(command(["chart", "--label", "l7", "--svg", Name ++ ".svg", "--html", Name ++ ".html"], Name, Tool),
         ["part 1 of 2\n", "part 2 of 2\n"]),
     [{ok, <<"<?xml", _/binary>>} = file:read_file(Name ++ Which ++ ".svg") || Which <- ["-1", "-2"]],
@@ -258,6 +257,9 @@ files(Name) ->
     has(command(["chart", "--html", Name ++ ".html"], Name, Tool), ["fits: 2,001 events of 1 process", "(status 0)"]),
     has(command(["chart", "--html", "/no/such/folder/x.html"], Name, Tool),
         ["/no/such/folder/x.html can't be written", "(status 4)"]).
+
+print(Label, This, Pid, Value) ->
+    io_lib:format("{seq_trace,~b,{print,{~b,~b},<0.~b.0>,[],~b}}~n", [Label, This - 1, This, Pid, Value]).
 
 printed(Many, Print) ->
     ["seqtrace 1\n", [["process <0.", integer_to_list(Pid), ".0>\n", Print(Pid rem 600, 1, Pid)] || Pid <- Many]].

@@ -53,6 +53,8 @@ same_cause({How, {Pid, At}}, [<<"after">>, Pid, Number]) when How =:= sent; How 
     At = binary_to_integer(Number),
     ok;
 same_cause(unseen, [<<"unseen">>]) -> ok;
+%% The chart leaves open what a send follows that only its receive tells of.
+same_cause({How, _}, [<<"unseen">>]) when How =/= sent, How =/= alike, How =/= restored -> ok;
 %% The chart goes by counts alone.
 same_cause({relabelled, _, {{Pid, At}, _}}, [<<"after">>, Pid, Number]) -> At = binary_to_integer(Number), ok;
 same_cause({How, _}, [_ | _]) when How =:= restored; How =:= perhaps -> ok;

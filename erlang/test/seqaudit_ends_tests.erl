@@ -98,8 +98,8 @@ closed_output_test_() ->
 %% A chart in parts, as behind a reset, is printed part by part.
 closed_chart(Folder, Program) ->
     ok = file:write_file(filename:join(Folder, "parts.txt"),
-                         [io_lib:format("{seq_trace,7,{print,{~b,~b},<0.80.0>,[],secret}}.~n", [This - 1, This])
-                          || This <- lists:seq(1, 200) ++ lists:seq(1, 200)]),
+                         [io_lib:format("{seq_trace,7,{print,{~b,~b},<0.80.0>,[],~ts}}.~n", [This - 1, This, Secret])
+                          || Secret <- [secret, another], This <- lists:seq(1, 200)]),
     {0, <<"label 7\n">>} =
         run(["cd ", Folder, "; ", node_command(), " convert parts.txt -o parts >log && { ", node_command(),
              " chart parts --label 7 2>errors; echo $? >status; } | grep -m 1 '^label'"],

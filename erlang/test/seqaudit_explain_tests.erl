@@ -176,14 +176,15 @@ many_test() ->
          "Messages without a reported receive: alice#0 to alice, alice#1 to alice, ",
          ", alice#19 to alice, and 1,005 more.\n"]),
     Numbered = [{Pid, [Event#{at := 1} || Event <- Events]} || {Pid, Events} <- Many(1)],
-    has(unicode:characters_to_binary(seqaudit_explain:reset_places([Many(1), Numbered], legend())),
+    Fit = fun(Streams) -> {Streams, outcome(fits, Streams)} end,
+    has(unicode:characters_to_binary(seqaudit_explain:reset_places([Fit(Many(1)), Fit(Numbered)], legend())),
         ["between <0.101.0>#0 and <0.101.0>#1, ", ", and so of 30 more processes.\n"]),
     [One, Other] = [[{<<"<0.30.0>">>, []}, {<<"<0.31.0>">>, []}] || _ <- [1, 2]],
     [{_, [Event]} | _] = Many(1),
     <<"A reset would explain it, as two runs in one trace would: between events of different processes.\n">> =
         unicode:characters_to_binary(seqaudit_explain:reset_places(
-            [lists:keyreplace(<<"<0.30.0>">>, 1, One, {<<"<0.30.0>">>, [Event]}),
-             lists:keyreplace(<<"<0.31.0>">>, 1, Other, {<<"<0.31.0>">>, [Event]})], legend())).
+            [Fit(lists:keyreplace(<<"<0.30.0>">>, 1, One, {<<"<0.30.0>">>, [Event]})),
+             Fit(lists:keyreplace(<<"<0.31.0>">>, 1, Other, {<<"<0.31.0>">>, [Event]}))], legend())).
 
 %% A receive that nobody reported is told with its message, as what is received in it is known.
 unreceived_test() ->
@@ -250,7 +251,7 @@ places_test() ->
 reasons_test() ->
     Event = #{kind => 'receive', label => <<"17">>, prev => 2, this => 4, from => <<"<0.30.0>">>,
               to => <<"<0.31.0>">>, value => <<"6">>, at => 3},
-    [has(said((outcome(Said, []))#{finding => {Reason, [{{<<"<0.31.0>">>, 3}, Event}]}}),
+    [has(said((outcome(Said, [{<<"<0.30.0>">>, []}]))#{finding => {Reason, [{{<<"<0.31.0>">>, 3}, Event}]}}),
          [Begin, " bob & <co>#3",
           "  bob & <co>#3: bob & <co> receives {ok,six} from alice, serial {2,4}, label 17\n",
           "What it means: ", "What to look at: "])
@@ -271,7 +272,8 @@ faults_test() ->
     has(said((outcome(fault, []))#{fault => <<"fault too large">>}),
         ["not audited: the trace has more bytes than the program takes; audit each label by itself (--each-label), "
          "or cut it"]),
-    has(said((outcome(fault, []))#{fault => <<"fault line 3">>}), ["not audited: this isn't a bundle"]).
+    has(said((outcome(fault, []))#{fault => <<"fault line 3">>}),
+        ["not audited: the text of this trace isn't that of a bundle; `seqtool lint NAME.seqtrace' says what"]).
 
 %% Notes that tell of losses are in the result.
 losses_test() ->

@@ -28,16 +28,29 @@ readme(Programs) ->
     _ = file:del_dir_r(Folder),
     ok = filelib:ensure_dir(filename:join([Folder, "examples", "x"])),
     [{ok, _} = file:copy(File, filename:join([Folder, "examples", filename:basename(File)]))
-     || Pattern <- ["*.txt", "order.*"], File <- filelib:wildcard(filename:join([Top, "examples", Pattern]))],
+     || Pattern <- ["*.txt", "*.seqtrace", "*.terms", "*.facts", "*.notes"],
+        File <- filelib:wildcard(filename:join([Top, "examples", Pattern]))],
     {ok, Readme} = file:read_file(filename:join(Top, "README.md")),
     Quoted = quoted(binary:split(Readme, <<"\n">>, [global])),
     [true = lists:any(fun({Command, _}) -> string:find(Command, Part) =/= nomatch end, Quoted)
      || Part <- ["seqaudit-node audit", "seqaudit-node chart", "seqaudit audit", "seqtool complete"]],
     [same(Command, Said, Folder, Programs) || {Command, Said} <- Quoted],
+    {match, Rows} = re:run(Readme, "^\\|[^|]*\\| `(\\w+)` \\|([^|]*)\\|$",
+                           [global, multiline, {capture, all_but_first, binary}]),
+    5 = length(Rows),
+    [said_of(Name, What, Folder, Programs) || [Name, What] <- Rows],
     [Picture, Picture] = [begin
                               {ok, Drawing} = file:read_file(filename:join(Where)),
                               binary:replace(Drawing, ?UNPROVED, <<>>)
                           end || Where <- [[Folder, "shop.svg"], [Top, "docs", "shop.svg"]]].
+
+%% Each sentence that the table of what goes wrong quotes is what the command says of the trace beside it.
+said_of(Name, What, Folder, Programs) ->
+    Command = [seqaudit_test_shell:node_command(), " audit examples/", Name],
+    {_, Said} = seqaudit_test_shell:run(["cd ", Folder, " && ", Command], Programs),
+    {match, Quoted} = re:run(What, "`([^`]*)`", [global, {capture, all_but_first, binary}]),
+    Proved = seqaudit_test_shell:as_proved(Said),
+    [] = [{Quote, Name, Proved} || [Quote] <- Quoted, binary:match(Proved, Quote) =:= nomatch].
 
 guide(Programs) ->
     Folder = seqaudit_audits:file("guide"),

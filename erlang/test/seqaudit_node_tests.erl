@@ -67,17 +67,27 @@ damaged_test_() ->
              [begin
                   ok = file:write_file(Name ++ Suffix, Text),
                   {2, Said} = command(["audit ", Name]),
-                  {_, _} = binary:match(Said, iolist_to_binary([Name, Suffix, ", line ", Line, ", isn't ", What,
-                                                                "; `seqaudit-node convert' writes it anew\n"]))
+                  Remedy = case Suffix of
+                               ".seqtrace" -> ["`seqtool lint ", Name, Suffix, "' says what is wrong with it\n"];
+                               _ -> "`seqaudit-node convert' writes it anew\n"
+                           end,
+                  {_, _} = binary:match(Said, iolist_to_binary([Name, Suffix, ", line ", Line, ", isn't ", What, "; ",
+                                                                Remedy]))
               end || {Line, Text} <- [{"1", <<"x\n">>}, {"2", [hd(binary:split(Whole, <<"\n">>)), "\nx\n"]}]],
              ok = file:delete(Name ++ Suffix),
              case Suffix of
                  ".times" ->
                      [{0, <<"fits", _/binary>>} = command(["audit ", Name], Program)
                       || Program <- seqaudit_audits:model() ++ built()];
-                 _ ->
+                 ".terms" ->
+                     [begin
+                          {0, Numbers} = command(["audit ", Name], Program),
+                          {_, _} = binary:match(Numbers, iolist_to_binary(["there is no ", Name, Suffix, ", so "])),
+                          {_, _} = binary:match(Numbers, <<"\nfits">>)
+                      end || Program <- seqaudit_audits:model() ++ built()];
+                 ".seqtrace" ->
                      {4, Gone} = command(["audit ", Name]),
-                     {_, _} = binary:match(Gone, iolist_to_binary([Name, Suffix, ": no such file"]))
+                     {_, _} = binary:match(Gone, iolist_to_binary(["there is no ", Name, Suffix]))
              end,
              ok = file:write_file(Name ++ Suffix, Whole)
          end || {Suffix, What} <- [{".terms", "an entry of NAME.terms"}, {".seqtrace", "a line of a bundle"},

@@ -1,0 +1,230 @@
+%% What the commands say of a trace that somebody changed by hand, of a file that is none, and of a name that isn't
+%% there. The trace is examples/order, of which some lines are gone, twice, changed or in another order.
+-module(seqaudit_changed_tests).
+
+-export([copies_test_/0, value_test_/0, order_test_/0, reset_first_test_/0, silent_test_/0, no_terms_test_/0,
+         wrong_name_test_/0, no_bundle_test_/0, no_events_test_/0]).
+
+%% One line twice: it isn't said that a counter went back, and no reset is offered.
+copies_test_() ->
+    with_tool(fun(Said) ->
+        ok = write("copies", doubled(line(13))),
+        Once = Said(["audit"], "copies"),
+        has(Once, ["doesn't fit: the same event is in the trace twice, as shop#1 and shop#2 (notrising)\n"
+                   "  shop#2: shop sends call {take,apple,3} to stock, serial {1,2}, label {order,7}\n"
+                   "  shop#1: shop sends call {take,apple,3} to stock, serial {1,2}, label {order,7}\n",
+                   "What it means: nothing tells the two events apart, and with one of them alone the trace fits.\n"
+                   "What to look at: events that were collected twice, by a second tracer", "(status 1)"]),
+        has_not(Once, ["counter went back", "reset would", "part 1"]),
+        has(Said(["audit", "--json"], "copies"), ["\"event\":\"shop#2\"", "\"event\":\"shop#1\"", "\"parts\":[]"]),
+        %% It is drawn and explained once.
+        Chart = Said(["chart", "--label", "{order,7}"], "copies"),
+        has(Chart, ["shop#1    send     {1,2} call {take,apple,3}  after shop#0\n", "after shop#3\n", "(status 0)"]),
+        has_not(Chart, ["shop#2  ", "part 1"]),
+        has(Said(["why", "--event", "shop#3"], "copies"), ["\nbecause shop#1: shop sends call", "(status 0)"]),
+        has(Said(["why", "--event", "shop#2"], "copies"), ["shop#2 is a copy of shop#1\n(status 1)"]),
+        has(Said(["why", "--event", "shop#9"], "copies"), ["there is no event shop#9", "(status 1)"]),
+        %% A receive twice, and the events of each process twice.
+        ok = write("copies", doubled(line(14))),
+        has(Said(["audit"], "copies"),
+            ["doesn't fit: the same event is in the trace twice, as shop#2 and shop#3 (repeated)"]),
+        ok = write("copies", twice(order())),
+        All = Said(["audit"], "copies"),
+        has(All, ["doesn't fit: 11 events are copies of others in the trace, as client#2 of client#0 (notrising)\n",
+                  "What it means: nothing tells the copies from the events that they are copies of, and without them"]),
+        has_not(All, ["reset would", "part 1"]),
+        %% What doesn't fit without the copy either is said as ever.
+        ok = write("copies", doubled(changed(<<"{'receive',{2,3},<0.83.0>,<0.85.0>,2}">>,
+                                             <<"{'receive',{2,3},<0.83.0>,<0.85.0>,5}">>), line(13))),
+        has(Said(["audit"], "copies"),
+            ["doesn't fit: no run without a reset reports this trace, because of shop#2 (notrising)"])
+    end).
+
+%% A changed message: the file may be what is wrong, and as no counter went back in it that comes first.
+value_test_() ->
+    with_tool(fun(Said) ->
+        Receive = <<"{'receive',{2,3},<0.83.0>,<0.85.0>,2}">>,
+        ok = write("value", changed(Receive, <<"{'receive',{2,3},<0.83.0>,<0.85.0>,5}">>)),
+        has(Said(["audit"], "value"), ["because of shop#2 (mismatch)",
+                                       "the sender's counter went back between them, or the file was changed.\n"
+                                       "What to look at: a file that was changed; sends to aliases and names,",
+                                       "A reset would explain it, as two runs in one trace would, if what the parts "
+                                       "lack wasn't reported: between client#0 and client#1, between shop#1 and shop#2.\n"]),
+        %% Another receiver is what an alias that is taken for the wrong process gives.
+        ok = write("value", changed(<<"{send,{2,3},<0.83.0>,<0.85.0>,2}">>, <<"{send,{2,3},<0.83.0>,<0.84.0>,2}">>)),
+        has(Said(["audit"], "value"), ["(mismatch)", "What to look at: sends to aliases and names,"])
+    end).
+
+%% Two events of a process the wrong way round. No reset explains that, so none is said to.
+order_test_() ->
+    with_tool(fun(Said) ->
+        ok = write("order", swapped(line(13), line(14))),
+        Late = Said(["audit"], "order"),
+        has(Late, ["because of shop#2 (late)", "or the two stand in the wrong order.\n"
+                   "What to look at: events of one process that stand in another order than they happened in; a token",
+                   "A reset alone wouldn't explain it. Cut between client#0 and client#1, between shop#0 and shop#1, "
+                   "not all parts fit:\npart 1: fits", "\npart 2: doesn't fit"]),
+        has_not(Late, ["A reset would"])
+    end).
+
+%% After a reset the counters of several processes go back, and that comes first; if that of one alone does, a token
+%% that was put back comes first.
+reset_first_test_() ->
+    with_tool(fun(Said) ->
+        ok = write("reset_first", twice(order(), other(order()))),
+        has(Said(["audit"], "reset_first"),
+            ["because of client#2 (notrising)",
+             "What to look at: seq_trace:reset_trace/0 between the two; files of two runs converted as one; a token ",
+             "A reset would explain it, as two runs in one trace would: between"]),
+        ok = write("reset_first", <<"seqtrace 1\nprocess <0.81.0>\n{seq_trace,1000000,{print,{0,1},<0.81.0>,[],0}}\n"
+                                    "{seq_trace,1000000,{print,{0,1},<0.81.0>,[],1}}\n">>),
+        has(Said(["audit"], "reset_first"), ["(notrising)", "What to look at: a token that set_token/1 puts back"])
+    end).
+
+%% A message that something reported follows was received, whether what follows it was reported or only its receive.
+silent_test_() ->
+    with_tool(fun(Said) ->
+        ok = write("silent", without(["'receive',{1,2}", "send,{2,3}"])),
+        Audit = Said(["audit"], "silent"),
+        has(Audit, ["fits: 9 events of 4 processes, with 1 send and 1 receive that nobody reported\n",
+                    "  stock sends reply {left,7} to shop, serial {2,3}, label {order,7}, received as shop#2\n"
+                    "  stock receives call {take,apple,3} from shop, serial {1,2}, label {order,7}, before the send of "
+                    "shop#2\n"]),
+        has_not(Audit, ["may still wait"]),
+        has(Said(["audit", "--json"], "silent"),
+            ["\"unreceived\":[{\"before\":\"the send of shop#2\",\"event\":\"shop#1\"}]", "\"waiting\":[]"]),
+        has(Said(["why", "--event", "shop#2"], "silent"),
+            ["because (perhaps: its receive wasn't reported) shop#1: shop sends call {take,apple,3} to stock"]),
+        has(Said(["chart", "--label", "{order,7}"], "silent"),
+            ["{2,3} reply {left,7}  perhaps after shop#1, whose receive wasn't reported\n"]),
+        %% If its receive was reported, the send is after that.
+        ok = write("silent", without(["send,{2,3}"])),
+        has(Said(["why", "--event", "shop#2"], "silent"), ["\nbecause stock#0: stock receives call {take,apple,3}"]),
+        has(Said(["why", "--event", "stock#0~1"], "silent"),
+            ["there is no event stock#0~1: the numbers of that process go from 0 to 0; of what nobody reported, only "
+             "what `audit' lists by such a name has one\n", "(status 1)"])
+    end).
+
+%% Without NAME.terms all have their numbers.
+no_terms_test_() ->
+    with_tool(fun(Said) ->
+        ok = write("no_terms", without(["receive"])),
+        ok = file:delete(name("no_terms") ++ ".terms"),
+        Note = ["seqaudit-node: there is no ", name("no_terms"),
+                ".terms, so processes, labels and messages are shown by their numbers\n"],
+        has(Said(["audit"], "no_terms"),
+            [Note, "fits: 6 events of 4 processes",
+             "  <0.85.0> receives #0 from <0.81.0>, serial {0,1}, label 1000000, before <0.85.0>#0\n", "(status 0)"]),
+        has(Said(["chart", "--label", "1000000"], "no_terms"), [Note, "<0.84.0>#0  print    {4,5} #5", "(status 0)"]),
+        has(Said(["chart", "--label", "7"], "no_terms"), ["there is no label 7; the trace has 1000000\n(status 1)"]),
+        has(Said(["why", "--event", "<0.85.0>#1"], "no_terms"), [Note, "<0.85.0>#1: <0.85.0> sends #3", "(status 0)"])
+    end).
+
+wrong_name_test_() ->
+    with_tool(fun(Said) ->
+        ok = write("wrong_name", order()),
+        [has(Said(["audit"], "wrong_name" ++ Extension),
+             [["leave off ", Extension, ": the name of this trace is ", name("wrong_name"), "\n(status 4)"]])
+         || Extension <- [".seqtrace", ".terms"]],
+        has(Said(["audit"], "nosuch"),
+            [["there is no ", name("nosuch"), ".seqtrace; `seqaudit-node collect' writes one"], "(status 4)"]),
+        Name = name("wrong_name"),
+        Convert = [seqaudit_test_shell:node_command(), " convert ", Name],
+        {2, Trace} = seqaudit_test_shell:run([Convert, ".seqtrace -o ", Name]),
+        has(Trace, [[Name, ".seqtrace is a trace already; `seqaudit-node audit ", Name, "' audits it\n"]]),
+        {2, Terms} = seqaudit_test_shell:run([Convert, ".terms -o ", Name]),
+        has(Terms, [[Name, ".terms is what `seqaudit-node convert' writes beside a trace, and has no events\n"]])
+    end).
+
+%% seqtool says what is wrong with a text that is no bundle, also if only the programs see it.
+no_bundle_test_() ->
+    with_tool(fun(Said) ->
+        Lint = ["`seqtool lint ", name("no_bundle"), ".seqtrace' says what is wrong with it\n"],
+        [begin
+             ok = write("no_bundle", Text),
+             has(Said(["audit"], "no_bundle"),
+                 [[name("no_bundle"), ".seqtrace, line 1, isn't a line of a bundle; ", Lint], "(status 2)"])
+         end || Text <- ["", "junk\n"]],
+        %% An event below another process.
+        ok = write("no_bundle", swapped(line(10), line(11))),
+        [has(Said(Words, "no_bundle"),
+             [["not audited: the text of this trace isn't that of a bundle; ", Lint], "(status 2)"])
+         || Words <- [["audit"], ["chart", "--label", "{order,7}"]]],
+        has(Said(["audit", "--each-label"], "no_bundle"), [Lint, "(status 2)"])
+    end).
+
+%% A text or list without an event is refused, and leaves nothing that fits. A collector's file is none: no events came.
+no_events_test_() ->
+    with_tool(fun(Said) ->
+        {Name, Command} = {name("no_events"), seqaudit_test_shell:node_command()},
+        [file:delete(Name ++ Extension) || Extension <- [".seqtrace", ".terms"]],
+        [begin
+             ok = file:write_file(Name ++ ".txt", Text),
+             {2, Refused} = seqaudit_test_shell:run([Command, " convert ", Name, ".txt -o ", Name]),
+             has(Refused, [[Name, ".txt: no event of seq_trace is in it\n"]])
+         end || Text <- ["", "hello\n", "% node a@h\n", term_to_binary([]), term_to_binary([hello])]],
+        has(Said(["audit"], "no_events"), ["there is no ", "(status 4)"]),
+        {ok, File} = seqaudit_events:open(Name),
+        ok = seqaudit_events:close(File),
+        {0, Done} = seqaudit_test_shell:run([Command, " convert ", Name, ".events ", Name, ".txt -o ", Name]),
+        has(Done, ["0 events of 0 processes", "no events came"])
+    end).
+
+%% Helpers
+
+with_tool(Test) ->
+    {timeout, 240, fun() ->
+        case {seqaudit_answers_tests:auditor(), seqaudit_answers_tests:tool()} of
+            {none, _} -> io:format(user, "skipped, there is no auditor~n", []);
+            {_, none} -> io:format(user, "skipped, there is no seqtool~n", []);
+            {_, Tool} -> Test(fun(Words, Name) -> seqaudit_answers_tests:command(Words, name(Name), Tool) end)
+        end
+    end}.
+
+name(Name) -> seqaudit_audits:file("changed_" ++ Name).
+
+example(File) ->
+    {ok, Text} = file:read_file(filename:join([filename:dirname(seqaudit_audits:home()), "examples", File])),
+    Text.
+
+order() -> example("order.seqtrace").
+
+write(Name, Text) ->
+    ok = file:write_file(name(Name) ++ ".seqtrace", Text),
+    file:write_file(name(Name) ++ ".terms", example("order.terms")).
+
+lines() -> lines(order()).
+lines(Text) -> binary:split(Text, <<"\n">>, [global, trim]).
+text(Lines) -> [[Line, $\n] || Line <- Lines].
+
+line(Number) -> lists:nth(Number, lines()).
+
+doubled(Line) -> doubled(order(), Line).
+doubled(Text, Line) ->
+    text(lists:append([case One of Line -> [One, One]; _ -> [One] end || One <- lines(iolist_to_binary(Text))])).
+
+changed(Part, With) ->
+    {_, _} = binary:match(order(), Part),
+    binary:replace(order(), Part, With).
+
+swapped(One, Other) ->
+    text([case Line of One -> Other; Other -> One; _ -> Line end || Line <- lines()]).
+
+without(Parts) ->
+    text([Line || Line <- lines(), nomatch =:= binary:match(Line, [list_to_binary(Part) || Part <- Parts])]).
+
+%% The events of each process, and behind them once more, or those of another run.
+twice(Text) -> twice(Text, Text).
+twice(Text, Other) ->
+    {ok, Streams} = seqaudit_bundle:parse(Text),
+    {ok, Others} = seqaudit_bundle:parse(iolist_to_binary(Other)),
+    seqaudit_bundle:text([{Pid, Events ++ More} || {{Pid, Events}, {Pid, More}} <- lists:zip(Streams, Others)]).
+
+%% A run that did the same under another label.
+other(Text) -> binary:replace(Text, <<"{seq_trace,1000000,">>, <<"{seq_trace,17,">>, [global]).
+
+has(Text, Parts) ->
+    [] = [{Part, Text} || Part <- Parts, binary:match(Text, unicode:characters_to_binary(Part)) =:= nomatch].
+
+has_not(Text, Parts) ->
+    [] = [{Part, Text} || Part <- Parts, binary:match(Text, list_to_binary(Part)) =/= nomatch].
