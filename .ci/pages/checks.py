@@ -2,7 +2,7 @@
 import re
 from functools import cache
 
-from pages import sources
+from pages import sources, spelling
 from pages.blocks import wrong_blocks
 from pages.sources import DECLARED, NAME, TOP, WORDS, files
 from pages.text import NUMBER, claims, command_lines, is_of_crate, lines_of_code, prose, sentences, spans, tables, value
@@ -347,16 +347,11 @@ def wrong_reasons(page):
 
 
 def wrong_terms(page):
-    """Lines of the text form that it doesn't have."""
+    """Events that the text form doesn't have."""
     for said in [*spans(prose(page.text)), *lines_of_code(page.text)]:
         for event in re.findall(r"(?:^|\s)(\{seq_trace,[^ ]*\}\})", said):
-            if not any(re.fullmatch(it, event) for it in sources.templates()):
-                yield f"{event}: the text form has no such event"
-    for header, rows in tables(page.text):
-        if header == ["Act", "Line"]:
-            for said in (it for cells in rows for it in spans(cells[1])):
-                if not any(re.fullmatch(it, said) for it in sources.templates()):
-                    yield f"`{said}`: the text form has no such act"
+            if not spelling.is_line(event, "event"):
+                yield f"`{event}`: {spelling.FILE} spells no event so"
 
 
 def wrong_variants(page):

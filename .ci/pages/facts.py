@@ -92,6 +92,22 @@ TEXTS = [
 ]
 
 
+# A page, its words, a file of definitions, and the line in it that bears the words out.
+DEFINED = [
+    (FORMATS, r"\. Each bundle has exactly one text\b", "crates/st_text/specs/Text.antt",
+     "pub spelled : bytes ≡ spelling c"),
+]
+
+
+def wrong_definitions(pages):
+    for name, pattern, file, line in DEFINED:
+        said = re.search(pattern, pages[name].text)
+        if not said:
+            yield f"{name} doesn't say any more: {pattern} (.ci/pages/facts.py)"
+        elif line not in read(file):
+            yield f"{name}: `{said[0][2:]}`: {file} doesn't say any more: {line}"
+
+
 def wrong_facts(pages):
     for name, pattern, right in NUMBERS:
         said = re.search(pattern, pages[name].text)

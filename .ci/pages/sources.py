@@ -184,9 +184,13 @@ def outputs():
 
 @cache
 def meanings():
-    """The status with which each record of `Meaning` is what an output means: `MeansYes`, 0."""
+    """The status with which each record of `Meaning` is what an output means: `MeansYes`, 0. `Performs` names those of
+    0 and 1."""
     clause = r"ensures \w+ \{ result ≡ (\d) → Says (?:(?!ensures).)*?\b(Means\w+)"
-    return learned("meanings", {name: int(status) for status, name in re.findall(clause, ALL_RUST, re.S)})
+    found = {name: int(status) for status, name in re.findall(clause, ALL_RUST, re.S)}
+    for performed in re.findall(r"ensures (?:\w+ )?\{ Performs ([^{}]*)\}", ALL_RUST):
+        found |= {name: status for status, name in enumerate(re.findall(r"\bMeans\w+", performed))}
+    return learned("meanings", found)
 
 
 def status_of(name):
@@ -206,24 +210,7 @@ def kinds_of_output():
     return {"the text of a bundle": int(bundle[1]), "the report of ": int(report[1])}
 
 
-# ---- the text form, and JSON
-
-NUMBER, PID, BOOL = r"(?:\d+|[A-Z]+)", r"(?:<\d+\.\d+\.0>|[A-Z]+)", "(?:true|false|BOOL)"
-VALUES = {"<M.P.0>": PID, "L": NUMBER, "N": NUMBER, "true": BOOL, "false": BOOL}
-
-
-def pattern_of(line):
-    """The pattern of a line of the text form: for each value one that takes a value, or a name for it in capitals."""
-    parts = re.split(r"(<M\.P\.0>|\b(?:L|N|true|false)\b)", line)
-    return "".join(VALUES.get(part) or re.escape(part) for part in parts)
-
-
-@cache
-def templates():
-    """A pattern for each line of the text form that has values."""
-    lines = re.findall(r'codes "((?:\{seq_trace,L|\w+ <M\.P)[^"]*)"', ALL_SPECS)
-    return learned("lines of the text form", {pattern_of(line) for line in lines})
-
+# ---- JSON
 
 @cache
 def fields():
@@ -237,7 +224,7 @@ def own_fields():
     defined = "\n".join(text for path, text in SOURCE.items() if path.name == "Json.antt")
     texts = "\n".join(text for text in SOURCE.values() if "Style::Json" in text or "fn say_event_fields" in text)
     called = re.findall(r'say_\w*field\(\s*"(\w+)"', texts)
-    called += [name for block in re.findall(r"say_fields\(&\[(.*?)\]\)", texts, re.S) for name in re.findall(r'\("(\w+)",', block)]
+    called += [name for block in re.findall(r"say_(?:fields\(|counts\(\s*out,\s*style,\s*)&\[(.*?)\],?\s*\)", texts, re.S) for name in re.findall(r'\("(\w+)",', block)]
     return learned("fields of JSON", {*called, *re.findall(r'\\"(\w+)\\":', defined)})
 
 

@@ -2,24 +2,42 @@
 import re
 from functools import cache
 
-from pages import sources
+from pages import sources, spelling
 from pages.blocks import wrong_callings
-from pages.facts import wrong_facts, wrong_orders, wrong_tallies
-from pages.text import lines_of_code, spans, tables
+from pages.facts import wrong_definitions, wrong_facts, wrong_orders, wrong_tallies
+from pages.text import lines_of_code, prose, spans, tables
 
 FORMATS = "docs/FORMATS.md"
 
 
 def missing_outputs(pages):
-    """The page on formats has each output that begins with words of its own, and each line of the text form."""
-    said = pages[FORMATS].text
+    """The page on formats has each output that begins with words of its own."""
     for it in sources.outputs():
-        if it.replace("|", "\\|") not in said:
+        if it.replace("|", "\\|") not in pages[FORMATS].text:
             yield f"{FORMATS}: the output `{it}` is missing"
-    lines = [*(it for it in spans(said) if "<" not in it), *lines_of_code(said)]
-    for it in sources.templates():
-        if not any(re.fullmatch(it, line) for line in lines):
-            yield f"{FORMATS}: a line of the text form is missing, {it}"
+
+
+def wrong_spellings(pages):
+    """The chapter on the text form has each spelling of a line, of a pid and of a truth value, and no other line."""
+    chapter = next((it for it in re.split(r"^(?=## )", pages[FORMATS].text, flags=re.M) if "| Act | Line |" in it), "")
+    said = [*spans(prose(chapter)), *(it for it in lines_of_code(chapter) if it)]
+    known = {it: (kind, names) for it, (kind, names, _) in spelling.lines().items()} | spelling.elements()
+    for it, (kind, names) in known.items():
+        if not any(re.fullmatch(names, line) for line in said):
+            yield f"{FORMATS}: the {kind} `{it}` is missing, which {spelling.FILE} spells so"
+    for it in said:
+        if " " in it and not re.match("seqtool |seqaudit ", it) and not spelling.is_line(it):
+            yield f"{FORMATS}: `{it}`: {spelling.FILE} spells no line so"
+    for it in re.findall(r"(?i)[^.:|\n]*\b(?:blanks?|spaces?|tabs?)\b[^.:|\n]*", prose(chapter)):
+        if not any(re.search(words, it) and is_so for words, is_so in BLANKS.items()):
+            yield f"{FORMATS}: `{it.strip()}`: nothing in BLANKS (.ci/pages/whole.py) bears this out"
+
+
+# What the chapter on the text form may say of blanks, each with whether the spellings bear it out.
+BLANKS = {r"^ ?One space separates words, and nothing else does$":
+              all(re.fullmatch(r"\S+(?: \S+)*", it) for it in spelling.lines()),
+          r"^\*\*Events\*\* are the tuples that a system tracer gets, without spaces$":
+              not any(" " in it for it, (kind, *_) in spelling.lines().items() if kind == "event")}
 
 
 def missing_fields(pages):
@@ -124,5 +142,6 @@ def wrong_counts(pages, counts):
             yield f"README.md: there are {count} {what}, and it says {', '.join(said) or 'nothing of them'}"
 
 
-WHOLE = (missing_outputs, missing_fields, missing_options, wrong_crates, wrong_command_rows, wrong_answers,
-         wrong_headline, wrong_times, wrong_callings, wrong_facts, wrong_orders, wrong_tallies)
+WHOLE = (missing_outputs, wrong_spellings, missing_fields, missing_options, wrong_crates, wrong_command_rows,
+         wrong_answers, wrong_headline, wrong_times, wrong_callings, wrong_definitions, wrong_facts, wrong_orders,
+         wrong_tallies)
