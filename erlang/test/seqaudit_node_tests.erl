@@ -176,7 +176,7 @@ asked(Name, Program) ->
     {1, Other} = command(["chart ", Name, " --label other"], Program),
     {_, _} = binary:match(Other, <<"there is no label other; the trace has #Ref<">>),
     {4, Gone} = command(["audit ", Name, "x"], Program),
-    {_, _} = binary:match(Gone, <<"askedx.terms: no such file or directory; `seqaudit-node convert'">>),
+    {_, _} = binary:match(Gone, <<"askedx.seqtrace; `seqaudit-node collect' writes one, and so does `convert'">>),
     Unfit = Name ++ "_unfit",
     {0, _} = command(["convert ", capture("exclude_idiom_after_receive"), " -o ", Unfit]),
     {0, PutBack} = command(["audit ", Unfit], Program),
