@@ -259,7 +259,7 @@ pub performs : {limits : Limits} {R W : Type 0} {reader : ReaderCall R} {writer 
     → Tells writer (Owes limits reader IsOutput) status
     → Performs limits reader writer IsOutput Yes No status
 performs if_yes if_no told = record {
-    told = told;
-    yes = says 0 (λ same. cc) if_yes told;
-    no = says 1 (λ same. cc) if_no told;
-  }
+  told = told;
+  yes = says 0 (λ same. cc) if_yes told;
+  no = says 1 (λ same. cc) if_no told;
+}
