@@ -224,7 +224,8 @@ def own_fields():
     defined = "\n".join(text for path, text in SOURCE.items() if path.name == "Json.antt")
     texts = "\n".join(text for text in SOURCE.values() if "Style::Json" in text or "fn say_event_fields" in text)
     called = re.findall(r'say_\w*field\(\s*"(\w+)"', texts)
-    called += [name for block in re.findall(r"say_(?:fields\(|counts\(\s*out,\s*style,\s*)&\[(.*?)\],?\s*\)", texts, re.S) for name in re.findall(r'\("(\w+)",', block)]
+    lists = re.findall(r"say_(?:fields\(|counts\(\s*out,\s*style,\s*)&\[(.*?)\],?\s*\)", texts, re.S)
+    called += [name for block in lists for name in re.findall(r'\("(\w+)",', block)]
     return learned("fields of JSON", {*called, *re.findall(r'\\"(\w+)\\":', defined)})
 
 

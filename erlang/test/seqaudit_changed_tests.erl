@@ -49,7 +49,8 @@ value_test_() ->
                                        "the sender's counter went back between them, or the file was changed.\n"
                                        "What to look at: a file that was changed; sends to aliases and names,",
                                        "A reset would explain it, as two runs in one trace would, if what the parts "
-                                       "lack wasn't reported: between client#0 and client#1, between shop#1 and shop#2.\n"]),
+                                       "lack wasn't reported: between client#0 and client#1, "
+                                       "between shop#1 and shop#2.\n"]),
         %% Another receiver is what an alias that is taken for the wrong process gives.
         ok = write("value", changed(<<"{send,{2,3},<0.83.0>,<0.85.0>,2}">>, <<"{send,{2,3},<0.83.0>,<0.84.0>,2}">>)),
         has(Said(["audit"], "value"), ["(mismatch)", "What to look at: sends to aliases and names,"])

@@ -42,7 +42,8 @@ module _ (wide : Bool) where
 
   send_in : ForEach wide (codes "send <M.P.0> <M.P.0> N") IsAct
   send_in m ml i il n nl j jl v vl =
-      act (acts.Send (pid_on m i) (pid_on n j) v) (fit wide ml il, fit wide nl jl, vl) (near ml il, (near nl jl, tt)) refl
+      act (acts.Send (pid_on m i) (pid_on n j) v) (fit wide ml il, fit wide nl jl, vl)
+      (near ml il, (near nl jl, tt)) refl
 
   first_in : ForEach wide (codes "receive <M.P.0> first") IsAct
   first_in m ml i il =
@@ -50,7 +51,8 @@ module _ (wide : Bool) where
 
   from_in : ForEach wide (codes "receive <M.P.0> from <M.P.0>") IsAct
   from_in m ml i il n nl j jl =
-      act (acts.Receive (pid_on m i) (wants.From (pid_on n j))) (fit wide ml il, fit wide nl jl) (near ml il, (near nl jl, tt)) refl
+      act (acts.Receive (pid_on m i) (wants.From (pid_on n j))) (fit wide ml il, fit wide nl jl)
+      (near ml il, (near nl jl, tt)) refl
 
   value_in : ForEach wide (codes "receive <M.P.0> value N") IsAct
   value_in m ml i il v vl =

@@ -62,22 +62,26 @@ module _ (wide : Bool) where
   event_out e f n = by e.kind e.to f.to n.1
     where
       by : (k : Kind) (o : Option Pid) → FitsPlace k o → AllByRecursion (FitsNode wide) (option_to_list o)
-          → IsAnyOf wide (templates_below above.Process) (spelled.event (of k e.label.0 e.serial.prev e.serial.this e.from o e.value))
+          → IsAnyOf wide (templates_below above.Process)
+          (spelled.event (of k e.label.0 e.serial.prev e.serial.this e.from o e.value))
       by kinds.Send (Some q) g m =
-          line_at wide above.Process (lines.Event (of kinds.Send e.label.0 e.serial.prev e.serial.this e.from (Some q) e.value))
+          line_at wide above.Process
+          (lines.Event (of kinds.Send e.label.0 e.serial.prev e.serial.this e.from (Some q) e.value))
           refl 0 (lit< tt) e.label.0 f.label e.serial.prev f.serial.prev
           e.serial.this f.serial.this e.from.node n.0.node e.from.number n.0.number q.node m.0.node q.number m.0.number
           e.value f.value refl
       by kinds.Send None g m = absurd g
       by kinds.Receive (Some q) g m =
-          line_at wide above.Process (lines.Event (of kinds.Receive e.label.0 e.serial.prev e.serial.this e.from (Some q) e.value))
+          line_at wide above.Process
+          (lines.Event (of kinds.Receive e.label.0 e.serial.prev e.serial.this e.from (Some q) e.value))
           refl 1 (lit< tt) e.label.0 f.label e.serial.prev f.serial.prev
           e.serial.this f.serial.this e.from.node n.0.node e.from.number n.0.number q.node m.0.node q.number m.0.number
           e.value f.value refl
       by kinds.Receive None g m = absurd g
       by kinds.Print (Some q) g m = absurd g
       by kinds.Print None g m =
-          line_at wide above.Process (lines.Event (of kinds.Print e.label.0 e.serial.prev e.serial.this e.from None e.value))
+          line_at wide above.Process
+          (lines.Event (of kinds.Print e.label.0 e.serial.prev e.serial.this e.from None e.value))
           refl 2 (lit< tt) e.label.0 f.label e.serial.prev f.serial.prev
           e.serial.this f.serial.this e.from.node n.0.node e.from.number n.0.number e.value f.value
           refl

@@ -193,7 +193,8 @@ module _ (IsWord IsRest : List ℕ → Type 0) where
       most m le rest word behind e w more =
           elim (cases_lt m (length word)) [
             | inl less ↦
-                let cut = longer word behind (take m line) rest (sym e) (omega (arith, less, length-take-le m line le)) in
+                let cut = longer word behind (take m line) rest (sym e)
+                (omega (arith, less, length-take-le m line le)) in
                 omega (arith, l.most m le (cut.0, subst IsWord cut.1 w), b.reached)
             | inr beyond ↦ ends beyond
           ]

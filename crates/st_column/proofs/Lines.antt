@@ -174,7 +174,8 @@ may_stands (first ∷ ls) l e =
     both_of (may_follow begun last l) (is_wide_header first || not (is_remote l)) e in
     (sym (follow_is begun last l) ∙ both.0, both.1)
 
-pub allowed_may : (ls : List Line) (l : Line) → is_allowed (above_of ls) l ≡ true → is_let_in (has_wide_header ls) l ≡ true
+pub allowed_may : (ls : List Line) (l : Line) → is_allowed (above_of ls) l ≡ true
+    → is_let_in (has_wide_header ls) l ≡ true
     → may_stand ls l ≡ true
 allowed_may [] l s e = s
 allowed_may (first ∷ ls) l s e =

@@ -1,5 +1,5 @@
--- A text that is put together from parts in any way is its parts one behind the other, so a line is too, as its template
--- has it.
+-- A text that is put together from parts in any way is its parts one behind the other, so a line
+-- is too, as its template has it.
 use Rattle.std.proofs.Common.{◌≡◌, ℕ, List, [], ◌++◌, Option, Some, None, refl, sym, ap, ◌∙◌, append_assoc}
 use Rattle.std.specs.Prelude.{codes, decimal}
 use Rattle.std.proofs.lemmas.List.{append-nil}

@@ -15,7 +15,8 @@ use Rattle.st_pair.specs.declared.receives.Key.{Key}
 use Rattle.st_pair.specs.Links.{link_of, received_link, sent_link}
 use Rattle.st_pair.specs.Pairing.{not_rising, receive_of, repeated, stamp_of}
 use Rattle.st_pair.specs.Places.{event_at, first, first_from, is_stamp, or_else}
-use Rattle.st_pair.specs.Tables.{hidden_key, key_in, keys_in, hidden_keys, link_back, receive_rule, sent_in, stamp_index}
+use Rattle.st_pair.specs.Tables.{hidden_key, key_in, keys_in, hidden_keys, link_back}
+use Rattle.st_pair.specs.Tables.{receive_rule, sent_in, stamp_index}
 use Rattle.st_pair.specs.Tables.{key_eq, AreDistinctKeys, AreHiddenOnce, IsShown}
 use Rattle.st_pair.proofs.Converse.{stamp_alone}
 use Rattle.st_pair.proofs.Firsts.{at_get_or, events_in, first_from-step, is_at}
@@ -72,7 +73,8 @@ module _ (all : List Stream) where
       ∙ ap (λ (n : ℕ). before ++ (keys_in all s.stream.events ++ hidden_keys all (drop n streams))) (sym next)
       ∙ ap (λ (ks : List Key). before ++ ks) (sym (hidden_keys-at k streams s.stream s.at)) ∙ far
 
-  pub hidden_keys-end : (k : ℕ) (streams : List Stream) → length (pids_of streams) ≡ k → hidden_keys all (drop k streams) ≡ []
+  pub hidden_keys-end : (k : ℕ) (streams : List Stream) → length (pids_of streams) ≡ k
+      → hidden_keys all (drop k streams) ≡ []
   hidden_keys-end zero [] len = refl
   hidden_keys-end (suc k) [] len = refl
   hidden_keys-end zero (s ∷ streams) len = absurd (omega arith)
@@ -243,7 +245,8 @@ made_at streams pids k d es rising are within events =
     let who = s.pid in
     s.at ∙ (λ i. Some (record { pid = who i; events = same i }))
 
-pub all_hidden_once : (streams : List Stream) → IsRising (pids_of streams) → AreDistinctKeys (hidden_keys streams streams)
+pub all_hidden_once : (streams : List Stream) → IsRising (pids_of streams)
+    → AreDistinctKeys (hidden_keys streams streams)
     → (p : Pid) (es : List Event) → es ≡ events_of streams p → AreHiddenOnce streams p es
 all_hidden_once streams rising apart p es events i e at receives hidden =
     hidden_once streams rising apart p i e (sym (ap (λ l. slice_get l i) events) ∙ at) receives hidden

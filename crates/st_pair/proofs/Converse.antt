@@ -229,10 +229,12 @@ module _ (streams : List Stream) (rising : first (not_rising streams) streams �
             let count = says.count in
             let number : 0 + found.0 ≡ found.0 = omega arith in
             let same : found.0 ≡ j = elim (cases_lt found.0 j) [
-              | inl below ↦ let rise = counts_rise streams rising p found.0 j found.1 f below found.2 at says.stamps stamp in
+              | inl below ↦ let rise = counts_rise streams rising p found.0 j found.1 f below found.2 at
+                  says.stamps stamp in
                   absurd (omega arith)
               | inr above ↦ elim (cases_lt j found.0) [
-                | inl below ↦ let rise = counts_rise streams rising p j found.0 f found.1 below at found.2 stamp says.stamps in
+                | inl below ↦ let rise = counts_rise streams rising p j found.0 f found.1 below at found.2
+                    stamp says.stamps in
                     absurd (omega arith)
                 | inr least ↦ omega arith
               ]

@@ -119,11 +119,13 @@ one_index all (d ∷ es) (suc i) (suc j) e f apart at_e at_f hidden_e hidden_f s
 
 -- an event of the first process, and one of another
 across : (all : List Stream) (s : Stream) (streams : List Stream) (e f : Event)
-    → AreDistinctKeys (keys_in all s.events ++ hidden_keys all streams) → IsHidden all e → IsHidden all f → key_in e ≡ key_in f
+    → AreDistinctKeys (keys_in all s.events ++ hidden_keys all streams)
+    → IsHidden all e → IsHidden all f → key_in e ≡ key_in f
     → (i : ℕ) → slice_get s.events i ≡ Some e → (q : Pid) (j : ℕ) → event_at streams q j ≡ Some f → ⊥
 across all s streams e f apart hidden_e hidden_f same i at_e q j at_f =
     let parts = parts_apart (keys_in all s.events) (hidden_keys all streams) apart in
-    let others = key_there all (λ k. AllByRecursion (λ l. key_eq k l ≡ false) (hidden_keys all streams)) s.events i e at_e
+    let others = key_there all
+    (λ k. AllByRecursion (λ l. key_eq k l ≡ false) (hidden_keys all streams)) s.events i e at_e
     hidden_e parts.between in
     apart_keys (key_in e) (key_in f) same
     (key_at all (λ l. key_eq (key_in e) l ≡ false) streams q j f at_f hidden_f others)
@@ -159,8 +161,10 @@ one_place all (s ∷ streams) p q i j e f apart at_e at_f hidden_e hidden_f same
 
 -- THE FIRST RECEIVE
 
-pub hidden_once : (streams : List Stream) → IsRising (pids_of streams) → AreDistinctKeys (hidden_keys streams streams) → (p : Pid)
-    (i : ℕ) (e : Event) → event_at streams p i ≡ Some e → is_stamp e ≡ false → stamp_index streams (key_in e) ≡ None
+pub hidden_once : (streams : List Stream) → IsRising (pids_of streams)
+    → AreDistinctKeys (hidden_keys streams streams)
+    → (p : Pid) (i : ℕ) (e : Event) → event_at streams p i ≡ Some e → is_stamp e ≡ false
+    → stamp_index streams (key_in e) ≡ None
     → repeated streams p i e ≡ None
 hidden_once streams rising apart p i e at receives hidden =
     let q = e.from in

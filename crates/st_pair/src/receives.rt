@@ -124,8 +124,8 @@ impl Receives {
         })
     }
 
-    /// Those of these streams, if no message was received twice. The sends and prints are theirs. Each receive's send is
-    /// searched for, and receives of hidden sends are put in a map.
+    /// Those of these streams, if no message was received twice. The sends and prints are theirs.
+    /// Each receive's send is searched for, and receives of hidden sends are put in a map.
     pub fn of(alloc: Global, streams: &Streams, sent: &mut Stamps) -> Result<Receives, PairFault>
         requires { AreStamps streams.now sent.old }
         ensures table { IfOk result (λ receives. HasReceives streams.now (place_for streams.now receives)) }
@@ -153,7 +153,8 @@ impl Receives {
         requires apart { AreDistinctKeys (hidden_keys streams.now streams.now) }
         ensures table { IfOk result (λ found. IfSome found (λ receives.
             HasShownReceives streams.now (place_for streams.now receives))) }
-        ensures once { IfOk result (λ found. IfSome found (λ receives. first (repeated streams.now) streams.now ≡ None)) }
+        ensures once { IfOk result (λ found.
+            IfSome found (λ receives. first (repeated streams.now) streams.now ≡ None)) }
     {
         let mut receives = Receives::new(alloc, streams)?;
         let pids = streams.pids();
@@ -192,8 +193,8 @@ impl Receives {
         Receives::of(alloc, streams, sent)
     }
 
-    /// Notes a receive of the send or print at this index, and returns the place of the first one: this one's if there is
-    /// none before it. None if there is no such event.
+    /// Notes a receive of the send or print at this index, and returns the place of the first one:
+    /// this one's if there is none before it. None if there is no such event.
     fn note_link(
         &mut self,
         streams: &Streams,

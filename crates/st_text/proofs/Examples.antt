@@ -21,7 +21,9 @@ use Rattle.st_text.specs.Parsing.{parse_restore, parse_tracer, parse_alone, pars
 use Rattle.st_text.specs.Fault.{fault_within, first_fault, line_fault, unknown_from}
 
 -- the stored run: one traced print
-print_one : fault_within standard (codes "seqtrace 1\nprocess <0.30.0>\n{seq_trace,17,{print,{0,1},<0.30.0>,[],7}}\nacts\n"
+print_one :
+    fault_within standard
+    (codes "seqtrace 1\nprocess <0.30.0>\n{seq_trace,17,{print,{0,1},<0.30.0>,[],7}}\nacts\n"
     ++ codes "tracer <0.30.0> true\nset <0.30.0> label 17\nset <0.30.0> print true\nprint <0.30.0> 7\n") ≡ None
 unfolding fault_within first_fault line_fault unknown_from line_of parse_line number parse_bool parse_pid parse_label
     parse_serial parse_kind parse_head parse_some_pid parse_place parse_ends parse_event parse_actor parse_component
@@ -30,7 +32,9 @@ unfolding fault_within first_fault line_fault unknown_from line_of parse_line nu
 print_one = refl
 
 -- no leading zeros
-label_leading_zero : fault_within standard (codes "seqtrace 1\nprocess <0.30.0>\n{seq_trace,017,{print,{0,1},<0.30.0>,[],7}}\nacts\n"
+label_leading_zero :
+    fault_within standard
+    (codes "seqtrace 1\nprocess <0.30.0>\n{seq_trace,017,{print,{0,1},<0.30.0>,[],7}}\nacts\n"
     ++ codes "tracer <0.30.0> true\nset <0.30.0> label 17\nset <0.30.0> print true\nprint <0.30.0> 7\n")
     ≡ Some (faults.Line 3)
 unfolding fault_within first_fault line_fault unknown_from line_of parse_line number parse_bool parse_pid parse_label
@@ -40,7 +44,9 @@ unfolding fault_within first_fault line_fault unknown_from line_of parse_line nu
 label_leading_zero = refl
 
 -- the last line is ended too
-last_newline_missing : fault_within standard (codes "seqtrace 1\nprocess <0.30.0>\n{seq_trace,17,{print,{0,1},<0.30.0>,[],7}}\nacts\n"
+last_newline_missing :
+    fault_within standard
+    (codes "seqtrace 1\nprocess <0.30.0>\n{seq_trace,17,{print,{0,1},<0.30.0>,[],7}}\nacts\n"
     ++ codes "tracer <0.30.0> true\nset <0.30.0> label 17\nset <0.30.0> print true\nprint <0.30.0> 7")
     ≡ Some faults.Truncated
 unfolding fault_within first_fault line_fault unknown_from line_of parse_line number parse_bool parse_pid parse_label
@@ -50,7 +56,9 @@ unfolding fault_within first_fault line_fault unknown_from line_of parse_line nu
 last_newline_missing = refl
 
 -- the first faulty line comes before the end
-line_before_truncated : fault_within standard (codes "seqtrace 1\nprocess <0.30.0>\n{seq_trace,017,{print,{0,1},<0.30.0>,[],7}}\nacts\n"
+line_before_truncated :
+    fault_within standard
+    (codes "seqtrace 1\nprocess <0.30.0>\n{seq_trace,017,{print,{0,1},<0.30.0>,[],7}}\nacts\n"
     ++ codes "tracer <0.30.0> true\nset <0.30.0> label 17\nset <0.30.0> print true\nprint <0.30.0> 7")
     ≡ Some (faults.Line 3)
 unfolding fault_within first_fault line_fault unknown_from line_of parse_line number parse_bool parse_pid parse_label
@@ -60,7 +68,9 @@ unfolding fault_within first_fault line_fault unknown_from line_of parse_line nu
 line_before_truncated = refl
 
 -- an event of another process than the last
-foreign_print : fault_within standard (codes "seqtrace 1\nprocess <0.30.0>\n{seq_trace,17,{print,{0,1},<0.31.0>,[],7}}\nacts\n"
+foreign_print :
+    fault_within standard
+    (codes "seqtrace 1\nprocess <0.30.0>\n{seq_trace,17,{print,{0,1},<0.31.0>,[],7}}\nacts\n"
     ++ codes "tracer <0.30.0> true\nset <0.30.0> label 17\nset <0.30.0> print true\nprint <0.30.0> 7\n")
     ≡ Some (faults.Foreign 3)
 unfolding fault_within first_fault line_fault unknown_from line_of parse_line number parse_bool parse_pid parse_label
@@ -70,7 +80,9 @@ unfolding fault_within first_fault line_fault unknown_from line_of parse_line nu
 foreign_print = refl
 
 -- processes rise
-processes_falling : fault_within standard (codes "seqtrace 1\nprocess <0.31.0>\nprocess <0.30.0>\nacts\n") ≡ Some (faults.Order 3)
+processes_falling :
+    fault_within standard
+    (codes "seqtrace 1\nprocess <0.31.0>\nprocess <0.30.0>\nacts\n") ≡ Some (faults.Order 3)
 unfolding fault_within first_fault line_fault unknown_from line_of parse_line number parse_bool parse_pid parse_label
     parse_serial parse_kind parse_head parse_some_pid parse_place parse_ends parse_event parse_actor parse_component
     parse_both parse_want parse_flags parse_token parse_send parse_receive parse_print parse_printat parse_set
@@ -89,7 +101,9 @@ unfolding fault_within first_fault line_fault unknown_from line_of parse_line nu
 send_event_to_unlisted = refl
 
 -- an event's sender is listed
-prefix_unlisted : fault_within standard (codes "seqtrace 1\nprocess <0.30.0>\n{seq_trace,17,{print,{0,1},<0.30.0>,[],7}}\n"
+prefix_unlisted :
+    fault_within standard
+    (codes "seqtrace 1\nprocess <0.30.0>\n{seq_trace,17,{print,{0,1},<0.30.0>,[],7}}\n"
     ++ codes "{seq_trace,17,{'receive',{2,4},<0.31.0>,<0.30.0>,6}}\n") ≡ Some (faults.Unknown 4)
 unfolding fault_within first_fault line_fault unknown_from line_of parse_line number parse_bool parse_pid parse_label
     parse_serial parse_kind parse_head parse_some_pid parse_place parse_ends parse_event parse_actor parse_component
@@ -98,7 +112,9 @@ unfolding fault_within first_fault line_fault unknown_from line_of parse_line nu
 prefix_unlisted = refl
 
 -- header 1 knows node 0 alone
-pid_other_node_header_1 : fault_within standard (codes "seqtrace 1\nprocess <1.30.0>\n") ≡ Some (faults.Line 2)
+pid_other_node_header_1 :
+    fault_within standard
+    (codes "seqtrace 1\nprocess <1.30.0>\n") ≡ Some (faults.Line 2)
 unfolding fault_within first_fault line_fault unknown_from line_of parse_line number parse_bool parse_pid parse_label
     parse_serial parse_kind parse_head parse_some_pid parse_place parse_ends parse_event parse_actor parse_component
     parse_both parse_want parse_flags parse_token parse_send parse_receive parse_print parse_printat parse_set
@@ -106,7 +122,9 @@ unfolding fault_within first_fault line_fault unknown_from line_of parse_line nu
 pid_other_node_header_1 = refl
 
 -- header 2 is needless
-header_2_without_nodes : fault_within standard (codes "seqtrace 2\nprocess <0.30.0>\n") ≡ Some (faults.Line 1)
+header_2_without_nodes :
+    fault_within standard
+    (codes "seqtrace 2\nprocess <0.30.0>\n") ≡ Some (faults.Line 1)
 unfolding fault_within first_fault line_fault unknown_from line_of parse_line number parse_bool parse_pid parse_label
     parse_serial parse_kind parse_head parse_some_pid parse_place parse_ends parse_event parse_actor parse_component
     parse_both parse_want parse_flags parse_token parse_send parse_receive parse_print parse_printat parse_set
@@ -114,7 +132,9 @@ unfolding fault_within first_fault line_fault unknown_from line_of parse_line nu
 header_2_without_nodes = refl
 
 -- but that comes after the end
-header_2_truncated : fault_within standard (codes "seqtrace 2\nprocess <0.30.0>") ≡ Some faults.Truncated
+header_2_truncated :
+    fault_within standard
+    (codes "seqtrace 2\nprocess <0.30.0>") ≡ Some faults.Truncated
 unfolding fault_within first_fault line_fault unknown_from line_of parse_line number parse_bool parse_pid parse_label
     parse_serial parse_kind parse_head parse_some_pid parse_place parse_ends parse_event parse_actor parse_component
     parse_both parse_want parse_flags parse_token parse_send parse_receive parse_print parse_printat parse_set
@@ -122,7 +142,9 @@ unfolding fault_within first_fault line_fault unknown_from line_of parse_line nu
 header_2_truncated = refl
 
 -- and after each line
-header_2_order : fault_within standard (codes "seqtrace 2\nprocess <0.31.0>\nprocess <0.30.0>\n") ≡ Some (faults.Order 3)
+header_2_order :
+    fault_within standard
+    (codes "seqtrace 2\nprocess <0.31.0>\nprocess <0.30.0>\n") ≡ Some (faults.Order 3)
 unfolding fault_within first_fault line_fault unknown_from line_of parse_line number parse_bool parse_pid parse_label
     parse_serial parse_kind parse_head parse_some_pid parse_place parse_ends parse_event parse_actor parse_component
     parse_both parse_want parse_flags parse_token parse_send parse_receive parse_print parse_printat parse_set
@@ -130,7 +152,9 @@ unfolding fault_within first_fault line_fault unknown_from line_of parse_line nu
 header_2_order = refl
 
 -- a want alone needs header 2
-header_2_by_want : fault_within standard (codes "seqtrace 2\nprocess <0.30.0>\nacts\nreceive <0.30.0> from <1.5.0>\n") ≡ None
+header_2_by_want :
+    fault_within standard
+    (codes "seqtrace 2\nprocess <0.30.0>\nacts\nreceive <0.30.0> from <1.5.0>\n") ≡ None
 unfolding fault_within first_fault line_fault unknown_from line_of parse_line number parse_bool parse_pid parse_label
     parse_serial parse_kind parse_head parse_some_pid parse_place parse_ends parse_event parse_actor parse_component
     parse_both parse_want parse_flags parse_token parse_send parse_receive parse_print parse_printat parse_set
@@ -138,14 +162,18 @@ unfolding fault_within first_fault line_fault unknown_from line_of parse_line nu
 header_2_by_want = refl
 
 -- a pid that is named only by an unlisted actor counts as named
-unlisted_away : fault_within standard (codes "seqtrace 2\nprocess <0.30.0>\nacts\nclear <1.30.0>\n") ≡ Some (faults.Unknown 4)
+unlisted_away :
+    fault_within standard
+    (codes "seqtrace 2\nprocess <0.30.0>\nacts\nclear <1.30.0>\n") ≡ Some (faults.Unknown 4)
 unfolding fault_within first_fault line_fault unknown_from line_of parse_line number parse_bool parse_pid parse_label
     parse_serial parse_kind parse_head parse_some_pid parse_place parse_ends parse_event parse_actor parse_component
     parse_both parse_want parse_flags parse_token parse_send parse_receive parse_print parse_printat parse_set
     parse_restore parse_tracer parse_alone parse_act parse_rare digits
 unlisted_away = refl
 
-unlisted_here : fault_within standard (codes "seqtrace 2\nprocess <0.30.0>\nacts\nclear <0.31.0>\n") ≡ Some (faults.Line 1)
+unlisted_here :
+    fault_within standard
+    (codes "seqtrace 2\nprocess <0.30.0>\nacts\nclear <0.31.0>\n") ≡ Some (faults.Line 1)
 unfolding fault_within first_fault line_fault unknown_from line_of parse_line number parse_bool parse_pid parse_label
     parse_serial parse_kind parse_head parse_some_pid parse_place parse_ends parse_event parse_actor parse_component
     parse_both parse_want parse_flags parse_token parse_send parse_receive parse_print parse_printat parse_set
@@ -177,7 +205,9 @@ unfolding fault_within first_fault line_fault unknown_from line_of parse_line nu
 carriage = refl
 
 -- one space between words
-second_space : fault_within standard (codes "seqtrace 1\nprocess  <0.30.0>\n") ≡ Some (faults.Line 2)
+second_space :
+    fault_within standard
+    (codes "seqtrace 1\nprocess  <0.30.0>\n") ≡ Some (faults.Line 2)
 unfolding fault_within first_fault line_fault unknown_from line_of parse_line number parse_bool parse_pid parse_label
     parse_serial parse_kind parse_head parse_some_pid parse_place parse_ends parse_event parse_actor parse_component
     parse_both parse_want parse_flags parse_token parse_send parse_receive parse_print parse_printat parse_set
@@ -201,7 +231,9 @@ unfolding fault_within first_fault line_fault unknown_from line_of parse_line nu
 second_acts = refl
 
 -- no process behind it
-process_behind_acts : fault_within standard (codes "seqtrace 1\nacts\nprocess <0.30.0>\n") ≡ Some (faults.Line 3)
+process_behind_acts :
+    fault_within standard
+    (codes "seqtrace 1\nacts\nprocess <0.30.0>\n") ≡ Some (faults.Line 3)
 unfolding fault_within first_fault line_fault unknown_from line_of parse_line number parse_bool parse_pid parse_label
     parse_serial parse_kind parse_head parse_some_pid parse_place parse_ends parse_event parse_actor parse_component
     parse_both parse_want parse_flags parse_token parse_send parse_receive parse_print parse_printat parse_set
@@ -209,7 +241,9 @@ unfolding fault_within first_fault line_fault unknown_from line_of parse_line nu
 process_behind_acts = refl
 
 -- no event before any process
-event_alone : fault_within standard (codes "seqtrace 1\n{seq_trace,17,{print,{0,1},<0.30.0>,[],7}}\n") ≡ Some (faults.Line 2)
+event_alone :
+    fault_within standard
+    (codes "seqtrace 1\n{seq_trace,17,{print,{0,1},<0.30.0>,[],7}}\n") ≡ Some (faults.Line 2)
 unfolding fault_within first_fault line_fault unknown_from line_of parse_line number parse_bool parse_pid parse_label
     parse_serial parse_kind parse_head parse_some_pid parse_place parse_ends parse_event parse_actor parse_component
     parse_both parse_want parse_flags parse_token parse_send parse_receive parse_print parse_printat parse_set
@@ -217,7 +251,9 @@ unfolding fault_within first_fault line_fault unknown_from line_of parse_line nu
 event_alone = refl
 
 -- a label has 32 bits
-label_too_great : fault_within standard (codes "seqtrace 1\nprocess <0.30.0>\nacts\nset <0.30.0> label 4294967296\n")
+label_too_great :
+    fault_within standard
+    (codes "seqtrace 1\nprocess <0.30.0>\nacts\nset <0.30.0> label 4294967296\n")
     ≡ Some (faults.Line 4)
 unfolding fault_within first_fault line_fault unknown_from line_of parse_line number parse_bool parse_pid parse_label
     parse_serial parse_kind parse_head parse_some_pid parse_place parse_ends parse_event parse_actor parse_component
@@ -226,7 +262,9 @@ unfolding fault_within first_fault line_fault unknown_from line_of parse_line nu
 label_too_great = refl
 
 -- each form of an act
-every_act : fault_within standard (codes "seqtrace 2\nprocess <0.30.0>\nprocess <0.31.0>\nacts\nsend <0.30.0> <0.31.0> 5\n"
+every_act :
+    fault_within standard
+    (codes "seqtrace 2\nprocess <0.30.0>\nprocess <0.31.0>\nacts\nsend <0.30.0> <0.31.0> 5\n"
     ++ codes "receive <0.31.0> first\nreceive <0.31.0> from <1.9.0>\nreceive <0.31.0> value 5\n"
     ++ codes "receive <0.31.0> both <0.30.0> 5\nreceive <0.31.0> place 0\nprint <0.30.0> 7\n"
     ++ codes "printat <0.30.0> 1 7\nset <0.30.0> label 1\nset <0.30.0> send true\n"

@@ -1,4 +1,5 @@
--- So far the links of the events that were taken are filled in, and none of them is a receive that differs from its send.
+-- So far the links of the events that were taken are filled in, and none of them is a receive
+-- that differs from its send.
 use Rattle.std.proofs.Common.{◌≡◌, ◌++◌, map, take, drop}
 use Rattle.st_pair.specs.Links.{link_of}
 use Rattle.st_pair.specs.Pairing.{mismatch}

@@ -16,7 +16,8 @@ returns-in_err-write_line g c =
 pub returns : goal.returns
 returns g c =
     let es = events_of c.args.streams.now c.args.pid in
-    then_on g.S.ByteSink.puts g.S.ByteSink.failed (ended (lines.Process c.args.pid)) (flat_map ended (map lines.Event es))
+    then_on g.S.ByteSink.puts g.S.ByteSink.failed (ended (lines.Process c.args.pid))
+    (flat_map ended (map lines.Event es))
     _ _ c.write_each.result c.in_ok-write_line.ensures
     (on_images g.S.ByteSink.puts g.S.ByteSink.failed ended lines.Event es _ _ _ _ c.write_each.result
     (rw c.events.ensures.value at c.write_each.ensures))

@@ -8,5 +8,7 @@ use Rattle.st_runtime.proofs.join.merge.acts_of.Given as goal
 
 abbrev pub invariant-loop-reference : goal.invariant-loop-reference
 invariant-loop-reference l =
-    (l.acts.items ≡ map (λ (r : Bor Logged × ℕ). (referred r).act) (take l.reference-index l.entries)) × (vec_len l.acts ≡ l.reference-index)
+    (l.acts.items ≡ map (λ (r : Bor Logged × ℕ). (referred r).act)
+    (take l.reference-index l.entries))
+    × (vec_len l.acts ≡ l.reference-index)
     × (length l.entries ≤ vec_capacity l.acts)

@@ -8,5 +8,7 @@ use Rattle.st_runtime.proofs.join.merge.replies_of.Given as goal
 
 abbrev pub invariant-loop-reference : goal.invariant-loop-reference
 invariant-loop-reference l =
-    (l.replies.items ≡ map (λ (r : Bor Logged × ℕ). (referred r).reply) (take l.reference-index l.entries)) × (vec_len l.replies ≡ l.reference-index)
+    (l.replies.items ≡ map (λ (r : Bor Logged × ℕ). (referred r).reply)
+    (take l.reference-index l.entries))
+    × (vec_len l.replies ≡ l.reference-index)
     × (length l.entries ≤ vec_capacity l.replies)
