@@ -15,5 +15,6 @@ returns-in-Ok g c =
 pub returns-in-Err : goal.returns-in-Err
 returns-in-Err g c =
     performs (charted_means c.args.limits c.args.label) (no_chart_means c.args.limits c.args.label)
-    (tells_fault c.args.limits (call g.R.ByteSource _ _) (IsCharted c.args.limits c.args.label) Faulty _ _ c.in-Err.fault
+    (tells_fault c.args.limits (call g.R.ByteSource _ _) (IsCharted c.args.limits c.args.label)
+    Faulty _ _ c.in-Err.fault
     c.in-Err.ensures c.tell_fault.ensures)
