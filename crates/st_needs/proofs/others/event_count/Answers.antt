@@ -1,5 +1,5 @@
 -- One process more.
-use Rattle.std.proofs.Common.{◌+◌, List, length, sum_by, take, refl, sym, ◌∙◌, ap, arith}
+use Rattle.std.proofs.Common.{List, length, sum_by, refl, ◌∙◌, ap, arith}
 use Rattle.std.proofs.lemmas.List.{take_all}
 use Rattle.st_plan.specs.Marks.{Marked, Whole}
 use Rattle.st_needs.proofs.Constructed.{item_at}

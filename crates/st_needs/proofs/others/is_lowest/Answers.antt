@@ -1,5 +1,5 @@
 -- What is below the first of rising pids is below all of them.
-use Rattle.std.proofs.Common.{sym, ◌∙◌, arith}
+use Rattle.std.proofs.Common.{sym, ◌∙◌}
 use Rattle.st_needs.proofs.OthersAdded.{below_first, below_none}
 use Rattle.st_needs.proofs.others.is_lowest.Goals as goal
 

@@ -1,5 +1,5 @@
 -- Behind all listed processes the others are left.
-use Rattle.std.proofs.Common.{◌≤◌, List, drop, length, sym, ◌∙◌, ap, arith, true}
+use Rattle.std.proofs.Common.{sym, arith}
 use Rattle.st_needs.proofs.Merging.{others_left}
 use Rattle.st_needs.proofs.silent.is_other_next.Goals as goal
 

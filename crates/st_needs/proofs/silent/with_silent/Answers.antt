@@ -1,10 +1,9 @@
 -- One process more, listed or not, behind all that came.
-use Rattle.std.proofs.Common.{◌≡◌, ◌<◌, ◌+◌, ◌++◌, ℕ, List, [], length, get_or, slice_get, Some}
+use Rattle.std.proofs.Common.{◌≡◌, ◌+◌, ◌++◌, ℕ, List, length, get_or, slice_get, Some}
 use Rattle.std.proofs.Common.{refl, sym}
-use Rattle.std.proofs.Common.{◌∙◌, ap, subst, arith, rules}
+use Rattle.std.proofs.Common.{◌∙◌, ap, subst, arith}
 use Rattle.st_core.specs.declared.types.Pid.{Pid}
-use Rattle.st_core.specs.declared.types.Event.{Event}
-use Rattle.st_core.specs.Run.{Stream, pids_of}
+use Rattle.st_core.specs.Run.{Stream}
 use Rattle.st_core.specs.Streams.{unlisted}
 use Rattle.st_open_world.proofs.ForCallers.{silent_sound}
 use Rattle.st_needs.specs.Merged.{merged}
