@@ -13,7 +13,7 @@ use crate::assembly::{Parts, assemble};
 use crate::hidden_sends::hidden_sends;
 use crate::inventions::invent;
 use crate::lost_messages::give_lost;
-use crate::senders::give_senders;
+use crate::senders::{Senders, find_senders};
 use crate::walk::place_hidden;
 use st_core::{Pid, Sequence, Streams};
 use st_pair::Pairing;
@@ -63,8 +63,14 @@ pub fn build_candidate(
     let mut asks = Asks::of(alloc, streams, &hidden)?;
     give_lost(alloc, streams, pairing, &mut asks)?;
     let mut fed = asks.into_fed()?;
-    let (sends, unlisted) = give_senders(alloc, streams, &hidden, &mut fed)?;
-    let inventions = invent(alloc, streams, &hidden, &mut fed, sends)?;
+    let Senders {
+        turns,
+        senders,
+        unlisted,
+    } = find_senders(alloc, streams, &hidden, &fed)?;
+    let inventions = invent(alloc, streams, &hidden, &mut fed, &turns, &senders)?;
+    drop(turns);
+    drop(senders);
     let parts = Parts {
         hidden,
         fed,

@@ -1,7 +1,7 @@
 //! Hidden sends: sends that only their receives tell of.
 
 use crate::links::short;
-use crate::sorting::sorted_by_number;
+use crate::sorting::Places;
 use st_core::{Event, Kind, Pid, Streams};
 use st_pair::{Pairing, Source};
 use std::alloc::{AllocError, Global};
@@ -57,6 +57,22 @@ fn note_receipts(
     Ok(())
 }
 
+/// The receipts of so many senders, by sender.
+fn dealt_by_sender(
+    alloc: Global,
+    receipts: &[Receipt],
+    senders: usize,
+) -> Result<Vec<Receipt>, AllocError> {
+    let sender_of = |receipt: &Receipt| Some(receipt.sender as usize);
+    let mut places = Places::of(alloc, receipts, senders, &sender_of)?;
+    let mut sorted = Vec::new(alloc);
+    sorted.extend_from_slice(receipts)?;
+    for receipt in receipts {
+        places.put(&mut sorted, receipt.sender as usize, *receipt);
+    }
+    Ok(sorted)
+}
+
 /// The receipts of so many senders, by sender and count. They are dealt out to their senders first:
 /// those of one are few, and are sorted where memory is near.
 fn by_sender(
@@ -64,8 +80,7 @@ fn by_sender(
     receipts: &[Receipt],
     senders: usize,
 ) -> Result<Vec<Receipt>, AllocError> {
-    let sender_of = |receipt: &Receipt| receipt.sender as usize;
-    let mut sorted = sorted_by_number(alloc, receipts, senders, &sender_of)?;
+    let mut sorted = dealt_by_sender(alloc, receipts, senders)?;
     let mut rest = sorted.as_mut_slice();
     for sender in 0..senders {
         let count = rest.partition_point(|receipt| receipt.sender as usize <= sender);

@@ -3,7 +3,8 @@
 use crate::asks::{Ask, Message, split_asks, split_hidden};
 use crate::entries::Entries;
 use crate::hidden_sends::HiddenSend;
-use crate::sorting::sorted_by_number;
+use crate::senders::Turn;
+use crate::sorting::Places;
 use st_core::{Event, Kind, Label, Pid, Serial, Streams};
 use st_needs::{Left, is_stamp};
 use std::alloc::{AllocError, Global};
@@ -27,6 +28,19 @@ pub(crate) struct Invention {
 }
 
 impl Invention {
+    /// What is in a list of sends before its sends are put there.
+    fn blank() -> Invention {
+        let nobody = Pid::on(0, 0);
+        Invention {
+            count: 0,
+            prev: 0,
+            sender: nobody,
+            to: nobody,
+            label: Label(0),
+            ask: 0,
+        }
+    }
+
     /// The send itself.
     pub(crate) fn sent(&self) -> Event {
         Event {
@@ -134,36 +148,82 @@ fn note_prevs(fed: &mut [Ask], inventions: &[Invention]) {
 /// How many sends pay for a table of all numbers of a node.
 const MANY: usize = 1 << 16;
 
-/// The sends by sender; those of one sender stay as they come.
-fn by_sender(alloc: Global, inventions: Vec<Invention>) -> Result<Vec<Invention>, AllocError> {
-    let mut inventions = inventions;
-    if inventions.is_sorted_by_key(|invention| invention.sender) {
-        return Ok(inventions);
-    }
-    let node = inventions
-        .first()
-        .map_or(0, |invention| invention.sender.node());
-    let is_one_node = inventions
-        .iter()
-        .all(|invention| invention.sender.node() == node);
-    if is_one_node && inventions.len() >= MANY {
-        let number = |invention: &Invention| usize::from(invention.sender.number());
-        return sorted_by_number(alloc, &inventions, usize::from(u16::MAX), &number);
-    }
-    inventions.sort_by_key(|invention| invention.sender)?;
-    Ok(inventions)
+/// The send, with prev 0, of a message for the stamp whose turn it is, which learns of it.
+fn give(fed: &mut [Ask], turn: Turn, sender: Pid) -> Option<Invention> {
+    let ask = fed.get_mut(turn.ask as usize)?;
+    ask.message = Message::Invented(sender, 0);
+    Some(Invention {
+        count: turn.count,
+        prev: 0,
+        sender,
+        to: ask.process,
+        label: ask.label,
+        ask: turn.ask,
+    })
 }
 
-/// Gives the invented messages that these stamps got their prevs. Returns their sends, which come by
-/// count, by sender and count.
+/// Gives these stamps the messages of their senders. Returns the sends, with prev 0, by sender and
+/// count.
+fn give_all(
+    alloc: Global,
+    turns: &[Turn],
+    senders: &[Pid],
+    fed: &mut [Ask],
+) -> Result<Vec<Invention>, AllocError> {
+    let is_sorted = senders.is_sorted();
+    if !is_sorted && senders.len() >= MANY && is_one_node(senders) {
+        return deal_sends(alloc, turns, senders, fed);
+    }
+    let mut sends = Vec::with_capacity(alloc, turns.len())?;
+    for (turn, sender) in turns.iter().zip(senders) {
+        if let Some(send) = give(fed, *turn, *sender) {
+            sends.push(send)?;
+        }
+    }
+    if !is_sorted {
+        sends.sort_by_key(|send| send.sender)?;
+    }
+    Ok(sends)
+}
+
+/// Whether these processes are on one node.
+fn is_one_node(pids: &[Pid]) -> bool {
+    let Some(first) = pids.first() else {
+        return true;
+    };
+    pids.iter().all(|pid| pid.node() == first.node())
+}
+
+/// As `give_all`, if all senders are on one node, in a time linear in the sends and the numbers of a
+/// node.
+fn deal_sends(
+    alloc: Global,
+    turns: &[Turn],
+    senders: &[Pid],
+    fed: &mut [Ask],
+) -> Result<Vec<Invention>, AllocError> {
+    let number_of = |pid: &Pid| Some(usize::from(pid.number()));
+    let mut places = Places::of(alloc, senders, usize::from(u16::MAX), &number_of)?;
+    let mut sends = vec![in alloc; Invention::blank(); senders.len()]?;
+    for (turn, sender) in turns.iter().zip(senders) {
+        if let Some(send) = give(fed, *turn, *sender) {
+            places.put(&mut sends, usize::from(sender.number()), send);
+        }
+    }
+    Ok(sends)
+}
+
+/// Gives the needs that are left among these stamps messages, of these senders. Returns their sends,
+/// by sender and count.
 pub(crate) fn invent(
     alloc: Global,
     streams: &Streams,
     hidden: &[HiddenSend],
     fed: &mut [Ask],
-    inventions: Vec<Invention>,
+    turns: &[Turn],
+    senders: &[Pid],
 ) -> Result<Vec<Invention>, AllocError> {
-    let mut sends = by_sender(alloc, inventions)?;
+    let mut sends = give_all(alloc, turns, senders, fed)?;
     give_prevs(streams, hidden, fed, &mut sends);
     note_prevs(fed, &sends);
     Ok(sends)

@@ -7,9 +7,8 @@
 use crate::asks::{Ask, Message};
 use crate::candidate::items_from;
 use crate::hidden_sends::HiddenSend;
-use crate::inventions::Invention;
 use crate::links::short;
-use crate::sorting::sorted_by_number;
+use crate::sorting::Places;
 use crate::unlisted_pids::UnlistedPids;
 use st_core::{Event, Pid, Streams};
 use st_needs::is_stamp;
@@ -107,7 +106,7 @@ fn stamps_in_the_way(
 
 /// Gives senders out. The counts that are asked for must rise.
 #[derive(Debug, Drop)]
-struct Senders<'a> {
+struct Giver<'a> {
     streams: &'a Streams,
     /// The stamps whose counts may be asked for, by count and process.
     stamps: Vec<Stamp>,
@@ -123,7 +122,7 @@ struct Senders<'a> {
     unlisted: UnlistedPids,
 }
 
-impl Senders<'_> {
+impl Giver<'_> {
     /// Whether the process stamps this count. Stamps are by count and process, and so are the
     /// questions, so that no stamp is looked at twice.
     fn is_stamped(&mut self, count: u64, process: Pid) -> bool {
@@ -166,7 +165,7 @@ impl Senders<'_> {
 
     /// The unlisted processes that were given out, by rising pid.
     fn into_unlisted(self) -> Result<Vec<Pid>, AllocError> {
-        let Senders {
+        let Giver {
             streams: _,
             stamps: _,
             stamp: _,
@@ -181,85 +180,136 @@ impl Senders<'_> {
 
 /// A need without a message.
 #[derive(Clone, Copy, Debug)]
-struct Turn {
-    count: u64,
+pub(crate) struct Turn {
+    /// Its count.
+    pub count: u64,
     /// Its number among the stamps that get messages.
-    ask: u32,
+    pub ask: u32,
+}
+
+/// The needs that are left among stamps, and who sends their messages.
+#[derive(Debug, Drop)]
+pub(crate) struct Senders {
+    /// The needs, by count, and those of one count as they stand.
+    pub turns: Vec<Turn>,
+    /// The sender of each.
+    pub senders: Vec<Pid>,
+    /// The processes among these that the streams don't list, by rising pid.
+    pub unlisted: Vec<Pid>,
+}
+
+/// The count of a stamp, if it has no message.
+fn count_of_need(ask: &Ask) -> Option<u64> {
+    match ask.message {
+        Message::Missing => Some(ask.count),
+        Message::Lost(..) | Message::Invented(..) => None,
+    }
+}
+
+/// What the needs that are left have in common.
+#[derive(Clone, Copy, Debug)]
+struct Survey {
+    /// How many they are.
+    needs: usize,
+    /// The greatest count.
+    greatest: u64,
+    /// Whether their counts never go down.
+    is_sorted: bool,
+}
+
+/// Looks at the needs that are left among these stamps.
+fn look_at(fed: &[Ask]) -> Survey {
+    let mut seen = Survey {
+        needs: 0,
+        greatest: 0,
+        is_sorted: true,
+    };
+    let mut last = 0;
+    for count in fed.iter().filter_map(count_of_need) {
+        seen.needs = seen.needs.saturating_add(1);
+        seen.greatest = seen.greatest.max(count);
+        seen.is_sorted = seen.is_sorted && last <= count;
+        last = count;
+    }
+    seen
 }
 
 /// The needs that are left among these stamps, by count, and those of one count as they stand.
 fn turns_of(alloc: Global, fed: &[Ask]) -> Result<Vec<Turn>, AllocError> {
-    let mut turns = Vec::with_capacity(alloc, fed.len())?;
+    let Survey {
+        needs,
+        greatest,
+        is_sorted,
+    } = look_at(fed);
+    // Counts are mostly no higher than a few times the needs.
+    if !is_sorted && greatest <= (needs as u64).saturating_mul(4) {
+        return deal_turns(alloc, fed, needs, greatest as usize);
+    }
+    let mut turns = Vec::with_capacity(alloc, needs)?;
     for (number, ask) in fed.iter().enumerate() {
-        if ask.message == Message::Missing {
-            turns.push(Turn {
-                count: ask.count,
-                ask: short(number),
-            })?;
+        if let Some(count) = count_of_need(ask) {
+            let ask = short(number);
+            turns.push(Turn { count, ask })?;
         }
     }
-    sort_turns(alloc, turns)
-}
-
-/// The turns by count. Counts are mostly no higher than a few times their number.
-fn sort_turns(alloc: Global, turns: Vec<Turn>) -> Result<Vec<Turn>, AllocError> {
-    let mut turns = turns;
-    if turns.is_sorted_by_key(|turn| turn.count) {
-        return Ok(turns);
+    if !is_sorted {
+        turns.sort_by_key(|turn| turn.count)?;
     }
-    let greatest = turns.iter().map(|turn| turn.count).max().unwrap_or(0);
-    if greatest <= (turns.len() as u64).saturating_mul(4) {
-        return sorted_by_number(
-            alloc,
-            &turns,
-            greatest as usize,
-            &|turn: &Turn| turn.count as usize,
-        );
-    }
-    turns.sort_by_key(|turn| turn.count)?;
     Ok(turns)
 }
 
-/// Gives each stamp whose turn comes a sender, and returns the sends, with prev 0, as the turns come.
-fn take_turns(
+/// The same for so many needs with counts up to this one, in a time linear in both.
+fn deal_turns(
     alloc: Global,
-    senders: &mut Senders<'_>,
-    turns: &[Turn],
-    fed: &mut [Ask],
-) -> Result<Vec<Invention>, AllocError> {
-    let mut inventions = Vec::with_capacity(alloc, turns.len())?;
-    for turn in turns {
-        let (Some(ask), Some(sender)) = (fed.get_mut(turn.ask as usize), senders.next(turn.count)?)
-        else {
-            continue;
-        };
-        ask.message = Message::Invented(sender, 0);
-        inventions.push(Invention {
-            count: turn.count,
-            prev: 0,
-            sender,
-            to: ask.process,
-            label: ask.label,
-            ask: turn.ask,
-        })?;
+    fed: &[Ask],
+    needs: usize,
+    greatest: usize,
+) -> Result<Vec<Turn>, AllocError> {
+    let number_of = |ask: &Ask| count_of_need(ask).map(|count| count as usize);
+    let mut places = Places::of(alloc, fed, greatest, &number_of)?;
+    let mut turns = vec![in alloc; Turn { count: 0, ask: 0 }; needs]?;
+    for (number, ask) in fed.iter().enumerate() {
+        if let Some(count) = count_of_need(ask) {
+            let ask = short(number);
+            places.put(&mut turns, count as usize, Turn { count, ask });
+        }
     }
-    Ok(inventions)
+    Ok(turns)
 }
 
-/// Gives each need that is left among the stamps that get messages, which come by process and index,
-/// a sender. Returns the sends, with prev 0, by count, and the unlisted processes among the senders,
-/// by rising pid: as few as needs of one count are left over.
-pub(crate) fn give_senders(
+/// The senders of the messages of these needs. It fails too if no pid is left for one.
+fn take_turns(
+    alloc: Global,
+    giver: &mut Giver<'_>,
+    turns: &[Turn],
+) -> Result<Vec<Pid>, AllocError> {
+    let mut senders = Vec::with_capacity(alloc, turns.len())?;
+    for turn in turns {
+        let Some(sender) = giver.next(turn.count)? else {
+            return Err(AllocError);
+        };
+        senders.push(sender)?;
+    }
+    Ok(senders)
+}
+
+/// Finds a sender for each need that is left among the stamps that get messages, which come by
+/// process and index. The unlisted processes are as few as needs of one count are left over.
+pub(crate) fn find_senders(
     alloc: Global,
     streams: &Streams,
     hidden: &[HiddenSend],
-    fed: &mut [Ask],
-) -> Result<(Vec<Invention>, Vec<Pid>), AllocError> {
+    fed: &[Ask],
+) -> Result<Senders, AllocError> {
     let turns = turns_of(alloc, fed)?;
     if turns.is_empty() {
-        return Ok((Vec::new(alloc), Vec::new(alloc)));
+        return Ok(Senders {
+            turns,
+            senders: Vec::new(alloc),
+            unlisted: Vec::new(alloc),
+        });
     }
-    let mut senders = Senders {
+    let mut giver = Giver {
         streams,
         stamps: stamps_in_the_way(alloc, streams, hidden, &turns)?,
         stamp: 0,
@@ -268,6 +318,11 @@ pub(crate) fn give_senders(
         others: 0,
         unlisted: UnlistedPids::new(alloc, streams),
     };
-    let inventions = take_turns(alloc, &mut senders, &turns, fed)?;
-    Ok((inventions, senders.into_unlisted()?))
+    let senders = take_turns(alloc, &mut giver, &turns)?;
+    let unlisted = giver.into_unlisted()?;
+    Ok(Senders {
+        turns,
+        senders,
+        unlisted,
+    })
 }
