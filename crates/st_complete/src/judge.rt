@@ -4,6 +4,7 @@ ghost use Rattle.std.specs.Prelude.{◌≡◌, ◌↔◌, true, false, IfOk, IsT
 ghost use Rattle.std.specs.List.{AllByRecursion};
 ghost use Rattle.std.specs.Option.{ForSome};
 ghost use Rattle.st_core.specs.Pid.{IsRising};
+ghost use Rattle.st_core.specs.Run.{pids_of};
 ghost use Rattle.st_core.specs.Streams.{lists, IsStreams};
 ghost use Rattle.st_open_world.specs.Silent.{with_silent};
 ghost use Rattle.st_pair.specs.Pairing.{is_send};
@@ -15,7 +16,7 @@ ghost use Rattle.st_complete.specs.Links.{other_end, receipt_of, AreEventsFit, I
 
 use st_candidate::Candidate;
 use st_core::{Event, Kind, Pid, Sequence, Streams, is_rising};
-use st_needs::{Completion, Left, completion_of, is_marked, is_unlisted, marks_at, with_silent};
+use st_needs::{Completion, Left, completion_of, is_marked, is_unlisted, marks_at, pids_with};
 use std::alloc::{AllocError, Global};
 
 /// Whether these are one event.
@@ -51,12 +52,22 @@ fn tells_events(all: &[Event], marks: &[bool], events: &[Event]) -> bool
     rest.is_empty()
 }
 
-/// Whether the streams are the marked events among all events.
-fn tells_streams(all: &Streams, lists: &[Sequence<bool>], streams: &Streams) -> bool
-    ensures told { result ≡ true → told_streams (wholes_with all.now lists.now) ≡ streams.now }
+/// Whether the streams, with nothing of these unlisted processes, are the marked events among all
+/// events. The pids are those of both.
+fn tells_streams(
+    all: &Streams,
+    lists: &[Sequence<bool>],
+    streams: &Streams,
+    unlisted: &[Pid],
+    pids: &[Pid],
+) -> bool
+    requires { pids.now ≡ pids_of (with_silent streams.now unlisted.now) }
+    ensures told { result ≡ true → told_streams (wholes_with all.now lists.now)
+        ≡ with_silent streams.now unlisted.now }
     ensures streams { IsStreams all.now }
 {
-    let pids = streams.pids();
+    let _pids = streams.pids();
+    let _unlisted = unlisted;
     let all_pids = all.pids();
     if all_pids.len() != pids.len() {
         return false;
@@ -214,11 +225,8 @@ fn tells_with(
     ensures streams { IsStreams all.now }
 {
     let _all = all.pids();
-    if unlisted.is_empty() {
-        return Ok(tells_streams(all, marks, streams));
-    }
-    let more = with_silent(alloc, streams, unlisted)?;
-    Ok(tells_streams(all, marks, &more))
+    let pids = pids_with(alloc, streams, unlisted)?;
+    Ok(tells_streams(all, marks, streams, unlisted, &pids))
 }
 
 /// Checks a candidate, and returns it as a completion of the streams if it is one.

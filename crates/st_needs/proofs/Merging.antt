@@ -1,6 +1,6 @@
 -- Why streams and other processes, merged, are the streams with these processes: the least of the
 -- others is where it is put into the streams with all that follow it.
-use Rattle.std.proofs.Common.{◌≡◌, ℕ, ◌+◌, zero, suc, ◌<◌, ◌≤◌, ◌||◌, Bool, true, false, cond, List}
+use Rattle.std.proofs.Common.{◌≡◌, ℕ, ◌+◌, zero, suc, ◌<◌, ◌≤◌, true, false, cond, List}
 use Rattle.std.proofs.Common.{[], ◌∷◌, ◌++◌}
 use Rattle.std.proofs.Common.{inl, inr, length, drop, get_or, slice_get, Some, append-nil, refl}
 use Rattle.std.proofs.Common.{sym, ◌∙◌, ap}
@@ -11,7 +11,7 @@ use Rattle.std.proofs.lemmas.Bool.{cases_lt, false≢true}
 use Rattle.std.proofs.lemmas.List.{append_assoc, drop_more, length-map}
 use Rattle.std.proofs.lemmas.Option.{slice_get_within}
 use Rattle.st_core.specs.declared.types.Pid.{Pid}
-use Rattle.st_core.specs.Pid.{pid_cmp, pid_eq, IsBelow, IsRising}
+use Rattle.st_core.specs.Pid.{pid_cmp, IsBelow, IsRising}
 use Rattle.st_core.specs.Run.{Stream, pids_of}
 use Rattle.st_core.specs.Streams.{lists, ComesLast, IsStreams}
 use Rattle.st_core.proofs.ForCallers.{IsBelow-trans, is_lt-true, not_below_itself}
@@ -298,3 +298,48 @@ taken_within streams others ps k draft taken added are is more before =
     let same = ap length are in
     let few = before.few in
     listed_there ps others taken added is (omega arith) (omega arith) before.fewer
+
+-- THE PIDS ALONE
+
+-- the pids that came are those of streams that came
+pub record ArePidsMerging (streams : List Stream) (others : List Pid) (k : ℕ) (pids : List Pid)
+    (taken added : ℕ)
+    : Type 0 where
+  pub draft : List Stream
+  pub are : pids ≡ pids_of draft
+  pub merging : IsMerging streams others k draft taken added
+
+one_more_pid : (xs : List Stream) (x : Stream) → pids_of (xs ++ x ∷ []) ≡ pids_of xs ++ x.pid ∷ []
+one_more_pid [] x = refl
+one_more_pid (y ∷ xs) x = ap (λ ps. y.pid ∷ ps) (one_more_pid xs x)
+
+pub other_pid_more : (streams : List Stream) (others ps : List Pid) (k : ℕ) (pids next : List Pid)
+    (taken added : ℕ)
+    (d : Pid) → ps ≡ pids_of streams → is_other_next (drop taken ps) (drop added others) ≡ true
+    → next ≡ pids ++ get_or others added d ∷ []
+    → ArePidsMerging streams others k pids taken added
+    → ArePidsMerging streams others (k + 1) next taken (added + 1)
+other_pid_more streams others ps k pids next taken added d are is put before =
+    let q = get_or others added d in
+    let draft = before.draft in
+    record {
+      draft = draft ++ silent q ∷ [];
+      are = put ∙ ap (λ xs. xs ++ q ∷ []) before.are ∙ sym (one_more_pid draft (silent q));
+      merging = other_more streams others ps k draft (draft ++ silent q ∷ []) taken added d are is
+          refl before.merging;
+    }
+
+pub listed_pid_more : (streams : List Stream) (others ps : List Pid) (k : ℕ) (pids next : List Pid)
+    (taken added : ℕ)
+    (x : Stream) → ps ≡ pids_of streams → is_other_next (drop taken ps) (drop added others) ≡ false
+    → slice_get streams taken ≡ Some x → next ≡ pids ++ x.pid ∷ []
+    → ArePidsMerging streams others k pids taken added
+    → ArePidsMerging streams others (k + 1) next (taken + 1) added
+listed_pid_more streams others ps k pids next taken added x are is at put before =
+    let draft = before.draft in
+    record {
+      draft = draft ++ x ∷ [];
+      are = put ∙ ap (λ xs. xs ++ x.pid ∷ []) before.are ∙ sym (one_more_pid draft x);
+      merging = listed_more streams others ps k draft (draft ++ x ∷ []) taken added x are is at
+          refl before.merging;
+    }

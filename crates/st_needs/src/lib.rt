@@ -22,5 +22,5 @@ pub use completion::{Completion, completion_of, is_marked, marks_at};
 pub use definition::complete_by_definition;
 pub use flaws::{Flaw, Left, find_flaw, is_hidden_source, is_stamp, prev_left};
 pub use ranks::{counts_of, renumbered};
-pub use silent::{is_unlisted, with_silent};
+pub use silent::{is_unlisted, pids_with, with_silent};
 pub use unfounded_stamps::find_unfounded;

@@ -3,6 +3,7 @@
 ghost use Rattle.std.specs.Prelude.{◌≡◌, drop, true, false, IfOk};
 ghost use Rattle.std.specs.List.{AllByRecursion};
 ghost use Rattle.st_core.specs.Pid.{IsRising};
+ghost use Rattle.st_core.specs.Run.{pids_of};
 ghost use Rattle.st_core.specs.Streams.{lists};
 ghost use Rattle.st_open_world.specs.Silent.{with_silent};
 ghost use Rattle.st_needs.specs.Merged.{is_other_next};
@@ -34,6 +35,28 @@ fn is_other_next(pids: &[Pid], taken: usize, others: &[Pid], added: usize) -> bo
         return true;
     }
     others[added] < pids[taken]
+}
+
+/// The pids of the streams and of these processes, all by rising pid.
+pub fn pids_with(alloc: Global, streams: &Streams, others: &[Pid]) -> Result<Vec<Pid>, AllocError>
+    requires apart { AllByRecursion (λ q. lists streams.now q ≡ false) others.now }
+    requires rising { IsRising others.now }
+    ensures { IfOk result (λ pids. pids.items ≡ pids_of (with_silent streams.now others.now)) }
+{
+    let pids = streams.pids();
+    let mut all = Vec::new(alloc);
+    let mut added: usize = 0;
+    let mut taken: usize = 0;
+    for _ in 0..pids.len() + others.len() {
+        if is_other_next(pids, taken, others, added) {
+            all.push(others[added])?;
+            added += 1;
+        } else {
+            all.push(pids[taken])?;
+            taken += 1;
+        }
+    }
+    Ok(all)
 }
 
 /// The streams, and one without events of each of these processes. It copies all events.
