@@ -2,6 +2,7 @@
 
 ghost use Rattle.std.specs.Prelude.{◌≡◌, length, option_map, slice_get, List, get_or, false, []};
 ghost use Rattle.st_core.specs.declared.types.Event.{Event as EventValue};
+ghost use Rattle.st_core.specs.Streams.{events_of};
 ghost use Rattle.st_closed_world.specs.Needs.{marked_of};
 ghost use Rattle.st_open_world.specs.Silent.{with_silent};
 ghost use Rattle.st_plan.specs.Marks.{all_streams, marks_of, told_streams};
@@ -105,6 +106,18 @@ impl Completion {
         ensures { wholes_with (all_streams self.now.wholes) result.now ≡ self.now.wholes }
     {
         &self.told
+    }
+
+    /// The marks of this process; its events past the end of them are untold.
+    pub fn marks_of(&self, pid: Pid) -> &[bool]
+        ensures { marked_with (events_of (all_streams self.now.wholes) pid) result.now
+            ≡ marked_of self.now.wholes pid }
+    {
+        let _pids = self.streams.pids();
+        match self.streams.place_of(pid) {
+            None => &[],
+            Some(place) => marks_at(&self.told, place),
+        }
     }
 
     /// Whether the event at this index of the process is told; none if there is no event.

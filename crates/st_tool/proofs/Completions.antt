@@ -1,15 +1,16 @@
 -- A text is its parts, one behind the other. Each text begins with a line, so none is empty; and what
 -- was told has no line.
 use Rattle.std.proofs.Common.{◌≡◌, ℕ, zero, suc, ◌+◌, ◌<◌, Bool, true, false, List, [], ◌∷◌, ◌++◌, length, map}
-use Rattle.std.proofs.Common.{Option, Some, refl, sym, ◌∙◌, ap, arith, append_assoc, codes, decimal, if◌then◌else◌}
+use Rattle.std.proofs.Common.{Some, refl, sym, ◌∙◌, ap, arith, append_assoc, codes, decimal, if◌then◌else◌}
 use Rattle.std.proofs.Common.{subst, Result, Ok, Err}
-use Rattle.std.specs.Prelude.{option_map, slice_get}
+use Rattle.std.specs.Prelude.{get_or, option_map, slice_get}
 use Rattle.std.specs.List.{flat_map}
 use Rattle.std.specs.Result.{IsErr, OnOk}
 use Rattle.std.proofs.lemmas.List.{append-nil}
 use Rattle.st_core.specs.declared.types.Pid.{Pid}
 use Rattle.st_core.specs.declared.types.Event.{Event}
 use Rattle.st_core.specs.Run.{Stream, pids_of}
+use Rattle.st_core.specs.Streams.{events_of}
 use Rattle.st_pair.specs.Places.{event_at}
 use Rattle.st_plan.specs.Marks.{all_streams, Marked, Whole}
 use Rattle.st_closed_world.specs.Needs.{marked_of}
@@ -17,13 +18,15 @@ use Rattle.st_closed_world.proofs.ForCallers.{events_all}
 use Rattle.st_complete.specs.declared.answer.Never.{Never}
 use Rattle.st_complete.specs.declared.answer.Never.TheVariants as never
 use Rattle.st_open_world.specs.Silent.{with_silent}
-use Rattle.st_needs.specs.Completions.{added_in, Completed}
+use Rattle.st_needs.specs.Completions.{added_in, marked_with, Completed}
+use Rattle.st_needs.proofs.ForCallers.{mark_read}
 use Rattle.st_text.specs.Writing.{Goes, WritesOn, WritesPart, WritesText}
 use Rattle.st_text.proofs.ForCallers.{finishes, front_some, line_some}
 use Rattle.st_chart.specs.Words.{place_words}
 use Rattle.st_chart.specs.Report.{event_line, place_line}
 use Rattle.st_tool.specs.Complete.{added_from, added_text, never_text}
-use Rattle.st_tool.specs.Lines.{added_at, added_of, added_parts, count_line, if_untold, never_line}
+use Rattle.st_tool.specs.Lines.{added_at, added_line, added_of, added_parts, count_line, if_untold}
+use Rattle.st_tool.specs.Lines.{never_line}
 use Rattle.st_tool.specs.Lines.{never_parts, never_words, other_line, unlisted_line, up_to}
 
 -- THE PARTS OF A TEXT
@@ -127,12 +130,25 @@ never_some streams p i r =
     (front_some (never_line p i r) (event_line streams p i)
     (line_some (codes "never " ++ place_words p i ++ codes " " ++ never_words p r)))
 
--- the line of an event by its mark
-pub added_by : (wholes : List Whole) (p : Pid) (i : ℕ) (o : Option Bool)
-    → option_map (λ m. m.told) (slice_get (marked_of wholes p) i) ≡ o
-    → added_at wholes p i ≡ if_untold o (place_line (codes "added ") p i (event_at (all_streams wholes) p i))
-added_by wholes p i o is =
-    ap (λ (x : Option Bool). if_untold x (place_line (codes "added ") p i (event_at (all_streams wholes) p i))) is
+-- the line of an event that is there, by its mark
+pub line_by : (p : Pid) (es : List Event) (marks : List Bool) (i : ℕ) (e : Event) (b : Bool)
+    → slice_get es i ≡ Some e → get_or marks i false ≡ b
+    → added_line p es marks i ≡ if_untold (Some b) (place_line (codes "added ") p i (Some e))
+line_by p es marks i e b at is =
+    let told = mark_read es marks i ∙ ap (option_map (λ (d : Event). get_or marks i false)) at
+    ∙ ap Some is in
+    ap (λ o. if_untold o (place_line (codes "added ") p i (slice_get es i))) told
+    ∙ ap (λ o. if_untold (Some b) (place_line (codes "added ") p i o)) at
+
+-- and so of a completion, if these are all events of p and their marks
+pub line_in : (wholes : List Whole) (p : Pid) (es : List Event) (marks : List Bool) (i : ℕ)
+    → es ≡ events_of (all_streams wholes) p
+    → marked_with (events_of (all_streams wholes) p) marks ≡ marked_of wholes p
+    → added_line p es marks i ≡ added_at wholes p i
+line_in wholes p es marks i are is =
+    ap (λ xs. added_line p xs marks i) are
+    ∙ ap (λ (ms : List Marked). if_untold (option_map (λ (m : Marked). m.told) (slice_get ms i))
+    (place_line (codes "added ") p i (event_at (all_streams wholes) p i))) is
 
 -- with no process that isn't listed, the streams stay as they are
 pub as_they_are : (streams : List Stream) (qs : List Pid) → length qs ≡ 0 → streams ≡ with_silent streams qs

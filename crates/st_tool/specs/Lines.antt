@@ -3,13 +3,14 @@
 use Rattle.std.specs.Prelude.{ℕ, zero, suc, ◌+◌, Bool, true, false, List, [], ◌++◌, codes, decimal}
 use Rattle.std.specs.Prelude.{length, option_map, slice_get, Option, Some, None}
 use Rattle.std.specs.List.{flat_map}
+use Rattle.st_core.specs.declared.types.Event.{Event}
 use Rattle.st_core.specs.declared.types.Pid.{Pid}
 use Rattle.st_core.specs.Run.{Stream, pids_of}
 use Rattle.st_core.specs.Streams.{events_of}
 use Rattle.st_pair.specs.Places.{event_at}
 use Rattle.st_plan.specs.Marks.{all_streams, Whole}
 use Rattle.st_closed_world.specs.Needs.{marked_of}
-use Rattle.st_needs.specs.Completions.{added_in, Completed}
+use Rattle.st_needs.specs.Completions.{added_in, marked_with, Completed}
 use Rattle.st_complete.specs.declared.answer.Never.{Never}
 use Rattle.st_complete.specs.declared.answer.Never.TheVariants as never
 use Rattle.st_chart.specs.Room.{place_room}
@@ -49,6 +50,12 @@ abbrev pub if_untold : Option Bool → List ℕ → List ℕ
 if_untold None line = []
 if_untold (Some true) line = []
 if_untold (Some false) line = line
+
+-- the line of event i of these of p with these marks, if it was added
+abbrev pub added_line : Pid → List Event → List Bool → ℕ → List ℕ
+added_line p es marks i =
+    if_untold (option_map (λ m. m.told) (slice_get (marked_with es marks) i))
+    (place_line (codes "added ") p i (slice_get es i))
 
 -- the line of event i of p, if it was added
 abbrev pub added_at : List Whole → Pid → ℕ → List ℕ

@@ -1,37 +1,37 @@
 //! The lines of the command `complete`: the events that were added, or an event with the reason why
 //! there is no completion.
 
+ghost use Rattle.std.specs.Prelude.{◌<◌, length};
 ghost use Rattle.std.specs.List.{flat_map};
 ghost use Rattle.st_text.specs.Writing.{WritesOn, WritesText};
 ghost use Rattle.st_tool.specs.Complete.{added_text, never_text};
-ghost use Rattle.st_tool.specs.Lines.{added_at, added_of, added_parts, never_parts};
+ghost use Rattle.st_tool.specs.Lines.{added_line, added_of, added_parts, never_parts};
 ghost use Rattle.st_tool.specs.Lines.{other_line, unlisted_line};
 
 use crate::lines::OutputLine;
 use st_chart::{write_event, write_place_line};
-use st_complete::{Completion, Never};
-use st_core::{ByteSink, Pid, Streams};
+use st_complete::{Completion, Never, is_marked};
+use st_core::{ByteSink, Event, Pid, Streams};
 use st_text::{Buffer, Device, flush, write_line};
 
-/// Writes the line of an event of a completion, if it was added.
+/// Writes the line of the event at this index among these of a process, if it was added.
 fn write_if_added<W: ByteSink>(
     writer: &mut W,
     buffer: &mut Buffer,
-    completion: &Completion,
     pid: Pid,
-    index: u64,
+    events: &[Event],
+    marks: &[bool],
+    index: usize,
 ) -> Result<(), Device>
-    ensures { WritesOn W.puts W.failed (added_at completion.now.wholes pid index)
+    requires { index < length events.now }
+    ensures { WritesOn W.puts W.failed (added_line pid events.now marks.now index)
         writer.old writer.new buffer.old.items buffer.new.items result }
 {
-    match completion.told(pid, index) {
-        None => Ok(()),
-        Some(true) => Ok(()),
-        Some(false) => {
-            let event = completion.streams().event(pid, index);
-            write_place_line(writer, buffer, b"added ", pid, index, event)
-        }
+    if is_marked(marks, index) {
+        return Ok(());
     }
+    let event = Some(events[index]);
+    write_place_line(writer, buffer, b"added ", pid, index as u64, event)
 }
 
 /// Writes a line for each added event of a process.
@@ -44,9 +44,10 @@ fn write_added_of<W: ByteSink>(
     ensures { WritesOn W.puts W.failed (added_of completion.now.wholes pid)
         writer.old writer.new buffer.old.items buffer.new.items result }
 {
-    let count = completion.streams().len(pid);
-    for index in 0..count {
-        write_if_added(writer, buffer, completion, pid, index)?;
+    let events = completion.streams().events(pid);
+    let marks = completion.marks_of(pid);
+    for index in 0..events.len() {
+        write_if_added(writer, buffer, pid, events, marks, index)?;
     }
     Ok(())
 }

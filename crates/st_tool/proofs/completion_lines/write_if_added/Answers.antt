@@ -1,16 +1,22 @@
 -- What was told has no line.
-use Rattle.std.proofs.Common.{sym, ap, ◌∙◌, Some, None, true}
+use Rattle.std.proofs.Common.{get_or, sym, ◌∙◌, true, false}
+use Rattle.st_pair.proofs.ForCallers.{at_get_or, blank}
 use Rattle.st_text.proofs.ForCallers.{goes_still}
-use Rattle.st_tool.proofs.Completions.{added_by}
+use Rattle.st_tool.proofs.Completions.{line_by}
 use Rattle.st_tool.proofs.completion_lines.write_if_added.Goals as goal
 
-pub returns-in-None : goal.returns-in-None
-returns-in-None g c =
-    rw (added_by c.args.completion.now.wholes c.args.pid c.args.index None (sym c.told.ensures ∙ c.in-None.is))
+pub returns-then-is_marked : goal.returns-then-is_marked
+returns-then-is_marked g c =
+    let es = c.args.events.now in
+    let i = c.args.index in
+    rw (line_by c.args.pid es c.args.marks.now i (get_or es i blank) true
+    (at_get_or es i blank c.requires) (sym c.is_marked.ensures ∙ c.if-is_marked.true))
     (goes_still g.W.ByteSink.puts g.W.ByteSink.failed)
 
-pub returns-in-Some-true : goal.returns-in-Some-true
-returns-in-Some-true g c =
-    rw (added_by c.args.completion.now.wholes c.args.pid c.args.index (Some true)
-    (sym c.told.ensures ∙ c.in-Some-true.is ∙ ap Some c.in-Some-true.field-0-test))
-    (goes_still g.W.ByteSink.puts g.W.ByteSink.failed)
+pub returns : goal.returns
+returns g c =
+    let es = c.args.events.now in
+    let i = c.args.index in
+    rw (line_by c.args.pid es c.args.marks.now i (get_or es i blank) false
+    (at_get_or es i blank c.requires) (sym c.is_marked.ensures ∙ c.if-is_marked.false))
+    c.write_place_line.ensures
