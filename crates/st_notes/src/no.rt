@@ -26,6 +26,13 @@ const NEVER: &str = "; no run without a reset reports it";
 
 const MAYBE: &str = "; seqtool complete says whether a run reports it";
 
+/// The same as `NEVER`, and what else may be why.
+const NEVER_OR_CHANGED: &str =
+    "; no run without a reset reports it; the file may have been changed after it was collected";
+
+/// What is said behind that if both events are the same.
+const TWICE: &str = "; both lines are the same, so this may be one event that was written twice";
+
 const MEANINGS: [Meaning; 9] = [
     Meaning {
         word: "prevnotbefore",
@@ -49,7 +56,7 @@ const MEANINGS: [Meaning; 9] = [
         word: "mismatch",
         front: "the sender's event with its count, ",
         back: ", is no send of this message",
-        conclusion: NEVER,
+        conclusion: NEVER_OR_CHANGED,
     },
     Meaning {
         word: "uncaused",
@@ -187,6 +194,14 @@ impl<'a, N: ByteSink> NoWriter<'a, N> {
         self.out.say_place(place.0, place.1)
     }
 
+    /// Whether the events at both places are known and are the same, so that their lines are too.
+    fn are_alike(&self, place: (Pid, u64), other: (Pid, u64)) -> bool {
+        match (self.event(place), self.event(other)) {
+            (Some((_, event)), Some((_, second))) => event == second,
+            _ => false,
+        }
+    }
+
     /// Writes an event, where it is, and the reason.
     fn say_unfit(
         &mut self,
@@ -206,7 +221,11 @@ impl<'a, N: ByteSink> NoWriter<'a, N> {
             self.say_event_place(other)?;
         }
         self.out.say(meaning.back)?;
-        self.out.say(meaning.conclusion)
+        self.out.say(meaning.conclusion)?;
+        match other {
+            Some(other) if self.are_alike(place, other) => self.out.say(TWICE),
+            _ => Ok(()),
+        }
     }
 
     /// Writes an act, where it is, and what is said of it.
