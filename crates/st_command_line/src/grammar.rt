@@ -14,8 +14,6 @@ fn with_values<'a>(arg: Arg<'a>, takes: Takes) -> Arg<'a> {
         Takes::Text => arg,
         Takes::Needed => arg.required(true),
         Takes::Texts => arg.num_args(1..),
-        Takes::Label => arg.value_parser(clap::value_parser!(u32)),
-        Takes::Number => arg.value_parser(clap::value_parser!(u64)),
         Takes::Form => arg
             .value_parser(["added", "streams", "acts"].as_slice())
             .default_value("added"),

@@ -11,10 +11,6 @@ pub(crate) enum Takes {
     Text,
     /// A text or several.
     Texts,
-    /// A label.
-    Label,
-    /// A number.
-    Number,
     /// What `complete` is to write.
     Form,
     /// For which tool `export` is to write.
@@ -82,7 +78,7 @@ const LABEL: OptionRow = OptionRow {
     name: "LABEL",
     long: Some("label"),
     short: None,
-    takes: Takes::Label,
+    takes: Takes::Text,
     help: "Only events with this label",
 };
 
@@ -162,7 +158,7 @@ const MOST: OptionRow = OptionRow {
     name: "N",
     long: Some("most"),
     short: None,
-    takes: Takes::Number,
+    takes: Takes::Text,
     help: "Name at most so many mistakes; else 10",
 };
 
@@ -203,7 +199,7 @@ const WHY_INDEX: OptionRow = OptionRow {
     name: "I",
     long: None,
     short: None,
-    takes: Takes::Number,
+    takes: Takes::Text,
     help: "The number of the event among those of its process, from 0",
 };
 
@@ -211,7 +207,7 @@ const WHY_LINE: OptionRow = OptionRow {
     name: "LINE",
     long: Some("line"),
     short: None,
-    takes: Takes::Number,
+    takes: Takes::Text,
     help: "The event on this line of the text, in place of PID and I",
 };
 
@@ -219,7 +215,7 @@ const WHY_DEPTH: OptionRow = OptionRow {
     name: "N",
     long: Some("depth"),
     short: None,
-    takes: Takes::Number,
+    takes: Takes::Text,
     help: "At most so many events back, or levels of the tree; else all",
 };
 

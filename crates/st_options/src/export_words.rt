@@ -25,7 +25,7 @@ pub(crate) fn chart_of(found: &ArgMatches) -> Result<Task, &'static str> {
         (false, true) => Form::Dot,
         (false, false) => Form::Table,
     };
-    let label = label_option(found);
+    let label = label_option(found)?;
     let completes = found.get_flag("complete");
     Ok(Task::Chart(Drawing {
         label,

@@ -60,7 +60,19 @@ const PID_WORDS: &str =
     "PID is no pid: write it as 0.31.0 or '<0.31.0>', two numbers up to 65535 and a 0";
 
 const EVENT_WORDS: &str =
-    "name the event by PID and I, or by --line alone; PID is 0.31.0 or '<0.31.0>', up to 65535";
+    "name the event by PID and I, as in seqtool why 0.31.0 1 trace.txt, or by --line alone; \
+    PID is 0.31.0 or '<0.31.0>', up to 65535";
+
+const INDEX_WORDS: &str =
+    "the number of the event is missing: why takes PID and I, the event's number in the stream \
+    of PID, counted from 0, as in seqtool why 0.31.0 1 trace.txt";
+
+const LINE_WORDS: &str =
+    "--line takes a number up to 18446744073709551615, as in seqtool why --line 8 trace.txt";
+
+const DEPTH_WORDS: &str = "--depth takes a number up to 18446744073709551615, as in --depth 3";
+
+const LABEL_WORDS: &str = "--label takes a number up to 4294967295, as in --label 17";
 
 const COMMAND_WORDS: &str = "name a command: seqtool --help has them";
 
@@ -113,15 +125,35 @@ fn process_option(found: &ArgMatches) -> Result<Option<Pid>, &'static str> {
 }
 
 /// The label of an option, none if it is left out.
-pub(crate) fn label_option(found: &ArgMatches) -> Option<Label> {
-    let number = found.get_one::<u32>("LABEL")?;
-    Some(Label(number))
+pub(crate) fn label_option(found: &ArgMatches) -> Result<Option<Label>, &'static str> {
+    match found.get_str("LABEL") {
+        None => Ok(None),
+        Some(text) => match text.parse::<u32>() {
+            Ok(number) => Ok(Some(Label(number))),
+            Err(_) => Err(LABEL_WORDS),
+        },
+    }
+}
+
+/// The number of an option, none if it is left out; these words, if it is no number.
+pub(crate) fn number_option(
+    found: &ArgMatches,
+    name: &str,
+    words: &'static str,
+) -> Result<Option<u64>, &'static str> {
+    match found.get_str(name) {
+        None => Ok(None),
+        Some(text) => match text.parse::<u64>() {
+            Ok(number) => Ok(Some(number)),
+            Err(_) => Err(words),
+        },
+    }
 }
 
 /// The conditions that the options make.
 fn filter_of(found: &ArgMatches) -> Result<Filter, &'static str> {
     Ok(Filter {
-        label: label_option(found),
+        label: label_option(found)?,
         process: process_option(found)?,
         lines: span_option(found, "LINES")?,
         counts: span_option(found, "COUNTS")?,
@@ -137,25 +169,28 @@ fn style_of(found: &ArgMatches) -> Style {
     }
 }
 
+/// The event that `why` is asked about, by its process and its number there. Who leaves the number
+/// out mostly has the file in its place.
+fn place_of(found: &ArgMatches) -> Result<Start, &'static str> {
+    let pid = found.get_str("PID").and_then(pid_of).ok_or(EVENT_WORDS)?;
+    let index = number_option(found, "I", INDEX_WORDS)?.ok_or(INDEX_WORDS)?;
+    Ok(Start::Place(pid, index))
+}
+
 /// The event that `why` is asked about. With `--line` there is no I, and the first word is the file.
-fn start_of(found: &ArgMatches) -> Option<Start> {
-    match found.get_one::<u64>("LINE") {
-        Some(line) => match found.get_one::<u64>("I") {
-            Some(_) => None,
-            None => Some(Start::Line(line)),
-        },
-        None => {
-            let pid = pid_of(found.get_str("PID")?)?;
-            let index = found.get_one::<u64>("I")?;
-            Some(Start::Place(pid, index))
-        }
+fn start_of(found: &ArgMatches) -> Result<Start, &'static str> {
+    match number_option(found, "LINE", LINE_WORDS)? {
+        None => place_of(found),
+        Some(_) if found.get_str("I").is_some() => Err(EVENT_WORDS),
+        Some(line) => Ok(Start::Line(line)),
     }
 }
 
 /// What `why` is asked, by what `clap` found in its words.
 fn question_of(found: &ArgMatches) -> Result<Question, &'static str> {
-    let start = start_of(found).ok_or(EVENT_WORDS)?;
-    let most = found.get_one::<u64>("N").unwrap_or(Reach::LABEL.most);
+    let start = start_of(found)?;
+    let depth = number_option(found, "N", DEPTH_WORDS)?;
+    let most = depth.unwrap_or(Reach::LABEL.most);
     let across = found.get_flag("label");
     let direction = if found.get_flag("effects") {
         Direction::Forth
@@ -253,7 +288,7 @@ fn inputs_of<'a>(alloc: Global, paths: Option<&[&'a str]>) -> Result<Vec<Input<'
 /// The word of the command of this name that has its files. With `--line` the first word of `why` is
 /// the file.
 fn files_word(name: &str, found: &ArgMatches) -> &'static str {
-    if name == "why" && found.get_one::<u64>("LINE").is_some() {
+    if name == "why" && found.get_str("LINE").is_some() {
         "PID"
     } else {
         "FILE"
