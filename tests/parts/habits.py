@@ -222,12 +222,13 @@ def progress(program):
     right = program.run(("audit",), text)
     got = on_terminal(program, ("audit",), pieces, env, SLOW)
     lines = got.complaint.split(CLEAR)
-    is_right = (got.status, got.output) == (right.status, right.output) and len(lines) > 2 and lines[0] == lines[-1] == b""
+    is_right = (got.status, got.output) == (right.status, right.output) and len(lines) > 2
+    is_right = is_right and (lines[0], lines[-1]) == (b"", right.complaint)
     is_right = is_right and all(it.endswith((b" MB read", b" MB read, working")) for it in lines[1:-1])
     yield Check("audit of a slow pipe says how much was read, and takes that off", None if is_right else str(got))
     got = on_terminal(program, ("audit", "--quiet"), pieces, env, SLOW)
     yield expect("audit --quiet of a slow pipe", Answer(right.status, b""), got)
-    yield expect("audit of a quick pipe shows nothing", right, on_terminal(program, ("audit",), [text], env))
+    yield expect("audit of a quick pipe shows no progress", right, on_terminal(program, ("audit",), [text], env))
     got = on_terminal(program, ("lint",), [b"seqtrace 1\n", b""], env, SLOW)
     yield expect("lint of a text that is typed slowly shows nothing", program.run(("lint",), b"seqtrace 1\n"), got)
     with subprocess.Popen([program.path, "audit"], stdin=subprocess.PIPE, stdout=subprocess.DEVNULL, stderr=subprocess.PIPE) as ran:
@@ -237,7 +238,7 @@ def progress(program):
             time.sleep(SLOW)
         ran.stdin.close()
         said = ran.stderr.read()
-    yield Check("audit of a slow pipe says nothing in a pipe", None if said == b"" else repr(said))
+    yield Check("audit of a slow pipe shows no progress in a pipe", None if said == right.complaint else repr(said))
     yield long_work(program, env)
 
 
@@ -259,7 +260,8 @@ def long_work(program, env):
     name = "audit of a file that is read quickly says that it works"
     if seconds < SLOW:
         return Check(f"{name}: it took {seconds:.1f} s alone", skipped=True)
-    is_right = got.status == 0 and got.complaint.endswith(b" MB read, working" + CLEAR)
+    shown, _, note = got.complaint.rpartition(CLEAR)
+    is_right = got.status == 0 and shown.endswith(b" MB read, working") and note.startswith(b"yes: ")
     return Check(name, None if is_right else f"{seconds:.1f} s: {got.complaint}")
 
 

@@ -21,7 +21,7 @@ pub(crate) const FILES: &str = "The traces' files, one or more; standard input i
 
 pub(crate) const JSON: &str = "A JSON object a line, for programs (docs/FORMATS.md)";
 
-pub(crate) const QUIET: &str = "Write no result and no note of a no: the status tells";
+pub(crate) const QUIET: &str = "Write no result and no note: the status tells";
 
 pub(crate) const COMPLETE: &str =
     "Adds unreported events until each event has what it follows, or says why not";
@@ -33,6 +33,8 @@ pub(crate) const COMPLETE_EXAMPLE: &str = "Example:
 
 Status 1: `never PID I WORD`, no run without a reset has event I of PID, for
 the reason WORD (docs/FORMATS.md), whatever unlisted processes it may have.
+`added 0` means that no event is missing that the others need; a message whose
+receive isn't reported may still wait.
 Status 5, with --as acts or streams: `long`, there is one, too long to be read.";
 
 pub(crate) const RENUMBER: &str = "Replaces each count by its rank, if counts begin high";
@@ -96,6 +98,8 @@ pub(crate) const AUDIT: &str = "Finds acts that explain the trace, or names an e
 pub(crate) const AUDIT_EXAMPLE: &str = "Example:
   seqtool audit trace.txt
 
+Status 0: the acts make each process report exactly these events; it may have
+happened in another way. Standard error says so, or of a no the line and why.
 It takes 1,000,000 processes and 16,000,000 events, as all commands here.";
 
 pub(crate) const LIST: &str = "Lists events: line, process, index, label, serial, partner";

@@ -4,6 +4,7 @@ use crate::input::{OpenInput, open};
 use crate::screen::{FAILED, Screen, finish, name_of, tell_end, tell_no_memory};
 use st_console::{Inlet, Outlet};
 use st_core::{ReadFrom, WriteTo};
+use st_notes::{tell_found, tell_nothing_added};
 use st_options::Input;
 use st_tasks::{Task, run};
 use st_terminal::{Watched, heading_of};
@@ -27,8 +28,21 @@ const UNREAD: Served = Served {
     is_closed: false,
 };
 
+/// Says on standard error what a yes of this task means, if its output, whose first line this is,
+/// doesn't say that in words.
+fn tell_yes<H>(screen: &Screen<'_, H>, task: Task, name: &str, line: &[u8]) {
+    if screen.is_quiet {
+        return;
+    }
+    match task {
+        Task::Audit | Task::AuditJson => tell_found(screen.rt, name),
+        Task::Complete(_) | Task::CompleteJson => tell_nothing_added(screen.rt, name, line),
+        _ => {}
+    }
+}
+
 /// Does the task on the input of this name, below this heading, and says on standard error what was
-/// at fault, or what a no is about.
+/// at fault, or what a no or a yes is about.
 fn serve_open_input<H: AllocGlobal + Threads + Sync>(
     screen: &Screen<'_, H>,
     task: Task,
@@ -52,6 +66,9 @@ fn serve_open_input<H: AllocGlobal + Threads + Sync>(
     let status = finish(rt, &mut outlet, status);
     progress.end();
     tell_end(screen, name, status, &inlet, &outlet);
+    if status == 0 {
+        tell_yes(screen, task, name, outlet.first_line());
+    }
     Served {
         status,
         has_written: outlet.fault().is_none() && !outlet.first_line().is_empty(),
