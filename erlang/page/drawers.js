@@ -68,7 +68,7 @@ drawer("help", section => section.replaceChildren(
     "ring: a send; disc: a receive; diamond: a print",
     "arrow: a message, from its send to its receive; time runs downwards",
     "a line that ends in a bar: a message whose receive isn't in the trace",
-    "dashed: unreported; it happened, but nobody reported it",
+    "dashed: unreported, but other events tell of it",
     "?: what the event follows may be something else, or may not have been reported",
     "a cause holds if each receive of a token was reported, and if no process took its token off and set one of the same "
       + "label again, but where it's said",

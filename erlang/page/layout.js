@@ -39,7 +39,7 @@ export function layOut() {
   sortArrows();
   layOutSpace(columns.length);
   byId("list").setAttribute("aria-rowcount", shown.length);
-  byId("corner").textContent = number(shown.length) + " of " + counted(count, "event") + ", "
+  byId("corner").textContent = number(shown.length) + " of " + counted(count, "row") + ", "
     + number(columns.length) + " of " + counted(lanes.length, "process", "processes");
   find(byId("search").value, false);
   redraw();

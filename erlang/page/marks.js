@@ -1,5 +1,5 @@
 // The arrows of messages, and a mark for each event.
-import { again, arrived, brief, counted, isDoubtful, isPlain, rows } from "./trace.js";
+import { arrived, brief, counted, isDoubtful, isPlain, rows } from "./trace.js";
 import { arrowsWithin, column, laneWidth, listWidth, place, rowHeight } from "./layout.js";
 import { chosen, effects } from "./choice.js";
 import { INK, ink, isLit, isReset, stroke, x, y } from "./drawing.js";
@@ -7,12 +7,10 @@ import { INK, ink, isLit, isReset, stroke, x, y } from "./drawing.js";
 // So many arrows are drawn at once.
 const MOST_ARROWS = 3000;
 
-// Arrows with an end in sight come first; the number of those that aren't drawn is the result. Of the events that
-// follow one unreported receive the first alone has its arrow, and the others have one if they are lit.
+// Arrows with an end in sight come first; the number of those that aren't drawn is the result.
 export function drawArrows(pen, first, last) {
   const near = row => place[row] <= last || place[rows.cause[row]] >= first;
-  const found = arrowsWithin(first, last).filter(row => place[rows.cause[row]] <= last
-                                                        && (!again[row] || isLit(row) && isLit(rows.cause[row])));
+  const found = arrowsWithin(first, last).filter(row => place[rows.cause[row]] <= last);
   const ends = found.filter(near);
   const drawn = ends.length > MOST_ARROWS
     ? ends.filter(row => isLit(row) || place[row] <= last && place[rows.cause[row]] >= first).slice(0, MOST_ARROWS)
@@ -24,7 +22,7 @@ export function drawArrows(pen, first, last) {
 }
 
 function drawArrow(pen, row) {
-  const send = rows.cause[row], dashed = !isPlain(row) || !isPlain(send) || "ua".includes(rows.how[row]);
+  const send = rows.cause[row], dashed = !isPlain(row) || !isPlain(send) || rows.how[row] === "a";
   const lit = isLit(row) && isLit(send);
   stroke(pen, lit ? (effects.has(row) ? INK.effect : INK.cause)
          : chosen >= 0 ? INK.dim : dashed ? INK.unreported : INK.message, lit ? 3 : 1.2, dashed ? [6, 4] : []);
@@ -67,7 +65,8 @@ export function drawPassing(pen, passing, width, height) {
 
 const markSize = () => Math.max(1.5, Math.min(4.5, rowHeight / 4));
 
-// A send is a ring, a receive a disc, a print a diamond; an unreported event is dashed.
+// A send is a ring, a receive a disc, a print a diamond; an unreported event is dashed, and a receive
+// says that it is.
 export function drawMark(pen, row, at, width) {
   const [cx, cy, size] = [x(rows.lane[row]), y(at), markSize()];
   if (cx < listWidth() - 200 || cx > width + 200) return;
@@ -85,7 +84,9 @@ export function drawMark(pen, row, at, width) {
   if (row === chosen) { pen.strokeStyle = INK.text; pen.lineWidth = 2; pen.strokeRect(cx - 9, cy - 9, 18, 18); }
   // Right above the mark there is neither a term nor a tip.
   if (isDoubtful(row)) writeOver(pen, "?", cx, cy - size - 3, "center", INK.unreported);
-  if (rowHeight >= 14 && laneWidth >= 60 && rows.kind[row] !== "r") drawTerm(pen, row, cx, isReset(at) ? cy - 1 : cy - 5);
+  if (rowHeight < 14 || laneWidth < 60) return;
+  if (rows.kind[row] !== "r") drawTerm(pen, row, cx, isReset(at) ? cy - 1 : cy - 5);
+  else if (!isPlain(row)) drawNotReported(pen, row, cx, cy + 4);
 }
 
 // Text on an edge of the ground's colour, so that lines under it don't cross it.
@@ -99,10 +100,21 @@ function writeOver(pen, text, textX, textY, align, colour) {
   pen.textAlign = "left";
 }
 
+// Whether the process at the other end has its lane further left.
+const isLeftwards = row => rows.other[row] >= 0 && column[rows.other[row]] >= 0
+  && column[rows.other[row]] < column[rows.lane[row]];
+
 function drawTerm(pen, row, cx, base) {
-  const leftwards = rows.other[row] >= 0 && column[rows.other[row]] >= 0
-    && column[rows.other[row]] < column[rows.lane[row]];
-  const most = Math.max(8, Math.floor(laneWidth / 6.2)), text = brief(row);
+  writeBeside(pen, row, brief(row), cx, base, isLeftwards(row));
+}
+
+// It stands where no arrow comes from.
+function drawNotReported(pen, row, cx, base) {
+  writeBeside(pen, row, "receive not reported", cx, base, !isLeftwards(row));
+}
+
+function writeBeside(pen, row, text, cx, base, leftwards) {
+  const most = Math.max(8, Math.floor(laneWidth / 6.2));
   const cut = text.length > most ? text.slice(0, most - 1) + "\u2026" : text;
   writeOver(pen, cut, cx + (leftwards ? -9 : 9), base, leftwards ? "right" : "left",
             chosen >= 0 && !isLit(row) ? INK.faint : INK.text);

@@ -33,16 +33,16 @@ const filled = offset.slice();
 for (let row = 0; row < count; row++) if (rows.cause[row] >= 0) listed[filled[rows.cause[row]]++] = row;
 export const effectsOf = row => Array.from(listed.subarray(offset[row], offset[row + 1]));
 
-// Sends whose message arrives at an event here, and rows that follow an unreported receive as one before does.
-export const arrived = new Uint8Array(count), again = new Uint8Array(count);
+// Sends whose message arrives at an event here.
+export const arrived = new Uint8Array(count);
 for (let row = 0; row < count; row++)
-  if ("sua".includes(rows.how[row]) && rows.cause[row] >= 0) {
-    again[row] = rows.how[row] === "u" ? arrived[rows.cause[row]] : 0;
-    arrived[rows.cause[row]] = 1;
-  }
+  if ("sua".includes(rows.how[row]) && rows.cause[row] >= 0) arrived[rows.cause[row]] = 1;
 
-export const eventName = row => rows.kind[row] === "h"
-  ? "the send of " + eventName(listed[offset[row]]) : laneName(rows.lane[row]) + "#" + rows.at[row];
+// What nobody reported has no name of its own, unless a completion gave it one.
+export const eventName = row =>
+  rows.kind[row] === "h" ? "the send of " + eventName(listed[offset[row]])
+  : rows.how[row] === "u" ? "the receive of " + eventName(rows.cause[row])
+  : laneName(rows.lane[row]) + "#" + rows.at[row];
 
 export const sentence = row => {
   const [self, other] = [laneName(rows.lane[row]), rows.other[row] < 0 ? "" : laneName(rows.other[row])];
@@ -53,14 +53,17 @@ export const sentence = row => {
 // In the words of charts, drawings and `why'.
 export const causeText = row => {
   const cause = rows.cause[row], before = cause >= 0 ? eventName(cause) : "", had = rows.had[row];
-  const after = cause >= 0 && !isPlain(cause) ? "perhaps after " + before + ", which wasn't reported" : "after " + before;
+  const after = cause < 0 || isPlain(cause) ? "after " + before
+    : rows.how[cause] === "u"
+    ? "perhaps after " + eventName(rows.cause[cause]) + ", whose receive wasn't reported"
+    : "perhaps after " + before + ", which wasn't reported";
   return { s: cause >= 0 && rows.kind[cause] === "h" ? "its send wasn't reported"
               : "after " + before + (cause >= 0 && !isPlain(cause) ? ", which wasn't reported" : ""),
            a: "perhaps after " + before + ", or after another message like it",
            r: after, w: "after " + before + ", a spawn's answer",
            t: "after " + before + ", whose token was put back",
            v: "perhaps after " + before + ", as counts alone don't tell",
-           u: "perhaps after " + before + ", whose receive wasn't reported",
+           u: "perhaps after " + before,
            l: "begins label " + visible(labels[rows.label[row]]) + " here, or set it on its token"
               + (had === undefined ? "" : "; it had last received " + eventName(had) + " of label " + visible(labels[rows.label[had]])),
            x: "begins label " + visible(labels[rows.label[row]]) + " here, or set it on a token that was put back, or follows a "
@@ -71,4 +74,5 @@ export const causeText = row => {
 };
 
 // Whether what is said of the cause isn't certain.
-export const isDoubtful = row => "aouvx".includes(rows.how[row]) || rows.how[row] === "r" && !isPlain(rows.cause[row]);
+export const isDoubtful = row => "aovx".includes(rows.how[row])
+  || rows.how[row] === "r" && !isPlain(rows.cause[row]);

@@ -51,16 +51,16 @@
   for (let row = 0; row < count; row++) if (rows.cause[row] >= 0) listed[filled[rows.cause[row]]++] = row;
   const effectsOf = row => Array.from(listed.subarray(offset[row], offset[row + 1]));
 
-  // Sends whose message arrives at an event here, and rows that follow an unreported receive as one before does.
-  const arrived = new Uint8Array(count), again = new Uint8Array(count);
+  // Sends whose message arrives at an event here.
+  const arrived = new Uint8Array(count);
   for (let row = 0; row < count; row++)
-    if ("sua".includes(rows.how[row]) && rows.cause[row] >= 0) {
-      again[row] = rows.how[row] === "u" ? arrived[rows.cause[row]] : 0;
-      arrived[rows.cause[row]] = 1;
-    }
+    if ("sua".includes(rows.how[row]) && rows.cause[row] >= 0) arrived[rows.cause[row]] = 1;
 
-  const eventName = row => rows.kind[row] === "h"
-    ? "the send of " + eventName(listed[offset[row]]) : laneName(rows.lane[row]) + "#" + rows.at[row];
+  // What nobody reported has no name of its own, unless a completion gave it one.
+  const eventName = row =>
+    rows.kind[row] === "h" ? "the send of " + eventName(listed[offset[row]])
+    : rows.how[row] === "u" ? "the receive of " + eventName(rows.cause[row])
+    : laneName(rows.lane[row]) + "#" + rows.at[row];
 
   const sentence = row => {
     const [self, other] = [laneName(rows.lane[row]), rows.other[row] < 0 ? "" : laneName(rows.other[row])];
@@ -71,14 +71,17 @@
   // In the words of charts, drawings and `why'.
   const causeText = row => {
     const cause = rows.cause[row], before = cause >= 0 ? eventName(cause) : "", had = rows.had[row];
-    const after = cause >= 0 && !isPlain(cause) ? "perhaps after " + before + ", which wasn't reported" : "after " + before;
+    const after = cause < 0 || isPlain(cause) ? "after " + before
+      : rows.how[cause] === "u"
+      ? "perhaps after " + eventName(rows.cause[cause]) + ", whose receive wasn't reported"
+      : "perhaps after " + before + ", which wasn't reported";
     return { s: cause >= 0 && rows.kind[cause] === "h" ? "its send wasn't reported"
                 : "after " + before + (cause >= 0 && !isPlain(cause) ? ", which wasn't reported" : ""),
              a: "perhaps after " + before + ", or after another message like it",
              r: after, w: "after " + before + ", a spawn's answer",
              t: "after " + before + ", whose token was put back",
              v: "perhaps after " + before + ", as counts alone don't tell",
-             u: "perhaps after " + before + ", whose receive wasn't reported",
+             u: "perhaps after " + before,
              l: "begins label " + visible(labels[rows.label[row]]) + " here, or set it on its token"
                 + (had === undefined ? "" : "; it had last received " + eventName(had) + " of label " + visible(labels[rows.label[had]])),
              x: "begins label " + visible(labels[rows.label[row]]) + " here, or set it on a token that was put back, or follows a "
@@ -89,7 +92,8 @@
   };
 
   // Whether what is said of the cause isn't certain.
-  const isDoubtful = row => "aouvx".includes(rows.how[row]) || rows.how[row] === "r" && !isPlain(rows.cause[row]);
+  const isDoubtful = row => "aovx".includes(rows.how[row])
+    || rows.how[row] === "r" && !isPlain(rows.cause[row]);
 
   // Which rows and lanes are shown, where, and how large.
 
@@ -127,7 +131,7 @@
     sortArrows();
     layOutSpace(columns.length);
     byId("list").setAttribute("aria-rowcount", shown.length);
-    byId("corner").textContent = number(shown.length) + " of " + counted(count, "event") + ", "
+    byId("corner").textContent = number(shown.length) + " of " + counted(count, "row") + ", "
       + number(columns.length) + " of " + counted(lanes.length, "process", "processes");
     find(byId("search").value, false);
     redraw();
@@ -401,12 +405,10 @@
   // So many arrows are drawn at once.
   const MOST_ARROWS = 3000;
 
-  // Arrows with an end in sight come first; the number of those that aren't drawn is the result. Of the events that
-  // follow one unreported receive the first alone has its arrow, and the others have one if they are lit.
+  // Arrows with an end in sight come first; the number of those that aren't drawn is the result.
   function drawArrows(pen, first, last) {
     const near = row => place[row] <= last || place[rows.cause[row]] >= first;
-    const found = arrowsWithin(first, last).filter(row => place[rows.cause[row]] <= last
-                                                          && (!again[row] || isLit(row) && isLit(rows.cause[row])));
+    const found = arrowsWithin(first, last).filter(row => place[rows.cause[row]] <= last);
     const ends = found.filter(near);
     const drawn = ends.length > MOST_ARROWS
       ? ends.filter(row => isLit(row) || place[row] <= last && place[rows.cause[row]] >= first).slice(0, MOST_ARROWS)
@@ -418,7 +420,7 @@
   }
 
   function drawArrow(pen, row) {
-    const send = rows.cause[row], dashed = !isPlain(row) || !isPlain(send) || "ua".includes(rows.how[row]);
+    const send = rows.cause[row], dashed = !isPlain(row) || !isPlain(send) || rows.how[row] === "a";
     const lit = isLit(row) && isLit(send);
     stroke(pen, lit ? (effects.has(row) ? INK.effect : INK.cause)
            : chosen >= 0 ? INK.dim : dashed ? INK.unreported : INK.message, lit ? 3 : 1.2, dashed ? [6, 4] : []);
@@ -461,7 +463,8 @@
 
   const markSize = () => Math.max(1.5, Math.min(4.5, rowHeight / 4));
 
-  // A send is a ring, a receive a disc, a print a diamond; an unreported event is dashed.
+  // A send is a ring, a receive a disc, a print a diamond; an unreported event is dashed, and a receive
+  // says that it is.
   function drawMark(pen, row, at, width) {
     const [cx, cy, size] = [x(rows.lane[row]), y(at), markSize()];
     if (cx < listWidth() - 200 || cx > width + 200) return;
@@ -479,7 +482,9 @@
     if (row === chosen) { pen.strokeStyle = INK.text; pen.lineWidth = 2; pen.strokeRect(cx - 9, cy - 9, 18, 18); }
     // Right above the mark there is neither a term nor a tip.
     if (isDoubtful(row)) writeOver(pen, "?", cx, cy - size - 3, "center", INK.unreported);
-    if (rowHeight >= 14 && laneWidth >= 60 && rows.kind[row] !== "r") drawTerm(pen, row, cx, isReset(at) ? cy - 1 : cy - 5);
+    if (rowHeight < 14 || laneWidth < 60) return;
+    if (rows.kind[row] !== "r") drawTerm(pen, row, cx, isReset(at) ? cy - 1 : cy - 5);
+    else if (!isPlain(row)) drawNotReported(pen, row, cx, cy + 4);
   }
 
   // Text on an edge of the ground's colour, so that lines under it don't cross it.
@@ -493,10 +498,21 @@
     pen.textAlign = "left";
   }
 
+  // Whether the process at the other end has its lane further left.
+  const isLeftwards = row => rows.other[row] >= 0 && column[rows.other[row]] >= 0
+    && column[rows.other[row]] < column[rows.lane[row]];
+
   function drawTerm(pen, row, cx, base) {
-    const leftwards = rows.other[row] >= 0 && column[rows.other[row]] >= 0
-      && column[rows.other[row]] < column[rows.lane[row]];
-    const most = Math.max(8, Math.floor(laneWidth / 6.2)), text = brief(row);
+    writeBeside(pen, row, brief(row), cx, base, isLeftwards(row));
+  }
+
+  // It stands where no arrow comes from.
+  function drawNotReported(pen, row, cx, base) {
+    writeBeside(pen, row, "receive not reported", cx, base, !isLeftwards(row));
+  }
+
+  function writeBeside(pen, row, text, cx, base, leftwards) {
+    const most = Math.max(8, Math.floor(laneWidth / 6.2));
     const cut = text.length > most ? text.slice(0, most - 1) + "\u2026" : text;
     writeOver(pen, cut, cx + (leftwards ? -9 : 9), base, leftwards ? "right" : "left",
               chosen >= 0 && !isLit(row) ? INK.faint : INK.text);
@@ -722,7 +738,7 @@
       "ring: a send; disc: a receive; diamond: a print",
       "arrow: a message, from its send to its receive; time runs downwards",
       "a line that ends in a bar: a message whose receive isn't in the trace",
-      "dashed: unreported; it happened, but nobody reported it",
+      "dashed: unreported, but other events tell of it",
       "?: what the event follows may be something else, or may not have been reported",
       "a cause holds if each receive of a token was reported, and if no process took its token off and set one of the same "
         + "label again, but where it's said",

@@ -253,7 +253,8 @@ chart_outcome(Number, Which, #{streams := Streams} = Outcome, Title,
         {ok, {?FITS, Answer}} ->
             {ok, Read} = seqaudit_chart:read(Answer),
             Identified = seqaudit_chart:identify(Read, seqaudit_causes:rows(Charted)),
-            Chart = seqaudit_chart:with_own(Identified, seqaudit_causes:rows(Streams)),
+            Own = seqaudit_chart:with_own(Identified, seqaudit_causes:rows(Streams)),
+            Chart = seqaudit_chart:with_receives(Own),
             io:put_chars([[Title, $\n] || Title =/= ""]),
             io:put_chars(seqaudit_chart:text(Chart, Legend, Times)),
             draw(Chart, Which, Title, Audited, maps:get("--svg", Options, []));

@@ -13,13 +13,14 @@
 %% before.
 -module(seqaudit_causes).
 
--export([rows/1, index/1, back/2, effects/2]).
+-export([rows/1, with_receives/1, index/1, back/2, effects/2]).
 -export_type([row/0, cause/0, id/0]).
 
--type id() :: seqaudit_bundle:place() | {sent_to, seqaudit_bundle:place()}.
-%% An event, or the unreported send of a receive.
+-type id() :: seqaudit_bundle:place() | {sent_to | receive_of, seqaudit_bundle:place()}.
+%% An event, the unreported send of a receive, or the unreported receive of a send.
 
--type cause() :: {sent | alike | received | spawned | restored | unreported | perhaps, id()}
+-type cause() :: {sent | alike | received | spawned | restored | unreported | supposed | perhaps,
+                  id()}
                | {relabelled, Label :: binary(), Had :: {id(), Label :: binary()} | none | open}
                | start | open | unseen.
 %% What a row follows by:
@@ -31,6 +32,7 @@
 %% <dt>`spawned'</dt><dd>the same, but a spawn's answer has moved the counter on, as OTP does</dd>
 %% <dt>`restored'</dt><dd>the same, but the token of that receive was put back</dd>
 %% <dt>`unreported'</dt><dd>nobody reported the receive that it follows; this send fits it</dd>
+%% <dt>`supposed'</dt><dd>the unreported receive of that send, since an event may follow it</dd>
 %% <dt>`perhaps'</dt><dd>stamped with the token of that receive, or with another one that fits too</dd>
 %% <dt>`relabelled'</dt><dd>its process began a trace with this label there, or set the label on its
 %% token; it had received the other event last, which has another label. If `open', that was a token that
@@ -395,6 +397,25 @@ had_unreported(#{prev := Prev, label := Label, this := This}, #{unreported := Un
         #{{Label, Prev} := Least} -> Least < This;
         #{} -> false
     end.
+
+%% @doc The rows with one more for each receive that nobody reported and that an event follows, right
+%% above the first such event. That event may follow something else, so the receive is only supposed.
+-spec with_receives([row()]) -> [row()].
+with_receives(Rows) ->
+    Sends = index([Row || #{event := #{kind := send}} = Row <- Rows]),
+    {_, Shown} = lists:foldl(fun with_receive/2, {Sends, []}, Rows),
+    lists:reverse(Shown).
+
+%% A send whose receive has its row is taken from the others.
+with_receive(#{cause := {unreported, Id}} = Row, {Sends, Done}) when is_map_key(Id, Sends) ->
+    {Send, Left} = maps:take(Id, Sends),
+    {Left, [Row, receive_of(Send) | Done]};
+with_receive(Row, {Sends, Done}) ->
+    {Sends, [Row | Done]}.
+
+receive_of(#{id := Id, event := #{to := To} = Send} = Row) ->
+    Row#{id := {receive_of, Id}, event := Send#{kind := 'receive'}, actor := To,
+         cause := {supposed, Id}}.
 
 %% @doc The rows by what they are called.
 -spec index([row()]) -> #{id() => row()}.

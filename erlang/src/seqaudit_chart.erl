@@ -1,7 +1,8 @@
 %% @doc Reads the text of a chart, as `seqaudit chart' writes it, and prints it with names and terms.
 -module(seqaudit_chart).
 
--export([read/1, row/1, identify/2, with_own/2, text/3, lane/2, other/1, term/2]).
+-export([read/1, row/1, identify/2, with_own/2, with_receives/1]).
+-export([text/3, lane/2, other/1, name/2, term/2]).
 -export_type([chart/0, row/0]).
 
 %% Characters of a term in a row, and of an event's name.
@@ -71,6 +72,28 @@ with_own(#{rows := Rows} = Chart, Own) ->
                         Row#{shown := Known, serial := iolist_to_binary(io_lib:format("{~b,~b}", [Prev, This]))}
                     end || #{shown := #{id := Id}} = Row <- Rows]}.
 
+%% @doc The same chart with a row for each receive that nobody reported and that an event follows.
+-spec with_receives(chart()) -> chart().
+with_receives(#{rows := Rows} = Chart) ->
+    Known = maps:from_list([{Id, Row} || #{shown := #{id := Id}} = Row <- Rows]),
+    Shown = seqaudit_causes:with_receives([Row || #{shown := Row} <- Rows]),
+    Chart#{rows := [with_shown(Row, Known) || Row <- Shown]}.
+
+with_shown(#{id := {receive_of, Id}} = Shown, Known) ->
+    #{Id := #{marks := Marks} = Send} = Known,
+    Send#{kind := <<"receive">>, marks := received(Marks, lists:member($., Marks)), shown := Shown};
+with_shown(#{id := Id}, Known) ->
+    maps:get(Id, Known).
+
+%% The marks of the receive of this send. A process that sends to itself has one mark for both ends.
+received(Marks, IsToOther) ->
+    [case Mark of
+         $S when IsToOther -> $.;
+         $S -> $R;
+         $. -> $R;
+         $| -> $|
+     end || Mark <- Marks].
+
 key(#{kind := 'receive', from := From, this := This}) -> {received, From, This};
 key(#{from := From, this := This}) -> {stamped, From, This}.
 
@@ -125,9 +148,8 @@ row_took(#{shown := #{id := Id}}, Times) ->
         Took -> [", under way for ", Took]
     end.
 
-row_name(#{shown := #{hidden := true}}, _Legend) -> "unreported";
-row_name(#{shown := #{id := Id}}, Legend) ->
-    seqaudit_terms:short(unicode:characters_to_list(seqaudit_why:name(Id, Legend)), ?NAME).
+row_name(Row, Legend) ->
+    seqaudit_terms:short(unicode:characters_to_list(name(Row, Legend)), ?NAME).
 
 row_marks(#{marks := Marks, shown := #{hidden := false, id := {_, {_, _}}}}) ->
     [string:pad([string:lowercase([Mark])], ?PLACES, leading) || Mark <- Marks];
@@ -137,6 +159,12 @@ row_marks(#{marks := Marks}) ->
 row_words(#{kind := Kind, serial := Serial, shown := #{cause := Cause}} = Row, Legend) ->
     Term = seqaudit_terms:short(unicode:characters_to_list(term(Row, Legend)), ?CHARACTERS),
     [string:pad(Kind, 8), " ", Serial, " ", Term, "  ", seqaudit_why:cause(Cause, Legend)].
+
+%% @doc What a row is called. What nobody reported has no name, unless a completion gave it one.
+-spec name(row(), seqaudit_legend:legend()) -> unicode:chardata().
+name(#{shown := #{hidden := true}}, _Legend) -> "unreported";
+name(#{shown := #{id := {receive_of, _}}}, _Legend) -> "unreported";
+name(#{shown := #{id := Id}}, Legend) -> seqaudit_why:name(Id, Legend).
 
 %% @doc The message of a row, without what every call and reply of OTP's servers has.
 -spec term(row(), seqaudit_legend:legend()) -> unicode:chardata().

@@ -2,9 +2,9 @@
 %%
 %% A lane for each process under its name, time downwards by the chart's rows, each under the name of
 %% its event. An arrow goes from each send, a ring, to its receive, a disc; what nobody reported is
-%% dashed, and an arrow ends in a bar if the chart has no receive. Prints are diamonds. An event whose cause
-%% wasn't reported, or isn't certain, has a question mark. What is shortened beside a mark is whole in its tooltip, with
-%% the serial and the cause.
+%% dashed, a receive that nobody reported says so, and an arrow ends in a bar if the chart has no
+%% receive. Prints are diamonds. An event whose cause wasn't reported, or isn't certain, has a question
+%% mark. What is shortened beside a mark is whole in its tooltip, with the serial and the cause.
 -module(seqaudit_draw).
 
 -export([svg/3, format_error/1]).
@@ -25,6 +25,7 @@
 -define(NAME, 24).
 -define(HEADING, 200).
 -define(WARNING, "class=\"w\" ").
+-define(NOT_REPORTED, "receive not reported").
 
 -define(STYLE,
         "text{font:11px 'DejaVu Sans',Verdana,sans-serif;fill:#222}"
@@ -75,7 +76,7 @@ svg(#{label := Label, lanes := Lanes, rows := Rows}, Heading, Legend) ->
      [names(Block, Lanes, Legend) || Block <- lists:seq(0, max(0, length(Rows) - 1)
                                                                 div ?ROWS_A_BLOCK)],
      [format("<text class=\"n\" x=\"~b\" y=\"~b\">~ts</text>\n",
-             [?LEFT - 20, y(Number) + 4, escape(short(row_name(Row, Legend), ?NAME))])
+             [?LEFT - 20, y(Number) + 4, escape(short(seqaudit_chart:name(Row, Legend), ?NAME))])
       || {Number, Row} <- Numbered],
      "</svg>\n"]}.
 
@@ -93,31 +94,24 @@ heading(#{part := Part, said := Said, fits := Fits, losses := Losses}, About) ->
      [format("<text ~tsx=\"12\" y=\"86\">~ts</text>\n", [?WARNING, escape(short(Losses, ?HEADING))])
       || Losses =/= ""]].
 
-%% Where each send arrives: at its receive, or at the event that follows a receive nobody reported.
+%% Where each send arrives, and whether that receive was reported.
 arrivals(Numbered) ->
-    Guessed = [{Send, {{mark_lane(Row), Number}, unreported}}
-               || {Number, #{shown := #{cause := {unreported, Send}}} = Row} <- lists:reverse(Numbered)],
-    Received = [{Send, {{lane($R, Row), Number}, reported(Id)}}
-                || {Number, #{shown := #{id := Id, cause := {How, Send}}} = Row} <- Numbered,
-                   How =:= sent orelse How =:= alike],
-    maps:merge(maps:from_list(Guessed), maps:from_list(Received)).
+    maps:from_list([{Send, {{lane($R, Row), Number}, reported(Id)}}
+                    || {Number, #{shown := #{id := Id, cause := {How, Send}}} = Row} <- Numbered,
+                       lists:member(How, [sent, alike, supposed])]).
 
 reported({sent_to, _}) -> unreported;
 reported({_, {_, _}}) -> unreported;
 reported(_) -> reported.
 
-row_name(#{shown := #{hidden := true}}, _Legend) -> "unreported";
-row_name(#{shown := #{id := Id}}, Legend) -> seqaudit_why:name(Id, Legend).
-
 %% What the drawing has that isn't plain.
 key(Rows, Arrivals) ->
     Unreceived = [Row || #{kind := Kind, shown := #{id := Id}} = Row <- Rows,
                          Kind =:= <<"send">>, not is_map_key(Id, Arrivals)],
-    Unreported = [Row || #{shown := #{id := Id, cause := Cause}} = Row <- Rows,
-                         reported(Id) =:= unreported orelse is_guessed(Cause)],
+    Unreported = [Row || #{shown := #{id := Id}} = Row <- Rows, reported(Id) =:= unreported],
     Doubtful = [Row || #{shown := #{cause := Cause}} = Row <- Rows, is_doubtful(Cause)],
     [["<g class=\"d\"><path d=\"M12 62H48\"/></g><circle class=\"u\" cx=\"30\" cy=\"62\" r=\"4\"/>"
-      "<text x=\"56\" y=\"66\">unreported: it happened, but nobody reported it</text>\n"
+      "<text x=\"56\" y=\"66\">unreported, but other events tell of it</text>\n"
       || Unreported =/= []],
      ["<text class=\"q\" x=\"352\" y=\"66\">?</text>"
       "<text x=\"364\" y=\"66\">what it follows may be unreported</text>\n" || Doubtful =/= []],
@@ -127,13 +121,10 @@ key(Rows, Arrivals) ->
 is_doubtful({received, {_, {_, _}}}) -> true;
 is_doubtful({perhaps, _}) -> true;
 is_doubtful({alike, _}) -> true;
+is_doubtful({unreported, _}) -> true;
 is_doubtful(open) -> true;
 is_doubtful({relabelled, _, open}) -> true;
-is_doubtful(Cause) -> is_guessed(Cause).
-
-%% Whether it follows a receive that nobody reported.
-is_guessed({unreported, _}) -> true;
-is_guessed(_) -> false.
+is_doubtful(_) -> false.
 
 arrow_head(Id, Colour) ->
     format("<marker id=\"~ts\" viewBox=\"0 0 10 10\" refX=\"9\" refY=\"5\" markerWidth=\"8\" "
@@ -175,7 +166,8 @@ tipped(#{value := Value, shown := #{invented := Invented}} = Row, Legend, Drawn)
      "</title>", Drawn, "</g>\n"].
 
 title(#{kind := Kind, serial := Serial, shown := #{cause := Cause}} = Row, Legend) ->
-    [row_name(Row, Legend), ": ", Kind, " ", Serial, ", ", seqaudit_why:cause(Cause, Legend)].
+    [seqaudit_chart:name(Row, Legend), ": ", Kind, " ", Serial, ", ",
+     seqaudit_why:cause(Cause, Legend)].
 
 mark(Number, #{shown := #{cause := Cause}} = Row, Arrivals) ->
     [case is_doubtful(Cause) of
@@ -227,21 +219,28 @@ path({Lane, Sent}, {Lane, Received}) ->
 path(From, To) ->
     format("M~b ~bL~b ~b", [x(From), y(From), x(To), y(To)]).
 
-%% Beside a print its term; at a send it begins at the sender and runs towards the receiver.
-text(_Number, #{kind := <<"receive">>}, _Legend) ->
-    "";
+%% Beside a print its term; at a send it begins at the sender and runs towards the receiver. At a
+%% receive that nobody reported it is on the side where no arrow comes from.
+text(Number, #{kind := <<"receive">>, shown := #{id := Id}} = Row, _Legend) ->
+    Receiver = lane($R, Row),
+    case {reported(Id), other(Row) >= Receiver} of
+        {reported, _} -> "";
+        {unreported, true} -> text(x(Receiver) - 10, y(Number) + 4, "end", ?NOT_REPORTED);
+        {unreported, false} -> text(x(Receiver) + 10, y(Number) + 4, "start", ?NOT_REPORTED)
+    end;
 text(Number, #{kind := <<"print">>} = Row, Legend) ->
-    text(x(lane($P, Row)) + 10, y(Number) + 4, "start", Row, Legend);
+    text(x(lane($P, Row)) + 10, y(Number) + 4, "start", seqaudit_chart:term(Row, Legend));
 text(Number, Row, Legend) ->
     Sender = mark_lane(Row),
+    Term = seqaudit_chart:term(Row, Legend),
     case other(Row) >= Sender of
-        true -> text(x(Sender) + 10, y(Number) - 3, "start", Row, Legend);
-        false -> text(x(Sender) - 10, y(Number) - 3, "end", Row, Legend)
+        true -> text(x(Sender) + 10, y(Number) - 3, "start", Term);
+        false -> text(x(Sender) - 10, y(Number) - 3, "end", Term)
     end.
 
-text(X, Y, Anchor, Row, Legend) ->
+text(X, Y, Anchor, Text) ->
     format("<text class=\"t\" x=\"~b\" y=\"~b\" text-anchor=\"~ts\">~ts</text>",
-           [X, Y, Anchor, escape(short(seqaudit_chart:term(Row, Legend), ?TEXT))]).
+           [X, Y, Anchor, escape(short(Text, ?TEXT))]).
 
 x({Lane, _Row}) -> x(Lane);
 x(Lane) -> ?LEFT + ?LANE * (Lane - 1) + ?LANE div 2.

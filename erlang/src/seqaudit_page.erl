@@ -86,7 +86,7 @@ data(#{name := Name, legend := Legend, outcome := Outcome, parts := Parts} = Aud
                 [] -> [Outcome];
                 _ -> [Part || {_, Part} <- Parts]
             end,
-    PartRows = [seqaudit_outcome:rows(Part) || Part <- Shown],
+    PartRows = [seqaudit_causes:with_receives(seqaudit_outcome:rows(Part)) || Part <- Shown],
     Resets = lists:droplast(sums([length(Rows) || Rows <- PartRows], 0)),
     Rows = lists:append([[{Part, Row} || Row <- Rows] || {Part, Rows} <- lists:enumerate(PartRows)]),
     Values = distinct([Value || {_, #{event := #{value := Value}, invented := false}} <- Rows]),
@@ -231,7 +231,9 @@ how(#{cause := {sent, _}}) -> $s;
 how(#{cause := {alike, _}}) -> $a;
 how(#{cause := {received, _}}) -> $r;
 how(#{cause := {spawned, _}}) -> $w;
-how(#{cause := {unreported, _}}) -> $u;
+how(#{cause := {supposed, _}}) -> $u;
+%% It follows the row of the receive that nobody reported.
+how(#{cause := {unreported, _}}) -> $r;
 how(#{cause := {restored, _}}) -> $t;
 how(#{cause := {perhaps, _}}) -> $v;
 how(#{cause := {relabelled, _, open}}) -> $x;
@@ -244,9 +246,11 @@ value(#{invented := true}, _Values) -> -1;
 value(#{event := #{value := Value}}, Values) -> maps:get(Value, Values).
 
 at(#{hidden := true}) -> <<"\"\"">>;
+at(#{id := {receive_of, _}}) -> <<"\"\"">>;
 at(#{id := {_, {Before, Which}}}) -> [$", integer_to_binary(Before), $~, integer_to_binary(Which), $"];
 at(#{id := {_, At}}) -> [$", integer_to_binary(At), $"].
 
+cause(Part, #{cause := {unreported, Id}}, Places) -> maps:get({Part, {receive_of, Id}}, Places, -1);
 cause(Part, #{cause := {_, Id}}, Places) -> maps:get({Part, Id}, Places, -1);
 cause(_Part, _Row, _Places) -> -1.
 

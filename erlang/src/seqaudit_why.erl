@@ -85,6 +85,7 @@ cause({alike, Id}, Legend) -> ["perhaps after ", name(Id, Legend), ", or after a
 cause({spawned, Id}, Legend) -> ["after ", name(Id, Legend), ", a spawn's answer"];
 cause({restored, Id}, Legend) -> ["after ", name(Id, Legend), ", whose token was put back"];
 cause({perhaps, Id}, Legend) -> ["perhaps after ", name(Id, Legend), ", as counts alone don't tell"];
+cause({supposed, Id}, Legend) -> ["perhaps after ", name(Id, Legend)];
 cause({unreported, Id}, Legend) -> ["perhaps after ", name(Id, Legend), ", whose receive wasn't reported"];
 cause({received, {_, {_, _}} = Id}, Legend) -> ["perhaps after ", name(Id, Legend), ", which wasn't reported"];
 cause({_, {_, {_, _}} = Id}, Legend) -> ["after ", name(Id, Legend), ", which wasn't reported"];

@@ -232,25 +232,32 @@ INKED = """((x, y) => {
 def unreceived(browser, checks):
     """Alice's message to bob, which he must have received before he prints twice, and one to carol of which nobody has
     a receive; carol prints too."""
-    checks.same("rows", browser.texts("#list .event"), ["alice#0", "carol#0", "alice#1", "bob#0", "bob#1"])
+    checks.same("rows", browser.texts("#list .event"),
+                ["alice#0", "carol#0", "alice#1", "the receive of alice#0", "bob#0", "bob#1"])
 
     def lanes():
         return [middle(browser, f"#names [data-lane='{lane}']")[0] for lane in range(3)]
 
     alice, bob, carol = lanes()
-    sent, _, left, follows, again = (middle(browser, f"#list [data-row='{row}']")[1] for row in range(5))
+    sent, _, left, received, follows, _ = (
+        middle(browser, f"#list [data-row='{row}']")[1] for row in range(6))
 
     def inked(x1, y1, x2, y2):
         return browser.ask(INKED % (x1 + 0.6 * (x2 - x1), y1 + 0.6 * (y2 - y1)))
 
-    checks.true("an arrow goes to the first event that follows the message", inked(alice, sent, bob, follows))
-    checks.true("none goes to the second: it isn't another message", not inked(alice, sent, bob, again))
+    checks.true("an arrow goes to the unreported receive", inked(alice, sent, bob, received))
+    checks.true("which says so", browser.ask(INKED % (bob + 40, received)))
+    checks.true("none goes to an event that follows it", not inked(alice, sent, bob, follows))
     checks.true("the other message reaches the lane of carol", inked(bob, left, carol, left))
     checks.true("it ends in a bar", browser.ask(INKED % (carol, left + 8)))
     # The panel takes a part of the window, and the lanes fill the rest.
-    browser.click("#list [data-row='4']")
+    browser.click("#list [data-row='5']")
     alice, bob, narrow = lanes()
-    checks.true("the second has the arrow if it is chosen", inked(alice, sent, bob, again))
+    checks.same("its causes", browser.texts("#list .row.cause .event"),
+                ["alice#0", "the receive of alice#0"])
+    panel = browser.ask("document.querySelector('#panel').textContent")
+    checks.true(f"its cause isn't certain: {panel}",
+                "perhaps after alice#0, whose receive wasn't reported" in panel)
     checks.true(f"the lanes make room for the panel: {narrow}, {carol}", narrow < carol)
     browser.key("Escape")
     checks.same("and take it back", lanes()[2], carol)

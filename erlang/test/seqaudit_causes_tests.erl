@@ -2,7 +2,8 @@
 %% random runs of a machine whose resets are known.
 -module(seqaudit_causes_tests).
 
--export([as_the_charts_test_/0, spawned_test/0, unreported_test/0, beginnings_test/0, labels_test/0, put_back_test/0,
+-export([as_the_charts_test_/0, spawned_test/0, unreported_test/0, supposed_test/0,
+         beginnings_test/0, labels_test/0, put_back_test/0,
          alike_test/0, many_alike_test/0, resets_test/0, no_tokens_test_/0, hidden_reset_test/0, no_reset_test/0,
          completed_test_/0]).
 
@@ -85,6 +86,25 @@ unreported_test() ->
 
 beginnings_test() ->
     [start, open, open] = causes([{print, 1, 0, 1}, {print, 2, 1, 2}, {print, 3, 9, 10}]).
+
+%% A receive that nobody reported has a row above the first event that follows it, and one alone, also
+%% if its process sent to itself. A message that nothing follows may still wait, so it has none.
+supposed_test() ->
+    Rows = seqaudit_causes:rows(streams("seqtrace 1\nprocess <0.1.0>\n"
+                                        "{seq_trace,7,{send,{0,1},<0.1.0>,<0.2.0>,0}}\n"
+                                        "{seq_trace,7,{send,{0,2},<0.1.0>,<0.2.0>,1}}\n"
+                                        "process <0.2.0>\n"
+                                        "{seq_trace,7,{print,{1,3},<0.2.0>,[],2}}\n"
+                                        "{seq_trace,7,{send,{1,4},<0.2.0>,<0.2.0>,3}}\n"
+                                        "{seq_trace,7,{print,{4,5},<0.2.0>,[],4}}\n")),
+    [One, Two] = [<<"<0.1.0>">>, <<"<0.2.0>">>],
+    Shown = seqaudit_causes:with_receives(Rows),
+    [{{One, 0}, send}, {{One, 1}, send}, {{receive_of, {One, 0}}, 'receive'}, {{Two, 0}, print},
+     {{Two, 1}, send}, {{receive_of, {Two, 1}}, 'receive'}, {{Two, 2}, print}]
+        = [{Id, Kind} || #{id := Id, event := #{kind := Kind}} <- Shown],
+    [{Two, {supposed, {One, 0}}}, {Two, {supposed, {Two, 1}}}]
+        = [{Actor, Cause} || #{id := {receive_of, _}, actor := Actor, cause := Cause} <- Shown],
+    Rows = [Row || #{id := Id} = Row <- Shown, element(1, Id) =/= receive_of].
 
 %% The causes of what one process stamps, and receives from another one.
 causes(Events) ->

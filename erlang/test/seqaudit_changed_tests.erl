@@ -97,7 +97,8 @@ silent_test_() ->
         has(Said(["why", "--event", "shop#2"], "silent"),
             ["because (perhaps: its receive wasn't reported) shop#1: shop sends call {take,apple,3} to stock"]),
         has(Said(["chart", "--label", "{order,7}"], "silent"),
-            ["{2,3} reply {left,7}  perhaps after shop#1, whose receive wasn't reported\n"]),
+            ["  unreported  receive  {1,2} call {take,apple,3}  perhaps after shop#1\n",
+             "{2,3} reply {left,7}  perhaps after shop#1, whose receive wasn't reported\n"]),
         %% If its receive was reported, the send is after that.
         ok = write("silent", without(["send,{2,3}"])),
         has(Said(["why", "--event", "shop#2"], "silent"), ["\nbecause stock#0: stock receives call {take,apple,3}"]),

@@ -352,16 +352,31 @@ drawn(Chart, Heading) ->
 
 heading(Said) -> #{part => "", said => Said, fits => true, losses => ""}.
 
-%% A send that was reported is drawn whole, though nobody reported its receive: dashed is only what is unreported.
+%% A receive that nobody reported and that an event follows has a row right above that event. The
+%% send, which was reported, is drawn whole: dashed is only what is unreported.
 dashed_test() ->
-    Drawing = drawn(chart(<<"label 17\nlane 1 <0.30.0>\nlane 2 <0.31.0>\n"
-                            "   S   .  send     {0,1} 6 start\n   |   P  print    {1,2} 7 start\n">>,
-                          "seqtrace 1\nprocess <0.30.0>\n{seq_trace,17,{send,{0,1},<0.30.0>,<0.31.0>,6}}\n"
-                          "process <0.31.0>\n{seq_trace,17,{print,{1,2},<0.31.0>,[],7}}\n"), heading("fits")),
-    has(Drawing, ["unreported: it happened, but nobody reported it"]),
-    %% The one that is dashed is in the legend.
-    [1, 1, 1] = [length(binary:matches(Drawing, Part))
-                 || Part <- [<<"url(#d)">>, <<"<circle class=\"o\"">>, <<"<circle class=\"u\"">>]],
+    Chart = seqaudit_chart:with_receives(
+              chart(<<"label 17\nlane 1 <0.30.0>\nlane 2 <0.31.0>\n"
+                      "   S   .  send     {0,1} 6 start\n   |   P  print    {1,2} 7 start\n"
+                      "   |   P  print    {1,3} 7 start\n">>,
+                    "seqtrace 1\nprocess <0.30.0>\n"
+                    "{seq_trace,17,{send,{0,1},<0.30.0>,<0.31.0>,6}}\n"
+                    "process <0.31.0>\n{seq_trace,17,{print,{1,2},<0.31.0>,[],7}}\n"
+                    "{seq_trace,17,{print,{1,3},<0.31.0>,[],7}}\n")),
+    After = "perhaps after alice#0, whose receive wasn't reported\n",
+    has(unicode:characters_to_binary(seqaudit_chart:text(Chart, legend(), seqaudit_times:none())),
+        ["   S   .  alice#0       send     {0,1} {ok,six}  begins here\n"
+         "   .   r  unreported    receive  {0,1} {ok,six}  perhaps after alice#0\n"
+         "   |   P  bob & <co>#0  print    {1,2} start  " ++ After ++
+         "   |   P  bob & <co>#1  print    {1,3} start  " ++ After]),
+    Drawing = drawn(Chart, heading("fits")),
+    has(Drawing, ["unreported, but other events tell of it", ": 4 rows, 2 processes<",
+                  "unreported: receive {0,1}, perhaps after alice#0\n",
+                  ">receive not reported</text>"]),
+    %% One ring that is dashed is in the legend.
+    [1, 1, 2, 1] = [length(binary:matches(Drawing, Part))
+                    || Part <- [<<"url(#d)">>, <<"<circle class=\"o\"">>, <<"<circle class=\"u\"">>,
+                                <<">receive not reported<">>]],
     [] = [Part || Part <- [<<"part ">>, <<"class=\"w\"">>, <<"whose receive isn't">>],
                   binary:match(Drawing, Part) =/= nomatch].
 
