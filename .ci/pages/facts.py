@@ -13,7 +13,7 @@ from pages.sources import TOP, files, read
 from pages.text import spans, tables, value
 
 FORMATS, AUDIT, README, ERLANG = "docs/FORMATS.md", "docs/AUDIT.md", "README.md", "docs/ERLANG.md"
-REFERENCE = "docs/ERLANG-REFERENCE.md"
+REFERENCE, MANUAL = "docs/ERLANG-REFERENCE.md", "man/seqaudit-node.1"
 MACHINE, CONTRIBUTING = "docs/MACHINE.md", "docs/CONTRIBUTING.md"
 
 
@@ -72,6 +72,9 @@ NUMBERS = [
     (REFERENCE, r"a node with more than ([\d,]+) processes", constant(COLLECTOR, "PROCESSES")),
     (REFERENCE, r"`NAME.terms` has their first ([\d,]+) characters", constant("erlang/src/seqaudit_terms.erl", "CHARACTERS")),
     (REFERENCE, r"those more than ([\d,]+) maps deep", constant("erlang/src/seqaudit_external.erl", "SORTED_DEPTH")),
+    (MANUAL, r"the oldest are removed \[default: (\d+)\]", constant("erlang/src/seqaudit_periods.erl", "KEPT")),
+    (MANUAL, r"for a document, up to ([\d,]+) rows", constant("erlang/src/seqaudit_draw.erl", "MOST_ROWS")),
+    (MANUAL, r"of Mermaid, up to ([\d,]+) events", constant("erlang/src/seqaudit_export.erl", "MERMAID_ROWS")),
     (README, r"A real node reported (\d+) events", read("examples/order.seqtrace").count("{seq_trace,")),
     (README, r"and for (\w+) \(`.ci/clauses` has them", len(runpy.run_path(str(TOP / ".ci/clauses"))["WITHOUT_CLAUSE"])),
     (CONTRIBUTING, r"about (\w+) a crate", round(len(files(EDITS[0])) / len({it.parent for it in files(EDITS[0])}))),

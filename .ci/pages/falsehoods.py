@@ -2,6 +2,7 @@
 `.ci/docs` plants each in a copy of its page, and fails if one isn't refused."""
 
 FORMATS, AUDIT, README = "docs/FORMATS.md", "docs/AUDIT.md", "README.md"
+MANUAL = "man/seqaudit-node.1"
 FALSEHOODS = [
     # Limits and other numbers.
     (FORMATS, "| bytes | 67,108,864 |", "| bytes | 67,108,846 |"),
@@ -36,6 +37,8 @@ FALSEHOODS = [
     (README, "and for six (`.ci/clauses`", "and for nine (`.ci/clauses`"),
     (README, "has three more commands", "has four more commands"),
     ("docs/CONTRIBUTING.md", "about three a crate", "about thirty a crate"),
+    (MANUAL, "up to 2,000 rows", "up to 200 rows"),
+    (MANUAL, "[default: 100]", "[default: 10]"),
     # Names of constants, of functions and of files.
     ("docs/DECISIONS.md", "`Limits::STANDARD`", "`Limits::USUAL`"),
     ("docs/DECISIONS.md", "`World::place_of`", "`World::place_in`"),
@@ -67,6 +70,10 @@ FALSEHOODS = [
     ("docs/ERLANG-PRODUCTION.md", "--every 60 -o watched", "--each 60 -o watched"),
     ("docs/ERLANG-PRODUCTION.md", "`--unload`", "`--clean`"),
     ("docs/HOSTILE.md", "`tests/hostile --long`", "`tests/hostile --slow`"),
+    (MANUAL, r"\fB\-\-every\fR", r"\fB\-\-each\fR"),
+    (MANUAL, r"[\fB\-\-unload\fR]", r"[\fB\-\-clean\fR]"),
+    (MANUAL, r"Of \fBaudit\fR, \fBwhy\fR, \fBtimes\fR: print", r"Of \fBaudit\fR, \fBtimes\fR: print"),
+    (MANUAL, ".B seqaudit\\-node times", ".B seqaudit\\-node durations"),
     (FORMATS, "`complete --as streams`", "`complete --as events`"),
     (FORMATS, "| `replay` |", "| `rerun` |"),
     (FORMATS, "`diff`, `explain` and `lint` leaves", "`diff`, `list` and `lint` leaves"),
@@ -74,6 +81,7 @@ FALSEHOODS = [
     (FORMATS, "variable `NO_COLOR`", "variable `NO_COLOUR`"),
     ("docs/CONTRIBUTING.md", "`.ci/wrong-bodies st_mail`", "`.ci/wrong-bodies st_post`"),
     # Statuses, and words of outputs.
+    (MANUAL, ".B 141\n", ".B 130\n"),
     ("docs/PROVED.md", "If it returns 1 (`MeansStray`)", "If it returns 2 (`MeansStray`)"),
     (AUDIT, "## It doesn't fit (status 1)", "## It doesn't fit (status 2)"),
     (FORMATS, "begins with `error: `", "begins with `fault: `"),

@@ -5,6 +5,7 @@ from functools import cache
 from pages import sources, spelling
 from pages.blocks import wrong_callings
 from pages.facts import wrong_definitions, wrong_facts, wrong_orders, wrong_tallies
+from pages.manual import wrong_manual
 from pages.text import lines_of_code, prose, spans, tables
 
 FORMATS = "docs/FORMATS.md"
@@ -142,6 +143,6 @@ def wrong_counts(pages, counts):
             yield f"README.md: there are {count} {what}, and it says {', '.join(said) or 'nothing of them'}"
 
 
-WHOLE = (missing_outputs, wrong_spellings, missing_fields, missing_options, wrong_crates, wrong_command_rows,
-         wrong_answers, wrong_headline, wrong_times, wrong_callings, wrong_definitions, wrong_facts, wrong_orders,
-         wrong_tallies)
+WHOLE = (missing_outputs, wrong_spellings, missing_fields, missing_options, wrong_manual, wrong_crates,
+         wrong_command_rows, wrong_answers, wrong_headline, wrong_times, wrong_callings, wrong_definitions,
+         wrong_facts, wrong_orders, wrong_tallies)
