@@ -1,5 +1,7 @@
--- What contracts see of a log: entries by their places, and the last rank.
-use Rattle.std.specs.Prelude.{ℕ, List, [], ◌∷◌, None, slice_index_or}
+-- What contracts see of a log: entries by their places, and the last rank; and which acts are of a
+-- whole node.
+use Rattle.std.specs.Prelude.{ℕ, Bool, true, false, List, [], ◌∷◌, None, slice_index_or}
+use Rattle.st_core.specs.declared.types.Act.{Act}
 use Rattle.st_core.specs.declared.types.Act.TheVariants as act
 use Rattle.st_core.specs.declared.types.Reply.TheVariants as reply
 use Rattle.st_core.specs.Pid.{pid_on}
@@ -28,3 +30,9 @@ entry_at es i = slice_index_or es i no_entry
 abbrev pub last_rank : ℕ → List Entry → ℕ
 last_rank low [] = low
 last_rank low (e ∷ es) = last_rank e.rank es
+
+-- an act of a whole node
+abbrev pub is_wide : Act → Bool
+is_wide (act.Reset p) = true
+is_wide (act.Tracer p b) = true
+is_wide a = false

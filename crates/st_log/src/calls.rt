@@ -4,8 +4,11 @@
 ghost use Rattle.std.specs.Prelude.{◌≡◌, ◌+◌, ◌-◌, ◌<◌, ◌≤◌, ◌↔◌, ◌⊎◌, [], ◌∷◌, ◌++◌, length, slice_get};
 ghost use Rattle.std.specs.Prelude.{slice_index_or, vec_len, IfOk, IfSome, OnOk, IsOk, IsTrue};
 ghost use Rattle.std.specs.Vec.{vec_capacity};
-ghost use Rattle.st_log.specs.Briefs.{call_in, IsBrief, IsBriefPlaced};
+ghost use Rattle.st_core.specs.Step.{actor};
+ghost use Rattle.st_log.specs.Briefs.{call_at, call_in, IsBrief, IsBriefPlaced};
+ghost use Rattle.st_log.specs.Entries.{is_wide};
 
+use crate::wide::is_wide;
 use st_core::{Act, Pid, Reply, Want};
 use std::alloc::{AllocError, Global};
 use std::marker::Model;
@@ -135,6 +138,24 @@ impl CallLog {
         self.briefs[place].call(self.whole.as_slice())
     }
 
+    /// The actor of the call at this place.
+    #[inline]
+    pub fn actor_at(&self, place: usize) -> Pid
+        requires { place < length self.now.calls }
+        ensures { result ≡ actor (call_at self.now.calls place).0 }
+    {
+        self.briefs[place].actor(self.whole.as_slice())
+    }
+
+    /// Whether the act of the call at this place is one of a whole node.
+    #[inline]
+    pub fn is_wide_at(&self, place: usize) -> bool
+        requires { place < length self.now.calls }
+        ensures { result ≡ is_wide (call_at self.now.calls place).0 }
+    {
+        self.briefs[place].is_wide(self.whole.as_slice())
+    }
+
     /// Makes room for one call. Fails if memory runs out, or if there are as many as can be kept.
     pub fn reserve(&mut self) -> Result<(), AllocError>
         ensures calls { self.new.calls ≡ self.old.calls }
@@ -236,6 +257,37 @@ impl Brief {
                 receive_call(me, Want::Place(u64::from(place)), from, value)
             }
             Brief::Whole(place) => whole[place as usize],
+        }
+    }
+
+    /// The call's actor, of the same. Each form that isn't whole begins with it.
+    #[inline]
+    fn actor(self, whole: &[(Act, Reply)]) -> Pid
+        requires { IsBriefPlaced (length whole.now) self }
+        ensures { result ≡ actor (call_in whole.now self).0 }
+    {
+        match self {
+            Brief::Send(me, ..)
+            | Brief::Print(me, _)
+            | Brief::Nothing(me, _)
+            | Brief::First(me, ..)
+            | Brief::From(me, ..)
+            | Brief::Value(me, ..)
+            | Brief::Both(me, ..)
+            | Brief::Place(me, ..) => me,
+            Brief::Whole(place) => whole[place as usize].0.actor(),
+        }
+    }
+
+    /// Whether the call's act is one of a whole node, of the same. No other form is of one.
+    #[inline]
+    fn is_wide(self, whole: &[(Act, Reply)]) -> bool
+        requires { IsBriefPlaced (length whole.now) self }
+        ensures { result ≡ is_wide (call_in whole.now self).0 }
+    {
+        match self {
+            Brief::Whole(place) => is_wide(&whole[place as usize].0),
+            _ => false,
         }
     }
 }

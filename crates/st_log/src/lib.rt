@@ -12,9 +12,11 @@ mod log;
 mod row;
 mod same;
 mod traced_act;
+mod wide;
 
 pub use calls::CallLog;
 pub use entry::Entry;
 pub use iter::{Calls, Entries};
 pub use log::Log;
 pub use same::{is_call, is_same_entry};
+pub use wide::is_wide;

@@ -5,7 +5,8 @@ ghost use Rattle.std.specs.Prelude.{slice_index_or, vec_len, IfOk, OnOk, IsOk, I
 ghost use Rattle.std.specs.List.Sorted.{IsBinarySearchResult, IsSearchInRange};
 ghost use Rattle.std.specs.Ordering.{nat_cmp};
 ghost use Rattle.std.specs.Vec.{vec_capacity};
-ghost use Rattle.st_log.specs.Entries.{entry_at, last_rank};
+ghost use Rattle.st_core.specs.Step.{actor};
+ghost use Rattle.st_log.specs.Entries.{entry_at, is_wide, last_rank};
 ghost use Rattle.st_log.specs.Rows.{without_rank_in, HasGrown, HasPlace};
 ghost use Rattle.st_log.specs.TracedActs.{without_rank};
 
@@ -14,7 +15,7 @@ use crate::entry::Entry;
 use crate::row::{Content, Row, Unranked, content_of};
 use crate::same::is_same_entry;
 use crate::traced_act::{TracedAct, traced_of};
-use st_core::{Act, Event, Reply};
+use st_core::{Act, Event, Pid, Reply};
 use std::alloc::{AllocError, Global};
 use std::marker::Model;
 
@@ -141,6 +142,26 @@ impl Log {
     {
         let content = self.rows[place].content;
         content.act(&self.calls, self.traced.as_slice(), self.apart.as_slice())
+    }
+
+    /// The actor of the entry at this place.
+    #[inline(always)]
+    pub fn actor_at(&self, place: usize) -> Pid
+        requires { place < length self.now.entries }
+        ensures { result ≡ actor (entry_at self.now.entries place).act }
+    {
+        let content = self.rows[place].content;
+        content.actor(&self.calls, self.traced.as_slice(), self.apart.as_slice())
+    }
+
+    /// Whether the act of the entry at this place is one of a whole node.
+    #[inline(always)]
+    pub fn is_wide_at(&self, place: usize) -> bool
+        requires { place < length self.now.entries }
+        ensures { result ≡ is_wide (entry_at self.now.entries place).act }
+    {
+        let content = self.rows[place].content;
+        content.is_wide(&self.calls, self.traced.as_slice(), self.apart.as_slice())
     }
 
     /// What the act of the entry at this place returned.

@@ -4,12 +4,15 @@
 //! mostly among the short forms of acts under a token (`traced`).
 
 ghost use Rattle.std.specs.Prelude.{◌≡◌, length, IfSome};
+ghost use Rattle.st_core.specs.Step.{actor};
+ghost use Rattle.st_log.specs.Entries.{is_wide};
 ghost use Rattle.st_log.specs.Rows.{of_call, without_rank_in, IsAll, HasPlace};
 ghost use Rattle.st_log.specs.TracedActs.{with_rank, without_rank};
 
 use crate::calls::CallLog;
 use crate::entry::Entry;
 use crate::traced_act::TracedAct;
+use crate::wide::is_wide;
 use st_core::{Act, Event, Pid, Reply, Token};
 
 /// The rank of an entry, and where the rest of it is.
@@ -99,6 +102,34 @@ impl Content {
             Content::Call(place) => calls.at(place as usize).0,
             Content::Traced(place) => traced[place as usize].without_rank().act,
             Content::Apart(place) => apart[place as usize].act,
+        }
+    }
+
+    /// The entry's actor, of the same.
+    #[inline(always)]
+    pub fn actor(self, calls: &CallLog, traced: &[TracedAct], apart: &[Unranked]) -> Pid
+        requires { HasPlace (length calls.now.calls) (length traced.now) (length apart.now) self }
+        ensures { result ≡ actor (without_rank_in calls.now.calls traced.now apart.now self).act }
+    {
+        match self {
+            Content::Reset(actor) | Content::Tracer(actor, ..) => actor,
+            Content::Call(place) => calls.actor_at(place as usize),
+            Content::Traced(place) => traced[place as usize].actor(),
+            Content::Apart(place) => apart[place as usize].act.actor(),
+        }
+    }
+
+    /// Whether the entry's act is one of a whole node, of the same.
+    #[inline(always)]
+    pub fn is_wide(self, calls: &CallLog, traced: &[TracedAct], apart: &[Unranked]) -> bool
+        requires { HasPlace (length calls.now.calls) (length traced.now) (length apart.now) self }
+        ensures { result ≡ is_wide (without_rank_in calls.now.calls traced.now apart.now self).act }
+    {
+        match self {
+            Content::Reset(_) | Content::Tracer(..) => true,
+            Content::Call(place) => calls.is_wide_at(place as usize),
+            Content::Traced(_) => false,
+            Content::Apart(place) => is_wide(&apart[place as usize].act),
         }
     }
 

@@ -2,6 +2,7 @@
 //! token that its message carried, follow from the act, a label and a serial.
 
 ghost use Rattle.std.specs.Prelude.{◌≡◌, IfSome};
+ghost use Rattle.st_core.specs.Step.{actor};
 ghost use Rattle.st_log.specs.TracedActs.{event_of_parts, receive_rest, send_rest};
 ghost use Rattle.st_log.specs.TracedActs.{token_of_parts};
 ghost use Rattle.st_log.specs.TracedActs.{traced_rest, with_rank};
@@ -119,6 +120,22 @@ impl TracedAct {
             TracedAct::Both(me, label, from, value, serial) => {
                 receive_rest(me, Want::Both(from, value), label, from, value, serial)
             }
+        }
+    }
+
+    /// The entry's actor.
+    #[inline]
+    pub fn actor(self) -> Pid
+        ensures { result ≡ actor (traced_rest self).act }
+    {
+        match self {
+            TracedAct::Send(_, _, me, ..)
+            | TracedAct::ReportedSend(_, _, me, ..)
+            | TracedAct::Print(me, ..)
+            | TracedAct::First(me, ..)
+            | TracedAct::From(me, ..)
+            | TracedAct::Value(me, ..)
+            | TracedAct::Both(me, ..) => me,
         }
     }
 }

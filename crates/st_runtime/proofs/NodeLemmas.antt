@@ -15,9 +15,10 @@ use Rattle.st_core.specs.Pid.{node_of, node_eq, IsRising}
 use Rattle.st_core.specs.Step.{actor, touches}
 use Rattle.st_core.specs.Streams.{is_among}
 use Rattle.st_log.specs.declared.entry.Entry.{Entry}
+use Rattle.st_log.specs.Entries.{is_wide}
 use Rattle.st_runtime.specs.Joining.{wide_of, IsAlike, IsFirstOf, IsOnNode, IsOnNodeIfWide}
 use Rattle.st_runtime.specs.Joining.{IsSettledAt, IsSharedUnlessWide, IsWholeIfOwn}
-use Rattle.st_runtime.specs.Pcb.{Control, is_wide}
+use Rattle.st_runtime.specs.Pcb.{Control}
 use Rattle.st_runtime.specs.Pieces.{pids_in, AreWhole, HasIfTouched, IsWholeEntry}
 use Rattle.st_runtime.proofs.Members.{In, In-All, All-In, In-Contains, Contains-In, In-filter, In-to_filter}
 use Rattle.st_runtime.proofs.Wholeness.{all_whole, wide_receiver, whole_actor}

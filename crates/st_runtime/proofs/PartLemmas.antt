@@ -17,8 +17,8 @@ use Rattle.st_core.proofs.ForCallers.{pid_eq-true, pid_eq-same, changed_pid, rea
 use Rattle.st_mail.specs.Actor.{process_of, part_of, is_inner}
 use Rattle.st_mail.specs.declared.outcome.Outcome.{Outcome as Told}
 use Rattle.st_log.specs.declared.entry.Entry.{Entry}
+use Rattle.st_log.specs.Entries.{is_wide}
 use Rattle.st_runtime.specs.Logs.{carried_by, IsOwnPart, IsOtherPart, IsPart}
-use Rattle.st_runtime.specs.Pcb.{is_wide}
 
 -- CASES
 

@@ -12,8 +12,9 @@ use Rattle.st_core.specs.Step.{actor, receiver, touches}
 use Rattle.st_core.specs.Streams.{is_among}
 use Rattle.st_core.proofs.ForCallers.{pid_eq-true, pid_eq-same, IsBelow-apart}
 use Rattle.st_log.specs.declared.entry.Entry.{Entry}
+use Rattle.st_log.specs.Entries.{is_wide}
 use Rattle.st_runtime.specs.Joining.{HasAt, IsWholeIfOwn}
-use Rattle.st_runtime.specs.Pcb.{Control, is_wide}
+use Rattle.st_runtime.specs.Pcb.{Control}
 use Rattle.st_runtime.specs.Pieces.{pids_in, AreWhole, HasIfTouched, IsWholeEntry}
 use Rattle.st_runtime.proofs.Members.{In, In-Contains, Contains-In, All-In, In-All}
 use Rattle.st_runtime.proofs.PartLemmas.{touches_actor}

@@ -9,8 +9,8 @@ use Rattle.st_core.specs.Step.{acted, actor, reached, step}
 use Rattle.st_runtime.specs.declared.fault.PcbFault.{PcbFault}
 use Rattle.st_runtime.specs.declared.fault.PcbFault.TheVariants as fault
 use Rattle.st_log.specs.declared.entry.Entry.{Entry}
-use Rattle.st_log.specs.Entries.{last_rank}
-use Rattle.st_runtime.specs.Pcb.{Control, IsSame, IsStepped, greatest_rank, is_wide, lent_state}
+use Rattle.st_log.specs.Entries.{is_wide, last_rank}
+use Rattle.st_runtime.specs.Pcb.{Control, IsSame, IsStepped, greatest_rank, lent_state}
 
 -- the act has no step on these processes, its own, since the actor's clock is full
 abbrev pub FindsClockFull : ℕ → Act → List Control → Type 0

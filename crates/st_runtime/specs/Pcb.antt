@@ -61,12 +61,6 @@ is_alone (act.Reset p) = false
 is_alone (act.Tracer p b) = false
 is_alone a = true
 
--- an act of a whole node
-abbrev pub is_wide : Act → Bool
-is_wide (act.Reset p) = true
-is_wide (act.Tracer p b) = true
-is_wide a = false
-
 -- a send from p to q, another process
 abbrev pub IsBetween : Act → Pid → Pid → Type 0
 IsBetween a p q = (p ≢ q) × (v : ℕ) × (a ≡ act.Send p q v)

@@ -6,9 +6,9 @@ ghost use Rattle.std.specs.Prelude.{length, map, is_some, slice_get, Some, None,
 ghost use Rattle.std.specs.Prelude.{Ok, IfOk, IfErr, IfSome, OnOk, OnErr, vec_len};
 ghost use Rattle.st_core.specs.Pid.{IsRising};
 ghost use Rattle.st_core.specs.Step.{actor, receiver};
+ghost use Rattle.st_log.specs.Entries.{is_wide};
 ghost use Rattle.st_runtime.specs.Locked.{wide_reply, AreFor, IsHeldStep, IsLockFault};
 ghost use Rattle.st_runtime.specs.declared.fault.PcbFault.{PcbFault};
-ghost use Rattle.st_runtime.specs.Pcb.{is_wide};
 ghost use Rattle.st_runtime.specs.Pieces.{pids_in};
 ghost use Rattle.st_runtime.specs.Seat.{no_calls};
 ghost use Rattle.st_runtime.specs.System.{knows, is_stamping};
@@ -23,7 +23,7 @@ pub mod seat;
 
 use crate::fault::{ActFault, PcbFault, SystemFault};
 use crate::pcb::Pcb;
-use crate::pcb::acts::{is_wide, receiver_of};
+use crate::pcb::acts::receiver_of;
 use crate::system::gate::Gate;
 use crate::system::lock::take_lock;
 use crate::system::log_room::expected_entries;
@@ -32,7 +32,7 @@ use crate::system::pids::{first_on, place_of};
 use crate::system::pieces::Pieces;
 use crate::system::seat::Seat;
 use st_core::{Act, Pid, Reply, Sequence, is_rising};
-use st_log::Entry;
+use st_log::{Entry, is_wide};
 use std::alloc::{AllocError, Global};
 use std::marker::Model;
 use std::sync::{Mutex, Wait};

@@ -72,7 +72,7 @@ fn add_entry(draft: &mut Draft, pid: Pid, log: &Log, place: usize) -> Result<(),
     let Some(event) = log.report_at(place) else {
         return Ok(());
     };
-    if log.act_at(place).actor() != pid {
+    if log.actor_at(place) != pid {
         return Ok(());
     }
     match draft.add(pid, event) {

@@ -110,7 +110,7 @@ fn push_own<'a>(all: &mut Vec<Ranked<'a>>, pid: Pid, log: &'a Log) -> Result<(),
     ensures { OnOk result (all.new.items ≡ all.old.items ++ own_of pid log.now.entries) }
 {
     for place in 0..log.len() {
-        if log.act_at(place).actor() == pid {
+        if log.actor_at(place) == pid {
             let Ok(()) = all.push(Ranked::new(log.rank_at(place), log, place)) else {
                 return Err(AllocError);
             };

@@ -6,13 +6,13 @@
 ghost use Rattle.std.specs.Prelude.{◌≡◌, ◌+◌, ◌<◌, ◌≤◌, length, take, All, IfSome, IsTrue};
 ghost use Rattle.std.specs.List.{HoldsAt};
 ghost use Rattle.st_core.specs.Pid.{IsRising};
+ghost use Rattle.st_log.specs.Entries.{entry_at};
 ghost use Rattle.st_runtime.specs.Joining.{wide_of, IsAlike, IsFirstOf, IsOnNodeIfWide};
 ghost use Rattle.st_runtime.specs.Pieces.{pids_in};
 
 use crate::join::whole::place_in;
 use crate::pcb::Pcb;
-use crate::pcb::acts::is_wide;
-use st_core::{Act, Pid};
+use st_core::Pid;
 use st_log::Log;
 
 /// Whether the process at this place is seen to have the same entries of acts of its whole node as
@@ -60,27 +60,32 @@ fn are_on_node<const TOP: u64, const RANKS: u64>(
     ensures { IsTrue result → All (λ e. IsOnNodeIfWide processes.now pid e.act) log.now.entries }
 {
     for place in 0..log.len() {
-        if !is_on_node(processes, pid, &log.act_at(place)) {
+        if !is_on_node(processes, pid, log, place) {
             return false;
         }
     }
     true
 }
 
-/// Whether the actor is there, on the node of this pid, if the act is one of a whole node.
+/// Whether the actor of the entry at this place of the log is there, on the node of this pid, if
+/// the act is one of a whole node.
 fn is_on_node<const TOP: u64, const RANKS: u64>(
     processes: &[Pcb<TOP, RANKS>],
     pid: Pid,
-    act: &Act,
+    log: &Log,
+    place: usize,
 ) -> bool
-    requires { IsRising (pids_in processes.now) }
-    ensures { IsTrue result → IsOnNodeIfWide processes.now pid act.now }
+    requires rising { IsRising (pids_in processes.now) }
+    requires place { place < length log.now.entries }
+    ensures { IsTrue result
+        → IsOnNodeIfWide processes.now pid (entry_at log.now.entries place).act }
 {
-    if !is_wide(act) {
+    if !log.is_wide_at(place) {
         return true;
     }
-    match place_in(processes, act.actor()) {
-        Some(_) => act.actor().node() == pid.node(),
+    let actor = log.actor_at(place);
+    match place_in(processes, actor) {
+        Some(_) => actor.node() == pid.node(),
         None => false,
     }
 }
@@ -109,7 +114,7 @@ fn after_same(log: &Log, place: usize, other: &Log, next: usize) -> Option<usize
         wide_of (take place log.now.entries) ≡ wide_of (take next other.now.entries)
         → wide_of (take (place + 1) log.now.entries) ≡ wide_of (take after other.now.entries)) }
 {
-    if !is_wide(&log.act_at(place)) {
+    if !log.is_wide_at(place) {
         return Some(next);
     }
     let there = next_wide(other, next);
@@ -127,7 +132,7 @@ fn next_wide(log: &Log, from: usize) -> usize
     ensures past { wide_of (take result log.now.entries) ≡ wide_of (take from log.now.entries) }
 {
     for place in from..log.len() {
-        if is_wide(&log.act_at(place)) {
+        if log.is_wide_at(place) {
             return place;
         }
     }

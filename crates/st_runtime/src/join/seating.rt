@@ -129,8 +129,8 @@ fn holds_calls(mine: &CallLog, pid: Pid, log: &Log) -> bool
 {
     let mut next = 0;
     for place in 0..log.len() {
-        let act = log.act_at(place);
-        if act.actor() == pid {
+        if log.actor_at(place) == pid {
+            let act = log.act_at(place);
             if next >= mine.len() || !is_call(&mine.at(next), &act, &log.reply_at(place)) {
                 return false;
             }

@@ -6,17 +6,17 @@ ghost use Rattle.st_core.specs.Pid.{IsRising};
 ghost use Rattle.st_core.specs.Step.{actor, touches};
 ghost use Rattle.st_core.specs.Streams.{is_among};
 ghost use Rattle.st_log.specs.declared.entry.Entry.{Entry};
+ghost use Rattle.st_log.specs.Entries.{is_wide};
 ghost use Rattle.st_runtime.specs.Joining.{HasAt, IsInLogOf, IsWhether};
 ghost use Rattle.st_runtime.specs.Logs.{RanksRise};
-ghost use Rattle.st_runtime.specs.Pcb.{is_wide};
 ghost use Rattle.st_runtime.specs.Pieces.{pids_in, AreWhole, HasIfTouched, IsWholeEntry};
 ghost use Rattle.st_runtime.specs.Pieces.{IsFirstMissing};
 
 use crate::join::whole_at_once::are_seen_whole;
 use crate::pcb::Pcb;
-use crate::pcb::acts::{is_wide, receiver_of};
+use crate::pcb::acts::receiver_of;
 use st_core::{Act, Pid};
-use st_log::{Entry, Log, is_same_entry};
+use st_log::{Entry, Log, is_same_entry, is_wide};
 use std::alloc::Global;
 
 /// The least place of an entry that isn't whole. If all are, this is mostly seen at once; else each

@@ -8,14 +8,13 @@ ghost use Rattle.std.specs.Prelude.{◌≡◌, ◌<◌, false, length, All, Cont
 ghost use Rattle.st_core.specs.Pid.{IsRising};
 ghost use Rattle.st_core.specs.Step.{actor};
 ghost use Rattle.st_runtime.specs.Joining.{HasAt, IsSharedUnlessWide, IsSettledAt};
-ghost use Rattle.st_runtime.specs.Pcb.{is_wide};
 ghost use Rattle.st_runtime.specs.Pieces.{pids_in, AreWhole, IsWholeEntry};
-ghost use Rattle.st_log.specs.Entries.{entry_at};
+ghost use Rattle.st_log.specs.Entries.{entry_at, is_wide};
 
 use crate::join::nodes::is_alike;
 use crate::join::whole::place_in;
 use crate::pcb::Pcb;
-use crate::pcb::acts::{is_wide, receiver_of};
+use crate::pcb::acts::receiver_of;
 use st_core::{Act, Pid};
 use st_log::Log;
 use std::alloc::Global;
@@ -104,14 +103,14 @@ fn is_settled<const TOP: u64, const RANKS: u64>(
     ensures { IsTrue result
         → IsSharedUnlessWide processes.now here (entry_at log.now.entries place) }
 {
-    let act = log.act_at(place);
-    if is_wide(&act) {
+    if log.is_wide_at(place) {
         return true;
     }
-    if act.actor() == here {
-        sees_shared(processes, places, here, &act, log, place)
+    let actor = log.actor_at(place);
+    if actor == here {
+        sees_shared(processes, places, here, &log.act_at(place), log, place)
     } else {
-        sees_at(processes, places, act.actor(), log, place)
+        sees_at(processes, places, actor, log, place)
     }
 }
 

@@ -3,7 +3,6 @@
 ghost use Rattle.std.specs.Prelude.{◌≡◌};
 ghost use Rattle.st_core.specs.Step.{receiver};
 ghost use Rattle.st_runtime.specs.Locked.{wide_reply};
-ghost use Rattle.st_runtime.specs.Pcb.{is_wide};
 ghost use Rattle.st_runtime.specs.System.{is_stamping};
 
 use st_core::{Act, Pid, Reply};
@@ -24,13 +23,6 @@ pub fn receiver_of(act: &Act) -> Pid
         | Act::Reset(me)
         | Act::Tracer(me, _) => me,
     }
-}
-
-/// Whether the act touches all processes of its actor's node.
-pub fn is_wide(act: &Act) -> bool
-    ensures { result ≡ is_wide act.now }
-{
-    matches!(*act, Act::Reset(_) | Act::Tracer(..))
 }
 
 /// What an act of a whole node returns to an actor that was traced or not.

@@ -7,9 +7,9 @@ ghost use Rattle.st_core.specs.Laws.{IsStamped};
 ghost use Rattle.st_core.specs.Local.{IsMeetable};
 ghost use Rattle.st_core.specs.Pid.{node_eq};
 ghost use Rattle.st_core.specs.Step.{acted, actor, reached};
+ghost use Rattle.st_log.specs.Entries.{is_wide};
 ghost use Rattle.st_mail.specs.Actor.{process_of, part_of, QueueFits, ActsOutside, HasNoPart};
 ghost use Rattle.st_mail.specs.Mail.{queue_in};
-ghost use Rattle.st_runtime.specs.Pcb.{is_wide};
 
 use st_core::{Act, ClockFull, Kind, Local, Pid, Reply, Want};
 use st_mail::actor::{event, receive, stamp};

@@ -3,8 +3,7 @@
 ghost use Rattle.std.specs.Prelude.{◌≡◌, ◌≢◌, ◌+◌, ◌≤◌, ◌↔◌, ◌⊎◌, true, false, max, Some, None};
 ghost use Rattle.std.specs.Prelude.{Err, IfOk, IfSome, IsSome};
 ghost use Rattle.st_runtime.specs.Locked.{wide_reply, IsLockFault};
-ghost use Rattle.st_log.specs.Entries.{last_rank};
-ghost use Rattle.st_runtime.specs.Pcb.{is_wide};
+ghost use Rattle.st_log.specs.Entries.{is_wide, last_rank};
 
 use crate::fault::ActFault;
 use crate::pcb::Pcb;

@@ -15,7 +15,7 @@ loop-place-preserved g c =
     let i = c.loop-place.place in
     let within : i < length log = omega (arith, c.loop-place-test.true, c.len-place-end.ensures) in
     All-more (λ (e : Entry). OnNode e.act) log i no_entry within c.loop-place.invariant
-    (subst OnNode c.act_at.ensures (c.is_on_node.ensures c.if-not-is_on_node.false))
+    (c.is_on_node.ensures c.if-not-is_on_node.false)
 
 pub returns : goal.returns
 returns g c sure = All-past (λ (e : Entry). IsOnNodeIfWide c.args.processes.now c.args.pid e.act) c.loop-place.place

@@ -5,8 +5,7 @@ use Rattle.st_core.specs.declared.types.Pid.{Pid}
 use Rattle.st_core.specs.Step.{actor, receiver}
 use Rattle.st_core.proofs.ForCallers.{pid_eq-true}
 use Rattle.st_runtime.specs.Joining.{HasAt}
-use Rattle.st_runtime.specs.Pcb.{is_wide}
-use Rattle.st_log.specs.Entries.{entry_at}
+use Rattle.st_log.specs.Entries.{entry_at, is_wide}
 use Rattle.st_runtime.proofs.Wholeness.{whole_of_two}
 use Rattle.st_runtime.proofs.join.whole_at_once.sees_shared.Goals as goal
 
