@@ -8,6 +8,7 @@ ghost use Rattle.st_core.specs.Step.{actor};
 ghost use Rattle.st_log.specs.Briefs.{call_at, call_in, IsBrief, IsBriefPlaced};
 ghost use Rattle.st_log.specs.Entries.{is_wide};
 
+use crate::same::is_call;
 use crate::wide::is_wide;
 use st_core::{Act, Pid, Reply, Want};
 use std::alloc::{AllocError, Global};
@@ -20,7 +21,7 @@ const MOST_CALLS: usize = 4_294_967_295;
 const MOST_PLACE: u64 = 4_294_967_295;
 
 /// A call: all of it, if it is of a frequent form, or where it is whole.
-#[derive(Clone, Copy)]
+#[derive(Clone, Copy, PartialEq, Eq)]
 pub enum Brief {
     /// A send from the first to the second process, which returned `Done`.
     Send(Pid, Pid, u64),
@@ -156,6 +157,17 @@ impl CallLog {
         self.briefs[place].is_wide(self.whole.as_slice())
     }
 
+    /// Whether the call at this place is seen to be the one at that place of the other calls. If it
+    /// isn't, nothing is known.
+    pub fn is_seen_same(&self, place: usize, other: &CallLog, there: usize) -> bool
+        requires here { place < length self.now.calls }
+        requires there { there < length other.now.calls }
+        ensures { IsTrue result → call_at self.now.calls place ≡ call_at other.now.calls there }
+    {
+        let theirs = other.briefs[there];
+        self.briefs[place].is_seen_same(self.whole.as_slice(), theirs, other.whole.as_slice())
+    }
+
     /// Makes room for one call. Fails if memory runs out, or if there are as many as can be kept.
     pub fn reserve(&mut self) -> Result<(), AllocError>
         ensures calls { self.new.calls ≡ self.old.calls }
@@ -288,6 +300,22 @@ impl Brief {
         match self {
             Brief::Whole(place) => is_wide(&whole[place as usize].0),
             _ => false,
+        }
+    }
+
+    /// Whether the call is seen to be that of another form, if these are the calls that are kept
+    /// whole beside each.
+    fn is_seen_same(self, whole: &[(Act, Reply)], other: Brief, others: &[(Act, Reply)]) -> bool
+        requires placed { IsBriefPlaced (length whole.now) self }
+        requires other { IsBriefPlaced (length others.now) other }
+        ensures { IsTrue result → call_in whole.now self ≡ call_in others.now other }
+    {
+        match self {
+            Brief::Whole(place) => {
+                let (act, reply) = other.call(others);
+                is_call(&whole[place as usize], &act, &reply)
+            }
+            _ => self == other,
         }
     }
 }

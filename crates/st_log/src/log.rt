@@ -198,6 +198,10 @@ impl Log {
             (Content::Tracer(actor, on, was), Content::Tracer(same, turned, before)) => {
                 actor == same && on == turned && was == before
             }
+            (Content::Call(call), Content::Call(same)) => {
+                self.calls
+                    .is_seen_same(call as usize, &other.calls, same as usize)
+            }
             _ => is_same_entry(&self.at(place), &other.at(there)),
         }
     }
