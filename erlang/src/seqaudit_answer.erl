@@ -191,6 +191,8 @@ chart(#{"" := [Name], "--label" := [Label | _]} = Options) ->
             {error, Reason} -> {?UNFIT, seqaudit_legend:format_error(Reason)}
         end
     end);
+chart(#{"" := [_], "--svg" := _}) ->
+    {usage, "chart draws one label for --svg: name it by --label"};
 chart(#{"" := [Name]} = Options) ->
     Drawn = ["--html" | [Option || {Option, _} <- seqaudit_export:formats()]],
     case [Option || Option <- Drawn, is_map_key(Option, Options)] of

@@ -71,7 +71,7 @@ commands() ->
       fun(#{"--each-label" := _} = Options) -> answer(fun seqaudit_each:audit/1, Options);
          (Options) -> answer(fun seqaudit_answer:audit/1, Options)
       end},
-     {"chart", ["--svg", "--html", "--mermaid", "--perfetto", "--otlp" | ?CUTS], ["--parts"],
+     {"chart", ["--svg", "--html", "--mermaid", "--perfetto", "--otlp" | ?CUTS], [],
       fun(Options) -> answer(fun seqaudit_answer:chart/1, Options) end},
      {"why", ["--event" | ?CUTS], ["--effects", "--json"],
       fun(Options) -> answer(fun seqaudit_answer:why/1, Options) end},

@@ -36,6 +36,7 @@ usage_test_() ->
             {3, Said} <- [command(Words)]],
         [{3, _} = command(Words)
          || Words <- ["", "frobnicate", "audit", "audit a b", "audit a --label", "chart a", "why a",
+                      "chart a --html x --svg y", "chart a --label b --parts",
                       "convert x", "collect --node a@h", "collect -o x", "convert -o", "times", "watch --node a@h -o x",
                       "watch --every 1 -o x", "audit a --each-label --whole"]],
         {3, Text} = command("collect --node a@h --seconds ten -o x"),
