@@ -68,9 +68,9 @@ drawer("help", section => section.replaceChildren(
     "ring: a send; disc: a receive; diamond: a print",
     "arrow: a message, from its send to its receive; time runs downwards",
     "a line that ends in a bar: a message whose receive isn't in the trace",
-    "dashed: unreported, but other events tell of it",
-    "?: what the event follows may be something else, or may not have been reported",
-    "a cause holds if each receive of a token was reported, and if no process took its token off and set one of the same "
+    "dashed: " + (data.cut ? "not here" : "unreported") + ", but other events tell of it",
+    "?: what the event follows may be something else, or may not " + (data.cut ? "be here" : "have been reported"),
+    "a cause holds if each receive of a token " + (data.cut ? "is here" : "was reported") + ", and if no process took its token off and set one of the same "
       + "label again, but where it's said",
     "\u25cf the chosen event; \u2191 its causes, blue; \u2193 its effects, orange",
     "double line: a reset, or another run, begins below it",

@@ -1,5 +1,5 @@
 // The arrows of messages, and a mark for each event.
-import { arrived, brief, counted, isDoubtful, isPlain, rows } from "./trace.js";
+import { arrived, brief, counted, data, isDoubtful, isPlain, rows } from "./trace.js";
 import { arrowsWithin, column, laneWidth, listWidth, place, rowHeight } from "./layout.js";
 import { chosen, effects } from "./choice.js";
 import { INK, ink, isLit, isReset, stroke, x, y } from "./drawing.js";
@@ -110,7 +110,7 @@ function drawTerm(pen, row, cx, base) {
 
 // It stands where no arrow comes from.
 function drawNotReported(pen, row, cx, base) {
-  writeBeside(pen, row, "receive not reported", cx, base, !isLeftwards(row));
+  writeBeside(pen, row, data.cut ? "receive not here" : "receive not reported", cx, base, !isLeftwards(row));
 }
 
 function writeBeside(pen, row, text, cx, base, leftwards) {

@@ -50,15 +50,18 @@ export const sentence = row => {
   return self + " " + VERBS[rows.kind[row]] + " " + brief(row) + link;
 };
 
+// What is said of an event that the trace hasn't. One that a cut took away may have been reported.
+const absent = data.cut ? "isn't here" : "wasn't reported";
+
 // In the words of charts, drawings and `why'.
 export const causeText = row => {
   const cause = rows.cause[row], before = cause >= 0 ? eventName(cause) : "", had = rows.had[row];
   const after = cause < 0 || isPlain(cause) ? "after " + before
     : rows.how[cause] === "u"
-    ? "perhaps after " + eventName(rows.cause[cause]) + ", whose receive wasn't reported"
-    : "perhaps after " + before + ", which wasn't reported";
-  return { s: cause >= 0 && rows.kind[cause] === "h" ? "its send wasn't reported"
-              : "after " + before + (cause >= 0 && !isPlain(cause) ? ", which wasn't reported" : ""),
+    ? "perhaps after " + eventName(rows.cause[cause]) + ", whose receive " + absent
+    : "perhaps after " + before + ", which " + absent;
+  return { s: cause >= 0 && rows.kind[cause] === "h" ? "its send " + absent
+              : "after " + before + (cause >= 0 && !isPlain(cause) ? ", which " + absent : ""),
            a: "perhaps after " + before + ", or after another message like it",
            r: after, w: "after " + before + ", a spawn's answer",
            t: "after " + before + ", whose token was put back",
@@ -67,10 +70,10 @@ export const causeText = row => {
            l: "begins label " + visible(labels[rows.label[row]]) + " here, or set it on its token"
               + (had === undefined ? "" : "; it had last received " + eventName(had) + " of label " + visible(labels[rows.label[had]])),
            x: "begins label " + visible(labels[rows.label[row]]) + " here, or set it on a token that was put back, or follows a "
-              + "message whose receive wasn't reported",
-           b: "begins here", o: "begins here, or follows a message whose receive wasn't reported",
-           h: "it wasn't reported, so its cause isn't known" }[rows.how[row]]
-    + (isPlain(row) || rows.kind[row] === "h" ? "" : " (this event wasn't reported)");
+              + "message whose receive " + absent,
+           b: "begins here", o: "begins here, or follows a message whose receive " + absent,
+           h: "it " + absent + ", so its cause isn't known" }[rows.how[row]]
+    + (isPlain(row) || rows.kind[row] === "h" ? "" : " (this event " + absent + ")");
 };
 
 // Whether what is said of the cause isn't certain.

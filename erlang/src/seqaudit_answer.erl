@@ -62,7 +62,8 @@ with_file({error, Reason}, FormatError, _Do) -> {?INPUT, FormatError(Reason)}.
 
 with_cut(#{whole := Streams, legend := Legend, times := Times} = Trace, Wish, Do) ->
     case seqaudit_cut:cut(Streams, Wish, Legend, Times) of
-        {ok, Cut, Note} -> Do(Trace#{streams => Cut, cut => Note});
+        {ok, Cut, ""} -> Do(Trace#{streams => Cut, cut => ""});
+        {ok, Cut, Note} -> Do(Trace#{streams => Cut, cut => Note, legend := seqaudit_legend:of_cut(Legend)});
         {error, Reason} -> {?UNFIT, seqaudit_cut:format_error(Reason)}
     end.
 
@@ -214,7 +215,8 @@ chart_label(Number, Label, #{streams := Streams, legend := Legend, times := Time
         (#{outcome := #{said := Said} = Outcome}) when Said =:= fault; is_map_key(large, Outcome) ->
             case seqaudit_cut:cut(Streams, #{labels => [Label]}, Legend, Times) of
                 {ok, Cut, Note} ->
-                    with_outcome(Trace#{streams := Cut, cut := Note}, fun(Audited) ->
+                    with_outcome(Trace#{streams := Cut, cut := Note, legend := seqaudit_legend:of_cut(Legend)},
+                                 fun(Audited) ->
                         charts(Number, Audited, Options)
                     end);
                 {error, Reason} ->

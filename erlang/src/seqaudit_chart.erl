@@ -160,11 +160,17 @@ row_words(#{kind := Kind, serial := Serial, shown := #{cause := Cause}} = Row, L
     Term = seqaudit_terms:short(unicode:characters_to_list(term(Row, Legend)), ?CHARACTERS),
     [string:pad(Kind, 8), " ", Serial, " ", Term, "  ", seqaudit_why:cause(Cause, Legend)].
 
-%% @doc What a row is called. What nobody reported has no name, unless a completion gave it one.
+%% @doc What a row is called. What the trace hasn't has no name, unless a completion gave it one.
 -spec name(row(), seqaudit_legend:legend()) -> unicode:chardata().
-name(#{shown := #{hidden := true}}, _Legend) -> "unreported";
-name(#{shown := #{id := {receive_of, _}}}, _Legend) -> "unreported";
+name(#{shown := #{hidden := true}}, Legend) -> unnamed(Legend);
+name(#{shown := #{id := {receive_of, _}}}, Legend) -> unnamed(Legend);
 name(#{shown := #{id := Id}}, Legend) -> seqaudit_why:name(Id, Legend).
+
+unnamed(Legend) ->
+    case seqaudit_legend:is_of_cut(Legend) of
+        true -> "not here";
+        false -> "unreported"
+    end.
 
 %% @doc The message of a row, without what every call and reply of OTP's servers has.
 -spec term(row(), seqaudit_legend:legend()) -> unicode:chardata().

@@ -25,7 +25,6 @@
 -define(NAME, 24).
 -define(HEADING, 200).
 -define(WARNING, "class=\"w\" ").
--define(NOT_REPORTED, "receive not reported").
 
 -define(STYLE,
         "text{font:11px 'DejaVu Sans',Verdana,sans-serif;fill:#222}"
@@ -67,7 +66,7 @@ svg(#{label := Label, lanes := Lanes, rows := Rows}, Heading, Legend) ->
      "<rect width=\"100%\" height=\"100%\" fill=\"#fff\"/>\n",
      heading(Heading, [label(Label, Legend), ": ", seqaudit_explain:count(length(Rows), "row"), ", ",
                        seqaudit_explain:count(length(Lanes), "process")]),
-     key(Rows, Arrivals),
+     key(Rows, Arrivals, Legend),
      zebra(length(Rows), Width),
      [life_line(Lane, seqaudit_legend:is_unlisted(Pid, Legend), Height) || {Lane, Pid} <- lists:enumerate(Lanes)],
      %% Texts and names come last, so that no arrow hides them.
@@ -105,16 +104,20 @@ reported({_, {_, _}}) -> unreported;
 reported(_) -> reported.
 
 %% What the drawing has that isn't plain.
-key(Rows, Arrivals) ->
+key(Rows, Arrivals, Legend) ->
+    {Absent, MayBe} = case seqaudit_legend:is_of_cut(Legend) of
+                          true -> {"not here", "may not be here"};
+                          false -> {"unreported", "may be unreported"}
+                      end,
     Unreceived = [Row || #{kind := Kind, shown := #{id := Id}} = Row <- Rows,
                          Kind =:= <<"send">>, not is_map_key(Id, Arrivals)],
     Unreported = [Row || #{shown := #{id := Id}} = Row <- Rows, reported(Id) =:= unreported],
     Doubtful = [Row || #{shown := #{cause := Cause}} = Row <- Rows, is_doubtful(Cause)],
-    [["<g class=\"d\"><path d=\"M12 62H48\"/></g><circle class=\"u\" cx=\"30\" cy=\"62\" r=\"4\"/>"
-      "<text x=\"56\" y=\"66\">unreported, but other events tell of it</text>\n"
-      || Unreported =/= []],
-     ["<text class=\"q\" x=\"352\" y=\"66\">?</text>"
-      "<text x=\"364\" y=\"66\">what it follows may be unreported</text>\n" || Doubtful =/= []],
+    [[["<g class=\"d\"><path d=\"M12 62H48\"/></g><circle class=\"u\" cx=\"30\" cy=\"62\" r=\"4\"/>"
+      "<text x=\"56\" y=\"66\">", Absent, ", but other events tell of it</text>\n"]
+     || Unreported =/= []],
+     [["<text class=\"q\" x=\"352\" y=\"66\">?</text>"
+      "<text x=\"364\" y=\"66\">what it follows ", MayBe, "</text>\n"] || Doubtful =/= []],
      ["<g class=\"s\"><path d=\"M592 62H628\" marker-end=\"url(#x)\"/></g>"
       "<text x=\"640\" y=\"66\">a message whose receive isn't in the chart</text>\n" || Unreceived =/= []]].
 
@@ -219,14 +222,20 @@ path({Lane, Sent}, {Lane, Received}) ->
 path(From, To) ->
     format("M~b ~bL~b ~b", [x(From), y(From), x(To), y(To)]).
 
+absent_receive(Legend) ->
+    case seqaudit_legend:is_of_cut(Legend) of
+        true -> "receive not here";
+        false -> "receive not reported"
+    end.
+
 %% Beside a print its term; at a send it begins at the sender and runs towards the receiver. At a
 %% receive that nobody reported it is on the side where no arrow comes from.
-text(Number, #{kind := <<"receive">>, shown := #{id := Id}} = Row, _Legend) ->
+text(Number, #{kind := <<"receive">>, shown := #{id := Id}} = Row, Legend) ->
     Receiver = lane($R, Row),
     case {reported(Id), other(Row) >= Receiver} of
         {reported, _} -> "";
-        {unreported, true} -> text(x(Receiver) - 10, y(Number) + 4, "end", ?NOT_REPORTED);
-        {unreported, false} -> text(x(Receiver) + 10, y(Number) + 4, "start", ?NOT_REPORTED)
+        {unreported, true} -> text(x(Receiver) - 10, y(Number) + 4, "end", absent_receive(Legend));
+        {unreported, false} -> text(x(Receiver) + 10, y(Number) + 4, "start", absent_receive(Legend))
     end;
 text(Number, #{kind := <<"print">>} = Row, Legend) ->
     text(x(lane($P, Row)) + 10, y(Number) + 4, "start", seqaudit_chart:term(Row, Legend));

@@ -62,7 +62,7 @@ tell({Label, _Own, {error, Reason}}, #{legend := Legend}, Options, Counts) ->
     counted(failed, Counts);
 tell({Label, _Own, {ok, Outcome0}}, #{name := Name, legend := Legend0} = Trace, Options, Counts) ->
     #{unlisted := Unlisted} = Outcome = Outcome0#{name => Name, cut => true, lost => false},
-    Legend = seqaudit_legend:unlisted(Unlisted, Legend0),
+    Legend = seqaudit_legend:of_cut(seqaudit_legend:unlisted(Unlisted, Legend0)),
     case Options of
         #{"--json" := _} ->
             io:put_chars(seqaudit_report:audit(Trace#{label => seqaudit_legend:label(Label, Legend), outcome => Outcome,

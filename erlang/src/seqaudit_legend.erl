@@ -6,6 +6,7 @@
 -module(seqaudit_legend).
 
 -export([text/4, read/1, numbers/1, unlisted/2, is_unlisted/2, process/2, about/2, label/2, value/2, brief/2]).
+-export([of_cut/1, is_of_cut/1, absent/1, present/1]).
 -export([is_spawned/2, find_label/2, format_error/1]).
 -export_type([legend/0]).
 
@@ -26,7 +27,8 @@
                 {?SPAWNED, ["spawned ", 1]},
                 {"^\\{" ?TAG ",(.*)\\}$", ["reply ", 1]}]).
 
--opaque legend() :: #{{process | about | unlisted | label | value, binary()} => binary(), style => binary()}.
+-opaque legend() :: #{{process | about | unlisted | label | value, binary()} => binary(), style => binary(),
+                      cut => binary()}.
 
 %% @doc The text of the file: the processes by pid, with a short name and all that is known of each,
 %% then the labels and the values by number, with the processes in them by their numbers.
@@ -100,6 +102,24 @@ unlisted(Pids, Legend) ->
 %% @doc Whether the trace doesn't list the process.
 -spec is_unlisted(binary(), legend()) -> boolean().
 is_unlisted(Pid, Legend) -> is_map_key({unlisted, Pid}, Legend).
+
+%% @doc The legend of a trace that was cut.
+-spec of_cut(legend()) -> legend().
+of_cut(Legend) -> Legend#{cut => <<>>}.
+
+%% @doc Whether the trace was cut.
+-spec is_of_cut(legend()) -> boolean().
+is_of_cut(Legend) -> is_map_key(cut, Legend).
+
+%% @doc What is said of an event that the trace hasn't. One that a cut took away may have been reported.
+-spec absent(legend()) -> string().
+absent(#{cut := _}) -> "isn't here";
+absent(#{}) -> "wasn't reported".
+
+%% @doc The opposite.
+-spec present(legend()) -> string().
+present(#{cut := _}) -> "is here";
+present(#{}) -> "was reported".
 
 %% @doc The short name of a process, its pid if the legend hasn't it.
 -spec process(binary(), legend()) -> binary().

@@ -140,6 +140,7 @@ about(#{name := Name, legend := Legend, losses := Losses, cut := Cut, outcome :=
      {"fits", atom_to_binary(Said =:= fits orelse Said =:= completed)},
      {"notes", array([text(Line) || Line <- lines([Cut, seqaudit_explain:losses(Losses),
                                                    resets(Parts, Legend)])])},
+     {"cut", atom_to_binary(seqaudit_legend:is_of_cut(Legend))},
      {"resets", array([integer_to_binary(Row) || Row <- Resets])}].
 
 rows(Rows, Pids, Values, Label, #{legend := Legend, times := Times}) ->

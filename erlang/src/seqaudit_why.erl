@@ -5,8 +5,6 @@
 
 %% So many effects are listed; the rest are counted.
 -define(LISTED, 1_000).
--define(PREMISES, "This holds if each receive of a token was reported, and if no process took its token off and set "
-                  "one of the same label again, but where it's said.\n").
 
 %% @doc The chain from an event back to where it begins, a line each, and what it rests on.
 -spec chain(seqaudit_bundle:place(), [seqaudit_causes:row()], seqaudit_legend:legend(),
@@ -14,10 +12,10 @@
 chain(Place, Rows, Legend, Times) ->
     [Row | Before] = Chain = seqaudit_causes:back(Place, seqaudit_causes:index(Rows)),
     [line("", Row, Legend, Times),
-     [line(["because ", by(Cause)], One, Legend, Times)
+     [line(["because ", by(Cause, Legend)], One, Legend, Times)
       || {#{cause := Cause}, One} <- lists:zip(lists:droplast(Chain), Before)],
      ending(lists:last(Chain), Legend),
-     [?PREMISES || lists:any(fun is_of_counts/1, Chain)]].
+     [premises(Legend) || lists:any(fun is_of_counts/1, Chain)]].
 
 line(Begin, #{id := Id} = Row, Legend, Times) ->
     [Begin, name(Id, Legend), ": ", seqaudit_explain:sentence(Row, Legend), time(Id, Times), $\n].
@@ -28,15 +26,15 @@ time(Id, Times) ->
         Time -> [", at ", Time]
     end.
 
-by({spawned, _}) -> "(OTP moved the counter when it answered a spawn) ";
-by({restored, _}) -> "(a token was put back here) ";
-by({perhaps, _}) -> "(perhaps: counts alone don't tell) ";
-by({alike, _}) -> "(perhaps: another message is like it) ";
-by({unreported, _}) -> "(perhaps: its receive wasn't reported) ";
-by({received, {_, {_, _}}}) -> "(perhaps: it wasn't reported) ";
-by({_, {sent_to, _}}) -> "(it wasn't reported) ";
-by({_, {_, {_, _}}}) -> "(it wasn't reported) ";
-by(_) -> "".
+by({spawned, _}, _Legend) -> "(OTP moved the counter when it answered a spawn) ";
+by({restored, _}, _Legend) -> "(a token was put back here) ";
+by({perhaps, _}, _Legend) -> "(perhaps: counts alone don't tell) ";
+by({alike, _}, _Legend) -> "(perhaps: another message is like it) ";
+by({unreported, _}, Legend) -> ["(perhaps: its receive ", seqaudit_legend:absent(Legend), ") "];
+by({received, {_, {_, _}}}, Legend) -> ["(perhaps: it ", seqaudit_legend:absent(Legend), ") "];
+by({_, {sent_to, _}}, Legend) -> ["(it ", seqaudit_legend:absent(Legend), ") "];
+by({_, {_, {_, _}}}, Legend) -> ["(it ", seqaudit_legend:absent(Legend), ") "];
+by(_, _Legend) -> "".
 
 %% What is said of a send's or print's cause goes by its counts.
 is_of_counts(#{cause := {How, _}}) when How =:= sent; How =:= alike -> false;
@@ -50,8 +48,8 @@ is_perhaps(_) -> false.
 
 ending(#{cause := {_, _}}, _Legend) ->
     "There the chain runs into itself: these events don't fit.\n";
-ending(#{cause := unseen}, _Legend) ->
-    "That send wasn't reported, so its cause isn't known.\n";
+ending(#{cause := unseen}, Legend) ->
+    ["That send ", seqaudit_legend:absent(Legend), ", so its cause isn't known.\n"];
 ending(#{cause := Cause, event := #{from := From}}, Legend) ->
     ["There ", seqaudit_legend:process(From, Legend), $\s, cause(Cause, Legend), ".\n"].
 
@@ -61,7 +59,7 @@ ending(#{cause := Cause, event := #{from := From}}, Legend) ->
 effects(Place, Rows, Legend, Times) ->
     case seqaudit_causes:effects(Place, Rows) of
         [] ->
-            [name(Place, Legend), " caused nothing that was reported.\n"];
+            [name(Place, Legend), " caused nothing that ", seqaudit_legend:present(Legend), ".\n"];
         Effects ->
             [io_lib:format("~ts caused~ts ~ts, here in an order in which they may have happened:~n",
                            [name(Place, Legend), [", or perhaps caused," || lists:any(fun is_perhaps/1, Effects)],
@@ -70,8 +68,12 @@ effects(Place, Rows, Legend, Times) ->
                ", ", cause(Cause, Legend), $\n]
               || #{id := Id, cause := Cause} = Row <- lists:sublist(Effects, ?LISTED)],
              [io_lib:format("  and ~b more~n", [length(Effects) - ?LISTED]) || length(Effects) > ?LISTED],
-             [?PREMISES || lists:any(fun is_of_counts/1, Effects)]]
+             [premises(Legend) || lists:any(fun is_of_counts/1, Effects)]]
     end.
+
+premises(Legend) ->
+    ["This holds if each receive of a token ", seqaudit_legend:present(Legend), ", and if no process took its token "
+     "off and set one of the same label again, but where it's said.\n"].
 
 %% @doc What a row is called.
 -spec name(seqaudit_causes:id(), seqaudit_legend:legend()) -> unicode:chardata().
@@ -80,24 +82,26 @@ name({Pid, At}, Legend) -> seqaudit_bundle:name(Pid, At, Legend).
 
 %% @doc What a row follows, in a few words.
 -spec cause(seqaudit_causes:cause(), seqaudit_legend:legend()) -> unicode:chardata().
-cause({sent, {sent_to, _}}, _Legend) -> "its send wasn't reported";
+cause({sent, {sent_to, _}}, Legend) -> ["its send ", seqaudit_legend:absent(Legend)];
 cause({alike, Id}, Legend) -> ["perhaps after ", name(Id, Legend), ", or after another message like it"];
 cause({spawned, Id}, Legend) -> ["after ", name(Id, Legend), ", a spawn's answer"];
 cause({restored, Id}, Legend) -> ["after ", name(Id, Legend), ", whose token was put back"];
 cause({perhaps, Id}, Legend) -> ["perhaps after ", name(Id, Legend), ", as counts alone don't tell"];
 cause({supposed, Id}, Legend) -> ["perhaps after ", name(Id, Legend)];
-cause({unreported, Id}, Legend) -> ["perhaps after ", name(Id, Legend), ", whose receive wasn't reported"];
-cause({received, {_, {_, _}} = Id}, Legend) -> ["perhaps after ", name(Id, Legend), ", which wasn't reported"];
-cause({_, {_, {_, _}} = Id}, Legend) -> ["after ", name(Id, Legend), ", which wasn't reported"];
+cause({unreported, Id}, Legend) ->
+    ["perhaps after ", name(Id, Legend), ", whose receive ", seqaudit_legend:absent(Legend)];
+cause({received, {_, {_, _}} = Id}, Legend) ->
+    ["perhaps after ", name(Id, Legend), ", which ", seqaudit_legend:absent(Legend)];
+cause({_, {_, {_, _}} = Id}, Legend) -> ["after ", name(Id, Legend), ", which ", seqaudit_legend:absent(Legend)];
 cause({_, Id}, Legend) -> ["after ", name(Id, Legend)];
 cause({relabelled, Label, none}, Legend) ->
     ["begins label ", seqaudit_legend:label(Label, Legend), " here, or set it on its token"];
 cause({relabelled, Label, open}, Legend) ->
     ["begins label ", seqaudit_legend:label(Label, Legend), " here, or set it on a token that was put back, or follows "
-     "a message whose receive wasn't reported"];
+     "a message whose receive ", seqaudit_legend:absent(Legend)];
 cause({relabelled, _, {Id, Other}} = Cause, Legend) ->
     [cause(setelement(3, Cause, none), Legend), "; it had last received ", name(Id, Legend), " of label ",
      seqaudit_legend:label(Other, Legend)];
 cause(start, _Legend) -> "begins here";
-cause(open, _Legend) -> "begins here, or follows a message whose receive wasn't reported";
-cause(unseen, _Legend) -> "it wasn't reported, so its cause isn't known".
+cause(open, Legend) -> ["begins here, or follows a message whose receive ", seqaudit_legend:absent(Legend)];
+cause(unseen, Legend) -> ["it ", seqaudit_legend:absent(Legend), ", so its cause isn't known"].

@@ -201,7 +201,8 @@ cut_test_() ->
           ["audit", "--from", "0.002", "--to", "0.0125"], ["chart", "--label", "{order,2}", "--from", "0.012"],
           ["audit", "--from", "0.02", "--to", "0.01"],
           ["audit", "--process", "nobody"], ["why", "--event", "ann#9"], ["why", "--event", "post#3"],
-          ["why", "--event", "shop#8", "--effects"]]).
+          ["why", "--event", "shop#8", "--effects"], ["why", "--event", "shop#8", "--process", "shop"],
+          ["why", "--event", "shop#8", "--effects", "--process", "shop"]]).
 
 %% A trace beyond the reader's limits is audited for a label of it, and its drawings are in parts or
 %% refused, with a way out.

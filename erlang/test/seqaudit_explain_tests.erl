@@ -378,7 +378,14 @@ dashed_test() ->
                     || Part <- [<<"url(#d)">>, <<"<circle class=\"o\"">>, <<"<circle class=\"u\"">>,
                                 <<">receive not reported<">>]],
     [] = [Part || Part <- [<<"part ">>, <<"class=\"w\"">>, <<"whose receive isn't">>],
-                  binary:match(Drawing, Part) =/= nomatch].
+                  binary:match(Drawing, Part) =/= nomatch],
+    %% What a cut took away may have been reported.
+    {ok, OfCut} = seqaudit_draw:svg(Chart, heading("fits"), seqaudit_legend:of_cut(legend())),
+    Cut = unicode:characters_to_binary(OfCut),
+    has(Cut, [">not here, but other events tell of it<", ">what it follows may not be here<", ">receive not here<",
+              "not here: receive {0,1}, perhaps after alice#0\n",
+              "print {1,2}, perhaps after alice#0, whose receive isn't here\n"]),
+    nomatch = binary:match(Cut, <<"reported">>).
 
 %% No character that XML doesn't allow comes into a drawing, whatever the names are.
 drawing_is_safe_test() ->
