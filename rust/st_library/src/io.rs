@@ -12,11 +12,32 @@ impl Read for Stdin {
     }
 }
 
-/// Standard output. Theirs writes at once; here Rust's buffer is between, so each write empties it.
+/// Standard output. As theirs, it writes each piece at once.
 #[derive(Debug)]
 pub struct Stdout;
 
+/// The file behind standard output. Rust's own `Stdout` keeps the part of a line that isn't ended, for which it searches
+/// each piece and writes twice.
+#[cfg(unix)]
+fn output() -> Result<&'static std::fs::File> {
+    use std::fs::File;
+    use std::os::fd::AsFd;
+    use std::sync::OnceLock;
+    static OUTPUT: OnceLock<File> = OnceLock::new();
+    if let Some(file) = OUTPUT.get() {
+        return Ok(file);
+    }
+    let file = File::from(std::io::stdout().as_fd().try_clone_to_owned()?);
+    Ok(OUTPUT.get_or_init(|| file))
+}
+
 impl Write for Stdout {
+    #[cfg(unix)]
+    fn write(&mut self, piece: &[u8]) -> Result<usize> {
+        output()?.write(piece)
+    }
+
+    #[cfg(not(unix))]
     fn write(&mut self, piece: &[u8]) -> Result<usize> {
         let mut out = std::io::stdout().lock();
         let taken = out.write(piece)?;
