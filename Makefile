@@ -38,7 +38,7 @@ try: bin/quick/seqaudit ## runs the unproved seqaudit: COMMAND=.. FILE=.. (at on
 # it are proved from nothing.
 PROVE = .ci/prove $(if $(KEEP),--keep)
 
-program: ## proves both programs and all below them, and builds them in bin/ (up to 50 minutes; KEEP=1 takes more disk and makes it short after an edit)
+program: ## proves both programs and all below them, and builds them in bin/ (about 40 minutes; KEEP=1 takes more disk and makes it short after an edit)
 	@$(PROVE) $(PROGRAMS)
 
 bin/%: $(SOURCES)
@@ -69,12 +69,10 @@ install: $(PROGRAMS:%=bin/%) ## copies the proved programs, man pages and comple
 uninstall: ## removes from PREFIX what install copied there (at once)
 	rm -f $(PROGRAMS:%=$(BIN)/%) $(PROGRAMS:%=$(MAN)/%.1) $(PROGRAMS:%=$(BASH_COMPLETIONS)/%) $(ZSH_COMPLETIONS)/_seqtool
 
-test: layout layers clauses plan docs ## the merge gate: all proofs from nothing, the wrong bodies of must-fail/, the tests (more than an hour on four processors)
+test: layout layers clauses plan docs ## the merge gate: all proofs from nothing, the wrong bodies of must-fail/, the tests (about 75 minutes on four processors)
 	rt ci
-	@$(MAKE) --no-print-directory test-program
-	@$(MAKE) --no-print-directory test-erlang
-	@$(MAKE) --no-print-directory test-conformance
-	@$(MAKE) --no-print-directory test-rust
+	@if command -v erl >/dev/null; then $(MAKE) --no-print-directory -C erlang compiled; fi
+	@$(MAKE) --no-print-directory -j$(shell nproc) --output-sync=target test-program test-erlang test-conformance test-rust
 
 # The gate tries the wrong bodies that tell most, since each takes a check of its own.
 wrong-bodies: ## tries all wrong bodies, many in one check (an hour or more, after program)

@@ -275,7 +275,7 @@ completed(Streams) ->
             %% If tokens may have been put back, with the counts that the machine would have given.
             Whole = seqaudit_bundle:text(maps:get(asked, Outcome, Shown)),
             {ok, {0, <<"added 0\n">>}} = seqaudit_program:with_text(Whole, fun(File) ->
-                                              seqaudit_program:ask("seqtool", ["complete"], File)
+                                              seqaudit_program:ask_if_known("seqtool", ["complete"], File)
                                           end),
             %% What was reported is there, in its order.
             Streams = [{Pid, [Event || #{at := At} = Event <- Events, is_integer(At)]} || {Pid, Events} <- Shown]
