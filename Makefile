@@ -69,10 +69,13 @@ install: $(PROGRAMS:%=bin/%) ## copies the proved programs, man pages and comple
 uninstall: ## removes from PREFIX what install copied there (at once)
 	rm -f $(PROGRAMS:%=$(BIN)/%) $(PROGRAMS:%=$(MAN)/%.1) $(PROGRAMS:%=$(BASH_COMPLETIONS)/%) $(ZSH_COMPLETIONS)/_seqtool
 
+# The parts that come after the proofs run side by side if there are processors enough.
+PARTS_AT_ONCE = $(shell test $$(nproc) -ge 4 && nproc || echo 1)
+
 test: layout layers clauses plan docs ## the merge gate: all proofs from nothing, the wrong bodies of must-fail/, the tests (about 75 minutes on four processors)
 	rt ci
 	@if command -v erl >/dev/null; then $(MAKE) --no-print-directory -C erlang compiled; fi
-	@$(MAKE) --no-print-directory -j$(shell nproc) --output-sync=target test-program test-erlang test-conformance test-rust
+	@$(MAKE) --no-print-directory -j$(PARTS_AT_ONCE) --output-sync=target test-program test-erlang test-conformance test-rust
 
 # The gate tries the wrong bodies that tell most, since each takes a check of its own.
 wrong-bodies: ## tries all wrong bodies, many in one check (an hour or more, after program)
