@@ -72,7 +72,7 @@ uninstall: ## removes from PREFIX what install copied there (at once)
 # The parts that come after the proofs run side by side if there are processors enough.
 PARTS_AT_ONCE = $(shell test $$(nproc) -ge 4 && nproc || echo 1)
 
-test: layout layers clauses plan docs ## the merge gate: all proofs from nothing, the wrong bodies of must-fail/, the tests (about 75 minutes on four processors)
+test: layout layers clauses plan docs ## the merge gate: all proofs from nothing, the wrong bodies of must-fail/, the tests (about 90 minutes on four processors)
 	rt ci
 	@if command -v erl >/dev/null; then $(MAKE) --no-print-directory -C erlang compiled; fi
 	@$(MAKE) --no-print-directory -j$(PARTS_AT_ONCE) --output-sync=target test-program test-erlang test-conformance test-rust
