@@ -30,6 +30,7 @@ use Rattle.st_plan.specs.Moves.{Move, clock, earlier_of, is_taking, last, move_b
 use Rattle.st_plan.specs.Plain.{event_count, out_of_turn}
 use Rattle.st_plan.specs.Reasons.{most_skipped, most_skipped_in_all, too_wide, uncaused}
 use Rattle.st_plan.specs.Build.{ready, start_of}
+use Rattle.st_plan.proofs.ForCallers.{moves_by}
 use Rattle.st_audit.specs.declared.construction.Construction.{Construction}
 use Rattle.st_audit.specs.declared.construction.Halt.{Halt}
 use Rattle.st_audit.specs.declared.construction.Halt.TheVariants as halt
@@ -281,15 +282,11 @@ told_most p (m ∷ ms) =
       | item.Hidden q i ↦ omega arith
     ]
 
-abbrev moves_with : List Stream → Item → List Item → Option Event → List Move
-moves_with streams x xs None = moves streams xs
-moves_with streams x xs (Some e) = move_by x e ∷ moves streams xs
-
 moves_most : (streams : List Stream) (xs : List Item) → length (moves streams xs) ≤ length xs
 moves_most streams [] = omega arith
 moves_most streams (x ∷ xs) =
     let rest = moves_most streams xs in
-    elim (event_of streams x) as (λ o. length (moves_with streams x xs o) ≤ suc (length xs)) [
+    elim (event_of streams x) as (λ o. length (moves_by streams x xs o) ≤ suc (length xs)) [
       | None ↦ omega arith
       | Some e ↦ omega arith
     ]

@@ -31,6 +31,7 @@ use Rattle.st_plan.specs.Marks.{all_told, Marks}
 use Rattle.st_plan.specs.Moves.{Move, move_by, moves}
 use Rattle.st_plan.specs.Plain.{out_of_turn}
 use Rattle.st_plan.specs.Reasons.{too_wide, uncaused, HoldsOfMoveAt}
+use Rattle.st_plan.proofs.ForCallers.{moves_by}
 use Rattle.st_audit.specs.declared.finding.Reason.{Reason}
 use Rattle.st_audit.specs.declared.finding.Reason.TheVariants as reason
 use Rattle.st_audit.specs.declared.finding.Finding.{Finding}
@@ -61,15 +62,11 @@ place_of : (streams : List Stream) (x : Item) (e : Event) → event_of streams x
 place_of streams (item.Reported p i) e at = subst (λ (o : Option Event). IsSome o) (sym at) refl
 place_of streams (item.Hidden p i) e at = subst (λ (o : Option Event). IsSome o) (sym at) refl
 
-abbrev moves_with : List Stream → Item → List Item → Option Event → List Move
-moves_with streams x xs None = moves streams xs
-moves_with streams x xs (Some e) = move_by x e ∷ moves streams xs
-
 moves_there : (streams : List Stream) (xs : List Item) → AreThere streams (moves streams xs)
 moves_there streams [] = tt
 moves_there streams (x ∷ xs) =
     let rest = moves_there streams xs in
-    elim (event_of streams x) as (λ o. event_of streams x ≡ o → AreThere streams (moves_with streams x xs o)) [
+    elim (event_of streams x) as (λ o. event_of streams x ≡ o → AreThere streams (moves_by streams x xs o)) [
       | None ↦ λ at. rest
       | Some e ↦ λ at. (place_of streams x e at, rest)
     ] refl

@@ -2,22 +2,14 @@
 use Rattle.std.proofs.Common.{◌≡◌, ◌≢◌, ℕ, ◌+◌, Bool, true, false, cond, if◌then◌else◌, ◌⊎◌}
 use Rattle.std.proofs.Common.{inl, inr, Option, None, Some, refl, sym}
 use Rattle.std.proofs.Common.{◌∙◌, ap, subst, arith}
-use Rattle.std.specs.declared.cmp.Ordering.{Ordering}
-use Rattle.std.specs.declared.cmp.Ordering.TheVariants.{Less, Equal, Greater}
-use Rattle.std.specs.Ordering.{is_eq, nat_cmp, ordering_then}
+use Rattle.std.specs.declared.cmp.Ordering.TheVariants.{Equal}
+use Rattle.std.specs.Ordering.{is_eq, nat_cmp}
 use Rattle.std.proofs.lemmas.Bool.Decides.{nat_tests}
 use Rattle.std.proofs.lemmas.Option.{same_Some}
 use Rattle.st_core.specs.Pid.{pid_cmp}
-use Rattle.st_core.proofs.ForCallers.{pid_cmp-Equal, pid_cmp-same, nat_cmp-Equal}
+use Rattle.st_core.proofs.ForCallers.{pid_cmp-Equal, pid_cmp-same, nat_cmp-Equal, both_equal}
 use Rattle.st_chain.specs.declared.label_table.ChainKey.{ChainKey}
 use Rattle.st_chain.specs.Tabled.{chain_key_cmp, AreNumbers}
-
-both_equal : (a b : Ordering) → is_eq (ordering_then a b) ≡ true → (a ≡ Equal) × (b ≡ Equal)
-both_equal Less b h = absurd (cc)
-both_equal Equal Less h = absurd (cc)
-both_equal Equal Equal h = (refl, refl)
-both_equal Equal Greater h = absurd (cc)
-both_equal Greater b h = absurd (cc)
 
 number_same : (m : ℕ) → nat_cmp m m ≡ Equal
 number_same m = grind (arith, nat_tests)

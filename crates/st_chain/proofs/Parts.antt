@@ -11,11 +11,10 @@ use Rattle.st_core.specs.Pid.{pid_eq, IsBelow, IsRising}
 use Rattle.st_core.specs.Run.{Stream, pids_of}
 use Rattle.st_core.specs.Streams.{events_of, stream_of}
 use Rattle.st_core.proofs.ForCallers.{pid_eq-true, pid_eq-same, pid_eq-swap, IsBelow-apart}
-use Rattle.st_pair.proofs.ForCallers.{is_at, at_get_or, events_in}
+use Rattle.st_pair.proofs.ForCallers.{is_at, at_get_or, events_in, missing_events}
 use Rattle.st_chain.specs.declared.label_table.ChainKey.{ChainKey}
 use Rattle.st_chain.specs.Labels.{labelled_indexes}
 use Rattle.st_chain.specs.Tabled.{chain_of, part_from, listed_under}
-use Rattle.st_chain.proofs.Backs.{missing_events}
 
 -- the key of an event of p
 abbrev pub key_of : Pid → Event → ChainKey

@@ -16,7 +16,7 @@ use Rattle.std.proofs.lemmas.Map.Views.{any-filter_same}
 use Rattle.st_core.specs.declared.types.Pid.{Pid}
 use Rattle.st_core.specs.Pid.{pid_eq, pid_cmp, pid_on, IsRising}
 use Rattle.st_core.specs.Streams.{is_among}
-use Rattle.st_core.proofs.ForCallers.{pid_cmp-Equal, pid_eq-same, pid_eq-swap, rising_at}
+use Rattle.st_core.proofs.ForCallers.{pid_cmp-Equal, pid_eq-same, pid_eq-swap, rising_at, is_eq-Equal}
 use Rattle.st_core.proofs.ForCallers.{is_among-missing, missing_from_search, or_true}
 use Rattle.st_pair.proofs.ForCallers.{pid_total}
 
@@ -51,11 +51,6 @@ pub both_noted : (a b p : Pid) (old one two : Bool) → one ≡ cond (is_eq (pid
 both_noted a b p old one two first second =
     second ∙ (λ i. cond (pids_equal b p i) true ((first ∙ (λ j. cond (pids_equal a p j) true old)) i))
     ∙ two_of (pid_eq a p) (pid_eq b p) old
-
-is_eq-Equal : (o : Ordering) → is_eq o ≡ true → o ≡ Equal
-is_eq-Equal Less e = absurd (cc)
-is_eq-Equal Equal e = refl
-is_eq-Equal Greater e = absurd (cc)
 
 -- ---- pids of a list, as a set
 

@@ -15,7 +15,7 @@ use Rattle.st_core.specs.declared.types.Kind.TheVariants as kind
 use Rattle.st_core.specs.Pid.{pid_eq, IsRising}
 use Rattle.st_core.specs.Run.{Stream, pids_of}
 use Rattle.st_core.specs.Streams.{events_of, IsStreams}
-use Rattle.st_core.proofs.ForCallers.{pid_same}
+use Rattle.st_core.proofs.ForCallers.{pid_same, shown_are_streams, or_right}
 use Rattle.st_pair.specs.declared.answer.PairFault.TheVariants as fault
 use Rattle.st_pair.specs.declared.answer.Source.{Source}
 use Rattle.st_pair.specs.declared.answer.Source.TheVariants as source
@@ -40,7 +40,6 @@ use Rattle.st_closed_world.proofs.Equivalences.{full_settled, settled_shown, sho
 use Rattle.st_closed_world.proofs.FedNeeds.{events}
 use Rattle.st_closed_world.proofs.NeedlessStreams.{needless_shown}
 use Rattle.st_closed_world.proofs.Needs.{at_mark, events_all, events_told, needs_fed}
-use Rattle.st_closed_world.proofs.ShownStreams.{shown_are_streams}
 use Rattle.st_closed_world.proofs.Suppliers.{given_if}
 
 -- LISTS OF MARKED EVENTS
@@ -276,10 +275,6 @@ told_alone : (told send : Bool) (more : Bool) → send ≡ false → (told || (s
 told_alone true send more none h = refl
 told_alone false true more none h = absurd (false≢true (sym none))
 told_alone false false more none h = h
-
-or_right : (a b : Bool) → b ≡ true → (a || b) ≡ true
-or_right true b h = refl
-or_right false b h = h
 
 untold_taken : (told taken : Bool) → told ≡ false → (told || taken) ≡ true → taken ≡ true
 untold_taken true taken none h = absurd (false≢true (sym none))

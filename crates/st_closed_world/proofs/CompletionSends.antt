@@ -11,7 +11,7 @@ use Rattle.st_core.specs.declared.types.Event.{Event}
 use Rattle.st_core.specs.Pid.{pid_eq}
 use Rattle.st_core.specs.Run.{Stream, pids_of}
 use Rattle.st_core.specs.Streams.{events_of, lists, is_among}
-use Rattle.st_core.proofs.ForCallers.{and_false, eqb-swap, pid_eq-swap}
+use Rattle.st_core.proofs.ForCallers.{and_false, eqb-swap, pid_eq-swap, lists_among}
 use Rattle.st_pair.specs.Pairing.{receive_of, stamp_of}
 use Rattle.st_plan.specs.Marks.{all_streams, Whole}
 use Rattle.st_closed_world.specs.Completion.{count_of, place_below, prev_between, put, send_among}
@@ -25,7 +25,6 @@ use Rattle.st_closed_world.proofs.InsertedEvents.{more}
 use Rattle.st_closed_world.proofs.InsertedSends.{free_else, good_sent, IsServed, needs_same}
 use Rattle.st_closed_world.proofs.InsertedSends.{own_else, own_now, pids_same, place, sent}
 use Rattle.st_closed_world.proofs.InsertedSends.{unstamped}
-use Rattle.st_closed_world.proofs.ShownStreams.{lists_among}
 
 -- the sender and count of neither are those of the other
 abbrev pub differs : Pid → ℕ → Supply → Bool

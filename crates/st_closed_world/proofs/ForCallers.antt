@@ -3,7 +3,6 @@
 -- hidden sends, their places and the choices of these.
 
 -- ---- streams, and what pairing says of them
-pub use Rattle.st_closed_world.proofs.ShownStreams.{lists_among}
 pub use Rattle.st_closed_world.proofs.Lookups.{taken_if, unlisted_events}
 pub use Rattle.st_closed_world.proofs.SameStreams.{same_streams, stream_by, streams_by}
 pub use Rattle.st_closed_world.proofs.SameNames.{streams_with}
@@ -23,6 +22,9 @@ pub use Rattle.st_closed_world.proofs.NeedlessCompletions.{decided}
 pub use Rattle.st_closed_world.proofs.NeedlessStreams.{needless_shown}
 pub use Rattle.st_closed_world.proofs.CompletionsOfCompletions.{completed_again}
 pub use Rattle.st_closed_world.proofs.FreeSenders.{sum_low}
+-- ---- lists of counts that rise
+pub use Rattle.st_closed_world.proofs.Ranks.{AllAbove, Climbs, IsIn, above_in, above_lower}
+pub use Rattle.st_closed_world.proofs.Ranks.{insert_climbs}
 -- ---- hidden sends, and needs of 0 that stay wherever they stand
 pub use Rattle.st_closed_world.proofs.UntoldEvents.{count_at, HasCount, hidden_all, hidden_is}
 pub use Rattle.st_closed_world.proofs.UntoldEvents.{RisesFrom}

@@ -16,7 +16,7 @@ use Rattle.st_core.specs.Pid.{pid_eq}
 use Rattle.st_core.specs.Laws.{IsReportAmong}
 use Rattle.st_core.specs.Run.{Stream, pids_of}
 use Rattle.st_core.specs.Streams.{events_of, is_of, lists}
-use Rattle.st_core.proofs.ForCallers.{pid_eq-refl, pid_same}
+use Rattle.st_core.proofs.ForCallers.{pid_eq-refl, pid_same, names_among_listed}
 use Rattle.st_pair.specs.Places.{event_at, is_stamp}
 use Rattle.st_pair.specs.Pairing.{agrees, is_send, receive_of, stamp_of, to_eq}
 use Rattle.st_closed_world.specs.Completion.{receive_for}
@@ -29,7 +29,6 @@ use Rattle.st_closed_world.proofs.GoodStreams.{IsGood, IsLack, sends_to, sent_wi
 use Rattle.st_closed_world.proofs.MetNeeds.{met, timely_met}
 use Rattle.st_closed_world.proofs.InsertedEvents.{fit_with, FitsAt, listed_at, more, take_drop}
 use Rattle.st_closed_world.proofs.LongerStreams.{sound_with}
-use Rattle.st_closed_world.proofs.ShownStreams.{names_among_listed}
 use Rattle.st_closed_world.proofs.Suppliers.{named, own_at}
 
 -- the send that serves a need of v at p
@@ -72,7 +71,7 @@ sent_from kind.Send from to p sends own = pid_same from p
 sent_from kind.Receive from to p sends own = absurd (false≢true sends)
 sent_from kind.Print from to p sends own = absurd (false≢true sends)
 
-to_refl : (to : Option Pid) → to_eq to to ≡ true
+pub to_refl : (to : Option Pid) → to_eq to to ≡ true
 to_refl None = refl
 to_refl (Some p) = pid_eq-refl p
 

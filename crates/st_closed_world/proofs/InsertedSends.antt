@@ -11,7 +11,7 @@ use Rattle.st_core.specs.Pid.{pid_eq}
 use Rattle.st_core.specs.Laws.{IsReportAmong}
 use Rattle.st_core.specs.Run.{Stream, pids_of}
 use Rattle.st_core.specs.Streams.{events_of, lists, is_among}
-use Rattle.st_core.proofs.ForCallers.{pid_eq-refl, pid_same}
+use Rattle.st_core.proofs.ForCallers.{pid_eq-refl, pid_same, lists_among}
 use Rattle.st_pair.specs.Places.{event_at, is_stamp}
 use Rattle.st_pair.specs.Pairing.{receive_of, stamp_of}
 use Rattle.st_closed_world.specs.Completion.{count_of, send_for, Supply}
@@ -29,7 +29,6 @@ use Rattle.st_closed_world.proofs.InventedPlaces.{AllRise, IsPlaced, keeps_needs
 use Rattle.st_closed_world.proofs.InventedPlaces.{placed_at}
 use Rattle.st_closed_world.proofs.InsertedEvents.{fit_with, FitsAt, more, new_there, with_pids}
 use Rattle.st_closed_world.proofs.LongerStreams.{all_from, sound_with}
-use Rattle.st_closed_world.proofs.ShownStreams.{lists_among}
 
 stamp_none : (o : Option (ℕ × Event)) → is_none o ≡ true → o ≡ None
 stamp_none None h = refl

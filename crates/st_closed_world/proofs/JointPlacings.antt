@@ -15,7 +15,7 @@ use Rattle.st_core.specs.Laws.{greatest_count, IsReportAmong}
 use Rattle.st_core.specs.Pid.{pid_eq, IsRising}
 use Rattle.st_core.specs.Run.{Stream, pids_of}
 use Rattle.st_core.specs.Streams.{events_of, IsStreams, lists, stream_of, names_among}
-use Rattle.st_core.proofs.ForCallers.{pid_eq-refl, pid_same}
+use Rattle.st_core.proofs.ForCallers.{pid_eq-refl, pid_same, AreReports, names_among_listed}
 use Rattle.st_pair.specs.Places.{event_at, is_stamp}
 use Rattle.st_pair.specs.Pairing.{agrees, is_send, receive_of, refusal, stamp_of, to_eq}
 use Rattle.st_pair.proofs.ForCallers.{once_place, paired}
@@ -37,12 +37,12 @@ use Rattle.st_closed_world.proofs.FedNeeds.{event_of_mark, events, told_at}
 use Rattle.st_closed_world.proofs.Needs.{at_mark, events_all}
 use Rattle.st_closed_world.proofs.InsertedEvents.{listed_at}
 use Rattle.st_closed_world.proofs.LongerStreams.{all_from, sound_of}
-use Rattle.st_closed_world.proofs.ShownStreams.{AreReports, names_among_listed}
 use Rattle.st_closed_world.proofs.ReasonlessStreams.{fit_together}
 use Rattle.st_closed_world.proofs.Supplies.{greatest_among, highest}
 use Rattle.st_closed_world.proofs.Suppliers.{named, own_at, received_to}
 use Rattle.st_closed_world.proofs.UntoldEvents.{above_if, count_at, first_of, hidden_is}
 use Rattle.st_closed_world.proofs.UntoldEvents.{IsHiddenSend, untold_at}
+use Rattle.st_closed_world.proofs.InsertedReceives.{to_refl}
 
 -- MARKED EVENTS
 
@@ -140,10 +140,6 @@ timely_rises es timely j i d e less at_d at_e stamps =
     omega arith
 
 -- THE SEND OF A RECEIVE
-
-to_refl : (to : Option Pid) → to_eq to to ≡ true
-to_refl None = refl
-to_refl (Some p) = pid_eq-refl p
 
 send_agrees : (e : Event) → agrees (send_of e) e ≡ true
 send_agrees e =

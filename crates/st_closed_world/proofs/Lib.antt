@@ -1,7 +1,6 @@
 -- The lemmas; what upper crates may cite is in `ForCallers`.
 pub mod LoudActs
 pub mod LoudRuns
-pub mod ShownStreams
 pub mod RunCompletions
 pub mod Equivalences
 pub mod NeedlessStreams

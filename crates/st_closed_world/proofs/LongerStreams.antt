@@ -10,12 +10,11 @@ use Rattle.st_core.specs.Laws.{IsReportAmong}
 use Rattle.st_core.specs.Pid.{pid_eq, IsRising}
 use Rattle.st_core.specs.Run.{Stream, pids_of}
 use Rattle.st_core.specs.Streams.{IsStreams}
-use Rattle.st_core.proofs.ForCallers.{pid_same}
+use Rattle.st_core.proofs.ForCallers.{pid_same, are_own, AreReports, names_among_listed}
+use Rattle.st_core.proofs.ForCallers.{unlisted_none}
 use Rattle.st_pair.specs.Places.{event_at}
 use Rattle.st_order.proofs.ForCallers.{all_found, AreFound}
 use Rattle.st_closed_world.proofs.InsertedEvents.{more, with_pids}
-use Rattle.st_closed_world.proofs.ShownStreams.{are_own, AreReports, names_among_listed}
-use Rattle.st_closed_world.proofs.ShownStreams.{unlisted_none}
 use Rattle.st_closed_world.proofs.Suppliers.{named, own_at}
 
 pub all_from : {X : Type 0} (P : X → Type 0) (xs : List X)

@@ -13,14 +13,13 @@ use Rattle.st_core.specs.declared.types.Event.{Event}
 use Rattle.st_core.specs.Pid.{pid_eq, IsRising}
 use Rattle.st_core.specs.Run.{Stream, pids_of}
 use Rattle.st_core.specs.Streams.{events_of, lists, stream_of, is_among}
-use Rattle.st_core.proofs.ForCallers.{pid_eq-refl, pid_same}
+use Rattle.st_core.proofs.ForCallers.{pid_eq-refl, pid_same, lists_among}
 use Rattle.st_pair.specs.Places.{event_at, first_from, is_stamp, or_else}
 use Rattle.st_pair.specs.Pairing.{receive_of, stamp_of}
 use Rattle.st_pair.proofs.ForCallers.{event_none, events_in, from_none, given_at, given_from}
 use Rattle.st_pair.proofs.ForCallers.{got_rule, own_rule}
 use Rattle.st_closed_world.proofs.AcceptedStreams.{FitTogether}
 use Rattle.st_closed_world.proofs.InsertedEvents.{is_placed, more, stays, with_events, with_pids}
-use Rattle.st_closed_world.proofs.ShownStreams.{lists_among}
 use Rattle.st_closed_world.proofs.Suppliers.{given_if, given_unless}
 
 -- RECEIVES

@@ -14,7 +14,7 @@ use Rattle.st_core.specs.declared.types.Event.{Event}
 use Rattle.st_core.specs.Pid.{pid_eq}
 use Rattle.st_core.specs.Run.{Stream, pids_of}
 use Rattle.st_core.specs.Streams.{events_of, IsStreams, lists, is_among}
-use Rattle.st_core.proofs.ForCallers.{pid_eq-refl}
+use Rattle.st_core.proofs.ForCallers.{pid_eq-refl, lists_among}
 use Rattle.st_pair.specs.declared.answer.Source.{Source}
 use Rattle.st_pair.specs.declared.answer.Source.TheVariants as source
 use Rattle.st_pair.specs.Places.{is_stamp}
@@ -36,7 +36,6 @@ use Rattle.st_closed_world.proofs.NeedlessStreams.{all_same, told_same}
 use Rattle.st_closed_world.proofs.LongerStreams.{all_from}
 use Rattle.st_closed_world.proofs.InsertedSends.{IsServed}
 use Rattle.st_closed_world.proofs.CompletionSends.{all_sent, AreSent, IsReady}
-use Rattle.st_closed_world.proofs.ShownStreams.{lists_among}
 use Rattle.st_closed_world.proofs.ReasonlessStreams.{good_if}
 use Rattle.st_closed_world.proofs.Supplies.{all_ready, all_served, are_apart, as_many}
 use Rattle.st_closed_world.proofs.CompletionReceives.{all_met, AreMet, AsMany}

@@ -19,22 +19,22 @@ use Rattle.st_closed_world.proofs.ReplacedCounts.{pids_with}
 use Rattle.st_closed_world.proofs.Renumbering.{shown_with}
 
 -- all of these are above b
-abbrev AllAbove : ℕ → List ℕ → Type 0
+abbrev pub AllAbove : ℕ → List ℕ → Type 0
 AllAbove b cs = AllByRecursion (λ c. b < c) cs
 
 -- each is above all before it
-abbrev Climbs : List ℕ → Type 0
+abbrev pub Climbs : List ℕ → Type 0
 Climbs [] = Unit {0}
 Climbs (c ∷ cs) = AllAbove c cs × Climbs cs
 
 -- c is one of these
-abbrev IsIn : ℕ → List ℕ → Type 0
+abbrev pub IsIn : ℕ → List ℕ → Type 0
 IsIn c [] = ⊥
 IsIn c (d ∷ ds) = (c ≡ d) ⊎ IsIn c ds
 
 -- INSERTING
 
-above_lower : (b c : ℕ) (ds : List ℕ) → b < c → AllAbove c ds → AllAbove b ds
+pub above_lower : (b c : ℕ) (ds : List ℕ) → b < c → AllAbove c ds → AllAbove b ds
 above_lower b c [] low all = all
 above_lower b c (d ∷ ds) low all = (let high = all.0 in omega arith, above_lower b c ds low all.1)
 
@@ -50,7 +50,7 @@ insert_above b c (d ∷ ds) low all =
       ]
     ]
 
-insert_climbs : (c : ℕ) (ds : List ℕ) → Climbs ds → Climbs (insert_count c ds)
+pub insert_climbs : (c : ℕ) (ds : List ℕ) → Climbs ds → Climbs (insert_count c ds)
 insert_climbs c [] all = (all, all)
 insert_climbs c (d ∷ ds) all =
     elim (nat_lt c d) as (λ x. nat_lt c d ≡ x
@@ -192,7 +192,7 @@ rank_first c ds all =
     let rest = rank_low c ds all in
     ap (λ b. cond b 1 0 + rank ds c) (le-ltb c c (omega arith)) ∙ (omega arith)
 
-above_in : (b c : ℕ) (ds : List ℕ) → AllAbove b ds → IsIn c ds → b < c
+pub above_in : (b c : ℕ) (ds : List ℕ) → AllAbove b ds → IsIn c ds → b < c
 above_in b c [] all here = absurd here
 above_in b c (d ∷ ds) all here = elim here [
   | inl same ↦ (let high = all.0 in omega (arith, same))

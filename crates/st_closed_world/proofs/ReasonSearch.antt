@@ -14,7 +14,7 @@ use Rattle.st_core.specs.declared.types.Event.{Event}
 use Rattle.st_core.specs.Pid.{pid_eq}
 use Rattle.st_core.specs.Run.{Stream, pids_of}
 use Rattle.st_core.specs.Streams.{events_of, is_among}
-use Rattle.st_core.proofs.ForCallers.{pid_same}
+use Rattle.st_core.proofs.ForCallers.{pid_same, lists_among}
 use Rattle.st_pair.specs.Places.{event_at}
 use Rattle.st_closed_world.specs.Needs.{HoldsOfNone, is_late, is_rootless}
 use Rattle.st_closed_world.specs.Reasons.{HasNoReason, HasReason, HoldsAt, is_too_high, Late}
@@ -22,7 +22,6 @@ use Rattle.st_closed_world.specs.Reasons.{TooHigh, Unfounded}
 use Rattle.st_closed_world.specs.Reasons.{Unsent}
 use Rattle.st_closed_world.specs.Supply.{excess, is_free, IsSupplied}
 use Rattle.st_closed_world.proofs.InsertedEvents.{listed_at}
-use Rattle.st_closed_world.proofs.ShownStreams.{lists_among}
 use Rattle.st_closed_world.proofs.Supplies.{highest, none_high}
 
 -- PLACES

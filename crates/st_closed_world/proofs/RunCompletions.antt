@@ -20,7 +20,7 @@ use Rattle.st_core.specs.Run.{Shows, Stream, pids_of, run, run_from, stream}
 use Rattle.st_core.specs.Streams.{IsStreams}
 use Rattle.st_core.specs.Laws.{NoReset, ReportsEverything}
 use Rattle.st_core.proofs.ForCallers.{changed_pid, pid_eq-refl, pid_same, process-map, process_pid}
-use Rattle.st_core.proofs.ForCallers.{some_of}
+use Rattle.st_core.proofs.ForCallers.{some_of, shown_are_streams}
 use Rattle.st_core.proofs.ForCallers.{step_done}
 use Rattle.st_plan.specs.Build.{state_after}
 use Rattle.st_plan.specs.Marks.{all_streams, Marked, told_events, told_streams, Whole}
@@ -29,7 +29,6 @@ use Rattle.st_plan.specs.Full.{IsFull}
 use Rattle.st_closed_world.specs.Wholes.{loud, whole_from, wholes_of}
 use Rattle.st_closed_world.proofs.LoudRuns.{are_heard, AreHeard, IsLoud, no_reset_append}
 use Rattle.st_closed_world.proofs.LoudRuns.{whole_append, whole_told}
-use Rattle.st_closed_world.proofs.ShownStreams.{shown_are_streams}
 use Rattle.st_plan.proofs.ForCallers.{run_full}
 
 -- TRACERS

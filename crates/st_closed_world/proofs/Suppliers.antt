@@ -25,7 +25,7 @@ use Rattle.st_core.specs.Run.{Stream, pids_of}
 use Rattle.st_core.specs.Streams.{events_of, is_own, is_of, lists, stream_of, AreOwn, IsStreams}
 use Rattle.st_core.specs.Streams.{is_among}
 use Rattle.st_core.proofs.ForCallers.{all_at, IsBelow-apart, pid_eq-refl, pid_eq-swap, pid_same}
-use Rattle.st_core.proofs.ForCallers.{unlisted_is_least}
+use Rattle.st_core.proofs.ForCallers.{unlisted_is_least, lists_among}
 use Rattle.st_pair.specs.declared.answer.PairFault.TheVariants as fault
 use Rattle.st_pair.specs.Places.{event_at, is_stamp}
 use Rattle.st_pair.specs.Pairing.{agrees, is_send, mismatch, receive_of, stamp_of, to_eq}
@@ -42,7 +42,6 @@ use Rattle.st_closed_world.proofs.FedNeeds.{need_fed, told_at}
 use Rattle.st_closed_world.proofs.Feeders.{any, feeder_at, feeders, feeders_split, feeds}
 use Rattle.st_closed_world.proofs.Feeders.{needs_within}
 use Rattle.st_closed_world.proofs.Needs.{at_mark, events_told, go_on}
-use Rattle.st_closed_world.proofs.ShownStreams.{lists_among}
 
 -- LISTS OF PIDS
 

@@ -13,7 +13,7 @@ use Rattle.st_core.specs.Laws.{greatest_count}
 use Rattle.st_core.specs.Pid.{pid_eq, IsRising}
 use Rattle.st_core.specs.Run.{Stream, pids_of}
 use Rattle.st_core.specs.Streams.{events_of, lists, stream_of}
-use Rattle.st_core.proofs.ForCallers.{and_false, pid_same}
+use Rattle.st_core.proofs.ForCallers.{and_false, pid_same, lists_among}
 use Rattle.st_pair.specs.Places.{event_at}
 use Rattle.st_pair.proofs.ForCallers.{events_in}
 use Rattle.st_order.specs.Items.{greatest}
@@ -28,7 +28,6 @@ use Rattle.st_closed_world.proofs.Senders.{all_apart, all_both, all_filter, all_
 use Rattle.st_closed_world.proofs.Senders.{apart_both}
 use Rattle.st_closed_world.proofs.Senders.{count_all, different_filter}
 use Rattle.st_closed_world.proofs.Senders.{IsPart, no_supplies, passes_filter}
-use Rattle.st_closed_world.proofs.ShownStreams.{lists_among}
 use Rattle.st_closed_world.proofs.ReasonlessStreams.{need_of}
 use Rattle.st_closed_world.proofs.CompletionReceives.{AsMany, is_for, one_if}
 

@@ -109,7 +109,7 @@ receive_for f = record f { kind = kind.Receive }
 abbrev pub count_of : Supply → ℕ
 count_of s = s.need.serial.prev
 
--- the invented send, as it stands among these events of its process
+-- the invented send, as it is among these events of its process
 abbrev pub send_among : Supply → List Event → Event
 send_among s es =
     send_for s (prev_between (count_of s) (take (place_below (count_of s) es) es)

@@ -13,6 +13,7 @@ use Rattle.st_core.specs.Laws.{greatest_count, NoReset}
 use Rattle.st_core.specs.Pid.{IsRising}
 use Rattle.st_core.specs.Run.{Shows, Stream, pids_of}
 use Rattle.st_core.specs.Streams.{events_of, IsStreams}
+use Rattle.st_core.proofs.ForCallers.{both_of}
 use Rattle.st_pair.specs.declared.answer.PairFault.TheVariants as fault
 use Rattle.st_pair.specs.Pairing.{refusal}
 use Rattle.st_pair.specs.Places.{event_at, is_stamp}
@@ -38,10 +39,6 @@ use Rattle.st_complete.proofs.Reasons.{reason_means, sent_if}
 
 -- THE LAST EVENT THAT COUNTS NO LOWER
 
-stamps_if : (stamp less : Bool) → (stamp && not less) ≡ true → stamp ≡ true
-stamps_if true less h = refl
-stamps_if false less h = h
-
 abbrev IsNot : Bool → Type 0
 IsNot stamp = stamp ≡ true → ⊥
 
@@ -57,7 +54,7 @@ pub last_higher : (streams : List Stream) (p : Pid) (i j this : ℕ) (e : Event)
 last_higher streams p i j this e accepted late at is higher =
     let same = same_Some late.event e (sym late.at ∙ at) in
     let stamp : is_stamp e ≡ true = subst (λ (x : Event). is_stamp x ≡ true) same
-    (stamps_if (is_stamp late.event) _ late.holds) in
+    (both_of (is_stamp late.event) _ late.holds).0 in
     record {
       event = e;
       at = at;

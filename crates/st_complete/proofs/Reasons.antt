@@ -17,7 +17,8 @@ use Rattle.st_core.specs.Laws.{greatest_count}
 use Rattle.st_core.specs.Pid.{pid_cmp, pid_eq, IsRising}
 use Rattle.st_core.specs.Run.{Stream, pids_of}
 use Rattle.st_core.specs.Streams.{events_of, IsStreams}
-use Rattle.st_core.proofs.ForCallers.{pid_cmp-Equal, pid_eq-refl, pid_same}
+use Rattle.st_core.proofs.ForCallers.{pid_cmp-Equal, pid_eq-refl, pid_same, some_if, false_if}
+use Rattle.st_core.proofs.ForCallers.{both_of}
 use Rattle.st_pair.specs.declared.answer.PairFault.{PairFault}
 use Rattle.st_pair.specs.declared.answer.PairFault.TheVariants as fault
 use Rattle.st_pair.specs.declared.answer.Source.{Source}
@@ -46,18 +47,10 @@ some_unless : {X : Type 0} (b : Bool) (x y : X) → cond b None (Some x) ≡ Som
 some_unless true x y h = absurd (none-some y h)
 some_unless false x y h = (refl, same_Some x y h)
 
-some_if : {X : Type 0} (b : Bool) (x y : X) → cond b (Some x) None ≡ Some y → (b ≡ true) × (x ≡ y)
-some_if true x y h = (refl, same_Some x y h)
-some_if false x y h = absurd (none-some y h)
-
 under_unless : {X : Type 0} (b : Bool) (o : Option X) (y : X) → cond b None o ≡ Some y → (b ≡ false)
     × (o ≡ Some y)
 under_unless true o y h = absurd (none-some y h)
 under_unless false o y h = (refl, h)
-
-false_if : (b : Bool) → (b ≡ true → ⊥) → b ≡ false
-false_if true h = absurd (h refl)
-false_if false h = refl
 
 neither : (a b : Bool) → (a || b) ≡ false → (a ≡ false) × (b ≡ false)
 neither true b h = absurd (false≢true (sym h))
@@ -283,10 +276,6 @@ taken_at es zero k f at less = absurd (omega (arith, less))
 taken_at [] (suc i) k f at less = at
 taken_at (e ∷ es) (suc i) zero f at less = at
 taken_at (e ∷ es) (suc i) (suc k) f at less = taken_at es i k f at (omega (arith, less))
-
-stamps_if : (stamp less : Bool) → (stamp && not less) ≡ true → stamp ≡ true
-stamps_if true less h = refl
-stamps_if false less h = h
 
 high_if : (stamp less : Bool) → stamp ≡ true → (stamp && not less) ≡ false → less ≡ true
 high_if true true is h = refl
@@ -673,7 +662,7 @@ module _ (top : ℕ) (streams : List Stream) (sound : IsStreams streams) where
       let count : h.event.serial.this ≡ e.serial.this = ap (λ (x : Event). x.serial.this) same in
       let high = h.high in
       reason_if p i e (never.Late j) at (
-        stamps_if (is_stamp e) _ is.least.holds.holds,
+        (both_of (is_stamp e) _ is.least.holds.holds).0,
         record {
           event = h.receive;
           at = h.there;

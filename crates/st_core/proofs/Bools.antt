@@ -1,6 +1,7 @@
 -- Truth tables: each holds in every case.
-use Rattle.std.proofs.Common.{◌≡◌, ◌&&◌, ◌||◌, Bool, true, false, Option, None, Some, refl}
+use Rattle.std.proofs.Common.{◌≡◌, ◌&&◌, ◌||◌, Bool, true, false, cond, Option, None, Some, refl}
 use Rattle.std.specs.Prelude.{not, IsSome}
+use Rattle.std.proofs.lemmas.Option.{none-some, same_Some}
 
 pub or_true : (b : Bool) → (b || true) ≡ true
 or_true true = refl
@@ -33,7 +34,19 @@ pub and_false : (a b : Bool) → b ≡ false → (a && b) ≡ false
 and_false true b e = e
 and_false false b e = refl
 
+pub or_right : (a b : Bool) → b ≡ true → (a || b) ≡ true
+or_right true b h = refl
+or_right false b h = h
+
+pub false_if : (b : Bool) → (b ≡ true → ⊥) → b ≡ false
+false_if true h = absurd (h refl)
+false_if false h = refl
+
 -- what there is
 pub some_of : {A : Type 0} (o : Option A) → IsSome o → (x : A) × (o ≡ Some x)
 some_of None h = absurd cc
 some_of (Some x) h = (x, refl)
+
+pub some_if : {A : Type 0} (b : Bool) (x y : A) → cond b (Some x) None ≡ Some y → (b ≡ true) × (x ≡ y)
+some_if true x y h = (refl, same_Some x y h)
+some_if false x y h = absurd (none-some y h)

@@ -4,8 +4,9 @@
 
 -- ---- truth tables
 pub use Rattle.st_core.proofs.Bools.{or_true, or_false, not_true, not_false, right_of, both_of, both_true}
-pub use Rattle.st_core.proofs.Bools.{and_false, some_of}
+pub use Rattle.st_core.proofs.Bools.{and_false, or_right, false_if, some_of, some_if}
 -- ---- the order of numbers
+pub use Rattle.st_core.proofs.Pids.{is_eq-Equal, both_equal}
 pub use Rattle.st_core.proofs.Pids.{is_lt-true, nat_cmp-Equal, nat_cmp-same, nat_cmp-below, below_or_same, eqb-swap}
 -- ---- pids, and the streams of each
 pub use Rattle.st_core.proofs.Pids.{pid_eq-true, pid_eq-same, pid_eq-swap, pid_cmp-same, pid_cmp-Equal}
@@ -32,11 +33,14 @@ pub use Rattle.st_core.proofs.Following.{receives_follow}
 pub use Rattle.st_core.proofs.Paired.{receives_are_paired}
 pub use Rattle.st_core.proofs.Reports.{event_reported, reported_in_order, report_told}
 pub use Rattle.st_core.proofs.Clocks.{reported_sends_agree}
+-- ---- streams that acts show
+pub use Rattle.st_core.proofs.ShownStreams.{lists_among, names_among_listed, AreReports, are_own, unlisted_none}
+pub use Rattle.st_core.proofs.ShownStreams.{shown_are_streams}
 -- ---- what every run without a reset keeps
 pub use Rattle.st_core.proofs.Clocks.{reported_stamps_lift, followed_sends_lift, lifted_once, lifted_later}
 pub use Rattle.st_core.proofs.Once.{step_once, zero_once}
 -- ---- what every run that reports all stamps and all receives of tokens keeps
-pub use Rattle.st_core.proofs.FullReports.{tell_counts, have_sends, greatest_push, prev_push}
+pub use Rattle.st_core.proofs.FullReports.{tell_counts, have_sends, greatest_push, prev_push, zero_found}
 -- ---- the numbers of the sends in the queues
 pub use Rattle.st_core.proofs.Tags.{no_tags}
 pub use Rattle.st_core.proofs.Queues.{IsTag, AreTags, no_tags_are, receive_none, receive_some, tags_step}

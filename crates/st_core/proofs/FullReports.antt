@@ -333,7 +333,7 @@ goes_on_from top s (a ∷ acts) os p es h none all now i e at other =
           subst (λ xs. GoesOnFrom xs e) whole later
     ])
 
-zero_found : (pids : List Pid) (p : Pid) → local_in (zero_state pids) p ≡ zero_local
+pub zero_found : (pids : List Pid) (p : Pid) → local_in (zero_state pids) p ≡ zero_local
 zero_found [] p = refl
 zero_found (q ∷ pids) p =
     let first : Process = record { pid = q; local = zero_local; queue = [] } in

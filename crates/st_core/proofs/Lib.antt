@@ -14,6 +14,7 @@ pub mod Paired
 pub mod Exists
 pub mod Names
 pub mod Reports
+pub mod ShownStreams
 pub mod Clocks
 pub mod FullReports
 pub mod Once

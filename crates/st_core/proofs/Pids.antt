@@ -9,7 +9,7 @@ use Rattle.std.specs.Result.{result_ok}
 use Rattle.std.proofs.lemmas.Bool.{cases_lt}
 use Rattle.std.specs.declared.cmp.Ordering.{Ordering}
 use Rattle.std.specs.declared.cmp.Ordering.TheVariants.{Less, Equal, Greater}
-use Rattle.std.specs.Ordering.{nat_cmp, ordering_then, ordering_index, is_lt}
+use Rattle.std.specs.Ordering.{nat_cmp, ordering_then, ordering_index, is_eq, is_lt}
 use Rattle.std.proofs.lemmas.Bool.{eqb-true, eq-eqb}
 use Rattle.std.proofs.lemmas.Bool.Decides.{nat_tests}
 use Rattle.std.proofs.lemmas.Option.{same_Some}
@@ -230,6 +230,18 @@ pub is_lt-true : (o : Ordering) → is_lt o ≡ true → o ≡ Less
 is_lt-true Less h = refl
 is_lt-true Equal h = absurd (cc)
 is_lt-true Greater h = absurd (cc)
+
+pub is_eq-Equal : (o : Ordering) → is_eq o ≡ true → o ≡ Equal
+is_eq-Equal Less h = absurd (cc)
+is_eq-Equal Equal h = refl
+is_eq-Equal Greater h = absurd (cc)
+
+pub both_equal : (a b : Ordering) → is_eq (ordering_then a b) ≡ true → (a ≡ Equal) × (b ≡ Equal)
+both_equal Less b h = absurd (cc)
+both_equal Equal Less h = absurd (cc)
+both_equal Equal Equal h = (refl, refl)
+both_equal Equal Greater h = absurd (cc)
+both_equal Greater b h = absurd (cc)
 
 last_place : (ps : List Pid) (l : Pid) → slice_get ps (length ps - 1) ≡ Some l
     → (k : ℕ) × (length ps ≡ suc k) × (slice_get ps k ≡ Some l)

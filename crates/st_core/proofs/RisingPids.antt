@@ -1,14 +1,13 @@
 -- Pids rise if each is below the next, since their order is transitive.
 use Rattle.std.proofs.Common.{◌≡◌, ℕ, ◌<◌, ◌+◌, zero, suc, Bool, true, false, List, [], ◌∷◌, length, get_or, IsTrue}
-use Rattle.std.proofs.Common.{◌↔◌, refl, ap, arith}
+use Rattle.std.proofs.Common.{◌↔◌, refl, sym, ap, arith}
 use Rattle.std.specs.List.{AllByRecursion, IsAllAdjacentAnswer}
-use Rattle.std.specs.declared.cmp.Ordering.{Ordering}
-use Rattle.std.specs.declared.cmp.Ordering.TheVariants.{Less, Equal, Greater}
+use Rattle.std.specs.declared.cmp.Ordering.TheVariants.{Less}
 use Rattle.std.specs.Ordering.{is_lt}
 use Rattle.std.proofs.lemmas.List.Elements.{All-from_recursion}
 use Rattle.st_core.specs.declared.types.Pid.{Pid}
 use Rattle.st_core.specs.Pid.{pid_cmp, IsBelow, IsRising}
-use Rattle.st_core.proofs.Pids.{IsBelow-trans}
+use Rattle.st_core.proofs.Pids.{IsBelow-trans, is_lt-true}
 
 -- an earlier pid is below a later one
 pub rising_at : (ps : List Pid) (i j : ℕ) (d : Pid)
@@ -38,17 +37,12 @@ rising_from_neighbours (p ∷ q ∷ ps) each =
     let rest : IsRising (q ∷ ps) = rising_from_neighbours (q ∷ ps) (λ k d within. each (suc k) d (omega arith)) in
     ((below, all_above p q ps below rest.0), rest)
 
-is_lt-Less : (o : Ordering) → true ≡ is_lt o → o ≡ Less
-is_lt-Less Less is = refl
-is_lt-Less Equal is = absurd (cc)
-is_lt-Less Greater is = absurd (cc)
-
 -- what `is_sorted_by` returns
 pub rising_from_answer : (ps : List Pid) (r : Bool)
     → IsAllAdjacentAnswer (λ x y b. b ≡ is_lt (pid_cmp x y)) ps r → IsTrue r ↔ IsRising ps
 rising_from_answer ps true is =
     let each : NeighboursRise ps = λ k d within.
-    is_lt-Less (pid_cmp (get_or ps k d) (get_or ps (suc k) d)) (rw (← next k) (is k d (omega arith))) in
+    is_lt-true (pid_cmp (get_or ps k d) (get_or ps (suc k) d)) (sym (rw (← next k) (is k d (omega arith)))) in
     (λ _. rising_from_neighbours ps each, λ _. refl)
 rising_from_answer ps false is = (
   λ e. absurd (cc),

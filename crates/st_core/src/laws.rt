@@ -49,8 +49,8 @@ pub fn reports_are_own()
         → run top pids acts ≡ Some os → AllZip (ReportsAmong pids) acts os }
 {}
 
-/// In every run each reported receive follows the send whose message it took, and no send stands
-/// twice.
+/// In every run each reported receive follows the send whose message it took, and no send is
+/// there twice.
 pub fn receives_follow()
     ensures { (top : ℕ) (pids : List Pid) (acts : List Act) (os : List Outcome)
         → run top pids acts ≡ Some os → Follows acts os (pairs acts os) }

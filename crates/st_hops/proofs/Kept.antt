@@ -1,7 +1,7 @@
 -- What is kept of one event more and one process more, and what is read at a process's place.
 use Rattle.std.proofs.Common.{◌≡◌, ℕ, ◌+◌, ◌-◌, ◌<◌, ◌≤◌, max, zero, suc, nat_lt, List, [], ◌∷◌}
-use Rattle.std.proofs.Common.{◌++◌, length, map, take, drop, get_or, Bool, false, cond, Some, None}
-use Rattle.std.proofs.Common.{slice_get, refl, sym, ◌∙◌, ap, subst, arith, append_assoc}
+use Rattle.std.proofs.Common.{◌++◌, length, take, drop, false, Some, None}
+use Rattle.std.proofs.Common.{slice_get, refl, sym, ◌∙◌, ap, arith, append_assoc}
 use Rattle.std.specs.List.{AllByRecursion}
 use Rattle.std.specs.Option.{unwrap_or}
 use Rattle.std.proofs.lemmas.Bool.{le-ltb}
@@ -10,11 +10,10 @@ use Rattle.std.proofs.lemmas.Bool.Decides.{nat_tests}
 use Rattle.std.proofs.lemmas.Option.{same_Some, none-some}
 use Rattle.st_core.specs.declared.types.Pid.{Pid}
 use Rattle.st_core.specs.declared.types.Event.{Event}
-use Rattle.st_core.specs.Pid.{pid_eq, IsRising}
+use Rattle.st_core.specs.Pid.{pid_eq}
 use Rattle.st_core.specs.Run.{Stream, pids_of}
-use Rattle.st_core.specs.Streams.{events_of, stream_of}
+use Rattle.st_core.specs.Streams.{events_of}
 use Rattle.st_core.specs.Laws.{greatest_count}
-use Rattle.st_pair.proofs.ForCallers.{is_at, at_get_or, events_in, take_map}
 use Rattle.st_origin.specs.Events.{has_above}
 use Rattle.st_hops.specs.Kept.{all_greatest, greatest_from}
 
@@ -43,52 +42,7 @@ greatest_passed es k e most now before total at is far =
 pub greater_is : (a b : ℕ) → ord_max nat_cmp a b ≡ max a b
 greater_is a b = grind (arith, nat_tests)
 
-pub process_passed : (f : List Event → List ℕ) (streams : List Stream) (pids : List Pid) (k : ℕ)
-    (d : Pid)
-    (es : List Event) (before : List (List ℕ)) (x : List ℕ) → IsRising (pids_of streams)
-    → pids ≡ pids_of streams
-    → k < length pids → es ≡ events_of streams (get_or pids k d) → x ≡ f es
-    → before ≡ map (λ s. f s.events) (take k streams)
-    → before ++ x ∷ [] ≡ map (λ s. f s.events) (take (k + 1) streams)
-process_passed f streams pids k d es before x rising are within events is far =
-    let p = get_or pids k d in
-    let at = at_get_or pids k d within in
-    let s = is_at streams k p rising (subst (λ (ps : List Pid). slice_get ps k ≡ Some p) are at) in
-    let same : es ≡ s.stream.events = events ∙ ap events_in s.found in
-    let next : suc k ≡ k + 1 = omega arith in
-    ap (λ (ls : List (List ℕ)). ls ++ x ∷ []) far
-    ∙ ap (λ (l : List ℕ). map (λ (t : Stream). f t.events) (take k streams) ++ l ∷ [])
-    (is ∙ ap f same)
-    ∙ sym (take_map (λ (t : Stream). f t.events) streams k s.stream s.at)
-    ∙ ap (λ (n : ℕ). map (λ (t : Stream). f t.events) (take n streams)) next
-
 -- WHAT IS READ
-
-get_or_map : {A B : Type 0} (f : A → B) (xs : List A) (k : ℕ) (x : A) (d : B)
-    → slice_get xs k ≡ Some x
-    → get_or (map f xs) k d ≡ f x
-get_or_map f [] k x d at = absurd (cc)
-get_or_map f (y ∷ xs) zero x d at = ap f (same_Some y x at)
-get_or_map f (y ∷ xs) (suc k) x d at = get_or_map f xs k x d at
-
--- the list that is kept of a process
-pub process_read : (f : List Event → List ℕ) (streams : List Stream) (p : Pid) (k : ℕ)
-    (lists : List (List ℕ))
-    (read : List ℕ) → IsRising (pids_of streams) → lists ≡ map (λ s. f s.events) streams
-    → slice_get (pids_of streams) k ≡ Some p → read ≡ get_or lists k read
-    → read ≡ f (events_of streams p)
-process_read f streams p k lists read rising kept at is =
-    let s = is_at streams k p rising at in
-    is ∙ ap (λ (l : List (List ℕ)). get_or l k read) kept
-    ∙ get_or_map (λ (t : Stream). f t.events) streams k s.stream read s.at
-    ∙ ap f (sym (ap events_in s.found))
-
-pub missing_events : (streams : List Stream) (p : Pid)
-    → AllByRecursion (λ (q : Pid). pid_eq q p ≡ false) (pids_of streams) → events_of streams p ≡ []
-missing_events [] p all = refl
-missing_events (x ∷ streams) p all =
-    ap (λ (b : Bool). events_in (cond b (Some x) (stream_of streams p))) all.0
-    ∙ missing_events streams p all.1
 
 pub greatest_long : (streams : List Stream) (k : ℕ) (p : Pid)
     → slice_get (pids_of streams) k ≡ Some p

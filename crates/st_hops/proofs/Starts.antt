@@ -16,7 +16,7 @@ use Rattle.st_pair.specs.Places.{event_at}
 use Rattle.st_origin.specs.Events.{in_row, is_receive, row_start}
 use Rattle.st_origin.proofs.ForCallers.{row_start_within}
 use Rattle.st_hops.specs.Kept.{row_starts, starts_from}
-use Rattle.st_hops.proofs.Kept.{missing_events}
+use Rattle.st_pair.proofs.ForCallers.{missing_events}
 
 start_at : (prev : ℕ) (es : List Event) (i : ℕ) (e : Event) → slice_get es i ≡ Some e
     → row_start prev es (suc i) ≡ cond (in_row prev e) (row_start prev es i) (suc i)

@@ -7,8 +7,8 @@ use Rattle.std.specs.declared.cmp.Ordering.{Ordering}
 use Rattle.std.specs.List.{sum}
 use Rattle.st_core.specs.declared.types.Message.{Message}
 use Rattle.st_index.specs.declared.index.Index.{Index}
-use Rattle.st_index.specs.declared.keyed_slots.Keyed.{Keyed}
-use Rattle.st_index.specs.Keyed.{has_key, is_kept, IsFirst}
+use Rattle.st_index.specs.declared.keyed_slots.KeyedSlots.{KeyedSlots}
+use Rattle.st_index.specs.KeyedSlots.{has_key, is_kept, IsFirst}
 use Rattle.st_index.specs.Index.{IsKeyedBy, HasSlots}
 use Rattle.st_index.specs.Slots.{item_at, passes}
 use Rattle.st_ranks.specs.Queue.{kept, before}
@@ -44,7 +44,7 @@ module _ (index : Index) (slots : List (Option Message)) (has : HasSlots index s
 
   -- KEYS
 
-  module _ {K : Type 0} (cmp : K → K → Ordering) (test : K → Message → Bool) (keyed : Keyed K)
+  module _ {K : Type 0} (cmp : K → K → Ordering) (test : K → Message → Bool) (keyed : KeyedSlots K)
       (tells : IsKeyedBy cmp test keyed slots) (on : is_kept keyed ≡ true) (key : K) where
     passes_first : (start : ℕ) (found : Option ℕ) → IsFirst (has_key cmp keyed key) start found
         → IsFirst (λ s. passes (test key) (item_at slots s)) start found

@@ -8,8 +8,8 @@ use Rattle.st_core.specs.declared.types.Message.{Message}
 use Rattle.st_core.specs.declared.types.Pid.{Pid}
 use Rattle.st_core.specs.declared.types.Token.{Token}
 use Rattle.st_core.specs.Pid.{pid_cmp, pid_eq}
-use Rattle.st_index.specs.declared.keyed_slots.Keyed.{Keyed}
-use Rattle.st_index.specs.Keyed.{has_key, is_kept}
+use Rattle.st_index.specs.declared.keyed_slots.KeyedSlots.{KeyedSlots}
+use Rattle.st_index.specs.KeyedSlots.{has_key, is_kept}
 use Rattle.st_index.specs.Index.{IsKeyedBy, bears_stamp, is_from, is_of_value, is_of_both, pid_count_cmp}
 use Rattle.st_index.specs.Slots.{item_at, passes}
 use Rattle.st_index.proofs.PairLemmas.{nat_cmp-is_eq, both_equal}
@@ -55,7 +55,7 @@ gone false c is = rw is refl
 module _ {K : Type 0} (cmp : K → K → Ordering) (test : K → Message → Bool) where
   module _ (slots : List (Option Message)) (m : Message) (own : K → Bool) (same : (k : K) → own k ≡ test k m) where
     -- a message comes with its keys
-    pub keyed-push : (old new : Keyed K) (slot : ℕ) → slot ≡ length slots
+    pub keyed-push : (old new : KeyedSlots K) (slot : ℕ) → slot ≡ length slots
         → (is_kept old ≡ true → (k : K) (s : ℕ) → has_key cmp new k s ≡ (own k && slot == s || has_key cmp old k s))
         → is_kept new ≡ is_kept old
         → IsKeyedBy cmp test old slots → IsKeyedBy cmp test new (slots ++ Some m ∷ [])
@@ -64,7 +64,7 @@ module _ {K : Type 0} (cmp : K → K → Ordering) (test : K → Message → Boo
         is was k s ∙ rw (same k, at, kept was k s) (sym (passes-push (test k) slots m s))
 
     -- it leaves with them
-    pub keyed-set : (slot : ℕ) → item_at slots slot ≡ Some m → (old new : Keyed K)
+    pub keyed-set : (slot : ℕ) → item_at slots slot ≡ Some m → (old new : KeyedSlots K)
         → ((k : K) (s : ℕ) → has_key cmp new k s ≡ (not (own k && slot == s) && has_key cmp old k s))
         → is_kept new ≡ is_kept old
         → IsKeyedBy cmp test old slots → IsKeyedBy cmp test new (set slots slot None)

@@ -12,8 +12,9 @@ use Rattle.std.proofs.lemmas.Bool.Decides.{nat_tests}
 use Rattle.std.proofs.lemmas.Cmp.{then_total, on_total, nat_cmp_total, tied_itself, tied_back}
 use Rattle.std.proofs.lemmas.Map.Keys.{le_from_not_gt}
 use Rattle.std.specs.Option.{option_map_or}
-use Rattle.st_index.specs.declared.keyed_slots.Keyed.{Keyed}
-use Rattle.st_index.specs.Keyed.{pair_cmp, has_key, IsFirst}
+use Rattle.st_core.proofs.ForCallers.{is_eq-Equal}
+use Rattle.st_index.specs.declared.keyed_slots.KeyedSlots.{KeyedSlots}
+use Rattle.st_index.specs.KeyedSlots.{pair_cmp, has_key, IsFirst}
 
 -- PAIRS
 
@@ -34,11 +35,6 @@ pub cond_and : (b c d : Bool) → b ≡ d → cond b false c ≡ (not d && c)
 cond_and true c d e = rw (← e) refl
 cond_and false c d e = rw (← e) refl
 
-is_eq-Equal : (o : Ordering) → is_eq o ≡ true → o ≡ Equal
-is_eq-Equal Less e = absurd (cc)
-is_eq-Equal Equal e = refl
-is_eq-Equal Greater e = absurd (cc)
-
 -- what is neither equal nor greater is less
 less_else : (o p : Ordering) → is_eq o ≡ false → is_gt (ordering_then o p) ≡ false → o ≡ Less
 less_else Less p e h = refl
@@ -50,7 +46,7 @@ not_gt a b h = grind (arith, nat_tests)
 
 -- KEYS THAT ARE KEPT
 
-module _ {K : Type 0} (cmp : K → K → Ordering) (keyed : Keyed K) (set : BTreeSet (K × ℕ)) (is : keyed.pairs ≡ Some set)
+module _ {K : Type 0} (cmp : K → K → Ordering) (keyed : KeyedSlots K) (set : BTreeSet (K × ℕ)) (is : keyed.pairs ≡ Some set)
   where
     -- a slot has those of the set
     pub kept_keys : (k : K) (s : ℕ) → has_key cmp keyed k s ≡ contains (pair_cmp cmp) set (k, s)

@@ -3,7 +3,7 @@ use Rattle.std.proofs.Common.{◌≡◌, ℕ, zero, suc, ◌+◌, ◌-◌, ◌�
 use Rattle.std.proofs.Common.{Option, Some, None, option_map, position, refl, sym, ap, ◌∙◌, arith}
 use Rattle.std.specs.List.{position_from}
 use Rattle.std.proofs.lemmas.Iterator.Adapters.{position_from-zero}
-use Rattle.st_index.specs.Keyed.{IsFirst}
+use Rattle.st_index.specs.KeyedSlots.{IsFirst}
 use Rattle.st_index.specs.Slots.{item_at, passes}
 use Rattle.st_ranks.specs.Queue.{kept, before}
 

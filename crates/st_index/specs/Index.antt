@@ -8,9 +8,9 @@ use Rattle.st_core.specs.declared.types.Pid.{Pid}
 use Rattle.st_core.specs.declared.types.Token.{Token}
 use Rattle.st_core.specs.Pid.{pid_cmp, pid_eq}
 use Rattle.st_index.specs.declared.index.Index.{Index}
-use Rattle.st_index.specs.declared.keyed_slots.Keyed.{Keyed}
+use Rattle.st_index.specs.declared.keyed_slots.KeyedSlots.{KeyedSlots}
 use Rattle.st_index.specs.declared.keys.Keys.{Keys}
-use Rattle.st_index.specs.Keyed.{has_key, is_kept}
+use Rattle.st_index.specs.KeyedSlots.{has_key, is_kept}
 use Rattle.st_index.specs.Slots.{item_at, passes}
 use Rattle.st_ranks.specs.Queue.{kept, AreRanksOf}
 
@@ -38,7 +38,7 @@ abbrev pub pid_count_cmp : Pid × ℕ → Pid × ℕ → Ordering
 pid_count_cmp a b = ordering_then (pid_cmp a.0 b.0) (nat_cmp a.1 b.1)
 
 -- if keys are kept, a slot has a key exactly if a message is there that passes the key's test
-abbrev pub IsKeyedBy : {K : Type 0} → (K → K → Ordering) → (K → Message → Bool) → Keyed K → List
+abbrev pub IsKeyedBy : {K : Type 0} → (K → K → Ordering) → (K → Message → Bool) → KeyedSlots K → List
     (Option Message) → Type 0
 IsKeyedBy {K} cmp test keyed slots = is_kept keyed ≡ true →
     (k : K) (s : ℕ) → has_key cmp keyed k s ≡ passes (test k) (item_at slots s)

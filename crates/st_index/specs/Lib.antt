@@ -2,5 +2,5 @@
 pub mod Index
 pub mod Keys
 -- For the parts alone: slots, and the keys that they have.
-pub mod Keyed
+pub mod KeyedSlots
 pub mod Slots

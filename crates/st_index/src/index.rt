@@ -6,7 +6,7 @@ ghost use Rattle.std.specs.Prelude.{slice_get};
 ghost use Rattle.st_core.specs.declared.types.Message.{Message};
 ghost use Rattle.st_core.specs.Pid.{pid_eq};
 
-use crate::keyed_slots::Keyed;
+use crate::keyed_slots::KeyedSlots;
 use crate::keys::Keys;
 use st_core::{Message, Pid, Token};
 use st_ranks::Ranks;
@@ -23,10 +23,10 @@ pub struct Index {
     used: usize,
     // The slots by what their messages show: the value, the sender, both, and the stamp. Each is
     // kept or not.
-    values: Keyed<u64>,
-    senders: Keyed<Pid>,
-    pairs: Keyed<(Pid, u64)>,
-    stamps: Keyed<(Pid, u64)>,
+    values: KeyedSlots<u64>,
+    senders: KeyedSlots<Pid>,
+    pairs: KeyedSlots<(Pid, u64)>,
+    stamps: KeyedSlots<(Pid, u64)>,
 }
 
 impl Index {
@@ -43,10 +43,10 @@ impl Index {
         Ok(Index {
             ranks,
             used: 0,
-            values: Keyed::new(alloc, keys.value),
-            senders: Keyed::new(alloc, keys.sender),
-            pairs: Keyed::new(alloc, keys.both),
-            stamps: Keyed::new(alloc, keys.stamp),
+            values: KeyedSlots::new(alloc, keys.value),
+            senders: KeyedSlots::new(alloc, keys.sender),
+            pairs: KeyedSlots::new(alloc, keys.both),
+            stamps: KeyedSlots::new(alloc, keys.stamp),
         })
     }
 
@@ -162,11 +162,11 @@ impl Index {
 
 ghost use Rattle.std.specs.Prelude.{◌||◌, not};
 ghost use Rattle.st_index.specs.Index.{bears_stamp, pid_count_cmp};
-ghost use Rattle.st_index.specs.Keyed.{has_key, is_kept};
+ghost use Rattle.st_index.specs.KeyedSlots.{has_key, is_kept};
 
 // Gives the slot the stamp of the token, if there is one. Fails if memory runs out.
 fn insert_stamp(
-    stamps: &mut Keyed<(Pid, u64)>,
+    stamps: &mut KeyedSlots<(Pid, u64)>,
     token: &Option<Token>,
     slot: usize,
 ) -> Result<(), AllocError>
@@ -183,7 +183,7 @@ fn insert_stamp(
 }
 
 // Takes the stamp of the token from the slot, if there is one.
-fn remove_stamp(stamps: &mut Keyed<(Pid, u64)>, token: &Option<Token>, slot: usize)
+fn remove_stamp(stamps: &mut KeyedSlots<(Pid, u64)>, token: &Option<Token>, slot: usize)
     ensures removed { (from : Pid) (this s : ℕ) → has_key pid_count_cmp stamps.new (from, this) s
         ≡ (not (bears_stamp from this token.now && slot == s)
         && has_key pid_count_cmp stamps.old (from, this) s) }

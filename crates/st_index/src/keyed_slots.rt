@@ -2,21 +2,21 @@
 
 ghost use Rattle.std.specs.Prelude.{◌≡◌, ◌==◌, ◌&&◌, ◌||◌, ℕ, true, false, not, OnOk};
 ghost use Rattle.std.specs.Ordering.{is_eq};
-ghost use Rattle.st_index.specs.Keyed.{has_key, is_kept, IsFirst};
+ghost use Rattle.st_index.specs.KeyedSlots.{has_key, is_kept, IsFirst};
 
 use std::alloc::{AllocError, Global};
 use std::collections::BTreeSet;
 
-/// Pairs of a key and a slot that has it, in order of key and then slot: so the slots of one key
-/// stand together and rise. If the keys of this sort aren't kept, there is none.
+/// Pairs of a key and a slot that has it, in order of key and then slot: so the slots of one key are
+/// together and rise. If the keys of this sort aren't kept, there is none.
 #[derive(Drop)]
-pub struct Keyed<K: Ord> {
+pub struct KeyedSlots<K: Ord> {
     pairs: Option<BTreeSet<(K, usize)>>,
 }
 
-impl<K: Ord + Copy> Keyed<K> {
+impl<K: Ord + Copy> KeyedSlots<K> {
     /// No slot has a key, and from now on keys are kept or not.
-    pub(crate) fn new(alloc: Global, keeps: bool) -> Keyed<K>
+    pub(crate) fn new(alloc: Global, keeps: bool) -> KeyedSlots<K>
         ensures none { (k : K) (s : ℕ) → has_key K.cmp result k s ≡ false }
         ensures kept { is_kept result ≡ keeps }
     {
@@ -25,7 +25,7 @@ impl<K: Ord + Copy> Keyed<K> {
         } else {
             None
         };
-        Keyed { pairs }
+        KeyedSlots { pairs }
     }
 
     /// Whether keys are kept.

@@ -3,9 +3,9 @@
 use Rattle.std.proofs.Common.{◌≡◌, ℕ, ◌+◌, zero, suc, ◌<◌, ◌⊎◌, inl, inr, nat_lt, true, false, cond}
 use Rattle.std.proofs.Common.{List, [], ◌∷◌, ◌++◌, length, drop, get_or, slice_get, Some}
 use Rattle.std.proofs.Common.{refl, sym, ◌∙◌, ap, subst, arith}
-use Rattle.std.specs.List.{AllByRecursion, AllPairs, Contains}
+use Rattle.std.specs.List.{AllPairs, Contains}
 use Rattle.std.specs.List.Sorted.{IsStrictlyIncreasing}
-use Rattle.std.proofs.lemmas.Bool.{ltb-true, ltb-false}
+use Rattle.std.proofs.lemmas.Bool.{ltb-false}
 use Rattle.std.proofs.lemmas.List.{append_assoc}
 use Rattle.std.proofs.lemmas.List.Kept.{AllPairs-from_increasing}
 use Rattle.std.proofs.lemmas.Option.{none-some, same_Some}
@@ -17,6 +17,7 @@ use Rattle.st_core.specs.Streams.{events_of, stream_of}
 use Rattle.st_pair.specs.Places.{event_at}
 use Rattle.st_pair.proofs.ForCallers.{at_get_or, events_in, is_at}
 use Rattle.st_closed_world.specs.Renumbering.{counts_of, insert_count, insert_counts}
+use Rattle.st_closed_world.proofs.ForCallers.{AllAbove, Climbs, IsIn, above_in, insert_climbs}
 use Rattle.st_needs.specs.Counts.{all_counts, counts_in}
 
 -- NOTING THE COUNTS
@@ -57,30 +58,6 @@ process_noted old now more streams pids k d es rising are within is noted so_far
 
 -- LISTS THAT RISE
 
-abbrev pub AllAbove : ℕ → List ℕ → Type 0
-AllAbove b cs = AllByRecursion (λ c. b < c) cs
-
--- each is above all before it
-abbrev pub Climbs : List ℕ → Type 0
-Climbs [] = Unit {0}
-Climbs (c ∷ cs) = AllAbove c cs × Climbs cs
-
--- c is one of these
-abbrev pub IsIn : ℕ → List ℕ → Type 0
-IsIn c [] = ⊥
-IsIn c (d ∷ ds) = (c ≡ d) ⊎ IsIn c ds
-
-pub above_in : (b c : ℕ) (ds : List ℕ) → AllAbove b ds → IsIn c ds → b < c
-above_in b c [] all here = absurd here
-above_in b c (d ∷ ds) all here = elim here [
-  | inl same ↦ (let high = all.0 in omega (arith, same))
-  | inr later ↦ above_in b c ds all.1 later
-]
-
-above_lower : (b c : ℕ) (ds : List ℕ) → b < c → AllAbove c ds → AllAbove b ds
-above_lower b c [] low all = all
-above_lower b c (d ∷ ds) low all = (let high = all.0 in omega arith, above_lower b c ds low all.1)
-
 -- which members of a list another one has
 abbrev pub AreIn : List ℕ → List ℕ → Type 0
 AreIn cs ds = (c : ℕ) → IsIn c cs → IsIn c ds
@@ -119,35 +96,6 @@ one_list (x ∷ xs) (y ∷ ys) up down to from =
     (rest_in x ys xs above there))
 
 -- THE COUNTS OF STREAMS
-
-insert_above : (b c : ℕ) (ds : List ℕ) → b < c → AllAbove b ds → AllAbove b (insert_count c ds)
-insert_above b c [] low all = (low, all)
-insert_above b c (d ∷ ds) low all =
-    elim (nat_lt c d) as (λ x. AllAbove b (cond x (c ∷ d ∷ ds)
-    (cond (nat_lt d c) (d ∷ insert_count c ds) (d ∷ ds)))) [
-      | true ↦ (low, all)
-      | false ↦ elim (nat_lt d c) as (λ y. AllAbove b (cond y (d ∷ insert_count c ds) (d ∷ ds))) [
-        | true ↦ (all.0, insert_above b c ds low all.1)
-        | false ↦ all
-      ]
-    ]
-
-insert_climbs : (c : ℕ) (ds : List ℕ) → Climbs ds → Climbs (insert_count c ds)
-insert_climbs c [] all = (all, all)
-insert_climbs c (d ∷ ds) all =
-    elim (nat_lt c d) as (λ x. nat_lt c d ≡ x
-    → Climbs (cond x (c ∷ d ∷ ds) (cond (nat_lt d c) (d ∷ insert_count c ds) (d ∷ ds)))) [
-      | true ↦ λ less. let low = ltb-true c d less in ((low, above_lower c d ds low all.0), all)
-      | false ↦ λ _. elim (nat_lt d c) as (λ y. nat_lt d c ≡ y
-          → Climbs (cond y (d ∷ insert_count c ds) (d ∷ ds))) [
-            | true ↦ λ more. (
-              insert_above d c ds (ltb-true d c more) all.0,
-              insert_climbs c ds
-                  all.1,
-            )
-            | false ↦ λ _. all
-          ] refl
-    ] refl
 
 -- c and the members of the list, and no others
 insert_in : (b c : ℕ) (ds : List ℕ) → IsIn b (c ∷ ds) → IsIn b (insert_count c ds)

@@ -25,11 +25,11 @@ use Rattle.st_closed_world.specs.Completion.{supplies_of, Supply}
 use Rattle.st_closed_world.specs.Needs.{is_need}
 use Rattle.st_closed_world.specs.Renumbering.{counts_of}
 use Rattle.st_closed_world.specs.Supply.{is_free, is_own_supply}
-use Rattle.st_needs.specs.declared.told_facts.Told.{Told}
+use Rattle.st_closed_world.proofs.ForCallers.{AllAbove, Climbs, IsIn, above_in}
+use Rattle.st_needs.specs.declared.told_facts.ToldFacts.{ToldFacts}
 use Rattle.st_needs.specs.Counts.{all_counts, counts_in}
 use Rattle.st_needs.specs.Told.{is_untaken, is_unused, told_of}
-use Rattle.st_needs.proofs.Counted.{above_in, AllAbove, Climbs, IsIn, counts_climb, counts_has}
-use Rattle.st_needs.proofs.Counted.{either_in}
+use Rattle.st_needs.proofs.Counted.{counts_climb, counts_has, either_in}
 use Rattle.st_needs.proofs.Supplied.{untaken_here, unused_here}
 
 -- ONE COUNT
@@ -270,9 +270,9 @@ length_map f [] = refl
 length_map f (x ∷ xs) = ap suc (length_map f xs)
 
 -- one process more of which something is told
-told_more : (streams : List Stream) (v : ℕ) (test : Told → Bool) (passes : Pid → Bool)
+told_more : (streams : List Stream) (v : ℕ) (test : ToldFacts → Bool) (passes : Pid → Bool)
     → ((q : Pid) → test (told_of streams v q) ≡ passes q)
-    → (all : List Told) (pids : List Pid) (k : ℕ) (d : Told)
+    → (all : List ToldFacts) (pids : List Pid) (k : ℕ) (d : ToldFacts)
     (e : Pid) (b : Bool) (before after : List Pid) → all ≡ map (told_of streams v) (pids_of streams)
     → pids ≡ pids_of streams → k < length all → b ≡ test (get_or all k d)
     → before ≡ filter passes (take k (pids_of streams))
@@ -296,8 +296,8 @@ told_more streams v test passes same all pids k d e b before after are named wit
     ∙ sym (filter_next passes ps k q at)
     ∙ ap (λ n. filter passes (take n ps)) next
 
-pub own_more : (streams : List Stream) (v : ℕ) (p : Pid) (all : List Told) (pids : List Pid) (k : ℕ)
-    (d : Told) (e : Pid)
+pub own_more : (streams : List Stream) (v : ℕ) (p : Pid) (all : List ToldFacts) (pids : List Pid) (k : ℕ)
+    (d : ToldFacts) (e : Pid)
     (b : Bool) (before after : List Pid) → all ≡ map (told_of streams v) (pids_of streams)
     → pids ≡ pids_of streams → k < length all → b ≡ is_untaken p (get_or all k d)
     → before ≡ filter (is_own_supply streams v p) (take k (pids_of streams))
@@ -306,8 +306,8 @@ pub own_more : (streams : List Stream) (v : ℕ) (p : Pid) (all : List Told) (pi
 own_more streams v p = told_more streams v (is_untaken p) (is_own_supply streams v p)
     (untaken_here streams v p)
 
-pub free_more : (streams : List Stream) (v : ℕ) (all : List Told) (pids : List Pid) (k : ℕ)
-    (d : Told) (e : Pid)
+pub free_more : (streams : List Stream) (v : ℕ) (all : List ToldFacts) (pids : List Pid) (k : ℕ)
+    (d : ToldFacts) (e : Pid)
     (b : Bool) (before after : List Pid) → all ≡ map (told_of streams v) (pids_of streams)
     → pids ≡ pids_of streams → k < length all → b ≡ is_unused (get_or all k d)
     → before ≡ filter (is_free streams v) (take k (pids_of streams))

@@ -19,7 +19,7 @@ use Rattle.st_pair.specs.Pairing.{is_send, receive_of, stamp_of, to_eq}
 use Rattle.st_pair.specs.Places.{first, first_from, is_stamp}
 use Rattle.st_pair.proofs.ForCallers.{blank}
 use Rattle.st_closed_world.specs.Supply.{is_free, is_own_supply}
-use Rattle.st_needs.specs.declared.told_facts.Told.{Told}
+use Rattle.st_needs.specs.declared.told_facts.ToldFacts.{ToldFacts}
 use Rattle.st_needs.specs.Told.{is_untaken, is_unused, senders, senders_in, told_of}
 use Rattle.st_needs.proofs.Counted.{drop_stream, stream_here}
 
@@ -169,7 +169,7 @@ pub told_parts : (streams : List Stream) (v : ℕ) (q : Pid) (stamp : Option Eve
     (found : List Pid) → es ≡ events_of streams q → found ≡ senders v streams
     → stamp ≡ find (has v) es
     → received ≡ list_any (is_of q) found
-    → (let t : Told = record { stamp = stamp; received = received } in t) ≡ told_of streams v q
+    → (let t : ToldFacts = record { stamp = stamp; received = received } in t) ≡ told_of streams v q
 told_parts streams v q stamp received es found own are is among =
     let first : stamp ≡ option_map (λ (f : ℕ × Event). f.1) (stamp_of streams q v) =
     is ∙ ap (find (has v)) own ∙ sym (stamp_found v q streams) in

@@ -15,7 +15,7 @@ use Rattle.st_core.specs.declared.types.Event.{Event}
 use Rattle.st_core.specs.Pid.{pid_eq, IsRising}
 use Rattle.st_core.specs.Run.{Stream, pids_of}
 use Rattle.st_core.specs.Streams.{events_of}
-use Rattle.st_core.proofs.ForCallers.{pid_eq-refl, pid_same}
+use Rattle.st_core.proofs.ForCallers.{pid_eq-refl, pid_same, or_true}
 use Rattle.st_pair.specs.Places.{event_at, first, first_from, is_stamp, or_else}
 use Rattle.st_pair.proofs.ForCallers.{event_none, given_at}
 use Rattle.st_order.specs.Items.{is_hidden}
@@ -155,10 +155,6 @@ receive_there (d ∷ es) (suc i) has =
           }
     ] refl has
 
-or_right : (b : Bool) → (b || true) ≡ true
-or_right true = refl
-or_right false = refl
-
 there_receive : (es : List Event) (i j : ℕ) (d : Event) → slice_get es j ≡ Some d
     → is_stamp d ≡ false → j < i
     → has_receive (take i es) ≡ true
@@ -168,7 +164,7 @@ there_receive (e ∷ es) (suc i) zero d at receives before =
     ap (λ b. not b || has_receive (take i es)) (ap is_stamp (same_Some e d at) ∙ receives)
 there_receive (e ∷ es) (suc i) (suc j) d at receives before =
     ap (λ b. not (is_stamp e) || b) (there_receive es i j d at receives (omega arith))
-    ∙ or_right (not (is_stamp e))
+    ∙ or_true (not (is_stamp e))
 
 module _ (streams : List Stream) (rising : IsRising (pids_of streams)) where
   pub found_unfounded : (p : Pid) (i : ℕ) → HoldsAt (is_unfounded streams) streams p i
@@ -273,7 +269,7 @@ module _ (streams : List Stream) (rising : IsRising (pids_of streams)) where
         holds = and_from (e.serial.prev == 0) ((is_stamp e && has_receive before) || (own && low))
             (eq-eqb e.serial.prev 0 z.is_zero)
             (ap (λ b. (is_stamp e && has_receive before) || b) behind
-            ∙ or_right (is_stamp e && has_receive before));
+            ∙ or_true (is_stamp e && has_receive before));
       }
 
   pub least_unfounded : (p : Pid) (i : ℕ) → IsLeastPlace (HoldsAt (is_unfounded streams) streams) p

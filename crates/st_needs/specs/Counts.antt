@@ -1,4 +1,4 @@
--- For the parts alone: the counts of streams as they stand, one after the other.
+-- For the parts alone: the counts of streams, one after the other.
 use Rattle.std.specs.Prelude.{ℕ, List, [], ◌∷◌, ◌++◌, map}
 use Rattle.st_core.specs.declared.types.Pid.{Pid}
 use Rattle.st_core.specs.declared.types.Event.{Event}

@@ -8,7 +8,7 @@ use Rattle.st_core.specs.declared.types.Event.{Event}
 use Rattle.st_core.specs.Run.{Stream}
 use Rattle.st_pair.specs.Pairing.{is_send, receive_of, stamp_of, to_eq}
 use Rattle.st_pair.specs.Places.{is_stamp}
-use Rattle.st_needs.specs.declared.told_facts.Told.{Told}
+use Rattle.st_needs.specs.declared.told_facts.ToldFacts.{ToldFacts}
 
 -- whose messages of this count these events receive
 abbrev pub senders_in : ℕ → List Event → List Pid
@@ -22,17 +22,17 @@ senders v [] = []
 senders v (x ∷ rest) = senders_in v x.events ++ senders v rest
 
 -- what is told of q's count v
-abbrev pub told_of : List Stream → ℕ → Pid → Told
+abbrev pub told_of : List Stream → ℕ → Pid → ToldFacts
 told_of streams v q = record {
   stamp = option_map (λ f. f.1) (stamp_of streams q v);
   received = is_some (receive_of streams q v);
 }
 
 -- nothing is told
-abbrev pub is_unused : Told → Bool
+abbrev pub is_unused : ToldFacts → Bool
 is_unused t = not t.received && is_none t.stamp
 
 -- a send to p is told, and no receive of it
-abbrev pub is_untaken : Pid → Told → Bool
+abbrev pub is_untaken : Pid → ToldFacts → Bool
 is_untaken p t = not t.received
     && option_map_or (λ e. is_send e && to_eq e.to (Some p)) t.stamp false

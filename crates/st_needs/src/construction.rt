@@ -200,7 +200,7 @@ fn prev_between(events: &[Event], index: usize, count: u64) -> u64
     }
 }
 
-/// The send that is invented for a supply, as it stands among these events of its process.
+/// The send that is invented for a supply, as it is among these events of its process.
 fn send_among(supply: &Supply, events: &[Event]) -> Event
     ensures { result ≡ send_among supply.now events.now }
 {

@@ -1,7 +1,7 @@
 //! What streams need, and what would supply it.
 //!
-//! A send or print is a need if it goes on from a count that the events before it don't leave, so
-//! that a receive is missing. Here are the tests of single events, the counts of the messages that
+//! A send or print is a need if its prev is a count that the events before it don't leave, so that a
+//! receive is missing. Here are the tests of single events, the counts of the messages that
 //! may feed needs, and completions by their definition.
 #![tactic(auto)]
 

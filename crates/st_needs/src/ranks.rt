@@ -22,7 +22,7 @@ fn note_counts(counts: &mut Vec<u64>, events: &[Event]) -> Result<(), AllocError
     Ok(())
 }
 
-/// 0 and all counts, as they stand.
+/// 0 and all counts, in the order of the events.
 fn all_counts(alloc: Global, streams: &Streams) -> Result<Vec<u64>, AllocError>
     ensures { IfOk result (λ counts. counts.items ≡ 0 ∷ all_counts streams.now) }
 {

@@ -10,7 +10,7 @@ ghost use Rattle.st_needs.specs.Told.{told_of};
 
 use crate::flaws::Left;
 use crate::ranks::counts_of;
-use crate::told_facts::{Told, is_untaken, is_unused, told_of_each};
+use crate::told_facts::{ToldFacts, is_untaken, is_unused, told_of_each};
 use st_core::{Event, Pid, Streams};
 use std::alloc::{AllocError, Global};
 use std::marker::Model;
@@ -56,7 +56,7 @@ fn needs_of(alloc: Global, events: &[Event], count: u64) -> Result<Vec<Event>, A
 fn own_senders(
     alloc: Global,
     streams: &Streams,
-    all: &[Told],
+    all: &[ToldFacts],
     pid: Pid,
     count: u64,
 ) -> Result<Vec<Pid>, AllocError>
@@ -77,7 +77,7 @@ fn own_senders(
 fn free_senders(
     alloc: Global,
     streams: &Streams,
-    all: &[Told],
+    all: &[ToldFacts],
     count: u64,
 ) -> Result<Vec<Pid>, AllocError>
     requires { all.now ≡ map (told_of streams.now count) (pids_of streams.now) }
@@ -133,7 +133,7 @@ fn add_supplies_to<'a>(
     alloc: Global,
     supplies: &mut Vec<Supply>,
     streams: &Streams,
-    all: &[Told],
+    all: &[ToldFacts],
     free: &'a [Pid],
     pid: Pid,
     count: u64,

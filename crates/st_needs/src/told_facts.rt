@@ -14,7 +14,7 @@ use std::alloc::{AllocError, Global};
 
 /// What is told of a process at one count.
 #[derive(Clone, Copy, Debug)]
-pub(crate) struct Told {
+pub(crate) struct ToldFacts {
     /// The process's send or print of this count.
     pub stamp: Option<Event>,
     /// Whether a receive of its message of this count is told.
@@ -35,14 +35,14 @@ fn is_send_to(event: &Event, pid: Pid) -> bool
 }
 
 /// Whether nothing is told.
-pub(crate) fn is_unused(told: &Told) -> bool
+pub(crate) fn is_unused(told: &ToldFacts) -> bool
     ensures { result ≡ is_unused told.now }
 {
     !told.received && told.stamp.is_none()
 }
 
 /// Whether a send to the process is told and no receive of it.
-pub(crate) fn is_untaken(told: &Told, pid: Pid) -> bool
+pub(crate) fn is_untaken(told: &ToldFacts, pid: Pid) -> bool
     ensures { result ≡ is_untaken pid told.now }
 {
     match &told.stamp {
@@ -101,11 +101,11 @@ fn is_among(pids: &[Pid], pid: Pid) -> bool
 }
 
 /// What is told of a process at this count.
-fn told_of(streams: &Streams, found: &[Pid], pid: Pid, count: u64) -> Told
+fn told_of(streams: &Streams, found: &[Pid], pid: Pid, count: u64) -> ToldFacts
     requires { found.now ≡ senders count streams.now }
     ensures { result ≡ told_of streams.now count pid }
 {
-    Told {
+    ToldFacts {
         stamp: stamp_in(streams.events(pid), count),
         received: is_among(found, pid),
     }
@@ -116,7 +116,7 @@ pub(crate) fn told_of_each(
     alloc: Global,
     streams: &Streams,
     count: u64,
-) -> Result<Vec<Told>, AllocError>
+) -> Result<Vec<ToldFacts>, AllocError>
     ensures { IfOk result (λ all. all.items
         ≡ map (told_of streams.now count) (pids_of streams.now)) }
 {

@@ -19,7 +19,8 @@ use Rattle.st_closed_world.specs.Needs.{is_late, is_rootless}
 use Rattle.st_closed_world.specs.Reasons.{HasEachSend, HasNoReason}
 use Rattle.st_closed_world.specs.Supply.{excess, is_free, is_own_supply, IsSupplied, needs}
 use Rattle.st_closed_world.specs.Supply.{needs_from}
-use Rattle.st_closed_world.proofs.ForCallers.{completed_again, decided, lists_among, needless_shown}
+use Rattle.st_core.proofs.ForCallers.{lists_among}
+use Rattle.st_closed_world.proofs.ForCallers.{completed_again, decided, needless_shown}
 use Rattle.st_closed_world.proofs.ForCallers.{same_pids, sum_low, unlisted_events}
 use Rattle.st_open_world.specs.OpenReasons.{asked, HasPlaces, offered}
 use Rattle.st_open_world.specs.Silent.{inserted, silent, with_silent}

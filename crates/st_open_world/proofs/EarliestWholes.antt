@@ -15,7 +15,7 @@ use Rattle.st_core.specs.declared.types.Event.{Event}
 use Rattle.st_core.specs.Pid.{pid_eq, IsBelow, IsRising}
 use Rattle.st_core.specs.Run.{Stream, pids_of}
 use Rattle.st_core.specs.Streams.{events_of, is_among, total_of, IsStreams, lists}
-use Rattle.st_core.proofs.ForCallers.{not_below_itself, pid_same}
+use Rattle.st_core.proofs.ForCallers.{not_below_itself, pid_same, lists_among}
 use Rattle.st_pair.specs.Places.{event_at}
 use Rattle.st_order.proofs.ForCallers.{all_found, AreFound}
 use Rattle.st_plan.specs.Marks.{all_streams, told_streams, Marked, Whole}
@@ -24,7 +24,7 @@ use Rattle.st_closed_world.specs.Placed.{earliest_of, earliest_wholes, IsPlacing
 use Rattle.st_closed_world.specs.Reasons.{HasEachSend, HasNoReason}
 use Rattle.st_closed_world.specs.Supply.{excess, is_free, needs_from}
 use Rattle.st_closed_world.proofs.ForCallers.{earliest_placing, earliest_zero, events_all}
-use Rattle.st_closed_world.proofs.ForCallers.{events_told, lists_among, mark_at, placed_there}
+use Rattle.st_closed_world.proofs.ForCallers.{events_told, mark_at, placed_there}
 use Rattle.st_closed_world.proofs.ForCallers.{placed_together, same_pids, sum_low, told_somewhere}
 use Rattle.st_closed_world.proofs.ForCallers.{unlisted_events, untold_mark, untold_within}
 use Rattle.st_open_world.specs.OpenReasons.{asked, HasNoOpenReason, HasPlaces, offered}

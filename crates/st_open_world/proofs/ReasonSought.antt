@@ -12,7 +12,7 @@ use Rattle.st_core.specs.declared.types.Event.{Event}
 use Rattle.st_core.specs.Pid.{pid_eq}
 use Rattle.st_core.specs.Run.{Stream}
 use Rattle.st_core.specs.Streams.{events_of, IsStreams}
-use Rattle.st_core.proofs.ForCallers.{pid_eq-refl, pid_same}
+use Rattle.st_core.proofs.ForCallers.{pid_eq-refl, pid_same, false_if}
 use Rattle.st_pair.specs.Pairing.{refusal}
 use Rattle.st_pair.specs.Places.{is_stamp}
 use Rattle.st_order.specs.Items.{is_hidden}
@@ -42,10 +42,6 @@ found_not : {A B : Type 0} (s : A ⊎ B) → found s ≡ false → B
 unfolding found
 found_not (inl x) is = absurd (false≢true (sym is))
 found_not (inr y) is = y
-
-false_if : (b : Bool) → (b ≡ true → ⊥) → b ≡ false
-false_if true h = absurd (h refl)
-false_if false h = refl
 
 -- A RECEIVE BEFORE
 

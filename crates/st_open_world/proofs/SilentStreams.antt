@@ -17,7 +17,7 @@ use Rattle.st_core.specs.Run.{Stream, pids_of}
 use Rattle.st_core.specs.Streams.{AreOwn, events_of, is_among, IsStreams, lists, names_listed}
 use Rattle.st_core.specs.Streams.{stream_of, total_of, unlisted_among}
 use Rattle.st_core.proofs.ForCallers.{position-none, is_lt-true, pid_cmp-Equal, pid_eq-refl}
-use Rattle.st_core.proofs.ForCallers.{pid_same, IsBelow-trans}
+use Rattle.st_core.proofs.ForCallers.{pid_same, IsBelow-trans, or_right}
 use Rattle.st_pair.specs.Places.{first, first_from}
 use Rattle.st_pair.proofs.ForCallers.{events_in, pid_total}
 use Rattle.st_order.proofs.ForCallers.{all_found, AreFound}
@@ -171,10 +171,6 @@ own_inserted q (x ∷ rest) own =
     ]
 
 -- NAMES
-
-or_right : (a b : Bool) → b ≡ true → (a || b) ≡ true
-or_right true b h = refl
-or_right false b h = h
 
 still_listed : (q : Pid) (streams : List Stream) (p : Pid) → lists streams p ≡ true
     → lists (inserted q streams) p ≡ true

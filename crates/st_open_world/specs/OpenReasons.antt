@@ -39,7 +39,7 @@ abbrev pub IsUnfounded : List Stream → Pid → ℕ → Type 0
 IsUnfounded streams p i = IsBehindReceive streams p i ⊎ IsBehindStamp streams p i
 
 -- Pairing accepts the streams; no reported stamp is late; no stamp with prev 0, reported or hidden,
--- stands behind another prev or a receive; and a clock can have each count.
+-- is behind another prev or a receive; and a clock can have each count.
 pub record HasNoOpenReason (top : ℕ) (streams : List Stream) : Type 0 where
   pub accepted : refusal streams ≡ None
   pub timely : HoldsOfNone is_late streams

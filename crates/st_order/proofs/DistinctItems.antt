@@ -21,7 +21,7 @@ abbrev reporter_of : Item → Pid
 reporter_of (item.Reported p i) = p
 reporter_of (item.Hidden p i) = p
 
-abbrev index_of : Item → ℕ
+abbrev pub index_of : Item → ℕ
 index_of (item.Reported p i) = i
 index_of (item.Hidden p i) = i
 

@@ -4,6 +4,7 @@
 -- ---- keys, and what comes before what
 pub use Rattle.st_order.proofs.Keys.{key_total, IsKeyed, items_keyed, comes_before_is, one_way, chain}
 pub use Rattle.st_order.proofs.Keys.{hidden_receives}
+pub use Rattle.st_order.proofs.DistinctItems.{index_of}
 -- ---- the one order
 pub use Rattle.st_order.proofs.OneOrder.{one_order, Among, among_all, members}
 pub use Rattle.st_order.proofs.Insertion.{an_order}

@@ -1,7 +1,7 @@
 -- Whatever a process reported, its events up to an act are those up to the origin's act and then
 -- sends and prints with the prev that the origin gave, since nothing else changes its last. This
 -- holds at the start, and each act keeps it.
-use Rattle.std.proofs.Common.{◌≡◌, ◌≢◌, ℕ, ◌<◌, ◌≤◌, zero, suc, true, false, cond, List, [], ◌∷◌}
+use Rattle.std.proofs.Common.{◌≡◌, ◌≢◌, ℕ, ◌<◌, ◌≤◌, zero, suc, true, false, List, [], ◌∷◌}
 use Rattle.std.proofs.Common.{◌++◌, take, drop, Option, Some, None, option_map, option_and_then}
 use Rattle.std.proofs.Common.{option_to_list, All, refl, sym, ◌∙◌, ap, subst, arith, append_assoc}
 use Rattle.std.proofs.Common.{append-nil, if◌then◌else◌}
@@ -18,7 +18,7 @@ use Rattle.st_core.specs.Run.{run, run_from, stream}
 use Rattle.st_core.specs.Laws.{greatest_count, is_reset, IsSound, KeepsSound, NoReset, ReportsEvent}
 use Rattle.st_core.proofs.ForCallers.{All_at, all_at, greatest_push, pid_same, pid_eq-swap}
 use Rattle.st_core.proofs.ForCallers.{process_after, process_holds, process_pid, run_parts}
-use Rattle.st_core.proofs.ForCallers.{run_sound, step_parts, Stepped, zero_sound}
+use Rattle.st_core.proofs.ForCallers.{run_sound, step_parts, Stepped, zero_sound, zero_found}
 use Rattle.st_origin.specs.Origin.{Origin, Follows, Begins, given, given_by, given_to, origin}
 use Rattle.st_origin.specs.Origin.{state_before}
 use Rattle.st_origin.proofs.Acts.{acted_changes, changed_same, Changes, SameButTraced, KeepsLast}
@@ -344,16 +344,6 @@ front_and_rest (a ∷ acts) [] p (suc n) = no_events (drop n acts) p
 front_and_rest (a ∷ acts) (o ∷ os) p (suc n) =
     ap (λ xs. told p a o ++ xs) (front_and_rest acts os p n)
     ∙ sym (append_assoc (told p a o) (front acts os p n) (stream (drop n acts) (drop n os) p))
-
-zero_found : (pids : List Pid) (p : Pid) → local_in (zero_state pids) p ≡ zero_local
-zero_found [] p = refl
-zero_found (q ∷ pids) p =
-    let first : Process = record { pid = q; local = zero_local; queue = [] } in
-    elim (pid_eq q p) as (λ b. local_found (cond b (Some first) (process (zero_state pids) p))
-    ≡ zero_local) [
-      | true ↦ refl
-      | false ↦ zero_found pids p
-    ]
 
 module _ (top : ℕ) (pids : List Pid) (acts : List Act) (os : List Outcome)
     (h : run top pids acts ≡ Some os)

@@ -12,7 +12,7 @@ use Rattle.st_core.specs.declared.types.Event.{Event}
 use Rattle.st_core.specs.Pid.{pid_eq, IsRising}
 use Rattle.st_core.specs.Run.{Stream, pids_of}
 use Rattle.st_core.specs.Streams.{events_of}
-use Rattle.st_core.proofs.ForCallers.{pid_eq-true}
+use Rattle.st_core.proofs.ForCallers.{pid_eq-true, some_if}
 use Rattle.st_pair.specs.declared.answer.PairFault.TheVariants as fault
 use Rattle.st_pair.specs.declared.answer.Source.{Source}
 use Rattle.st_pair.specs.declared.answer.Source.TheVariants as source
@@ -97,10 +97,6 @@ high_kept : (es : List Event) (i n : ℕ) → stamp_before es (suc i) ≡ stamp_
 high_kept es i n same h = record { stamp = h.stamp; is = same ∙ h.is; above = h.above }
 
 -- WHAT A RULE SAYS OF ITS EVENT
-
-some_if : {X : Type 0} (b : Bool) (x y : X) → cond b (Some x) None ≡ Some y → (b ≡ true) × (x ≡ y)
-some_if true x y h = (refl, same_Some x y h)
-some_if false x y h = absurd (none-some y h)
 
 pub some_unless : {X : Type 0} (b : Bool) (x y : X) → cond b None (Some x) ≡ Some y → (b ≡ false) × (x ≡ y)
 some_unless true x y h = absurd (none-some y h)

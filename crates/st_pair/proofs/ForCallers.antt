@@ -22,5 +22,6 @@ pub use Rattle.st_pair.proofs.Leasts.{first_least}
 pub use Rattle.st_pair.proofs.Firsts.{IsAt, is_at, at_get_or, events_in}
 pub use Rattle.st_pair.proofs.Stamps.{blank}
 pub use Rattle.st_pair.proofs.Linkage.{take_map}
+pub use Rattle.st_pair.proofs.StreamTables.{process_passed, process_read, missing_events}
 -- ---- the order of pids
 pub use Rattle.st_pair.proofs.PidOrder.{pid_total}

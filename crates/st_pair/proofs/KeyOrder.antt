@@ -3,14 +3,14 @@ use Rattle.std.proofs.Common.{◌≡◌, ℕ, ◌+◌, ◌<◌, ◌⊎◌, inl, 
 use Rattle.std.proofs.Common.{get_or, swap, refl, sym, ◌∙◌, ap, arith, IsPermutation}
 use Rattle.std.specs.Cmp.{IsTotalOrder}
 use Rattle.std.specs.List.{AllByRecursion, IsAllAdjacentAnswer}
-use Rattle.std.specs.declared.cmp.Ordering.{Ordering}
-use Rattle.std.specs.declared.cmp.Ordering.TheVariants.{Less, Equal, Greater}
+use Rattle.std.specs.declared.cmp.Ordering.TheVariants.{Less}
 use Rattle.std.specs.Ordering.{is_eq, is_lt}
 use Rattle.std.proofs.lemmas.Bool.{cases_eq, cases_lt}
 use Rattle.std.proofs.lemmas.Cmp.{nat_cmp_total, on_total, then_total}
 use Rattle.std.proofs.lemmas.List.Edits.{Swapped, length-swap, swapped_from_swap}
 use Rattle.std.proofs.lemmas.List.Sorted.{IsPermutation-keeps, IsPermutation-sym}
 use Rattle.std.proofs.lemmas.Map.Keys.{Less-from_sorted, sorted_from_all_adjacent}
+use Rattle.st_core.proofs.ForCallers.{is_lt-true}
 use Rattle.st_pair.specs.declared.receives.Key.{Key}
 use Rattle.st_pair.specs.Tables.{key_eq, stamp_key_cmp, AreDistinctKeys}
 use Rattle.st_pair.proofs.Marks.{cmp_eq}
@@ -26,11 +26,6 @@ Differ ks = (i j : ℕ) (d : Key) → i < length ks → j < length ks → get_or
 
 -- SORTED KEYS
 
-is_lt-Less : (o : Ordering) → true ≡ is_lt o → o ≡ Less
-is_lt-Less Less is = refl
-is_lt-Less Equal is = absurd (cc)
-is_lt-Less Greater is = absurd (cc)
-
 less_apart : (k l : Key) → stamp_key_cmp k l ≡ Less → k ≡ l → ⊥
 less_apart k l less same =
     let other : key_eq k l ≡ false = sym (cmp_eq k l) ∙ ap is_eq less in
@@ -42,7 +37,7 @@ module _ (ks : List Key) (rise : IsAllAdjacentAnswer (λ x y b. b ≡ is_lt (sta
   earlier_apart : (i j : ℕ) (d : Key) → i < j → j < length ks → get_or ks i d ≡ get_or ks j d → ⊥
   earlier_apart i j d before within same =
       let sorted = sorted_from_all_adjacent key_total ks d (λ k next.
-      is_lt-Less (stamp_key_cmp (get_or ks k d) (get_or ks (k + 1) d)) (rise k d next)) in
+      is_lt-true (stamp_key_cmp (get_or ks k d) (get_or ks (k + 1) d)) (sym (rise k d next))) in
       less_apart (get_or ks i d) (get_or ks j d) (Less-from_sorted stamp_key_cmp ks i j d sorted before within) same
 
   sorted_differ : Differ ks

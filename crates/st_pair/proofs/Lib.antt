@@ -4,6 +4,7 @@ pub mod Firsts
 pub mod OwnStamps
 pub mod Stamps
 pub mod Linkage
+pub mod StreamTables
 pub mod AcceptedEvents
 pub mod Converse
 pub mod Received

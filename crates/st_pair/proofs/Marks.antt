@@ -2,9 +2,7 @@
 use Rattle.std.proofs.Common.{◌≡◌, ℕ, ◌+◌, ◌<◌, ◌⊎◌, inl, inr, zero, suc, Bool, true, false, cond}
 use Rattle.std.proofs.Common.{List, [], ◌∷◌, get_or, length, map, replicate, set, Option, None, Some, slice_get}
 use Rattle.std.proofs.Common.{option_and_then, option_map, refl, sym, ◌∙◌, ap, subst, arith}
-use Rattle.std.specs.declared.cmp.Ordering.{Ordering}
-use Rattle.std.specs.declared.cmp.Ordering.TheVariants.{Less, Equal, Greater}
-use Rattle.std.specs.Ordering.{is_eq, nat_cmp, ordering_then}
+use Rattle.std.specs.Ordering.{is_eq, nat_cmp}
 use Rattle.std.proofs.lemmas.Option.{same_Some, none-some, get_or_from_slice_get, slice_get-get_or, slice_get_within}
 use Rattle.st_core.specs.declared.types.Pid.{Pid}
 use Rattle.st_core.specs.declared.types.Event.{Event}
@@ -12,7 +10,7 @@ use Rattle.st_core.specs.Pid.{pid_cmp, pid_eq, IsRising}
 use Rattle.st_core.specs.Run.{Stream, pids_of}
 use Rattle.st_core.specs.Streams.{events_of}
 use Rattle.st_core.proofs.ForCallers.{above_apart, pid_eq-true, pid_eq-same, pid_eq-swap, pid_cmp-Equal, pid_cmp-same}
-use Rattle.st_core.proofs.ForCallers.{nat_cmp-Equal, nat_cmp-same}
+use Rattle.st_core.proofs.ForCallers.{nat_cmp-Equal, nat_cmp-same, both_equal}
 use Rattle.st_pair.specs.declared.receives.Key.{Key}
 use Rattle.st_pair.specs.Pairing.{stamp_of}
 use Rattle.st_pair.specs.Places.{or_else}
@@ -26,13 +24,6 @@ abbrev pub Mark : Type 0
 Mark = Option (Pid × ℕ)
 
 -- THE ORDER OF KEYS
-
-both_equal : (a b : Ordering) → is_eq (ordering_then a b) ≡ true → (a ≡ Equal) × (b ≡ Equal)
-both_equal Less b h = absurd (cc)
-both_equal Equal Less h = absurd (cc)
-both_equal Equal Equal h = (refl, refl)
-both_equal Equal Greater h = absurd (cc)
-both_equal Greater b h = absurd (cc)
 
 cmp_true : (k l : Key) → is_eq (stamp_key_cmp k l) ≡ true → k ≡ l
 cmp_true k l h =

@@ -62,7 +62,7 @@ moves_append streams (x ∷ xs) ys =
       | Some e ↦ ap (λ ms. move_by x e ∷ ms) (moves_append streams xs ys)
     ]
 
-abbrev moves_by : List Stream → Item → List Item → Option Event → List Move
+abbrev pub moves_by : List Stream → Item → List Item → Option Event → List Move
 moves_by streams x xs None = moves streams xs
 moves_by streams x xs (Some e) = move_by x e ∷ moves streams xs
 

@@ -3,7 +3,7 @@
 -- acts before a stamp do, and on streams that tell all.
 
 -- ---- the moves along an order
-pub use Rattle.st_plan.proofs.EarlierMoves.{take_more, moves_append, one_move, earlier_more}
+pub use Rattle.st_plan.proofs.EarlierMoves.{take_more, moves_append, moves_by, one_move, earlier_more}
 pub use Rattle.st_plan.proofs.EarlierMoves.{order_there}
 pub use Rattle.st_plan.proofs.EarlierMoves.{hidden_clock, IsAt}
 pub use Rattle.st_plan.proofs.EarlierMoves.{IsThere}

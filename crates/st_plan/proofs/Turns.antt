@@ -2,7 +2,7 @@
 -- its clock is the greatest count of its events so far, and its last count what the nearest of them
 -- leaves.
 use Rattle.std.proofs.Common.{◌≡◌, ℕ, suc, ◌+◌, max, Bool, true, false, not, cond, List, [], ◌∷◌}
-use Rattle.std.proofs.Common.{◌++◌, take, drop, length, filter, reverse, Option, Some, None}
+use Rattle.std.proofs.Common.{◌++◌, take, drop, length, filter, reverse, Some, None}
 use Rattle.std.proofs.Common.{slice_get, append_assoc, refl, sym, ◌∙◌, ap, subst, arith}
 use Rattle.std.specs.List.{AllByRecursion}
 use Rattle.std.proofs.lemmas.Bool.{false≢true}
@@ -22,10 +22,10 @@ use Rattle.st_order.specs.declared.item.Item.TheVariants as item
 use Rattle.st_order.specs.Items.{event_of, is_hidden}
 use Rattle.st_order.specs.Order.{IsOrder}
 use Rattle.st_order.specs.Turn.{in_turn, is_event_of, StampsLead}
-use Rattle.st_order.proofs.ForCallers.{all_right, drop_front, keeps_turn}
+use Rattle.st_order.proofs.ForCallers.{all_right, drop_front, index_of, keeps_turn}
 use Rattle.st_plan.specs.Moves.{Move, clock, last, move_by, moves}
 use Rattle.st_plan.specs.Plain.{event_count}
-use Rattle.st_plan.proofs.EarlierMoves.{take_more, IsThere, one_move, order_there}
+use Rattle.st_plan.proofs.EarlierMoves.{take_more, IsThere, moves_by, one_move, order_there}
 use Rattle.st_plan.proofs.OrderedMoves.{item_is}
 
 -- MOVES IN TURN
@@ -42,10 +42,6 @@ turned p i (e ∷ es) = event_move p i e ∷ turned p (i + 1) es
 -- the move is one of p's events
 abbrev pub is_move_of : Pid → Move → Bool
 is_move_of p m = is_event_of p m.item
-
-abbrev moves_by : List Stream → Item → List Item → Option Event → List Move
-moves_by streams x xs None = moves streams xs
-moves_by streams x xs (Some e) = move_by x e ∷ moves streams xs
 
 module _ (streams : List Stream) where
   -- the moves of what is kept
@@ -129,10 +125,6 @@ front p n (e ∷ es) m ms h = record {
   move = same_Some m (event_move p n e) (ap (λ xs. slice_get xs 0) h);
   others = ap (drop 1) h;
 }
-
-abbrev index_of : Item → ℕ
-index_of (item.Reported p i) = i
-index_of (item.Hidden p i) = i
 
 pub leaves : (e : Event) → cond (not (is_stamp e)) e.serial.this e.serial.prev ≡ prev_after (e ∷ [])
 leaves e = elim e.kind as (λ k. cond (not (let b : Bool = elim k [

@@ -2,7 +2,8 @@
 use Rattle.std.proofs.Common.{sym, ◌∙◌, ap, slice_get, List}
 use Rattle.std.proofs.lemmas.Option.{none-some}
 use Rattle.st_core.specs.declared.types.Event.{Event}
-use Rattle.st_chain.proofs.Backs.{back_read, missing_events}
+use Rattle.st_pair.proofs.ForCallers.{missing_events}
+use Rattle.st_chain.proofs.Backs.{back_read}
 use Rattle.st_chain.proofs.causes.receive_before.Goals as goal
 
 pub returns-in-None : goal.returns-in-None

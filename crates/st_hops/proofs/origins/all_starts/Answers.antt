@@ -1,7 +1,7 @@
 -- Each stream adds its own behind those of the streams before it.
 use Rattle.std.proofs.Common.{◌∙◌}
 use Rattle.st_hops.specs.Kept.{row_starts}
-use Rattle.st_hops.proofs.Kept.{process_passed}
+use Rattle.st_pair.proofs.ForCallers.{process_passed}
 use Rattle.st_hops.proofs.origins.all_starts.Goals as goal
 
 pub loop-pid-preserved : goal.loop-pid-preserved

@@ -3,7 +3,8 @@
 use Rattle.std.proofs.Common.{◌∙◌}
 use Rattle.st_core.specs.Streams.{events_of}
 use Rattle.st_hops.specs.Kept.{greatest_from}
-use Rattle.st_hops.proofs.Kept.{missing_above, process_read}
+use Rattle.st_pair.proofs.ForCallers.{process_read}
+use Rattle.st_hops.proofs.Kept.{missing_above}
 use Rattle.st_hops.proofs.origins.has_above.Goals as goal
 
 pub returns-in-None : goal.returns-in-None

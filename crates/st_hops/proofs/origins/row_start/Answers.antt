@@ -3,7 +3,7 @@
 use Rattle.std.proofs.Common.{◌∙◌}
 use Rattle.st_core.specs.Streams.{events_of}
 use Rattle.st_hops.specs.Kept.{row_starts}
-use Rattle.st_hops.proofs.Kept.{process_read}
+use Rattle.st_pair.proofs.ForCallers.{process_read}
 use Rattle.st_hops.proofs.Starts.{start_read, start_within, unlisted_event}
 use Rattle.st_hops.proofs.origins.row_start.Goals as goal
 

@@ -1,7 +1,7 @@
 -- A stamp is a key.
 use Rattle.std.proofs.Common.{Bool, ◌==◌, ◌&&◌, ◌||◌, sym, ap, ◌∙◌}
 use Rattle.st_index.specs.Index.{bears_stamp, pid_count_cmp}
-use Rattle.st_index.specs.Keyed.{has_key}
+use Rattle.st_index.specs.KeyedSlots.{has_key}
 use Rattle.st_index.proofs.KeyLemmas.{stamp_key}
 use Rattle.st_index.proofs.index.insert_stamp.Goals as goal
 

@@ -1,8 +1,7 @@
 -- A process without a place isn't listed.
 use Rattle.std.proofs.Common.{◌∙◌}
 use Rattle.st_core.specs.Run.{pids_of}
-use Rattle.st_core.proofs.ForCallers.{is_among-missing}
-use Rattle.st_closed_world.proofs.ForCallers.{lists_among}
+use Rattle.st_core.proofs.ForCallers.{is_among-missing, lists_among}
 use Rattle.st_needs.proofs.silent.is_unlisted.Goals as goal
 
 pub returns-in-None : goal.returns-in-None

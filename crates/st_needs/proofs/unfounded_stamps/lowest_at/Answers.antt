@@ -2,8 +2,7 @@
 use Rattle.std.proofs.Common.{sym, ◌∙◌}
 use Rattle.std.proofs.lemmas.Bool.{false≢true}
 use Rattle.st_core.specs.Run.{pids_of}
-use Rattle.st_core.proofs.ForCallers.{is_among-missing}
-use Rattle.st_closed_world.proofs.ForCallers.{lists_among}
+use Rattle.st_core.proofs.ForCallers.{is_among-missing, lists_among}
 use Rattle.st_needs.proofs.unfounded_stamps.lowest_at.Goals as goal
 
 pub unreachable-requires : goal.unreachable-requires

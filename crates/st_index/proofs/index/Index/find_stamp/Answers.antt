@@ -2,7 +2,7 @@
 use Rattle.std.proofs.Common.{ℕ, Option, Some, option_map, take, sym, ap, subst, ◌∙◌}
 use Rattle.std.specs.List.{sum}
 use Rattle.st_index.specs.Index.{bears_key, pid_count_cmp}
-use Rattle.st_index.specs.Keyed.{has_key, IsFirst}
+use Rattle.st_index.specs.KeyedSlots.{has_key, IsFirst}
 use Rattle.st_index.proofs.IndexLemmas.{in_ranks, place_from, place_none}
 use Rattle.st_index.proofs.index.Index.find_stamp.Goals as goal
 

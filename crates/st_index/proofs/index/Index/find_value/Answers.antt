@@ -3,7 +3,7 @@ use Rattle.std.proofs.Common.{ℕ, Option, Some, option_map, take, sym, ap, subs
 use Rattle.std.specs.List.{sum}
 use Rattle.std.specs.Ordering.{nat_cmp}
 use Rattle.st_index.specs.Index.{is_of_value}
-use Rattle.st_index.specs.Keyed.{has_key, IsFirst}
+use Rattle.st_index.specs.KeyedSlots.{has_key, IsFirst}
 use Rattle.st_index.proofs.IndexLemmas.{in_ranks, place_first}
 use Rattle.st_index.proofs.index.Index.find_value.Goals as goal
 

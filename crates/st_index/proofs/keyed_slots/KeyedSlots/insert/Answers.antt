@@ -2,7 +2,7 @@
 use Rattle.std.proofs.Common.{Bool, ◌==◌, ◌&&◌, ◌||◌, sym, ap, ◌∙◌}
 use Rattle.std.specs.Ordering.{is_eq}
 use Rattle.st_index.proofs.PairLemmas.{both_equal, cond_or, kept_keys}
-use Rattle.st_index.proofs.keyed_slots.Keyed.insert.Goals as goal
+use Rattle.st_index.proofs.keyed_slots.KeyedSlots.insert.Goals as goal
 
 pub returns-in-Ok-clause-inserted : goal.returns-in-Ok-clause-inserted
 returns-in-Ok-clause-inserted g c kept k s =

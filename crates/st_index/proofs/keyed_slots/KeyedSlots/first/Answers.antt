@@ -2,7 +2,7 @@
 use Rattle.std.proofs.Common.{None, Some, sym, ap, ◌∙◌}
 use Rattle.std.specs.Ordering.{is_eq}
 use Rattle.st_index.proofs.PairLemmas.{kept_first, none_from, first_from, none_first}
-use Rattle.st_index.proofs.keyed_slots.Keyed.first.Goals as goal
+use Rattle.st_index.proofs.keyed_slots.KeyedSlots.first.Goals as goal
 
 pub returns-in_err-found : goal.returns-in_err-found
 returns-in_err-found g c =

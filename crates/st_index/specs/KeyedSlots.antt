@@ -4,18 +4,18 @@ use Rattle.std.specs.declared.cmp.Ordering.{Ordering}
 use Rattle.std.specs.Ordering.{nat_cmp, ordering_then}
 use Rattle.std.specs.Option.{option_map_or}
 use Rattle.std.specs.BTreeSet.{contains}
-use Rattle.st_index.specs.declared.keyed_slots.Keyed.{Keyed}
+use Rattle.st_index.specs.declared.keyed_slots.KeyedSlots.{KeyedSlots}
 
 -- by key, then slot
 abbrev pub pair_cmp : {K : Type 0} → (K → K → Ordering) → K × ℕ → K × ℕ → Ordering
 pair_cmp cmp p q = ordering_then (cmp p.0 q.0) (nat_cmp p.1 q.1)
 
 -- whether keys are kept
-abbrev pub is_kept : {K : Type 0} → Keyed K → Bool
+abbrev pub is_kept : {K : Type 0} → KeyedSlots K → Bool
 is_kept keyed = is_some keyed.pairs
 
 -- whether the slot has this key; none has one where keys aren't kept
-abbrev pub has_key : {K : Type 0} → (K → K → Ordering) → Keyed K → K → ℕ → Bool
+abbrev pub has_key : {K : Type 0} → (K → K → Ordering) → KeyedSlots K → K → ℕ → Bool
 has_key cmp keyed k s =
     option_map_or (λ pairs. contains (pair_cmp cmp) pairs (k, s)) keyed.pairs false
 

@@ -2,7 +2,7 @@
 use Rattle.std.proofs.Common.{Bool, not, ◌==◌, ◌&&◌, sym, ap, ◌∙◌}
 use Rattle.std.specs.Ordering.{is_eq}
 use Rattle.st_index.proofs.PairLemmas.{both_equal, cond_and, kept_keys}
-use Rattle.st_index.proofs.keyed_slots.Keyed.remove.Goals as goal
+use Rattle.st_index.proofs.keyed_slots.KeyedSlots.remove.Goals as goal
 
 pub returns-in-Some-clause-removed : goal.returns-in-Some-clause-removed
 returns-in-Some-clause-removed g c k s =

@@ -17,7 +17,9 @@ use Rattle.st_core.specs.Streams.{stream_of, lists, names_listed, unlisted_among
 use Rattle.st_core.specs.Streams.{IsStreams}
 use Rattle.st_core.specs.Streams.{is_among, names_among}
 use Rattle.st_core.specs.Laws.{IsReportAmong, ReportsAmong}
-use Rattle.st_core.proofs.ForCallers.{pid_eq-true, position-none, run_named}
+use Rattle.st_core.proofs.Pids.{pid_eq-true}
+use Rattle.st_core.proofs.Collections.{position-none}
+use Rattle.st_core.proofs.Names.{run_named}
 
 stream_among : (pids : List Pid) (acts : List Act) (os : List Outcome) (p : Pid)
     → AllZip (ReportsAmong pids) acts os
