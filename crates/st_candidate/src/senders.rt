@@ -21,7 +21,7 @@ struct Stamp {
     process: Pid,
 }
 
-/// Which counts needs ask for, as far as their remainders tell: a stamp of another one stands in
+/// Which counts needs ask for, as far as their remainders tell: a stamp of another one is in
 /// nobody's way, and is left out.
 #[derive(Debug, Drop)]
 struct Asked {
@@ -190,7 +190,7 @@ pub(crate) struct Turn {
 /// The needs that are left among stamps, and who sends their messages.
 #[derive(Debug, Drop)]
 pub(crate) struct Senders {
-    /// The needs, by count, and those of one count as they stand.
+    /// The needs, by count, and those of one count in the order of the streams.
     pub turns: Vec<Turn>,
     /// The sender of each.
     pub senders: Vec<Pid>,
@@ -206,9 +206,9 @@ fn count_of_need(ask: &Ask) -> Option<u64> {
     }
 }
 
-/// What the needs that are left have in common.
+/// The counts of the needs that are left.
 #[derive(Clone, Copy, Debug)]
-struct Survey {
+struct NeedCounts {
     /// How many they are.
     needs: usize,
     /// The greatest count.
@@ -217,9 +217,9 @@ struct Survey {
     is_sorted: bool,
 }
 
-/// Looks at the needs that are left among these stamps.
-fn look_at(fed: &[Ask]) -> Survey {
-    let mut seen = Survey {
+/// Those of the needs that are left among these stamps.
+fn need_counts(fed: &[Ask]) -> NeedCounts {
+    let mut seen = NeedCounts {
         needs: 0,
         greatest: 0,
         is_sorted: true,
@@ -234,13 +234,13 @@ fn look_at(fed: &[Ask]) -> Survey {
     seen
 }
 
-/// The needs that are left among these stamps, by count, and those of one count as they stand.
+/// The needs that are left among these stamps, by count, and those of one count in their order here.
 fn turns_of(alloc: Global, fed: &[Ask]) -> Result<Vec<Turn>, AllocError> {
-    let Survey {
+    let NeedCounts {
         needs,
         greatest,
         is_sorted,
-    } = look_at(fed);
+    } = need_counts(fed);
     // Counts are mostly no higher than a few times the needs.
     if !is_sorted && greatest <= (needs as u64).saturating_mul(4) {
         return deal_turns(alloc, fed, needs, greatest as usize);

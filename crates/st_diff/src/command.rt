@@ -13,7 +13,7 @@ use std::alloc::{AllocError, Global};
 
 /// Which of two inputs.
 #[derive(Clone, Copy)]
-pub enum Input {
+pub enum Side {
     First,
     Second,
 }
@@ -22,7 +22,7 @@ pub enum Input {
 #[derive(Clone, Copy)]
 pub struct DiffFault {
     /// The input that was read last.
-    pub input: Input,
+    pub side: Side,
     /// What was at fault.
     pub fault: ReadFault,
 }
@@ -71,20 +71,20 @@ pub fn run_diff<R: ByteSource, S: ByteSource, W: ByteSink>(
         Ok(bundle) => bundle,
         Err(fault) => {
             return Err(DiffFault {
-                input: Input::First,
+                side: Side::First,
                 fault,
             });
         }
     };
-    let input = Input::Second;
+    let side = Side::Second;
     let other = match read_within(alloc, second, Limits::GREATER) {
         Ok(bundle) => bundle,
-        Err(fault) => return Err(DiffFault { input, fault }),
+        Err(fault) => return Err(DiffFault { side, fault }),
     };
     match compare(alloc, &one.streams, &other.streams, style, writer) {
         Ok(status) => Ok(status),
         Err(AllocError) => Err(DiffFault {
-            input,
+            side,
             fault: ReadFault::Memory,
         }),
     }

@@ -19,4 +19,4 @@ mod report;
 mod trace;
 mod words;
 
-pub use command::{DiffFault, Input, run_diff};
+pub use command::{DiffFault, Side, run_diff};

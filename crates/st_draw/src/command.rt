@@ -23,7 +23,7 @@ use std::thread::Threads;
 
 /// How a drawing is written.
 #[derive(Clone, Copy)]
-pub enum Form {
+pub enum Notation {
     /// A table for each label, as `seqaudit chart` writes it.
     Table,
     /// A sequence diagram in Mermaid's language.
@@ -40,7 +40,7 @@ pub struct Drawing {
     /// Whether the events that nobody reported are added and marked.
     pub completes: bool,
     /// How they are drawn.
-    pub form: Form,
+    pub notation: Notation,
 }
 
 /// Draws a scene as a sequence diagram.
@@ -85,8 +85,8 @@ fn draw_paired<H: Threads + Sync, W: ByteSink, N: ByteSink>(
         return Ok(status_of(send_nothing(writer, drawing.label), 1));
     }
     let items = order(rt, alloc, streams, pairing)?;
-    match drawing.form {
-        Form::Table => tell_tables(
+    match drawing.notation {
+        Notation::Table => tell_tables(
             rt,
             alloc,
             streams,
@@ -97,8 +97,8 @@ fn draw_paired<H: Threads + Sync, W: ByteSink, N: ByteSink>(
             writer,
             notes,
         ),
-        Form::Mermaid => draw_mermaid(alloc, &scene, items.as_slice(), writer),
-        Form::Dot => draw_dot(alloc, &scene, writer),
+        Notation::Mermaid => draw_mermaid(alloc, &scene, items.as_slice(), writer),
+        Notation::Dot => draw_dot(alloc, &scene, writer),
     }
 }
 

@@ -16,4 +16,4 @@ mod size;
 mod table;
 mod words;
 
-pub use command::{Drawing, Form, run_draw};
+pub use command::{Drawing, Notation, run_draw};

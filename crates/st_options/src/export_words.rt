@@ -2,10 +2,11 @@
 
 use crate::words::{Wanted, both, input_or_standard, label_option};
 use clap::ArgMatches;
-use st_draw::{Drawing, Form};
+use st_draw::{Drawing, Notation};
 use st_export::Target;
 use st_pair_tasks::PairTask;
 use st_tasks::Task;
+use st_tool::Form;
 
 /// What is said if both of two options are given, of which only one may be.
 const DRAWING_WORDS: &str = "a chart is a sequence diagram or a graph: give --mermaid or --dot";
@@ -19,18 +20,18 @@ const TIMES_WORDS: &str = "only spans have times: leave out --times, or give --a
 
 /// What `chart` is asked to draw, or what a word of its has to be.
 pub(crate) fn chart_of(found: &ArgMatches) -> Result<Task, &'static str> {
-    let form = match (found.get_flag("mermaid"), found.get_flag("dot")) {
+    let notation = match (found.get_flag("mermaid"), found.get_flag("dot")) {
         (true, true) => return Err(DRAWING_WORDS),
-        (true, false) => Form::Mermaid,
-        (false, true) => Form::Dot,
-        (false, false) => Form::Table,
+        (true, false) => Notation::Mermaid,
+        (false, true) => Notation::Dot,
+        (false, false) => Notation::Table,
     };
     let label = label_option(found)?;
     let completes = found.get_flag("complete");
     Ok(Task::Chart(Drawing {
         label,
         completes,
-        form,
+        notation,
     }))
 }
 
@@ -60,11 +61,11 @@ pub(crate) fn target_of(found: &ArgMatches) -> Result<Target, &'static str> {
 }
 
 /// The task of `complete`, or what a word of its has to be.
-pub(crate) fn complete_of(found: &ArgMatches, form: st_tool::Form) -> Result<Task, &'static str> {
+pub(crate) fn complete_of(found: &ArgMatches, form: Form) -> Result<Task, &'static str> {
     if !found.get_flag("json") {
         return Ok(Task::Complete(form));
     }
-    if !matches!(form, st_tool::Form::Added) {
+    if !matches!(form, Form::Added) {
         return Err(JSON_WORDS);
     }
     Ok(Task::CompleteJson)

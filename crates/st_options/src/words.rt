@@ -13,7 +13,7 @@ use st_notes::pid_of;
 use st_pair_tasks::PairTask;
 use st_tasks::{Task, task_named};
 use st_tool::Form;
-use st_why::{Direction, Question, Start};
+use st_why::{Direction, Question, Subject};
 use std::alloc::{AllocError, Global};
 use std::convert::AsStr;
 
@@ -171,24 +171,24 @@ fn style_of(found: &ArgMatches) -> Style {
 
 /// The event that `why` is asked about, by its process and its number there. Who leaves the number
 /// out mostly has the file in its place.
-fn place_of(found: &ArgMatches) -> Result<Start, &'static str> {
+fn place_of(found: &ArgMatches) -> Result<Subject, &'static str> {
     let pid = found.get_str("PID").and_then(pid_of).ok_or(EVENT_WORDS)?;
     let index = number_option(found, "I", INDEX_WORDS)?.ok_or(INDEX_WORDS)?;
-    Ok(Start::Place(pid, index))
+    Ok(Subject::Place(pid, index))
 }
 
 /// The event that `why` is asked about. With `--line` there is no I, and the first word is the file.
-fn start_of(found: &ArgMatches) -> Result<Start, &'static str> {
+fn subject_of(found: &ArgMatches) -> Result<Subject, &'static str> {
     match number_option(found, "LINE", LINE_WORDS)? {
         None => place_of(found),
         Some(_) if found.get_str("I").is_some() => Err(EVENT_WORDS),
-        Some(line) => Ok(Start::Line(line)),
+        Some(line) => Ok(Subject::Line(line)),
     }
 }
 
 /// What `why` is asked, by what `clap` found in its words.
 fn question_of(found: &ArgMatches) -> Result<Question, &'static str> {
-    let start = start_of(found)?;
+    let subject = subject_of(found)?;
     let depth = number_option(found, "N", DEPTH_WORDS)?;
     let most = depth.unwrap_or(Reach::LABEL.most);
     let across = found.get_flag("label");
@@ -204,7 +204,7 @@ fn question_of(found: &ArgMatches) -> Result<Question, &'static str> {
     };
     let reach = Reach { most, across };
     Ok(Question {
-        start,
+        subject,
         direction,
         reach,
         style,

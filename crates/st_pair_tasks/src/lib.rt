@@ -5,7 +5,7 @@
 
 use st_commands::tell_fault;
 use st_core::{ByteSink, ByteSource};
-use st_diff::{DiffFault, Input, run_diff};
+use st_diff::{DiffFault, Side, run_diff};
 use st_events::Style;
 use st_export::{OtlpFault, TimesFault, run_otlp};
 use st_text::ReadFault;
@@ -28,7 +28,7 @@ pub struct Ended {
     /// The exit status.
     pub status: u8,
     /// The input that was read last, so the one that was at fault, if one was.
-    pub input: Input,
+    pub side: Side,
     /// What is wrong with times, which the output has no words for.
     pub times: Option<TimesFault>,
 }
@@ -38,16 +38,16 @@ impl Ended {
     fn well(status: u8) -> Ended {
         Ended {
             status,
-            input: Input::Second,
+            side: Side::Second,
             times: None,
         }
     }
 
     /// With this fault of an input, which is written.
-    fn badly<W: ByteSink>(writer: &mut W, input: Input, fault: ReadFault) -> Ended {
+    fn badly<W: ByteSink>(writer: &mut W, side: Side, fault: ReadFault) -> Ended {
         Ended {
             status: tell_fault(writer, fault),
-            input,
+            side,
             times: None,
         }
     }
@@ -57,13 +57,13 @@ impl Ended {
 fn ended_otlp<W: ByteSink>(writer: &mut W, done: Result<u8, OtlpFault>) -> Ended {
     match done {
         Ok(status) => Ended::well(status),
-        Err(OtlpFault::Trace(fault)) => Ended::badly(writer, Input::First, fault),
+        Err(OtlpFault::Trace(fault)) => Ended::badly(writer, Side::First, fault),
         Err(OtlpFault::Times(TimesFault::Read(fault))) => {
-            Ended::badly(writer, Input::Second, fault)
+            Ended::badly(writer, Side::Second, fault)
         }
         Err(OtlpFault::Times(fault)) => Ended {
             status: FAULTY,
-            input: Input::Second,
+            side: Side::Second,
             times: Some(fault),
         },
     }
@@ -80,7 +80,7 @@ pub fn run_pair<H: AllocGlobal, R: ByteSource, S: ByteSource, W: ByteSink>(
     match task {
         PairTask::Diff(style) => match run_diff(rt.alloc(), first, second, writer, style) {
             Ok(status) => Ended::well(status),
-            Err(DiffFault { input, fault }) => Ended::badly(writer, input, fault),
+            Err(DiffFault { side, fault }) => Ended::badly(writer, side, fault),
         },
         PairTask::Otlp => {
             let done = run_otlp(rt.alloc(), first, second, writer);

@@ -30,9 +30,7 @@ use Rattle.st_runtime.specs.Pcb.{Control, IsFromLog}
 use Rattle.st_runtime.specs.Working.{called_acts, IsDone, IsWorked, IsFirstRefusal}
 use Rattle.st_runtime.proofs.Runs.{pids_streams}
 use Rattle.st_runtime.proofs.Shown.{are_streams}
-
-abbrev pub Task : Type 0
-Task = Pid × List Act
+use Rattle.st_runtime.proofs.Workers.{Job}
 
 -- ---- seats
 
@@ -46,32 +44,32 @@ pub fresh_pids : (pids : List Pid) → map (λ s. s.pid) (map no_calls pids) ≡
 fresh_pids [] = refl
 fresh_pids (p ∷ ps) = ap (λ rest. p ∷ rest) (fresh_pids ps)
 
--- what became of the tasks of a system that was opened is what became of the scripts
-pub scripts_worked : (pids system : List Pid) (seats : List Calls) (scripts : List (List Act)) (ts : List Task)
+-- what became of the jobs of a system that was opened is what became of the scripts
+pub scripts_worked : (pids system : List Pid) (seats : List Calls) (scripts : List (List Act)) (ts : List Job)
     (es : List Ending) → system ≡ pids → seats ≡ map no_calls pids → ts ≡ zip (map (λ s. s.pid) seats) scripts
     → AllZip (IsWorked system) ts es → AllZip (IsWorked pids) (zip pids scripts) es
 scripts_worked pids system seats scripts ts es opened fresh given worked =
-    let tasks : ts ≡ zip pids scripts =
+    let jobs : ts ≡ zip pids scripts =
     given ∙ ap (λ (ss : List Calls). zip (map (λ s. s.pid) ss) scripts) fresh
     ∙ ap (λ ps. zip ps scripts) (fresh_pids pids) in
     subst (λ ps. AllZip (IsWorked ps) (zip pids scripts) es) opened
-    (subst (λ all. AllZip (IsWorked system) all es) tasks worked)
+    (subst (λ all. AllZip (IsWorked system) all es) jobs worked)
 
 -- ---- workers that met no refusal
 
-pids_worked : (pids : List Pid) (ts : List Task) (es : List Ending) → AllZip (IsWorked pids) ts es
+pids_worked : (pids : List Pid) (ts : List Job) (es : List Ending) → AllZip (IsWorked pids) ts es
     → map (λ e. e.seat.pid) es ≡ map (λ t. t.0) ts
 pids_worked pids [] [] worked = refl
 pids_worked pids [] (e ∷ es) worked = absurd worked
 pids_worked pids (t ∷ ts) [] worked = absurd worked
 pids_worked pids (t ∷ ts) (e ∷ es) worked = λ i. worked.0.pid i ∷ pids_worked pids ts es worked.1 i
 
-is_done : (pids : List Pid) (t : Task) (e : Ending) → IsWorked pids t e → e.fault ≡ None → IsDone pids t e.seat.mine
+is_done : (pids : List Pid) (t : Job) (e : Ending) → IsWorked pids t e → e.fault ≡ None → IsDone pids t e.seat.mine
 is_done pids t e worked none =
     let refused : ActFault → Type 0 = IsRefused pids t.0 t.1 (length e.seat.mine) in
     subst (λ o. MatchOption o (IsDone pids t e.seat.mine) refused) none worked.acts
 
-acts_worked : (pids : List Pid) (ts : List Task) (es : List Ending) → AllZip (IsWorked pids) ts es
+acts_worked : (pids : List Pid) (ts : List Job) (es : List Ending) → AllZip (IsWorked pids) ts es
     → All (λ (e : Ending). e.fault ≡ None) es → map (λ e. called_acts e.seat.mine) es ≡ map (λ t. t.1) ts
 acts_worked pids [] [] worked none = refl
 acts_worked pids [] (e ∷ es) worked none = absurd worked
@@ -141,22 +139,22 @@ driven top ranks pieces r pids scripts ends even rising of_pids of_seats worked 
 
 -- ---- a worker's refusal
 
--- the task beside an ending
-task_at : (pids : List Pid) (ts : List Task) (es : List Ending) (k : ℕ) (e : Ending) → AllZip (IsWorked pids) ts es
-    → slice_get es k ≡ Some e → (t : Task) × ((slice_get ts k ≡ Some t) × IsWorked pids t e)
-task_at pids [] [] k e worked at = absurd (cc)
-task_at pids [] (d ∷ ds) k e worked at = absurd worked
-task_at pids (t ∷ ts) [] k e worked at = absurd worked
-task_at pids (t ∷ ts) (d ∷ ds) zero e worked at =
+-- the job beside an ending
+job_at : (pids : List Pid) (ts : List Job) (es : List Ending) (k : ℕ) (e : Ending) → AllZip (IsWorked pids) ts es
+    → slice_get es k ≡ Some e → (t : Job) × ((slice_get ts k ≡ Some t) × IsWorked pids t e)
+job_at pids [] [] k e worked at = absurd (cc)
+job_at pids [] (d ∷ ds) k e worked at = absurd worked
+job_at pids (t ∷ ts) [] k e worked at = absurd worked
+job_at pids (t ∷ ts) (d ∷ ds) zero e worked at =
     (t, (refl, subst (IsWorked pids t) (same_Some d e at) worked.0))
-task_at pids (t ∷ ts) (d ∷ ds) (suc k) e worked at = task_at pids ts ds k e worked.1 at
+job_at pids (t ∷ ts) (d ∷ ds) (suc k) e worked at = job_at pids ts ds k e worked.1 at
 
 -- the acts of a script
-abbrev AllOwn : List Pid → Task → Type 0
+abbrev AllOwn : List Pid → Job → Type 0
 AllOwn pids t = All (IsOwn pids t.0) t.1
 
--- tasks beside endings without a refusal are done
-own_before : (pids : List Pid) (ts : List Task) (es : List Ending) (k : ℕ) → AllZip (IsWorked pids) ts es
+-- jobs beside endings without a refusal are done
+own_before : (pids : List Pid) (ts : List Job) (es : List Ending) (k : ℕ) → AllZip (IsWorked pids) ts es
     → All (λ (e : Ending). e.fault ≡ None) (take k es) → All (AllOwn pids) (take k ts)
 own_before pids ts es zero worked none = All-nil (AllOwn pids)
 own_before pids [] es (suc k) worked none = All-nil (AllOwn pids)
@@ -184,7 +182,7 @@ pub worker_fault : (top ranks : ℕ) (pids : List Pid) (scripts : List (List Act
     → IsPossible top ranks scripts g → IsWorkerFault top ranks pids scripts p n g
 worker_fault top ranks pids scripts ends p n f g worked first told possible =
     let e = first.end in
-    let found = task_at pids (zip pids scripts) ends first.number e worked first.among in
+    let found = job_at pids (zip pids scripts) ends first.number e worked first.among in
     let t = found.0 in
     let whose : t.0 ≡ p = sym found.1.1.pid ∙ first.pid in
     let script = t.1 in

@@ -1,4 +1,4 @@
--- What became of each task is what its worker's promise says.
+-- What became of each job is what its worker's promise says.
 use Rattle.std.proofs.Common.{◌≡◌, ℕ, suc, ◌<◌, List, [], ◌∷◌, length, map, get_or, take, reverse}
 use Rattle.std.proofs.Common.{refl, ap, subst}
 use Rattle.std.proofs.Common.{arith, ◌++◌, ◌≢◌, ◌↔◌, ◌∙◌, sym, Bool, true, false, Result, Ok, Err}
@@ -19,38 +19,38 @@ use Rattle.st_runtime.specs.Driven.{IsOwn, IsRefused}
 use Rattle.st_runtime.specs.System.{is_stamping, knows}
 use Rattle.st_runtime.specs.Working.{called_acts, LeavesEnding, IsWorked}
 
-abbrev pub Task : Type 0
-Task = Pid × List Act
+abbrev pub Job : Type 0
+Job = Pid × List Act
 
-pub all_left : {H : Type 0} (system : H → List Pid) (task : H → Task) (pids : List Pid) (hs : List H)
-    (ts : List Task) (os : List (Option Ending)) → length os ≡ length hs
-    → AllZip (λ t h. (task h ≡ t) × (system h ≡ pids)) ts hs
+pub all_left : {H : Type 0} (system : H → List Pid) (job : H → Job) (pids : List Pid) (hs : List H)
+    (ts : List Job) (os : List (Option Ending)) → length os ≡ length hs
+    → AllZip (λ t h. (job h ≡ t) × (system h ≡ pids)) ts hs
     → ((i : ℕ) (d : Option Ending) → i < length hs
-    → (h : H) × (h ≡ get_or hs i h) × LeavesEnding (system h) (task h) (get_or os i d))
+    → (h : H) × (h ≡ get_or hs i h) × LeavesEnding (system h) (job h) (get_or os i d))
     → AllZip (LeavesEnding pids) ts os
-all_left system task pids [] [] [] even of each = tt
-all_left system task pids [] [] (o ∷ os) even of each = absurd (omega arith)
-all_left system task pids [] (t ∷ ts) os even of each = absurd of
-all_left system task pids (h ∷ hs) [] os even of each = absurd of
-all_left system task pids (h ∷ hs) (t ∷ ts) [] even of each = absurd (omega arith)
-all_left system task pids (h ∷ hs) (t ∷ ts) (o ∷ os) even of each =
+all_left system job pids [] [] [] even of each = tt
+all_left system job pids [] [] (o ∷ os) even of each = absurd (omega arith)
+all_left system job pids [] (t ∷ ts) os even of each = absurd of
+all_left system job pids (h ∷ hs) [] os even of each = absurd of
+all_left system job pids (h ∷ hs) (t ∷ ts) [] even of each = absurd (omega arith)
+all_left system job pids (h ∷ hs) (t ∷ ts) (o ∷ os) even of each =
     let here = each 0 o (omega arith) in
-    let of_h : LeavesEnding (system h) (task h) o =
-    subst (λ x. LeavesEnding (system x) (task x) o) here.1 here.2 in
+    let of_h : LeavesEnding (system h) (job h) o =
+    subst (λ x. LeavesEnding (system x) (job x) o) here.1 here.2 in
     let of_t : LeavesEnding (system h) t o = subst (λ x. LeavesEnding (system h) x o) of.0.0 of_h in (
       subst (λ x. LeavesEnding x t o) of.0.1 of_t,
-      all_left system task pids hs ts os (omega arith) of.1 (λ i d below. each (suc i) d (omega arith)),
+      all_left system job pids hs ts os (omega arith) of.1 (λ i d below. each (suc i) d (omega arith)),
     )
 
 -- none of them was told to stop
-pub all_worked : (pids : List Pid) (ts : List Task) (es : List Ending)
+pub all_worked : (pids : List Pid) (ts : List Job) (es : List Ending)
     → AllZip (LeavesEnding pids) ts (map (λ e. Some e) es) → AllZip (IsWorked pids) ts es
 all_worked pids [] [] left = tt
 all_worked pids [] (e ∷ es) left = absurd left
 all_worked pids (t ∷ ts) [] left = absurd left
 all_worked pids (t ∷ ts) (e ∷ es) left = (left.0, all_worked pids ts es left.1)
 
-pub ended_worked : {V E : Type 0} (pids : List Pid) (ts : List Task) (os : List (Option Ending))
+pub ended_worked : {V E : Type 0} (pids : List Pid) (ts : List Job) (os : List (Option Ending))
     (items : V → List Ending)
     (r : Result V E) → AllZip (LeavesEnding pids) ts os → IfOk r (λ v. map (λ e. Some e) (items v) ≡ os)
     → IfOk r (λ v. AllZip (IsWorked pids) ts (items v))

@@ -20,26 +20,26 @@ abbrev pub called_acts : List (Act × Reply) → List Act
 called_acts calls = map (λ c. c.0) calls
 
 -- the accepted acts are the script, each of which is the process's own
-pub record IsDone (pids : List Pid) (task : Pid × List Act)
+pub record IsDone (pids : List Pid) (job : Pid × List Act)
     (calls : List (Act × Reply)) : Type 0 where
-  pub acts : called_acts calls ≡ task.1
-  pub own : All (IsOwn pids task.0) task.1
+  pub acts : called_acts calls ≡ job.1
+  pub own : All (IsOwn pids job.0) job.1
 
 -- what became of a process's script in a system of these pids: it is done, or it was refused the
 -- act that comes next
-pub record IsWorked (pids : List Pid) (task : Pid × List Act) (end : Ending) : Type 0 where
-  pub pid : end.seat.pid ≡ task.0
+pub record IsWorked (pids : List Pid) (job : Pid × List Act) (end : Ending) : Type 0 where
+  pub pid : end.seat.pid ≡ job.0
   pub acts : MatchOption end.fault
-      (IsDone pids task end.seat.mine)
-      (IsRefused pids task.0 task.1 (length end.seat.mine))
+      (IsDone pids job end.seat.mine)
+      (IsRefused pids job.0 job.1 (length end.seat.mine))
 
 -- a worker that wasn't told to stop leaves what became of its script
 abbrev pub LeavesEnding : List Pid → (Pid × List Act) → Option Ending → Type 0
-LeavesEnding pids task left = IfSome left (IsWorked pids task)
+LeavesEnding pids job left = IfSome left (IsWorked pids job)
 
 -- what became of each script
 abbrev pub AreWorked : List Pid → List (Pid × List Act) → List Ending → Type 0
-AreWorked pids tasks ends = AllZip (IsWorked pids) tasks ends
+AreWorked pids jobs ends = AllZip (IsWorked pids) jobs ends
 
 -- the first worker's refusal: whose it is, at which act of its script, and why
 pub record IsFirstRefusal (ends : List Ending) (p : Pid) (n : ℕ) (f : ActFault) : Type 0 where

@@ -8,7 +8,7 @@ ghost use Rattle.st_runtime.specs.Working.{IsFirstRefusal};
 
 pub mod worker;
 
-use crate::driver::worker::{Ending, WORKER_STACK, tasks_of, work_all};
+use crate::driver::worker::{Ending, WORKER_STACK, jobs_of, work_all};
 use crate::fault::{ActFault, DriveFault};
 use crate::join::join_given;
 use crate::join::record::Record;
@@ -57,8 +57,8 @@ pub fn drive_on<const TOP: u64, const RANKS: u64, R: Threads + Wait + Sync, G: G
     let acts = acts_in(scripts.as_slice());
     let stamps = stamps_in(scripts.as_slice());
     let (system, seats) = System::<TOP, RANKS>::open_for(alloc, pids, scripts.as_slice())?;
-    let tasks = tasks_of(alloc, seats, scripts)?;
-    let ends = work_all(rt, alloc, &system, gate, tasks, stack)?;
+    let jobs = jobs_of(alloc, seats, scripts)?;
+    let ends = work_all(rt, alloc, &system, gate, jobs, stack)?;
     if lacks_memory(ends.as_slice()) {
         return Err(DriveFault::Memory);
     }

@@ -4,7 +4,7 @@ use crate::input::{OpenInput, open};
 use crate::screen::{FAILED, NO, Screen, finish, name_of, tell_end};
 use st_console::{Inlet, Outlet};
 use st_core::{ReadFrom, WriteTo};
-use st_diff::Input as Which;
+use st_diff::Side;
 use st_export::TimesFault;
 use st_options::Input;
 use st_pair_tasks::{PairTask, run_pair};
@@ -60,7 +60,7 @@ fn serve_open_input<H: AllocGlobal>(
     if let Some(fault) = ended.times {
         tell_times(screen, names.1, fault);
     }
-    if status == NO || matches!(ended.input, Which::First) {
+    if status == NO || matches!(ended.side, Side::First) {
         tell_end(screen, names.0, status, &first, &outlet);
     } else {
         tell_end(screen, names.1, status, &second, &outlet);

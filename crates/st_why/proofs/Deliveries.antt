@@ -22,7 +22,7 @@ module _ {R : Type 0} (reader : ReaderCall R) (c : Contents) (h : WasRead greate
   owes_why out (OfFound x ok at) =
       OfBytes h.bytes (found c.streams q x) h.all (Found h.bytes c.streams x (paired ok) at)
   owes_why out (OfNoEvent ok none) =
-      OfBytes h.bytes (no_event q.start) h.all (Lacking h.bytes c.streams (paired ok) none)
+      OfBytes h.bytes (no_event q.subject) h.all (Lacking h.bytes c.streams (paired ok) none)
   owes_why out (OfReason f reason is by) =
       OfBytes h.bytes (report_output c.streams reason) h.all
       (Unpaired h.bytes c.streams reason

@@ -5,10 +5,10 @@ use Rattle.st_text.specs.Room.{number_room, pid_room, serial_room}
 use Rattle.st_chart.specs.Room.{item_word_room, place_room}
 use Rattle.st_why.specs.declared.lines.LastLine.{LastLine}
 use Rattle.st_why.specs.declared.lines.NoEvent.{NoEvent}
-use Rattle.st_why.specs.Why.{last_words, start_words}
+use Rattle.st_why.specs.Why.{last_words, subject_words}
 
 abbrev pub no_event_words : NoEvent → List ℕ
-no_event_words x = codes "no event " ++ start_words x.0
+no_event_words x = codes "no event " ++ subject_words x.0
 
 abbrev pub last_line_words : LastLine → List ℕ
 last_line_words x = last_words x.0

@@ -16,7 +16,7 @@ use Rattle.st_commands.specs.Meaning.{MeansUnpaired}
 use Rattle.st_hops.specs.Claims.{IsTrueHop}
 use Rattle.st_hops.specs.Hops.{hop_of}
 use Rattle.st_why.specs.declared.question.Question.{Question}
-use Rattle.st_why.specs.Why.{HasNoStart, IsStart, last_line, node_line, nodes_from, start_words}
+use Rattle.st_why.specs.Why.{HasNoSubject, IsSubject, last_line, node_line, nodes_from, subject_words}
 
 -- the way back from an event, or the tree of what follows it: status 0
 pub record MeansTold (q : Question) (bytes : List ℕ) (out : Output) : Type 0 where
@@ -28,7 +28,7 @@ pub record MeansTold (q : Question) (bytes : List ℕ) (out : Output) : Type 0 w
   -- no reason of pairing holds
   pub accepted : refusal streams ≡ None
   -- the event that is asked about is here
-  pub start : IsStart streams q.start place
+  pub subject : IsSubject streams q.subject place
   -- what the hop back from an event claims is true in every run without a reset that shows the
   -- streams and in which the premises hold that the hop names
   pub claims : (p : Pid) (i : ℕ) (e : Event) → event_at streams p i ≡ Some e
@@ -46,9 +46,9 @@ pub record MeansNoEvent (q : Question) (bytes : List ℕ) (out : Output) : Type 
   -- no reason of pairing holds
   pub accepted : refusal streams ≡ None
   -- none of their events is the one that is asked about
-  pub missing : HasNoStart streams q.start
+  pub missing : HasNoSubject streams q.subject
   -- the text says so
-  pub text : out.text ≡ ended_line (codes "no event " ++ start_words q.start)
+  pub text : out.text ≡ ended_line (codes "no event " ++ subject_words q.subject)
 
 -- status 1
 pub data MeansUntold (q : Question) (bytes : List ℕ) (out : Output) : Type 0 where

@@ -10,14 +10,14 @@ use Rattle.st_audit.specs.Findings.{unfit_by}
 use Rattle.st_commands.specs.Output.{Output, no_memory}
 use Rattle.st_commands.specs.Audited.{report_output}
 use Rattle.st_why.specs.declared.question.Question.{Question}
-use Rattle.st_why.specs.Why.{HasNoStart, IsStart, found, no_event}
+use Rattle.st_why.specs.Why.{HasNoSubject, IsSubject, found, no_event}
 
 -- what is found from an event of streams
 pub data AnswersOf (streams : List Stream) (q : Question) : Output → Type 0 where
-  OfFound : (x : Pid × ℕ) → refusal streams ≡ None → IsStart streams q.start x
+  OfFound : (x : Pid × ℕ) → refusal streams ≡ None → IsSubject streams q.subject x
       → AnswersOf streams q (found streams q x)
-  OfNoEvent : refusal streams ≡ None → HasNoStart streams q.start
-      → AnswersOf streams q (no_event q.start)
+  OfNoEvent : refusal streams ≡ None → HasNoSubject streams q.subject
+      → AnswersOf streams q (no_event q.subject)
   OfReason : (f : PairFault) (reason : Finding) → refusal streams ≡ Some f
       → unfit_by f ≡ Some reason
       → AnswersOf streams q (report_output streams reason)

@@ -26,8 +26,8 @@ use Rattle.st_hops.specs.declared.node.Node.{Node}
 use Rattle.st_hops.specs.Way.{way}
 use Rattle.st_hops.specs.Tree.{tree}
 use Rattle.st_why.specs.declared.question.Question.{Question}
-use Rattle.st_why.specs.declared.question.Start.{Start}
-use Rattle.st_why.specs.declared.question.Start.TheVariants as start
+use Rattle.st_why.specs.declared.question.Subject.{Subject}
+use Rattle.st_why.specs.declared.question.Subject.TheVariants as subject
 use Rattle.st_why.specs.declared.question.Direction.TheVariants as direction
 use Rattle.st_why.specs.declared.question.Style.{Style}
 use Rattle.st_why.specs.declared.question.Style.TheVariants as style
@@ -35,14 +35,14 @@ use Rattle.st_why.specs.Words.{hop_line, premises_text}
 use Rattle.st_why.specs.Json.{hop_object, premises_object}
 
 -- this is the event that is asked about
-abbrev pub IsStart : List Stream → Start → Pid × ℕ → Type 0
-IsStart streams (start.Place p i) x = (x ≡ (p, i)) × IsSome (event_at streams p i)
-IsStart streams (start.Line n) x = line_number_of streams x.0 x.1 ≡ Some n
+abbrev pub IsSubject : List Stream → Subject → Pid × ℕ → Type 0
+IsSubject streams (subject.Place p i) x = (x ≡ (p, i)) × IsSome (event_at streams p i)
+IsSubject streams (subject.Line n) x = line_number_of streams x.0 x.1 ≡ Some n
 
 -- there is no such event
-abbrev pub HasNoStart : List Stream → Start → Type 0
-HasNoStart streams (start.Place p i) = event_at streams p i ≡ None
-HasNoStart streams (start.Line n) = (p : Pid) (i : ℕ) → line_number_of streams p i ≢ Some n
+abbrev pub HasNoSubject : List Stream → Subject → Type 0
+HasNoSubject streams (subject.Place p i) = event_at streams p i ≡ None
+HasNoSubject streams (subject.Line n) = (p : Pid) (i : ℕ) → line_number_of streams p i ≢ Some n
 
 -- what is found from there
 abbrev pub nodes_from : List Stream → Question → Pid × ℕ → List Node
@@ -81,13 +81,13 @@ found streams q x = record {
   status = 0;
 }
 
-abbrev pub start_words : Start → List ℕ
-start_words (start.Place p i) = place_words p i
-start_words (start.Line n) = codes "on line " ++ decimal n
+abbrev pub subject_words : Subject → List ℕ
+subject_words (subject.Place p i) = place_words p i
+subject_words (subject.Line n) = codes "on line " ++ decimal n
 
 -- there is no such event
-abbrev pub no_event : Start → Output
-no_event s = record { text = ended_line (codes "no event " ++ start_words s); status = 1 }
+abbrev pub no_event : Subject → Output
+no_event s = record { text = ended_line (codes "no event " ++ subject_words s); status = 1 }
 
 -- the bytes spell streams that pairing accepts
 pub record ArePaired (bytes : List ℕ) (streams : List Stream) : Type 0 where
@@ -105,11 +105,11 @@ pub record AreRefused (bytes : List ℕ) (streams : List Stream) (reason : Findi
 
 pub data IsWhy (q : Question) : List ℕ → Output → Type 0 where
   Found : (bytes : List ℕ) (streams : List Stream) (x : Pid × ℕ) → ArePaired bytes streams
-      → IsStart streams q.start x
+      → IsSubject streams q.subject x
       → IsWhy q bytes (found streams q x)
   Lacking : (bytes : List ℕ) (streams : List Stream) → ArePaired bytes streams
-      → HasNoStart streams q.start
-      → IsWhy q bytes (no_event q.start)
+      → HasNoSubject streams q.subject
+      → IsWhy q bytes (no_event q.subject)
   Unpaired : (bytes : List ℕ) (streams : List Stream) (reason : Finding)
       → AreRefused bytes streams reason
       → IsWhy q bytes (report_output streams reason)

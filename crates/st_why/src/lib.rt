@@ -11,5 +11,5 @@ mod text;
 mod trace;
 mod why;
 
-pub use question::{Direction, Question, Start, Style};
+pub use question::{Direction, Question, Style, Subject};
 pub use why::run_why;

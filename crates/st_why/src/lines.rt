@@ -2,13 +2,13 @@
 
 ghost use Rattle.st_why.specs.Lines.{last_line_words, no_event_words};
 
-use crate::question::{Start, Style};
+use crate::question::{Style, Subject};
 use st_chart::put_place;
 use st_text::{Buffer, TextLine, put_bytes, put_number};
 
 /// There is no such event.
 #[derive(Clone, Copy)]
-pub(crate) struct NoEvent(pub(crate) Start);
+pub(crate) struct NoEvent(pub(crate) Subject);
 
 impl TextLine for NoEvent {
     ghost words = { no_event_words };
@@ -16,8 +16,8 @@ impl TextLine for NoEvent {
     fn put_words(self, buffer: &mut Buffer) {
         put_bytes(buffer, b"no event ");
         match self.0 {
-            Start::Place(pid, index) => put_place(buffer, pid, index),
-            Start::Line(line) => {
+            Subject::Place(pid, index) => put_place(buffer, pid, index),
+            Subject::Line(line) => {
                 put_bytes(buffer, b"on line ");
                 put_number(buffer, line);
             }

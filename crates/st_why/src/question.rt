@@ -5,7 +5,7 @@ use st_hops::Reach;
 
 /// The event that is asked about.
 #[derive(Clone, Copy)]
-pub enum Start {
+pub enum Subject {
     /// The event of this process at this index, counted from 0.
     Place(Pid, u64),
     /// The event on this line of the text, counted from 1.
@@ -34,7 +34,7 @@ pub enum Style {
 #[derive(Clone, Copy)]
 pub struct Question {
     /// The event.
-    pub start: Start,
+    pub subject: Subject,
     /// Which way to go from it.
     pub direction: Direction,
     /// How far.

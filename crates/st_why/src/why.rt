@@ -9,11 +9,11 @@ ghost use Rattle.st_pair.specs.Pairing.{IsPairFault, refusal};
 ghost use Rattle.st_text.specs.Limits.{greater};
 ghost use Rattle.st_why.specs.Meaning.{MeansTold, MeansUntold};
 ghost use Rattle.st_why.specs.Parts.{AnswersOf};
-ghost use Rattle.st_why.specs.Why.{HasNoStart, IsStart, IsWhy};
+ghost use Rattle.st_why.specs.Why.{HasNoSubject, IsSubject, IsWhy};
 
 use crate::answer::{nodes_from, send_answer};
 use crate::lines::NoEvent;
-use crate::question::{Question, Start};
+use crate::question::{Question, Subject};
 use crate::trace::NumberedOrigins;
 use st_audit::unfit_by;
 use st_commands::{status_of, tell_fault, tell_finding, tell_line};
@@ -41,13 +41,13 @@ fn tell_unpaired<W: ByteSink>(
 }
 
 /// The place of the event that is asked about; none if there is no such event.
-fn place_of(trace: &NumberedOrigins<'_>, start: Start) -> Option<(Pid, u64)>
-    ensures found { IfSome result (IsStart trace.now start) }
-    ensures missing { IfNone result (HasNoStart trace.now start) }
+fn place_of(trace: &NumberedOrigins<'_>, subject: Subject) -> Option<(Pid, u64)>
+    ensures found { IfSome result (IsSubject trace.now subject) }
+    ensures missing { IfNone result (HasNoSubject trace.now subject) }
 {
-    match start {
-        Start::Line(line) => trace.numbers().place(line),
-        Start::Place(pid, index) => match trace.event(pid, index) {
+    match subject {
+        Subject::Line(line) => trace.numbers().place(line),
+        Subject::Place(pid, index) => match trace.event(pid, index) {
             None => None,
             Some(_) => Some((pid, index)),
         },
@@ -63,7 +63,7 @@ fn tell_found<W: ByteSink>(
     writer: &mut W,
 ) -> u8
     requires accepted { refusal trace.now ≡ None }
-    requires start { IsStart trace.now question.start place }
+    requires subject { IsSubject trace.now question.subject place }
     ensures { Tells (call W.ByteSink writer.old writer.new)
         (AnswersOf trace.now question) result }
 {
@@ -87,9 +87,9 @@ fn answer<W: ByteSink>(
     ensures { Tells (call W.ByteSink writer.old writer.new)
         (AnswersOf trace.now question) result }
 {
-    match place_of(trace, question.start) {
+    match place_of(trace, question.subject) {
         Some(place) => tell_found(alloc, trace, question, place, writer),
-        None => tell_line(writer, NoEvent(question.start), 1),
+        None => tell_line(writer, NoEvent(question.subject), 1),
     }
 }
 

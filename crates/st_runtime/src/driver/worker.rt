@@ -23,12 +23,12 @@ pub const WORKER_STACK: usize = 2_097_152;
 
 /// What a worker is given: a seat through which no act was made yet, and the acts to make.
 #[derive(Drop)]
-pub struct Task {
+pub struct Job {
     seat: Seat,
     script: Sequence<Act>,
 }
 
-impl Model for Task {
+impl Model for Job {
     ghost use Rattle.std.specs.Prelude.{List, ◌≡◌, []};
     ghost use Rattle.st_core.specs.declared.types.Act.{Act};
     ghost use Rattle.st_core.specs.declared.types.Pid.{Pid};
@@ -47,33 +47,33 @@ pub struct Ending {
     pub fault: Option<ActFault>,
 }
 
-/// A task for each seat and its script.
-pub fn tasks_of(
+/// A job for each seat and its script.
+pub fn jobs_of(
     alloc: Global,
     seats: Vec<Seat>,
     scripts: Vec<Sequence<Act>>,
-) -> Result<Vec<Task>, AllocError>
+) -> Result<Vec<Job>, AllocError>
     requires { All (λ s. s.mine ≡ []) seats.items }
     ensures { IfOk result (λ v. v.items ≡ zip (map (λ s. s.pid) seats.items) scripts.items) }
 {
-    let mut tasks = Vec::with_capacity(alloc, seats.len())?;
+    let mut jobs = Vec::with_capacity(alloc, seats.len())?;
     for (seat, script) in seats.into_iter().zip(scripts) {
-        let Ok(()) = tasks.push(Task { seat, script }) else {
+        let Ok(()) = jobs.push(Job { seat, script }) else {
             return Err(AllocError);
         };
     }
-    Ok(tasks)
+    Ok(jobs)
 }
 
-/// What the worker of this task in this system leaves.
+/// What the worker of this job in this system leaves.
 #[derive(Drop)]
 struct Leaves<const TOP: u64, const RANKS: u64> {
     system: Snapshot<System<TOP, RANKS>>,
-    task: Snapshot<Task>,
+    job: Snapshot<Job>,
 }
 
 impl<const TOP: u64, const RANKS: u64> Promise<Option<Ending>> for Leaves<TOP, RANKS> {
-    ghost kept_by = { λ p left. LeavesEnding p.system.value p.task.value left };
+    ghost kept_by = { λ p left. LeavesEnding p.system.value p.job.value left };
 }
 
 /// All workers at once, each in a thread of its own with a stack of so many bytes. If a thread
@@ -86,10 +86,10 @@ pub fn work_all<const TOP: u64, const RANKS: u64, R: Threads + Wait + Sync, G: G
     alloc: Global,
     system: &System<TOP, RANKS>,
     gate: &G,
-    tasks: Vec<Task>,
+    jobs: Vec<Job>,
     stack: usize,
 ) -> Result<Vec<Ending>, DriveFault>
-    ensures ok { IfOk result (λ v. AreWorked system.now tasks.items v.items) }
+    ensures ok { IfOk result (λ v. AreWorked system.now jobs.items v.items) }
     ensures err { IfErr result IsOwnFault }
 {
     let stop = &AtomicBool::new(false);
@@ -97,20 +97,20 @@ pub fn work_all<const TOP: u64, const RANKS: u64, R: Threads + Wait + Sync, G: G
         thread::scope_env(),
         rt,
         |scope| -> Result<Vec<Ending>, DriveFault>
-            ensures ok { IfOk result (λ v. AreWorked system.entry.now tasks.items v.items) }
+            ensures ok { IfOk result (λ v. AreWorked system.entry.now jobs.items v.items) }
             ensures err { IfErr result IsOwnFault }
         {
-            let Ok(mut workers) = Vec::with_capacity(alloc, tasks.len()) else {
+            let Ok(mut workers) = Vec::with_capacity(alloc, jobs.len()) else {
                 return Err(DriveFault::Memory);
             };
-            for task in tasks {
+            for job in jobs {
                 let leaves = Leaves {
                     system: Snapshot::of(system),
-                    task: Snapshot::of(&task),
+                    job: Snapshot::of(&job),
                 };
                 let work = move || -> Option<Ending>
-                    ensures { LeavesEnding system.entry.now task result }
-                { work(rt, system, gate, stop, task) };
+                    ensures { LeavesEnding system.entry.now job result }
+                { work(rt, system, gate, stop, job) };
                 let thread = Stack::new().stack_size(stack);
                 let Ok(worker) = thread.spawn_scoped_with(scope, leaves, work) else {
                     stop.store(true, Ordering::SeqCst);
@@ -151,11 +151,11 @@ fn work<const TOP: u64, const RANKS: u64, R: Wait, G: Gate>(
     system: &System<TOP, RANKS>,
     gate: &G,
     stop: &AtomicBool,
-    task: Task,
+    job: Job,
 ) -> Option<Ending>
-    ensures { LeavesEnding system.now task result }
+    ensures { LeavesEnding system.now job result }
 {
-    let Task { seat, script } = task;
+    let Job { seat, script } = job;
     let mut acts = script.into_vec();
     acts.reverse();
     play_from_end(rt, system, gate, stop, seat, acts)

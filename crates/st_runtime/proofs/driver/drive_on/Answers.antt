@@ -1,4 +1,4 @@
--- The workers had the scripts as their tasks, so what they gave back is what the record and the refusals tell of.
+-- The workers had the scripts as their jobs, so what they gave back is what the record and the refusals tell of.
 use Rattle.std.proofs.Common.{◌≡◌, ◌≤◌, ◌∙◌, sym, None}
 use Rattle.std.specs.Prelude.{All}
 use Rattle.st_runtime.specs.Driven.{acts_in, stamps_in}
@@ -6,8 +6,8 @@ use Rattle.st_runtime.specs.Working.{IsFirstRefusal}
 use Rattle.st_runtime.proofs.Driving.{fresh_seats, scripts_worked, driven, is_possible, worker_fault}
 use Rattle.st_runtime.proofs.driver.drive_on.Goals as goal
 
-pub tasks_of-requires : goal.tasks_of-requires
-tasks_of-requires g c = rw c.in_ok-system.ensures.seats (fresh_seats c.args.pids.now)
+pub jobs_of-requires : goal.jobs_of-requires
+jobs_of-requires g c = rw c.in_ok-system.ensures.seats (fresh_seats c.args.pids.now)
 
 pub returns-in-Some-clause-err : goal.returns-in-Some-clause-err
 returns-in-Some-clause-err g c =
@@ -18,7 +18,7 @@ returns-in-Some-clause-err g c =
     let ends = c.in_ok-ends.ends.items in
     let opened = c.in_ok-system.ensures in
     let worked = scripts_worked pids c.in_ok-system.system c.in_ok-system.seats.items scripts
-    c.in_ok-tasks.tasks.items ends opened.system opened.seats c.in_ok-tasks.ensures c.in_ok-ends.ensures.ok in
+    c.in_ok-jobs.jobs.items ends opened.system opened.seats c.in_ok-jobs.ensures c.in_ok-ends.ensures.ok in
     let acts : c.acts_in-acts.result ≤ acts_in scripts = rw (← c.as_slice.ensures.value) c.acts_in-acts.ensures in
     let stamps : c.stamps_in-stamps.result ≤ stamps_in scripts =
     rw (← c.as_slice-2.ensures.value) c.stamps_in-stamps.ensures in
@@ -40,7 +40,7 @@ returns-clause-ok g c =
     let ends = c.in_ok-ends.ends.items in
     let opened = c.in_ok-system.ensures in
     let worked = scripts_worked pids c.in_ok-system.system c.in_ok-system.seats.items scripts
-    c.in_ok-tasks.tasks.items ends opened.system opened.seats c.in_ok-tasks.ensures c.in_ok-ends.ensures.ok in
+    c.in_ok-jobs.jobs.items ends opened.system opened.seats c.in_ok-jobs.ensures c.in_ok-ends.ensures.ok in
     let none : All (λ e. e.fault ≡ None) ends = rw (← c.as_slice-5.ensures.value) c.in_default.ensures in
     let gathered = c.in-Ok.ensures in
     driven g.row.TOP g.row.RANKS c.in-Ok.pieces c.in_ok-join_given.field-0 pids scripts ends

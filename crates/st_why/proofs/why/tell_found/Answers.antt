@@ -11,7 +11,7 @@ returns-in-Ok g c =
     let out = found c.args.trace.now c.args.question c.args.place in
     record {
       output = out;
-      owed = OfFound c.args.place c.requires.accepted c.requires.start;
+      owed = OfFound c.args.place c.requires.accepted c.requires.subject;
       delivered = delivers (call g.W.ByteSink _ _) out c.send_answer-sent.result _
           (rw (c.as_slice.ensures.value, c.in-Ok.ensures) at c.send_answer-sent.ensures)
           c.status_of.ensures;

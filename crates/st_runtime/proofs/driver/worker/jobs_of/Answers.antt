@@ -1,4 +1,4 @@
--- The pairs of which tasks were made are all the seats beside their scripts.
+-- The pairs of which jobs were made are all the seats beside their scripts.
 use Rattle.std.proofs.Common.{◌∙◌, map, sym, ap}
 use Rattle.std.proofs.lemmas.Iterator.{YieldsList-from_zip}
 use Rattle.std.proofs.lemmas.Iterator.Adapters.{YieldsList-from_vec}
@@ -6,7 +6,7 @@ use Rattle.std.proofs.lemmas.Iterator.Consumers.{YieldsList-end}
 use Rattle.std.proofs.lemmas.List.{map-id}
 use Rattle.std.specs.Iterator.Adapters.{zip_first, zip_second}
 use Rattle.st_runtime.proofs.Workers.{zip_map}
-use Rattle.st_runtime.proofs.driver.worker.tasks_of.Goals as goal
+use Rattle.st_runtime.proofs.driver.worker.jobs_of.Goals as goal
 
 pub returns : goal.returns
 returns c =

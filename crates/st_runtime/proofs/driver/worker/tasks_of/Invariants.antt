@@ -1,6 +1,0 @@
--- So far there is a task for each pair.
-use Rattle.std.proofs.Common.{◌≡◌, map}
-use Rattle.st_runtime.proofs.driver.worker.tasks_of.Given as goal
-
-abbrev pub invariant-loop-seat : goal.invariant-loop-seat
-invariant-loop-seat l = l.tasks.items ≡ map (λ x. (x.0.pid, x.1)) l.yielded
