@@ -1,5 +1,5 @@
 -- The whole construction as a function of the streams: for each item of the order its acts, or why
--- it stops there; the acts up to that place; and the finding that comes of them (own profile).
+-- it stops there; the acts up to that place; and what is found by them (own profile).
 use Rattle.std.specs.Prelude.{◌≡◌, ℕ, ◌==◌, ◌&&◌, Bool, true, false, List, [], ◌∷◌, ◌++◌, Option}
 use Rattle.std.specs.Prelude.{Some, None, if◌then◌else◌, option_map, option_and_then, unwrap_or}
 use Rattle.std.specs.Option.{option_eq, option_map_or}

@@ -4,9 +4,9 @@ use st_check::Verdict;
 use st_core::{Act, Pid, Sequence};
 use thiserror::Error;
 
-/// Why no certificate was found, for the event at the place that a finding names. The reasons stand
-/// in the order in which they are tried: the first four are those of pairing, each over all events
-/// before any act is sought, and the others are tried item by item (own profile).
+/// Why no certificate was found, for the event at the place that a finding names. The reasons are in
+/// the order in which they are tried: first the four of pairing, each over all events, before any act
+/// is looked for, and then the others, item by item (own profile).
 #[derive(Debug, Drop)]
 pub enum Reason {
     /// The serial of the event doesn't rise: its prev isn't less than its this.

@@ -30,7 +30,7 @@ pub(crate) struct Parts {
 struct Assembly<'a> {
     streams: &'a Streams,
     draft: Draft,
-    /// Where the events stand that were added.
+    /// Where the events are that were added.
     positions: Positions,
     /// The marks of the process whose events are being added.
     marks: Vec<bool>,
@@ -123,7 +123,7 @@ impl Assembly<'_> {
         Ok(replace(&mut self.marks, Vec::new(alloc)))
     }
 
-    /// The draft of all that was added, and where it stands.
+    /// The draft of all that was added, and where it is.
     fn into_draft(self) -> (Draft, Positions) {
         let Assembly {
             streams: _,

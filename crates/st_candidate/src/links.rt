@@ -1,5 +1,5 @@
 //! Which send each receive of a candidate has, and which receive each send. It is known where each
-//! event stands, and each message is from the pairing, a hidden send, or what a stamp got: nothing is
+//! event is, and each message is from the pairing, a hidden send, or what a stamp got: nothing is
 //! searched. The judge looks at both ends of a message before it believes them, so nothing has to
 //! hold of what is found here.
 
@@ -31,7 +31,7 @@ struct End {
 struct Linker<'a> {
     streams: &'a Streams,
     whole: &'a Streams,
-    /// Where the events stand in the whole streams.
+    /// Where the events are in the whole streams.
     positions: &'a Positions,
     /// For each process, by its place, and each of its events the index of its other end.
     rows: Vec<Vec<u32>>,
@@ -135,7 +135,7 @@ fn no_links(alloc: Global, whole: &Streams) -> Result<Vec<Vec<u32>>, AllocError>
     Ok(rows)
 }
 
-/// The links of the whole streams that were put together of these streams and parts, which stand there.
+/// The links of the whole streams that were put together of these streams and parts, which are there.
 pub(crate) fn links_of(
     alloc: Global,
     streams: &Streams,

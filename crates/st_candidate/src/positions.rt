@@ -1,4 +1,4 @@
-//! Where the events of a candidate stand in its whole streams.
+//! Where the events of a candidate are in its whole streams.
 
 use crate::assembly::Parts;
 use crate::entries::Origin;

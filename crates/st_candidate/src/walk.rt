@@ -63,8 +63,8 @@ impl Next {
         if prev == send.prev {
             return limit;
         }
-        // What comes next costs nothing right behind a receive of its prev: then the send stands
-        // before that receive.
+        // What comes next costs nothing right behind a receive of its prev: then the send is before
+        // that receive.
         let received = match ground.last_behind(prev, limit) {
             Some(gap) if self.may_stand_at(gap, limit) => Some(gap.saturating_sub(1)),
             _ => None,

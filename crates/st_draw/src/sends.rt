@@ -53,7 +53,7 @@ impl Pass {
 }
 
 /// The sends of a scene, in this order of its events, behind which another event of their process
-/// stands before the receive.
+/// comes before the receive.
 pub(crate) fn overtaken(
     alloc: Global,
     scene: &Scene<'_>,

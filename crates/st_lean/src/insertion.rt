@@ -32,7 +32,7 @@ pub(crate) struct Insertions {
     pub receives: Vec<Insertion>,
 }
 
-/// Adds the first of the untold events, as long as they stand before this event of the process, and
+/// Adds the first of the untold events, as long as they are before this event of the process, and
 /// returns the others.
 fn add_untold<'a>(
     draft: &mut Draft,

@@ -73,7 +73,7 @@ module _ (f : Filter) where
   abbrev pub row_if_chosen : Pid → ℕ → ℕ → Event → List Row
   row_if_chosen p i n e = if is_chosen f p n e then row_of p i n e ∷ [] else []
 
-  -- the rows of these events of p, of which the first is event i and stands on line n
+  -- the rows of these events of p, of which the first is event i and is on line n
   abbrev pub listed_at : Pid → ℕ → ℕ → List Event → List Row
   listed_at p i n [] = []
   listed_at p i n (e ∷ es) = row_if_chosen p i n e ++ listed_at p (i + 1) (n + 1) es

@@ -17,7 +17,7 @@ pub struct Row {
     pub pid: Pid,
     /// Its number among the events of that process, from 0.
     pub index: u64,
-    /// The line of the text that it stands on; the header is line 1.
+    /// The line of the text that it is on; the header is line 1.
     pub line: u64,
     /// The event.
     pub event: Event,
@@ -30,7 +30,7 @@ fn further(number: u64, by: u64) -> Result<u64, AllocError>
     number.checked_add(by).ok_or(AllocError)
 }
 
-/// Adds the rows of these events of a process that are asked for; the first stands on this line.
+/// Adds the rows of these events of a process that are asked for; the first is on this line.
 fn add_rows(
     rows: &mut Vec<Row>,
     filter: &Filter,

@@ -160,7 +160,7 @@ const NO_EVENT_ON_LINE: &str = ": there is no event; seqtool list has the line o
 
 const NO_EVENT_OF_LABEL: &str = ": no event has it; seqtool stats has the labels";
 
-/// What stands before the name of the text and behind it. What is too long is no no.
+/// What is written before the name of the text and behind it. What is too long is no `no`.
 fn marks_of(no: No<'_>) -> (&'static str, &'static str) {
     match no {
         No::Long | No::LongChart | No::LongClocks => ("note: ", ": "),

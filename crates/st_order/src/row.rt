@@ -11,8 +11,8 @@ use st_core::{Event, Kind, Pid, Streams};
 use st_pair::{Pairing, Source};
 use std::alloc::{AllocError, Global};
 
-/// An item with its key. The key's fields come first, so the derived order is the key's; they stand
-/// so that a row takes 32 bytes.
+/// An item with its key. The key's fields come first, so the derived order is the key's; they are
+/// laid out so that a row takes 32 bytes.
 #[derive(Clone, Copy, Debug, PartialEq, Eq, PartialOrd, Ord)]
 pub struct Row {
     /// The height of an event, or a hidden send's own count.

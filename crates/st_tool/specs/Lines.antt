@@ -1,5 +1,5 @@
--- The words of each line that stands alone, and the lines of `complete` in the parts that are written
--- one after the other, for the contracts of the functions that write them.
+-- The words of each line that is written alone, and the lines of `complete` in the parts that are
+-- written one after the other, for the contracts of the functions that write them.
 use Rattle.std.specs.Prelude.{ℕ, zero, suc, ◌+◌, Bool, true, false, List, [], ◌++◌, codes, decimal}
 use Rattle.std.specs.Prelude.{length, option_map, slice_get, Option, Some, None}
 use Rattle.std.specs.List.{flat_map}

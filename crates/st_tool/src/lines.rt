@@ -1,5 +1,4 @@
-//! The lines that stand alone. They are written through a buffer on the stack, so that writing
-//! takes no memory.
+//! The lines that are written alone, through a buffer on the stack, so that writing takes no memory.
 
 ghost use Rattle.std.specs.Prelude.{◌≡◌, ◌<◌, ◌+◌, ◌++◌, codes};
 ghost use Rattle.arrayvec.specs.ArrayVec.{array_vec_len};
@@ -14,7 +13,7 @@ use st_complete::Never;
 use st_core::Pid;
 use st_text::{Buffer, TextLine, put_bytes, put_numbered, put_pid};
 
-/// A line that stands alone.
+/// A line that is written alone.
 #[derive(Clone, Copy, Debug)]
 pub(crate) enum OutputLine {
     /// The acts, or the processes, are more than the reader takes.
