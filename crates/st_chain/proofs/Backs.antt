@@ -9,6 +9,7 @@ use Rattle.st_core.specs.Pid.{IsRising}
 use Rattle.st_core.specs.Run.{Stream, pids_of}
 use Rattle.st_core.specs.Streams.{events_of}
 use Rattle.st_pair.specs.Places.{is_stamp}
+use Rattle.st_pair.proofs.ForCallers.{process_read}
 use Rattle.st_chain.specs.Causes.{received_before, back_of, backs_from}
 
 backs_at : (all : List Event) (i k : ℕ) (es : List Event) (e : Event) → slice_get es k ≡ Some e

@@ -14,6 +14,7 @@ use Rattle.st_core.specs.Pid.{pid_eq}
 use Rattle.st_core.specs.Run.{Stream, pids_of}
 use Rattle.st_core.specs.Streams.{events_of}
 use Rattle.st_core.specs.Laws.{greatest_count}
+use Rattle.st_pair.proofs.ForCallers.{missing_events}
 use Rattle.st_origin.specs.Events.{has_above}
 use Rattle.st_hops.specs.Kept.{all_greatest, greatest_from}
 
