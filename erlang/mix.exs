@@ -1,7 +1,7 @@
 defmodule Seqaudit.MixProject do
   use Mix.Project
 
-  # For people who use mix: {:seqaudit, path: "../seqaudit/erlang"} among the dependencies, and `mix seqaudit --help'.
+  # For people who use mix: {:seqaudit, path: "../gemshowal/erlang"} among the dependencies, and `mix seqaudit --help'.
   def project do
     [app: :seqaudit, version: "1.1.0", erlc_paths: ["src"], elixirc_paths: ["lib"],
      description: "Traces running nodes by seq_trace, and audits, draws and explains the traces",

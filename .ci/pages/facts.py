@@ -53,8 +53,8 @@ NUMBERS = [
     (FORMATS, r"work of more than (\w+) seconds", constant("crates/st_terminal/src/progress.rt", "PATIENCE", 1000)),
     (FORMATS, r"so many spaces, up to (\d+),", constant("crates/st_why/src/parts.rt", "INDENT")),
     (FORMATS, r"reader takes, and (\w+) for each event", constant("crates/st_complete/src/bounds.rt", "ACTS_OF_EVENT")),
-    (FORMATS, r"a mark, right in (\d) places", length_of("crates/st_chart/specs/Chart.antt", r'^letter .*codes "(.*)"$')),
-    (FORMATS, r"`print`, left in (\d) places",
+    (FORMATS, r"a mark, right-aligned in (\d) columns", length_of("crates/st_chart/specs/Chart.antt", r'^letter .*codes "(.*)"$')),
+    (FORMATS, r"`print`, left-aligned in (\d) columns",
      length_of("crates/st_chart/specs/Chart.antt", r'^(?:item|kind)_word .*codes "([^"]*)"$')),
     (FORMATS, r"since there are more than ([\d,]+)", constant("crates/st_diff/src/align.rt", "MOST_CHANGES")),
     (FORMATS, r"they would have more than ([\d,]+) marks", constant("crates/st_draw/src/size.rt", "MOST_MARKS")),
@@ -76,7 +76,7 @@ NUMBERS = [
     (MANUAL, r"for a document, up to ([\d,]+) rows", constant("erlang/src/seqaudit_draw.erl", "MOST_ROWS")),
     (MANUAL, r"of Mermaid, up to ([\d,]+) events", constant("erlang/src/seqaudit_export.erl", "MERMAID_ROWS")),
     (README, r"A real node reported (\d+) events", read("examples/order.seqtrace").count("{seq_trace,")),
-    (README, r"and for (\w+) \(`.ci/clauses` has them", len(runpy.run_path(str(TOP / ".ci/clauses"))["WITHOUT_CLAUSE"])),
+    (README, r"and (\w+) functions \(`.ci/clauses` has them", len(runpy.run_path(str(TOP / ".ci/clauses"))["WITHOUT_CLAUSE"])),
     (CONTRIBUTING, r"about (\w+) a crate", round(len(files(EDITS[0])) / len({it.parent for it in files(EDITS[0])}))),
 ]
 
