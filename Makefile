@@ -11,6 +11,9 @@ FILE ?= examples/collected.txt
 SOURCES := crates.txt $(shell find crates -path '*/out' -prune -o -type f -print)
 CODE := crates.txt .ci/quick .ci/quick-clang $(filter %.rt,$(SOURCES))
 
+# The tests' judges assert: Python must not leave assertions out.
+unexport PYTHONOPTIMIZE
+
 .PHONY: help quick try program demo install uninstall test wrong-bodies layout layers clauses plan docs test-program test-erlang test-conformance test-rust rust dist bench hostile clean distclean
 .DELETE_ON_ERROR:
 
@@ -100,9 +103,13 @@ plan: ## plans builds of made-up crates, as make program plans the real one (1 s
 docs: ## holds the docs to the sources, and plants falsehoods, which must be refused (8 seconds)
 	@.ci/docs --self-test
 
-# The program that the gate, or else `make program`, built last.
-BUILT = $(firstword $(wildcard $(CURDIR)/crates/seqaudit/out/seqaudit $(CURDIR)/bin/seqaudit))
-BUILT_TOOL = $(firstword $(wildcard $(CURDIR)/crates/seqtool/out/seqtool $(CURDIR)/bin/seqtool))
+# The program that the gate, or else `make program`, built last. The paths are relative, since a blank in that of the
+# checkout would divide them.
+BUILT = $(firstword $(wildcard crates/seqaudit/out/seqaudit bin/seqaudit))
+BUILT_TOOL = $(firstword $(wildcard crates/seqtool/out/seqtool bin/seqtool))
+# The same for what runs in another folder: nothing if there is none.
+SEQAUDIT_BUILT = $(if $(BUILT),'$(CURDIR)/$(BUILT)')
+SEQTOOL_BUILT = $(if $(BUILT_TOOL),'$(CURDIR)/$(BUILT_TOOL)')
 
 # All parts of tests/hostile but the growth of times, which a busy machine could spoil, and the floods of 64 MB: make
 # hostile has these too.
@@ -119,13 +126,13 @@ test-program: ## the programs that were built last: examples/, random traces, a 
 
 # Traces of a real Erlang node, if there is one, by the program that was built last.
 test-erlang: ## the tests of erlang/, with the programs that were built last (3 to 5 minutes; needs erl; some need runtime_tools)
-	@if command -v erl >/dev/null; then SEQAUDIT=$(BUILT) SEQTOOL=$(BUILT_TOOL) $(MAKE) --no-print-directory -C erlang test; \
+	@if command -v erl >/dev/null; then SEQAUDIT=$(SEQAUDIT_BUILT) SEQTOOL=$(SEQTOOL_BUILT) $(MAKE) --no-print-directory -C erlang test; \
 	else echo "There is no erl here (Debian's erlang-base): the Erlang tests are skipped."; fi
 
 # The machine beside a real node, and again with each rule of the slow model broken.
 test-conformance: ## compares 200 random scripts with a real node (1 minute; needs erl and Python)
 	@if command -v erl >/dev/null && command -v python3 >/dev/null; then \
-	SEQAUDIT=$(BUILT) $(MAKE) --no-print-directory -C erlang conformance conformance-broken RUNS=200; \
+	SEQAUDIT=$(SEQAUDIT_BUILT) $(MAKE) --no-print-directory -C erlang conformance conformance-broken RUNS=200; \
 	else echo "There is no erl or no python3 here: the comparison with a real node is skipped."; fi
 
 # What `make rust` builds, beside the programs that were built last.
@@ -140,7 +147,8 @@ hostile: bin/seqaudit bin/seqtool ## faults, tampered text and inputs at the lim
 	tests/hostile
 
 clean: ## removes what was built; keeps the proofs
-	rm -rf bin erlang/ebin erlang/test/ebin erlang/test/out erlang/conformance/ebin
+	rm -rf bin
+	@$(MAKE) --no-print-directory -C erlang clean
 
 distclean: clean ## removes the proofs too
 	rm -rf crates/*/out

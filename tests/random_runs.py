@@ -5,7 +5,7 @@
 
 Each number from FIRST to LAST makes one run. The model and the program must write the same for
 `check` of its acts, to `check` of the acts after a tampering, and to `audit` and `chart` of its
-streams, if the program has these commands. If every stamp and every receive of a message with
+streams. If every stamp and every receive of a message with
 a token is reported and nothing is reset, the streams must fit; and each fits must pass `check`.
 
 Each number also makes wild streams: those of another run with one to three damages. `audit` and
@@ -167,10 +167,10 @@ def ask(program, words, given):
 
 
 def compare(program, words, given):
-    """The model's output, which must be the program's too if the program has the command."""
+    """The model's output, which must be the program's too."""
     lines, status = model.answer(words, given)
     said = ask(program, words, given)
-    assert said[1] == 3 or said == (text(lines), status), (words, given, lines, status, said)
+    assert said == (text(lines), status), (words, given, lines, status, said)
     return lines, status
 
 

@@ -1,1 +1,1 @@
-"""The parts of `tests/hostile`: faults that the built program `seqaudit` is put under."""
+"""The parts of `tests/hostile`: faults that the built programs are put under."""

@@ -16,9 +16,6 @@ SMALL = Size(50_000, 1 << 16, 1 << 9)
 GREAT = Size(980_000, 1 << 21, 1 << 17)  # Texts of 64 MB and more. To find the counts takes half a minute.
 # The bytes of a receive's line, which its value fills up if the count is short.
 LINE = 66
-# The first of the counts that follow one another, at which `audit` stops (toowide), as it stops early in a flood: else a
-# flood would be compared with a text for which acts are built to its end.
-FIRST = 1 << 44
 # So many processes whose pids share places, and their acts: of MANY, 64 MB.
 PROCESSES, ACTS, MANY = 16_000, 400_000, 3_400_000
 # How far apart the slots of equal numbers on neighbouring nodes lie in the tables of guesses; the numbers of a node.
@@ -96,6 +93,12 @@ def received(counts):
     yield from map(receive_line, counts)
 
 
+def alike(flood):
+    """As many counts, as far apart, that share no places: `audit` fills in as many missing ones before it stops."""
+    step = flood[-1] // len(flood) | 1
+    return range(step, step * (len(flood) + 1), step)
+
+
 def looked_at(pids, acts):
     """So many acts of these processes, one after the other."""
     names = [b"<%d.%d.0>" % pid for pid in pids]
@@ -119,11 +122,10 @@ def compared(program, words, name, other, flood):
 
 
 def tried(program, words, size=SMALL):
-    """A flood of counts takes about as long as as many receives with counts that follow one another."""
+    """A flood of counts takes about as long as as many receives with counts that are as far apart."""
     for name, chosen in COUNTS.items():
         flood = chosen(size)
-        other = range(FIRST, FIRST + len(flood))
-        yield compared(program, words, f"{len(flood):,} {name}", received(other), received(flood))
+        yield compared(program, words, f"{len(flood):,} {name}", received(alike(flood)), received(flood))
 
 
 def pids_tried(program, words, acts=ACTS):

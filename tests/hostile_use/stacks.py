@@ -7,7 +7,7 @@ import tempfile
 from .act_families import passed_on
 from .growth import FORMS_OF_STREAMS, OF_ACTS, OF_MISTAKES, OF_STREAMS, Text, words
 from .inputs import CERTIFICATE, HIDDEN_SENDS
-from .program import expect
+from .program import Check, expect
 from .stream_families import ring
 from .texts import bundle
 
@@ -85,6 +85,8 @@ def within(program, kilobytes, command, text):
         ample = program.run(command, stdin=given)
         given.seek(0)
         narrow = program.run(command, stdin=given, before=("prlimit", f"--stack={kilobytes << 10}"))
+    if ample.status not in (0, 1, 2):
+        return Check(said, f"with ample room: {ample}")
     if command == ["drive"]:  # Which run of the scripts it writes is the threads' choice.
         ample, narrow = ample.status, narrow.status
     return expect(said, ample, narrow)

@@ -10,7 +10,7 @@ pub enum Cause {
     Event(Pid, u64),
     /// The send of a receive, if nobody reported it.
     Hidden,
-    /// Nothing that was reported: no receive has the prev of this send or print as its count. It
-    /// begins a trace, or its cause wasn't reported.
+    /// Nothing that was reported: no receive of its process before this send or print has its prev
+    /// as its count. It begins a trace, or its cause wasn't reported.
     Start,
 }

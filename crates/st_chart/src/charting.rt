@@ -244,8 +244,8 @@ fn send_chart<W: ByteSink>(writer: &mut W, sheet: &Sheet<'_>, items: &[Item]) ->
 }
 
 /// Writes the chart of the items that have this label, in their order: its lanes, and a line for
-/// each. An item at whose place there is no event has no label and is left out: an item of these
-/// streams never is. The causes are those of these streams. It takes memory for its lanes alone.
+/// each. An item at whose place there is no event has no label and is left out; each item of these
+/// streams has one. The causes are those of these streams. It takes memory for its lanes alone.
 pub fn chart<W: ByteSink>(
     alloc: Global,
     writer: &mut W,

@@ -22,7 +22,8 @@ pub enum Hop {
     OtherLabel(u64, Label),
     /// A send or print that no receive came before.
     Begins,
-    /// A send or print: no receive that was reported has its prev.
+    /// A send or print: no receive with its prev is directly before its row, the sends and prints
+    /// of one prev that it is among.
     BeginsOrUnreported,
 }
 
