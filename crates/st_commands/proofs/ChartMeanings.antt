@@ -1,6 +1,7 @@
 -- Status 0 belongs to a chart alone. Status 1 belongs to a label that no item has, or to a reason
 -- of pairing, which rules out all acts without a reset.
 use Rattle.std.proofs.Common.{◌≡◌, ℕ, List, Option, Some, refl, sym, ap, subst, arith}
+use Rattle.std.specs.Prelude.{IsSome}
 use Rattle.std.proofs.lemmas.Option.{same_Some}
 use Rattle.st_core.specs.declared.types.Pid.{Pid}
 use Rattle.st_core.specs.declared.types.Label.{Label}
@@ -14,7 +15,7 @@ use Rattle.st_audit.specs.declared.finding.Finding.{Finding}
 use Rattle.st_audit.specs.declared.finding.Finding.TheVariants as finding
 use Rattle.st_audit.specs.declared.finding.Reason.{Reason}
 use Rattle.st_audit.specs.declared.finding.Reason.TheVariants as reason
-use Rattle.st_audit.specs.Findings.{IsReason, unfit_by}
+use Rattle.st_audit.specs.Findings.{IsReason, fault_of, unfit_by}
 use Rattle.st_text.specs.declared.limits.Limits.{Limits}
 use Rattle.st_commands.specs.Output.{Output}
 use Rattle.st_commands.specs.Checked.{top, Spells}
@@ -38,15 +39,16 @@ unfit_status (pairing.Mismatch p i q j) found by = ap finding_status (sym (same_
 module _ (limits : Limits) (bytes : List ℕ) (streams : List Stream) (given : Option (List Act))
     (spelled : Spells limits bytes streams given) where
   holds_at : (f : PairFault) → refusal streams ≡ Some f → (p : Pid) (i : ℕ) (r : Reason)
-      → IsReason top streams p i r
+      → IsSome (fault_of (finding.Unfit p i r)) → IsReason top streams p i r
       → MeansUnpaired limits bytes (report_output streams (finding.Unfit p i r))
-  holds_at f is p i r holds = record {
+  holds_at f is p i r unpaired holds = record {
     streams = streams;
     given = given;
     pid = p;
     index = i;
     reason = r;
     spelled = spelled;
+    unpaired = unpaired;
     ruled_out = refused_never_shown streams f is top;
     holds = holds;
     text = refl;
@@ -59,19 +61,19 @@ module _ (limits : Limits) (bytes : List ℕ) (streams : List Stream) (given : O
   unpaired_means (pairing.PrevNotBefore p i) found is by =
       subst (λ (x : Finding). MeansUnpaired limits bytes (report_output streams x))
       (same_Some _ found by)
-      (holds_at (pairing.PrevNotBefore p i) is p i reason.PrevNotBefore is)
+      (holds_at (pairing.PrevNotBefore p i) is p i reason.PrevNotBefore refl is)
   unpaired_means (pairing.NotRising p i j) found is by =
       subst (λ (x : Finding). MeansUnpaired limits bytes (report_output streams x))
       (same_Some _ found by)
-      (holds_at (pairing.NotRising p i j) is p i (reason.NotRising j) is)
+      (holds_at (pairing.NotRising p i j) is p i (reason.NotRising j) refl is)
   unpaired_means (pairing.Repeated p i q j) found is by =
       subst (λ (x : Finding). MeansUnpaired limits bytes (report_output streams x))
       (same_Some _ found by)
-      (holds_at (pairing.Repeated p i q j) is p i (reason.Repeated q j) is)
+      (holds_at (pairing.Repeated p i q j) is p i (reason.Repeated q j) refl is)
   unpaired_means (pairing.Mismatch p i q j) found is by =
       subst (λ (x : Finding). MeansUnpaired limits bytes (report_output streams x))
       (same_Some _ found by)
-      (holds_at (pairing.Mismatch p i q j) is p i (reason.Mismatch q j) is)
+      (holds_at (pairing.Mismatch p i q j) is p i (reason.Mismatch q j) refl is)
 
 -- ---- what a status means
 

@@ -187,17 +187,18 @@ a_chart limits label bytes = by (fault_within limits bytes) refl
 
 -- ---- one at most
 
-module _ (limits : Limits) (label : Label) (bytes : List ℕ) where
-  same_streams : (ss ts : List Stream) (xs ys : Option (List Act)) → Spells limits bytes ss xs
+module _ (limits : Limits) (bytes : List ℕ) where
+  pub same_streams : (ss ts : List Stream) (xs ys : Option (List Act)) → Spells limits bytes ss xs
       → Spells limits bytes ts ys → ss ≡ ts
   same_streams ss ts xs ys s t =
       ap (λ (c : Contents). c.streams) (text_one bytes (whole ss xs) (whole ts ys) s.text t.text)
 
+module _ (limits : Limits) (label : Label) (bytes : List ℕ) where
   module _ (ss ts : List Stream) (xs ys : List Item) (h : HasOrder limits bytes ss xs)
       (k : HasOrder limits bytes ts ys)
     where
       listed : ss ≡ ts
-      listed = same_streams ss ts h.given k.given h.spelled k.spelled
+      listed = same_streams limits bytes ss ts h.given k.given h.spelled k.spelled
 
       ordered : xs ≡ ys
       ordered = one_order ss xs ys h.order (subst (λ (s : List Stream). IsOrder s ys)
@@ -221,14 +222,14 @@ module _ (limits : Limits) (label : Label) (bytes : List ℕ) where
       → HasPairFault limits bytes ts found → (X : Type 0) → X
   reason_apart ss ts xs found h k X =
       let moved : refusal ss ≡ refusal ts =
-      ap refusal (same_streams ss ts h.given k.given h.spelled k.spelled) in
+      ap refusal (same_streams limits bytes ss ts h.given k.given h.spelled k.spelled) in
       absurd (none-some k.fault (sym h.accepted ∙ moved ∙ k.refused))
 
   one_reason : (ss ts : List Stream) (one other : Finding) → HasPairFault limits bytes ss one
       → HasPairFault limits bytes ts other
       → report_output ss one ≡ report_output ts other
   one_reason ss ts one other h k =
-      let listed : ss ≡ ts = same_streams ss ts h.given k.given h.spelled k.spelled in
+      let listed : ss ≡ ts = same_streams limits bytes ss ts h.given k.given h.spelled k.spelled in
       let faults : h.fault ≡ k.fault =
       same_Some h.fault k.fault (sym h.refused ∙ ap refusal listed ∙ k.refused) in
       let found : one ≡ other =

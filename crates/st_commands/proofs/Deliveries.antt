@@ -173,10 +173,17 @@ module _ (limits : Limits) {R : Type 0} (reader : ReaderCall R) where
 
     pub owes_audit : (out : Output) → AuditsTo c.streams out
         → Owes limits reader (IsAudited limits) out
-    owes_audit out (parts.Finds found is on) =
+    owes_audit out (parts.Finds found is on final exact) =
         OfBytes h.bytes (report_output c.streams found) h.all
         (audits.Found h.bytes c.streams found
-        (record { given = c.acts; spelled = h.spelled; finding = is; handed_on = on }))
+        (record {
+          given = c.acts;
+          spelled = h.spelled;
+          finding = is;
+          handed_on = on;
+          final = final;
+          exact = exact;
+        }))
     owes_audit out parts.NoRoomToAudit = ForMemory h.bytes h.all h.small
 
     -- ---- chart

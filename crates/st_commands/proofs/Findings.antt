@@ -48,6 +48,7 @@ found_unfit limits bytes streams (finding.Unfit p i r) h e =
       spelled = h.spelled;
       there = h.finding.0;
       holds = h.finding.1;
+      final = h.final;
       text = refl;
     }
 

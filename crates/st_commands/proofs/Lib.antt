@@ -9,6 +9,7 @@ pub mod Refusals
 pub mod OwedOutputs
 pub mod Outputs
 pub mod ChartOutputs
+pub mod AuditOutputs
 pub mod Meanings
 pub mod ChartMeanings
 pub mod Findings

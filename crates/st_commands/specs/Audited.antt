@@ -1,11 +1,14 @@
 -- What `audit` makes of bytes: the report of what is found of the streams that they spell, or why
 -- they spell none. The acts in the input are ignored.
 use Rattle.std.specs.Prelude.{◌≡◌, ℕ, List, Option, Some}
+use Rattle.std.specs.Option.{ForSome}
 use Rattle.st_core.specs.declared.types.Act.{Act}
 use Rattle.st_core.specs.Run.{Stream}
 use Rattle.st_audit.specs.declared.finding.Finding.{Finding}
 use Rattle.st_audit.specs.declared.finding.Finding.TheVariants as finding
-use Rattle.st_audit.specs.Findings.{IsFinding, HandsOn}
+use Rattle.st_audit.specs.Construction.{IsAudit}
+use Rattle.st_audit.specs.Findings.{IsFinding, HandsOn, fault_of}
+use Rattle.st_pair.specs.Final.{RulesOut}
 use Rattle.st_chart.specs.Report.{report_text}
 use Rattle.st_text.specs.declared.fault.ReadFault.{ReadFault}
 use Rattle.st_text.specs.declared.limits.Limits.{Limits}
@@ -24,13 +27,15 @@ report_output streams found =
 
 -- The bytes spell streams, of which this is found: acts that the checker accepts, or an event that
 -- is there and a reason that holds there. If pairing refuses the streams, its reason is what is
--- found.
+-- found, and is final; and it is what the construction finds, no other acts and no other event.
 pub record HasFinding (limits : Limits) (bytes : List ℕ) (streams : List Stream)
     (found : Finding) : Type 0 where
   pub given : Option (List Act)
   pub spelled : Spells limits bytes streams given
   pub finding : IsFinding top streams found
   pub handed_on : HandsOn streams found
+  pub final : ForSome (fault_of found) (RulesOut streams)
+  pub exact : IsAudit top streams found
 
 -- the output of the bytes
 pub data IsAudited (limits : Limits) : List ℕ → Output → Type 0 where

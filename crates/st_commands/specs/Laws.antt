@@ -1,8 +1,10 @@
 -- The laws of what the commands write, each the contract of a function of `laws`.
-use Rattle.std.specs.Prelude.{◌≡◌, ℕ, ◌≤◌, List, Some}
+use Rattle.std.specs.Prelude.{◌≡◌, ◌⊎◌, ℕ, ◌≤◌, List, Option, Some}
 use Rattle.st_core.specs.declared.types.Act.{Act}
 use Rattle.st_core.specs.Run.{Stream, Shows}
 use Rattle.st_core.specs.Verdict.{Stuck, Yes, IsVerdict}
+use Rattle.st_plan.specs.Full.{IsFullyShown}
+use Rattle.st_plan.specs.Plain.{IsPlain}
 use Rattle.st_runtime.specs.declared.join.record.Record.{Record}
 use Rattle.st_text.specs.declared.limits.Limits.{Limits}
 use Rattle.st_text.specs.Text.{spelling}
@@ -41,6 +43,15 @@ abbrev pub UnfitMeans : Type 0
 UnfitMeans =
     (limits : Limits) (bytes : List ℕ) (out : Output) → IsAudited limits bytes out
     → out.status ≡ 1 → MeansUnfit limits bytes out
+
+-- of plain streams, and of those of a run without a reset that reported everything, `audit` writes
+-- a certificate
+abbrev pub CertainTracesFit : Type 0
+CertainTracesFit =
+    (limits : Limits) (bytes : List ℕ) (streams : List Stream) (given : Option (List Act))
+    (out : Output) → Spells limits bytes streams given
+    → IsPlain top streams ⊎ IsFullyShown top streams
+    → IsAudited limits bytes out → out.status ≡ 0
 
 -- the text of streams and acts
 abbrev pub certificate : List Stream → List Act → List ℕ

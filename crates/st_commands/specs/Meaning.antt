@@ -4,6 +4,7 @@
 use Rattle.std.specs.Prelude.{◌≡◌, ℕ, true, false, List, ◌++◌, Option, Some, None, IsSome, All}
 use Rattle.std.specs.Prelude.{codes, filter}
 use Rattle.std.specs.List.{flat_map, list_any}
+use Rattle.std.specs.Option.{ForSome}
 use Rattle.st_core.specs.declared.types.Pid.{Pid}
 use Rattle.st_core.specs.declared.types.Label.{Label}
 use Rattle.st_core.specs.declared.types.Act.{Act}
@@ -13,6 +14,7 @@ use Rattle.st_core.specs.Step.{Outcome, actor}
 use Rattle.st_core.specs.Run.{Stream, Shows, pids_of, run, stream}
 use Rattle.st_core.specs.Pairs.{Follows, AllPaired, pairs}
 use Rattle.st_core.specs.Verdict.{Verdict, IsVerdict}
+use Rattle.st_pair.specs.Final.{RulesOut}
 use Rattle.st_pair.specs.Places.{event_at}
 use Rattle.st_pair.specs.Pairing.{refusal}
 use Rattle.st_order.specs.declared.item.Item.{Item}
@@ -20,7 +22,7 @@ use Rattle.st_order.specs.Order.{IsOrder}
 use Rattle.st_order.specs.Labels.{item_has_label}
 use Rattle.st_audit.specs.declared.finding.Reason.{Reason}
 use Rattle.st_audit.specs.declared.finding.Finding.TheVariants as finding
-use Rattle.st_audit.specs.Findings.{IsReason}
+use Rattle.st_audit.specs.Findings.{IsReason, fault_of}
 use Rattle.st_chart.specs.Chart.{chart_text}
 use Rattle.st_chart.specs.Report.{report_text}
 use Rattle.st_runtime.specs.declared.fault.ActFault.TheVariants as act
@@ -99,6 +101,8 @@ pub record MeansUnfit (limits : Limits) (bytes : List ℕ) (out : Output) : Type
   pub there : IsSome (event_at streams pid index)
   -- and the reason holds at it
   pub holds : IsReason top streams pid index reason
+  -- one of pairing is final: acts without a reset never show the streams, or no acts at all do
+  pub final : ForSome (fault_of (finding.Unfit pid index reason)) (RulesOut streams)
   -- the text names the event and the reason, and what the reason rests on
   pub text : out.text ≡ report_text streams (finding.Unfit pid index reason)
 
@@ -196,6 +200,8 @@ pub record MeansUnpaired (limits : Limits) (bytes : List ℕ) (out : Output) : T
   pub reason : Reason
   -- the bytes spell streams, and acts or none, within the reader's limits
   pub spelled : Spells limits bytes streams given
+  -- the reason is one of pairing
+  pub unpaired : IsSome (fault_of (finding.Unfit pid index reason))
   -- no acts without a reset show the streams
   pub ruled_out : (acts : List Act) → NoReset acts → ¬ Shows top streams acts
   -- since the reason holds at the event

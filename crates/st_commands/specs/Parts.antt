@@ -2,6 +2,7 @@
 -- of. What a command does in all is in `Command`.
 use Rattle.std.specs.Prelude.{◌≡◌, ℕ, true, false, List, Some, None}
 use Rattle.std.specs.List.{list_any}
+use Rattle.std.specs.Option.{ForSome}
 use Rattle.st_core.specs.declared.types.Label.{Label}
 use Rattle.st_core.specs.declared.types.Act.{Act}
 use Rattle.st_core.specs.Step.{Outcome}
@@ -11,8 +12,10 @@ use Rattle.st_check.specs.Answers.{FollowsAll, PairsAll, SticksAt}
 use Rattle.st_check.specs.declared.verdict.Reports.{Reports}
 use Rattle.st_check.specs.declared.verdict.Reports.TheVariants as reports
 use Rattle.st_audit.specs.declared.finding.Finding.{Finding}
-use Rattle.st_audit.specs.Findings.{IsFinding, HandsOn, unfit_by}
+use Rattle.st_audit.specs.Construction.{IsAudit}
+use Rattle.st_audit.specs.Findings.{IsFinding, HandsOn, fault_of, unfit_by}
 use Rattle.st_pair.specs.declared.answer.PairFault.{PairFault}
+use Rattle.st_pair.specs.Final.{RulesOut}
 use Rattle.st_pair.specs.Pairing.{refusal}
 use Rattle.st_order.specs.declared.item.Item.{Item}
 use Rattle.st_order.specs.Order.{IsOrder}
@@ -40,6 +43,7 @@ pub data ChecksTo (streams : List Stream) (acts : List Act) : Output → Type 0 
 -- what is found of streams
 pub data AuditsTo (streams : List Stream) : Output → Type 0 where
   Finds : (found : Finding) → IsFinding top streams found → HandsOn streams found
+      → ForSome (fault_of found) (RulesOut streams) → IsAudit top streams found
       → AuditsTo streams (report_output streams found)
   NoRoomToAudit : AuditsTo streams no_memory
 

@@ -4,14 +4,17 @@
 ghost use Rattle.std.specs.Prelude.{◌≤◌};
 ghost use Rattle.st_core.specs.declared.types.Label.{Label};
 ghost use Rattle.st_text.specs.declared.limits.Limits.{Limits};
+ghost use Rattle.st_commands.specs.Audited.{IsAudited};
 ghost use Rattle.st_commands.specs.Charted.{IsCharted};
 ghost use Rattle.st_commands.specs.Checked.{IsChecked, top};
 ghost use Rattle.st_commands.specs.Laws.{YesMeans, NoMeans, ShownIsYes, HasOutput, HasOneOutput};
-ghost use Rattle.st_commands.specs.Laws.{FitsMeans, UnfitMeans, CertificateIsYes};
+ghost use Rattle.st_commands.specs.Laws.{FitsMeans, UnfitMeans, CertainTracesFit};
+ghost use Rattle.st_commands.specs.Laws.{CertificateIsYes};
 ghost use Rattle.st_commands.specs.Laws.{DrivenMeans, RecordedIsYes};
 ghost use Rattle.st_commands.specs.Laws.{NeverStuck, NeverStuckInReplay};
 ghost use Rattle.st_commands.specs.Replayed.{IsReplayed};
 
+use st_audit::laws::{certain_streams_fit, one_finding};
 use st_core::laws::a_verdict;
 
 /// An output of the check with status 0 means that the bytes spell streams and acts, that the acts
@@ -45,6 +48,14 @@ pub fn unfit_means()
     ensures { UnfitMeans }
 {}
 
+/// The audit writes a certificate if the bytes spell streams of which no reason holds, or which some
+/// run without a reset reported as all of itself.
+pub fn certain_traces_fit()
+    ensures { CertainTracesFit }
+{
+    certain_streams_fit();
+}
+
 /// The check of a certificate that is a text within the reader's limits says yes and the pairs.
 pub fn certificate_is_yes()
     ensures { CertificateIsYes }
@@ -73,13 +84,16 @@ pub fn an_answer()
     a_verdict();
 }
 
-/// Bytes have one output at most of the check, of the replay and of each label's chart, so whoever
-/// knows the bytes that were read knows which output is owed.
+/// Bytes have one output at most of the check, of the audit, of the replay and of each label's chart,
+/// so whoever knows the bytes that were read knows which output is owed.
 pub fn one_answer()
     ensures check { (limits : Limits) → HasOneOutput (IsChecked limits) }
+    ensures audit { (limits : Limits) → HasOneOutput (IsAudited limits) }
     ensures replay { (limits : Limits) → HasOneOutput (IsReplayed limits) }
     ensures chart { (limits : Limits) (label : Label) → HasOneOutput (IsCharted limits label) }
-{}
+{
+    one_finding();
+}
 
 /// If the reader's limits let no more acts pass than a clock has counts, as those of the programs
 /// do, no text has an act without a step, so `no stuck` never comes.

@@ -8,7 +8,9 @@ pub returns-in-Ok : goal.returns-in-Ok
 returns-in-Ok g c =
     record {
       output = report_output c.args.streams.now c.in-Ok.finding;
-      owed = Finds c.in-Ok.finding c.in-Ok.ensures.found c.in-Ok.ensures.handed_on;
+      owed =
+          Finds c.in-Ok.finding c.in-Ok.ensures.found c.in-Ok.ensures.handed_on
+          c.in-Ok.ensures.rules_out c.in-Ok.ensures.exact;
       delivered = c.tell_finding.ensures;
     }
 
