@@ -14,8 +14,8 @@ use Rattle.st_plan.specs.Marks.{Marked, told_events, Whole}
 abbrev pub is_late : List Event → Event → Bool
 is_late es e = is_stamp e && not (nat_lt (greatest_count es) e.serial.this)
 
--- its prev isn't what they leave, nor a count that a new trace gives: so a receive of it is missing
--- between
+-- the prev of the send or print e isn't what these events of its process leave, nor a count that a
+-- new trace gives: so a receive of this count is missing between
 abbrev pub is_need : List Event → Event → Bool
 is_need es e =
     is_stamp e && (not (e.serial.prev == prev_after es) && nat_lt e.serial.prev (greatest_count es))

@@ -33,7 +33,8 @@ is_free streams v q = is_none (receive_of streams q v) && is_none (stamp_of stre
 abbrev pub excess : List Stream → ℕ → Pid → ℕ
 excess streams v p = needs streams v p - count_by (is_own_supply streams v p) (pids_of streams)
 
--- there are no more of these in all than processes that are free to send the rest
+-- over all processes, the needs of v beyond own supplies are no more than the processes that are
+-- free to send v
 abbrev pub IsSupplied : List Stream → ℕ → Type 0
 IsSupplied streams v =
     sum_by (excess streams v) (pids_of streams) ≤ count_by (is_free streams v) (pids_of streams)

@@ -1,6 +1,6 @@
-//! What runs without a reset that report everything show, as contracts of functions that do
-//! nothing: each clause is a theorem over the definitions of `specs/`, and a proof that calls the
-//! function may use it.
+//! Which streams have acts without a reset: laws on runs, completions, reasons, renumbering and
+//! placings. They are contracts of functions that do nothing: each clause is a theorem over the
+//! definitions of `specs/`, and a proof that calls the function may use it.
 
 ghost use Rattle.std.specs.Prelude.{◌≡◌, ◌↔◌, ◌≤◌, ◌⊎◌, ℕ, true, List, [], None, Some, map, take};
 ghost use Rattle.std.specs.List.{count_by};
@@ -27,8 +27,8 @@ ghost use Rattle.st_closed_world.specs.Needs.{marked_of};
 ghost use Rattle.st_closed_world.specs.Placed.{earliest_of, placed_wholes, IsPlacing, IsTimelyChoice};
 ghost use Rattle.st_closed_world.specs.Renumbering.{count_of_rank, counts_of, KeepsOrder};
 ghost use Rattle.st_closed_world.specs.Renumbering.{renumbered_streams, with_counts};
-ghost use Rattle.st_closed_world.specs.Reasons.{HasEachSend, HasNoReason, HasReason, Reason};
-ghost use Rattle.st_closed_world.specs.Reasons.{StandsAgainst};
+ghost use Rattle.st_closed_world.specs.Reasons.{HasEachSend, HasNoReason, HasReason, HoldsAt};
+ghost use Rattle.st_closed_world.specs.Reasons.{Reason, StandsAgainst};
 ghost use Rattle.st_closed_world.specs.Supply.{is_own_supply, needs, needs_from, IsSupplied};
 ghost use Rattle.st_closed_world.specs.Wholes.{wholes_of, AreReceivesTold, AreSendsTold};
 
@@ -117,13 +117,18 @@ pub fn renumbering_keeps_needless()
         → (IsNeedless top streams ↔ IsNeedless (f top) (with_counts f streams)) }
 {}
 
-/// The same reasons hold too, at the same places: pairing's, late stamps, needs of 0, and counts
-/// that too many need. Only a count above TOP is another matter, since it is about size.
+/// The same reasons hold too: pairing's, late stamps and needs of 0 at the same places, and too
+/// many need a count exactly if too many need its replacement. Only a count above TOP is another
+/// matter, since it is about size.
 pub fn renumbering_keeps_reasons()
     ensures { (f : ℕ → ℕ) → KeepsOrder f → (streams : List Stream)
         → (refusal (with_counts f streams) ≡ refusal streams)
         × (HoldsOfNone is_late (with_counts f streams) ↔ HoldsOfNone is_late streams)
         × (HoldsOfNone is_rootless (with_counts f streams) ↔ HoldsOfNone is_rootless streams)
+        × ((p : Pid) (i : ℕ) → HoldsAt is_late (with_counts f streams) p i
+        ↔ HoldsAt is_late streams p i)
+        × ((p : Pid) (i : ℕ) → HoldsAt is_rootless (with_counts f streams) p i
+        ↔ HoldsAt is_rootless streams p i)
         × ((v : ℕ) → IsSupplied (with_counts f streams) (f v) ↔ IsSupplied streams v) }
 {}
 
@@ -178,7 +183,7 @@ pub fn streams_are_shown_or_refused()
 
 /// And a reason is final, whether sends are hidden or not: if one holds of streams, no acts
 /// without a reset show them. So streams are refused only if they are never shown. Only `TooHigh`
-/// depends on TOP: the others are at each.
+/// depends on TOP: the other reasons are final at every TOP.
 pub fn refused_only_if_never_shown()
     ensures { (top : ℕ) (streams : List Stream) → IsRising (pids_of streams) → (reason : Reason)
         → StandsAgainst top streams reason → (acts : List Act) → NoReset acts

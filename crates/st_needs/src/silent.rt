@@ -1,6 +1,6 @@
 //! Streams with further processes that report nothing.
 
-ghost use Rattle.std.specs.Prelude.{◌≡◌, drop, true, false, IfOk};
+ghost use Rattle.std.specs.Prelude.{◌≡◌, drop, false, not, IfOk};
 ghost use Rattle.std.specs.List.{AllByRecursion};
 ghost use Rattle.st_core.specs.Pid.{IsRising};
 ghost use Rattle.st_core.specs.Run.{pids_of};
@@ -15,7 +15,7 @@ use std::alloc::{AllocError, Global};
 
 /// Whether the streams don't list the process.
 pub fn is_unlisted(streams: &Streams, pid: Pid) -> bool
-    ensures { result ≡ true → lists streams.now pid ≡ false }
+    ensures { result ≡ not (lists streams.now pid) }
 {
     let _pids = streams.pids();
     match streams.place_of(pid) {

@@ -19,7 +19,7 @@ use Rattle.st_core.specs.Laws.{NoReset}
 use Rattle.st_core.specs.Run.{Shows}
 use Rattle.st_open_world.specs.Silent.{IsShownWithOthers, with_silent}
 use Rattle.st_open_world.proofs.SilentStreams.{silent_sound}
-use Rattle.st_open_world.proofs.SameReasons.{none_as, silent_same, tell_back}
+use Rattle.st_open_world.proofs.SameReasons.{none_as, reason_as, silent_same, tell_back}
 use Rattle.st_open_world.proofs.ChosenWith.{so_many_shown}
 use Rattle.st_open_world.proofs.EarliestWholes.{asked_low, places}
 use Rattle.st_open_world.proofs.Unfounded.{behind_of}
@@ -52,6 +52,16 @@ same_none top streams others sound =
       none_as (with_silent streams others) streams same top,
       none_as streams (with_silent streams others) (tell_back
           (with_silent streams others) streams same) top,
+    )
+
+pub same_reason : (top : ℕ) (streams : List Stream) (others : List Pid) (reason : OpenReason)
+    → StandsAgainstOpen top (with_silent streams others) reason
+    ↔ StandsAgainstOpen top streams reason
+same_reason top streams others reason =
+    let same = silent_same streams others in (
+      reason_as streams (with_silent streams others) (tell_back
+          (with_silent streams others) streams same) top reason,
+      reason_as (with_silent streams others) streams same top reason,
     )
 
 pub shown_with_none : (top : ℕ) (streams : List Stream) → IsStreams streams → (others : List Pid)

@@ -1,7 +1,7 @@
 -- Streams with the same events of each process, and more processes without events: whatever is
 -- asked of events, of what is received and of what is stamped has the same answer. So pairing, late
 -- stamps and supplies are the same.
-use Rattle.std.proofs.Common.{◌≡◌, inl, inr, ℕ, zero, ◌==◌, ◌&&◌, ◌||◌, nat_lt, true, false}
+use Rattle.std.proofs.Common.{◌≡◌, inl, inr, ℕ, zero, ◌==◌, ◌&&◌, ◌||◌, nat_lt, Bool, true, false}
 use Rattle.std.proofs.Common.{not, cond, List, [], ◌∷◌, take, Option, Some, None}
 use Rattle.std.proofs.Common.{is_none, slice_get, option_and_then, refl, sym, ◌∙◌, ap}
 use Rattle.std.specs.Option.{option_map_or}
@@ -21,8 +21,10 @@ use Rattle.st_order.specs.Items.{is_hidden}
 use Rattle.st_pair.specs.declared.answer.Source.{Source}
 use Rattle.st_pair.specs.declared.answer.Source.TheVariants as source
 use Rattle.st_closed_world.specs.Needs.{is_late}
+use Rattle.st_closed_world.specs.Reasons.{HoldsAt, is_too_high}
 use Rattle.st_closed_world.specs.Supply.{is_free, is_own_supply}
-use Rattle.st_open_world.specs.OpenReasons.{HasNoOpenReason, IsUnfounded}
+use Rattle.st_open_world.specs.OpenReasons.{HasNoOpenReason, IsUnfounded, Late, OpenReason, Refused}
+use Rattle.st_open_world.specs.OpenReasons.{StandsAgainstOpen, TooHigh, Unfounded}
 use Rattle.st_open_world.specs.Silent.{inserted, with_silent}
 use Rattle.st_open_world.proofs.SilentStreams.{events_inserted, first_inserted}
 
@@ -167,3 +169,19 @@ module _ (more streams : List Stream) (same : TellSame more streams) where
     founded = λ p i z. none.founded p i (unfounded_as p i z);
     within = λ p i e at. none.within p i e (there p i e at);
   }
+
+  holds_as : (test : List Event → Event → Bool) (p : Pid) (i : ℕ) → HoldsAt test streams p i
+      → HoldsAt test more p i
+  holds_as test p i is = record {
+    event = is.event;
+    at = there p i is.event is.at;
+    holds = ap (λ es. test (take i es) is.event) (same.events p) ∙ is.holds;
+  }
+
+  -- each reason holds of the ones if it holds of the others
+  pub reason_as : (top : ℕ) (reason : OpenReason) → StandsAgainstOpen top streams reason
+      → StandsAgainstOpen top more reason
+  reason_as top (Refused f) against = refusal_as ∙ against
+  reason_as top (Late p i) against = holds_as is_late p i against
+  reason_as top (Unfounded p i) against = unfounded_as p i against
+  reason_as top (TooHigh p i) against = holds_as (is_too_high top) p i against

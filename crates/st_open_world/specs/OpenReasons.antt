@@ -34,12 +34,15 @@ pub record IsBehindStamp (streams : List Stream) (p : Pid) (i : ℕ) : Type 0 wh
   pub zero : IsZeroBehind streams p i
   pub tells : (is_stamp zero.event || is_hidden streams zero.event) ≡ true
 
--- Event i of p begins a trace, or its hidden send does, though the process had a prev before.
+-- Event i of p is a send or print with prev 0 behind a receive; or it is a send, a print or the
+-- receive of a hidden send, has prev 0, and some event tells of a stamp of the same process with a
+-- lower count and another prev.
 abbrev pub IsUnfounded : List Stream → Pid → ℕ → Type 0
 IsUnfounded streams p i = IsBehindReceive streams p i ⊎ IsBehindStamp streams p i
 
--- Pairing accepts the streams; no reported stamp is late; no stamp with prev 0, reported or hidden,
--- is behind another prev or a receive; and a clock can have each count.
+-- Pairing accepts the streams; no reported stamp is late; no reported stamp with prev 0 is behind a
+-- receive; if a stamp has prev 0, reported or hidden, no event tells of one of the same process with
+-- a lower count and another prev; and a clock can have each count.
 pub record HasNoOpenReason (top : ℕ) (streams : List Stream) : Type 0 where
   pub accepted : refusal streams ≡ None
   pub timely : HoldsOfNone is_late streams
@@ -47,8 +50,9 @@ pub record HasNoOpenReason (top : ℕ) (streams : List Stream) : Type 0 where
   pub within : (p : Pid) (i : ℕ) (e : Event) → event_at streams p i ≡ Some e → e.serial.this ≤ top
 
 -- A reason against streams, whatever other processes there are, at a place. Refused: one of
--- pairing's. Late: the send or print has a count that isn't above those before it. Unfounded: it
--- has prev 0 behind another prev or a receive, or the hidden send of the receive there has.
+-- pairing's. Late: the send or print has a count that isn't above those before it. Unfounded: it is
+-- a send or print with prev 0 behind a receive; or it, or the hidden send of the receive there, has
+-- prev 0, and some event tells of a stamp of the same process with a lower count and another prev.
 -- TooHigh: no clock can have the count.
 pub data OpenReason : Type 0 where
   Refused : PairFault → OpenReason

@@ -1,5 +1,6 @@
--- The lemma says it.
-use Rattle.st_closed_world.proofs.Renumbering.{late_as_before, rootless_as_before}
+-- The lemmas say it.
+use Rattle.st_closed_world.proofs.Renumbering.{late_as_before, late_at_place}
+use Rattle.st_closed_world.proofs.Renumbering.{rootless_as_before, rootless_at_place}
 use Rattle.st_closed_world.proofs.SamePairing.{refusal_same}
 use Rattle.st_closed_world.proofs.SameSupply.{supply_same}
 use Rattle.st_closed_world.proofs.laws.renumbering_keeps_reasons.Goals as goal
@@ -9,5 +10,7 @@ returns c = λ f keeps streams. (
   refusal_same f keeps streams,
   late_as_before f keeps streams,
   rootless_as_before f keeps streams,
+  late_at_place f keeps streams,
+  rootless_at_place f keeps streams,
   supply_same f keeps streams,
 )

@@ -1,6 +1,7 @@
 -- One process more.
-use Rattle.std.proofs.Common.{◌≡◌, false, get_or, subst}
+use Rattle.std.proofs.Common.{◌≡◌, false, get_or, sym, ◌∙◌, subst}
 use Rattle.std.specs.List.{AllByRecursion}
+use Rattle.std.proofs.lemmas.Bool.{not-true}
 use Rattle.std.proofs.lemmas.List.{take_all}
 use Rattle.std.proofs.lemmas.Option.{slice_get-get_or}
 use Rattle.st_core.specs.declared.types.Pid.{Pid}
@@ -20,7 +21,7 @@ loop-pid-preserved c =
     let i = c.loop-pid.pid-index in
     all_taken (λ q. lists c.args.streams.now q ≡ false) qs i (get_or qs i none)
     (slice_get-get_or qs i none c.loop-pid-test.true)
-    (c.is_unlisted.ensures c.if-not-is_unlisted.false) c.loop-pid.invariant
+    (not-true _ (sym c.is_unlisted.ensures ∙ c.if-not-is_unlisted.false)) c.loop-pid.invariant
 
 pub returns-clause-apart : goal.returns-clause-apart
 returns-clause-apart c = λ _.
