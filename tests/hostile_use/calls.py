@@ -16,6 +16,7 @@ CRATES = Path(__file__).parents[2] / "crates"
 HOLDS = re.compile(r"without_memory|machine::refusals::|reads::|^runtime::")
 # Counts of what a gate was told, to which an act adds when it is asked again; and a sink that itself refuses.
 BUT = re.compile(r"a_gate_is_told|a_sink_without_memory")
+TEST = re.compile(r"#\[test\]\s*fn (\w+)")
 ENDED = b"test result: ok"
 
 
@@ -27,6 +28,22 @@ def tested():
     """The crates that have tests."""
     texts = ((path.relative_to(CRATES).parts[0], path.read_text()) for path in sorted(CRATES.glob("*/src/**/*.rt")))
     return sorted({crate for crate, text in texts if "#[test]" in text})
+
+
+def names_in_sources(crate):
+    """The tests of a crate, each with the modules that it is in."""
+    sources = CRATES / crate / "src"
+    for path in sorted(sources.glob("**/*.rt")):
+        modules = path.relative_to(sources).with_suffix("").parts
+        yield from ("::".join((*modules, name)) for name in TEST.findall(path.read_text()))
+
+
+def patterns_match():
+    """Each word of the patterns is in the name of a test: what names none would leave tests out without a word."""
+    names = [name for crate in tested() for name in names_in_sources(crate)]
+    for word in (*HOLDS.pattern.split("|"), *BUT.pattern.split("|")):
+        is_there = any(re.search(word, name) for name in names)
+        yield Check(f"calls: a test whose name has {word}", None if is_there else "there is none")
 
 
 def is_current(program):
@@ -64,6 +81,8 @@ def each_refused(library, crate):
     program, complaint = build(crate)
     yield Check(f"calls: {crate}: its tests hold without refusals", complaint)
     names = [] if complaint else names_of(program)
+    if not complaint and any(HOLDS.search(name) for name in names_in_sources(crate)):
+        yield Check(f"calls: {crate}: its program has tests that promise to hold", None if names else "it lists none")
     for name in names:
         refused = 0
         for n in range(1, MOST_REQUESTS):
