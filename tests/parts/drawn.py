@@ -24,6 +24,7 @@ from random_why import Calls, Wild  # noqa: E402
 EXAMPLES = ("request", "send_missing", "receive_missing", "crossing", "crossing_completed", "unlisted", "collected", "altered",
             "high_counts")
 RANDOM = 60  # Traces.
+LATE = 30  # Traces of which an event is late.
 LOST = (0, 0.1, 0.4)  # The share of its events that a random trace lost.
 
 # Counts up to the greatest, and a process of another node.
@@ -39,6 +40,16 @@ NO_EVENTS = b"no: standard input: there is no event to be drawn\n"
 NO_LABEL = b"no: standard input, label 9: no event has it; seqtool stats has the labels\n"
 
 
+def late_of(streams):
+    """The first send or print that counts no higher than an earlier event of its process, and the last such event."""
+    for pid, events in streams.items():
+        for i, event in enumerate(events):
+            higher = [j for j, earlier in enumerate(events[:i]) if earlier.this >= event.this]
+            if event.kind != "receive" and higher:
+                return pid, i, higher[-1]
+    return None
+
+
 class Trace:
     """A text with its streams and what the model pairs of them."""
 
@@ -52,6 +63,7 @@ class Trace:
             return
         self.receiver = {sent: place for place, sent in self.source.items() if sent}
         self.order = [place for kind, place in model.order(self.streams, self.source) if kind == "reported"]
+        self.late = late_of(self.streams)
 
     def event(self, place):
         return self.streams[place[0]][place[1]]
@@ -73,10 +85,38 @@ def random_trace(number):
     return Trace(f"random trace {number}", "".join(f"{line}\n" for line in model.write(streams, None)))
 
 
+def late_trace(number):
+    """A random trace of which a receive is moved before a send or print that counts no higher."""
+    chosen, streams = random.Random(f"late {number}"), random_trace(number).streams
+    moves = [(pid, i, j) for pid, events in streams.items() for j, event in enumerate(events) if event.kind == "receive"
+             for i in range(j) if events[i].kind != "receive" and events[i].this <= event.this]
+    if not moves:
+        return None
+    pid, i, j = chosen.choice(moves)
+    streams[pid].insert(i, streams[pid].pop(j))
+    return Trace(f"late trace {number}", "".join(f"{line}\n" for line in model.write(streams, None)))
+
+
+def late_traces():
+    return [it for it in map(late_trace, range(LATE)) if it and it.source is not None]
+
+
 def traces():
     yield from (Trace(name, (TOP / f"examples/{name}.txt").read_text()) for name in EXAMPLES)
     yield from (random_trace(number) for number in range(RANDOM))
+    yield from late_traces()
     yield Trace("high counts", HIGH)
+
+
+def refused_as_late(program, trace, words):
+    """The check that a command refuses a trace with a late event, in the words of `complete`."""
+    given = trace.text.encode()
+    wanted, (pid, i, j) = program.run(("complete",), given), trace.late
+    name = f"{' '.join(words)} of {trace.name}"
+    first = f"never {model.show(pid)} {i} late {model.show(pid)} {j}\n".encode()
+    if wanted.status != 1 or not wanted.output.startswith(first):
+        return Check(name, f"expected {first}\ngot {wanted}")
+    return expect(name, wanted, program.run(words, given), given)
 
 
 def judged(name, judge, *given):
@@ -265,6 +305,9 @@ def charts(program):
             only = () if label is None else ("--label", str(label))
             for form, judge in (("--mermaid", judge_diagram), ("--dot", judge_graph)):
                 words = ("chart", form, *only)
+                if trace.late and form == "--mermaid":
+                    yield refused_as_late(program, trace, words)
+                    continue
                 got = program.run(words, trace.text.encode())
                 name = f"{' '.join(words)} of {trace.name}"
                 yield judged(name, judge, trace, label, got.output)
@@ -370,8 +413,15 @@ def exports(program):
                 told = got.status == 1 and got.output.startswith(b"unfit ")
                 yield Check(f"{name}, which can't be paired", None if told else str(got))
                 continue
+            if trace.late:
+                yield refused_as_late(program, trace, ("export", "--as", tool))
+                continue
             yield Check(f"{name}: its status", None if (got.status, got.complaint) == (0, b"") else str(got))
             yield judged(name, judge, trace, got.output)
+    for trace in late_traces():
+        for words in (("stats",), ("stats", "--json")):
+            yield refused_as_late(program, trace, words)
+    yield Check("late traces: there are some", None if len(late_traces()) > LATE // 3 else str(len(late_traces())))
 
 
 # ---- verdicts as JSON

@@ -19,7 +19,7 @@ WANTED = ("opentelemetry", "mermaid.min.js", "trace_viewer_full.html")
 
 
 def pairable():
-    return [it for it in drawn.traces() if it.source is not None and it.order]
+    return [it for it in drawn.traces() if it.source is not None and it.order and not it.late]
 
 
 def asked(folder, script, reader, texts):

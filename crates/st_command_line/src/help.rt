@@ -127,12 +127,15 @@ pub(crate) const STATS_EXAMPLE: &str = "Example:
   seqtool stats trace.txt
   process <0.30.0>: sends 1, receives 0, prints 1, counts skipped 0, longest
   queue 0
-  messages from <0.30.0> to <0.31.0>: 1, without a receive 0, without a send 0
+  messages from <0.30.0> to <0.31.0>: 1, without a reported receive 0, without a
+  reported send 0
   label 17: events 3, depth 1, width 1
 
 Depth is the number of messages on the longest way of a label, each sent after
 the one before was received; width the most messages at one depth. The queue is
-that of the messages of which both ends are reported, in the charts' order.";
+that of the messages of which both ends are reported, in the charts' order.
+Status 1: the trace can't be paired (seqtool audit), or a send or print counts
+no higher than a receive before it, so that the counts give no order.";
 
 pub(crate) const DIFF: &str = "Compares two traces of one program, up to pids and counts";
 
@@ -164,7 +167,8 @@ arrow stands where its message was received. If the sender did something else in
 between, a note says where it sent, and the arrow is dotted. An arrow with a
 cross has no reported receive, and one from `not reported` no reported send.
 With --complete what was added is dashed or dotted, and says `added`.
-Status 1: nothing has the label, or the trace can't be paired (seqtool audit).
+Status 1: nothing has the label, or the trace can't be paired (seqtool audit);
+or, of --mermaid, a send or print counts no higher than a receive before it.
 Status 5: `long chart`, the tables would have more than 2,048,000,000 marks.";
 
 pub(crate) const EXPORT: &str = "Writes the trace for Perfetto, ShiViz or OpenTelemetry";
@@ -181,5 +185,6 @@ ShiViz (bestchai.bitbucket.io/shiviz) opens the second as it is: two lines for
 each event, the second with its process and its vector clock.
 A collector of OpenTelemetry takes the third: a line of OTLP as JSON, a span for
 each message. Spans need times, which seqaudit-node collect --times measures.
-Status 1: the trace can't be paired (seqtool audit says why).
+Status 1: the trace can't be paired (seqtool audit says why), or, for the first
+two, a send or print counts no higher than a receive before it.
 Status 5: `long clocks`, for ShiViz it is too long: take perfetto, or cut it.";

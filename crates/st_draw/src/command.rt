@@ -14,6 +14,7 @@ use st_audit::unfit_by;
 use st_commands::{TOP, status_of, tell_fault, tell_finding};
 use st_complete::{Answer, CompleteFault, Completion, complete};
 use st_core::{ByteSink, ByteSource, Label, Streams};
+use st_events::{find_late, send_late};
 use st_order::{Item, order};
 use st_pair::{Pairing, pair};
 use st_text::{Limits, ReadFault, read_within};
@@ -43,13 +44,17 @@ pub struct Drawing {
     pub notation: Notation,
 }
 
-/// Draws a scene as a sequence diagram.
+/// Draws a scene as a sequence diagram; or says that an event of its streams is late, since their
+/// order then isn't that of each process.
 fn draw_mermaid<W: ByteSink>(
     alloc: Global,
     scene: &Scene<'_>,
     items: &[Item],
     writer: &mut W,
 ) -> Result<u8, AllocError> {
+    if let Some(late) = find_late(scene.streams) {
+        return Ok(status_of(send_late(writer, scene.streams, late), 1));
+    }
     let lanes = Lanes::of(alloc, scene)?;
     let overtaken = overtaken(alloc, scene, items)?;
     let sent = send_mermaid(writer, scene, items, &lanes, &overtaken);
@@ -153,9 +158,10 @@ fn draw_completed<H: Threads + Sync, W: ByteSink, N: ByteSink>(
 
 /// Reads a bundle and draws its streams, with status 0. If they can't be paired, or nothing is
 /// there to be drawn, it says so with status 1; and so if they are to be completed, and no run has
-/// them. Tables that would be too long are 5. Faulty input is 2; running out of memory, and a
-/// reader or a writer that fails, are 4. If memory runs out behind the first of several tables, they
-/// break off, and the notes say why. It sorts on several threads.
+/// them, or if an event is late and they are to be a sequence diagram. Tables that would be too long
+/// are 5. Faulty input is 2; running out of memory, and a reader or a writer that fails, are 4. If
+/// memory runs out behind the first of several tables, they break off, and the notes say why. It
+/// sorts on several threads.
 pub fn run_draw<H: Threads + Sync, R: ByteSource, W: ByteSink, N: ByteSink>(
     rt: &H,
     alloc: Global,

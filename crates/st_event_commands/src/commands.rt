@@ -4,7 +4,10 @@
 use st_audit::unfit_by;
 use st_commands::{status_of, tell_fault, tell_finding};
 use st_core::{ByteSink, ByteSource, Streams};
-use st_events::{Style, count, count_open, cut, send_open, send_rows, send_stats, send_unpaired};
+use st_events::{
+    Style, count, count_open, cut, find_late, send_late, send_open, send_rows, send_stats,
+    send_unpaired,
+};
 use st_list::{Filter, Row, list};
 use st_pair::{PairFault, Pairing, pair};
 use st_text::{Limits, ReadFault, read_within, write_parts};
@@ -112,7 +115,8 @@ pub fn run_cut<R: ByteSource, W: ByteSink, N: ByteSink>(
     }
 }
 
-/// Writes the counts of paired streams.
+/// Writes the counts of paired streams, or that one of their events is late: then the order of the
+/// counts isn't that of each process.
 fn stats_of<W: ByteSink>(
     alloc: Global,
     streams: &Streams,
@@ -120,6 +124,9 @@ fn stats_of<W: ByteSink>(
     style: Style,
     writer: &mut W,
 ) -> u8 {
+    if let Some(late) = find_late(streams) {
+        return status_of(send_late(writer, streams, late), 1);
+    }
     match count(alloc, streams, pairing) {
         Ok(stats) => status_of(send_stats(writer, &stats, style), 0),
         Err(_) => tell_fault(writer, ReadFault::Memory),
@@ -143,7 +150,8 @@ fn stats_of_streams<W: ByteSink>(
 }
 
 /// Reads a bundle and writes how many events and messages it has, by process, by pair of processes
-/// and by label, with status 0; if its streams can't be paired, it writes that with status 1.
+/// and by label, with status 0; if its streams can't be paired, or an event is late, it writes that
+/// with status 1.
 /// Faulty input is 2; running out of memory, and a reader or a writer that fails, are 4.
 pub fn run_stats<R: ByteSource, W: ByteSink>(
     alloc: Global,

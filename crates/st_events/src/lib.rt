@@ -4,12 +4,14 @@
 //! `st_list` proves which events are listed, on which lines they are and what they pair with.
 #![tactic(auto)]
 
+mod late;
 mod report;
 mod smaller;
 mod stats;
 mod sweep;
 mod words;
 
+pub use late::{Late, find_late, send_late};
 pub use report::send_stats;
 pub use smaller::{Open, count_open, cut, send_open};
 pub use stats::{PairStats, ProcessStats, Stats, count};

@@ -64,8 +64,12 @@ fn say_pair<W: ByteSink>(
         style,
         &[
             ("messages", ": ", stats.messages),
-            ("unreceived", ", without a receive ", stats.unreceived),
-            ("unsent", ", without a send ", stats.unsent),
+            (
+                "unreceived",
+                ", without a reported receive ",
+                stats.unreceived,
+            ),
+            ("unsent", ", without a reported send ", stats.unsent),
         ],
     )
 }

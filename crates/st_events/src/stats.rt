@@ -101,7 +101,7 @@ fn add_pairs(
     Ok(())
 }
 
-/// What paired streams have. Fails only if memory runs out.
+/// What paired streams without a late event have. Fails only if memory runs out.
 pub fn count(alloc: Global, streams: &Streams, pairing: &Pairing) -> Result<Stats, AllocError> {
     let mut processes = Vec::new(alloc);
     let mut pairs = BTreeMap::new(alloc);

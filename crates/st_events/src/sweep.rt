@@ -2,7 +2,7 @@
 //! deep and wide the tree of each label is, and how long the queues get.
 //!
 //! The order is that of the charts: by height, which is the greatest count of the process so far,
-//! sends and prints before receives.
+//! sends and prints before receives. It keeps each process's own order if no event is late.
 
 use st_core::{Event, Kind, Pid, Streams};
 use st_list::partner_at;
@@ -198,7 +198,7 @@ impl Pass {
     }
 }
 
-/// Passes over all events of paired streams.
+/// Passes over all events of paired streams of which none is late.
 pub(crate) fn sweep(
     alloc: Global,
     streams: &Streams,

@@ -63,7 +63,7 @@ fn say_partner<W: ByteSink>(
             out.say(", sent as ")?;
             out.say_place(pid, index)
         }
-        Some(Partner::NoReceive) => out.say(", its receive wasn't reported"),
+        Some(Partner::NoReceive) => out.say(", no receive reported"),
         Some(Partner::NoSend) => out.say(", its send wasn't reported"),
         Some(Partner::Nobody) | None => Ok(()),
     }

@@ -9,6 +9,7 @@ use crate::times::Times;
 use st_audit::unfit_by;
 use st_commands::{status_of, tell_fault, tell_finding};
 use st_core::{ByteSink, ByteSource, Streams};
+use st_events::{find_late, send_late};
 use st_order::order;
 use st_pair::{Pairing, pair};
 use st_text::{Limits, ReadFault, read_within};
@@ -24,7 +25,8 @@ pub enum Target {
     Shiviz,
 }
 
-/// Writes streams that are paired, and returns the status.
+/// Writes streams that are paired, or that one of their events is late, since their order then
+/// isn't that of each process; and returns the status.
 fn export_paired<H: Threads + Sync, W: ByteSink, N: ByteSink>(
     rt: &H,
     alloc: Global,
@@ -36,6 +38,9 @@ fn export_paired<H: Threads + Sync, W: ByteSink, N: ByteSink>(
 ) -> Result<u8, AllocError>
     requires { IsPairing streams.now pairing.now }
 {
+    if let Some(late) = find_late(streams) {
+        return Ok(status_of(send_late(writer, streams, late), 1));
+    }
     let items = order(rt, alloc, streams, pairing)?;
     match target {
         Target::Perfetto => {
@@ -68,9 +73,10 @@ fn export_streams<H: Threads + Sync, W: ByteSink, N: ByteSink>(
 }
 
 /// Reads a bundle and writes its streams for another tool, with status 0. If they can't be paired,
-/// it says so with status 1, and if a log for ShiViz would be too long, with status 5. Faulty input is 2; running out of memory, and a reader or a writer that
-/// fails, are 4. If memory runs out behind the first event of a log for ShiViz, that breaks off, and
-/// the notes say why. It sorts on several threads.
+/// or an event is late, it says so with status 1, and if a log for ShiViz would be too long, with
+/// status 5. Faulty input is 2; running out of memory, and a reader or a writer that fails, are 4.
+/// If memory runs out behind the first event of a log for ShiViz, that breaks off, and the notes say
+/// why. It sorts on several threads.
 pub fn run_export<H: Threads + Sync, R: ByteSource, W: ByteSink, N: ByteSink>(
     rt: &H,
     alloc: Global,
