@@ -127,7 +127,7 @@ class Told:
         self.streams = [model.read(text)[0] for text in self.texts]
         self.places = [places_of(text) for text in self.texts]
         self.head, *rest = map(json.loads, output.decode().splitlines())
-        self.matches, self.coarse = {}, set()
+        self.matches, self.coarse, self.guesses = {}, set(), 0
         self.alone = {"gone": [], "new": []}
         self.changes, self.counts = [], []
         for it in rest:
@@ -138,6 +138,7 @@ class Told:
             assert it.keys() == {"process", "is", "because", "guess", "coarse"}, it
             assert it["guess"] == (it["because"] != "events")
             self.matches[pid_of(it["process"])] = pid_of(it["is"])
+            self.guesses += it["guess"]
             if it["coarse"]:
                 self.coarse.add(pid_of(it["process"]))
             return
@@ -208,14 +209,25 @@ class Told:
             return
         assert [self.head[name] for name in ("gone", "new", "elsewhere")] == [sums[name] for name in ("gone", "new", "elsewhere")]
         assert (self.head["gone_processes"], self.head["new_processes"]) == tuple(len(self.alone[it]) for it in ("gone", "new"))
+        assert self.head["guesses"] == self.guesses
+        assert self.head["counts"] == (self.count_moved() if self.counts else 0)
+
+    def ranks(self):
+        return [{count: rank for rank, count in enumerate(sorted({
+            count for events in streams.values() for it in events for count in (it.prev, it.this)}))} for streams in self.streams]
+
+    def count_moved(self):
+        """How many events of matched processes have counts of another rank, if they are alike but for that."""
+        ranks, (first, second) = self.ranks(), self.streams
+        return sum((ranks[0][it.prev], ranks[0][it.this]) != (ranks[1][its.prev], ranks[1][its.this])
+                   for one, other in self.matches.items() for it, its in zip(first[one], second[other]))
 
     def is_renaming(self):
         """Whether one renaming of pids and one of counts, which keeps their order, makes the second trace of the first."""
         first, second = self.streams
         if sorted(self.matches) != sorted(first) or sorted(self.matches.values()) != sorted(second):
             return False
-        ranks = [{count: rank for rank, count in enumerate(sorted({
-            count for events in streams.values() for it in events for count in (it.prev, it.this)}))} for streams in self.streams]
+        ranks = self.ranks()
         return all([(*bare(it), ranks[0][it.prev], ranks[0][it.this], self.matches[it.sender], it.to and self.matches[it.to])
                     for it in first[one]]
                    == [(*bare(it), ranks[1][it.prev], ranks[1][it.this], it.sender, it.to) for it in second[other]]
@@ -235,7 +247,8 @@ def lines_of(output):
         yield "same"
         return
     yield (f"different: events gone {head['gone']}, new {head['new']}, elsewhere {head['elsewhere']}; processes gone "
-           f"{head['gone_processes']}, new {head['new_processes']}, matched by a guess {head['guesses']}")
+           f"{head['gone_processes']}, new {head['new_processes']}, matched by a guess {head['guesses']}"
+           + (f"; counts {head['counts']}" if head['counts'] else ""))
     for it in rest:
         if "process" in it:
             continue
@@ -305,15 +318,87 @@ def edits(program):
     yield Check("diff: gone, new and elsewhere came", None if len(seen) == 3 else str(seen))
 
 
+# ---- pools of workers, which do much the same
+
+POOLS = 150
+
+
+def pool(chosen):
+    """Streams of workers that have few things to do, so that several do the same but for counts or for whom they send to."""
+    pids = [(0, 30 + n) for n in range(chosen.choice((2, 2, 3, 4, 4, 7, 12)))]
+    streams, steps = {}, chosen.choice((1, 1, 3))
+    kinds = chosen.choice((("print",), ("send",), ("print", "print", "send", "receive")))
+
+    def event(pid):
+        kind, prev, other = chosen.choice(kinds), chosen.choice((0, 0, 1)), chosen.choice(pids)
+        this, value = prev + chosen.randint(1, steps), chosen.choice((1, 1, 1, 2))
+        return model.Event(17, kind, prev, this, *{"print": (pid, None), "send": (pid, other), "receive": (other, pid)}[kind],
+                           value)
+
+    for pid in pids:
+        streams[pid] = [event(pid) for _ in range(chosen.randint(0, 3))]
+    return streams
+
+
+def shuffled(streams, chosen):
+    """The same trace with its pids exchanged."""
+    new = dict(zip(streams, chosen.sample(list(streams), len(streams))))
+    moved = {new[pid]: [model.Event(it.label, it.kind, it.prev, it.this, new[it.sender], it.to and new[it.to], it.value)
+                        for it in events] for pid, events in streams.items()}
+    return {pid: moved[pid] for pid in sorted(moved)}
+
+
+def pools(program):
+    """Pools of which the pids are exchanged are the same, or else a guess is told."""
+    unsure = 0
+    for number in range(POOLS):
+        chosen = random.Random(f"pool {number}")
+        streams = pool(chosen)
+        text, other = text_of(streams), text_of(shuffled(streams, chosen))
+        for check, told in judged(program, f"diff of pool {number} and the same with its pids exchanged", text, other):
+            yield check
+            if told:
+                is_same = told.head == {"result": "same"}
+                unsure += not is_same
+                is_right = is_same or told.head["guesses"] > 0
+                yield Check(f"{check.name}: the same, or a guess", None if is_right else f"{told.head}\n{text}\n{other}")
+    yield Check("diff of pools: few guesses are wrong", None if unsure <= POOLS // 50 else f"{unsure} of {POOLS}")
+
+
 # ---- worked cases
 
 BEFORE, AFTER = ((TOP / f"examples/{name}.txt").read_text() for name in ("before", "after"))
 TOLD = (TOP / "examples/after.diff.answer").read_text()
 # The counts of the print and of the send behind it are exchanged.
 COUNTS = BEFORE.replace("{1,2}", "{1,9}")
-TOLD_OF_COUNTS = """different: events gone 0, new 0, elsewhere 0; processes gone 0, new 0, matched by a guess 0
+TOLD_OF_COUNTS = """different: events gone 0, new 0, elsewhere 0; processes gone 0, new 0, matched by a guess 0; counts 3
 counts 4: <0.30.0> 1  receive  label 17 {1,3} value 2 from <0.31.0>, now 4: <0.30.0> 1 {1,3} from <0.31.0>
 """
+
+
+def of_two(first, second):
+    """A text of two processes, each with its events as words."""
+    return "".join(f"{line}\n" for line in ("seqtrace 1", "process <0.30.0>", *first, "process <0.31.0>", *second))
+
+
+def printed(pid, this):
+    return f"{{seq_trace,17,{{print,{{0,{this}}},<0.{pid}.0>,[],1}}}}"
+
+
+def sent(pid, to):
+    return f"{{seq_trace,17,{{send,{{0,1}},<0.{pid}.0>,<0.{to}.0>,5}}}}"
+
+
+def received(*counts):
+    return ("{seq_trace,17,{'receive',{%d,%d},<0.31.0>,<0.30.0>,1}}" % counts[:2],
+            "{seq_trace,17,{print,{%d,%d},<0.30.0>,[],1}}" % counts[2:])
+
+
+PRINTS, PRINTS_EXCHANGED = (of_two([printed(30, 1 + one), printed(30, 2 + one)], [printed(31, 1 + other), printed(31, 2 + other)])
+                            for one, other in ((0, 1), (1, 0)))
+SENDS, SENDS_EXCHANGED = (of_two([sent(30, to)], [sent(31, to)]) for to in (30, 31))
+# `complete` says different things of these: no count is below 0.
+FROM_0, FROM_5 = (of_two(received(*counts), ()) for counts in ((0, 2, 0, 3), (5, 7, 5, 8)))
 
 
 def worked(program):
@@ -322,6 +407,10 @@ def worked(program):
         ("other counts", COUNTS, 1, TOLD_OF_COUNTS),
     ):
         yield expect(f"diff: {name}", Answer(status, told.encode()), differ(program, BEFORE, other))
+    for name, first, second in (("two processes whose counts differ", PRINTS, PRINTS_EXCHANGED),
+                                ("two processes that send to one of them", SENDS, SENDS_EXCHANGED),
+                                ("counts of which 0 is one, and of which it isn't", FROM_0, FROM_5)):
+        yield expect(f"diff: {name}", Answer(0, b"same\n"), differ(program, first, second))
     got = differ(program, BEFORE, BEFORE, "--json")
     first = b'{"result":"same"}\n{"process":"<0.30.0>","is":"<0.30.0>","because":"events","guess":false,"coarse":false}\n'
     yield Check("diff --json of a trace and itself", None if got.status == 0 and got.output.startswith(first) else str(got))
@@ -416,5 +505,5 @@ def refused(program):
 
 
 def diffs(program):
-    for part in (worked, inputs, renamings, edits, large, refused):
+    for part in (worked, inputs, renamings, edits, pools, large, refused):
         yield from part(program)

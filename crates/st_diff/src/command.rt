@@ -45,12 +45,15 @@ fn compare<W: ByteSink>(
         changes: &changes,
         style,
     };
-    let sums = report.sums();
+    let mut sums = report.sums();
     let moved = if sums.are_none() {
         find_moved(alloc, &one, &other, &pairs)?
     } else {
         None
     };
+    if let Some(moved) = moved {
+        sums.counts = moved.count;
+    }
     match report.send(writer, &sums, moved) {
         Ok(status) => Ok(status),
         Err(Device) => Ok(4),

@@ -7,13 +7,13 @@ use std::alloc::{AllocError, Global};
 
 /// All counts of a trace, each once, rising.
 #[derive(Drop)]
-struct Ranks {
+pub(crate) struct Ranks {
     counts: Vec<u64>,
 }
 
 impl Ranks {
     /// Those of a trace.
-    fn of(alloc: Global, trace: &Trace<'_>) -> Result<Ranks, AllocError> {
+    pub(crate) fn of(alloc: Global, trace: &Trace<'_>) -> Result<Ranks, AllocError> {
         let mut counts = Vec::new(alloc);
         for place in 0..trace.len() {
             add_counts(&mut counts, trace, place)?;
@@ -23,14 +23,26 @@ impl Ranks {
         Ok(Ranks { counts })
     }
 
+    /// The rank of a count if there is no gap below it.
+    fn guess(&self, count: u64) -> usize {
+        match self.counts.first() {
+            Some(least) => count.saturating_sub(*least) as usize,
+            None => 0,
+        }
+    }
+
     /// How many counts are below this one.
     fn rank(&self, count: u64) -> usize {
+        let guess = self.guess(count);
+        if self.counts.get(guess).copied() == Some(count) {
+            return guess;
+        }
         let is_below = |other: &u64| -> bool { *other < count };
         self.counts.as_slice().partition_point(is_below)
     }
 
     /// The ranks of both counts of a serial.
-    fn of_serial(&self, serial: Serial) -> (usize, usize) {
+    pub(crate) fn of_serial(&self, serial: Serial) -> (usize, usize) {
         (self.rank(serial.prev), self.rank(serial.this))
     }
 }
@@ -44,29 +56,48 @@ fn add_counts(counts: &mut Vec<u64>, trace: &Trace<'_>, place: usize) -> Result<
     Ok(())
 }
 
-/// The first event of two processes, one by one alike, whose counts have other ranks.
-fn first_moved(
+/// The events of two processes, one by one alike, whose counts have other ranks: the first, and how
+/// many there are.
+fn moved_of(
     first: (&Trace<'_>, &Ranks),
     second: (&Trace<'_>, &Ranks),
     pair: Pair,
-) -> Option<usize> {
+) -> Option<Moved> {
+    let mut found: Option<Moved> = None;
     let (ones, others) = (first.0.events(pair.first), second.0.events(pair.second));
     for (index, (one, other)) in ones.iter().zip(others.iter()).enumerate() {
         if first.1.of_serial(one.serial) != second.1.of_serial(other.serial) {
-            return Some(index);
+            let moved = found.unwrap_or(Moved {
+                pair,
+                index,
+                count: 0,
+            });
+            found = Some(moved.and_more(1));
         }
     }
-    None
+    found
 }
 
-/// An event of two matched processes whose counts have other ranks.
+/// An event of two matched processes whose counts have other ranks, the first of so many.
 #[derive(Clone, Copy)]
 pub(crate) struct Moved {
     pub(crate) pair: Pair,
     pub(crate) index: usize,
+    pub(crate) count: u64,
 }
 
-/// The first event of two traces, alike but for the counts, whose counts have another order.
+impl Moved {
+    /// The same event, the first of so many more.
+    fn and_more(self, count: u64) -> Moved {
+        Moved {
+            count: self.count.saturating_add(count),
+            ..self
+        }
+    }
+}
+
+/// The first event of two traces, alike but for the counts, whose counts have another order, and how
+/// many events have such.
 pub(crate) fn find_moved(
     alloc: Global,
     first: &Trace<'_>,
@@ -76,14 +107,14 @@ pub(crate) fn find_moved(
     let (one, other) = (Ranks::of(alloc, first)?, Ranks::of(alloc, second)?);
     let mut found: Option<Moved> = None;
     for pair in pairs.all() {
-        if let Some(index) = first_moved((first, &one), (second, &other), *pair) {
-            let is_first = match found {
-                None => true,
-                Some(moved) => pair.first < moved.pair.first,
-            };
-            if is_first {
-                found = Some(Moved { pair: *pair, index });
-            }
+        if let Some(moved) = moved_of((first, &one), (second, &other), *pair) {
+            found = Some(match found {
+                Some(before) if before.pair.first < moved.pair.first => {
+                    before.and_more(moved.count)
+                }
+                Some(before) => moved.and_more(before.count),
+                None => moved,
+            });
         }
     }
     Ok(found)

@@ -32,7 +32,7 @@ pub(crate) fn kind_number(kind: Kind) -> u8 {
 }
 
 /// Takes kind, label and value of an event.
-fn take_event(hasher: &mut DefaultHasher, event: &Event) {
+pub(crate) fn take_event(hasher: &mut DefaultHasher, event: &Event) {
     hasher.write_u8(kind_number(event.kind));
     hasher.write_u32(event.label.0);
     hasher.write_u64(event.value);

@@ -9,12 +9,16 @@
 mod align;
 mod changes;
 mod coarse;
+mod colours;
 mod command;
 mod counts;
+mod exact;
+mod groups;
 mod items;
 mod keys;
 mod matching;
 mod pairs;
+mod parts;
 mod report;
 mod trace;
 mod words;

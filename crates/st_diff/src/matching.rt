@@ -1,64 +1,20 @@
 //! Which processes of two traces have the same part.
 //!
-//! First come those of which all events are alike, and which no other process is like; then those at
+//! If one renaming may make the one trace of the other, `exact` finds it. Else first come those of
+//! which all events are alike, and which no other process is like; then those at
 //! the other ends of messages that are alike, and so on from these; then several that are like each
 //! other, in the order in which they first report something; then those that have less in common.
 
 use crate::align::{Budget, Run, align};
+use crate::colours::{are_alike, first_colours};
+use crate::counts::Ranks;
+use crate::exact::match_exactly;
+use crate::groups::Groups;
 use crate::items::{Which, bare_items};
 use crate::keys::{Aspect, keys_by, keys_by_hops};
 use crate::pairs::{Ground, Pairs};
 use crate::trace::Trace;
 use std::alloc::{AllocError, Global};
-
-/// The free processes of a trace that report something, by their keys and then in their order.
-#[derive(Drop)]
-struct Groups {
-    /// Of each process its key, its number in the order, and its place.
-    all: Vec<(u64, usize, usize)>,
-}
-
-impl Groups {
-    /// Of a trace with these keys.
-    fn of(
-        alloc: Global,
-        trace: &Trace<'_>,
-        pairs: &Pairs,
-        which: Which,
-        keys: &[u64],
-    ) -> Result<Groups, AllocError> {
-        let mut all = Vec::new(alloc);
-        for (number, place) in trace.order().iter().enumerate() {
-            if pairs.is_free(which, *place) {
-                let key = keys.get(*place).copied().unwrap_or(0);
-                all.push((key, number, *place))?;
-            }
-        }
-        all.sort_unstable();
-        Ok(Groups { all })
-    }
-
-    /// Where the group of this key begins and ends.
-    fn range(&self, key: u64) -> (usize, usize) {
-        let is_below = |found: &(u64, usize, usize)| -> bool { found.0 < key };
-        let is_within = |found: &(u64, usize, usize)| -> bool { found.0 <= key };
-        let all = self.all.as_slice();
-        (
-            all.partition_point(is_below),
-            all.partition_point(is_within),
-        )
-    }
-
-    /// The place of the only process with this key.
-    fn only(&self, key: u64) -> Option<usize> {
-        let (start, end) = self.range(key);
-        if end.saturating_sub(start) != 1 {
-            return None;
-        }
-        let found = self.all.get(start)?;
-        Some(found.2)
-    }
-}
 
 /// The matching under way.
 #[derive(Drop)]
@@ -75,12 +31,14 @@ struct Search<'a> {
 impl<'a> Search<'a> {
     /// The groups of the first trace by these keys.
     fn groups_of_first(&self, keys: &[u64]) -> Result<Groups, AllocError> {
-        Groups::of(self.alloc, self.first, &self.pairs, Which::First, keys)
+        let order = self.first.order();
+        Groups::of(self.alloc, order, &self.pairs, Which::First, keys)
     }
 
     /// The groups of the second trace by these keys.
     fn groups_of_second(&self, keys: &[u64]) -> Result<Groups, AllocError> {
-        Groups::of(self.alloc, self.second, &self.pairs, Which::Second, keys)
+        let order = self.second.order();
+        Groups::of(self.alloc, order, &self.pairs, Which::Second, keys)
     }
 
     /// Matches the processes whose key no other has.
@@ -92,7 +50,7 @@ impl<'a> Search<'a> {
     ) -> Result<(), AllocError> {
         let ones = self.groups_of_first(first)?;
         let others = self.groups_of_second(second)?;
-        for (key, _, _) in ones.all.iter() {
+        for (key, _, _) in ones.all() {
             if let (Some(one), Some(other)) = (ones.only(*key), others.only(*key)) {
                 self.pairs.add(one, other, ground)?;
             }
@@ -108,7 +66,7 @@ impl<'a> Search<'a> {
         ground: Ground,
     ) -> Result<(), AllocError> {
         let others = self.groups_of_second(second)?;
-        let mut next = vec![in self.alloc; 0; others.all.len()]?;
+        let mut next = vec![in self.alloc; 0; others.len()]?;
         for place in self.first.order() {
             if self.pairs.is_free(Which::First, *place) {
                 let key = first.get(*place).copied().unwrap_or(0);
@@ -128,9 +86,9 @@ impl<'a> Search<'a> {
         let passed = next.get_mut(start)?;
         for at in start.saturating_add(*passed)..end {
             *passed = passed.saturating_add(1);
-            let (_, _, place) = groups.all.get(at)?;
-            if self.pairs.is_free(Which::Second, *place) {
-                return Some(*place);
+            let place = groups.place(at)?;
+            if self.pairs.is_free(Which::Second, place) {
+                return Some(place);
             }
         }
         None
@@ -213,18 +171,61 @@ impl<'a> Search<'a> {
     }
 }
 
+/// Matches the processes of two traces of which one renaming may make the one of the other. None if
+/// no renaming does.
+fn match_by_ranks<'a>(
+    alloc: Global,
+    first: &'a Trace<'a>,
+    second: &'a Trace<'a>,
+) -> Result<Option<Pairs>, AllocError> {
+    let (one, other) = (Ranks::of(alloc, first)?, Ranks::of(alloc, second)?);
+    let ones = first_colours(alloc, first, Some(&one))?;
+    let others = first_colours(alloc, second, Some(&other))?;
+    match_exactly(alloc, (first, ones), (second, others))
+}
+
+/// Matches the processes of two traces of which one renaming may make the one of the other, or one
+/// that doesn't keep the order of counts.
+fn match_alike<'a>(
+    alloc: Global,
+    first: &'a Trace<'a>,
+    second: &'a Trace<'a>,
+) -> Result<Option<Pairs>, AllocError> {
+    if first.len() != second.len() || first.total() != second.total() {
+        return Ok(None);
+    }
+    let (ones, others) = (
+        first_colours(alloc, first, None)?,
+        first_colours(alloc, second, None)?,
+    );
+    if !are_alike(alloc, ones.as_slice(), others.as_slice())? {
+        return Ok(None);
+    }
+    match match_by_ranks(alloc, first, second)? {
+        Some(pairs) => Ok(Some(pairs)),
+        None => match_exactly(alloc, (first, ones), (second, others)),
+    }
+}
+
 /// Matches the processes of two traces.
 pub(crate) fn match_processes<'a>(
     alloc: Global,
     first: &'a Trace<'a>,
     second: &'a Trace<'a>,
 ) -> Result<Pairs, AllocError> {
+    let pairs = match match_alike(alloc, first, second)? {
+        Some(pairs) => pairs,
+        None => Pairs::new(alloc, first.len(), second.len())?,
+    };
+    if first.len() == second.len() && pairs.all().len() == first.len() {
+        return Ok(pairs);
+    }
     let mut search = Search {
         alloc,
         first,
         second,
-        pairs: Pairs::new(alloc, first.len(), second.len())?,
-        followed: 0,
+        followed: pairs.all().len(),
+        pairs,
         budget: Budget::of(first.total().saturating_add(second.total())),
     };
     search.match_by_events()?;

@@ -57,11 +57,11 @@ fn count_free(pairs: &Pairs, which: Which, processes: usize) -> u64 {
 }
 
 impl<'a> Report<'a> {
-    /// How many processes with changes are matched by a guess.
+    /// How many processes are matched by a guess.
     fn count_guesses(&self) -> u64 {
         let mut count: u64 = 0;
         for pair in self.pairs.all() {
-            if pair.ground.is_guess() && self.has_changes(*pair) {
+            if pair.ground.is_guess() {
                 count = count.saturating_add(1);
             }
         }
@@ -79,6 +79,7 @@ impl<'a> Report<'a> {
             gone_processes: count_free(self.pairs, Which::First, self.first.len()),
             new_processes: count_free(self.pairs, Which::Second, self.second.len()),
             guesses: self.count_guesses(),
+            counts: 0,
         }
     }
 

@@ -16,6 +16,8 @@ pub(crate) struct Sums {
     pub(crate) gone_processes: u64,
     pub(crate) new_processes: u64,
     pub(crate) guesses: u64,
+    /// Of events that are alike, one by one, if there is none of the others but guesses.
+    pub(crate) counts: u64,
 }
 
 impl Sums {
@@ -61,18 +63,18 @@ pub(crate) fn say_sums<W: ByteSink>(
         Style::Text => out.say("different:")?,
         Style::Json => out.say("{\"result\":\"different\"")?,
     }
-    say_counts(
-        out,
-        style,
-        &[
-            ("gone", " events gone ", sums.gone),
-            ("new", ", new ", sums.new),
-            ("elsewhere", ", elsewhere ", sums.elsewhere),
-            ("gone_processes", "; processes gone ", sums.gone_processes),
-            ("new_processes", ", new ", sums.new_processes),
-            ("guesses", ", matched by a guess ", sums.guesses),
-        ],
-    )
+    let all = [
+        ("gone", " events gone ", sums.gone),
+        ("new", ", new ", sums.new),
+        ("elsewhere", ", elsewhere ", sums.elsewhere),
+        ("gone_processes", "; processes gone ", sums.gone_processes),
+        ("new_processes", ", new ", sums.new_processes),
+        ("guesses", ", matched by a guess ", sums.guesses),
+        ("counts", "; counts ", sums.counts),
+    ];
+    let is_without_counts = sums.counts == 0 && matches!(style, Style::Text);
+    let len = if is_without_counts { 6 } else { 7 };
+    say_counts(out, style, all.get(..len).unwrap_or(&[]))
 }
 
 /// Writes that two traces are the same.
