@@ -23,8 +23,8 @@ use Rattle.st_closed_world.specs.Completed.{IsCompleted, IsShownInOneTrace}
 use Rattle.st_closed_world.specs.Local.{IsNeedless}
 use Rattle.st_closed_world.specs.Needs.{is_late}
 use Rattle.st_closed_world.specs.Reasons.{HoldsAt}
-use Rattle.st_open_world.specs.OpenReasons.{Late, OpenReason, Refused, StandsAgainstOpen, TooHigh}
-use Rattle.st_open_world.specs.OpenReasons.{Unfounded}
+use Rattle.st_open_world.specs.OpenReasons.{HasNoOpenReason, Late, OpenReason, Refused}
+use Rattle.st_open_world.specs.OpenReasons.{StandsAgainstOpen, TooHigh, Unfounded}
 use Rattle.st_open_world.specs.Silent.{with_silent}
 use Rattle.st_open_world.proofs.ForCallers.{silent_sound}
 use Rattle.st_needs.specs.Completions.{Completed}
@@ -35,7 +35,7 @@ use Rattle.st_complete.specs.declared.answer.Answer.TheVariants as answer
 use Rattle.st_complete.specs.Answers.{IsAnswer, IsFinal}
 use Rattle.st_complete.specs.Found.{IsFound, IsFoundReason, IsLastHigherAt}
 use Rattle.st_complete.specs.Higher.{IsHigher, LastHigher}
-use Rattle.st_complete.proofs.Reasons.{reason_means, sent_if}
+use Rattle.st_complete.proofs.Reasons.{none_against, reason_means, sent_if}
 
 -- THE LAST EVENT THAT COUNTS NO LOWER
 
@@ -107,27 +107,35 @@ abbrev pub AreShownNeedless : Type 0
 AreShownNeedless = (top : ℕ) (streams : List Stream) → IsStreams streams → IsNeedless top streams
     → IsShownInOneTrace top streams
 
+-- and no reason is against them
+abbrev pub AreUnopposed : Type 0
+AreUnopposed = (top : ℕ) (streams : List Stream) → IsStreams streams → (others : List Pid)
+    → IsShownInOneTrace top (with_silent streams others) → HasNoOpenReason top streams
+
 pub answered : (top : ℕ) (streams : List Stream) (found : Answer) → AreFinal → AreShownIfNeedless
-    → AreShownNeedless → IsStreams streams
+    → AreShownNeedless → AreUnopposed → IsStreams streams
     → IsFound top streams found → IsAnswer top streams found
-answered top streams (answer.Whole completed) final shown needless sound is =
+answered top streams (answer.Whole completed) final shown needless unopposed sound is =
     let c : Completed = completed in
     let more = silent_sound streams sound c.unlisted in
+    let shown_with = (shown top (with_silent streams c.unlisted) more.draft.rising).1 (record {
+      wholes = c.wholes;
+      told = is.is.told;
+      sound = is.is.sound;
+      is = is.is.needless;
+    }) in
     record {
       completes = is;
-      shown = (shown top (with_silent streams c.unlisted) more.draft.rising).1 (record {
-        wholes = c.wholes;
-        told = is.is.told;
-        sound = is.is.sound;
-        is = is.is.needless;
-      });
+      shown = shown_with;
       lacks = record {
         shown = needless top (all_streams c.wholes) is.is.sound is.is.needless;
         sent = λ p i e at. sent_if (all_streams c.wholes) e (is.is.needless.reported p i e at);
         caused = is.is.needless.caused;
       };
+      unopposed =
+          none_against top streams sound (unopposed top streams sound c.unlisted shown_with);
     }
-answered top streams (answer.Never p i reason) final shown needless sound is =
+answered top streams (answer.Never p i reason) final shown needless unopposed sound is =
     record {
       holds = reason_means top streams sound p i reason is;
       final = reason_final top streams p i reason final sound is;

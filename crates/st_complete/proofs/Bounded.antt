@@ -4,7 +4,7 @@ use Rattle.std.proofs.Common.{Some, sym, ◌∙◌, ap, arith}
 use Rattle.std.proofs.lemmas.Option.{same_Some}
 use Rattle.st_core.specs.declared.types.Event.{Event}
 use Rattle.st_plan.proofs.ForCallers.{take_more}
-use Rattle.st_complete.specs.Bounds.{acts_after, skipped}
+use Rattle.st_complete.specs.Bounds.{acts_after, saturated, skipped}
 
 drop_here : (es : List Event) (i : ℕ) (e : Event) → slice_get es i ≡ Some e
     → drop i es ≡ e ∷ drop (suc i) es
@@ -22,3 +22,8 @@ acts_next es i e at =
     ∙ ap (λ before. 6 + skipped (take i es) e + acts_after before (drop (suc i) es))
     (sym (take_more es i e at))
     ∙ ap (λ n. 6 + skipped (take i es) e + acts_after (take n es) (drop n es)) next
+
+-- sums may be saturated one by one
+pub sums_on : (count more rest : ℕ)
+    → saturated (saturated (count + saturated more) + rest) ≡ saturated (count + (more + rest))
+sums_on count more rest = omega arith

@@ -34,7 +34,7 @@ use Rattle.st_order.specs.Items.{is_hidden}
 use Rattle.st_closed_world.specs.Needs.{HoldsOfNone, is_late}
 use Rattle.st_closed_world.specs.Reasons.{is_too_high}
 use Rattle.st_closed_world.proofs.ForCallers.{count_at}
-use Rattle.st_open_world.specs.OpenReasons.{IsUnfounded}
+use Rattle.st_open_world.specs.OpenReasons.{HasNoOpenReason, IsUnfounded}
 use Rattle.st_complete.specs.declared.answer.Never.{Never}
 use Rattle.st_complete.specs.declared.answer.Never.TheVariants as never
 use Rattle.st_complete.specs.Answers.{reason_rank, IsAgainst, IsLast, IsFirstReason, IsSendOf}
@@ -647,6 +647,27 @@ module _ (top : ℕ) (streams : List Stream) (sound : IsStreams streams) where
       founded q j
   founded_quiet accepted timely founded (suc (suc (suc (suc (suc (suc n)))))) less =
       absurd (omega (arith, less))
+
+  -- where no reason of the open question holds, none is against an event
+  pub none_against : HasNoOpenReason top streams → (reason : Never) (p : Pid) (i : ℕ) (e : Event)
+      → event_at streams p i ≡ Some e → ¬ IsAgainst top streams p i e reason
+  none_against none never.PrevNotBefore p i e at =
+      not_against never.PrevNotBefore p i e at (paired_quiet none.accepted 0 (omega arith) p i e at)
+  none_against none (never.NotRising j) p i e at =
+      not_against (never.NotRising j) p i e at (paired_quiet none.accepted 1 (omega arith) p i e at)
+  none_against none (never.Repeated q j) p i e at =
+      not_against (never.Repeated q j) p i e at
+      (paired_quiet none.accepted 2 (omega arith) p i e at)
+  none_against none (never.Mismatch q j) p i e at =
+      not_against (never.Mismatch q j) p i e at
+      (paired_quiet none.accepted 3 (omega arith) p i e at)
+  none_against none (never.Late j) p i e at =
+      not_against (never.Late j) p i e at (none.timely p i e at)
+  none_against none never.Unfounded p i e at =
+      not_against never.Unfounded p i e at (none.founded p i)
+  none_against none never.TooHigh p i e at = λ against.
+      let low = none.within p i e at in
+      omega (arith, low, against)
 
   pub reason_means : (p : Pid) (i : ℕ) (reason : Never) → IsFoundReason top streams p i reason
       → IsFirstReason top streams p i reason

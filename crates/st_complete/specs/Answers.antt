@@ -103,9 +103,9 @@ abbrev pub IsFinal : ℕ → List Stream → Never → Type 0
 IsFinal top streams never.TooHigh = NeverShownWithOthers top streams
 IsFinal top streams reason = (most : ℕ) → NeverShownWithOthers most streams
 
--- No send and no receive is missing in these streams: acts without a reset show them; the send of
--- each message that was received is among them; and the prev of each send and print is what the
--- event before it leaves, or a new trace begins there.
+-- No send and no receive is missing in these streams: acts without a reset show them; each message
+-- that was received has the count of a send or print of its sender; and the prev of each send and
+-- print is what the event before it leaves, or a new trace begins there.
 pub record LacksNothing (top : ℕ) (streams : List Stream) : Type 0 where
   pub shown : IsShownInOneTrace top streams
   pub sent : (p : Pid) (i : ℕ) (e : Event) → event_at streams p i ≡ Some e
@@ -114,11 +114,13 @@ pub record LacksNothing (top : ℕ) (streams : List Stream) : Type 0 where
       → is_need (take i (events_of streams p)) e ≡ false
 
 -- The streams have this completion, so acts without a reset show them with its unlisted processes;
--- and with all of its events nothing is missing.
+-- with all of its events nothing is missing; and no reason holds of the streams at any event.
 pub record IsWhole (top : ℕ) (streams : List Stream) (completed : Completed) : Type 0 where
   pub completes : Completes top streams completed
   pub shown : IsShownInOneTrace top (with_silent streams completed.unlisted)
   pub lacks : LacksNothing top (all_streams completed.wholes)
+  pub unopposed : (reason : Never) (p : Pid) (i : ℕ) (e : Event) → event_at streams p i ≡ Some e
+      → ¬ IsAgainst top streams p i e reason
 
 -- the reason holds, and is final
 pub record IsNever (top : ℕ) (streams : List Stream) (p : Pid) (i : ℕ) (reason : Never)

@@ -1,5 +1,5 @@
--- How many acts a completion surely has room in, by a plain count of its events.
-use Rattle.std.specs.Prelude.{ℕ, ◌+◌, ◌-◌, List, [], ◌∷◌, ◌++◌, if◌then◌else◌, sum_by}
+-- How many acts surely suffice for a completion, by a plain count of its events.
+use Rattle.std.specs.Prelude.{ℕ, ◌+◌, ◌-◌, ◌^◌, min, List, [], ◌∷◌, ◌++◌, if◌then◌else◌, sum_by}
 use Rattle.st_core.specs.declared.types.Event.{Event}
 use Rattle.st_core.specs.Laws.{greatest_count}
 use Rattle.st_core.specs.Run.{Stream, pids_of}
@@ -18,3 +18,7 @@ acts_after before (e ∷ es) = 6 + skipped before e + acts_after (before ++ e �
 -- and one for each process
 abbrev pub act_bound : List Stream → ℕ
 act_bound streams = sum_by (λ p. 1 + acts_after [] (events_of streams p)) (pids_of streams)
+
+-- a number, or the greatest of 64 bits if it is above
+abbrev pub saturated : ℕ → ℕ
+saturated n = min n (2 ^ 64 - 1)

@@ -21,8 +21,9 @@ pub enum Never {
     /// such one before it. A clock is at least as high as each count that its process received.
     Late(u64),
     /// The send or print has prev 0, which no message has as its count, and its process received a
-    /// token before, or stamped a lower count with another prev. Or the event is the receive of a
-    /// send that nobody reported, and of that the same holds.
+    /// token before, or stamped a lower count with another prev. Or it is the receive of a send
+    /// that nobody reported, which has prev 0, and its sender stamped a lower count with another
+    /// prev.
     Unfounded,
     /// No clock goes up to the event's count.
     TooHigh,
@@ -61,13 +62,13 @@ pub enum CertificateFault {
     /// Memory ran out. The same call may succeed later.
     #[error("no memory")]
     Memory,
-    /// The acts that were tried are too many or don't serve, and the completion surely has room only
-    /// in more acts than the caller takes: six for each event, one for each count that a process
-    /// passes unreported, and one for each process.
+    /// The acts that were tried are too many or don't serve, and the number of acts that surely
+    /// suffices is more than the caller takes: six for each event, one for each count that a
+    /// process passes unreported, and one for each process. Fewer may suffice.
     #[error("too many acts")]
     TooManyActs,
-    /// The acts that were tried are too many or don't serve, though the caller takes so many. No test
-    /// has seen it.
+    /// The acts that were tried are too many or don't serve, though the caller takes the number of
+    /// acts that surely suffices. No test has seen it.
     #[error("no certificate")]
     Uncertified,
 }

@@ -1,9 +1,9 @@
-//! How many acts a completion surely has room in.
+//! How many acts surely suffice for a completion.
 
-ghost use Rattle.std.specs.Prelude.{◌≡◌, ◌+◌, ◌≤◌, [], List};
+ghost use Rattle.std.specs.Prelude.{◌≡◌, ◌+◌, [], List};
 ghost use Rattle.st_core.specs.declared.types.Event.{Event as EventValue};
 ghost use Rattle.st_needs.specs.Flaws.{left_by};
-ghost use Rattle.st_complete.specs.Bounds.{act_bound, acts_after, skipped};
+ghost use Rattle.st_complete.specs.Bounds.{act_bound, acts_after, saturated, skipped};
 
 use st_core::{Event, Kind, Streams};
 use st_needs::Left;
@@ -14,7 +14,7 @@ const ACTS_OF_EVENT: u64 = 6;
 
 /// The sum, or the greatest number if it is above.
 fn plus(first: u64, second: u64) -> u64
-    ensures { result ≤ first + second }
+    ensures { result ≡ saturated (first + second) }
 {
     first.saturating_add(second)
 }
@@ -33,9 +33,10 @@ fn skipped(left: Left, event: &Event) -> u64
     }
 }
 
-/// How many acts all events of a process have room in.
+/// How many acts surely suffice for all events of a process, or the greatest number if there are
+/// more.
 fn acts_of_events(events: &[Event]) -> u64
-    ensures { result ≤ acts_after [] events.now }
+    ensures { result ≡ saturated (acts_after [] events.now) }
 {
     let mut left = Left::by_none();
     let mut count: u64 = 0;
@@ -47,9 +48,9 @@ fn acts_of_events(events: &[Event]) -> u64
     count
 }
 
-/// How many acts these events have room in, or the greatest number if there are more.
+/// How many acts surely suffice for these events, or the greatest number if there are more.
 pub(crate) fn act_bound(streams: &Streams) -> u64
-    ensures { result ≤ act_bound streams.now }
+    ensures { result ≡ saturated (act_bound streams.now) }
 {
     let mut count: u64 = 0;
     for &pid in streams.pids() {

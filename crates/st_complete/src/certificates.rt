@@ -1,10 +1,10 @@
 //! The acts of a completion.
 
-ghost use Rattle.std.specs.Prelude.{◌≡◌, ◌<◌, true, IfErr, IfOk, IfSome};
+ghost use Rattle.std.specs.Prelude.{◌≡◌, ◌<◌, ◌≤◌, ◌↔◌, IfErr, IfOk, IfSome, IsTrue};
 ghost use Rattle.st_core.specs.Laws.{is_reset, NoReset};
 ghost use Rattle.st_plan.specs.Marks.{all_streams};
 ghost use Rattle.st_complete.specs.Answers.{IsCertificate};
-ghost use Rattle.st_complete.specs.Bounds.{act_bound};
+ghost use Rattle.st_complete.specs.Bounds.{act_bound, saturated};
 
 use crate::answer::{Certificate, CertificateFault};
 use crate::bounds::act_bound;
@@ -36,7 +36,7 @@ fn is_reset(act: &Act) -> bool
 
 /// Whether none of the acts is a reset.
 fn has_no_reset(acts: &[Act]) -> bool
-    ensures { result ≡ true → NoReset acts.now }
+    ensures { IsTrue result ↔ NoReset acts.now }
 {
     for act in acts {
         if is_reset(act) {
@@ -105,8 +105,10 @@ fn certify_construction<const TOP: u64>(
 
 /// Why a completion has no certificate, if none of the acts that were tried serves.
 fn fault_of(completion: &Completion, most: u64) -> CertificateFault
-    ensures { result ≡ CertificateFault.TooManyActs →
+    ensures too_many { result ≡ CertificateFault.TooManyActs →
         most < act_bound (all_streams completion.now.wholes) }
+    ensures uncertified { result ≡ CertificateFault.Uncertified →
+        saturated (act_bound (all_streams completion.now.wholes)) ≤ most }
 {
     if act_bound(completion.streams()) > most {
         CertificateFault::TooManyActs
@@ -128,6 +130,8 @@ pub fn certificate_by_construction<const TOP: u64>(
     ensures certified { IfOk result (IsCertificate TOP streams.now most) }
     ensures too_many { IfErr result (λ fault. fault ≡ CertificateFault.TooManyActs →
         most < act_bound (all_streams completion.now.wholes)) }
+    ensures uncertified { IfErr result (λ fault. fault ≡ CertificateFault.Uncertified →
+        saturated (act_bound (all_streams completion.now.wholes)) ≤ most) }
 {
     match certify_construction::<TOP>(rt, alloc, streams, completion, most) {
         Err(AllocError) => Err(CertificateFault::Memory),
@@ -146,7 +150,8 @@ pub fn certificate_by_construction<const TOP: u64>(
 /// If these acts are more than `most`, or the checker refuses them, which no test has seen, the
 /// acts of the auditor's construction are tried.
 ///
-/// It sorts on several threads, and the result is the same for every number of threads.
+/// It sorts on several threads, and the result is the same for every number of threads, which is
+/// tested and not proved.
 pub fn certificate<const TOP: u64>(
     rt: &(impl Threads + Sync),
     alloc: Global,
@@ -157,6 +162,8 @@ pub fn certificate<const TOP: u64>(
     ensures certified { IfOk result (IsCertificate TOP streams.now most) }
     ensures too_many { IfErr result (λ fault. fault ≡ CertificateFault.TooManyActs →
         most < act_bound (all_streams completion.now.wholes)) }
+    ensures uncertified { IfErr result (λ fault. fault ≡ CertificateFault.Uncertified →
+        saturated (act_bound (all_streams completion.now.wholes)) ≤ most) }
 {
     match certify_lean::<TOP>(rt, alloc, streams, completion, most) {
         Err(AllocError) => Err(CertificateFault::Memory),

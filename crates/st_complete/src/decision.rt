@@ -18,7 +18,7 @@ use st_candidate::build_candidate;
 use st_closed_world::laws::{needless_streams_are_shown, shown_exactly_where_nothing_is_needed};
 use st_core::{Event, Pid, Streams};
 use st_needs::{Completion, Flaw, complete_by_definition, find_flaw, find_unfounded};
-use st_open_world::laws::open_reasons_are_final;
+use st_open_world::laws::{open_reasons_are_final, shown_with_others_only_without_a_reason};
 use st_pair::{PairFault, Pairing, pair};
 use std::alloc::{AllocError, Global};
 
@@ -168,8 +168,8 @@ fn answer_of<const TOP: u64>(alloc: Global, streams: &Streams) -> Result<Answer,
 
 /// Decides whether acts without a reset show the streams together with any processes that report
 /// nothing. If so, it returns a completion, with the processes of this kind that it needs; and if
-/// not, the least place of the first reason that holds. The same streams always get the same result.
-/// The time is nearly linear in the events.
+/// not, the least place of the first reason that holds. The same streams always get the same
+/// result, which is tested and not proved. The time is nearly linear in the events.
 ///
 /// The completion is the one that `docs/COMPLETIONS.md` describes: hidden sends are behind the
 /// receives that may have caused them, messages that were sent and never received are taken if a
@@ -180,6 +180,7 @@ pub fn complete<const TOP: u64>(alloc: Global, streams: &Streams) -> Result<Answ
     needless_streams_are_shown();
     shown_exactly_where_nothing_is_needed();
     open_reasons_are_final();
+    shown_with_others_only_without_a_reason();
     let _pids = streams.pids();
     match answer_of::<TOP>(alloc, streams) {
         Err(fault) => Err(fault),

@@ -1,7 +1,7 @@
--- One process more; and those that were taken are no more than all.
+-- One process more; and those that were taken are all in the end.
 use Rattle.std.proofs.Common.{◌+◌, ◌<◌, [], get_or, length, sum_by, take, ap, arith}
-use Rattle.std.proofs.lemmas.List.{take_more}
-use Rattle.std.proofs.lemmas.List.Sums.{sum_by-take-le, sum_by_push}
+use Rattle.std.proofs.lemmas.List.{take_all, take_more}
+use Rattle.std.proofs.lemmas.List.Sums.{sum_by_push}
 use Rattle.st_core.specs.declared.types.Pid.{Pid}
 use Rattle.st_core.specs.Run.{pids_of}
 use Rattle.st_core.specs.Streams.{events_of}
@@ -37,6 +37,9 @@ pub returns : goal.returns
 returns c =
     let streams = c.args.streams.now in
     let f = λ (p : Pid). 1 + acts_after [] (events_of streams p) in
-    let part = sum_by-take-le f (pids_of streams) c.loop-pid.pid-index in
+    let past = c.loop-pid-test.false in
+    let all = ap length c.pids-pid-items.ensures.value in
+    let taken = ap (sum_by f) (take_all c.loop-pid.pid-index (pids_of streams)
+    (omega (arith, past, all))) in
     let so_far = c.loop-pid.invariant in
-    omega (arith, part, so_far)
+    omega (arith, taken, so_far)

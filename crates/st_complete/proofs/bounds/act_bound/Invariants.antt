@@ -1,10 +1,11 @@
--- The processes that were taken have at least so many.
-use Rattle.std.proofs.Common.{◌+◌, ◌≤◌, [], sum_by, take}
+-- So many suffice for the processes that were taken.
+use Rattle.std.proofs.Common.{◌≡◌, ◌+◌, [], sum_by, take}
 use Rattle.st_core.specs.Run.{pids_of}
 use Rattle.st_core.specs.Streams.{events_of}
-use Rattle.st_complete.specs.Bounds.{acts_after}
+use Rattle.st_complete.specs.Bounds.{acts_after, saturated}
 use Rattle.st_complete.proofs.bounds.act_bound.Given as goal
 
 abbrev pub invariant-loop-pid : goal.invariant-loop-pid
-invariant-loop-pid l = l.count ≤ sum_by (λ p. 1 + acts_after [] (events_of l.streams p))
-    (take l.pid-index (pids_of l.streams))
+invariant-loop-pid l = l.count
+    ≡ saturated (sum_by (λ p. 1 + acts_after [] (events_of l.streams p))
+    (take l.pid-index (pids_of l.streams)))

@@ -1,8 +1,10 @@
--- One event more.
-use Rattle.std.proofs.Common.{get_or, take, ◌∙◌, arith}
+-- One event more; and at the end none is left.
+use Rattle.std.proofs.Common.{◌+◌, drop, get_or, take, ◌∙◌, ap, arith}
+use Rattle.std.proofs.lemmas.List.{drop_all}
 use Rattle.st_pair.proofs.ForCallers.{at_get_or, blank}
 use Rattle.st_needs.proofs.ForCallers.{left_more}
-use Rattle.st_complete.proofs.Bounded.{acts_next}
+use Rattle.st_complete.specs.Bounds.{acts_after, skipped}
+use Rattle.st_complete.proofs.Bounded.{acts_next, sums_on}
 use Rattle.st_complete.proofs.bounds.acts_of_events.Goals as goal
 
 pub loop-event-preserved : goal.loop-event-preserved
@@ -14,12 +16,21 @@ loop-event-preserved c =
     let own = c.skipped.ensures (take i es) c.loop-event.invariant.left in
     let more = c.plus-more.ensures in
     let all = c.plus-count.ensures in
-    let within = c.loop-event.invariant.within in
+    let counted = c.loop-event.invariant.counted in
     let next = acts_next es i e at in
+    let sums = sums_on c.loop-event.count (6 + skipped (take i es) e)
+    (acts_after (take (i + 1) es) (drop (i + 1) es)) in
     record {
       left = c.after-left.ensures (take i es) c.loop-event.invariant.left ∙ left_more es i e at;
-      within = omega (arith, own, more, all, within, next);
+      small = omega (arith, all);
+      counted = omega (arith, more, own, all, next, counted, sums);
     }
 
 pub returns : goal.returns
-returns c = let within = c.loop-event.invariant.within in omega (arith, within)
+returns c =
+    let es = c.args.events.now in
+    let i = c.loop-event.event-index in
+    let none = ap (acts_after (take i es)) (drop_all i es c.loop-event-test.false) in
+    let counted = c.loop-event.invariant.counted in
+    let small = c.loop-event.invariant.small in
+    omega (arith, none, counted, small)

@@ -14,7 +14,7 @@ returns-in-Ok-Yes g c =
     record {
       verdict = yes;
       shows = (yes.0, yes.1, yes.2);
-      one_trace = subst NoReset c.as_slice.ensures (c.has_no_reset.ensures
+      one_trace = subst NoReset c.as_slice.ensures (c.has_no_reset.ensures.0
           c.if-not-has_no_reset.false);
       within = let few = c.if-len-most.false in let all = c.len.ensures in omega (arith, few, all);
     }

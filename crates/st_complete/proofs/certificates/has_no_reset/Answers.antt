@@ -1,7 +1,8 @@
--- One act more, and none at the end.
-use Rattle.std.proofs.Common.{◌≡◌, ℕ, ◌+◌, ◌≤◌, ◌<◌, zero, suc, false, List, [], ◌∷◌, drop, get_or}
-use Rattle.std.proofs.Common.{length, sym, ◌∙◌}
+-- One act more, and none at the end; and none of acts without a reset is one.
+use Rattle.std.proofs.Common.{◌≡◌, ℕ, ◌+◌, ◌≤◌, ◌<◌, zero, suc, true, false, List, [], ◌∷◌, drop, get_or}
+use Rattle.std.proofs.Common.{length, refl, sym, ◌∙◌}
 use Rattle.std.proofs.Common.{subst, arith}
+use Rattle.std.proofs.lemmas.Bool.{false≢true}
 use Rattle.st_core.specs.declared.types.Act.{Act}
 use Rattle.st_core.specs.Laws.{is_reset, NoReset}
 use Rattle.st_complete.proofs.certificates.has_no_reset.Goals as goal
@@ -19,6 +20,19 @@ at_end [] (suc k) past = tt
 at_end (a ∷ acts) zero past = absurd (omega arith)
 at_end (a ∷ acts) (suc k) past = at_end acts k (omega arith)
 
+not_one : (acts : List Act) (k : ℕ) (d : Act) → k < length acts → NoReset acts
+    → is_reset (get_or acts k d) ≡ false
+not_one [] k d less none = absurd (omega arith)
+not_one (a ∷ acts) zero d less none = none.0
+not_one (a ∷ acts) (suc k) d less none = not_one acts k d (omega arith) none.1
+
+pub returns-then-is_reset : goal.returns-then-is_reset
+returns-then-is_reset c = (
+  λ yes. absurd (false≢true yes),
+  λ none. absurd (false≢true (sym (not_one c.args.acts.now c.loop-act.act-index _
+      c.loop-act-test.true none) ∙ sym c.is_reset.ensures ∙ c.if-is_reset.true)),
+)
+
 pub loop-act-preserved : goal.loop-act-preserved
 loop-act-preserved c = λ rest.
     let acts = c.args.acts.now in
@@ -27,5 +41,8 @@ loop-act-preserved c = λ rest.
     (sym c.is_reset.ensures ∙ c.if-is_reset.false) (subst (λ n. NoReset (drop n acts)) next rest))
 
 pub returns : goal.returns
-returns c = λ yes. c.loop-act.invariant (at_end c.args.acts.now c.loop-act.act-index
-    c.loop-act-test.false)
+returns c = (
+  λ yes. c.loop-act.invariant (at_end c.args.acts.now c.loop-act.act-index
+      c.loop-act-test.false),
+  λ none. refl,
+)
