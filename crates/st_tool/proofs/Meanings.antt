@@ -37,11 +37,13 @@ completion_of f bytes streams _ _ has (Adds c is) e =
       apart = has.is.completes.apart;
       shows = has.is.shown.shows;
       one_trace = has.is.shown.one_trace;
+      few = λ bundle. absurd (bundle is);
+      short = λ same. absurd (cc (is, same));
       told = has.is.completes.is.told;
       lacks = has.is.lacks;
       text = sym (ap (λ (g : Form). completed_text g streams c (has.is.shown.acts)) is);
     }
-completion_of f bytes streams _ _ has (Completes c is) e =
+completion_of f bytes streams _ _ has (Completes c is few) e =
     record {
       streams = streams;
       given = has.given;
@@ -51,11 +53,13 @@ completion_of f bytes streams _ _ has (Completes c is) e =
       apart = has.is.completes.apart;
       shows = has.is.shown.shows;
       one_trace = has.is.shown.one_trace;
+      few = λ _. few;
+      short = λ same. absurd (cc (is, same));
       told = has.is.completes.is.told;
       lacks = has.is.lacks;
       text = sym (ap (λ (g : Form). completed_text g streams c (has.is.shown.acts)) is);
     }
-completion_of f bytes streams _ _ has (Certifies c acts is shows one_trace) e =
+completion_of f bytes streams _ _ has (Certifies c acts is shows one_trace few short) e =
     record {
       streams = streams;
       given = has.given;
@@ -65,12 +69,14 @@ completion_of f bytes streams _ _ has (Certifies c acts is shows one_trace) e =
       apart = has.is.completes.apart;
       shows = shows;
       one_trace = one_trace;
+      few = λ _. few;
+      short = λ _. short;
       told = has.is.completes.is.told;
       lacks = has.is.lacks;
       text = sym (ap (λ (g : Form). completed_text g streams c (acts)) is);
     }
 completion_of f bytes streams _ _ has (IsLong c is) e = absurd (omega arith)
-completion_of f bytes streams _ _ has (IsUncertified c is) e = absurd (omega arith)
+completion_of f bytes streams _ _ has (IsUncertified c is enough) e = absurd (omega arith)
 completion_of f bytes streams _ _ has (IsNever p i r) e = absurd (omega arith)
 
 pub completed_means : (f : Form) (bytes : List ℕ) (out : Output) → IsOutputOfComplete f bytes out → out.status ≡ 0
@@ -81,10 +87,10 @@ completed_means f bytes out (Faulty b x is) e = let high = fault_status_high x i
 reason_of : (f : Form) (bytes : List ℕ) (streams : List Stream) (found : Answer) (out : Output)
     → HasAnswer bytes streams found → Answers f streams found out → out.status ≡ 1 → MeansNever bytes out
 reason_of f bytes streams _ _ has (Adds c is) e = absurd (omega arith)
-reason_of f bytes streams _ _ has (Completes c is) e = absurd (omega arith)
-reason_of f bytes streams _ _ has (Certifies c acts is shows one_trace) e = absurd (omega arith)
+reason_of f bytes streams _ _ has (Completes c is few) e = absurd (omega arith)
+reason_of f bytes streams _ _ has (Certifies c acts is shows one_trace few short) e = absurd (omega arith)
 reason_of f bytes streams _ _ has (IsLong c is) e = absurd (omega arith)
-reason_of f bytes streams _ _ has (IsUncertified c is) e = absurd (omega arith)
+reason_of f bytes streams _ _ has (IsUncertified c is enough) e = absurd (omega arith)
 reason_of f bytes streams _ _ has (IsNever p i r) e =
     record {
       streams = streams;
@@ -106,8 +112,8 @@ never_means f bytes out (Faulty b x is) e = let high = fault_status_high x in ab
 long_of : (f : Form) (bytes : List ℕ) (streams : List Stream) (found : Answer) (out : Output)
     → HasAnswer bytes streams found → Answers f streams found out → out.status ≡ 5 → MeansLong f bytes out
 long_of f bytes streams _ _ has (Adds c is) e = absurd (omega arith)
-long_of f bytes streams _ _ has (Completes c is) e = absurd (omega arith)
-long_of f bytes streams _ _ has (Certifies c acts is shows one_trace) e = absurd (omega arith)
+long_of f bytes streams _ _ has (Completes c is few) e = absurd (omega arith)
+long_of f bytes streams _ _ has (Certifies c acts is shows one_trace few short) e = absurd (omega arith)
 long_of f bytes streams _ _ has (IsLong c is) e =
     record {
       streams = streams;
@@ -118,7 +124,7 @@ long_of f bytes streams _ _ has (IsLong c is) e =
       too_long = is;
       text = refl;
     }
-long_of f bytes streams _ _ has (IsUncertified c is) e = absurd (omega arith)
+long_of f bytes streams _ _ has (IsUncertified c is enough) e = absurd (omega arith)
 long_of f bytes streams _ _ has (IsNever p i r) e = absurd (omega arith)
 
 fault_status_low : (x : ReadFault) → fault_status x ≤ 4

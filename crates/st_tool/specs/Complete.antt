@@ -1,6 +1,6 @@
 -- What `complete` makes of bytes: what the streams that they spell lack, or why no run without a
 -- reset has them, whatever processes report nothing. The acts in the input are ignored.
-use Rattle.std.specs.Prelude.{◌≡◌, ℕ, ◌<◌, ◌+◌, false, List, [], ◌∷◌, ◌++◌, Option, Some, None}
+use Rattle.std.specs.Prelude.{◌≡◌, ℕ, ◌<◌, ◌≤◌, ◌+◌, false, List, [], ◌∷◌, ◌++◌, Option, Some, None}
 use Rattle.std.specs.Prelude.{codes, decimal, length, if◌then◌else◌}
 use Rattle.std.specs.List.{flat_map, AllByRecursion}
 use Rattle.std.specs.Option.{option_map_or}
@@ -74,32 +74,43 @@ never_text streams p i r =
 abbrev pub text_of_status : List ℕ → ℕ → Output
 text_of_status text status = record { text = text; status = status }
 
--- the streams have a run, of more acts or processes than the reader takes
+-- the streams have a run, and as a bundle it has more processes than the reader takes, or no acts
+-- that are few enough were found
 abbrev pub long : Output
 long = text_of_status (ended_line (codes "long")) 5
 
--- they have one, and of the acts that were built none are accepted
+-- they have one, and of the acts that were built none are accepted, though the reader takes the number
+-- that surely suffices
 abbrev pub uncertified : Output
 uncertified = text_of_status (ended_line (codes "fault certificate")) 4
 
--- A completion has more processes than the reader takes; or acts are wanted, and six for each event
--- of it, one for each count that a process passes unreported and one for each process are more.
+-- A bundle is wanted, and the completion has more processes than the reader takes; or acts are
+-- wanted, and six for each event of it, one for each count that a process passes unreported and one
+-- for each process are more.
 pub data IsTooLong (f : Form) (c : Completed) : Type 0 where
-  HasProcesses : greater.processes < length (pids_of (all_streams c.wholes)) → IsTooLong f c
+  HasProcesses : ¬ (f ≡ form.Added) → greater.processes < length (pids_of (all_streams c.wholes))
+      → IsTooLong f c
   HasActs : f ≡ form.Acts → greater.acts < act_bound (all_streams c.wholes) → IsTooLong f c
 
--- the output of an answer in a form; acts that are written show the streams with the processes that
--- they don't list, and none of them is a reset
+-- a completion has no more processes than the reader takes
+abbrev pub HasFewProcesses : Completed → Type 0
+HasFewProcesses c = length (pids_of (all_streams c.wholes)) ≤ greater.processes
+
+-- The output of an answer in a form. Acts that are written show the streams with the processes that
+-- they don't list, and none of them is a reset. A bundle has no more processes, and no more acts,
+-- than the reader takes.
 pub data Answers (f : Form) (streams : List Stream) : Answer → Output → Type 0 where
   Adds : (c : Completed) → f ≡ form.Added → Answers f streams (answer.Whole c)
       (text_of_status (added_text c) 0)
-  Completes : (c : Completed) → f ≡ form.Streams → Answers f streams (answer.Whole c)
-      (streams_output (all_streams c.wholes))
+  Completes : (c : Completed) → f ≡ form.Streams → HasFewProcesses c
+      → Answers f streams (answer.Whole c) (streams_output (all_streams c.wholes))
   Certifies : (c : Completed) (acts : List Act) → f ≡ form.Acts
       → Shows top (with_silent streams c.unlisted) acts → NoReset acts
+      → HasFewProcesses c → length acts ≤ greater.acts
       → Answers f streams (answer.Whole c) (bundled (with_silent streams c.unlisted) acts)
   IsLong : (c : Completed) → IsTooLong f c → Answers f streams (answer.Whole c) long
   IsUncertified : (c : Completed) → f ≡ form.Acts
+      → act_bound (all_streams c.wholes) ≤ greater.acts
       → Answers f streams (answer.Whole c) uncertified
   IsNever : (p : Pid) (i : ℕ) (r : Never) → Answers f streams (answer.Never p i r)
       (text_of_status (never_text streams p i r) 1)
@@ -143,6 +154,9 @@ pub record MeansCompleted (f : Form) (bytes : List ℕ) (out : Output) : Type 0 
   pub shows : Shows top (with_silent streams completed.unlisted) acts
   -- and none of these acts is a reset
   pub one_trace : NoReset acts
+  -- a bundle that is written has no more processes, and no more acts, than the reader takes
+  pub few : ¬ (f ≡ form.Added) → HasFewProcesses completed
+  pub short : f ≡ form.Acts → length acts ≤ greater.acts
   -- of all events of the completion the told ones are just those of the streams
   pub told : told_streams completed.wholes ≡ with_silent streams completed.unlisted
   -- and with all its events no send and no receive is missing
@@ -167,7 +181,7 @@ pub record MeansNever (bytes : List ℕ) (out : Output) : Type 0 where
   -- the text names the event and the reason
   pub text : out.text ≡ never_text streams pid index reason
 
--- a completion that is too long to be written as a bundle: status 5
+-- a completion of which no bundle is written, since it is too long or may be: status 5
 pub record MeansLong (f : Form) (bytes : List ℕ) (out : Output) : Type 0 where
   pub streams : List Stream
   pub given : Option (List Act)
@@ -176,7 +190,8 @@ pub record MeansLong (f : Form) (bytes : List ℕ) (out : Output) : Type 0 where
   pub spelled : Spells greater bytes streams given
   -- acts without a reset show the streams, with unlisted processes, and this is a completion
   pub whole : IsWhole top streams completed
-  -- it has more processes than the reader takes, or surely has room only in more acts
+  -- it has more processes than the reader takes; or the number of acts that surely suffices is more
+  -- than the reader takes (fewer may suffice)
   pub too_long : IsTooLong f completed
   -- the text is the line long
   pub text : out.text ≡ ended_line (codes "long")

@@ -11,7 +11,8 @@ ghost use Rattle.st_commands.specs.Command.{Tells, call};
 ghost use Rattle.st_commands.specs.Meaning.{Performs, Says};
 ghost use Rattle.st_complete.specs.Answers.{IsAnswer, IsWhole};
 ghost use Rattle.st_open_world.specs.Silent.{with_silent};
-ghost use Rattle.st_tool.specs.Complete.{IsOutputOfComplete, MeansCompleted, MeansLong, MeansNever};
+ghost use Rattle.st_tool.specs.Complete.{HasFewProcesses, IsOutputOfComplete};
+ghost use Rattle.st_tool.specs.Complete.{MeansCompleted, MeansLong, MeansNever};
 ghost use Rattle.st_tool.specs.declared.lines.OutputLine.TheVariants as lines;
 ghost use Rattle.st_tool.specs.Lines.{words_of};
 ghost use Rattle.st_tool.specs.Parts.{CompletesTo, IsStandard};
@@ -78,6 +79,7 @@ fn tell_shown<H: Threads + Sync, W: ByteSink, N: ByteSink>(
     notes: &mut N,
 ) -> u8
     requires whole { IsWhole TOP streams.now completion.now }
+    requires few { HasFewProcesses completion.now }
     requires more { more.now ≡ with_silent streams.now completion.now.unlisted }
     ensures { Tells (call W.ByteSink writer.old writer.new)
         (CompletesTo Form.Acts streams.now) result }
@@ -103,7 +105,8 @@ fn tell_acts<H: Threads + Sync, W: ByteSink, N: ByteSink>(
     writer: &mut W,
     notes: &mut N,
 ) -> u8
-    requires { IsWhole TOP streams.now completion.now }
+    requires whole { IsWhole TOP streams.now completion.now }
+    requires few { HasFewProcesses completion.now }
     ensures { Tells (call W.ByteSink writer.old writer.new)
         (CompletesTo Form.Acts streams.now) result }
 {
@@ -195,13 +198,16 @@ fn complete_streams<H: Threads + Sync, W: ByteSink, N: ByteSink>(
     }
 }
 
-/// Reads a bundle and writes what its streams lack, in this form, with status 0. If no run without a
-/// reset has them, whatever processes report nothing, it writes an event and the reason, with status
-/// 1. If a bundle is asked for, and its processes are more than the reader of the greater limits takes,
-/// or it surely has room only in more acts, it writes `long` with status 5; if they are only more than
-/// `seqaudit` reads, a line in `notes` says who reads them, if it can be written. Faulty input is 2;
-/// running out of memory, and a reader or a writer that fails, are 4, and so is a completion whose acts
-/// the checker doesn't accept, which no test has seen. It sorts on several threads.
+/// Reads a bundle and writes what its streams lack, in this form, with status 0. If no run without
+/// a reset has them, whatever processes report nothing, it writes an event and the reason, with
+/// status 1. If a bundle is asked for, and its processes are more than the reader of the greater
+/// limits takes, or the acts that were tried don't serve, and the number of acts that surely
+/// suffices (six for each event, one for each count that a process passes unreported, and one for
+/// each process) is more than it takes, it writes `long` with status 5; fewer acts may suffice. If
+/// a bundle is only more than `seqaudit` reads, a line in `notes` says who reads it, if it can be
+/// written. Faulty input is 2; running out of memory, and a reader or a writer that fails, are 4,
+/// and so is a completion whose acts the checker doesn't accept, which no test has seen. It sorts
+/// on several threads.
 pub fn run_complete<H: Threads + Sync, R: ByteSource, W: ByteSink, N: ByteSink>(
     rt: &H,
     alloc: Global,

@@ -1,5 +1,5 @@
 -- The acts show the streams with their unlisted processes; running out of memory has a line of its own.
-use Rattle.std.proofs.Common.{List, refl, subst}
+use Rattle.std.proofs.Common.{List, refl, subst, arith}
 use Rattle.st_core.specs.Run.{Shows, Stream}
 use Rattle.st_commands.specs.Output.{no_memory, bundled}
 use Rattle.st_commands.specs.Checked.{top}
@@ -18,7 +18,7 @@ returns-in-Ok g c =
       owed = Finds (answer.Whole c.args.completion.now) (bundled more acts) c.requires.whole
           (Certifies c.args.completion.now acts refl
           (subst (λ (xs : List Stream). Shows top xs acts) c.requires.more c.in-Ok.ensures.certified.shows)
-          c.in-Ok.ensures.certified.one_trace);
+          c.in-Ok.ensures.certified.one_trace c.requires.few c.in-Ok.ensures.certified.within);
       delivered = rw (c.as_slice.ensures, c.requires.more) at c.tell_bundle.ensures;
     }
 
@@ -33,10 +33,11 @@ returns-in-Err-TooManyActs g c =
 
 pub returns-in-Err-Uncertified : goal.returns-in-Err-Uncertified
 returns-in-Err-Uncertified g c =
+    let enough = c.in-Err-Uncertified.ensures.uncertified c.in-Err-Uncertified.field-0-is in
     record {
       output = uncertified;
       owed = Finds (answer.Whole c.args.completion.now) uncertified c.requires.whole
-          (IsUncertified c.args.completion.now refl);
+          (IsUncertified c.args.completion.now refl (omega (arith, enough)));
       delivered = c.tell_line-in-Err-Uncertified.ensures;
     }
 
