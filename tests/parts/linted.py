@@ -29,6 +29,12 @@ VALUES = "a value, a number up to 18446744073709551615"
 QUOTES = "the word 'receive' stands in straight single quotes"
 EMPTY = "the line is empty: leave it out"
 LABELS = "labels are numbers: seqaudit-node convert gives each term one"
+VERSION = "this version isn't known, 1 and 2 are: see what wrote the text"
+NEWLINE = "a newline at the end"
+BREAKS_OFF = "the text breaks off here: get the whole of it, or leave the line out"
+OF_NUMBER = "the text may break off within this number: see whether it is whole, and end the line"
+MAY_BREAK = "the text may break off here: see whether the line is whole, and end it"
+SHELLS = "a pid is written <0.30.0>, without #Pid before it"
 LOG = "a log of events, and no bundle: seqaudit-node convert makes one of it"
 HEADER_1 = "the first line is seqtrace 1"
 RISES = "no run reports this event: the second count of a serial is above its first"
@@ -53,6 +59,20 @@ BY_HAND = (
     ("that end under header 2", "seqtrace 2\nprocess <3.30.1>\n", 2, 15, "0, the third part of a pid",
      "the third part of a pid is 0"),
     ("an empty text", "", 1, 1, HEADER, "the text is empty"),
+    ("a text of blanks", "  \n\t\r\n", 1, 1, HEADER, "the text is empty"),
+    ("a mark of UTF-8 alone", "\ufeff", 1, 1, HEADER, "the text is empty"),
+    ("an unknown version", "seqtrace 3\nprocess <0.30.0>\n", 1, 10, HEADER, VERSION),
+    ("an unknown version of two digits", "seqtrace 12\nprocess <0.30.0>\n", 1, 11, END, VERSION),
+    ("an unknown version that a mark of UTF-8 is in front of", "\ufeffseqtrace 3\nprocess <0.30.0>\n", 1, 1, HEADER, VERSION),
+    ("a value that may go on", f"{HEAD}acts\nprint <0.30.0> 7", 4, 17, NEWLINE, OF_NUMBER),
+    ("a label that may go on", f"{HEAD}acts\nset <0.30.0> label 1", 4, 21, NEWLINE, OF_NUMBER),
+    ("a place that may go on", f"{HEAD}acts\nreceive <0.30.0> place 1", 4, 25, NEWLINE, OF_NUMBER),
+    ("an act that breaks off", f"{HEAD}acts\nprint <0.30.0>", 4, 15, "one space", None),
+    ("a pid that breaks off", f"{HEAD}acts\nlook <0.30.", 4, 12, "0, the third part of a pid", None),
+    ("a header that breaks off", "seqtrace ", 1, 10, HEADER, None),
+    ("a pid as a shell writes it, twice", "seqtrace 1\nprocess #Pid#PID<0.30.0>\n", 2, 9, "<", SHELLS),
+    ("that with a blank between", HEAD + PRINT.replace("<0", "#Pid <0") + "\n", 3, 28, "<", SHELLS),
+    ("a blank within a label", HEAD + PRINT.replace("17", "1 7") + "\n", 3, 13, ",", "a blank within a number"),
     ("acts twice", f"{HEAD}acts\nacts\n", 4, 1, "an act", "the word acts stands once"),
     ("an event below acts", f"{HEAD}acts\n{PRINT}\n", 4, 1, "an act", BELOW_ACTS),
     ("an event of another process", HEAD + PRINT.replace("30", "31") + f"\n{TWO}", 3, 32,
@@ -128,7 +148,6 @@ BY_FIX = (
     ("no header", f"process <0.30.0>\n{PRINT}\n", 1, 1, HEADER, HEADER_1, GOOD),
     ("no header above a pid of another node", "process <3.30.0>\n", 1, 1, HEADER,
      "the first line is seqtrace 2, since a pid of another node than 0 is named", "seqtrace 2\nprocess <3.30.0>\n"),
-    ("another number in the header", f"seqtrace 3\nprocess <0.30.0>\n", 1, 10, HEADER, HEADER_1, HEAD),
     ("a blank at the end", f"{HEAD}{PRINT} \n", 3, 43, END, "a blank ends the line: leave it out", GOOD),
     ("an empty line", f"{HEAD}\n{PRINT}\n", 3, 1, BELOW_A_PROCESS, EMPTY, GOOD),
     ("a line of blanks", f"{HEAD} \t\n{PRINT}\n", 3, 1, BELOW_A_PROCESS, EMPTY, GOOD),
@@ -150,6 +169,12 @@ BY_FIX = (
      "no pid of a node other than 0 is named, so the header is seqtrace 1", HEAD),
     ("no newline at the end", HEAD + PRINT, 3, 43, "a newline at the end",
      "each line is ended by a newline, the last one too", GOOD),
+    ("no newline behind a value that can't go on", f"{HEAD}acts\nprint <0.30.0> 0", 4, 17, NEWLINE,
+     "each line is ended by a newline, the last one too", f"{HEAD}acts\nprint <0.30.0> 0\n"),
+    ("no newline behind a truth value", f"{HEAD}acts\nset <0.30.0> send true", 4, 23, NEWLINE,
+     "each line is ended by a newline, the last one too", f"{HEAD}acts\nset <0.30.0> send true\n"),
+    ("no newline behind the header", "seqtrace 1", 1, 11, NEWLINE,
+     "each line is ended by a newline, the last one too", "seqtrace 1\n"),
     ("a mark of UTF-8 at the front", "\ufeff" + GOOD, 1, 1, HEADER, "a mark of UTF-8: leave it out", GOOD),
     ("a pid as Erlang's shell writes it", "seqtrace 1\nprocess #Pid<0.30.0>\n", 2, 9, "<",
      "a pid is written <0.30.0>, without #Pid before it", HEAD),
@@ -177,6 +202,16 @@ SEVERAL = (
     ("a node under header 1 is named once", "seqtrace 1\nprocess <3.30.0>\nprocess <3.31.0>\nprocess <3.x.0>\n",
      ((2, 10, "node 0 under seqtrace 1", "a bundle that names a pid of another node begins with seqtrace 2"),
       (4, 12, "a pid's number up to 65535", PID_PARTS)), 1),
+    ("a mark of UTF-8 and no header", "\ufeffprocess <0.30.0>\n",
+     ((1, 1, HEADER, HEADER_1), (1, 1, BELOW_THE_HEADER, "a mark of UTF-8: leave it out")), 2),
+    ("a mark of UTF-8 doesn't hide the process", f"\ufeffprocess <0.30.0>\n{RECEIVE.replace('31', '30')}\n",
+     ((1, 1, HEADER, HEADER_1), (1, 1, BELOW_THE_HEADER, "a mark of UTF-8: leave it out")), 2),
+    ("two blanks in an act whose number may go on", f"{HEAD}acts\nprint  <0.30.0> 7",
+     ((4, 7, "<", "a blank too many: leave it out"), (4, 18, NEWLINE, OF_NUMBER)), 1),
+    ("a number that a blank ends", f"{HEAD}acts\nprint <0.30.0> 7 ",
+     ((4, 17, END, "a blank ends the line: leave it out"),
+      (4, 18, NEWLINE, "each line is ended by a newline, the last one too")), 2),
+    ("an atom and no newline", HEAD + FOO, ((3, 12, "a label up to 4294967295", LABELS), (3, 44, NEWLINE, MAY_BREAK)), 0),
     ("acts without their word are named once", f"{HEAD}look <0.30.0>\nlook <0.30.0>\nspawn <0.30.0>\n",
      ((3, 1, BELOW_A_PROCESS, "acts stand below a line acts"),
       (5, 2, "an act", "acts are send, receive, print, printat, set, clear, look, reset, restore and tracer")), 0),
@@ -235,7 +270,7 @@ def lints(program):
     for name, text, *mistake in MISTAKES:
         given = as_bytes(text)
         if mistake[-1] is None:
-            mistake[-1] = "the text breaks off here: get the whole of it, or leave the line out"
+            mistake[-1] = BREAKS_OFF
         wanted = Answer(2, diagnosis(given, *mistake) + counted(1, 1, int(name in fixed)))
         yield expect(f"lint: {name}", wanted, program.run(("lint",), given), given)
     for name, text, mistakes, by_fix in SEVERAL:
@@ -332,7 +367,11 @@ MENDED = (
      diagnosis(f"{HEAD}{FOO}\n".encode(), 3, 12, "a label up to 4294967295", LABELS), 2),
     ("two numbers don't become one", HEAD + PRINT.replace("{0,1}", "{0,1 2}") + "\n",
      HEAD + PRINT.replace("{0,1}", "{0,1 2}") + "\n", "nothing",
-     diagnosis((HEAD + PRINT.replace("{0,1}", "{0,1 2}") + "\n").encode(), 3, 26, "}", "a blank too many: leave it out"), 2),
+     diagnosis((HEAD + PRINT.replace("{0,1}", "{0,1 2}") + "\n").encode(), 3, 26, "}", "a blank within a number"), 2),
+    ("a number that may go on gets no newline", f"{HEAD}acts\nprint  <0.30.0> 7", f"{HEAD}acts\nprint <0.30.0> 7",
+     "lines with blanks 1", diagnosis(f"{HEAD}acts\nprint <0.30.0> 7".encode(), 4, 17, NEWLINE, OF_NUMBER), 2),
+    ("a line that breaks off gets no newline", HEAD + PRINT[:20], HEAD + PRINT[:20], "nothing",
+     diagnosis((HEAD + PRINT[:20]).encode(), 3, 21, OF_EVENT, BREAKS_OFF), 2),
     ("a text in quotes is kept", HEAD + PRINT.replace("7}}", '"a b"}}') + " \n", HEAD + PRINT.replace("7}}", '"a b"}}') + "\n",
      "lines with blanks 1",
      diagnosis((HEAD + PRINT.replace("7}}", '"a b"}}') + "\n").encode(), 3, 40,
@@ -343,7 +382,7 @@ MENDED = (
      "newline at the end 1, lines with blanks 1",
      diagnosis((HEAD + PRINT.replace("{0,1}", "{1,1}") + "\n").encode(), 3, 25, "a number above 1", RISES), 1),
 )
-NO_BUNDLE = ("a log of events", "a log of events below a comment", "events as they are collected", "the legend of a bundle",
+NO_BUNDLE = ("a text of blanks", "a mark of UTF-8 alone", "a log of events", "a log of events below a comment", "events as they are collected", "the legend of a bundle",
              "an empty text", "the report of a no", "a text packed by gzip", "a text packed by zstd", "UTF-16 with a mark",
              "UTF-16 without a mark", "bytes that are no text", "an Erlang list", "a list of JSON", "an object of JSON")
 

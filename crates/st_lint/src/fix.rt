@@ -1,14 +1,17 @@
 //! The command `lint --fix`: a text with those mistakes mended that have one remedy.
 
 use crate::answer::{FAULTY, NO, YES, status_of, tell_unread};
+use crate::ending::{Ending, ending_of};
 use crate::findings::NAMED;
 use crate::form::remedy_of_text;
 use crate::input::gather;
 use crate::kind::{Kind, MARK, kind_of};
 use crate::lint::{Judgement, judgement_of, send_findings};
 use crate::mend::{Mended, mend_line};
+use crate::scan::Scan;
 use crate::survey::Survey;
 use crate::text::Text;
+use st_column::Above;
 use st_core::{ByteSink, ByteSource};
 use st_say::{say, say_number};
 use st_text::{Buffer, Device, ReadFault, flush};
@@ -18,7 +21,7 @@ use std::alloc::{AllocError, Global};
 #[derive(Drop)]
 struct Fixer {
     header: &'static [u8],
-    // Whether the header was met, or put in front.
+    // Whether a header was met, or put in front.
     has_header: bool,
     line: Vec<u8>,
     text: Vec<u8>,
@@ -57,26 +60,36 @@ impl Fixer {
         Ok(())
     }
 
-    /// Appends a line, mended; nothing if nothing is left of it.
-    fn put_line(&mut self, bytes: &[u8]) -> Result<(), AllocError> {
+    /// Appends a line, mended, and a newline if the line ends; nothing if nothing is left of it. A
+    /// header of an unknown version stays.
+    fn put_line(&mut self, bytes: &[u8], ends: bool) -> Result<(), AllocError> {
         mend_line(bytes, &mut self.line, &mut self.mended)?;
         if self.line.is_empty() {
             self.mended.empty = self.mended.empty.saturating_add(1);
             return Ok(());
         }
         if !self.has_header && kind_of(self.line.as_slice()) == Kind::Header {
-            if self.line.as_slice() != self.header {
-                self.mended.headers = 1;
+            self.has_header = true;
+            if Scan::new(self.line.as_slice())
+                .whole(Above::Nothing)
+                .is_ok()
+            {
+                if self.line.as_slice() != self.header {
+                    self.mended.headers = 1;
+                }
+                return self.put_header();
             }
-            return self.put_header();
         }
         self.text.extend_from_slice(self.line.as_slice())?;
-        self.text.push(b'\n')?;
+        if ends {
+            self.text.push(b'\n')?;
+        }
         Ok(())
     }
 
-    /// Appends a line of the text, or several that carriage returns end.
-    fn put_pieces(&mut self, bytes: &[u8]) -> Result<(), AllocError> {
+    /// Appends a line of the text, or several that carriage returns end, the last one with a newline
+    /// if it ends.
+    fn put_pieces(&mut self, bytes: &[u8], ends: bool) -> Result<(), AllocError> {
         let bytes = match bytes.strip_suffix(b"\r".as_slice()) {
             Some(front) => {
                 self.mended.ends = self.mended.ends.saturating_add(1);
@@ -84,15 +97,18 @@ impl Fixer {
             }
             None => bytes,
         };
-        let mut is_first = true;
+        let mut last: Option<&[u8]> = None;
         for piece in bytes.split(|byte| *byte == b'\r') {
-            if !is_first {
+            if let Some(line) = last {
                 self.mended.ends = self.mended.ends.saturating_add(1);
+                self.put_line(line, true)?;
             }
-            is_first = false;
-            self.put_line(piece)?;
+            last = Some(piece);
         }
-        Ok(())
+        match last {
+            Some(line) => self.put_line(line, ends),
+            None => Ok(()),
+        }
     }
 }
 
@@ -119,10 +135,11 @@ fn fixed(alloc: Global, bytes: &[u8]) -> Result<Fixer, AllocError> {
         if text.is_of_mac() && line.is_ended {
             fixer.mended.ends = fixer.mended.ends.saturating_add(1);
         }
-        if !line.is_ended {
+        let is_whole = !line.is_ended && ending_of(alloc, line.bytes)? == Ending::Whole;
+        if is_whole {
             fixer.mended.newlines = 1;
         }
-        fixer.put_pieces(line.bytes)?;
+        fixer.put_pieces(line.bytes, line.is_ended || is_whole)?;
     }
     Ok(fixer)
 }

@@ -1,6 +1,7 @@
 //! Texts that are no bundle as a whole: one mistake is named, and nothing is mended.
 
-use crate::kind::{Kind, kind_of};
+use crate::kind::{Kind, MARK, kind_of};
+use crate::mend::blank_bytes;
 use crate::text::Text;
 
 /// The words that a report of a command begins with.
@@ -61,6 +62,18 @@ fn is_log(bytes: &[u8]) -> bool {
     false
 }
 
+/// Whether a text has nothing but blanks and ends of lines, behind a mark of UTF-8 or without one.
+fn is_blank(bytes: &[u8]) -> bool {
+    let bytes = bytes.strip_prefix(MARK.as_slice()).unwrap_or(bytes);
+    for line in Text::new(bytes).lines() {
+        let line = line.bytes.trim_ascii();
+        if blank_bytes(line) < line.len() {
+            return false;
+        }
+    }
+    true
+}
+
 /// What a text that begins with a bracket or a brace is, if it is no bundle.
 fn remedy_of_structure(bytes: &[u8]) -> Option<&'static str> {
     match bytes.split_first()? {
@@ -80,7 +93,7 @@ fn remedy_of_structure(bytes: &[u8]) -> Option<&'static str> {
 
 /// What to do about a text that is no bundle as a whole; none if it may be one.
 pub(crate) fn remedy_of_text(bytes: &[u8]) -> Option<&'static str> {
-    if bytes.is_empty() {
+    if is_blank(bytes) {
         return Some("the text is empty");
     }
     if let Some(packed) = PACKED.iter().find(|packed| bytes.starts_with(packed.0)) {

@@ -1,10 +1,11 @@
 //! The mistakes of a text, line by line. `st_text` alone decides what a text is; behind a mistake a
 //! line is judged as if what was meant above stood there, so that no mistake is named twice.
 
+use crate::ending::{Ending, ending_of};
 use crate::kind::{Kind, kind_of};
 use crate::mend::mends;
 use crate::mistake::{Cure, Mistake, Wanted};
-use crate::remedy::{remedy_of, remedy_of_front, remedy_of_header};
+use crate::remedy::{remedy_of, remedy_of_front, remedy_of_header, remedy_of_version};
 use crate::rising::rising_bytes;
 use crate::scan::{Counts, Expected, Place, Scan, Sort, common};
 use crate::survey::{Survey, process_pid};
@@ -136,7 +137,7 @@ impl<'a> Judge<'a> {
             self.take_line(line, found)?;
         }
         if !line.is_ended {
-            take_end(line, before, found)?;
+            self.take_end(line, before, found)?;
         }
         Ok(())
     }
@@ -156,13 +157,17 @@ impl<'a> Judge<'a> {
             // The header may still come.
             Kind::Comment | Kind::Other => {
                 let remedy = remedy_of(line.bytes, column, Above::Nothing, expected);
-                return self.add_wrong(wrong, remedy, Above::Nothing, found);
+                return self.add_wrong(line, with_remedy(wrong, remedy), Above::Nothing, found);
             }
             Kind::Header => {
-                let remedy = remedy_of_front(line.bytes, column, self.survey.is_remote);
-                found.push(by_fix(with_remedy(wrong, remedy)))?;
-                self.begin(self.survey.is_remote);
-                Ok(())
+                let remote = self.survey.is_remote;
+                let remedy = if mends(self.alloc, line.behind_mark(), Above::Nothing)? {
+                    remedy_of_front(line.bytes, column, remote)
+                } else {
+                    remedy_of_version(line.behind_mark(), remote)
+                };
+                self.begin(remote);
+                self.add_wrong(line, with_remedy(wrong, remedy), Above::Nothing, found)
             }
             _ => {
                 let remedy = remedy_of_header(self.survey.is_remote);
@@ -197,13 +202,12 @@ impl<'a> Judge<'a> {
     /// Adds the mistake of a line that isn't one of those below what is above.
     fn add_wrong(
         &mut self,
-        wrong: Mistake<'a>,
-        remedy: &'static str,
+        line: &Line<'a>,
+        mistake: Mistake<'a>,
         above: Above,
         found: &mut Vec<Mistake<'a>>,
     ) -> Result<(), AllocError> {
-        let mistake = with_remedy(wrong, remedy);
-        let is_mended = mends(self.alloc, wrong.line, above)?;
+        let is_mended = mends(self.alloc, line.behind_mark(), above)?;
         found.push(if is_mended { by_fix(mistake) } else { mistake })?;
         Ok(())
     }
@@ -225,7 +229,7 @@ impl<'a> Judge<'a> {
                 let column = column_below(self.above, self.wide, line.bytes);
                 let wrong = mistake_at(line, column, Wanted::Grammar(expected), "");
                 let remedy = remedy_of(line.bytes, column, self.above, expected);
-                self.add_wrong(wrong, remedy, self.above, found)?;
+                self.add_wrong(line, with_remedy(wrong, remedy), self.above, found)?;
                 self.pass(line, scan.pids());
                 Ok(())
             }
@@ -399,6 +403,26 @@ impl<'a> Judge<'a> {
         }
         Ok(())
     }
+
+    /// Judges the end of a text whose last line, which this is, has no newline. Its mistakes are those
+    /// from this place on.
+    fn take_end(
+        &mut self,
+        line: &Line<'a>,
+        before: usize,
+        found: &mut Vec<Mistake<'a>>,
+    ) -> Result<(), AllocError> {
+        let end = line.bytes.len();
+        for mistake in found.iter_mut().skip(before) {
+            if mistake.column == end {
+                mistake.remedy = BROKEN;
+                mistake.cure = Cure::ByHand;
+                return Ok(());
+            }
+        }
+        let ending = ending_of(self.alloc, line.behind_mark())?;
+        Ok(found.push(unended(line, ending))?)
+    }
 }
 
 /// What to do about a process line that isn't above the one before, or comes again.
@@ -443,22 +467,23 @@ fn unrising<'a>(line: &Line<'a>, counts: Counts) -> Mistake<'a> {
     mistake
 }
 
-/// Judges the end of a text whose last line, which this is, has no newline. Its mistakes are those
-/// from this place on.
-fn take_end<'a>(
-    line: &Line<'a>,
-    before: usize,
-    found: &mut Vec<Mistake<'a>>,
-) -> Result<(), AllocError> {
-    let end = line.bytes.len();
-    for mistake in found.iter_mut().skip(before) {
-        if mistake.column == end {
-            mistake.remedy = "the text breaks off here: get the whole of it, or leave the line out";
-            return Ok(());
+/// What to do about a text that ends where its last line has to go on.
+const BROKEN: &str = "the text breaks off here: get the whole of it, or leave the line out";
+
+/// The mistake of a last line without a newline, which `--fix` ends only if it is whole.
+fn unended<'a>(line: &Line<'a>, ending: Ending) -> Mistake<'a> {
+    let remedy = match ending {
+        Ending::Whole => "each line is ended by a newline, the last one too",
+        Ending::Number => {
+            "the text may break off within this number: see whether it is whole, and end the line"
         }
-    }
-    let remedy = "each line is ended by a newline, the last one too";
+        Ending::Part => "the text may break off here: see whether the line is whole, and end it",
+    };
     let wanted = Wanted::Words("a newline at the end");
-    found.push(by_fix(mistake_at(line, end, wanted, remedy)))?;
-    Ok(())
+    let mistake = mistake_at(line, line.bytes.len(), wanted, remedy);
+    if ending == Ending::Whole {
+        by_fix(mistake)
+    } else {
+        mistake
+    }
 }

@@ -6,6 +6,7 @@
 
 mod answer;
 mod counts;
+mod ending;
 mod findings;
 mod fix;
 mod form;

@@ -27,7 +27,7 @@ pub(crate) struct Mended {
 }
 
 /// How many bytes at the front are blanks.
-fn blank_bytes(bytes: &[u8]) -> usize {
+pub(crate) fn blank_bytes(bytes: &[u8]) -> usize {
     let mut rest = bytes;
     for _ in 0..bytes.len() {
         match rest {
@@ -75,6 +75,11 @@ fn is_word(byte: Option<&u8>) -> bool {
     }
 }
 
+/// Whether a line ends in `#Pid`, as the shells write it.
+fn ends_in_pid_mark(line: &[u8]) -> bool {
+    line.ends_with(b"#Pid".as_slice()) || line.ends_with(b"#PID".as_slice())
+}
+
 /// A line under way.
 #[derive(Drop)]
 struct Mender<'a> {
@@ -99,13 +104,13 @@ impl<'a> Mender<'a> {
     }
 
     /// Appends what remains of so many blanks: one between the words of a line that is no event, or
-    /// if two words would become one.
+    /// if two words would become one, or `#Pid` come to be in front of a pid.
     fn put_blanks(&mut self, count: usize, out: &mut Vec<u8>) -> Result<(), AllocError> {
         let is_space = count == 1 && self.rest.starts_with(b" ".as_slice());
         self.skip(count);
         let is_between = !out.is_empty() && !self.rest.is_empty();
         let is_kept = if self.is_event {
-            is_word(out.last()) && is_word(self.rest.first())
+            (is_word(out.last()) && is_word(self.rest.first())) || ends_in_pid_mark(out.as_slice())
         } else {
             is_between
         };
@@ -130,8 +135,10 @@ impl<'a> Mender<'a> {
             out.extend_from_slice(b"{'receive',")?;
             return Ok(());
         }
-        let pid = b"#Pid<".as_slice();
-        if self.rest.starts_with(pid) || self.rest.starts_with(b"#PID<".as_slice()) {
+        let is_pid_mark = self.rest.starts_with(b"#Pid<".as_slice())
+            || self.rest.starts_with(b"#PID<".as_slice());
+        // Of two in a row both stay, so that mending twice is mending once.
+        if is_pid_mark && !ends_in_pid_mark(out.as_slice()) {
             mended.pids = mended.pids.saturating_add(1);
             self.skip(4);
             return Ok(());

@@ -24,6 +24,16 @@ pub(crate) fn remedy_of_front(line: &[u8], column: usize, is_remote: bool) -> &'
     }
 }
 
+/// What to do about a first line that is a header of neither form.
+pub(crate) fn remedy_of_version(line: &[u8], is_remote: bool) -> &'static str {
+    let word = line.trim_ascii_start();
+    let behind = word.strip_prefix(b"seqtrace".as_slice()).unwrap_or(word);
+    match behind.trim_ascii_start().first() {
+        Some(b'0'..=b'9') => "this version isn't known, 1 and 2 are: see what wrote the text",
+        _ => remedy_of_header(is_remote),
+    }
+}
+
 /// What to do about a line of a kind that may not be there.
 fn remedy_of_kind(kind: Kind, above: Above) -> Option<&'static str> {
     match (kind, above) {
@@ -81,14 +91,30 @@ fn remedy_of_bytes(rest: &[u8]) -> &'static str {
     }
 }
 
+/// Whether a blank between two digits is at the column.
+fn is_within_number(front: &[u8], rest: &[u8]) -> bool {
+    let is_behind_digit = front.last().is_some_and(|byte| byte.is_ascii_digit());
+    let behind = rest.trim_ascii_start();
+    let is_blank = behind.len() < rest.len();
+    is_behind_digit && is_blank && behind.first().is_some_and(|byte| byte.is_ascii_digit())
+}
+
 /// What to do about what is at the column, if its first byte tells that.
-fn remedy_of_byte(rest: &[u8], kind: Kind, expected: Expected) -> Option<&'static str> {
+fn remedy_of_byte(
+    front: &[u8],
+    rest: &[u8],
+    kind: Kind,
+    expected: Expected,
+) -> Option<&'static str> {
     match rest.first().copied()? {
         b'\r' => Some("a carriage return: end lines with a newline alone"),
         b' ' | b'\t' if rest.trim_ascii().is_empty() => {
             Some("a blank ends the line: leave it out")
         }
         b' ' | b'\t' if kind == Kind::Other => None,
+        b' ' | b'\t' if expected != Expected::End && is_within_number(front, rest) => {
+            Some("a blank within a number")
+        }
         b'\t' if kind != Kind::Event => Some("one space separates words, and no tab"),
         b' ' | b'\t' if expected != Expected::End => Some("a blank too many: leave it out"),
         b'#' => Some("a pid is written <0.30.0>, without #Pid before it"),
@@ -165,10 +191,10 @@ pub(crate) fn remedy_of(
         return "the line is empty: leave it out";
     }
     let kind = kind_of(line);
-    let (_, rest) = line.split_at(column.min(line.len()));
+    let (front, rest) = line.split_at(column.min(line.len()));
     let found = match remedy_of_kind(kind, above) {
         Some(remedy) => Some(remedy),
-        None => match remedy_of_byte(rest, kind, expected) {
+        None => match remedy_of_byte(front, rest, kind, expected) {
             Some(remedy) => Some(remedy),
             None => remedy_of_place(line, rest, expected),
         },

@@ -4,6 +4,7 @@
 //! A process line counts if it begins as one, even if something else in it is wrong: its own
 //! mistake is enough.
 
+use crate::kind::MARK;
 use crate::scan::{Scan, common};
 use crate::text::Text;
 use std::alloc::{AllocError, Global};
@@ -20,6 +21,7 @@ pub(crate) struct Survey<'a> {
 
 /// The pid of a line that begins as a process line, if it can be read.
 pub(crate) fn process_pid(line: &[u8]) -> Option<&str> {
+    let line = line.strip_prefix(MARK.as_slice()).unwrap_or(line);
     let rest = line.trim_ascii_start().strip_prefix(b"process".as_slice())?;
     let start = rest.iter().position(|byte| *byte == b'<')?;
     let (_, open) = rest.split_at(start.min(rest.len()));

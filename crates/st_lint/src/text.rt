@@ -3,6 +3,7 @@
 ghost use Rattle.std.specs.Prelude.{length};
 ghost use Rattle.std.specs.Iterator.{at_most};
 
+use crate::kind::MARK;
 use memchr::memchr;
 
 /// A line of a text.
@@ -14,6 +15,19 @@ pub(crate) struct Line<'a> {
     pub(crate) bytes: &'a [u8],
     /// Whether it was ended.
     pub(crate) is_ended: bool,
+}
+
+impl<'a> Line<'a> {
+    /// Its bytes, without the mark of UTF-8 that the first line of a text may begin with.
+    pub(crate) fn behind_mark(&self) -> &'a [u8] {
+        if self.number == 1 {
+            self.bytes
+                .strip_prefix(MARK.as_slice())
+                .unwrap_or(self.bytes)
+        } else {
+            self.bytes
+        }
+    }
 }
 
 /// A text, and the byte that ends its lines: a newline, or a carriage return if there are only
