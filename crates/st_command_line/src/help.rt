@@ -31,8 +31,9 @@ pub(crate) const COMPLETE_EXAMPLE: &str = "Example:
   added 1
   added <0.31.0> 0 {seq_trace,17,{send,{2,3},<0.31.0>,<0.32.0>,3}}
 
-Status 1: `never PID I WORD`, no run without a reset has event I of PID, for
-the reason WORD (docs/FORMATS.md), whatever unlisted processes it may have.
+Status 1: `never PID I WORD`, no run without a reset has these streams, for the
+reason WORD at event I of PID (docs/FORMATS.md), whatever unlisted processes it
+may have.
 `added 0` means that no event is missing that the others need; a message whose
 receive isn't reported may still wait.
 Status 5, with --as acts or streams: `long`, there is one, too long to be read.";
@@ -40,7 +41,7 @@ Status 5, with --as acts or streams: `long`, there is one, too long to be read."
 pub(crate) const RENUMBER: &str = "Replaces each count by its rank, if counts begin high";
 
 pub(crate) const RENUMBER_EXAMPLE: &str =
-    "Example, for a tracer that came on when the counts stood high:
+    "Example, for a tracer that came on when the counts were high already:
   seqtool renumber trace.txt | seqtool audit
 
 If what it writes has a run without a reset, so has the given trace.";
@@ -69,7 +70,8 @@ pub(crate) const LINT_EXAMPLE: &str = "Example:
 
 --fix mends line ends, blanks, a mark of UTF-8, the last newline, the quotes of
 'receive', the header and #Pid; standard error says what, and what is left.
-Status 1: it can be read, but no run reports some event (counts don't rise).";
+Status 1: it can be read, but no run reports some event (a serial's second count
+isn't above its first).";
 
 pub(crate) const EXPLAIN: &str = "Says why check refuses acts: the act, what was due, what came";
 
@@ -163,12 +165,14 @@ pub(crate) const CHART_EXAMPLE: &str = "Example:
       P2-xP1: 4 {0,1} (no receive reported)
 
 Without an option it writes the tables of seqaudit chart, one for each label. An
-arrow stands where its message was received. If the sender did something else in
+arrow is where its message was received. If the sender did something else in
 between, a note says where it sent, and the arrow is dotted. An arrow with a
 cross has no reported receive, and one from `not reported` no reported send.
 With --complete what was added is dashed or dotted, and says `added`.
-Status 1: nothing has the label, or the trace can't be paired (seqtool audit);
-or, of --mermaid, a send or print counts no higher than a receive before it.
+Status 1: nothing has the label, or there is nothing to draw (`no events`); or
+the trace can't be paired (seqtool audit); or, of --mermaid, a send or print
+counts no higher than a receive before it; or with --complete no run without a
+reset has it (`never`, as of seqtool complete).
 Status 5: `long chart`, the tables would have more than 2,048,000,000 marks.";
 
 pub(crate) const EXPORT: &str = "Writes the trace for Perfetto, ShiViz or OpenTelemetry";

@@ -24,7 +24,7 @@ struct Meaning {
 /// No run without a reset reports the trace.
 const NEVER: &str = "; no run without a reset reports it";
 
-const MAYBE: &str = "; seqtool complete says whether a run reports it";
+const MAYBE: &str = "; seqtool complete says whether a run without a reset reports it";
 
 /// The same as `NEVER`, and what else may be why.
 const NEVER_OR_CHANGED: &str =
@@ -48,8 +48,8 @@ const MEANINGS: [Meaning; 9] = [
     },
     Meaning {
         word: "repeated",
-        front: "an earlier receive, ",
-        back: ", took the same message",
+        front: "",
+        back: ", is a receive with the same sender and count, and a sender uses a count once",
         conclusion: NEVER,
     },
     Meaning {
@@ -263,7 +263,10 @@ impl<'a, N: ByteSink> NoWriter<'a, N> {
         };
         let count = known.bundle.streams.len(pid);
         match known.event((pid, 0)) {
-            None => self.out.say(": this process has none"),
+            None if known.bundle.streams.pids().contains(&pid) => {
+                self.out.say(": this process has none")
+            }
+            None => self.out.say(": the trace lists no such process"),
             Some((first, _)) => {
                 self.out.say_part(": this process has ", count)?;
                 self.out.say_part(", from line ", first)?;

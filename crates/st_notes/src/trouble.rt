@@ -42,7 +42,7 @@ fn tell_fault<H: Eprint, N: ByteSink>(
         let most = Limits::GREATER.bytes;
         let _ = eprintln!(rt; "error: {name} has more than {most} bytes");
     } else if words == b"no acts".as_slice() {
-        let _ = eprintln!(rt; "error: {name} has no acts: `seqtool audit` finds some");
+        let _ = eprintln!(rt; "error: {name} has no acts: look for some with seqtool audit");
     } else if words == b"certificate".as_slice() {
         let _ = eprintln!(rt; "error: the acts that were built don't show the streams of {name}");
     } else {
