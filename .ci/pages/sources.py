@@ -225,7 +225,7 @@ def own_fields():
     texts = "\n".join(text for text in SOURCE.values() if "Style::Json" in text or "fn say_event_fields" in text)
     called = re.findall(r'say_\w*field\(\s*"(\w+)"', texts)
     lists = re.findall(r"say_(?:fields\(|counts\(\s*out,\s*style,\s*)&\[(.*?)\],?\s*\)", texts, re.S)
-    called += [name for block in lists for name in re.findall(r'\("(\w+)",', block)]
+    called += [name for block in lists for name in re.findall(r'\(\s*"(\w+)",', block)]
     return learned("fields of JSON", {*called, *re.findall(r'\\"(\w+)\\":', defined)})
 
 
