@@ -1,9 +1,11 @@
 //! The command `explain`: why `check` refuses a bundle. It makes the acts again up to the first
 //! that reports something else than the streams have, and shows that act, the event that was due,
 //! the report that came, and the actor's state before it with the messages that wait. If events are
-//! left at the end, it shows what the act would report that could report the next one.
+//! left at the end, it shows an act that would report the next one, or why none would.
 
+use crate::due::{Fit, fit_of, nearest};
 use crate::queue::Sent;
+use crate::reasons::{reasons, say_missing, say_reasons};
 use crate::rerun::{Came, Rerun};
 use st_check::{CheckFault, Verdict, check};
 use st_commands::{TOP, status_of, tell_fault};
@@ -74,8 +76,9 @@ fn say_message<W: ByteSink>(
         out.say(" from ")?;
         out.say_pid(*from)?;
     }
-    if message.count > 0 {
-        out.say_part(", count ", message.count)?;
+    let count = message.count();
+    if count > 0 {
+        out.say_part(", count ", count)?;
     } else {
         out.say(", without a token")?;
     }
@@ -84,50 +87,61 @@ fn say_message<W: ByteSink>(
     out.say(if is_due { ": this one is due\n" } else { "\n" })
 }
 
-/// Writes the messages that wait at places from `first` up to `end` of the queue.
+/// Writes the messages that wait at places from `first` up to `end` of the queue. Each is due whose
+/// receive would be reported as this event.
 fn say_messages<W: ByteSink>(
     out: &mut TextWriter<'_, W>,
     given: &Given<'_>,
     rerun: &Rerun,
-    due: Option<u64>,
+    due: Option<&Event>,
     first: u64,
     end: u64,
 ) -> Result<(), Device> {
     for place in first..end {
         if let Some(message) = rerun.queue.message(place) {
-            say_message(out, given, place, message, due == Some(place))?;
+            let is_due = due.is_some_and(|event| {
+                fit_of(&message, given.acts, event) == Fit::Exact
+            });
+            say_message(out, given, place, message, is_due)?;
         }
     }
     Ok(())
 }
 
-/// Writes the queue of a process from which this event is due, if one is: its first messages, and
-/// the one that is due.
+/// Writes the queue of a process: its first messages, and if this event is a receive, the message
+/// that comes nearest to it, and why none is due. Without a tracer none is.
 fn say_queue<W: ByteSink>(
     out: &mut TextWriter<'_, W>,
     given: &Given<'_>,
     rerun: &Rerun,
-    pid: Pid,
+    is_traced: bool,
     event: Option<Event>,
 ) -> Result<(), Device> {
     let count = rerun.queue.len();
     out.say_count("  messages in its queue ", count)?;
     let receive = event.filter(|event| event.kind == Kind::Receive);
-    let due = receive
-        .as_ref()
-        .and_then(|event| rerun.place_of(pid, event));
-    say_messages(out, given, rerun, due, 0, count.min(SHOWN))?;
-    match due {
+    let due = receive.filter(|_| is_traced);
+    say_messages(out, given, rerun, due.as_ref(), 0, count.min(SHOWN))?;
+    let more = count.saturating_sub(SHOWN);
+    let Some(event) = receive else {
+        return say_more(out, more);
+    };
+    let found = rerun.find(given.acts, &event);
+    match nearest(&found) {
         Some(place) if place >= SHOWN => {
             let behind = place.saturating_add(1);
-            say_messages(out, given, rerun, due, place, behind)?;
-            say_more(out, count.saturating_sub(SHOWN).saturating_sub(1))
+            say_messages(out, given, rerun, due.as_ref(), place, behind)?;
+            say_more(out, more.saturating_sub(1))?;
         }
-        None if receive.is_some() => {
-            say_more(out, count.saturating_sub(SHOWN))?;
-            out.say("    the message that is due doesn't wait there\n")
+        _ => say_more(out, more)?,
+    }
+    match &found {
+        Ok(_) => Ok(()),
+        Err(missing) => {
+            out.say("    ")?;
+            say_missing(out, missing)?;
+            out.say("\n")
         }
-        _ => say_more(out, count.saturating_sub(SHOWN)),
     }
 }
 
@@ -140,7 +154,7 @@ fn say_more<W: ByteSink>(out: &mut TextWriter<'_, W>, count: u64) -> Result<(), 
     out.say(" more\n")
 }
 
-/// Writes the state of a process.
+/// Writes the state of a process, which is in the world: the reader takes no act of another.
 fn say_state<W: ByteSink>(
     out: &mut TextWriter<'_, W>,
     given: &Given<'_>,
@@ -149,15 +163,19 @@ fn say_state<W: ByteSink>(
 ) -> Result<(), Device> {
     out.say("state of ")?;
     out.say_pid(pid)?;
+    let Some(local) = rerun.world.local(pid) else {
+        return out.say("\n");
+    };
     out.say("\n  token ")?;
-    say_token(out, rerun.world.token(pid))?;
+    say_token(out, local.token())?;
     out.say("\n")?;
-    let clock = rerun.world.clock(pid).unwrap_or(0);
-    out.say_count("  clock ", clock)?;
-    let last = rerun.world.last(pid).unwrap_or(0);
-    out.say_count("  last ", last)?;
+    out.say_count("  clock ", local.clock())?;
+    out.say_count("  last ", local.last())?;
+    if !local.traced() {
+        out.say("  no tracer on its node\n")?;
+    }
     let event = rerun.due(given.streams, pid);
-    say_queue(out, given, rerun, pid, event)
+    say_queue(out, given, rerun, local.traced(), event)
 }
 
 /// Writes the event that is due from a process.
@@ -221,30 +239,53 @@ fn send_difference<W: ByteSink>(
     out.flush()
 }
 
-/// Writes which act could report the event that is left, or what the only one that could do so at
-/// another token or clock would report now.
-fn say_next<W: ByteSink>(
+/// Writes what an act would report if it doesn't report what is due.
+fn say_tried<W: ByteSink>(
     out: &mut TextWriter<'_, W>,
-    event: &Event,
-    tried: Option<(Act, Came)>,
+    act: &Act,
+    came: &Came,
 ) -> Result<(), Device> {
-    let Some((act, came)) = tried else {
-        return out.say("next: no single act would report it, since its message doesn't wait\n");
-    };
-    out.say("next: ")?;
-    if came == Came::Step(Some(*event)) {
-        out.say_act(&act)?;
-        return out.say(" would report it\n");
-    }
-    out.say("no single act would report it, since its token or its clock doesn't allow it\n  ")?;
-    out.say_act(&act)?;
+    out.say("  ")?;
+    out.say_act(act)?;
     match came {
         Came::Step(Some(other)) => {
             out.say(" would report ")?;
-            out.say_event(&other)?;
+            out.say_event(other)?;
             out.say("\n")
         }
         Came::Step(None) | Came::Stuck => out.say(" would report nothing\n"),
+    }
+}
+
+/// Writes which act would report the event that is left; or that none would, why as far as the
+/// state tells, and what the act that comes nearest to it would report now.
+fn say_next<W: ByteSink>(
+    out: &mut TextWriter<'_, W>,
+    given: &Given<'_>,
+    rerun: &Rerun,
+    pid: Pid,
+    event: &Event,
+    tried: Option<(Act, Came)>,
+) -> Result<(), Device> {
+    out.say("next: ")?;
+    if let Some((act, came)) = &tried {
+        if *came == Came::Step(Some(*event)) {
+            out.say_act(act)?;
+            return out.say(" would report it\n");
+        }
+    }
+    out.say("no single act would report it")?;
+    if let Some(local) = rerun.world.local(pid) {
+        let missing = match event.kind {
+            Kind::Receive => rerun.find(given.acts, event).err(),
+            Kind::Send | Kind::Print => None,
+        };
+        say_reasons(out, &reasons(&local, event, missing))?;
+    }
+    out.say("\n")?;
+    match &tried {
+        Some((act, came)) => say_tried(out, act, came),
+        None => Ok(()),
     }
 }
 
@@ -264,7 +305,7 @@ fn send_left<W: ByteSink>(
     say_due(&mut out, given, rerun, pid)?;
     say_state(&mut out, given, rerun, pid)?;
     if let Some(event) = rerun.due(given.streams, pid) {
-        say_next(&mut out, &event, tried)?;
+        say_next(&mut out, given, rerun, pid, &event, tried)?;
     }
     out.flush()
 }
@@ -318,8 +359,8 @@ fn tell_difference<W: ByteSink>(
     }
 }
 
-/// The run of all acts, and the outcome of the only act that could report the next event of this
-/// process, if one could.
+/// The run of all acts, and the act that reports the next event of this process or comes nearest to
+/// it, if there is one, with its outcome.
 fn rerun_left(
     alloc: Global,
     given: &Given<'_>,
@@ -327,7 +368,7 @@ fn rerun_left(
 ) -> Result<(Rerun, Option<(Act, Came)>), AllocError> {
     let rerun = rerun_of(alloc, given, given.acts, pid)?;
     let next = rerun.due(given.streams, pid);
-    let Some(act) = next.and_then(|event| rerun.act_for(pid, &event)) else {
+    let Some(act) = next.and_then(|event| rerun.act_for(pid, given.acts, &event)) else {
         return Ok((rerun, None));
     };
     let mut further = rerun_of(alloc, given, given.acts, pid)?;

@@ -9,12 +9,24 @@ use std::alloc::{AllocError, Global};
 pub(crate) struct Sent {
     /// The number of the act that sent it.
     pub(crate) act: u64,
-    /// Its count, 0 if it has no token.
-    pub(crate) count: u64,
+    /// The token that it was sent with, if any.
+    pub(crate) token: Option<Token>,
+    /// Whether a reset came since, which took its token.
+    pub(crate) is_wiped: bool,
 }
 
-/// Which messages wait for one process. It takes 16 bytes and a slot for each message that the acts
-/// send to the process.
+impl Sent {
+    /// The count of the token that it still has, 0 if it has none.
+    pub(crate) fn count(&self) -> u64 {
+        match self.token {
+            Some(token) if !self.is_wiped => token.serial.this,
+            _ => 0,
+        }
+    }
+}
+
+/// Which messages wait for one process. It takes some 50 bytes and a slot for each message that the
+/// acts send to the process.
 #[derive(Drop)]
 pub(crate) struct Queue {
     pid: Pid,
@@ -67,8 +79,11 @@ impl Queue {
         match act {
             Act::Send(_, receiver, _) => {
                 if *receiver == self.pid {
-                    let count = token.map_or(0, |token| token.serial.this);
-                    self.sent.push(Sent { act: number, count })?;
+                    self.sent.push(Sent {
+                        act: number,
+                        token,
+                        is_wiped: false,
+                    })?;
                 }
             }
             Act::Reset(actor) => {
@@ -102,12 +117,9 @@ impl Queue {
     pub(crate) fn message(&self, place: u64) -> Option<Sent> {
         let slot = self.slots.select(place)?;
         let message = self.sent.get(slot)?;
-        if slot < self.wiped {
-            return Some(Sent {
-                act: message.act,
-                count: 0,
-            });
-        }
-        Some(*message)
+        Some(Sent {
+            is_wiped: slot < self.wiped,
+            ..*message
+        })
     }
 }

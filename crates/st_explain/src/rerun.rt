@@ -1,6 +1,7 @@
 //! A run of a bundle's acts, made again: the world, how many events each process has reported, and
 //! the queue of one process.
 
+use crate::due::{Missing, find, nearest};
 use crate::queue::Queue;
 use st_commands::TOP;
 use st_core::{Act, Event, Kind, Pid, Streams, Want};
@@ -104,17 +105,19 @@ impl Rerun {
         streams.event(pid, self.next_index(streams, pid))
     }
 
-    /// The place in a process's queue of the message that this receive took.
-    pub(crate) fn place_of(&self, pid: Pid, receive: &Event) -> Option<u64> {
-        self.world.place_of(pid, receive.from, receive.serial.this)
+    /// The place of the first message in the queue whose receive is reported as this event under a
+    /// tracer, or why there is none. The acts are those of the run.
+    pub(crate) fn find(&self, acts: &[Act], receive: &Event) -> Result<u64, Missing> {
+        find(&self.queue, acts, receive)
     }
 
-    /// The only act of a process that could report this event of it now; none if that is a receive
-    /// of a message that doesn't wait.
-    pub(crate) fn act_for(&self, pid: Pid, event: &Event) -> Option<Act> {
+    /// An act of the queue's process that reports this event of it now, if any act does: for a
+    /// receive that of the first message that is due, or else of the one that comes nearest to it.
+    /// None if there is no such message.
+    pub(crate) fn act_for(&self, pid: Pid, acts: &[Act], event: &Event) -> Option<Act> {
         match event.kind {
             Kind::Receive => {
-                let place = self.place_of(pid, event)?;
+                let place = nearest(&self.find(acts, event))?;
                 Some(Act::Receive(pid, Want::Place(place)))
             }
             Kind::Send => Some(Act::Send(pid, event.to?, event.value)),
