@@ -22,7 +22,7 @@ few_if n long is short = elim (cases_lt greater.processes n) [
 ]
 
 pub tell_acts-requires-clause-few : goal.tell_acts-requires-clause-few
-tell_acts-requires-clause-few g c = elim c.else-ne.branch [
+tell_acts-requires-clause-few g c = λ _ _. elim c.else-ne.branch [
   | else-ne-via-then-ne+else-is_long w ↦ few_if _ _ w.is_long.ensures.1 w.if-is_long.false
   | else-ne-via-else-ne w ↦
       absurd (false≢true (sym w.if-ne.false ∙ rw c.in-Acts.is at c.ne.ensures))
