@@ -10,6 +10,12 @@ byId("headline").append(element("span", { class: data.fits ? "" : "doubt" }, vis
 if (data.notes.length > 0) byId("headline").append(element("small", {}, data.notes.map(visible).join("\n")));
 fitLanes();
 draw();
-// A page is opened at an event by its name: page.html#shop%2324
-const named = decodeURIComponent(location.hash.slice(1));
-if (named !== "") for (let row = 0; row < count; row++) if (eventName(row) === named) { choose(row); break; }
+
+// A page is opened at an event by its name: page.html#shop%2324. What names none chooses nothing.
+function goToNamed() {
+  let named;
+  try { named = decodeURIComponent(location.hash.slice(1)); } catch { return; }
+  if (named !== "") for (let row = 0; row < count; row++) if (eventName(row) === named) { choose(row); break; }
+}
+addEventListener("hashchange", goToNamed);
+goToNamed();

@@ -743,8 +743,8 @@
       "a line that ends in a bar: a message whose receive isn't in the trace",
       "dashed: " + (data.cut ? "not here" : "unreported") + ", but other events tell of it",
       "?: what the event follows may be something else, or may not " + (data.cut ? "be here" : "have been reported"),
-      "a cause holds if each receive of a token " + (data.cut ? "is here" : "was reported") + ", and if no process took its token off and set one of the same "
-        + "label again, but where it's said",
+      "a cause holds if each receive of a token " + (data.cut ? "is here" : "was reported") + ", and if no process set a token of a label that it or "
+        + "another process had had before, but where it's said",
       "\u25cf the chosen event; \u2191 its causes, blue; \u2193 its effects, orange",
       "double line: a reset, or another run, begins below it",
       "arrow keys, Page Up and Down, Home, End: go to another event",
@@ -828,7 +828,13 @@
   if (data.notes.length > 0) byId("headline").append(element("small", {}, data.notes.map(visible).join("\n")));
   fitLanes();
   draw();
-  // A page is opened at an event by its name: page.html#shop%2324
-  const named = decodeURIComponent(location.hash.slice(1));
-  if (named !== "") for (let row = 0; row < count; row++) if (eventName(row) === named) { choose(row); break; }
+
+  // A page is opened at an event by its name: page.html#shop%2324. What names none chooses nothing.
+  function goToNamed() {
+    let named;
+    try { named = decodeURIComponent(location.hash.slice(1)); } catch { return; }
+    if (named !== "") for (let row = 0; row < count; row++) if (eventName(row) === named) { choose(row); break; }
+  }
+  addEventListener("hashchange", goToNamed);
+  goToNamed();
 })();

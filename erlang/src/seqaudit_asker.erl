@@ -53,19 +53,7 @@ turned(Turned) ->
 %% @doc Ends it once all names are noted, or if that takes too long.
 -spec close(asker()) -> ok.
 close(Asker) ->
-    Closed = monitor(process, Asker),
-    Asker ! {close, self(), Closed},
-    receive
-        {Closed, ok} ->
-            demonitor(Closed, [flush]),
-            ok;
-        {'DOWN', Closed, process, _, _} ->
-            ok
-    after ?PATIENCE_MS ->
-        unlink(Asker),
-        exit(Asker, kill),
-        receive {'DOWN', Closed, process, _, _} -> ok end
-    end.
+    seqaudit_scribe:closed(Asker, ?PATIENCE_MS, fun(_) -> ok end).
 
 %% What was learned goes to the disk when nobody waits to be met, so that a slow disk delays no name.
 -spec ask_on(file:filename(), known(), known()) -> ok.

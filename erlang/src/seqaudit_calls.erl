@@ -6,20 +6,35 @@
 
 -import(seqaudit_errors, [text/2]).
 
+%% An atom has at most this many characters, and a function as many arguments.
+-define(LONGEST, 255).
+
 -type triggering() :: {mfa(), [{Head :: '_' | [term()], Guards :: [term()]}]}.
 
 %% @doc The function with what its arguments have to be, as in a match specification.
 -spec function(string()) -> {ok, triggering()} | {error, string()}.
 function(Word) ->
     case {captured(Word, "^([^:(]+):([^:(]+)/([0-9]{1,3})$"), captured(Word, "^([^:(]+):([^:(]+)(\\(.*)$")} of
-        {[Module, Function, Arity], _} ->
-            {ok, {{list_to_atom(Module), list_to_atom(Function), list_to_integer(Arity)}, [{'_', []}]}};
+        {[Module, Function, Digits], _} ->
+            case {are_atoms([Module, Function]), list_to_integer(Digits)} of
+                {true, Arity} when Arity =< ?LONGEST ->
+                    {ok, {{list_to_atom(Module), list_to_atom(Function), Arity}, [{'_', []}]}};
+                _ -> no_function(Word)
+            end;
         {none, [Module, Function, Condition]} ->
-            with_condition(list_to_atom(Module), list_to_atom(Function), Condition, Word);
+            case are_atoms([Module, Function]) of
+                true -> with_condition(list_to_atom(Module), list_to_atom(Function), Condition, Word);
+                false -> no_function(Word)
+            end;
         {none, none} ->
-            {error, text("~ts isn't a function; it is written module:function/2, or with a condition "
-                         "module:function(A, B) when A > B", [Word])}
+            no_function(Word)
     end.
+
+are_atoms(Names) -> lists:all(fun(Name) -> length(Name) =< ?LONGEST end, Names).
+
+no_function(Word) ->
+    {error, text("~ts isn't a function; it is written module:function/2, or with a condition "
+                 "module:function(A, B) when A > B", [Word])}.
 
 captured(Word, Pattern) ->
     case re:run(Word, Pattern, [unicode, dotall, {capture, all_but_first, list}]) of
@@ -31,7 +46,7 @@ captured(Word, Pattern) ->
 %% `dbg:fun2ms/1' does.
 with_condition(Module, Function, Condition, Word) ->
     case parsed("fun" ++ Condition ++ " -> true end.") of
-        {ok, [{'fun', _, {clauses, [{clause, Place, Arguments, Guards, Body}]}}]} ->
+        {ok, [{'fun', _, {clauses, [{clause, Place, Arguments, Guards, Body}]}}]} when length(Arguments) =< ?LONGEST ->
             Clause = {clause, Place, [list(Arguments, Place)], Guards, Body},
             case ms_transform:transform_from_shell(dbg, [Clause], []) of
                 [_ | _] = Specification ->

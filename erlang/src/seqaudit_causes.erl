@@ -8,12 +8,12 @@
 %% What is said of a send or print is what a standard node's counts tell: its prev is the count that
 %% its process received last, and a process that begins a trace leaves that as it was. So an event
 %% follows the last reported receive if that has the event's prev and label. That holds if each receive
-%% of a token was reported, and if no process took its token off and set one of the same label again,
-%% but where the counts show it: a token that was put back has the prev of a message that was received
-%% before.
+%% of a token was reported, and if no process set a token of a label that it or another process had had
+%% before, but where the counts show it: a token that was put back has the prev of a message that was
+%% received before.
 -module(seqaudit_causes).
 
--export([rows/1, with_receives/1, index/1, back/2, effects/2]).
+-export([rows/1, with_receives/1, index/1, back/2, effects/2, is_open/1, is_perhaps/1, is_doubtful/1]).
 -export_type([row/0, cause/0, id/0]).
 
 -type id() :: seqaudit_bundle:place() | {sent_to | receive_of, seqaudit_bundle:place()}.
@@ -41,6 +41,24 @@
 %% <dt>`open'</dt><dd>it begins there, or follows a message whose receive wasn't reported</dd>
 %% <dt>`unseen'</dt><dd>a send that only its receive tells of, of whose cause nothing is known</dd>
 %% </dl>
+
+%% @doc Whether it isn't known what an event follows.
+-spec is_open(cause()) -> boolean().
+is_open(open) -> true;
+is_open({relabelled, _, open}) -> true;
+is_open({perhaps, _}) -> true;
+is_open({alike, _}) -> true;
+is_open(_) -> false.
+
+%% @doc Whether an event is named that it follows, and another may be its cause.
+-spec is_perhaps(cause()) -> boolean().
+is_perhaps({How, _}) when How =:= perhaps; How =:= alike; How =:= unreported -> true;
+is_perhaps({received, {_, {_, _}}}) -> true;
+is_perhaps(_) -> false.
+
+%% @doc Either of the two.
+-spec is_doubtful(cause()) -> boolean().
+is_doubtful(Cause) -> is_open(Cause) orelse is_perhaps(Cause).
 
 -type row() :: #{id := id(), event := seqaudit_bundle:event(), actor := seqaudit_bundle:pid_text(),
                  hidden := boolean(), invented := boolean(), cause := cause()}.

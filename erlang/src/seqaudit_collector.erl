@@ -21,7 +21,7 @@
 -module(seqaudit_collector).
 -behaviour(gen_server).
 
--export([start/1, folder/1, rotate_all/1, stop_all/1, adopt/2, names/1]).
+-export([start/1, folder/1, most_bytes/0, rotate_all/1, stop_all/1, adopt/2, names/1]).
 -export([init/1, handle_continue/2, handle_call/3, handle_cast/2, handle_info/2, terminate/2]).
 -export_type([options/0, use/0]).
 
@@ -36,6 +36,8 @@
 -define(PROCESSES, 20_000).
 %% The wrapped files share the total size.
 -define(FILES, 8).
+%% A trace port takes no larger file.
+-define(FILE_BYTES, 16#FFFF_FFFF).
 -define(BYTES, 268_435_456).
 %% If the collector itself is the tracer it runs before others, as it has to see that it falls
 %% behind. The tracer is taken off when so many bytes wait in its queue and for the disk. An event in
@@ -118,6 +120,10 @@ start_beside(Other, Options) ->
 -spec folder(pid()) -> file:filename().
 folder(Collector) ->
     gen_server:call(Collector, folder).
+
+%% @doc The greatest total size of the files, which a trace port still takes.
+-spec most_bytes() -> pos_integer().
+most_bytes() -> ?FILES * ?FILE_BYTES.
 
 %% @doc From now on the events of each collector go to a new folder; the former one has all that came before. No event
 %% is lost between. If a collector has ended or is gone, the list says so in its place.
@@ -208,8 +214,11 @@ first_facts(By, #state{bytes = Bytes}) ->
 
 open(true, #state{folder = Folder, bytes = Bytes} = State) ->
     case trace_port(Folder, Bytes) of
-        {ok, Port} -> {port, Port};
-        error -> open(false, State)
+        not_there ->
+            open(false, State);
+        Opened ->
+            {ok, Port} = Opened,
+            {port, Port}
     end;
 open(false, #state{folder = Folder}) ->
     _ = process_flag(priority, high),
@@ -217,7 +226,7 @@ open(false, #state{folder = Folder}) ->
     {scribe, Scribe}.
 
 %% The port is made by whoever calls the function of `dbg', and ends with that process. It can be
-%% watched if the node knows how much memory binaries take.
+%% watched if the node knows how much memory binaries take; else it is as if there were no `dbg'.
 trace_port(Folder, Bytes) ->
     {Base, Suffix} = seqaudit_spool:base(Folder),
     Size = max(1, Bytes div ?FILES),
@@ -227,7 +236,8 @@ trace_port(Folder, Bytes) ->
         true = is_port(Port),
         {ok, Port}
     catch
-        _:_ -> error
+        error:Reason when Reason =:= undef; Reason =:= notsup -> not_there;
+        error:Reason -> {error, Reason}
     end.
 
 own_tracer({port, Port}) -> Port;
@@ -551,15 +561,20 @@ turn_port(From, #state{bytes = Bytes} = State) ->
                 {ok, Port} ->
                     {Behind, Unwatched} = unwatched(State),
                     turn(is_own(Behind, Unwatched), From, Folder, {port, Port}, Unwatched);
-                error ->
-                    _ = seqaudit_spool:remove(Folder),
-                    gen_server:reply(From, {error, no_port}),
-                    State
+                not_there ->
+                    not_turned_port({error, no_port}, From, Folder, State);
+                {error, Reason} ->
+                    not_turned_port({error, {file, Folder, Reason}}, From, Folder, State)
             end;
         {error, Reason} ->
             gen_server:reply(From, {error, Reason}),
             State
     end.
+
+not_turned_port(Reply, From, Folder, State) ->
+    _ = seqaudit_spool:remove(Folder),
+    gen_server:reply(From, Reply),
+    State.
 
 turn_scribe(Folder, #state{turning = {From, Next}} = State) ->
     turn(is_own(false, State), From, Folder, {scribe, Next}, (flush(State))#state{turning = no}).

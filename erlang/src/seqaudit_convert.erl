@@ -78,7 +78,7 @@ fold_files([File | Files], Batches) ->
 %% @doc Converts collections: writes `NAME.seqtrace', `NAME.terms' and `NAME.notes', `NAME.times' if
 %% there are times, and `NAME.messages' if texts are cut.
 -spec files([seqaudit_events:collection()], file:filename()) ->
-          {ok, summary()} | {error, {file, file:filename(), term()}}.
+          {ok, summary()} | {error, {unwritten, file:filename(), term()}}.
 files(Collections, Name) ->
     alone(fun() -> write(taken(Collections), Name) end).
 
@@ -184,7 +184,7 @@ has_messages(File) ->
     end.
 
 %% @doc Writes a file that its owner alone may read, since it has the contents of messages.
--spec write_own(file:filename(), iodata()) -> ok | {error, {file, file:filename(), term()}}.
+-spec write_own(file:filename(), iodata()) -> ok | {error, {unwritten, file:filename(), term()}}.
 write_own(File, Text) ->
     write_file(File, fun(Out) -> Out(Text) end).
 
@@ -199,10 +199,10 @@ write_file(File, Part) ->
             catch
                 error:{badmatch, {error, Reason}} ->
                     _ = file:close(Device),
-                    {error, {file, File, Reason}}
+                    {error, {unwritten, File, Reason}}
             end;
         {error, Reason} ->
-            {error, {file, File, Reason}}
+            {error, {unwritten, File, Reason}}
     end.
 
 %% A terminal that is written to keeps its mode.
@@ -242,7 +242,7 @@ parts(#build{actors = Actors, others = Others} = Build) ->
 
 noted(Bytes, #{listed := Listed, collections := Collections, counts := Counts} = Facts) ->
     Sizes = #{bytes => Bytes, processes => length(Listed), events => maps:get(events, Facts)},
-    Dropped = seqaudit_notes:dropped(Collections, Counts, maps:get(kept, Facts)),
+    Dropped = seqaudit_notes:dropped(Collections, Counts),
     {#{events => maps:get(events, Facts), processes => length(Listed), dropped => Dropped},
      seqaudit_notes:facts(Facts, Sizes)}.
 
@@ -440,6 +440,6 @@ named(Listed, Known) ->
            end, What} || {Pid, Name, What} <- Named].
 
 %% @doc A reason of this module in words, with what to do about it.
--spec format_error({file, file:filename(), term()}) -> string().
-format_error({file, File, Reason}) ->
-    seqaudit_errors:text("~ts can't be written: ~ts", [File, file:format_error(Reason)]).
+-spec format_error({unwritten, file:filename(), term()}) -> string().
+format_error({unwritten, File, Reason}) ->
+    seqaudit_errors:unwritten(File, Reason).

@@ -112,7 +112,7 @@ key(Rows, Arrivals, Legend) ->
     Unreceived = [Row || #{kind := Kind, shown := #{id := Id}} = Row <- Rows,
                          Kind =:= <<"send">>, not is_map_key(Id, Arrivals)],
     Unreported = [Row || #{shown := #{id := Id}} = Row <- Rows, reported(Id) =:= unreported],
-    Doubtful = [Row || #{shown := #{cause := Cause}} = Row <- Rows, is_doubtful(Cause)],
+    Doubtful = [Row || #{shown := #{cause := Cause}} = Row <- Rows, seqaudit_causes:is_doubtful(Cause)],
     [[["<g class=\"d\"><path d=\"M12 62H48\"/></g><circle class=\"u\" cx=\"30\" cy=\"62\" r=\"4\"/>"
       "<text x=\"56\" y=\"66\">", Absent, ", but other events tell of it</text>\n"]
      || Unreported =/= []],
@@ -120,14 +120,6 @@ key(Rows, Arrivals, Legend) ->
       "<text x=\"364\" y=\"66\">what it follows ", MayBe, "</text>\n"] || Doubtful =/= []],
      ["<g class=\"s\"><path d=\"M592 62H628\" marker-end=\"url(#x)\"/></g>"
       "<text x=\"640\" y=\"66\">a message whose receive isn't in the chart</text>\n" || Unreceived =/= []]].
-
-is_doubtful({received, {_, {_, _}}}) -> true;
-is_doubtful({perhaps, _}) -> true;
-is_doubtful({alike, _}) -> true;
-is_doubtful({unreported, _}) -> true;
-is_doubtful(open) -> true;
-is_doubtful({relabelled, _, open}) -> true;
-is_doubtful(_) -> false.
 
 arrow_head(Id, Colour) ->
     format("<marker id=\"~ts\" viewBox=\"0 0 10 10\" refX=\"9\" refY=\"5\" markerWidth=\"8\" "
@@ -173,7 +165,7 @@ title(#{kind := Kind, serial := Serial, shown := #{cause := Cause}} = Row, Legen
      seqaudit_why:cause(Cause, Legend)].
 
 mark(Number, #{shown := #{cause := Cause}} = Row, Arrivals) ->
-    [case is_doubtful(Cause) of
+    [case seqaudit_causes:is_doubtful(Cause) of
          true -> format("<text class=\"q\" x=\"~b\" y=\"~b\">?</text>",
                         [x(mark_lane(Row)) - 14, y(Number) + 4]);
          false -> ""

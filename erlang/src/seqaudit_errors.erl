@@ -1,7 +1,7 @@
 %% @doc What the errors of several modules have in common.
 -module(seqaudit_errors).
 
--export([text/2, unread/2, wrong_line/3, linted/1]).
+-export([text/2, unread/2, unwritten/2, wrong_line/3, linted/1]).
 
 %% @doc As `io_lib:format/2', in one list of characters.
 -spec text(io:format(), [term()]) -> string().
@@ -12,6 +12,11 @@ text(Format, Values) ->
 -spec unread(file:filename(), term()) -> string().
 unread(File, Reason) ->
     text("~ts: ~ts; `seqaudit-node convert' writes it", [File, file:format_error(Reason)]).
+
+%% @doc A file can't be written.
+-spec unwritten(file:filename(), term()) -> string().
+unwritten(File, Reason) ->
+    text("~ts can't be written: ~ts", [File, file:format_error(Reason)]).
 
 %% @doc A file of a trace has a line that isn't what its lines are.
 -spec wrong_line(file:filename(), pos_integer(), string()) -> string().

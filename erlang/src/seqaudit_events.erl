@@ -496,19 +496,26 @@ close(Device) ->
             file:close(Device)
     end.
 
-%% @doc Whether `NAME.events' can be written; a file that is there stays as it is.
--spec writable(file:filename()) -> ok | {error, {file, file:filename(), term()}}.
+%% @doc Whether `NAME.events' can be written; a file that is there stays as it is, and none is left that wasn't there.
+-spec writable(file:filename()) -> ok | {error, {unwritable, file:filename(), term()}}.
 writable(Name) ->
     File = Name ++ ".events",
+    Before = file:read_link_info(File, [raw]),
     case file:open(File, [append, raw]) of
-        {ok, Device} -> file:close(Device);
-        {error, Reason} -> {error, {file, File, Reason}}
+        {ok, Device} ->
+            ok = file:close(Device),
+            _ = [file:delete(File) || {error, enoent} <- [Before]],
+            ok;
+        {error, Reason} ->
+            {error, {unwritable, File, Reason}}
     end.
 
 %% @doc A reason of this module in words, with what to do about it.
 -spec format_error(term()) -> string().
 format_error({file, File, Reason}) ->
     text("~ts: ~ts", [File, file:format_error(Reason)]);
+format_error({unwritten, File, Reason}) ->
+    seqaudit_errors:unwritten(File, Reason);
 format_error({no_events, [File]}) ->
     text("~ts: no event of seq_trace is in it", [File]);
 format_error({no_events, Files}) ->

@@ -3,7 +3,7 @@
 -module(seqaudit_explain).
 
 -export([count/2, number/1, headline/2, by_whom/1, outcome/3, parts/2, whole/2, sentence/2, sentence/4,
-         reset_places/2, losses/1, is_open/1, shown/1]).
+         reset_places/2, losses/1, shown/1]).
 
 -import(seqaudit_legend, [process/2, label/2]).
 
@@ -19,7 +19,7 @@
 headline(#{said := Said, streams := Streams} = Outcome, Legend) when Said =:= fits; Said =:= completed ->
     [format("fits~ts: ~ts of ~ts", [by(Outcome), count(length(reported(Streams)), "event"),
                                     count(length(Streams) - length(unlisted(Outcome)), "process")]),
-     left_out(missing(Outcome, Legend), Outcome), $\n];
+     left_out(missing(Outcome, Legend), Outcome, Legend), $\n];
 headline(#{said := never, finding := {Reason, _}, twice := [{Copy, First} | More]} = Outcome, Legend) ->
     format("doesn't fit~ts: ~ts (~ts)~n",
            [by(Outcome),
@@ -70,6 +70,9 @@ what_is_missing(Outcome) ->
 what_nobody_reported(#{cut := true}) -> "What nobody reported, or what the cut took away";
 what_nobody_reported(#{}) -> "What nobody reported".
 
+unreported_or_not_here(#{cut := true}) -> "that isn't here";
+unreported_or_not_here(#{}) -> "unreported".
+
 what_waits(#{cut := true}) -> "Messages without a receive here: ";
 what_waits(#{}) -> "Messages without a reported receive: ".
 
@@ -88,47 +91,41 @@ missing(#{said := Said, streams := Streams} = Outcome, Legend) ->
           strangers => length([Row || #{event := #{kind := 'receive', from := From}} = Row <- Added,
                                       is_map_key(From, Strangers)]),
           open => [Row || #{hidden := false, id := {_, At}, cause := Cause} = Row <- Rows,
-                          is_integer(At), is_open(Cause)],
+                          is_integer(At), seqaudit_causes:is_open(Cause)],
           put_back => seqaudit_exchange:put_back(Rows),
           leaps => lists:sum([Count || {_, Count} <- Jumps])}.
 
-%% How many events of each kind nobody reported.
+%% How many events of each kind nobody reported, and how many counts no event has.
 kinds(Rows, Unreceived, Silent) ->
     Of = fun(Kind) -> length([Row || #{event := #{kind := One}} = Row <- Rows, One =:= Kind]) end,
-    [{Of(send), "send"}, {Of('receive') + Unreceived, "receive"}, {Silent, "print or send"}].
-
-%% @doc Whether the cause of an event isn't known.
--spec is_open(seqaudit_causes:cause()) -> boolean().
-is_open(open) -> true;
-is_open({relabelled, _, open}) -> true;
-is_open({perhaps, _}) -> true;
-is_open({alike, _}) -> true;
-is_open(_) -> false.
+    [{Of(send), "send"}, {Of('receive') + Unreceived, "receive"}, {Silent, "count"}].
 
 %% What is missing. By a cut or the collectors' facts something may be known to be gone of which no event tells. A stamp
 %% that nobody reported, as its flag was off, needn't be seen: a receive may have raised the counter over it.
-left_out(#{events := [], kinds := Kinds, leaps := 0, behind := Behind, waiting := [], open := []} = Missing, Outcome) ->
+left_out(#{events := [], kinds := Kinds, leaps := 0, behind := Behind, waiting := [], open := []} = Missing, Outcome,
+         Legend) ->
     case {Outcome, [Kind || {Count, _} = Kind <- Kinds, Count > 0]} of
         {#{streams := []}, _} -> "";
         {#{}, []} when Behind =/= [] ->
-            ["; ", count(length(Behind), "process"), " may have sent or printed something unreported before the first "
-             "send or print here"];
+            ["; ", count(length(Behind), "process"), " may have sent or printed something ",
+             unreported_or_not_here(Outcome), " before the first send or print here"];
         {#{cut := Cut, lost := Lost}, []} when Cut; Lost -> "; nothing else is known to be missing";
         {#{}, []} -> "; nothing is known to be missing";
-        _ -> what_is_left_out(Missing, Outcome)
+        _ -> what_is_left_out(Missing, Outcome, Legend)
     end;
-left_out(Missing, Outcome) ->
-    what_is_left_out(Missing, Outcome).
+left_out(Missing, Outcome, Legend) ->
+    what_is_left_out(Missing, Outcome, Legend).
 
 what_is_left_out(#{kinds := Kinds, strangers := Strangers, leaps := Leaps, waiting := Waiting, open := Open},
-                 Outcome) ->
-    Unreported = [count(Count, Thing) || {Count, Thing} <- Kinds, Count > 0],
+                 Outcome, Legend) ->
+    Unreported = [count(Count, Thing) || {Count, Thing} <- Kinds, Thing =/= "count", Count > 0],
     Missing = [[and_listed(Unreported), " that ", unreported_or_cut(Outcome)] || Unreported =/= []]
         ++ [[count(Strangers, "message"), " from ", strangers(unlisted(Outcome))] || Strangers > 0]
+        ++ [[count(Count, "count"), " that no event here has"] || {Count, "count"} <- Kinds, Count > 0]
         ++ [count(Leaps, "jump of a counter") || Leaps > 0],
     [[[", with ", lists:join(", ", Missing)] || Missing =/= []],
      [["; the cause of ", count(length(Open), "event"), " isn't known"] || Open =/= []],
-     [["; ", not_received(length(Waiting), Outcome)] || Waiting =/= []]].
+     [["; ", not_received(Waiting, Outcome, Legend)] || Waiting =/= []]].
 
 and_listed([One]) -> One;
 and_listed(Several) -> [lists:join(", ", lists:droplast(Several)), " and ", lists:last(Several)].
@@ -136,12 +133,15 @@ and_listed(Several) -> [lists:join(", ", lists:droplast(Several)), " and ", list
 strangers([_]) -> "a process that the trace doesn't list";
 strangers(Several) -> [number(length(Several)), " processes that the trace doesn't list"].
 
-not_received(Count, Outcome) ->
-    [count(Count, "message"), case Count of 1 -> " has"; _ -> " have" end,
+%% A port reports no receive.
+not_received(Waiting, Outcome, Legend) ->
+    [count(length(Waiting), "message"), case Waiting of [_] -> " has"; _ -> " have" end,
      case Outcome of
          #{cut := true} -> " no receive here";
          #{} -> " no reported receive, and may still wait"
-     end].
+     end,
+     [", or went to a port" || lists:any(fun(#{event := #{to := To}}) -> seqaudit_legend:is_port(To, Legend) end,
+                                         Waiting)]].
 
 %% @doc How many of a thing there are, in words.
 -spec count(non_neg_integer(), string()) -> string().
@@ -149,7 +149,6 @@ count(1, Thing) -> "1 " ++ Thing;
 count(N, "process") -> number(N) ++ " processes";
 count(N, "entry") -> number(N) ++ " entries";
 count(N, "jump of a counter") -> number(N) ++ " jumps of counters";
-count(N, "print or send") -> number(N) ++ " prints or sends";
 count(N, Thing) -> number(N) ++ " " ++ Thing ++ "s".
 
 %% @doc A number with commas between thousands.
@@ -173,14 +172,12 @@ details(#{said := Said} = Outcome, Legend) when Said =:= fits; Said =:= complete
      ["Nobody knows what the unknown messages were, or whether other processes sent them.\n"
       || lists:any(fun is_invented/1, Events)],
      [[what_waits(Outcome), messages(Waiting, Legend), ".\n"] || Waiting =/= []],
-     [["Counts that no event here has, of prints, or of sends whose receives weren't reported either: ",
-       counted(Silent, Legend), ".\n"] || Silent =/= []],
+     [[silent(Outcome), counted(Silent, Legend), ".\n"] || Silent =/= []],
      [["The cause isn't known of ", listed(fun(#{id := {Pid, At}}) -> seqaudit_bundle:name(Pid, At, Legend) end, Open,
                                            fun(More) -> ["and ", number(More), " more"] end),
        ": `why' says what it may be.\n"] || Open =/= []],
      put_back(PutBack, Outcome, Legend),
-     [["A counter jumps if it stands higher than anything reported explains: ", often(Jumps, Legend),
-       ". Something was received or stamped there that wasn't reported.\n"] || Jumps =/= []],
+     [[jumps(Outcome, often(Jumps, Legend)), ".\n"] || Jumps =/= []],
      [["Counters go on from trace to trace, and count what isn't reported too. Before the first send or "
        "print here, the counter of ", stood(Before, Legend), ".\n"] || Before =/= []],
      [["When OTP answers a spawn, it moves the counter of the process that asked for it: ",
@@ -197,6 +194,23 @@ details(Outcome, Legend) ->
      put_back(seqaudit_exchange:put_back(seqaudit_causes:rows(maps:get(streams, Outcome))), Outcome, Legend),
      renumbered(Outcome),
      tool(maps:get(tool, Outcome), Outcome)].
+
+%% A serial that was set by hand moves the counter as well.
+silent(Outcome) ->
+    ["Counts that no event here has, of prints, or of sends whose receives ",
+     case Outcome of
+         #{cut := true} -> "aren't here";
+         #{} -> "weren't reported"
+     end, " either, unless a token's serial was set by hand (set_token/2): "].
+
+jumps(#{cut := true}, Often) ->
+    ["A counter jumps if it is higher than anything here explains: ", Often,
+     ". Something was received or stamped there that isn't here, unless a token's serial was set by hand "
+     "(set_token/2)"];
+jumps(#{}, Often) ->
+    ["A counter jumps if it is higher than anything reported explains: ", Often,
+     ". Something was received or stamped there that wasn't reported, unless a token's serial was set by hand "
+     "(set_token/2)"].
 
 %% @doc The events that don't go together: of copies the first one, and what it is a copy of.
 -spec shown(seqaudit_outcome:outcome()) -> [{seqaudit_bundle:place(), seqaudit_bundle:event()}].
@@ -216,7 +230,7 @@ put_back([], #{exchanged := How}, _Legend) when How =/= none ->
 put_back([], _Outcome, _Legend) ->
     "";
 put_back(Rows, Outcome, Legend) ->
-    ["A token was put back here (seq_trace:set_token/1): ",
+    ["A token was put back here (seq_trace:set_token/1), or its serial was set by hand: ",
      listed(fun(#{id := Id, cause := {_, Origin}}) ->
                     ["before ", seqaudit_why:name(Id, Legend), ", which is after ", seqaudit_why:name(Origin, Legend)]
             end, Rows, fun(More) -> ["and ", number(More), " more"] end),

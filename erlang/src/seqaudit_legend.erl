@@ -5,7 +5,8 @@
 %% the text of a bundle and in what `seqaudit' writes.
 -module(seqaudit_legend).
 
--export([text/4, read/1, numbers/1, unlisted/2, is_unlisted/2, process/2, about/2, label/2, value/2, brief/2]).
+-export([text/4, read/1, numbers/1, unlisted/2, is_unlisted/2, process/2, about/2, is_port/2, label/2, value/2,
+         brief/2]).
 -export([of_cut/1, is_of_cut/1, absent/1, present/1]).
 -export([is_spawned/2, find_label/2, format_error/1]).
 -export_type([legend/0]).
@@ -128,6 +129,14 @@ process(Pid, Legend) -> maps:get({process, Pid}, Legend, Pid).
 %% @doc All that is known of a process.
 -spec about(binary(), legend()) -> binary().
 about(Pid, Legend) -> maps:get({about, Pid}, Legend, <<"not in NAME.terms">>).
+
+%% @doc Whether this is a port, as far as the legend tells.
+-spec is_port(binary(), legend()) -> boolean().
+is_port(Pid, Legend) ->
+    case about(Pid, Legend) of
+        <<"port #Port<", _/binary>> -> true;
+        _ -> false
+    end.
 
 %% @doc The term of a label, its number if the legend hasn't it.
 -spec label(binary(), legend()) -> binary().

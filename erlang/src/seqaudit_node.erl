@@ -49,7 +49,7 @@ run({Command, Valued, Flags, Do}, Words) ->
             ?FITS;
         {false, {ok, Options}} ->
             case Do(Options) of
-                {usage, Text} -> usage(Command, Text, []);
+                {usage, Text} -> usage(Command, "~ts", [Text]);
                 Status -> Status
             end;
         {false, {error, {unknown, Word}}} ->
@@ -123,7 +123,7 @@ options([Word | Words], Valued, Flags, Options) ->
 add(Option, Value, Options) ->
     maps:update_with(Option, fun(Values) -> [Value | Values] end, [Value], Options).
 
-collect(#{"--node" := Nodes, "-o" := [Name]} = Options) when not is_map_key("", Options) ->
+collect(#{"--node" := Nodes, "-o" := [[_ | _] = Name]} = Options) when not is_map_key("", Options) ->
     case collect_options(lists:reverse(Nodes), Options) of
         {ok, Wait, #{nodes := [Node | _]} = Start} ->
             collect(seqaudit_reach:connect(Node, Options), Start#{name => Name}, {Wait, unload(Options)});
@@ -132,7 +132,7 @@ collect(#{"--node" := Nodes, "-o" := [Name]} = Options) when not is_map_key("", 
 collect(_) ->
     {usage, "collect needs --node and -o, and takes options alone"}.
 
-watch(#{"--node" := Nodes, "-o" := [Name], "--every" := _} = Options) when not is_map_key("", Options) ->
+watch(#{"--node" := Nodes, "-o" := [[_ | _] = Name], "--every" := _} = Options) when not is_map_key("", Options) ->
     case collect_options(lists:reverse(Nodes), Options) of
         {ok, _, #{nodes := [Node | _]} = Start} ->
             try {whole("--every", 1, Options), whole("--keep", 1, Options)} of
@@ -174,23 +174,29 @@ collect_options(Nodes, Options) ->
                  {take_over, is_map_key("--take-over", Options)},
                  {trigger, trigger(Options)}]
             ++ [{limit, Limit} || Limit <- [whole("--limit", 0, Options)], Limit =/= none]
-            ++ [{bytes, Bytes} || Bytes <- [whole("--bytes", 1, Options)], Bytes =/= none]
+            ++ [{bytes, Bytes} || Bytes <- [whole("--bytes", seqaudit_trace:bytes(), Options)], Bytes =/= none]
             ++ [{folder, Folder} || #{"--folder" := [Folder | _]} <- [Options]],
         {ok, Wait, maps:from_list(Given)}
     catch
         throw:Text -> {error, Text}
     end.
 
-whole(Option, Least, Options) ->
+%% Any integer is less than an atom.
+whole(Option, {Least, Most}, Options) ->
     case Options of
         #{Option := [Word | _]} ->
             case string:to_integer(Word) of
-                {Number, ""} when is_integer(Number), Number >= Least -> Number;
-                _ -> throw(Option ++ " can't be " ++ Word ++ "; it takes a whole number, "
-                           ++ integer_to_list(Least) ++ " or more")
+                {Number, ""} when is_integer(Number), Number >= Least, Number =< Most -> Number;
+                _ -> throw([Option, " can't be ", Word, "; it takes a whole number",
+                            case Most of
+                                infinity -> io_lib:format(", ~b or more", [Least]);
+                                _ -> io_lib:format(" from ~b to ~b", [Least, Most])
+                            end])
             end;
         #{} -> none
-    end.
+    end;
+whole(Option, Least, Options) ->
+    whole(Option, {Least, infinity}, Options).
 
 %% The words of the command line may become atoms: there are few of them, and they are the user's own.
 node_names(Words) ->
@@ -261,6 +267,8 @@ started(#{nodes := Nodes} = Start, Unload, Do) ->
                 ok = seqaudit_sight:stop(Sight),
                 io:put_chars([seqaudit_loaded:say(Node, Unload) || Node <- Nodes])
             end;
+        {error, {option, _, _} = Reason} ->
+            {usage, seqaudit_trace:format_error(Reason)};
         {error, {node, Node, unreachable}} ->
             failed(?SYSTEM, seqaudit_reach:unreachable(Node));
         {error, Reason} ->
@@ -293,11 +301,11 @@ written({ok, #{events := Events, processes := Processes, notes := Notes, files :
 written({error, Reason}, FormatError) ->
     failed(?SYSTEM, FormatError(Reason)).
 
-convert(#{"" := Files, "-o" := [Name]}) ->
+convert(#{"" := Files, "-o" := [[_ | _] = Name]}) ->
     case seqaudit_convert:from_files(lists:reverse(Files), Name) of
         {ok, Summary} ->
             written({ok, Summary}, fun seqaudit_convert:format_error/1);
-        {error, {file, _, _} = Reason} ->
+        {error, {Which, _, _} = Reason} when Which =:= file; Which =:= unwritten ->
             failed(?SYSTEM, seqaudit_events:format_error(Reason));
         {error, Reason} ->
             failed(?INPUT, seqaudit_events:format_error(Reason))

@@ -5,7 +5,7 @@
 %% in a sentence may be any word.
 -module(seqaudit_notes).
 
--export([facts/2, facts_text/1, losses/1, dropped/3]).
+-export([facts/2, facts_text/1, losses/1, dropped/2]).
 -export_type([fact/0]).
 
 -import(seqaudit_errors, [text/2]).
@@ -31,9 +31,8 @@
 
 %% @doc How many events came and are not in the bundle. Of events that a port wrote over only their
 %% bytes are known: they are taken to be as large as the kept ones.
--spec dropped([seqaudit_build:collected()], #{atom() => non_neg_integer()}, non_neg_integer()) ->
-          non_neg_integer().
-dropped(Collections, Counts, _Kept) ->
+-spec dropped([seqaudit_build:collected()], #{atom() => non_neg_integer()}) -> non_neg_integer().
+dropped(Collections, Counts) ->
     count(nameless, Counts) + count(strays, Counts)
         + lists:sum([known(Kind, Collection) || Collection <- Collections,
                                                 Kind <- [dropped, own, strays]])
@@ -77,7 +76,7 @@ facts(#{collections := Collections, counts := Counts, listed := Listed, labels :
                   of_kind(renumbered, several("no processes, or their number was taken, so they have free numbers: ",
                                               renumbered(Listed))),
                   of_kind(labels, several("labels that aren't numbers from 0 to 4294967295 have numbers: ",
-                                          labels(Labels)))]).
+                                          labels(Labels, Listed)))]).
 
 of_kind(Kind, Sentences) -> [{Kind, Sentence} || Sentence <- Sentences].
 
@@ -154,7 +153,7 @@ date(_) ->
 why(Why) ->
     case [seqaudit_external:view(Part) || Part <- parts(Why)] of
         [{atom, <<"fell_behind">>}] ->
-            "events came faster than they could be written without runtime_tools; what came until "
+            "events came faster than they could be written by a process, not by a trace port; what came until "
                 "then is here";
         [{atom, <<"fell_behind">>}, _] ->
             text("events came faster than they could be written, ~ts times",
@@ -266,8 +265,10 @@ renumbered(Listed) ->
     [text("~ts is ~ts", [seqaudit_processes:spell(Number), seqaudit_processes:what(Party, #{})])
      || {Number, Party} <- Listed, not seqaudit_processes:is_own(Party, Number)].
 
-labels(Labels) ->
-    [text("~b is ~ts", [Number, seqaudit_terms:short(seqaudit_terms:encoded(Term), 100)])
+%% A label is spelled as `NAME.terms' has it, and as `--label' takes it.
+labels(Labels, Listed) ->
+    Numbers = maps:from_list([{Party, Number} || {Number, Party} <- Listed]),
+    [text("~b is ~ts", [Number, seqaudit_terms:short(seqaudit_terms:encoded(Term, Numbers), 100)])
      || {Number, Term} <- Labels, Number =/= seqaudit_external:number(Term)].
 
 several(_What, []) -> [];

@@ -81,11 +81,8 @@ format_error({messages, Reason}) ->
 format_error({file, File, Reason}) ->
     seqaudit_errors:text("~ts: ~ts; a page needs this file", [File, file:format_error(Reason)]).
 
-data(#{name := Name, legend := Legend, outcome := Outcome, parts := Parts} = Audited, Label, Limit) ->
-    Shown = case Parts of
-                [] -> [Outcome];
-                _ -> [Part || {_, Part} <- Parts]
-            end,
+data(#{name := Name, legend := Legend} = Audited, Label, Limit) ->
+    Shown = seqaudit_answer:shown(Audited),
     PartRows = [seqaudit_causes:with_receives(seqaudit_outcome:rows(Part)) || Part <- Shown],
     Resets = lists:droplast(sums([length(Rows) || Rows <- PartRows], 0)),
     Rows = lists:append([[{Part, Row} || Row <- Rows] || {Part, Rows} <- lists:enumerate(PartRows)]),

@@ -74,8 +74,6 @@ period(#state{asked = Asked} = State, Began) ->
 %% The period that runs isn't audited: that could take long.
 ended(#state{name = Name, number = Number, unfit = Unfit, open = Open, say = Say} = State) ->
     ok = seqaudit_trace:cancel(),
-    %% That it can be written was tried at the start.
-    _ = filelib:file_size(Name ++ ".events") =:= 0 andalso file:delete(Name ++ ".events"),
     ok = lists:foreach(fun(File) -> file:delete(File) end, State#state.rest),
     ok = lists:foreach(fun(One) -> remove(name(Name, One)) end, [Number | [Open || Open =/= none]]),
     ok = Say(text("~ts audited, ~b kept; period ~b, which was running, isn't audited~n",

@@ -9,8 +9,9 @@
 %% The file goes to the program's standard input, which a port can't close.
 -define(SHELL, "exec \"$0\" \"$@\" <\"$SEQAUDIT_INPUT\"").
 -define(QUIET_SHELL, ?SHELL " 2>/dev/null").
-%% The folders of programs that aren't proved, best first, and what these are.
--define(UNPROVED, [{"rust", "plain Rust, not proved"}, {"quick", "built without proofs"}]).
+%% The folders of programs that aren't proved, best first, what `seqtool --version' says there, and what these are.
+-define(UNPROVED, [{"rust", <<"(plain Rust, not proved)">>, "plain Rust, not proved"},
+                   {"quick", <<"(unproved)">>, "built without proofs"}]).
 %% The exit status of a program that doesn't take the trace.
 -define(REFUSED, 2).
 %% The exit status of a program that doesn't understand the words.
@@ -66,7 +67,7 @@ find() ->
 find(Name) ->
     Home = home(),
     Bin = filename:join(filename:dirname(Home), "bin"),
-    Unproved = [filename:join(Bin, Folder) || {Folder, _} <- ?UNPROVED],
+    Unproved = [filename:join(Bin, Folder) || {Folder, _, _} <- ?UNPROVED],
     Beside = [filename:join(Folder, Name) || Folder <- [Home, Bin | Unproved]],
     Said = [File || File <- [os:getenv(string:uppercase(Name))], File =/= false],
     OnPath = [File || File <- [os:find_executable(Name)], File =/= false],
@@ -105,11 +106,39 @@ how_proved() ->
         none -> "`make program' builds what is proved"
     end.
 
-%% @doc The programs that are asked and aren't proved, with what they are instead.
+%% @doc The programs that are asked and aren't proved, with what they are instead, as far as that is known: a seqtool
+%% says it itself, and of a seqaudit the seqtool in its folder; else the folder tells. They are asked once.
 -spec unproved() -> [{string(), file:filename()}].
 unproved() ->
-    [{What, File} || {Name, File} <- asked(), {Folder, What} <- ?UNPROVED,
-                     lists:suffix(["bin", Folder, Name], filename:split(linked(filename:absname(File))))].
+    Asked = [{Name, File, linked(filename:absname(File))} || {Name, File} <- asked()],
+    case persistent_term:get({?MODULE, Asked}, unknown) of
+        unknown ->
+            Unproved = [{What, File} || {Name, File, Linked} <- Asked, What <- what(Name, Linked)],
+            ok = persistent_term:put({?MODULE, Asked}, Unproved),
+            Unproved;
+        Unproved ->
+            Unproved
+    end.
+
+%% What a program is if it isn't proved.
+what(Name, File) ->
+    Tool = case Name of
+               "seqtool" -> File;
+               _ -> filename:join(filename:dirname(File), "seqtool")
+           end,
+    Version = version(Tool),
+    lists:sublist([What || {_, Says, What} <- ?UNPROVED, binary:match(Version, Says) =/= nomatch]
+                  ++ [What || {Folder, _, What} <- ?UNPROVED,
+                              lists:suffix(["bin", Folder, Name], filename:split(File))],
+                  1).
+
+%% The slow models have no version.
+version(Tool) ->
+    case filename:extension(Tool) =/= ".py" andalso filelib:is_regular(Tool)
+        andalso run(?QUIET_SHELL, Tool, ["--version"], "/dev/null") of
+        {ok, {0, Version}} -> Version;
+        _ -> <<>>
+    end.
 
 %% The file that a link of this name leads to, without the dots in its name.
 linked(File) ->

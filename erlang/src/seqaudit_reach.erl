@@ -101,9 +101,10 @@ of_user() ->
     end.
 
 checked(Cookie, From) ->
-    case Cookie =/= [] andalso length(Cookie) =< ?LONGEST of
-        true -> {ok, Cookie};
-        false -> {error, {length, From}}
+    case {Cookie =/= [] andalso length(Cookie) =< ?LONGEST, lists:all(fun(Letter) -> Letter < 256 end, Cookie)} of
+        {true, true} -> {ok, Cookie};
+        {false, _} -> {error, {length, From}};
+        {true, false} -> {error, {letter, From}}
     end.
 
 %% @doc Why a node can't be reached, as far as its host tells.
@@ -136,6 +137,8 @@ format_error({cookie, {file, File, Reason}}) ->
     text("the cookie can't be used: ~ts: ~ts", [File, file:format_error(Reason)]);
 format_error({cookie, {length, From}}) ->
     text("the cookie of ~ts can't be used: it is empty, or longer than ~b characters", [From, ?LONGEST]);
+format_error({cookie, {letter, From}}) ->
+    text("the cookie of ~ts can't be used: it has a letter that no cookie can have", [From]);
 format_error({distribution, Reason}) ->
     text("this Erlang can't become a node~ts: ~0tp",
          [case init:get_argument(proto_dist) of

@@ -13,7 +13,7 @@
 -define(RESET, "seq_trace:reset_trace/0 between the two").
 -define(TWO_RUNS, "files of two runs converted as one").
 -define(COLLECTED_TWICE, "events that were collected twice, by a second tracer or by files of the same run").
--define(OTHER_ORDER, "events of one process that stand in another order than they happened in").
+-define(OTHER_ORDER, "events of one process that are in another order than they happened in").
 -define(CHANGED, "a file that was changed").
 -define(WRONG_PROCESS, "sends to aliases and names, which may be taken for sends to the wrong process (NAME.notes)").
 
@@ -49,7 +49,7 @@ explain(<<"prevnotbefore">>) ->
      always(["a token that set_token/1 puts back before anything was sent with it, which sets the counter of a "
              "standard node to 0", ?CHANGED, "a token's serial that was set by hand"])};
 explain(<<"notrising">>) ->
-    {"one process stamped both events, and the later one has no higher count: its counter went back, or the two stand "
+    {"one process stamped both events, and the later one has no higher count: its counter went back, or the two are "
      "in the wrong order.",
      fun(_, Streams) -> went_back(Streams) ++ [?OTHER_ORDER] end};
 explain(<<"repeated">>) ->
@@ -73,7 +73,7 @@ explain(<<"mismatch">>) ->
      end};
 explain(<<"late">>) ->
     {"the process had received a message with this count or a higher one before, and its counter is at least as high "
-     "as what it received, until it goes back; or the two stand in the wrong order.",
+     "as what it received, until it goes back; or the two are in the wrong order.",
      fun(Found, Streams) ->
          case follows_earlier(Found, Streams) of
              true -> [?OTHER_ORDER, ?PUT_BACK, ?TWO_RUNS, ?RESET];

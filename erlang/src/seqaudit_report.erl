@@ -38,7 +38,7 @@ missing(Streams, Legend) ->
       unreceived => [#{event => name(Send, Legend), before => utf8(seqaudit_why:name(Id, Legend))}
                      || {#{id := Id}, #{id := Send}} <- Unreceived],
       cause_unknown => [name(Id, Legend) || #{hidden := false, id := {_, At} = Id, cause := Cause} <- Rows,
-                                            is_integer(At), seqaudit_explain:is_open(Cause)],
+                                            is_integer(At), seqaudit_causes:is_open(Cause)],
       waiting => [#{event => name(Id, Legend), to => seqaudit_legend:process(To, Legend)}
                   || #{id := Id, event := #{to := To}} <- Waiting],
       silent_stamps => counts(Silent, Legend), jumps => counts(Jumps, Legend),

@@ -6,7 +6,7 @@
 %% It ends with the collector, and first writes what it was given.
 -module(seqaudit_scribe).
 
--export([open/1, prepare/1, ready/2, drop/1, write/3, unwritten/1, failure/2, close/1, closed/2]).
+-export([open/1, prepare/1, ready/2, drop/1, write/3, unwritten/1, failure/2, close/1, closed/3]).
 -export_type([scribe/0]).
 
 -record(scribe, {writer :: pid(),
@@ -83,29 +83,26 @@ failure(_, _) -> none.
 %% @doc Ends it, once all that was given is written.
 -spec close(scribe()) -> ok | {error, term()}.
 close(#scribe{writer = Writer}) ->
-    Closed = monitor(process, Writer),
-    Writer ! {close, self(), Closed},
-    receive
-        {Closed, Result} ->
-            demonitor(Closed, [flush]),
-            Result;
-        {'DOWN', Closed, process, _, {shutdown, Reason}} ->
-            {error, Reason};
-        {'DOWN', Closed, process, _, Reason} ->
-            {error, Reason}
-    end.
+    closed(Writer, infinity, fun({shutdown, Reason}) -> {error, Reason};
+                                (Reason) -> {error, Reason}
+                             end).
 
-%% @doc Asks a process of the collector to end, and returns what it says then, or `Else' if it is gone.
--spec closed(pid(), Result) -> Result.
-closed(Process, Else) ->
+%% @doc Asks a process of the collector to end, and returns what it says then, or what the function makes of the reason
+%% for which it is gone. If it takes longer than so many milliseconds, it is killed.
+-spec closed(pid(), timeout(), fun((Reason :: term()) -> Result)) -> Result.
+closed(Process, Patience, Gone) ->
     Closed = monitor(process, Process),
     Process ! {close, self(), Closed},
     receive
         {Closed, Result} ->
             demonitor(Closed, [flush]),
             Result;
-        {'DOWN', Closed, process, _, _} ->
-            Else
+        {'DOWN', Closed, process, _, Reason} ->
+            Gone(Reason)
+    after Patience ->
+        unlink(Process),
+        exit(Process, kill),
+        receive {'DOWN', Closed, process, _, Reason} -> Gone(Reason) end
     end.
 
 write_on(Device, Folder, Collector, Written) ->

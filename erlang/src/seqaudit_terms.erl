@@ -241,7 +241,7 @@ pairs(Left, Bytes, Done) ->
     {ok, Value, Rest} = seqaudit_external:take(Rest0),
     pairs(Left - 1, Rest, [{order(Key), Key, Value} | Done]).
 
-%% Style come before atoms, and these before all else, as Erlang orders them.
+%% Numbers come before atoms, and these before all else, as Erlang orders them.
 order(Key) ->
     case {seqaudit_external:number(Key), seqaudit_external:view(Key)} of
         {Number, _} when is_integer(Number) -> {0, Number};

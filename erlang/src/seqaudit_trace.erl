@@ -17,7 +17,7 @@
 -module(seqaudit_trace).
 -behaviour(gen_server).
 
--export([start/0, start/1, stop/0, rotate/1, cancel/0, folders/0, with_trace/2, with_trace/3, format_error/1]).
+-export([start/0, start/1, stop/0, rotate/1, cancel/0, folders/0, with_trace/2, with_trace/3, bytes/0, format_error/1]).
 -export([init/1, handle_call/3, handle_cast/2, handle_info/2]).
 -export_type([options/0, flag/0, rotated/0]).
 
@@ -26,7 +26,8 @@
 -define(LEAST_BYTES, 65_536).
 -define(FLAGS, [send, 'receive', print, timestamp, strict_monotonic_timestamp,
                 monotonic_timestamp]).
-%% Modules that another node needs: the collector, what it depends on, and this one for `with_trace'.
+%% Modules that another node needs: the collector, what it calls while it collects, and this one for `with_trace'. What
+%% puts reasons into words isn't among them, as that is done here.
 -define(MODULES, [seqaudit_spool, seqaudit_asker, seqaudit_scribe, seqaudit_watch, seqaudit_trigger, seqaudit_collector,
                   ?MODULE]).
 -define(REMOTE_MS, 15_000).
@@ -106,11 +107,17 @@ started({error, Reason}) -> {error, Reason}.
 is_valid(nodes, Nodes) -> is_list(Nodes) andalso Nodes =/= [] andalso lists:all(fun is_atom/1, Nodes);
 is_valid(name, Name) -> io_lib:char_list(Name) andalso Name =/= [];
 is_valid(limit, Limit) -> Limit =:= infinity orelse is_integer(Limit) andalso Limit >= 0;
-is_valid(bytes, Bytes) -> is_integer(Bytes) andalso Bytes >= ?LEAST_BYTES;
+is_valid(bytes, Bytes) ->
+    {Least, Most} = bytes(),
+    is_integer(Bytes) andalso Bytes >= Least andalso Bytes =< Most;
 is_valid(folder, Folder) -> Folder =:= default orelse io_lib:char_list(Folder);
 is_valid(trigger, Trigger) -> seqaudit_trigger:is_valid(Trigger);
 is_valid(Option, Value) when Option =:= reset; Option =:= port; Option =:= take_over -> is_boolean(Value);
 is_valid(_, _) -> true.
+
+%% @doc The least and the greatest total size that the files of a node can have.
+-spec bytes() -> {pos_integer(), pos_integer()}.
+bytes() -> {?LEAST_BYTES, seqaudit_collector:most_bytes()}.
 
 %% @doc Takes the collectors off and writes the files. Returns how many events were kept and
 %% dropped, and which files were written. If the process that led the collection was killed, it
@@ -223,7 +230,9 @@ format_error({node, Node, {load, Module, Reason}}) ->
          "with an older one", [Node, Module, Reason]);
 format_error({node, Node, Reason}) ->
     text("no collector could be started on ~ts: ~0tp", [Node, Reason]);
-format_error({file, File, Reason}) ->
+format_error({unwritable, File, Reason}) ->
+    text("~ts can't be written: ~ts", [File, file:format_error(Reason)]);
+format_error({Which, File, Reason}) when Which =:= file; Which =:= unwritten ->
     text("~ts can't be written: ~ts; once it can, seqaudit_trace:stop() writes what was collected",
          [File, file:format_error(Reason)]);
 format_error(Reason) ->
@@ -232,11 +241,12 @@ format_error(Reason) ->
 allowed(nodes) -> "it is a list of one or more node names";
 allowed(name) -> "it is the name of a file";
 allowed(limit) -> "it is a whole number of events, 0 or more";
-allowed(bytes) -> text("it is a whole number of bytes, ~b or more", [?LEAST_BYTES]);
+allowed(bytes) -> text("it is a whole number of bytes from ~b to ~b", tuple_to_list(bytes()));
 allowed(folder) -> "it is the name of a folder";
 allowed(trigger) -> "it is a map with function or functions, label, times, and perhaps calls";
 allowed(_) -> "it is true or false".
 
+%% As that of seqaudit_errors, of which a node on which this module was loaded needn't have any.
 text(Format, Values) ->
     lists:flatten(io_lib:format(Format, Values)).
 

@@ -61,7 +61,7 @@ start(Port, Folder) ->
 %% @doc Ends it. Whether the tracer may be off because the port was behind, and the facts of that.
 -spec stop(watch()) -> {boolean(), #{pauses => pauses()}}.
 stop(Watch) ->
-    seqaudit_scribe:closed(Watch, {true, #{}}).
+    seqaudit_scribe:closed(Watch, infinity, fun(_) -> {true, #{}} end).
 
 %% @doc Whether this message to the collector says that the tracer has to stay off.
 -spec failure(term(), watch()) -> {failed, term()} | none.

@@ -27,7 +27,7 @@ time(Id, Times) ->
     end.
 
 by({spawned, _}, _Legend) -> "(OTP moved the counter when it answered a spawn) ";
-by({restored, _}, _Legend) -> "(a token was put back here) ";
+by({restored, _}, _Legend) -> "(a token was put back here, or its serial set by hand) ";
 by({perhaps, _}, _Legend) -> "(perhaps: counts alone don't tell) ";
 by({alike, _}, _Legend) -> "(perhaps: another message is like it) ";
 by({unreported, _}, Legend) -> ["(perhaps: its receive ", seqaudit_legend:absent(Legend), ") "];
@@ -41,10 +41,7 @@ is_of_counts(#{cause := {How, _}}) when How =:= sent; How =:= alike -> false;
 is_of_counts(#{cause := unseen}) -> false;
 is_of_counts(_) -> true.
 
-%% Whether another event may be its cause.
-is_perhaps(#{cause := {How, _}}) when How =:= perhaps; How =:= alike; How =:= unreported -> true;
-is_perhaps(#{cause := {received, {_, {_, _}}}}) -> true;
-is_perhaps(_) -> false.
+is_perhaps(#{cause := Cause}) -> seqaudit_causes:is_perhaps(Cause).
 
 ending(#{cause := {_, _}}, _Legend) ->
     "There the chain runs into itself: these events don't fit.\n";
@@ -72,8 +69,8 @@ effects(Place, Rows, Legend, Times) ->
     end.
 
 premises(Legend) ->
-    ["This holds if each receive of a token ", seqaudit_legend:present(Legend), ", and if no process took its token "
-     "off and set one of the same label again, but where it's said.\n"].
+    ["This holds if each receive of a token ", seqaudit_legend:present(Legend), ", and if no process set a token of a "
+     "label that it or another process had had before, but where it's said.\n"].
 
 %% @doc What a row is called.
 -spec name(seqaudit_causes:id(), seqaudit_legend:legend()) -> unicode:chardata().

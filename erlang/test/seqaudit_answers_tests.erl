@@ -326,7 +326,7 @@ older_tools_test_() ->
             {_, Tool} ->
                 Completes = older(Tool, "renumber"),
                 Said = command(["audit"], Name, Completes),
-                has(Said, ["fits: 24 events of 5 processes, with 24 sends and 3 prints or sends that nobody reported",
+                has(Said, ["fits: 24 events of 5 processes, with 24 sends that nobody reported, 3 counts that no event here has",
                            "(status 0)"]),
                 nothing_of(Said, ["error: what is", "were renumbered"]),
                 checked(Name),

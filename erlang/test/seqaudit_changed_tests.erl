@@ -61,8 +61,8 @@ order_test_() ->
     with_tool(fun(Said) ->
         ok = write("order", swapped(line(13), line(14))),
         Late = Said(["audit"], "order"),
-        has(Late, ["because of shop#2 (late)", "or the two stand in the wrong order.\n"
-                   "What to look at: events of one process that stand in another order than they happened in; a token",
+        has(Late, ["because of shop#2 (late)", "or the two are in the wrong order.\n"
+                   "What to look at: events of one process that are in another order than they happened in; a token",
                    "A reset alone wouldn't explain it. Cut between client#0 and client#1, between shop#0 and shop#1, "
                    "not all parts fit:\npart 1: fits", "\npart 2: doesn't fit"]),
         has_not(Late, ["A reset would"])

@@ -148,18 +148,18 @@ fits_test() ->
            "{seq_trace,17,{'receive',{0,3},<0.30.0>,<0.31.0>,8}}\n"
            "{seq_trace,17,{send,{63,64},<0.31.0>,<0.30.0>,7}}\n",
     has(said((outcome(fits, streams(Gaps)))#{renumbered := true}),
-        ["fits: 5 events of 2 processes, with 1 send and 2 prints or sends that nobody reported, 1 jump of a counter; "
+        ["fits: 5 events of 2 processes, with 1 send that nobody reported, 2 counts that no event here has, 1 jump of a counter; "
          "the cause of 3 events isn't known",
-         "A counter jumps if it stands higher than anything reported explains: that of alice once.",
+         "A counter jumps if it is higher than anything reported explains: that of alice once.",
          "What nobody reported:\n",
          "  alice sends spawned ",
          "to bob & <co>, serial {0,3}, label 17, received as bob & <co>#0\n",
-         "sends whose receives weren't reported either: 2 of alice.\n",
+         "sends whose receives weren't reported either, unless a token's serial was set by hand (set_token/2): 2 of alice.\n",
          "Before the first send or print here, the counter of alice stood at 4,999.\n",
          "it moves the counter of the process that asked for it: that of bob & <co> once.\n",
          "the serials shown here are the node's own"]),
     has(said((outcome(fits, streams(Gaps)))#{cut => true}),
-        ["with 1 send and 2 prints or sends that nobody reported or that the cut took away, ",
+        ["with 1 send that nobody reported or that the cut took away, 2 counts that no event here has, ",
          "What nobody reported, or what the cut took away:\n"]).
 
 %% Of many processes the first are named, and so are the places of a reset.

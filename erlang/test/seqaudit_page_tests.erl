@@ -3,7 +3,8 @@
 
 -export([production_test_/0, chain_test_/0, unreceived_test_/0, hostile_test_/0, large_test_/0, reset_test_/0,
          pictures_test_/0,
-         data_test/0, whole_test_/0, whole_text_test/0, limit_test_/0, most_test/0, damaged_messages_test/0]).
+         data_test/0, whole_test_/0, whole_text_test/0, limit_test_/0, most_test/0, damaged_messages_test/0,
+         copies_arent_drawn_test/0]).
 
 chain_test_() ->
     {timeout, 180, fun() -> driven("chain", "chain", chain()) end}.
@@ -162,6 +163,17 @@ long_messages(Name) ->
     {ok, Streams} = seqaudit_bundle:read(Bundle ++ ".seqtrace"),
     #{name => Bundle, legend => Legend, times => #{}, losses => [], cut => "", parts => [],
       outcome => #{said => fits, streams => Streams, renumbered => false, tool => there, answer => <<>>}}.
+
+%% As charts and `why', the page leaves copies out.
+copies_arent_drawn_test() ->
+    #{outcome := #{streams := Streams} = Outcome} = Audited = long_messages("copies_on_page"),
+    [Place | _] = [{Pid, At} || {Pid, [#{at := At} | _]} <- Streams],
+    Rows = fun(Shown) ->
+                   {ok, Page} = seqaudit_page:html(Audited#{outcome := Shown, timed => seqaudit_times:none()}, <<>>),
+                   {match, [{_, Size}]} = re:run(Page, "\"how\":\"([a-z]*)\"", [{capture, all_but_first}]),
+                   Size
+           end,
+    true = Rows(Outcome#{twice => [{Place, Place}]}) =:= Rows(Outcome) - 1.
 
 %% The longest texts are cut to the greatest length at which all fit, and none if they fit.
 most_test() ->

@@ -110,11 +110,11 @@ token_put_back_test_() ->
     end, fun(Command) ->
         Audit = Command(["audit"]),
         has(Audit, ["fits: 9 events of 2 processes; nothing is known to be missing\n",
-                    "A token was put back here (seq_trace:set_token/1): before worker#1, which is after worker#0. ",
+                    "A token was put back here (seq_trace:set_token/1), or its serial was set by hand: before worker#1, which is after worker#0. ",
                     "audited were the prevs that the machine would have given these events"]),
         has_none(Audit, ["nobody reported", "unknown message"]),
         has(Command(["why", "--event", "asker#5"]),
-            ["because (a token was put back here) worker#0: worker receives {", "because asker#4: asker sends "]),
+            ["because (a token was put back here, or its serial set by hand) worker#0: worker receives {", "because asker#4: asker sends "]),
         has(Command(["chart", "--label", "1"]), ["{answer,7}  after worker#0, whose token was put back\n",
                                                  "answered  after worker#0, whose token was put back\n"])
     end).
@@ -320,17 +320,17 @@ kept_tokens_test_() ->
     end, fun(Command) ->
         Audit = Command(["audit"]),
         has(Audit, [" of 5 processes; nothing is known to be missing\n",
-                    "A token was put back here (seq_trace:set_token/1): before keeper#3, which is after keeper#0",
+                    "A token was put back here (seq_trace:set_token/1), or its serial was set by hand: before keeper#3, which is after keeper#0",
                     "audited were the counts that the machine would have given all events", "(status 0)"]),
         has(Command(["why", "--event", "client2#20"]),
-            ["because (a token was put back here) keeper#1: keeper receives {"]),
+            ["because (a token was put back here, or its serial set by hand) keeper#1: keeper receives {"]),
         {ok, Streams} = seqaudit_bundle:read(seqaudit_audits:file("kept_tokens") ++ ".seqtrace"),
         case seqaudit_outcome:ask(Streams) of
             {ok, Outcome} -> ordered(seqaudit_outcome:rows(Outcome), #{});
             {error, {no_program, _, _}} -> skipped
         end,
         has(Command(["why", "--event", "client3#10"]),
-            ["because (a token was put back here) keeper#2: keeper receives {"])
+            ["because (a token was put back here, or its serial set by hand) keeper#2: keeper receives {"])
     end).
 
 %% No event comes before its cause.
@@ -415,8 +415,8 @@ flags_test_() ->
      || {Flags, Said} <- [{['receive', print], "fits: 6 events of 2 processes, with 4 sends that nobody reported\n"},
                           {[send, print], "fits: 6 events of 2 processes, with 3 receives that nobody reported; 1 "
                                           "message has no"},
-                          {[send, 'receive'], "fits: 8 events of 2 processes, with 1 print or send that nobody "
-                                              "reported\n"}]].
+                          {[send, 'receive'], "fits: 8 events of 2 processes, with 1 count that no event here "
+                                              "has\n"}]].
 
 %% By chance a counter is where the answer of a spawn would have moved it, at 16 * 3 + 15: nothing was spawned.
 high_counter_test_() ->
@@ -442,7 +442,7 @@ high_counter_test_() ->
         left([client, printer])
     end, fun(Command) ->
         Audit = Command(["audit"]),
-        has(Audit, ["fits: 9 events of 2 processes, with 60 prints or sends that nobody reported\n"]),
+        has(Audit, ["fits: 9 events of 2 processes, with 60 counts that no event here has\n"]),
         has_none(Audit, ["spawn", "nothing is known to be missing"])
     end).
 

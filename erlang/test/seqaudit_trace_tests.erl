@@ -234,7 +234,7 @@ start_refuses_test() ->
     {error, {already_started, _} = Reason} = seqaudit_trace:start(),
     true = is_list(seqaudit_trace:format_error(Reason)),
     {ok, #{events := 0}} = seqaudit_trace:stop(),
-    {error, {file, _, enoent}} = seqaudit_trace:start(#{name => "/no/such/folder/x"}),
+    {error, {unwritable, _, enoent}} = seqaudit_trace:start(#{name => "/no/such/folder/x"}),
     {error, {node, 'nobody@localhost', unreachable}} =
         seqaudit_trace:start(#{name => seqaudit_audits:file("nobody"),
                                nodes => [node(), 'nobody@localhost']}),
