@@ -389,8 +389,9 @@ too_many_test_() ->
         ok = file:change_mode(Script, 8#755),
         Script
     end, fun(_There, Name, Says, End) ->
+        %% The programs may be plain Rust.
         Fits = "period [0-9]+: [0-9]+ events, too many for the programs at once; of ([0-9]+) labels \\1 fit by "
-               "themselves; cut .*; not kept",
+               "themselves( \\(by programs without proofs\\))?; cut .*; not kept",
         seqaudit_test_nodes:until(fun() -> length(Says(Fits)) >= 2 end),
         0 = End(),
         [] = filelib:wildcard(Name ++ ".*")
