@@ -169,10 +169,8 @@ arrow is where its message was received. If the sender did something else in
 between, a note says where it sent, and the arrow is dotted. An arrow with a
 cross has no reported receive, and one from `not reported` no reported send.
 With --complete what was added is dashed or dotted, and says `added`.
-Status 1: nothing has the label, or there is nothing to draw (`no events`); or
-the trace can't be paired (seqtool audit); or, of --mermaid, a send or print
-counts no higher than a receive before it; or with --complete no run without a
-reset has it (`never`, as of seqtool complete).
+Status 1: nothing has the label, or there is nothing to draw; or the trace can't
+be paired (seqtool audit), or no run without a reset has it (seqtool complete).
 Status 5: `long chart`, the tables would have more than 2,048,000,000 marks.";
 
 pub(crate) const EXPORT: &str = "Writes the trace for Perfetto, ShiViz or OpenTelemetry";
