@@ -128,6 +128,28 @@ pub no_room : {S T E : Type 0} (puts : S → List ℕ → S → Type 0) (failed 
     → IsErr r → WritesPart puts failed (x ++ []) a b → WritesOn puts failed text a b x y r
 no_room puts failed text x y r is h = on_err text x y r is (part_longer puts failed [] text x h)
 
+-- the front of what waited went
+pub front_went : {S : Type 0} (puts : S → List ℕ → S → Type 0) (failed : S → Bool) (front back : List ℕ) {a b : S}
+    {waited : List ℕ}
+    → waited ≡ front ++ back → Goes puts failed front a b [] [] → Goes puts failed [] a b waited back
+front_went puts failed front back {waited} parts g =
+    record {
+      written = g.written;
+      put = g.put;
+      whole =
+          append-nil waited ∙ parts ∙ ap (λ (w : List ℕ). w ++ back) (g.whole ∙ append-nil g.written);
+      mark = g.mark;
+      alive = g.alive;
+    }
+
+-- it failed on the way
+pub front_failed : {S : Type 0} (puts : S → List ℕ → S → Type 0) (failed : S → Bool) (front back : List ℕ) {a b : S}
+    {waited : List ℕ}
+    → waited ≡ front ++ back → WritesPart puts failed front a b → WritesPart puts failed (waited ++ []) a b
+front_failed puts failed front back {a} {b} {waited} parts h =
+    subst (λ (w : List ℕ). WritesPart puts failed w a b) (sym (append-nil waited ∙ parts))
+    (part_longer puts failed front back [] h)
+
 -- the text so far and one more failed, so all of it did
 pub failed_among : {S : Type 0} (puts : S → List ℕ → S → Type 0) (failed : S → Bool) (t u v : List ℕ) {whole : List ℕ}
     {a b c : S} {x y : List ℕ}

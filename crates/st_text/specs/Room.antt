@@ -3,9 +3,17 @@
 use Rattle.std.specs.Prelude.{◌≡◌, ℕ, ◌+◌, ◌≤◌, List, ◌++◌}
 use Rattle.arrayvec.specs.ArrayVec.{array_vec_len, ArrayVec}
 
--- a buffer: 32 lines of the greatest room, so that a sink is called once for some kilobytes
+-- what is written at once
+abbrev pub piece_room : ℕ
+piece_room = 8192
+
+-- a line and its newline: an event's room, rounded up
+abbrev pub line_room : ℕ
+line_room = 256
+
+-- a buffer: while less than a piece waits, there is room for a line
 abbrev pub buffer_room : ℕ
-buffer_room = 8192
+buffer_room = piece_room + line_room
 
 -- the buffer has room for so many bytes more
 abbrev pub HasRoom : ℕ → ArrayVec ℕ → Type 0
@@ -15,10 +23,6 @@ HasRoom room buffer = array_vec_len buffer + room ≤ buffer_room
 pub record Puts (room : ℕ) (text : List ℕ) (old new : ArrayVec ℕ) : Type 0 where
   pub items : new.items ≡ old.items ++ text
   pub len : array_vec_len new ≤ array_vec_len old + room
-
--- a line and its newline: an event's room, rounded up
-abbrev pub line_room : ℕ
-line_room = 256
 
 -- the digits of 18446744073709551615
 abbrev pub number_room : ℕ

@@ -30,7 +30,7 @@ pub use feed::Feed;
 pub use limits::Limits;
 pub use lines::{TextLine, send_line, write_line};
 pub use reader::{read, read_within};
-pub use sink::{Device, flush, make_room};
+pub use sink::{Device, flush, make_room, put_all};
 pub use spell::{
     Buffer, put_act, put_bytes, put_event, put_number, put_numbered, put_pid, put_serial,
 };

@@ -1,12 +1,12 @@
 //! Bytes on their way to a sink: all of a piece, and through a buffer on the stack. Nothing here
 //! knows of lines.
 
-ghost use Rattle.std.specs.Prelude.{◌≡◌, [], OnOk, OnErr};
+ghost use Rattle.std.specs.Prelude.{◌≡◌, ◌≤◌, ◌-◌, [], drop, OnOk, OnErr};
 ghost use Rattle.arrayvec.specs.ArrayVec.{array_vec_len};
-ghost use Rattle.st_text.specs.Room.{line_room, HasRoom};
+ghost use Rattle.st_text.specs.Room.{line_room, piece_room, HasRoom};
 ghost use Rattle.st_text.specs.Writing.{WritesOn};
 
-use crate::spell::Buffer;
+use crate::spell::{Buffer, PIECE};
 use st_core::ByteSink;
 use thiserror::Error;
 
@@ -16,11 +16,8 @@ use thiserror::Error;
 #[error("the device failed")]
 pub struct Device;
 
-/// The most bytes that a line and its newline take here: an event's room, rounded up.
-pub(crate) const LINE: usize = 256;
-
-/// Writes all the bytes, in as many calls as the sink needs.
-pub(crate) fn put_all<S: ByteSink>(sink: &mut S, bytes: &[u8]) -> Result<(), Device>
+/// Writes all the bytes, in as many calls as the sink needs. Takes no memory.
+pub fn put_all<S: ByteSink>(sink: &mut S, bytes: &[u8]) -> Result<(), Device>
     ensures { WritesOn S.puts S.failed bytes.now sink.old sink.new [] [] result }
 {
     let mut rest = bytes;
@@ -46,15 +43,27 @@ pub fn flush<S: ByteSink>(sink: &mut S, buffer: &mut Buffer) -> Result<(), Devic
     Ok(())
 }
 
-/// Makes room for a line: if less is left, what waits is written.
+/// Removes a piece, which was written, from the front.
+fn remove_piece(buffer: &mut Buffer)
+    requires { piece_room ≤ array_vec_len buffer.old }
+    ensures items { buffer.new.items ≡ drop piece_room buffer.old.items }
+    ensures len { array_vec_len buffer.new ≡ array_vec_len buffer.old - piece_room }
+{
+    let len = buffer.len();
+    buffer.as_mut_slice().copy_within(PIECE..len, 0);
+    buffer.truncate(len - PIECE);
+}
+
+/// Makes room for a line: if a piece waits, it is written.
 pub fn make_room<S: ByteSink>(sink: &mut S, buffer: &mut Buffer) -> Result<(), Device>
     ensures goes { WritesOn S.puts S.failed [] sink.old sink.new
         buffer.old.items buffer.new.items result }
     ensures room { OnOk result (HasRoom line_room buffer.new) }
     ensures err { OnErr result (buffer.new.items ≡ buffer.old.items) }
 {
-    if buffer.remaining_capacity() < LINE {
-        flush(sink, buffer)?;
+    if buffer.len() >= PIECE {
+        put_all(sink, buffer.as_slice().split_at(PIECE).0)?;
+        remove_piece(buffer);
     }
     Ok(())
 }

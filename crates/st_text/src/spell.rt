@@ -12,9 +12,15 @@ ghost use Rattle.st_text.specs.Room.{component_room, want_room, flags_room, toke
 use arrayvec::ArrayVec;
 use st_core::{Act, Component, Event, Flags, Kind, Label, Pid, Serial, Token, Want};
 
-/// The most bytes that wait to be written: 32 lines, so that a sink is called once for some
-/// kilobytes.
-const BUFFER: usize = 8192;
+/// So many bytes are written at once: whole pages of the system's memory, since a file takes parts
+/// of a page more slowly.
+pub(crate) const PIECE: usize = 8192;
+
+/// The most bytes that a line and its newline take: an event's room, rounded up.
+const LINE: usize = 256;
+
+/// The most bytes that wait to be written: a piece less one, and a line.
+const BUFFER: usize = PIECE + LINE;
 
 /// Bytes that wait to be written.
 pub type Buffer = ArrayVec<u8, BUFFER>;
