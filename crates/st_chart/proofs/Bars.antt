@@ -1,6 +1,6 @@
 -- A lane that is no end of an item has a bar, and so a run of such lanes has as many bars.
 use Rattle.std.proofs.Common.{◌≡◌, ℕ, ◌+◌, ◌-◌, ◌≤◌, zero, suc, Bool, true, false, ◌||◌, List, [], ◌∷◌, ◌++◌}
-use Rattle.std.proofs.Common.{length, refl, sym, ap, ◌∙◌, append_assoc, codes, arith}
+use Rattle.std.proofs.Common.{length, refl, sym, ap, subst, ◌∙◌, append_assoc, codes, arith}
 use Rattle.std.proofs.Math.ListN.{replicate}
 use Rattle.std.proofs.lemmas.List.{append-nil}
 use Rattle.std.proofs.lemmas.List.Concat.{flat_map-append}
@@ -10,6 +10,8 @@ use Rattle.st_core.specs.declared.types.Pid.{Pid}
 use Rattle.st_core.specs.declared.types.Kind.{Kind}
 use Rattle.st_core.specs.declared.types.Kind.TheVariants as kind
 use Rattle.st_core.specs.Pid.{pid_eq}
+use Rattle.st_text.specs.Writing.{Goes, WritesPart}
+use Rattle.st_text.proofs.ForCallers.{part_longer, part_then}
 use Rattle.st_order.specs.declared.item.Item.{Item}
 use Rattle.st_order.specs.declared.item.Item.TheVariants as item
 use Rattle.st_chart.specs.declared.charted_item.ChartedItem.{ChartedItem}
@@ -41,6 +43,19 @@ pub bars_more : (count left run : ℕ) → left ≤ count → run ≤ left
 bars_more count left run within upto =
     let more : count - left + run ≡ count - (left - run) = omega (arith, within, upto) in
     bars_then (count - left) run ∙ ap bars more
+
+-- the next run failed
+pub bars_failed : {S : Type 0} (puts : S → List ℕ → S → Type 0) (failed : S → Bool) (count left run : ℕ)
+    {a b c : S} {x y : List ℕ}
+    → left ≤ count → run ≤ left → Goes puts failed (bars (count - left)) a b x y
+    → WritesPart puts failed (y ++ bars run) b c → WritesPart puts failed (x ++ bars count) a c
+bars_failed puts failed count left run {a} {c} {x} within upto g h =
+    let behind : left - run ≤ count = omega (arith, within) in
+    let part = part_then puts failed (bars (count - left)) (bars run) g h in
+    let more =
+    subst (λ (t : List ℕ). WritesPart puts failed (x ++ t) a c) (bars_more count left run within upto) part in
+    subst (λ (t : List ℕ). WritesPart puts failed (x ++ t) a c) (bars_whole count (left - run) behind)
+    (part_longer puts failed (bars (count - (left - run))) (bars (left - run)) x more)
 
 -- ---- the marks of lanes
 

@@ -7,8 +7,8 @@ use Rattle.st_core.specs.declared.types.Pid.{Pid}
 use Rattle.st_core.specs.declared.types.Label.{Label}
 use Rattle.st_core.specs.Run.{Stream}
 use Rattle.st_order.specs.declared.item.Item.{Item}
-use Rattle.st_text.specs.Writing.{Goes}
-use Rattle.st_text.proofs.ForCallers.{goes_then}
+use Rattle.st_text.specs.Writing.{Goes, WritesPart}
+use Rattle.st_text.proofs.ForCallers.{goes_then, part_longer, part_then}
 use Rattle.st_chart.specs.declared.charted_item.ChartedItem.{ChartedItem}
 use Rattle.st_chart.specs.Chart.{charted_of, all_charted, item_line, lane_line, lane_lines}
 use Rattle.st_chart.specs.Parts.{line_in}
@@ -44,6 +44,19 @@ pub lanes_more : {S : Type 0} (puts : S → List ℕ → S → Type 0) (failed :
 lanes_more puts failed ps i d {a} {c} {x} {z} lt g h =
     subst (λ (t : List ℕ). Goes puts failed t a c x z) (sym (lane_more ps i d lt))
     (goes_then puts failed (lane_lines 1 (take i ps)) (lane_line (i + 1) (get_or ps i d)) g h)
+
+-- the next line failed
+pub lanes_failed : {S : Type 0} (puts : S → List ℕ → S → Type 0) (failed : S → Bool) (ps : List Pid) (i : ℕ) (d : Pid)
+    {a b c : S} {x y : List ℕ}
+    → i < length ps → Goes puts failed (lane_lines 1 (take i ps)) a b x y
+    → WritesPart puts failed (y ++ lane_line (i + 1) (get_or ps i d)) b c
+    → WritesPart puts failed (x ++ lane_lines 1 ps) a c
+lanes_failed puts failed ps i d {a} {c} {x} lt g h =
+    let rest = lane_lines (1 + length (take (i + 1) ps)) (drop (i + 1) ps) in
+    let part = part_then puts failed (lane_lines 1 (take i ps)) (lane_line (i + 1) (get_or ps i d)) g h in
+    let upto = subst (λ (t : List ℕ). WritesPart puts failed (x ++ t) a c) (sym (lane_more ps i d lt)) part in
+    subst (λ (t : List ℕ). WritesPart puts failed (x ++ t) a c) (lanes_split ps (i + 1))
+    (part_longer puts failed (lane_lines 1 (take (i + 1) ps)) rest x upto)
 
 module _ (streams : List Stream) (label : Label) (caused : List Stream) (ps : List Pid) where
   abbrev pub line_by : Option ChartedItem → List ℕ

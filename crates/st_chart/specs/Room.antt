@@ -14,10 +14,6 @@ verdict_room = 8 + pid_room
 abbrev pub reason_room : ℕ
 reason_room = 10 + place_room
 
--- a letter, or what stands for one, right in four places
-abbrev pub mark_room : ℕ
-mark_room = 4
-
 abbrev pub item_word_room : ℕ
 item_word_room = 8
 

@@ -15,12 +15,13 @@ ghost use Rattle.st_chart.specs.Sheet.{line_on, sheet_lines};
 use crate::charted_item::{ChartedItem, is_any_charted};
 use crate::fault::ChartFault;
 use crate::lanes::{lanes_of, lanes_to_ends};
-use crate::marks::{RUN, put_bars, put_item, put_mark};
+use crate::marks::{RUN, bars_of, mark_of, put_item};
+use crate::page::{Page, put_on, turn};
 use crate::sheet::Sheet;
 use st_chain::Causes;
 use st_core::{ByteSink, Label, Pid, Streams};
 use st_order::Item;
-use st_text::{Buffer, Device, flush, make_room, put_bytes, put_number, put_pid};
+use st_text::{Buffer, Device, put_bytes, put_number, put_pid};
 use std::alloc::Global;
 
 /// In so many lanes the marks are written faster one by one than in runs.
@@ -49,27 +50,24 @@ fn put_lane_line(buffer: &mut Buffer, number: u64, pid: Pid)
 }
 
 /// Writes the line that names the label.
-fn write_label<W: ByteSink>(writer: &mut W, buffer: &mut Buffer, label: Label) -> Result<(), Device>
+fn write_label<W: ByteSink>(writer: &mut W, page: &mut Page, label: Label) -> Result<(), Device>
     ensures { WritesOn W.puts W.failed (label_line label)
-        writer.old writer.new buffer.old.items buffer.new.items result }
+        writer.old writer.new page.old.waits.items page.new.waits.items result }
 {
-    make_room(writer, buffer)?;
-    put_label_line(buffer, label);
-    Ok(())
+    page.line.clear();
+    put_label_line(&mut page.line, label);
+    put_on(writer, &mut page.waits, page.line.as_slice())
 }
 
 /// Writes a line for each lane.
-fn write_lanes<W: ByteSink>(
-    writer: &mut W,
-    buffer: &mut Buffer,
-    lanes: &[Pid],
-) -> Result<(), Device>
+fn write_lanes<W: ByteSink>(writer: &mut W, page: &mut Page, lanes: &[Pid]) -> Result<(), Device>
     ensures { WritesOn W.puts W.failed (lane_lines 1 lanes.now)
-        writer.old writer.new buffer.old.items buffer.new.items result }
+        writer.old writer.new page.old.waits.items page.new.waits.items result }
 {
     for (i, pid) in lanes.iter().enumerate() {
-        make_room(writer, buffer)?;
-        put_lane_line(buffer, i as u64 + 1, *pid);
+        page.line.clear();
+        put_lane_line(&mut page.line, i as u64 + 1, *pid);
+        put_on(writer, &mut page.waits, page.line.as_slice())?;
     }
     Ok(())
 }
@@ -77,31 +75,28 @@ fn write_lanes<W: ByteSink>(
 /// Writes an item's mark in each of these lanes.
 fn write_each_mark<W: ByteSink>(
     writer: &mut W,
-    buffer: &mut Buffer,
+    page: &mut Page,
     lanes: &[Pid],
     charted: &ChartedItem,
 ) -> Result<(), Device>
     ensures { WritesOn W.puts W.failed (flat_map (mark charted.now) lanes.now)
-        writer.old writer.new buffer.old.items buffer.new.items result }
+        writer.old writer.new page.old.waits.items page.new.waits.items result }
 {
     for lane in lanes {
-        make_room(writer, buffer)?;
-        put_mark(buffer, charted, *lane);
+        put_on(writer, &mut page.waits, mark_of(charted, *lane))?;
     }
     Ok(())
 }
 
-/// Writes the bars of so many lanes. A line may be longer than the buffer, so room is made for each
-/// run of them.
-fn write_bars<W: ByteSink>(writer: &mut W, buffer: &mut Buffer, count: usize) -> Result<(), Device>
+/// Writes the bars of so many lanes, a run of them at a time.
+fn write_bars<W: ByteSink>(writer: &mut W, page: &mut Page, count: usize) -> Result<(), Device>
     ensures { WritesOn W.puts W.failed (bars count)
-        writer.old writer.new buffer.old.items buffer.new.items result }
+        writer.old writer.new page.old.waits.items page.new.waits.items result }
 {
     let mut left = count;
     while left > 0 {
         let run = left.min(RUN);
-        make_room(writer, buffer)?;
-        put_bars(buffer, run);
+        put_on(writer, &mut page.waits, bars_of(run))?;
         left -= run;
     }
     Ok(())
@@ -110,108 +105,106 @@ fn write_bars<W: ByteSink>(writer: &mut W, buffer: &mut Buffer, count: usize) ->
 /// Writes an item's marks in these lanes, all of which but the last get bars.
 fn write_run<W: ByteSink>(
     writer: &mut W,
-    buffer: &mut Buffer,
+    page: &mut Page,
     lanes: &[Pid],
     charted: &ChartedItem,
 ) -> Result<(), Device>
     requires { HasNoEndBeforeLast charted.now.event lanes.now }
     ensures { WritesOn W.puts W.failed (flat_map (mark charted.now) lanes.now)
-        writer.old writer.new buffer.old.items buffer.new.items result }
+        writer.old writer.new page.old.waits.items page.new.waits.items result }
 {
     let Some((last, others)) = lanes.split_last() else {
         return Ok(());
     };
-    write_bars(writer, buffer, others.len())?;
-    make_room(writer, buffer)?;
-    put_mark(buffer, charted, *last);
-    Ok(())
+    write_bars(writer, page, others.len())?;
+    put_on(writer, &mut page.waits, mark_of(charted, *last))
 }
 
 /// Writes an item's mark in each of many lanes: bars up to the lanes of its ends.
 fn write_runs<W: ByteSink>(
     writer: &mut W,
-    buffer: &mut Buffer,
+    page: &mut Page,
     lanes: &[Pid],
     charted: &ChartedItem,
 ) -> Result<(), Device>
     requires { IsRising lanes.now }
     ensures { WritesOn W.puts W.failed (flat_map (mark charted.now) lanes.now)
-        writer.old writer.new buffer.old.items buffer.new.items result }
+        writer.old writer.new page.old.waits.items page.new.waits.items result }
 {
     let (first, second) = lanes_to_ends(lanes, &charted.event);
     let (front, back) = lanes.split_at(second);
     let (left, middle) = front.split_at(first);
-    write_run(writer, buffer, left, charted)?;
-    write_run(writer, buffer, middle, charted)?;
-    write_run(writer, buffer, back, charted)
+    write_run(writer, page, left, charted)?;
+    write_run(writer, page, middle, charted)?;
+    write_run(writer, page, back, charted)
 }
 
 /// Writes an item's mark in each lane.
 fn write_marks<W: ByteSink>(
     writer: &mut W,
-    buffer: &mut Buffer,
+    page: &mut Page,
     lanes: &[Pid],
     charted: &ChartedItem,
 ) -> Result<(), Device>
     requires { IsRising lanes.now }
     ensures { WritesOn W.puts W.failed (flat_map (mark charted.now) lanes.now)
-        writer.old writer.new buffer.old.items buffer.new.items result }
+        writer.old writer.new page.old.waits.items page.new.waits.items result }
 {
     if lanes.len() <= FEW {
-        write_each_mark(writer, buffer, lanes, charted)
+        write_each_mark(writer, page, lanes, charted)
     } else {
-        write_runs(writer, buffer, lanes, charted)
+        write_runs(writer, page, lanes, charted)
     }
 }
 
 /// Writes the line of an item.
 fn write_item<W: ByteSink>(
     writer: &mut W,
-    buffer: &mut Buffer,
+    page: &mut Page,
     sheet: &Sheet<'_>,
     charted: &ChartedItem,
 ) -> Result<(), Device>
     requires { IsRising sheet.now.lanes.now }
     ensures { WritesOn W.puts W.failed
         (item_line sheet.now.causes.now sheet.now.lanes.now charted.now)
-        writer.old writer.new buffer.old.items buffer.new.items result }
+        writer.old writer.new page.old.waits.items page.new.waits.items result }
 {
-    write_marks(writer, buffer, sheet.lanes, charted)?;
-    make_room(writer, buffer)?;
-    put_item(buffer, sheet.causes, charted);
-    Ok(())
+    write_marks(writer, page, sheet.lanes, charted)?;
+    page.line.clear();
+    put_item(&mut page.line, sheet.causes, charted);
+    put_on(writer, &mut page.waits, page.line.as_slice())
 }
 
 /// Writes the line of an item, if it has the label.
 fn write_if_charted<W: ByteSink>(
     writer: &mut W,
-    buffer: &mut Buffer,
+    page: &mut Page,
     sheet: &Sheet<'_>,
     item: Item,
 ) -> Result<(), Device>
     requires { IsRising sheet.now.lanes.now }
     ensures { WritesOn W.puts W.failed (line_on sheet.now item)
-        writer.old writer.new buffer.old.items buffer.new.items result }
+        writer.old writer.new page.old.waits.items page.new.waits.items result }
 {
     match ChartedItem::of(sheet.streams, sheet.label, item) {
         None => Ok(()),
-        Some(charted) => write_item(writer, buffer, sheet, &charted),
+        Some(charted) => write_item(writer, page, sheet, &charted),
     }
 }
 
 /// Writes the line of each item that has the label.
 fn write_items<W: ByteSink>(
     writer: &mut W,
-    buffer: &mut Buffer,
+    page: &mut Page,
     sheet: &Sheet<'_>,
     items: &[Item],
 ) -> Result<(), Device>
     requires { IsRising sheet.now.lanes.now }
     ensures { WritesOn W.puts W.failed (flat_map (line_on sheet.now) items.now)
-        writer.old writer.new buffer.old.items buffer.new.items result }
+        writer.old writer.new page.old.waits.items page.new.waits.items result }
 {
     for item in items {
-        write_if_charted(writer, buffer, sheet, *item)?;
+        write_if_charted(writer, page, sheet, *item)?;
     }
     Ok(())
 }
@@ -219,28 +212,33 @@ fn write_items<W: ByteSink>(
 /// Writes the label, the lanes and the items.
 fn write_chart<W: ByteSink>(
     writer: &mut W,
-    buffer: &mut Buffer,
+    page: &mut Page,
     sheet: &Sheet<'_>,
     items: &[Item],
 ) -> Result<(), Device>
     requires { IsRising sheet.now.lanes.now }
     ensures { WritesOn W.puts W.failed (sheet_lines sheet.now items.now)
-        writer.old writer.new buffer.old.items buffer.new.items result }
+        writer.old writer.new page.old.waits.items page.new.waits.items result }
 {
-    write_label(writer, buffer, sheet.label)?;
-    write_lanes(writer, buffer, sheet.lanes)?;
-    write_items(writer, buffer, sheet, items)
+    write_label(writer, page, sheet.label)?;
+    write_lanes(writer, page, sheet.lanes)?;
+    write_items(writer, page, sheet, items)
 }
 
 /// Writes a chart with these lanes to the writer.
-fn send_chart<W: ByteSink>(writer: &mut W, sheet: &Sheet<'_>, items: &[Item]) -> Result<(), Device>
+fn send_chart<W: ByteSink>(
+    alloc: Global,
+    writer: &mut W,
+    sheet: &Sheet<'_>,
+    items: &[Item],
+) -> Result<(), Device>
     requires { IsRising sheet.now.lanes.now }
     ensures { WritesText W.puts W.failed (sheet_lines sheet.now items.now)
         writer.old writer.new result }
 {
-    let mut buffer = Buffer::new();
-    write_chart(writer, &mut buffer, sheet, items)?;
-    flush(writer, &mut buffer)
+    let mut page = Page::new(alloc);
+    write_chart(writer, &mut page, sheet, items)?;
+    turn(writer, &mut page.waits)
 }
 
 /// Writes the chart of the items that have this label, in their order: its lanes, and a line for
@@ -272,7 +270,7 @@ pub fn chart<W: ByteSink>(
         lanes: &lanes,
         label,
     };
-    match send_chart(writer, &sheet, items) {
+    match send_chart(alloc, writer, &sheet, items) {
         Ok(()) => Ok(()),
         Err(Device) => Err(ChartFault::Device),
     }

@@ -1,8 +1,8 @@
 //! What the program shows of collected streams: the report of what the auditor found, and the chart
 //! of one label, a picture in text of which message caused which.
 //!
-//! Both are defined byte for byte in `specs/`, and written through a buffer on the stack. Nothing
-//! here judges: the findings, the order and the causes come from the crates below.
+//! Both are defined byte for byte in `specs/`. A report is written through a buffer on the stack, a
+//! chart through one on the heap. Nothing here judges: the findings, the order and the causes come from the crates below.
 #![tactic(auto)]
 
 mod charted_item;
@@ -10,6 +10,7 @@ mod charting;
 mod fault;
 mod lanes;
 mod marks;
+mod page;
 mod reporting;
 mod sheet;
 mod words;

@@ -6,7 +6,7 @@ ghost use Rattle.st_text.specs.Spelling.{ended_line};
 ghost use Rattle.st_chart.specs.Chart.{letter, mark, item_word, cause_words, origin_words};
 ghost use Rattle.st_chart.specs.Parts.{bars};
 ghost use Rattle.st_chart.specs.Chart.{item_words};
-ghost use Rattle.st_chart.specs.Room.{mark_room, item_word_room, origin_room, item_room};
+ghost use Rattle.st_chart.specs.Room.{item_word_room, origin_room, item_room};
 
 use crate::charted_item::{ChartedItem, is_end};
 use crate::words::put_place;
@@ -15,47 +15,44 @@ use st_core::{Kind, Pid};
 use st_order::Item;
 use st_text::{Buffer, put_bytes, put_number, put_serial};
 
-/// So many lanes get their bars at once: their bars take a line's room.
-pub(crate) const RUN: usize = 64;
+/// So many lanes get their bars at once, which take 1,024 bytes.
+pub(crate) const RUN: usize = 256;
 
 /// The bars of a run.
 static BARS: [[u8; 4]; RUN] = [*b"   |"; RUN];
 
-/// Appends the bars of so many lanes.
-pub(crate) fn put_bars(buffer: &mut Buffer, count: usize)
-    requires run { count ≤ 64 }
-    requires room { HasRoom line_room buffer.old }
-    ensures { buffer.new.items ≡ buffer.old.items ++ bars count }
+/// The bars of so many lanes.
+pub(crate) fn bars_of(count: usize) -> &'static [u8]
+    requires { count ≤ 256 }
+    ensures { result.now ≡ bars count }
 {
-    put_bytes(buffer, BARS[..count].as_flattened());
+    BARS[..count].as_flattened()
 }
 
-/// Appends the mark of the lane in which an item happened.
-fn put_letter(buffer: &mut Buffer, item: Item, kind: Kind)
-    requires { HasRoom mark_room buffer.old }
-    ensures { buffer.new.items ≡ buffer.old.items ++ letter item kind }
+/// The mark of the lane in which an item happened.
+fn letter_of(item: Item, kind: Kind) -> &'static [u8]
+    ensures { result.now ≡ letter item kind }
 {
     match item {
-        Item::Hidden(_, _) => put_bytes(buffer, b"   H"),
+        Item::Hidden(_, _) => b"   H",
         Item::Reported(_, _) => match kind {
-            Kind::Send => put_bytes(buffer, b"   S"),
-            Kind::Receive => put_bytes(buffer, b"   R"),
-            Kind::Print => put_bytes(buffer, b"   P"),
+            Kind::Send => b"   S",
+            Kind::Receive => b"   R",
+            Kind::Print => b"   P",
         },
     }
 }
 
-/// Appends an item's mark in a process's lane.
-pub(crate) fn put_mark(buffer: &mut Buffer, charted: &ChartedItem, lane: Pid)
-    requires { HasRoom mark_room buffer.old }
-    ensures { buffer.new.items ≡ buffer.old.items ++ mark charted.now lane }
+/// An item's mark in a process's lane.
+pub(crate) fn mark_of(charted: &ChartedItem, lane: Pid) -> &'static [u8]
+    ensures { result.now ≡ mark charted.now lane }
 {
     if charted.is_at(lane) {
-        put_letter(buffer, charted.item, charted.event.kind);
+        letter_of(charted.item, charted.event.kind)
     } else if is_end(&charted.event, lane) {
-        put_bytes(buffer, b"   .");
+        b"   ."
     } else {
-        put_bytes(buffer, b"   |");
+        b"   |"
     }
 }
 

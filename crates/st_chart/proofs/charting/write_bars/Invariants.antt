@@ -8,7 +8,7 @@ abbrev pub invariant-loop-left : goal.invariant-loop-left
 invariant-loop-left g l =
     (l.left ≤ l.count)
     × Goes g.W.ByteSink.puts g.W.ByteSink.failed (bars (l.count - l.left)) l.initial.writer l.writer
-    l.initial.buffer.items l.buffer.items
+    l.initial.page.waits.items l.page.waits.items
 
 abbrev pub decreases-loop-left : goal.decreases-loop-left
 decreases-loop-left g l = l.left

@@ -9,4 +9,4 @@ abbrev pub invariant-loop-item : goal.invariant-loop-item
 invariant-loop-item g l =
     Goes g.W.ByteSink.puts g.W.ByteSink.failed
     (flat_map (line_on l.sheet) (take l.item-index l.items)) l.initial.writer l.writer
-    l.initial.buffer.items l.buffer.items
+    l.initial.page.waits.items l.page.waits.items

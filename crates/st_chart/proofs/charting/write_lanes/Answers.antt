@@ -1,7 +1,6 @@
 -- Each turn puts the line of the next lane behind those before.
-use Rattle.st_text.proofs.ForCallers.{goes_still, on_err, room_then}
-use Rattle.st_chart.proofs.Rooms.{no_room_before}
-use Rattle.st_chart.proofs.Lines.{lanes_split, lanes_more}
+use Rattle.st_text.proofs.ForCallers.{goes_still, on_err}
+use Rattle.st_chart.proofs.Lines.{lanes_failed, lanes_more}
 use Rattle.st_chart.proofs.charting.write_lanes.Goals as goal
 
 pub loop-i-init : goal.loop-i-init
@@ -9,11 +8,15 @@ loop-i-init g c = goes_still g.W.ByteSink.puts g.W.ByteSink.failed
 
 pub loop-i-preserved : goal.loop-i-preserved
 loop-i-preserved g c =
-    lanes_more g.W.ByteSink.puts g.W.ByteSink.failed c.args.lanes.now c.loop-i.i _ c.loop-i-test.true c.loop-i.invariant
-    (room_then g.W.ByteSink.puts g.W.ByteSink.failed _ c.in_ok-make_room.ensures.goes c.put_lane_line.ensures)
+    let went =
+    rw (c.as_slice.ensures.value, c.put_lane_line.ensures, c.clear.ensures) at c.in_ok-put_on.ensures in
+    lanes_more g.W.ByteSink.puts g.W.ByteSink.failed c.args.lanes.now c.loop-i.i _ c.loop-i-test.true
+    c.loop-i.invariant went
 
-pub returns-in_err-make_room : goal.returns-in_err-make_room
-returns-in_err-make_room g c =
+pub returns-in_err-put_on : goal.returns-in_err-put_on
+returns-in_err-put_on g c =
+    let failed =
+    rw (c.as_slice.ensures.value, c.put_lane_line.ensures, c.clear.ensures) at c.in_err-put_on.ensures in
     on_err _ _ _ _ c.from_residual.ensures.0
-    (no_room_before g.W.ByteSink.puts g.W.ByteSink.failed _ (lanes_split c.args.lanes.now c.loop-i.i)
-    c.loop-i.invariant c.in_err-make_room.ensures.goes)
+    (lanes_failed g.W.ByteSink.puts g.W.ByteSink.failed c.args.lanes.now c.loop-i.i _ c.loop-i-test.true
+    c.loop-i.invariant failed)

@@ -1,6 +1,6 @@
 -- The mark of the last lane is behind the bars of the others.
 use Rattle.std.proofs.Common.{length, sym}
-use Rattle.st_text.proofs.ForCallers.{goes_still, goes_then, then_on, part_longer, on_err, room_then, no_room}
+use Rattle.st_text.proofs.ForCallers.{goes_still, then_on, part_longer, on_err}
 use Rattle.st_chart.specs.Chart.{mark}
 use Rattle.st_chart.specs.Parts.{bars}
 use Rattle.st_chart.proofs.Bars.{run_marks, no_marks}
@@ -21,18 +21,6 @@ returns-in_err-write_bars g c =
     (part_longer g.W.ByteSink.puts g.W.ByteSink.failed (bars (length others)) (mark c.args.charted.now last) _
     c.in_err-write_bars.ensures))
 
-pub returns-in_err-make_room : goal.returns-in_err-make_room
-returns-in_err-make_room g c =
-    let others = c.in-Some.others.now in
-    let last = c.in-Some.last.now in
-    let parts = rw c.in-Some.is at c.split_last.ensures.cases in
-    let marks = run_marks c.args.charted.now c.args.lanes.now others last c.requires parts.0 in
-    let end = mark c.args.charted.now last in
-    let is = c.from_residual-in_err-make_room.ensures.0 in
-    rw (sym marks)
-    (then_on g.W.ByteSink.puts g.W.ByteSink.failed (bars (length others)) end _ _ _ c.in_ok-write_bars.ensures
-    (no_room g.W.ByteSink.puts g.W.ByteSink.failed end _ _ _ is c.in_err-make_room.ensures.goes))
-
 pub returns : goal.returns
 returns g c =
     let others = c.in-Some.others.now in
@@ -41,5 +29,5 @@ returns g c =
     let marks = run_marks c.args.charted.now c.args.lanes.now others last c.requires parts.0 in
     let end = mark c.args.charted.now last in
     rw (sym marks)
-    (goes_then g.W.ByteSink.puts g.W.ByteSink.failed (bars (length others)) end c.in_ok-write_bars.ensures
-    (room_then g.W.ByteSink.puts g.W.ByteSink.failed end c.in_ok-make_room.ensures.goes c.put_mark.ensures))
+    (then_on g.W.ByteSink.puts g.W.ByteSink.failed (bars (length others)) end _ _ c.put_on.result
+    c.in_ok-write_bars.ensures (rw c.mark_of.ensures at c.put_on.ensures))

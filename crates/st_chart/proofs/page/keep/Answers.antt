@@ -1,0 +1,13 @@
+-- Without memory for them, the bytes go behind all that waited.
+use Rattle.std.proofs.Common.{[]}
+use Rattle.st_text.proofs.ForCallers.{goes_buffer, then_on}
+use Rattle.st_chart.proofs.page.keep.Goals as goal
+
+pub returns-in-Ok : goal.returns-in-Ok
+returns-in-Ok g c = goes_buffer g.W.ByteSink.puts g.W.ByteSink.failed c.in-Ok.ensures.items
+
+pub returns-in_ok-turn-in-Err : goal.returns-in_ok-turn-in-Err
+returns-in_ok-turn-in-Err g c =
+    let went = rw c.in-Err.ensures.items at (rw c.in_ok-turn-in-Err.ensures.empty at c.in_ok-turn-in-Err.ensures.goes) in
+    rw c.in_ok-turn-in-Err.ensures.empty
+    (then_on g.W.ByteSink.puts g.W.ByteSink.failed [] c.args.bytes.now _ _ c.put_all.result went c.put_all.ensures)

@@ -1,0 +1,76 @@
+//! What a chart is written on: bytes that wait for the writer, on the heap, so that a chart of many
+//! lanes goes out in few large pieces.
+
+ghost use Rattle.std.specs.Prelude.{◌≡◌, [], OnOk};
+ghost use Rattle.st_text.specs.Writing.{WritesOn};
+
+use st_core::ByteSink;
+use st_text::{Buffer, Device, put_all};
+use std::alloc::Global;
+
+/// So many bytes go out at once, as many as a pipe takes. Whole pages of the system's memory, since
+/// a file takes parts of a page more slowly.
+const PIECE: usize = 65_536;
+
+/// What waits for the writer, and room to make a line in.
+#[derive(Drop)]
+pub(crate) struct Page {
+    pub(crate) waits: Vec<u8>,
+    pub(crate) line: Buffer,
+}
+
+impl Page {
+    /// An empty page. Takes no memory yet.
+    pub(crate) fn new(alloc: Global) -> Page
+        ensures { result.waits.items ≡ [] }
+    {
+        Page {
+            waits: Vec::new(alloc),
+            line: Buffer::new(),
+        }
+    }
+}
+
+/// Writes what waits.
+pub(crate) fn turn<W: ByteSink>(writer: &mut W, waits: &mut Vec<u8>) -> Result<(), Device>
+    ensures goes { WritesOn W.puts W.failed [] writer.old writer.new
+        waits.old.items waits.new.items result }
+    ensures empty { OnOk result (waits.new.items ≡ []) }
+{
+    put_all(writer, waits.as_slice())?;
+    waits.clear();
+    Ok(())
+}
+
+/// Puts bytes behind those that wait. If there is no memory for them, all are written.
+fn keep<W: ByteSink>(writer: &mut W, waits: &mut Vec<u8>, bytes: &[u8]) -> Result<(), Device>
+    ensures { WritesOn W.puts W.failed bytes.now writer.old writer.new
+        waits.old.items waits.new.items result }
+{
+    match waits.extend_from_slice(bytes) {
+        Ok(()) => Ok(()),
+        Err(_) => {
+            turn(writer, waits)?;
+            put_all(writer, bytes)
+        }
+    }
+}
+
+/// Puts bytes behind those that wait, and writes a piece that they fill.
+pub(crate) fn put_on<W: ByteSink>(
+    writer: &mut W,
+    waits: &mut Vec<u8>,
+    bytes: &[u8],
+) -> Result<(), Device>
+    ensures { WritesOn W.puts W.failed bytes.now writer.old writer.new
+        waits.old.items waits.new.items result }
+{
+    let room = PIECE.saturating_sub(waits.len());
+    if bytes.len() < room {
+        return keep(writer, waits, bytes);
+    }
+    let (front, back) = bytes.split_at(room.min(bytes.len()));
+    keep(writer, waits, front)?;
+    turn(writer, waits)?;
+    keep(writer, waits, back)
+}
