@@ -15,10 +15,14 @@ use Rattle.st_core.specs.declared.types.Act.TheVariants as act
 use Rattle.st_core.specs.State.{LocalState, Process, State, process}
 use Rattle.st_core.specs.Step.{Outcome}
 use Rattle.st_core.specs.Run.{Stream, pids_of, run_from}
+use Rattle.st_core.specs.Streams.{IsStreams}
 use Rattle.st_mail.specs.declared.outcome.Outcome.{Outcome as Told}
 use Rattle.st_world.specs.World.{place_in}
 use Rattle.st_pair.specs.Places.{is_stamp}
+use Rattle.st_pair.specs.Links.{IsPairing, ProcessLinks}
+use Rattle.st_order.specs.declared.item.Item.{Item}
 use Rattle.st_order.specs.declared.item.Item.TheVariants as item
+use Rattle.st_order.specs.Order.{IsOrder}
 use Rattle.st_plan.specs.declared.plan.Start.{Start}
 use Rattle.st_plan.specs.Marks.{Marks}
 use Rattle.st_plan.specs.Moves.{Move, clock, is_taking, last, skips}
@@ -31,6 +35,15 @@ use Rattle.st_audit.specs.declared.construction.Halt.TheVariants as halt
 use Rattle.st_audit.specs.declared.finding.Reason.TheVariants as reason
 use Rattle.st_audit.specs.Construction.{acts_from, attempt, event_eq, last_report, turn_by}
 use Rattle.st_audit.specs.Construction.{Turn, Through, Stopped, Refused}
+
+-- WHAT IT GOES BY
+
+-- streams that pairing accepts, with their pairing and their items in order
+pub record ArePrepared (streams : List Stream) (pairing : List ProcessLinks) (items : List Item) :
+    Type 0 where
+  pub are_streams : IsStreams streams
+  pub paired : IsPairing streams pairing
+  pub order : IsOrder streams items
 
 -- WHAT IT KEEPS
 

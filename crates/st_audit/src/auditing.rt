@@ -8,11 +8,10 @@ ghost use Rattle.st_core.specs.Streams.{IsStreams};
 ghost use Rattle.st_core.specs.Verdict.{IsVerdict};
 ghost use Rattle.std.specs.Option.{ForSome};
 ghost use Rattle.st_order.specs.Order.{IsOrder};
-ghost use Rattle.st_pair.specs.Links.{IsPairing};
-ghost use Rattle.st_pair.specs.Pairing.{refusal};
 ghost use Rattle.st_pair.specs.Final.{RulesOut};
 ghost use Rattle.st_audit.specs.Construction.{end_of, IsAudit, IsFoundAt, Judged};
 ghost use Rattle.st_audit.specs.Findings.{fault_of, unfit_by, HandsOn, IsFinding, HasCertificate};
+ghost use Rattle.st_audit.specs.Progress.{ArePrepared};
 ghost use Rattle.st_plan.specs.Plain.{IsPlain};
 ghost use Rattle.st_plan.specs.Full.{IsFullyShown};
 
@@ -119,11 +118,8 @@ fn finding_in_order<const TOP: u64>(
     pairing: &Pairing,
     items: &[Item],
 ) -> Result<Finding, AuditFault>
-    requires streams { IsStreams streams.now }
     requires pids { pids.now ≡ pids_of streams.now }
-    requires accepted { refusal streams.now ≡ None }
-    requires paired { IsPairing streams.now pairing.now }
-    requires order { IsOrder streams.now items.now }
+    requires prepared { ArePrepared streams.now pairing.now items.now }
     ensures exact { IfOk result (IsFoundAt TOP streams.now (end_of TOP streams.now items.now)) }
 {
     if items.is_empty() {

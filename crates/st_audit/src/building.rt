@@ -1,13 +1,10 @@
 //! Acts that show those events of streams that are told, whichever these are.
 
-ghost use Rattle.std.specs.Prelude.{◌≡◌, IfOk, None};
+ghost use Rattle.std.specs.Prelude.{◌≡◌, IfOk};
 ghost use Rattle.st_core.specs.Run.{pids_of};
-ghost use Rattle.st_core.specs.Streams.{IsStreams};
-ghost use Rattle.st_order.specs.Order.{IsOrder};
-ghost use Rattle.st_pair.specs.Links.{IsPairing};
-ghost use Rattle.st_pair.specs.Pairing.{refusal};
 ghost use Rattle.st_plan.specs.Plain.{IsPlain};
 ghost use Rattle.st_audit.specs.Findings.{ShowTold};
+ghost use Rattle.st_audit.specs.Progress.{ArePrepared};
 
 use crate::construction::{Construction, Halt};
 use st_core::{Act, Pid, Sequence, Streams};
@@ -26,11 +23,8 @@ fn build<const TOP: u64, M: Tells>(
     marks: &M,
     items: &[Item],
 ) -> Result<Option<Sequence<Act>>, AllocError>
-    requires streams { IsStreams streams.now }
     requires pids { pids.now ≡ pids_of streams.now }
-    requires accepted { refusal streams.now ≡ None }
-    requires paired { IsPairing streams.now pairing.now }
-    requires order { IsOrder streams.now items.now }
+    requires prepared { ArePrepared streams.now pairing.now items.now }
     ensures { IsPlain TOP streams.now → IfOk result (ShowTold TOP streams.now (M.marks marks.now)) }
 {
     let Ok(mut construction) = Construction::<TOP>::new(alloc, streams, None) else {

@@ -15,21 +15,18 @@ ghost use Rattle.st_core.specs.Step.{step};
 ghost use Rattle.st_core.specs.Run.{pids_of, Stream};
 ghost use Rattle.st_core.specs.declared.types.Event.{Event as EventValue};
 ghost use Rattle.st_core.specs.State.{process, zero_state, State};
-ghost use Rattle.st_core.specs.Streams.{IsStreams};
 ghost use Rattle.st_pair.specs.Links.{IsPairing};
-ghost use Rattle.st_pair.specs.Pairing.{refusal};
 ghost use Rattle.st_pair.specs.Places.{event_at, is_stamp};
 ghost use Rattle.st_order.specs.declared.item.Item.{Item as ItemValue};
 ghost use Rattle.st_order.specs.declared.item.Item.TheVariants as item;
 ghost use Rattle.st_order.specs.Items.{event_of};
-ghost use Rattle.st_order.specs.Order.{IsOrder};
 ghost use Rattle.st_plan.specs.Build.{flags_of, start_of, tracers_after};
 ghost use Rattle.st_plan.specs.Moves.{earlier_of, move_by};
 ghost use Rattle.st_audit.specs.Progress.{acts_turn, if_told, is_below, is_too_wide, is_uncaused};
 ghost use Rattle.st_audit.specs.Progress.{item_turn, missing_count, move_skip, move_turn};
 ghost use Rattle.st_audit.specs.Progress.{report_turn, stamp_skip, stamp_turn, take_turn};
 ghost use Rattle.st_audit.specs.Progress.{IsCountedAs, IsMatched, IsSoFar, Meets, SaysNothing, TellsLast};
-ghost use Rattle.st_audit.specs.Progress.{TellsOne};
+ghost use Rattle.st_audit.specs.Progress.{ArePrepared, TellsOne};
 ghost use Rattle.st_world.specs.World.{outcome_to};
 
 use st_check::Comparison;
@@ -506,10 +503,7 @@ impl<const TOP: u64> Construction<TOP> {
         number: usize,
     ) -> Result<(), Halt>
         requires within { number < length items.now }
-        requires streams { IsStreams streams.now }
-        requires order { IsOrder streams.now items.now }
-        requires accepted { refusal streams.now ≡ None }
-        requires paired { IsPairing streams.now pairing.now }
+        requires prepared { ArePrepared streams.now pairing.now items.now }
         requires so_far { IsSoFar streams.now
             (earlier_of streams.now (take number items.now)) self.old }
         requires matched { IsMatched streams.now self.old }
