@@ -64,6 +64,15 @@ pub record IsAll (e : Entry) (c : Content) : Type 0 where
 abbrev pub HasGrown : {T : Type 0} → List T → List T → Type 0
 HasGrown {T} xs xs' = (xs' ≡ xs) ⊎ ((x : T) × (xs' ≡ xs ++ x ∷ []))
 
+-- whichever form an entry is kept in, there is room for one more, and a number of 32 bits for its
+-- place
+pub record HasRoomInAll (spare traced traced_capacity apart apart_capacity : ℕ) : Type 0 where
+  pub call_room : 0 < spare
+  pub traced_room : traced < traced_capacity
+  pub traced_place : traced < 4294967295
+  pub apart_room : apart < apart_capacity
+  pub apart_place : apart < 4294967295
+
 -- the rows have their places
 abbrev pub HavePlaces : ℕ → ℕ → ℕ → List Row → Type 0
 HavePlaces calls traced apart rows =

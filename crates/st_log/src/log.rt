@@ -7,7 +7,7 @@ ghost use Rattle.std.specs.Ordering.{nat_cmp};
 ghost use Rattle.std.specs.Vec.{vec_capacity};
 ghost use Rattle.st_core.specs.Step.{actor};
 ghost use Rattle.st_log.specs.Entries.{entry_at, is_wide, last_rank};
-ghost use Rattle.st_log.specs.Rows.{without_rank_in, HasGrown, HasPlace};
+ghost use Rattle.st_log.specs.Rows.{without_rank_in, HasGrown, HasPlace, HasRoomInAll};
 ghost use Rattle.st_log.specs.TracedActs.{without_rank};
 
 use crate::calls::CallLog;
@@ -282,11 +282,8 @@ fn keep_content(
     apart: &mut Vec<Unranked>,
     entry: &Entry,
 ) -> Content
-    requires call_room { 0 < calls.old.spare }
-    requires traced_room { vec_len traced.old < vec_capacity traced.old }
-    requires traced_places { vec_len traced.old < 4294967295 }
-    requires room { vec_len apart.old < vec_capacity apart.old }
-    requires places { vec_len apart.old < 4294967295 }
+    requires { HasRoomInAll calls.old.spare (vec_len traced.old) (vec_capacity traced.old)
+        (vec_len apart.old) (vec_capacity apart.old) }
     ensures says { without_rank_in calls.new.calls traced.new.items apart.new.items result
         ≡ without_rank entry.now }
     ensures placed { HasPlace (length calls.new.calls) (length traced.new.items)

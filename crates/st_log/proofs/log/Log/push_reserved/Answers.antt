@@ -4,6 +4,20 @@ use Rattle.st_log.specs.Entries.{Logged}
 use Rattle.st_log.proofs.RowLemmas.{entries_pushed, log_pushed}
 use Rattle.st_log.proofs.log.Log.push_reserved.Goals as goal
 
+pub keep_content-content-requires : goal.keep_content-content-requires
+keep_content-content-requires c =
+    let inside = c.self.inside in
+    let log = c.self.invariant in
+    let spare : 0 < inside.reserved = subst (λ n. 0 < n) (ap (λ (log : Logged). log.spare) (sym c.self.view_is))
+    c.requires in
+    record {
+      call_room = omega (arith, spare, log.calls_fit);
+      traced_room = omega (arith, spare, log.traced_fit);
+      traced_place = omega (arith, spare, log.traced_places_fit);
+      apart_room = omega (arith, spare, log.apart_fit);
+      apart_place = omega (arith, spare, log.places_fit);
+    }
+
 pub invariant_of-self : goal.invariant_of-self
 invariant_of-self c =
     let inside = c.self.inside in
