@@ -4,18 +4,17 @@
 //! same order: each is looked for from where the one before was found. Those of acts of a whole
 //! node are compared in one walk over each log (`join::nodes`).
 
-ghost use Rattle.std.specs.Prelude.{◌≡◌, ◌<◌, false, length, All, Contains, IsTrue};
+ghost use Rattle.std.specs.Prelude.{◌<◌, length, All, Contains, IsTrue};
 ghost use Rattle.st_core.specs.Pid.{IsRising};
-ghost use Rattle.st_core.specs.Step.{actor};
 ghost use Rattle.st_runtime.specs.Joining.{HasAt, IsSharedUnlessWide, IsSettledAt};
-ghost use Rattle.st_runtime.specs.Pieces.{pids_in, AreWhole, IsWholeEntry};
-ghost use Rattle.st_log.specs.Entries.{entry_at, is_wide};
+ghost use Rattle.st_runtime.specs.Pieces.{pids_in, AreWhole};
+ghost use Rattle.st_log.specs.Entries.{entry_at};
 
 use crate::join::nodes::is_alike;
 use crate::join::whole::place_in;
 use crate::pcb::Pcb;
 use crate::pcb::acts::receiver_of;
-use st_core::{Act, Pid};
+use st_core::Pid;
 use st_log::Log;
 use std::alloc::Global;
 
@@ -107,31 +106,10 @@ fn is_settled<const TOP: u64, const RANKS: u64>(
         return true;
     }
     let actor = log.actor_at(place);
-    if actor == here {
-        sees_shared(processes, places, here, &log.act_at(place), log, place)
-    } else {
-        sees_at(processes, places, actor, log, place)
+    if actor != here {
+        return sees_at(processes, places, actor, log, place);
     }
-}
-
-/// Whether the entry of this act, at this place of its actor's log, is seen to be whole.
-fn sees_shared<const TOP: u64, const RANKS: u64>(
-    processes: &[Pcb<TOP, RANKS>],
-    places: &mut [usize],
-    here: Pid,
-    act: &Act,
-    log: &Log,
-    place: usize,
-) -> bool
-    requires rising { IsRising (pids_in processes.now) }
-    requires place { place < length log.now.entries }
-    requires act { act.now ≡ (entry_at log.now.entries place).act }
-    requires narrow { is_wide act.now ≡ false }
-    requires mine { actor act.now ≡ here }
-    requires here { HasAt processes.now here (entry_at log.now.entries place) }
-    ensures { IsTrue result → IsWholeEntry processes.now (entry_at log.now.entries place) }
-{
-    let receiver = receiver_of(act);
+    let receiver = receiver_of(&log.act_at(place));
     receiver == here || sees_at(processes, places, receiver, log, place)
 }
 
