@@ -163,6 +163,8 @@ BY_FIX = (
     ("a receive in curly quotes", received("\u2018receive\u2019"), 3, 16, OF_EVENT,
      "a curly quote, which isn't ASCII: write a straight one", received("'receive'")),
     ("a receive in double quotes", received('"receive"'), 3, 16, OF_EVENT, QUOTES, received("'receive'")),
+    ("a receive without quotes between blanks", received(" receive "), 3, 16, OF_EVENT,
+     "a blank too many: leave it out", received("'receive'")),
     ("a pid of another node under header 1", "seqtrace 1\nprocess <3.30.0>\n", 2, 10, "node 0 under seqtrace 1",
      "a bundle that names a pid of another node begins with seqtrace 2", "seqtrace 2\nprocess <3.30.0>\n"),
     ("header 2 without need", "seqtrace 2\nprocess <0.30.0>\n", 1, 10, "1",

@@ -12,7 +12,7 @@ use std::alloc::{AllocError, Global};
 use std::hash::{DefaultHasher, Hasher};
 
 /// One number for two.
-pub(crate) fn mixed(one: u64, other: u64) -> u64 {
+pub(crate) fn mix(one: u64, other: u64) -> u64 {
     let mut hasher = DefaultHasher::new();
     hasher.write_u64(one);
     hasher.write_u64(other);
@@ -86,7 +86,7 @@ fn next_colour(trace: &Trace<'_>, known: &[u64], place: usize, sums: &mut Vec<u6
         if let Some(peer) = trace.peer(event) {
             hasher.write_u64(known.get(peer).copied().unwrap_or(0));
             if let Some(sum) = sums.get_mut(peer) {
-                *sum = sum.wrapping_add(mixed(own, index as u64));
+                *sum = sum.wrapping_add(mix(own, index as u64));
             }
         }
     }
@@ -106,7 +106,7 @@ pub(crate) fn next_colours(
     }
     let mut colours = Vec::new(alloc);
     for (colour, sum) in own.iter().zip(sums.iter()) {
-        colours.push(mixed(*colour, *sum))?;
+        colours.push(mix(*colour, *sum))?;
     }
     Ok(colours)
 }

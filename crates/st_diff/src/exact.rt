@@ -4,7 +4,7 @@
 //! guess; in each part of the trace only one is made before the colours are refined anew, so that
 //! whatever follows from it is known.
 
-use crate::colours::{are_alike, count_colours, mixed, next_colours};
+use crate::colours::{are_alike, count_colours, mix, next_colours};
 use crate::groups::Groups;
 use crate::items::Which;
 use crate::pairs::{Ground, Pairs};
@@ -78,13 +78,13 @@ impl<'a> Side<'a> {
         for place in 0..self.trace.len() {
             let colour = self.colour(place);
             if let Some(sum) = sums.get_mut(self.parts.end(place)) {
-                *sum = sum.wrapping_add(mixed(colour, 1));
+                *sum = sum.wrapping_add(mix(colour, 1));
             }
         }
         let mut colours = Vec::new(alloc);
         for place in 0..self.trace.len() {
             let sum = sums.get(self.parts.end(place)).copied().unwrap_or(0);
-            colours.push(mixed(self.colour(place), sum))?;
+            colours.push(mix(self.colour(place), sum))?;
         }
         self.colours = colours;
         Ok(())
@@ -93,7 +93,7 @@ impl<'a> Side<'a> {
     /// Gives a process the colour of the pair of this number alone.
     fn mark(&mut self, place: usize, number: usize) {
         if let Some(colour) = self.colours.get_mut(place) {
-            *colour = mixed(number as u64, 0);
+            *colour = mix(number as u64, 0);
         }
     }
 }

@@ -48,12 +48,17 @@ pub(crate) fn behind_quote(bytes: &[u8]) -> &[u8] {
     }
 }
 
-/// How many bytes at the front are the brace, the word receive in whatever quotes, and the comma.
+/// How many bytes at the front are the word receive in whatever quotes, if a comma is behind it,
+/// with or without blanks.
 fn receive_bytes(bytes: &[u8]) -> Option<usize> {
-    let brace = bytes.strip_prefix(b"{".as_slice())?;
-    let word = behind_quote(brace).strip_prefix(b"receive".as_slice())?;
-    let tail = behind_quote(word).strip_prefix(b",".as_slice())?;
-    Some(bytes.len().saturating_sub(tail.len()))
+    let word = behind_quote(bytes).strip_prefix(b"receive".as_slice())?;
+    let tail = behind_quote(word);
+    let behind = tail.split_at(blank_bytes(tail).min(tail.len())).1;
+    if behind.starts_with(b",".as_slice()) {
+        Some(bytes.len().saturating_sub(tail.len()))
+    } else {
+        None
+    }
 }
 
 /// How many bytes at the front are a text in double quotes.
@@ -127,12 +132,17 @@ impl<'a> Mender<'a> {
         if blanks > 0 {
             return self.put_blanks(blanks, out);
         }
-        if let Some(count) = receive_bytes(self.rest) {
-            if !self.rest.starts_with(b"{'receive',".as_slice()) {
+        let word = if out.ends_with(b"{".as_slice()) {
+            receive_bytes(self.rest)
+        } else {
+            None
+        };
+        if let Some(count) = word {
+            if !self.rest.starts_with(b"'receive'".as_slice()) {
                 mended.quotes = mended.quotes.saturating_add(1);
             }
             self.skip(count);
-            out.extend_from_slice(b"{'receive',")?;
+            out.extend_from_slice(b"'receive'")?;
             return Ok(());
         }
         let is_pid_mark = self.rest.starts_with(b"#Pid<".as_slice())

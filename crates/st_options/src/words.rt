@@ -80,9 +80,10 @@ const PAIR_WORDS: &str = "both inputs are standard input: one of them has to be 
 
 const FIX_WORDS: &str = "the mended text is that of one file: name one alone, or leave out --fix";
 
-const SPAN_WORDS: &str = "A-B are no numbers: write one as 7, several as 7-9, all from 7 on as 7-";
+const SPAN_WORDS: &str =
+    "A-B are no numbers that rise: write one as 7, several as 7-9, all from 7 on as 7-";
 
-/// The numbers that a text means: one, those from one to another, or all from one on.
+/// The numbers that a text means: one, those from one to a greater one, or all from one on.
 fn span_of(text: &str) -> Option<Span> {
     let Some((first, last)) = text.split_once("-") else {
         let only = text.parse::<u64>().ok()?;
@@ -99,6 +100,9 @@ fn span_of(text: &str) -> Option<Span> {
         });
     }
     let last = last.parse::<u64>().ok()?;
+    if last < first {
+        return None;
+    }
     Some(Span { first, last })
 }
 

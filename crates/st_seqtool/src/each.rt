@@ -1,7 +1,7 @@
 //! A command on one input after the other.
 
 use crate::input::{OpenInput, open};
-use crate::screen::{FAILED, Screen, finish, name_of, tell_end, tell_no_memory};
+use crate::screen::{FAILED, Screen, finish, name_of, on_one_line, tell_end, tell_no_memory};
 use st_console::{Inlet, Outlet};
 use st_core::{ReadFrom, WriteTo};
 use st_notes::{tell_found, tell_nothing_added};
@@ -34,6 +34,7 @@ fn tell_yes<H>(screen: &Screen<'_, H>, task: Task, name: &str, line: &[u8]) {
     if screen.is_quiet {
         return;
     }
+    let name = on_one_line(name);
     match task {
         Task::Audit | Task::AuditJson => tell_found(screen.rt, name),
         Task::Complete(_) | Task::CompleteJson => tell_nothing_added(screen.rt, name, line),
@@ -84,10 +85,14 @@ fn heading_for<H>(
     has_written: bool,
 ) -> Result<Vec<u8>, AllocError> {
     let alloc = screen.rt.alloc();
-    if inputs.len() > 1 {
-        heading_of(alloc, name_of(input), screen.is_json, !has_written)
+    if inputs.len() <= 1 {
+        return Ok(Vec::new(alloc));
+    }
+    let name = name_of(input);
+    if screen.is_json {
+        heading_of(alloc, name, true, !has_written)
     } else {
-        Ok(Vec::new(alloc))
+        heading_of(alloc, on_one_line(name), false, !has_written)
     }
 }
 

@@ -72,10 +72,20 @@ pub(crate) fn name_of<'a>(input: Input<'a>) -> &'a str {
     }
 }
 
+/// What a line calls an input of this name: a name with a line break would make two lines of it, or
+/// look like another file's.
+pub(crate) fn on_one_line(name: &str) -> &str {
+    if name.as_bytes().iter().any(|byte| *byte < b' ') {
+        "a file with a control character in its name"
+    } else {
+        name
+    }
+}
+
 /// Says that the file of this path can't be opened, and why.
 pub(crate) fn tell_unopenable<H>(screen: &Screen<'_, H>, path: &str, reason: &io::Error) {
     screen.painter.red();
-    tell_unopened(screen.rt, path, reason);
+    tell_unopened(screen.rt, on_one_line(path), reason);
     screen.painter.plain();
 }
 
@@ -92,6 +102,7 @@ pub(crate) fn tell_end<H, R: Read, W: Write>(
         return;
     }
     let rt = screen.rt;
+    let name = on_one_line(name);
     let mut notes = WriteTo::new(rt.stderr());
     screen.painter.red();
     tell_trouble(rt, rt.alloc(), name, inlet, outlet, &mut notes);

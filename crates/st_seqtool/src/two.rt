@@ -1,7 +1,7 @@
 //! A command on two inputs.
 
 use crate::input::{OpenInput, open};
-use crate::screen::{FAILED, NO, Screen, finish, name_of, tell_end};
+use crate::screen::{FAILED, NO, Screen, finish, name_of, on_one_line, tell_end};
 use st_console::{Inlet, Outlet};
 use st_core::{ReadFrom, WriteTo};
 use st_diff::Side;
@@ -13,6 +13,7 @@ use st_terminal::Watched;
 /// Says what is wrong with the times of this name.
 fn tell_times<H>(screen: &Screen<'_, H>, name: &str, fault: TimesFault) {
     let rt = screen.rt;
+    let name = on_one_line(name);
     screen.painter.red();
     let _ = match fault {
         // The commands' own words tell of these.
