@@ -1,7 +1,7 @@
 -- An act of one process on the rows, once that process was made ready: it reads there what the state has of its actor,
 -- and what it writes there is written in the state.
 use Rattle.std.proofs.Common.{◌≡◌, ◌≢◌, ℕ, ◌<◌, List, [], length, get_or, set, Some, Ok, Err, Result, IfOk, OnErr}
-use Rattle.std.proofs.Common.{position, sym, ◌∙◌, ap, subst, arith}
+use Rattle.std.proofs.Common.{position, refl, sym, ◌∙◌, ap, subst, arith}
 use Rattle.std.proofs.lemmas.List.{get_or-set_same, get_or-set_other, length-set}
 use Rattle.st_core.specs.declared.types.Pid.{Pid}
 use Rattle.st_core.specs.declared.types.Message.{Message}
@@ -22,66 +22,141 @@ pub inner_mark : {E : Type 0} (top : ℕ) (a : Act) (p : Pid) (l l2 : LocalState
 inner_mark top a p l l2 (Ok told) acts err = acted_mark top (process_of p l []) a (part_of told l2 []) (acts [])
 inner_mark top a p l l2 (Err e) acts err = ap (λ (x : LocalState). x.traced) err
 
-module _ (top : ℕ) (ps : List Pid) (g : Groups) (raw : List LocalState) (bs : List (List Message))
-    (kept : AreKept top ps g raw bs) (h : Groups) (places : h.places ≡ g.places) (same : tracers h ≡ tracers g)
-    (others : (j : ℕ) → j < length g.places → IsListed g j → IsListed h j) where
-  -- the world after an act, by its rows and its lists
-  pub kept_after : (raw2 : List LocalState) (bs2 : List (List Message)) (ls2 : List LocalState)
+-- the process p, of number i, was made ready for its act: it keeps l1, which is what it kept with its mark
+pub record Started (top : ℕ) (ps : List Pid) (g : Groups) (raw : List LocalState) (bs : List (List Message))
+    (h : Groups) (p : Pid) (i : ℕ) (l1 : LocalState) : Type 0 where
+  pub kept : AreKept top ps g raw bs
+  pub places : h.places ≡ g.places
+  pub same : tracers h ≡ tracers g
+  pub others : (j : ℕ) → j < length g.places → IsListed g j → IsListed h j
+  pub at : position (λ x. pid_eq x p) ps ≡ Some i
+  pub here : IsListed h i
+  pub was : LocalState
+  pub is_was : was ≡ get_or raw i was
+  pub put : l1 ≡ record was { traced = traced_at g i }
+
+pub started : {top : ℕ} {ps : List Pid} {g : Groups} {raw : List LocalState} {bs : List (List Message)} {h : Groups}
+    {p : Pid} {i : ℕ} {l l1 : LocalState}
+    → AreKept top ps g raw bs → h.places ≡ g.places → tracers h ≡ tracers g
+    → ((j : ℕ) → j < length g.places → IsListed g j → IsListed h j) → position (λ x. pid_eq x p) ps ≡ Some i
+    → IsListed h i → l ≡ get_or raw i l → l1 ≡ record l { traced = traced_at g i }
+    → Started top ps g raw bs h p i l1
+started {l} kept places same others at here is_was put =
+    record {
+      kept = kept;
+      places = places;
+      same = same;
+      others = others;
+      at = at;
+      here = here;
+      was = l;
+      is_was = is_was;
+      put = put;
+    }
+
+-- another process was listed too
+pub touched : {top : ℕ} {ps : List Pid} {g : Groups} {raw : List LocalState} {bs : List (List Message)} {h : Groups}
+    {p : Pid} {i : ℕ} {l1 : LocalState} {h2 : Groups}
+    → Started top ps g raw bs h p i l1 → h2.places ≡ h.places → tracers h2 ≡ tracers h
+    → ((j : ℕ) → j < length h.places → IsListed h j → IsListed h2 j) → Started top ps g raw bs h2 p i l1
+touched {ps} {g} {p} {i} s places same others =
+    let within : i < length g.places = omega (arith, number_within ps p i s.at, s.kept.by_node.len) in
+    record {
+      kept = s.kept;
+      places = places ∙ s.places;
+      same = same ∙ s.same;
+      others = λ j below old. others j (rw s.places below) (s.others j below old);
+      at = s.at;
+      here = others i (rw s.places within) s.here;
+      was = s.was;
+      is_was = s.is_was;
+      put = s.put;
+    }
+
+module _ {top : ℕ} {ps : List Pid} {g : Groups} {raw : List LocalState} {bs : List (List Message)} {h : Groups}
+    {p : Pid} {i : ℕ} {l1 : LocalState} (s : Started top ps g raw bs h p i l1) where
+  within : i < length raw
+  within = omega (arith, number_within ps p i s.at, s.kept.locals_len)
+
+  -- what is read there afterwards
+  read_is : (x : LocalState) → x ≡ get_or (set raw i l1) i x → x ≡ record (s.was) { traced = traced_at g i }
+  read_is x e = e ∙ get_or-set_same raw i l1 x within ∙ s.put
+
+  pub read_at : (x : LocalState) → x ≡ get_or (set raw i l1) i x → x ≡ get_or (flagged (are_traced g) raw) i x
+  read_at x e =
+      subst (λ (y : LocalState). y ≡ get_or (flagged (are_traced g) raw) i y) (sym (read_is x e))
+      (marked_at top ps g raw bs s.kept p i s.at s.was s.is_was)
+
+  pub read_mark : (x : LocalState) → x ≡ get_or (set raw i l1) i x → x.traced ≡ traced_at g i
+  read_mark x e = ap (λ (y : LocalState). y.traced) (read_is x e)
+
+  -- the rows while nothing but the mark is written, and afterwards
+  pub ready_rows : flagged (are_traced h) (set raw i l1) ≡ flagged (are_traced g) raw
+  ready_rows =
+      ap (λ fs. flagged fs (set raw i l1)) (same_flags g h s.places s.same)
+      ∙ ap (λ (x : LocalState). flagged (are_traced g) (set raw i x)) s.put
+      ∙ marked_rows top ps g raw bs s.kept p i s.at s.was s.is_was
+
+  pub act_rows : (l2 : LocalState) → l2.traced ≡ traced_at g i
+      → flagged (are_traced h) (set (set raw i l1) i l2) ≡ set (flagged (are_traced g) raw) i l2
+  act_rows l2 mark =
+      ap (λ fs. flagged fs (set (set raw i l1) i l2)) (same_flags g h s.places s.same)
+      ∙ written_rows top ps g raw bs s.kept p i s.at s.was s.is_was l1 l2 mark
+
+  -- the processes are clean or listed, with the queue of that number written too
+  act_listed : (raw2 : List LocalState) (bs2 : List (List Message))
+      → ((j : ℕ) → j ≢ i → get_or raw2 j zero_local ≡ get_or raw j zero_local)
+      → ((j : ℕ) → j ≢ i → get_or bs2 j [] ≡ get_or bs j [])
+      → (j : ℕ) → j < length ps → IsCleanOrListed h raw2 bs2 j
+  act_listed raw2 bs2 locals queues =
+      listed_after (length ps) g h raw raw2 bs bs2 i locals queues
+      (λ j below. s.others j (omega (arith, below, s.kept.by_node.len))) s.here s.kept.listed
+
+  ready_other : (j : ℕ) → j ≢ i → get_or (set raw i l1) j zero_local ≡ get_or raw j zero_local
+  ready_other j other = get_or-set_other raw i j l1 zero_local other
+
+  act_other : (l2 : LocalState) (j : ℕ) → j ≢ i
+      → get_or (set (set raw i l1) i l2) j zero_local ≡ get_or raw j zero_local
+  act_other l2 j other = get_or-set_other (set raw i l1) i j l2 zero_local other ∙ ready_other j other
+
+  act_len : (l2 : LocalState) → length (set (set raw i l1) i l2) ≡ length raw
+  act_len l2 = length-set (set raw i l1) i l2 ∙ length-set raw i l1
+
+  -- the world afterwards, by its rows and its lists
+  kept_after : (raw2 : List LocalState) (bs2 : List (List Message)) (ls2 : List LocalState)
       → length raw2 ≡ length raw → flagged (are_traced h) raw2 ≡ ls2 → AreRows top ps ls2 bs2
       → ((j : ℕ) → j < length ps → IsCleanOrListed h raw2 bs2 j) → AreKept top ps h raw2 bs2
   kept_after raw2 bs2 ls2 len is rows listed = record {
     rows = subst (λ ls. AreRows top ps ls bs2) (sym is) rows;
-    locals_len = len ∙ kept.locals_len;
-    by_node = subst (AreByNode ps) (sym places) kept.by_node;
+    locals_len = len ∙ s.kept.locals_len;
+    by_node = subst (AreByNode ps) (sym s.places) s.kept.by_node;
     listed = listed;
   }
 
-  -- the process `p` of number i, which kept l and then l1, with its mark
-  module _ (p : Pid) (i : ℕ) (at : position (λ x. pid_eq x p) ps ≡ Some i) (here : IsListed h i)
-      (l l1 : LocalState) (el : l ≡ get_or raw i l) (put : l1 ≡ record l { traced = traced_at g i }) where
-    within : i < length raw
-    within = omega (arith, number_within ps p i at, kept.locals_len)
+  -- if nothing but the mark is written
+  pub ready_kept : (bs2 : List (List Message)) → bs2 ≡ bs → AreKept top ps h (set raw i l1) bs2
+  ready_kept bs2 is =
+      let ls = flagged (are_traced g) raw in
+      kept_after (set raw i l1) bs2 ls (length-set raw i l1) ready_rows
+      (subst (AreRows top ps ls) (sym is) s.kept.rows)
+      (act_listed (set raw i l1) bs2 ready_other (λ j other. ap (λ (y : List (List Message)). get_or y j []) is))
 
-    -- what is read there afterwards
-    pub read_is : (x : LocalState) → x ≡ get_or (set raw i l1) i x → x ≡ record l { traced = traced_at g i }
-    read_is x e = e ∙ get_or-set_same raw i l1 x within ∙ put
+  -- if it keeps l2 then, and its queue alone may be another
+  pub acted_kept : (l2 : LocalState) (bs2 : List (List Message)) → l2.traced ≡ traced_at g i
+      → AreRows top ps (set (flagged (are_traced g) raw) i l2) bs2
+      → ((j : ℕ) → j ≢ i → get_or bs2 j [] ≡ get_or bs j [])
+      → AreKept top ps h (set (set raw i l1) i l2) bs2
+  acted_kept l2 bs2 mark rows queues =
+      kept_after (set (set raw i l1) i l2) bs2 (set (flagged (are_traced g) raw) i l2) (act_len l2)
+      (act_rows l2 mark) rows (act_listed (set (set raw i l1) i l2) bs2 (act_other l2) queues)
 
-    pub read_at : (x : LocalState) → x ≡ get_or (set raw i l1) i x → x ≡ get_or (flagged (are_traced g) raw) i x
-    read_at x e =
-        subst (λ (y : LocalState). y ≡ get_or (flagged (are_traced g) raw) i y) (sym (read_is x e))
-        (marked_at top ps g raw bs kept p i at l el)
-
-    pub read_mark : (x : LocalState) → x ≡ get_or (set raw i l1) i x → x.traced ≡ traced_at g i
-    read_mark x e = ap (λ (y : LocalState). y.traced) (read_is x e)
-
-    -- the rows while nothing but the mark is written, and afterwards
-    pub ready_rows : flagged (are_traced h) (set raw i l1) ≡ flagged (are_traced g) raw
-    ready_rows =
-        ap (λ fs. flagged fs (set raw i l1)) (same_flags g h places same)
-        ∙ ap (λ (x : LocalState). flagged (are_traced g) (set raw i x)) put
-        ∙ marked_rows top ps g raw bs kept p i at l el
-
-    pub act_rows : (l2 : LocalState) → l2.traced ≡ traced_at g i
-        → flagged (are_traced h) (set (set raw i l1) i l2) ≡ set (flagged (are_traced g) raw) i l2
-    act_rows l2 mark =
-        ap (λ fs. flagged fs (set (set raw i l1) i l2)) (same_flags g h places same)
-        ∙ written_rows top ps g raw bs kept p i at l el l1 l2 mark
-
-    -- with the queue of that number written too
-    pub act_listed : (raw2 : List LocalState) (bs2 : List (List Message))
-        → ((j : ℕ) → j ≢ i → get_or raw2 j zero_local ≡ get_or raw j zero_local)
-        → ((j : ℕ) → j ≢ i → get_or bs2 j [] ≡ get_or bs j [])
-        → (j : ℕ) → j < length ps → IsCleanOrListed h raw2 bs2 j
-    act_listed raw2 bs2 locals queues =
-        listed_after (length ps) g h raw raw2 bs bs2 i locals queues
-        (λ j below. others j (omega (arith, below, kept.by_node.len))) here kept.listed
-
-    pub ready_other : (j : ℕ) → j ≢ i → get_or (set raw i l1) j zero_local ≡ get_or raw j zero_local
-    ready_other j other = get_or-set_other raw i j l1 zero_local other
-
-    pub act_other : (l2 : LocalState) (j : ℕ) → j ≢ i
-        → get_or (set (set raw i l1) i l2) j zero_local ≡ get_or raw j zero_local
-    act_other l2 j other = get_or-set_other (set raw i l1) i j l2 zero_local other ∙ ready_other j other
-
-    pub act_len : (l2 : LocalState) → length (set (set raw i l1) i l2) ≡ length raw
-    act_len l2 = length-set (set raw i l1) i l2 ∙ length-set raw i l1
+  -- if it keeps l2 then, and the queue of a process that is listed may be another
+  pub sent_kept : (l2 : LocalState) (bs2 : List (List Message)) (k : ℕ) → IsListed h k
+      → l2.traced ≡ traced_at g i → AreRows top ps (set (flagged (are_traced g) raw) i l2) bs2
+      → ((j : ℕ) → j ≢ k → get_or bs2 j [] ≡ get_or bs j [])
+      → AreKept top ps h (set (set raw i l1) i l2) bs2
+  sent_kept l2 bs2 k there mark rows queues =
+      let raw2 = set (set raw i l1) i l2 in
+      kept_after raw2 bs2 (set (flagged (are_traced g) raw) i l2) (act_len l2) (act_rows l2 mark) rows
+      (listed_after (length ps) h h raw2 raw2 bs bs2 k (λ j apart. refl) queues (λ j below old. old) there
+      (act_listed raw2 bs (act_other l2) (λ j apart. refl)))
