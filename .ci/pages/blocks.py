@@ -5,8 +5,6 @@ from functools import cache
 
 from pages.sources import CRATES, TOP, files
 
-# A crate that so many others call has a page on how to call it.
-CALLERS = 3
 BLOCK = re.compile(r"^```rust\n(.*?)^```$", re.M | re.S)
 HEAD = re.compile(r"^( *)(?:pub(?:\([a-z]+\))? )?(?:const )?fn (\w+)", re.M)
 
@@ -40,14 +38,14 @@ def wrong_blocks(page):
 
 
 def wrong_callings(pages):
-    """Crates that three or more call, and that have definitions, but no page on how to call them."""
+    """Crates that others call, and that have definitions, but no page on how to call them."""
     rows = [it.split("#")[0] for it in (TOP / "crates.txt").read_text().split("\n")]
     needs = [it.split(":")[1].split() for it in rows if ":" in it]
     for crate in CRATES:
-        callers = sum(crate in it for it in needs)
+        is_called = any(crate in it for it in needs)
         page = f"crates/{crate}/CALLING.md"
-        if callers >= CALLERS and (TOP / f"crates/{crate}/specs").is_dir() and page not in pages:
-            yield f"{page}: {callers} crates call {crate}, and there is no such page"
+        if is_called and (TOP / f"crates/{crate}/specs").is_dir() and page not in pages:
+            yield f"{page}: other crates call {crate}, and there is no such page"
 
 
 def function_at(lines, start, indent, has_body):
