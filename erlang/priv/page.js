@@ -82,7 +82,7 @@
                 : "after " + before + (cause >= 0 && !isPlain(cause) ? ", which " + absent : ""),
              a: "perhaps after " + before + ", or after another message like it",
              r: after, w: "after " + before + ", a spawn's answer",
-             t: "after " + before + ", whose token was put back",
+             t: "after " + before + ", whose token was put back or set by hand",
              v: "perhaps after " + before + ", as counts alone don't tell",
              u: "perhaps after " + before,
              l: "begins label " + visible(labels[rows.label[row]]) + " here, or set it on its token"

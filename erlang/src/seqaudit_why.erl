@@ -82,7 +82,7 @@ name({Pid, At}, Legend) -> seqaudit_bundle:name(Pid, At, Legend).
 cause({sent, {sent_to, _}}, Legend) -> ["its send ", seqaudit_legend:absent(Legend)];
 cause({alike, Id}, Legend) -> ["perhaps after ", name(Id, Legend), ", or after another message like it"];
 cause({spawned, Id}, Legend) -> ["after ", name(Id, Legend), ", a spawn's answer"];
-cause({restored, Id}, Legend) -> ["after ", name(Id, Legend), ", whose token was put back"];
+cause({restored, Id}, Legend) -> ["after ", name(Id, Legend), ", whose token was put back or set by hand"];
 cause({perhaps, Id}, Legend) -> ["perhaps after ", name(Id, Legend), ", as counts alone don't tell"];
 cause({supposed, Id}, Legend) -> ["perhaps after ", name(Id, Legend)];
 cause({unreported, Id}, Legend) ->

@@ -115,8 +115,8 @@ token_put_back_test_() ->
         has_none(Audit, ["nobody reported", "unknown message"]),
         has(Command(["why", "--event", "asker#5"]),
             ["because (a token was put back here, or its serial set by hand) worker#0: worker receives {", "because asker#4: asker sends "]),
-        has(Command(["chart", "--label", "1"]), ["{answer,7}  after worker#0, whose token was put back\n",
-                                                 "answered  after worker#0, whose token was put back\n"])
+        has(Command(["chart", "--label", "1"]), ["{answer,7}  after worker#0, whose token was put back or set by hand\n",
+                                                 "answered  after worker#0, whose token was put back or set by hand\n"])
     end).
 
 %% With the send flag off nobody can tell which of two tokens was put back. No message is supposed in its place.
