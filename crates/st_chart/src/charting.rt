@@ -243,7 +243,8 @@ fn send_chart<W: ByteSink>(
 
 /// Writes the chart of the items that have this label, in their order: its lanes, and a line for
 /// each. An item at whose place there is no event has no label and is left out; each item of these
-/// streams has one. The causes are those of these streams. It takes memory for its lanes alone.
+/// streams has one. The causes are those of these streams. It takes memory for its lanes, without
+/// which it fails, and up to 128 kB for what waits for the writer, without which it is slower.
 pub fn chart<W: ByteSink>(
     alloc: Global,
     writer: &mut W,

@@ -2,7 +2,8 @@
 //! of one label, a picture in text of which message caused which.
 //!
 //! Both are defined byte for byte in `specs/`. A report is written through a buffer on the stack, a
-//! chart through one on the heap. Nothing here judges: the findings, the order and the causes come from the crates below.
+//! chart through one on the heap. Nothing here judges: the findings, the order and the causes come
+//! from the crates below.
 #![tactic(auto)]
 
 mod charted_item;
