@@ -743,8 +743,8 @@
       "a line that ends in a bar: a message whose receive isn't in the trace",
       "dashed: " + (data.cut ? "not here" : "unreported") + ", but other events tell of it",
       "?: what the event follows may be something else, or may not " + (data.cut ? "be here" : "have been reported"),
-      "a cause holds if each receive of a token " + (data.cut ? "is here" : "was reported") + ", and if no process set a token of a label that it or "
-        + "another process had had before, but where it's said",
+      "a cause holds if each receive of a token " + (data.cut ? "is here" : "was reported") + ", and if no process "
+        + "set a token of a label that it or another process had had before, but where it's said",
       "\u25cf the chosen event; \u2191 its causes, blue; \u2193 its effects, orange",
       "double line: a reset, or another run, begins below it",
       "arrow keys, Page Up and Down, Home, End: go to another event",

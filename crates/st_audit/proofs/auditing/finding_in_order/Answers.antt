@@ -40,9 +40,10 @@ loop-number-init g c =
 
 pub loop-number-preserved : goal.loop-number-preserved
 loop-number-preserved g c =
+    let given = c.requires.prepared in
     let top = g.row.TOP in
     let streams = c.args.streams.now in
-    let rising = c.requires.prepared.are_streams.draft.rising in
+    let rising = given.are_streams.draft.rising in
     let xs = c.args.items.now in
     let n = c.loop-number.number in
     let within = c.loop-number-test.true in
@@ -51,11 +52,11 @@ loop-number-preserved g c =
     let now = c.append.new.self in
     let earlier = earlier_of streams (take n xs) in
     let x = get_or xs n none in
-    let here = course_item top streams rising xs c.requires.prepared.order n none within old.world old.acts way in
+    let here = course_item top streams rising xs given.order n none within old.world old.acts way in
     let met = c.in-Ok-append.ensures.exact x here.event (slice_get-get_or xs n none within) here.there in
     record {
       so_far = c.in-Ok-append.ensures.so_far;
-      way = course_next top streams rising xs c.requires.prepared.order n none within old.world old.acts way now.world now.acts
+      way = course_next top streams rising xs given.order n none within old.world old.acts way now.world now.acts
           met.acts met.outcomes (sym (all_told_turn streams old earlier (move_by x here.event)) ∙ met.through)
           met.after met.put;
       matched = c.in-Ok-append.ensures.matched;
@@ -63,9 +64,10 @@ loop-number-preserved g c =
 
 pub returns-in-Err-Uncaused : goal.returns-in-Err-Uncaused
 returns-in-Err-Uncaused g c =
+    let given = c.requires.prepared in
     let top = g.row.TOP in
     let streams = c.args.streams.now in
-    let rising = c.requires.prepared.are_streams.draft.rising in
+    let rising = given.are_streams.draft.rising in
     let xs = c.args.items.now in
     let n = c.loop-number.number in
     let within = c.loop-number-test.true in
@@ -74,21 +76,22 @@ returns-in-Err-Uncaused g c =
     let earlier = earlier_of streams (take n xs) in
     let at = c.place-index.result in
     let x = get_or xs n none in
-    let here = course_item top streams rising xs c.requires.prepared.order n none within old.world old.acts way in
+    let here = course_item top streams rising xs given.order n none within old.world old.acts way in
     let turn = item_turn streams all_told old earlier (move_by x here.event) in
     let met : turn ≡ Refused reason.Uncaused =
     subst (λ h. Meets {T = Unit {0}} SaysNothing turn old (Err h) c.append.new.self) c.in-Err-Uncaused.field-0-is
     (c.in-Err-Uncaused.ensures.exact x here.event (slice_get-get_or xs n none within) here.there) in
-    let ends = course_refused top streams rising xs c.requires.prepared.order n none within old.world old.acts way at
+    let ends = course_refused top streams rising xs given.order n none within old.world old.acts way at
     c.place-index.ensures
     reason.Uncaused (sym (all_told_turn streams old earlier (move_by x here.event)) ∙ met) in
     record { exact = subst (λ end. IsFoundAt top streams end (finding.Unfit at.0 at.1 reason.Uncaused)) ends refl }
 
 pub returns-in-Err-TooWide : goal.returns-in-Err-TooWide
 returns-in-Err-TooWide g c =
+    let given = c.requires.prepared in
     let top = g.row.TOP in
     let streams = c.args.streams.now in
-    let rising = c.requires.prepared.are_streams.draft.rising in
+    let rising = given.are_streams.draft.rising in
     let xs = c.args.items.now in
     let n = c.loop-number.number in
     let within = c.loop-number-test.true in
@@ -97,21 +100,22 @@ returns-in-Err-TooWide g c =
     let earlier = earlier_of streams (take n xs) in
     let at = c.place-index.result in
     let x = get_or xs n none in
-    let here = course_item top streams rising xs c.requires.prepared.order n none within old.world old.acts way in
+    let here = course_item top streams rising xs given.order n none within old.world old.acts way in
     let turn = item_turn streams all_told old earlier (move_by x here.event) in
     let met : turn ≡ Refused reason.TooWide =
     subst (λ h. Meets {T = Unit {0}} SaysNothing turn old (Err h) c.append.new.self) c.in-Err-TooWide.field-0-is
     (c.in-Err-TooWide.ensures.exact x here.event (slice_get-get_or xs n none within) here.there) in
-    let ends = course_refused top streams rising xs c.requires.prepared.order n none within old.world old.acts way at
+    let ends = course_refused top streams rising xs given.order n none within old.world old.acts way at
     c.place-index.ensures
     reason.TooWide (sym (all_told_turn streams old earlier (move_by x here.event)) ∙ met) in
     record { exact = subst (λ end. IsFoundAt top streams end (finding.Unfit at.0 at.1 reason.TooWide)) ends refl }
 
 pub returns-in-Err-Stopped : goal.returns-in-Err-Stopped
 returns-in-Err-Stopped g c =
+    let given = c.requires.prepared in
     let top = g.row.TOP in
     let streams = c.args.streams.now in
-    let rising = c.requires.prepared.are_streams.draft.rising in
+    let rising = given.are_streams.draft.rising in
     let xs = c.args.items.now in
     let n = c.loop-number.number in
     let within = c.loop-number-test.true in
@@ -121,12 +125,12 @@ returns-in-Err-Stopped g c =
     let earlier = earlier_of streams (take n xs) in
     let at = c.place-index.result in
     let x = get_or xs n none in
-    let here = course_item top streams rising xs c.requires.prepared.order n none within old.world old.acts way in
+    let here = course_item top streams rising xs given.order n none within old.world old.acts way in
     let turn = item_turn streams all_told old earlier (move_by x here.event) in
     let met : Meets {T = Unit {0}} SaysNothing turn old (Err halt.Stopped) now =
     subst (λ h. Meets {T = Unit {0}} SaysNothing turn old (Err h) now) c.in-Err-Stopped.field-0-is
     (c.in-Err-Stopped.ensures.exact x here.event (slice_get-get_or xs n none within) here.there) in
-    let ends = course_stops top streams rising xs c.requires.prepared.order n none within old.world old.acts way at
+    let ends = course_stops top streams rising xs given.order n none within old.world old.acts way at
     c.place-index.ensures
     now.acts met.acts (sym (all_told_turn streams old earlier (move_by x here.event)) ∙ met.stopped) met.put in
     let judged = subst (λ acts. IfOk c.judge-in-Err-Stopped.result (IsFoundAt top streams (Judged acts (Some at))))

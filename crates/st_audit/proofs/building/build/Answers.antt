@@ -34,6 +34,7 @@ loop-number-init g c =
 
 pub loop-number-preserved : goal.loop-number-preserved
 loop-number-preserved g c =
+    let given = c.requires.prepared in
     let top = g.row.TOP in
     let streams = c.args.streams.now in
     let marks = g.M.Tells.marks c.args.marks.now in
@@ -46,15 +47,16 @@ loop-number-preserved g c =
           let track = c.loop-number.invariant.track plain in
           let at = slice_get-get_or xs n none c.loop-number-test.true in
           let x = get_or xs n none in
-          let m = item_goes top streams marks c.requires.prepared.are_streams plain xs c.requires.prepared.order n x at old.world old.acts
+          let m = item_goes top streams marks given.are_streams plain xs given.order n x at old.world old.acts
           track in
-          goes_track top streams marks c.requires.prepared.are_streams plain xs c.requires.prepared.order n x at old track c.append.new.self
+          goes_track top streams marks given.are_streams plain xs given.order n x at old track c.append.new.self
           (c.in-Ok-append.ensures.exact x m.event at m.there);
       matched = c.in-Ok-append.ensures.matched;
     }
 
 pub returns-in-Err-Uncaused : goal.returns-in-Err-Uncaused
 returns-in-Err-Uncaused g c = λ plain.
+    let given = c.requires.prepared in
     let xs = c.args.items.now in
     let n = c.loop-number.number in
     let old = c.loop-number.construction in
@@ -63,15 +65,16 @@ returns-in-Err-Uncaused g c = λ plain.
     let at = slice_get-get_or xs n none c.loop-number-test.true in
     let x = get_or xs n none in
     let track = c.loop-number.invariant.track plain in
-    let m = item_goes g.row.TOP streams marks c.requires.prepared.are_streams plain xs c.requires.prepared.order n x at old.world old.acts
+    let m = item_goes g.row.TOP streams marks given.are_streams plain xs given.order n x at old.world old.acts
     track in
-    let same = goes_memory g.row.TOP streams marks c.requires.prepared.are_streams plain xs c.requires.prepared.order n x at old track
+    let same = goes_memory g.row.TOP streams marks given.are_streams plain xs given.order n x at old track
     c.in-Err-Uncaused.field-0 c.append.new.self (c.in-Err-Uncaused.ensures.exact x m.event at m.there) in
     let is = c.in-Err-Uncaused.field-0-is in
     absurd (cc)
 
 pub returns-in-Err-TooWide : goal.returns-in-Err-TooWide
 returns-in-Err-TooWide g c = λ plain.
+    let given = c.requires.prepared in
     let xs = c.args.items.now in
     let n = c.loop-number.number in
     let old = c.loop-number.construction in
@@ -80,15 +83,16 @@ returns-in-Err-TooWide g c = λ plain.
     let at = slice_get-get_or xs n none c.loop-number-test.true in
     let x = get_or xs n none in
     let track = c.loop-number.invariant.track plain in
-    let m = item_goes g.row.TOP streams marks c.requires.prepared.are_streams plain xs c.requires.prepared.order n x at old.world old.acts
+    let m = item_goes g.row.TOP streams marks given.are_streams plain xs given.order n x at old.world old.acts
     track in
-    let same = goes_memory g.row.TOP streams marks c.requires.prepared.are_streams plain xs c.requires.prepared.order n x at old track
+    let same = goes_memory g.row.TOP streams marks given.are_streams plain xs given.order n x at old track
     c.in-Err-TooWide.field-0 c.append.new.self (c.in-Err-TooWide.ensures.exact x m.event at m.there) in
     let is = c.in-Err-TooWide.field-0-is in
     absurd (cc)
 
 pub returns-in-Err-Stopped : goal.returns-in-Err-Stopped
 returns-in-Err-Stopped g c = λ plain.
+    let given = c.requires.prepared in
     let xs = c.args.items.now in
     let n = c.loop-number.number in
     let old = c.loop-number.construction in
@@ -97,15 +101,16 @@ returns-in-Err-Stopped g c = λ plain.
     let at = slice_get-get_or xs n none c.loop-number-test.true in
     let x = get_or xs n none in
     let track = c.loop-number.invariant.track plain in
-    let m = item_goes g.row.TOP streams marks c.requires.prepared.are_streams plain xs c.requires.prepared.order n x at old.world old.acts
+    let m = item_goes g.row.TOP streams marks given.are_streams plain xs given.order n x at old.world old.acts
     track in
-    let same = goes_memory g.row.TOP streams marks c.requires.prepared.are_streams plain xs c.requires.prepared.order n x at old track
+    let same = goes_memory g.row.TOP streams marks given.are_streams plain xs given.order n x at old track
     c.in-Err-Stopped.field-0 c.append.new.self (c.in-Err-Stopped.ensures.exact x m.event at m.there) in
     let is = c.in-Err-Stopped.field-0-is in
     absurd (cc)
 
 pub returns : goal.returns
 returns g c = λ plain.
+    let given = c.requires.prepared in
     let top = g.row.TOP in
     let streams = c.args.streams.now in
     let marks = g.M.Tells.marks c.args.marks.now in
@@ -115,7 +120,7 @@ returns g c = λ plain.
     let track = c.loop-number.invariant.track plain in
     let same = sym c.into_acts.ensures in (
       subst (Shows top (told_parts marks streams)) same
-          (track_shows top streams marks c.requires.prepared.are_streams plain.settled xs c.requires.prepared.order n now.world now.acts
+          (track_shows top streams marks given.are_streams plain.settled xs given.order n now.world now.acts
           (omega arith) track),
       subst NoReset same track.one_trace,
     )

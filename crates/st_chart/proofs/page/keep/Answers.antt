@@ -8,6 +8,7 @@ returns-in-Ok g c = goes_buffer g.W.ByteSink.puts g.W.ByteSink.failed c.in-Ok.en
 
 pub returns-in_ok-turn-in-Err : goal.returns-in_ok-turn-in-Err
 returns-in_ok-turn-in-Err g c =
-    let went = rw c.in-Err.ensures.items at (rw c.in_ok-turn-in-Err.ensures.empty at c.in_ok-turn-in-Err.ensures.goes) in
-    rw c.in_ok-turn-in-Err.ensures.empty
+    let turned = c.in_ok-turn-in-Err.ensures in
+    let went = rw c.in-Err.ensures.items at (rw turned.empty at turned.goes) in
+    rw turned.empty
     (then_on g.W.ByteSink.puts g.W.ByteSink.failed [] c.args.bytes.now _ _ c.put_all.result went c.put_all.ensures)

@@ -1,4 +1,5 @@
--- A piece is the front of what waits, and what is behind it waits on. If less than a piece waits nothing has to be written.
+-- A piece is the front of what waits, and what is behind it waits on. If less than a piece waits
+-- nothing has to be written.
 use Rattle.std.proofs.Common.{◌≡◌, ◌++◌, take, drop, sym}
 use Rattle.std.proofs.lemmas.List.{take-append-drop}
 use Rattle.st_text.specs.Room.{piece_room}

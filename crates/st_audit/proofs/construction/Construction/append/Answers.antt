@@ -18,6 +18,7 @@ use Rattle.st_audit.proofs.construction.Construction.append.Goals as goal
 
 pub returns-in-Reported-clause-exact : goal.returns-in-Reported-clause-exact
 returns-in-Reported-clause-exact g c = λ x e at there.
+    let given = c.requires.prepared in
     let streams = c.args.streams.now in
     let xs = c.args.items.now in
     let n = c.args.number in
@@ -36,12 +37,13 @@ returns-in-Reported-clause-exact g c = λ x e at there.
     → Meets {T = Unit {0}} SaysNothing (item_turn streams marks old earlier (move_by y e)) old c.report.result new) same
     (λ found. subst (λ t. Meets {T = Unit {0}} SaysNothing t old c.report.result new)
     (report_turn_is streams marks earlier old c.requires.so_far p i e)
-    (c.report.ensures.exact e (event_count p earlier) found c.requires.prepared.paired counted)) there
+    (c.report.ensures.exact e (event_count p earlier) found given.paired counted)) there
 
 pub returns-in-Reported-clause-so_far : goal.returns-in-Reported-clause-so_far
 returns-in-Reported-clause-so_far g c =
+    let given = c.requires.prepared in
     let streams = c.args.streams.now in
-    let rising = c.requires.prepared.are_streams.draft.rising in
+    let rising = given.are_streams.draft.rising in
     let xs = c.args.items.now in
     let n = c.args.number in
     let p = c.in-Reported.pid in
@@ -52,7 +54,7 @@ returns-in-Reported-clause-so_far g c =
     let earlier = earlier_of streams (take n xs) in
     let x = item.Reported p i in
     let here = slice_get-get_or xs n _ c.requires.within ∙ ap (λ (x : Item). Some x) c.in-Reported.is in
-    let found = event_there streams x (all_at (IsThere streams) xs n x (order_there streams rising xs c.requires.prepared.order)
+    let found = event_there streams x (all_at (IsThere streams) xs n x (order_there streams rising xs given.order)
     here) in
     let e = found.0 in
     let below = told_below streams p xs n in
@@ -60,8 +62,8 @@ returns-in-Reported-clause-so_far g c =
     λ k at. c.requires.so_far.told k p at (omega (arith, c.ranges.number)) in
     let met = subst (λ t. Meets {T = Unit {0}} SaysNothing t old c.report.result new)
     (report_turn_is streams marks earlier old c.requires.so_far p i e)
-    (c.report.ensures.exact e (event_count p earlier) found.1 c.requires.prepared.paired counted) in
-    next_so_far streams marks xs n old new c.requires.so_far rising c.requires.prepared.order c.requires.prepared.paired.accepted x e here
+    (c.report.ensures.exact e (event_count p earlier) found.1 given.paired counted) in
+    next_so_far streams marks xs n old new c.requires.so_far rising given.order given.paired.accepted x e here
     found.1 c.report.result met (c.report.ensures.skipped e found.1) (c.report.ensures.told ∙ c.requires.so_far.listed)
     (IfOk-weaker c.report.result _ (λ u. AreTold streams (move_by x e ∷ earlier) new.told.items)
     (λ u tells. told_next streams earlier old.told.items new.told.items p i e rising c.requires.so_far.told tells)
@@ -88,8 +90,9 @@ returns-in-Hidden-clause-exact g c = λ x e at there.
 
 pub returns-in-Hidden-clause-so_far : goal.returns-in-Hidden-clause-so_far
 returns-in-Hidden-clause-so_far g c =
+    let given = c.requires.prepared in
     let streams = c.args.streams.now in
-    let rising = c.requires.prepared.are_streams.draft.rising in
+    let rising = given.are_streams.draft.rising in
     let xs = c.args.items.now in
     let n = c.args.number in
     let p = c.in-Hidden.pid in
@@ -100,13 +103,13 @@ returns-in-Hidden-clause-so_far g c =
     let earlier = earlier_of streams (take n xs) in
     let x = item.Hidden p i in
     let here = slice_get-get_or xs n _ c.requires.within ∙ ap (λ (x : Item). Some x) c.in-Hidden.is in
-    let found = event_there streams x (all_at (IsThere streams) xs n x (order_there streams rising xs c.requires.prepared.order)
+    let found = event_there streams x (all_at (IsThere streams) xs n x (order_there streams rising xs given.order)
     here) in
     let e = found.0 in
     let met = subst (λ t. Meets {T = Unit {0}} SaysNothing t old c.send_hidden.result new)
     (hidden_turn_is streams marks earlier old c.requires.so_far p i e) (c.send_hidden.ensures.exact e found.1) in
     let kept = sym c.send_hidden.ensures.told in
-    next_so_far streams marks xs n old new c.requires.so_far rising c.requires.prepared.order c.requires.prepared.paired.accepted x e here
+    next_so_far streams marks xs n old new c.requires.so_far rising given.order given.paired.accepted x e here
     found.1 c.send_hidden.result met (c.send_hidden.ensures.skipped e found.1)
     (ap (λ t. length t.items) c.send_hidden.ensures.told ∙ c.requires.so_far.listed)
     (on_ok c.send_hidden.result (AreTold streams (move_by x e ∷ earlier) new.told.items)
