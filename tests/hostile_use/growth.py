@@ -21,9 +21,6 @@ from .stream_families import CROWDS, STREAMS, Nodes
 from .texts import LABEL, SECOND, bundle, is_event, on_nodes
 
 BOUND = 1.25
-# What looks at a long queue in no order waits for memory, and a longer queue lies in slower memory. The instructions grow
-# as the power 1.03.
-OF_MEMORY = {"hidden sends with counts in no order": 1.35}
 PARTS = (9, 3, 1)  # The sizes are these parts of a family's greatest.
 LONG = 8  # With --long they are so many times as great.
 ROUNDS = 8  # The least time of each size counts, since others use the processor too.
@@ -208,7 +205,7 @@ def made_sizes(folder, family, times):
     return {size: Text(os.path.join(folder, str(size)), lines_of(family.make(size))) for size in sizes}
 
 
-def grown(name, program, words, texts, bound):
+def grown(name, program, words, texts):
     """The check that the command's time grows no faster than it may."""
     least = {}
     for _ in range(ROUNDS):
@@ -220,11 +217,11 @@ def grown(name, program, words, texts, bound):
                 return Check(f"{name}: at {size:,} the text is refused", skipped=True)
             least[size] = min(cost, least.get(size, cost))
         power = exponent(least)
-        is_right = power <= bound or least[max(texts)].seconds < LEAST_SECONDS
+        is_right = power <= BOUND or least[max(texts)].seconds < LEAST_SECONDS
         if is_right:
             break
     note = f"power {power:.2f}; " + ", ".join(f"{size:,} in {it.seconds:.3f} s" for size, it in least.items())
-    return Check(name, None if is_right else f"more than {bound}: {note}", note)
+    return Check(name, None if is_right else f"more than {BOUND}: {note}", note)
 
 
 def is_refused(words, status):
@@ -270,12 +267,11 @@ def tried(programs, number, long=False):
     with tempfile.TemporaryDirectory() as folder, tempfile.TemporaryDirectory() as other:
         if not (texts := texts_of(folder, LONG if long else 1)):
             return
-        bound = OF_MEMORY.get(family.name, BOUND)
         for program, command in chosen(group, family, programs, long):
             name = named("growth", family, program, command, group.certified)
-            check = grown(name, program, command, texts, bound)
+            check = grown(name, program, command, texts)
             if check.problem and not long and (greater := texts_of(other, LONG)):
-                again = grown(name, program, command, greater, bound)
+                again = grown(name, program, command, greater)
                 check = check if again.skipped else again
             yield check
 

@@ -7,10 +7,10 @@ use Rattle.st_core.specs.Pid.{pid_eq}
 use Rattle.st_core.specs.State.{LocalState, Process, State, process, zero_local, zero_state}
 use Rattle.st_core.specs.Step.{Acted, Outcome, step}
 use Rattle.st_core.proofs.ForCallers.{pid_same}
-use Rattle.st_audit.specs.Progress.{AreCounted, IsCounted}
+use Rattle.st_audit.specs.Progress.{AreAllCounted, IsCounted}
 use Rattle.st_audit.proofs.Counts.{HaveSame, actor_same, others_same}
 
-zero_counted : (pids : List Pid) → AreCounted [] (zero_state pids)
+zero_counted : (pids : List Pid) → AreAllCounted [] (zero_state pids)
 zero_counted [] x r h = absurd (none-some r h)
 zero_counted (p ∷ pids) x r h =
     let made : Process = record { pid = p; local = zero_local; queue = [] } in
@@ -20,8 +20,8 @@ zero_counted (p ∷ pids) x r h =
       | false ↦ λ h. zero_counted pids x r h
     ] h
 
-pub begins : (pids : List Pid) (s : State) → s ≡ zero_state pids → AreCounted [] s
-begins pids s is = subst (AreCounted []) (sym is) (zero_counted pids)
+pub begins : (pids : List Pid) (s : State) → s ≡ zero_state pids → AreAllCounted [] s
+begins pids s is = subst (AreAllCounted []) (sym is) (zero_counted pids)
 
 counted_as : (l m : LocalState) (x : Pid) → HaveSame l m → IsCounted [] x m → IsCounted [] x l
 counted_as l m x same was = record {
@@ -30,7 +30,7 @@ counted_as l m x same was = record {
 }
 
 pub tracer_counted : (top : ℕ) (s : State) (p : Pid) (b : Bool) (o : Outcome) → step top s (act.Tracer p b) ≡ Some o
-    → AreCounted [] s → AreCounted [] o.after
+    → AreAllCounted [] s → AreAllCounted [] o.after
 tracer_counted top s p b o h counted x r is =
     elim (pid_eq x p) as (λ c. pid_eq x p ≡ c → IsCounted [] x r.local) [
       | true ↦ λ e.

@@ -36,7 +36,7 @@ use Rattle.st_audit.specs.declared.construction.Construction.{Construction}
 use Rattle.st_audit.specs.declared.construction.Halt.{Halt}
 use Rattle.st_audit.specs.Construction.{acts_from, last_report, Turn, Through, Stopped, Refused}
 use Rattle.st_audit.specs.Progress.{if_told, is_below, is_high, is_marked, is_uncaused, item_turn, marked_turn}
-use Rattle.st_audit.specs.Progress.{missing_count, move_skip, AreCounted, AreTold, IsCounted, IsSoFar, SaysNothing}
+use Rattle.st_audit.specs.Progress.{missing_count, move_skip, AreAllCounted, AreTold, IsCounted, IsSoFar, SaysNothing}
 use Rattle.st_audit.specs.Progress.{Meets, WentThrough}
 use Rattle.st_audit.proofs.Attempts.{attempt_runs, last_report-push, outcomes_in, Attempted}
 use Rattle.st_audit.proofs.MoveActs.{hidden_acts, hidden_goes, last_step, print_acts, receive_acts, send_acts}
@@ -49,8 +49,8 @@ use Rattle.st_audit.proofs.MovedCounts.{hidden_moves, reported_moves, taken_move
 abbrev count_of : Move → ℕ
 count_of m = cond (is_taking m) m.event.serial.this m.event.serial.prev
 
-counted_next : (earlier : List Move) (m : Move) (old new : State) → AreCounted earlier old
-    → HasMoved m.who m.event.serial (count_of m) old new → AreCounted (m ∷ earlier) new
+counted_next : (earlier : List Move) (m : Move) (old new : State) → AreAllCounted earlier old
+    → HasMoved m.who m.event.serial (count_of m) old new → AreAllCounted (m ∷ earlier) new
 counted_next earlier m old new counted moved x r h =
     let this = m.event.serial.this in
     elim (pid_eq m.who x) as (λ b. pid_eq m.who x ≡ b
@@ -309,7 +309,7 @@ module _ {top : ℕ} (streams : List Stream) (marks : Marks) (xs : List Item) (n
       let moved = subst (HasMoved m.who m.event.serial (count_of m) old.world) (sym went.after)
       (item_moved x e at there went.acts went.outcomes runs by.0 by.1 by.2) in
       record {
-        counted = subst (λ ms. AreCounted ms new.world) (sym more)
+        counted = subst (λ ms. AreAllCounted ms new.world) (sym more)
             (counted_next past m old.world new.world so.counted moved);
         missed = skipped ∙ ap (λ k. k + old.skipped) (skip_as past m old.world by.0 by.1 was)
             ∙ ap (λ k. skip past m + k) so.missed ∙ ap skips (sym more);

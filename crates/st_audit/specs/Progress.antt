@@ -53,8 +53,8 @@ pub record IsCounted (earlier : List Move) (p : Pid) (l : LocalState) : Type 0 w
   pub lasted : l.last ≡ last p earlier
 
 -- those of each process, in this state
-abbrev pub AreCounted : List Move → State → Type 0
-AreCounted earlier s = (p : Pid) (r : Process) → process s p ≡ Some r → IsCounted earlier p r.local
+abbrev pub AreAllCounted : List Move → State → Type 0
+AreAllCounted earlier s = (p : Pid) (r : Process) → process s p ≡ Some r → IsCounted earlier p r.local
 
 -- the counts are of the events that these moves report, as long as 64 bits hold these
 abbrev pub AreTold : List Stream → List Move → List ℕ → Type 0
@@ -64,7 +64,7 @@ AreTold streams earlier counts = (k : ℕ) (p : Pid) → slice_get (pids_of stre
 -- the construction is as these moves make it
 pub record IsSoFar {top : ℕ} (streams : List Stream) (earlier : List Move)
     (c : Construction top) : Type 0 where
-  pub counted : AreCounted earlier c.world
+  pub counted : AreAllCounted earlier c.world
   pub missed : c.skipped ≡ skips earlier
   pub listed : length c.told.items ≡ length streams
   pub told : AreTold streams earlier c.told.items

@@ -7,7 +7,7 @@
 //!
 //! | Call | Cost | Memory |
 //! |---|---|---|
-//! | `new` | as many steps as slots | takes some: 16 to 32 bytes a slot |
+//! | `new` | as many steps as slots | takes some: 1 to 3 bytes a slot |
 //! | `push` | as many steps as the length has bits | takes some |
 //! | `remove`, and each call that finds a place | as many steps as the length has bits | none |
 //! | `room`, `keys` | constant | none |

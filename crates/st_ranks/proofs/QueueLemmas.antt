@@ -8,13 +8,7 @@ use Rattle.std.proofs.lemmas.Option.{slice_get_within}
 use Rattle.std.specs.List.{sum}
 use Rattle.std.specs.Prelude.{remove, replicate}
 use Rattle.st_ranks.specs.Queue.{kept, marks, before, AreRanksOf}
-use Rattle.st_ranks.proofs.RankLemmas.{no_live}
-
--- a spare slot is dead
-no_mark : (spare slot : ℕ) → get_or (replicate spare zero) slot 0 ≡ 0
-no_mark zero slot = refl
-no_mark (suc spare) zero = refl
-no_mark (suc spare) (suc slot) = no_mark spare slot
+use Rattle.st_ranks.proofs.RankLemmas.{no_live, no_mark}
 
 module _ {T : Type 0} where
   -- ---- slots and the queue

@@ -135,6 +135,12 @@ live_with_mark (x ∷ xs) (suc slot) mark inside =
 abbrev new_marks : ℕ → ℕ → List ℕ
 new_marks live dead = replicate live 1 ++ replicate dead 0
 
+-- a spare slot is dead
+pub no_mark : (spare slot : ℕ) → get_or (replicate spare zero) slot 0 ≡ 0
+no_mark zero slot = refl
+no_mark (suc spare) zero = refl
+no_mark (suc spare) (suc slot) = no_mark spare slot
+
 pub no_live : (dead : ℕ) → sum (replicate dead 0) ≡ 0
 no_live zero = refl
 no_live (suc dead) = omega (arith, no_live dead, sum_by-cons (λ n. n) 0 (replicate dead 0))

@@ -1,10 +1,8 @@
 -- Sums over the levels of the tree.
-use Rattle.std.proofs.Common.{◌≡◌, ℕ, zero, suc, ◌+◌, ◌<◌, ◌≤◌, ◌-◌, List, length, refl, sym, ap, ◌∙◌, arith}
-use Rattle.std.proofs.Common.{inl, inr, take, drop, get_or, set, [], ◌∷◌, ◌≢◌, ◌^◌}
+use Rattle.std.proofs.Common.{◌≡◌, ℕ, zero, suc, ◌+◌, ◌<◌, ◌≤◌, ◌-◌, ◌*◌, List, length, refl, sym, ap, ◌∙◌, arith}
+use Rattle.std.proofs.Common.{inl, inr, drop, get_or, set, ◌≢◌, ◌^◌}
 use Rattle.std.proofs.lemmas.Bool.{cases_lt, cases_eq}
-use Rattle.std.proofs.lemmas.List.{get_or-drop, length-drop, get_or-set_same, get_or-set_other}
-use Rattle.std.proofs.lemmas.List.Sums.{sum_by_more}
-use Rattle.std.specs.List.{sum}
+use Rattle.std.proofs.lemmas.List.{get_or-drop, get_or-set_same, get_or-set_other}
 use Rattle.st_ranks.specs.Tree.{count_at, sums, wide, AddsUpFrom, IsTree}
 
 -- a level has a node
@@ -37,9 +35,9 @@ module _ (f : ℕ → ℕ) where
       rw (← left, ← right) here in
       rw two (omega (arith, before, last))
 
-  -- what counts 1 at most at each node sums up to the number of nodes at most
-  pub sums-le : (start count end : ℕ) → count ≤ end → ((slot : ℕ) → slot < end → f (start + slot) ≤ 1)
-      → sums f start count ≤ count
+  -- what counts 64 at most at each node sums up to 64 times the number of nodes at most
+  pub sums-le : (start count end : ℕ) → count ≤ end → ((leaf : ℕ) → leaf < end → f (start + leaf) ≤ 64)
+      → sums f start count ≤ count * 64
   sums-le start zero end within leaf = omega arith
   sums-le start (suc count) end within leaf =
       let before = sums-le start count end (omega (arith, within)) leaf in
@@ -54,19 +52,19 @@ within counts height tree level start place low is inside =
     let le = wide-le level height low in
     omega (arith, len, le, is, inside)
 
--- what the climb adds keeps the sum below the slot
-pub rank-fits : (counts : List ℕ) (height : ℕ) → IsTree counts height → (size slot sum start place : ℕ)
-    → size ≡ wide height → slot < size → sum + sums (count_at counts) start place ≡ sums (count_at counts) size slot
-    → 0 < place → sum + count_at counts (start + place - 1) ≤ slot
-rank-fits counts height tree size slot sum start place is inside total some =
+-- what the climb adds keeps the sum within what so many blocks count
+pub rank-fits : (counts : List ℕ) (height : ℕ) → IsTree counts height → (size block sum start place : ℕ)
+    → size ≡ wide height → block < size → sum + sums (count_at counts) start place ≡ sums (count_at counts) size block
+    → 0 < place → sum + count_at counts (start + place - 1) ≤ block * 64
+rank-fits counts height tree size block sum start place is inside total some =
     let before = place - 1 in
     let one : place ≡ suc before = omega (arith, some) in
     let node : start + place - 1 ≡ start + before = omega (arith, some) in
     let split : sums (count_at counts) start place
     ≡ sums (count_at counts) start before + count_at counts (start + before) = ap (sums (count_at counts) start) one in
     let at : count_at counts (start + place - 1) ≡ count_at counts (start + before) = ap (count_at counts) node in
-    let most : sums (count_at counts) size slot ≤ slot =
-    rw is (sums-le (count_at counts) (wide height) slot (wide height) (omega (arith, is, inside)) tree.leaf) in
+    let most : sums (count_at counts) size block ≤ block * 64 =
+    rw is (sums-le (count_at counts) (wide height) block (wide height) (omega (arith, is, inside)) tree.leaves) in
     omega (arith, total, split, at, most)
 
 -- a sum over an even number of nodes of a level is that over half as many one level above
@@ -114,18 +112,18 @@ unfolding reach
 reach-one zero = refl
 reach-one (suc deep) = let one = reach-one deep in let two = reach-add deep 1 1 in omega (arith, one, two)
 
--- where the leaves count 1 at most, and the nodes from `from` on what their children count
+-- if the leaves count 64 at most, and the nodes from `from` on what their children count
 module _ (counts : List ℕ) (height from : ℕ) (adds : AddsUpFrom (count_at counts) from (wide height))
-    (leaf : (slot : ℕ) → slot < wide height → count_at counts (wide height + slot) ≤ 1) where
-  below-leaf : (node : ℕ) → node < wide height + wide height → wide height ≤ node → count_at counts node ≤ 1
+    (leaves : (leaf : ℕ) → leaf < wide height → count_at counts (wide height + leaf) ≤ 64) where
+  below-leaf : (node : ℕ) → node < wide height + wide height → wide height ≤ node → count_at counts node ≤ 64
   below-leaf node inside past =
-      let slot = node - wide height in
-      let is : wide height + slot ≡ node = omega (arith, past) in
-      rw (← is) (leaf slot (omega (arith, inside, past)))
+      let leaf = node - wide height in
+      let is : wide height + leaf ≡ node = omega (arith, past) in
+      rw (← is) (leaves leaf (omega (arith, inside, past)))
 
-  -- a node so many levels above the leaves counts as many as are below it at most
+  -- a node so many levels above the leaves counts 64 times as many as are below it at most
   bound-by : (deep node : ℕ) → 0 < node → from ≤ node → node < wide height + wide height
-      → wide height ≤ reach deep node → count_at counts node ≤ wide deep
+      → wide height ≤ reach deep node → count_at counts node ≤ wide deep * 64
   unfolding reach
   bound-by zero node some high inside past = below-leaf node inside past
   bound-by (suc deep) node some high inside past =
@@ -148,7 +146,7 @@ module _ (counts : List ℕ) (height from : ℕ) (adds : AddsUpFrom (count_at co
 
   -- no node from there on counts more than all slots
   bound-from : (node : ℕ) → 0 < node → from ≤ node → node < wide height + wide height
-      → count_at counts node ≤ wide height
+      → count_at counts node ≤ wide height * 64
   bound-from node some high inside =
       let before = node - 1 in
       let is : node ≡ 1 + before = omega (arith, some) in
@@ -158,27 +156,27 @@ module _ (counts : List ℕ) (height from : ℕ) (adds : AddsUpFrom (count_at co
 
 -- no node counts more than all slots
 pub node-bound : (counts : List ℕ) (height : ℕ) → IsTree counts height → (node : ℕ) → 0 < node → node < length counts
-    → count_at counts node ≤ wide height
+    → count_at counts node ≤ wide height * 64
 node-bound counts height tree node some inside =
     let len : length counts ≡ wide height + wide height = tree.len in
-    bound-from counts height 0 (λ node some _ inner. tree.inner node some inner) tree.leaf node some (omega arith)
+    bound-from counts height 0 (λ node some _ inner. tree.inner node some inner) tree.leaves node some (omega arith)
     (omega (arith, inside, len))
 
 -- ---- adding up, from the last inner node down
 module _ (old now : List ℕ) (size height : ℕ) (is : size ≡ wide height) (len : length now ≡ size + size)
-    (leaves : (slot : ℕ) → slot < size → count_at old (size + slot) ≤ 1) (stay : drop size now ≡ drop size old) where
-  -- the leaves count 1 at most still
-  leaves_now : (slot : ℕ) → slot < wide height → count_at now (wide height + slot) ≤ 1
-  leaves_now slot inside =
-      let same : count_at now (size + slot) ≡ count_at old (size + slot) =
-      sym (get_or-drop size now slot 0) ∙ ap (λ l. get_or l slot 0) stay ∙ get_or-drop size old slot 0 in
-      let most = leaves slot (omega (arith, is, inside)) in
-      let least : count_at now (size + slot) ≤ 1 = omega (arith, same, most) in
+    (leaves : (leaf : ℕ) → leaf < size → count_at old (size + leaf) ≤ 64) (stay : drop size now ≡ drop size old) where
+  -- the leaves count 64 at most still
+  leaves_now : (leaf : ℕ) → leaf < wide height → count_at now (wide height + leaf) ≤ 64
+  leaves_now leaf inside =
+      let same : count_at now (size + leaf) ≡ count_at old (size + leaf) =
+      sym (get_or-drop size now leaf 0) ∙ ap (λ l. get_or l leaf 0) stay ∙ get_or-drop size old leaf 0 in
+      let most = leaves leaf (omega (arith, is, inside)) in
+      let least : count_at now (size + leaf) ≤ 64 = omega (arith, same, most) in
       rw (← is) least
 
   module _ (node : ℕ) (adds : AddsUpFrom (count_at now) (suc node) size) (some : 0 < node) (inside : node < size) where
     -- what two children count in all is a `u64`
-    pub children_bound : size ≤ 2 ^ 59
+    pub children_bound : size ≤ 2 ^ 53
         → count_at now (node + node) + count_at now (suc (node + node)) ≤ 2 ^ 59 + 2 ^ 59
     children_bound few =
         let adds_wide : AddsUpFrom (count_at now) (suc node) (wide height) = rw (← is) adds in
@@ -216,26 +214,7 @@ module _ (old now : List ℕ) (size height : ℕ) (is : size ≡ wide height) (l
         other : (place : ℕ) → place ≢ node → count_at (set now node sum) place ≡ count_at now place
         other place apart = get_or-set_other now node place sum 0 apart
 
--- all of a list
-take-all : (xs : List ℕ) → take (length xs) xs ≡ xs
-take-all [] = refl
-take-all (x ∷ xs) = ap (λ t. x ∷ t) (take-all xs)
-
--- the sum over the first slots, as a sum over leaves
-pub sums-list : (counts : List ℕ) (size slot : ℕ) → size + slot ≤ length counts
-    → sum (take slot (drop size counts)) ≡ sums (count_at counts) size slot
-sums-list counts size zero inside = refl
-sums-list counts size (suc slot) inside =
-    let before = sums-list counts size slot (omega (arith, inside)) in
-    let one : suc slot ≡ slot + 1 = omega arith in
-    let len = length-drop size counts in
-    let more =
-    sum_by_more (λ x. x) (drop size counts) slot 0 (omega (arith, len, inside)) in
-    let at : get_or (drop size counts) slot 0 ≡ count_at counts (size + slot) = get_or-drop size counts slot 0 in
-    let first : sum (take (suc slot) (drop size counts)) ≡ sum (take (slot + 1) (drop size counts)) =
-    ap (λ n. sum (take n (drop size counts))) one in
-    omega (arith, before, more, at, first)
-
+-- ---- the whole tree
 module _ (counts : List ℕ) (height : ℕ) (tree : IsTree counts height) where
   level-total : (level : ℕ) → level ≤ height → sums (count_at counts) (wide level) (wide level) ≡ count_at counts 1
   level-total zero low = omega arith
@@ -246,13 +225,6 @@ module _ (counts : List ℕ) (height : ℕ) (tree : IsTree counts height) where
       sums-below (count_at counts) (wide level) (wide level) (wide height) (wide-positive level) le tree.inner in
       sym down ∙ above
 
-  -- the root counts all live slots
-  pub root-total : (size : ℕ) → size ≡ wide height → sum (drop size counts) ≡ count_at counts 1
-  root-total size is =
-      let len : length counts ≡ wide height + wide height = tree.len in
-      let all : length (drop size counts) ≡ size = length-drop size counts ∙ omega (arith, len, is) in
-      let sums_are = sums-list counts size size (omega (arith, len, is)) in
-      let whole : take size (drop size counts) ≡ drop size counts =
-      ap (λ n. take n (drop size counts)) (sym all) ∙ take-all (drop size counts) in
-      let total = level-total height (omega arith) in
-      sym (ap sum whole) ∙ sums_are ∙ ap (λ n. sums (count_at counts) n n) is ∙ total
+  -- the root counts what all leaves count
+  pub root-total : sums (count_at counts) (wide height) (wide height) ≡ count_at counts 1
+  root-total = level-total height (omega arith)

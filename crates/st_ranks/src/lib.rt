@@ -7,17 +7,21 @@
 //!
 //! | Call | Cost | Memory |
 //! |---|---|---|
-//! | `new` | as many steps as slots | takes some: 16 to 32 bytes a slot |
-//! | `rank`, `select`, `mark_live`, `mark_dead` | as many steps as the number of slots has bits | none |
+//! | `new` | as many steps as slots | takes some: 1 to 3 bytes a slot |
+//! | `rank`, `select` | as many steps as the number of slots has bits, and at most 64 | none |
+//! | `mark_live`, `mark_dead` | as many steps as the number of slots has bits | none |
 //! | `len`, `live`, `is_live` | constant | none |
 //!
 //! The number of slots never changes. A queue that has used them all makes new ones, of which as
 //! many are live as it has items; so the dead ones go. If it makes twice as many as it has items,
 //! the cost of that is constant for each put.
 //!
-//! Inside is a perfect binary tree of counts, in one vector.
+//! Inside are the marks of the slots, a byte each, and a perfect binary tree of counts, whose
+//! leaves count the live slots of 64 marks each. So a search waits for memory only a few times.
 #![tactic(auto)]
 
+mod block;
+mod blocks;
 mod slots;
 mod tree;
 

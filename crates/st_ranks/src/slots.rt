@@ -1,11 +1,12 @@
 //! Slots that are live or dead, seen as a list of ones and zeros.
 
-use crate::tree::{add_up, count_down, count_live, count_up, is_live_in, rank_in, select_in};
+use crate::block::BLOCK;
+use crate::blocks::{live_before, live_slot, new_counts, new_marks, set_dead, set_live};
+use crate::tree::count_live;
 use std::alloc::{AllocError, Global};
 use std::marker::Model;
 
-/// The most slots that there are ever. A tree over more has at least 2^60 counts of 8 bytes, and so
-/// more bytes than any allocation.
+/// The most slots that there are ever. More than these, of a byte each, are no allocation.
 const MOST_SLOTS: usize = 1 << 58;
 
 /// A fixed number of slots, each live or dead.
@@ -14,20 +15,23 @@ const MOST_SLOTS: usize = 1 << 58;
 /// a sum: that of the slots before it.
 #[derive(Drop)]
 pub struct Ranks {
+    marks: Vec<u8>,
     counts: Vec<u64>,
     size: usize,
     height: usize,
 }
 
 impl Model for Ranks {
-    ghost use Rattle.std.specs.Prelude.{◌≡◌, ℕ, List, drop};
-    ghost use Rattle.st_ranks.specs.Tree.{IsTree, wide};
+    ghost use Rattle.std.specs.Prelude.{◌≡◌, ℕ, List};
+    ghost use Rattle.st_ranks.specs.Blocks.{AreCounted};
+    ghost use Rattle.st_ranks.specs.Tree.{wide};
 
     ghost Value = { List ℕ };
 
-    ghost view = { λ r. drop r.size r.counts.items };
+    ghost view = { λ r. r.marks.items };
 
-    ghost invariant = { λ r. IsTree r.counts.items r.height × (r.size ≡ wide r.height) };
+    ghost invariant = { λ r.
+        AreCounted r.marks.items r.counts.items r.height × (r.size ≡ wide r.height) };
 }
 
 impl Ranks {
@@ -36,8 +40,8 @@ impl Ranks {
     ghost use Rattle.std.specs.Prelude.{IfNone};
     ghost use Rattle.std.specs.List.{sum};
 
-    /// At least so many slots, the first `live` of them live and all others dead. There are as many
-    /// as the least power of two that is not below `slots`.
+    /// At least so many slots, the first `live` of them live and all others dead. They are in
+    /// blocks of 64, of which there are as many as a power of two.
     pub fn new(alloc: Global, slots: usize, live: usize) -> Result<Ranks, AllocError>
         requires within { live ≤ slots }
         ensures marks { IfOk result (λ ranks.
@@ -47,13 +51,11 @@ impl Ranks {
         if slots > MOST_SLOTS {
             return Err(AllocError);
         }
-        let (size, height) = size_over(slots);
-        let mut counts = Vec::with_capacity(alloc, size + size)?;
-        counts.resize(size, 0)?;
-        counts.resize(size + live, 1)?;
-        counts.resize(size + size, 0)?;
-        add_up(&mut counts, size, height);
+        let (size, height) = size_over(slots / BLOCK + 1);
+        let marks = new_marks(alloc, size * BLOCK, live)?;
+        let counts = new_counts(alloc, size, height, live)?;
         Ok(Ranks {
+            marks,
             counts,
             size,
             height,
@@ -64,7 +66,7 @@ impl Ranks {
     pub fn len(&self) -> usize
         ensures { result ≡ length self.now }
     {
-        self.size
+        self.marks.len()
     }
 
     /// How many slots are live.
@@ -80,7 +82,7 @@ impl Ranks {
         ensures live { result ≡ true → slice_index_or self.now slot 0 ≡ 1 }
         ensures dead { result ≡ false → slice_index_or self.now slot 0 ≡ 0 }
     {
-        is_live_in(&self.counts, self.size, self.height, slot)
+        self.marks[slot] == 1
     }
 
     /// How many live slots are before this one.
@@ -88,7 +90,7 @@ impl Ranks {
         requires { slot < length self.now }
         ensures { result ≡ sum (take slot self.now) }
     {
-        rank_in(&self.counts, self.size, self.height, slot)
+        live_before(&self.marks, &self.counts, self.size, self.height, slot)
     }
 
     /// The live slot before which so many live slots are, if there is one.
@@ -101,7 +103,7 @@ impl Ranks {
         if rank >= self.live() {
             return None;
         }
-        Some(select_in(&self.counts, self.size, self.height, rank))
+        Some(live_slot(&self.marks, &self.counts, self.size, self.height, rank))
     }
 
     /// Marks a dead slot live.
@@ -110,7 +112,13 @@ impl Ranks {
         requires dead { slice_index_or self.old slot 0 ≡ 0 }
         ensures { self.new ≡ slice_set self.old slot 1 }
     {
-        count_up(&mut self.counts, self.size, self.height, slot);
+        set_live(
+            &mut self.marks,
+            &mut self.counts,
+            self.size,
+            self.height,
+            slot,
+        );
     }
 
     /// Marks a live slot dead.
@@ -119,23 +127,29 @@ impl Ranks {
         requires live { slice_index_or self.old slot 0 ≡ 1 }
         ensures { self.new ≡ slice_set self.old slot 0 }
     {
-        count_down(&mut self.counts, self.size, self.height, slot);
+        set_dead(
+            &mut self.marks,
+            &mut self.counts,
+            self.size,
+            self.height,
+            slot,
+        );
     }
 }
 
-ghost use Rattle.std.specs.Prelude.{◌≡◌, ◌≤◌, ◌^◌};
+ghost use Rattle.std.specs.Prelude.{◌≡◌, ◌+◌, ◌≤◌, ◌^◌};
 ghost use Rattle.st_ranks.specs.Tree.{wide};
 
-// The size of the least tree over so many slots, and its height.
-fn size_over(slots: usize) -> (usize, usize)
-    requires few { slots ≤ 2 ^ 58 }
-    ensures room { slots ≤ result.0 }
-    ensures bound { result.0 ≤ 2 ^ 59 }
+// The size of the least tree over so many blocks, and its height.
+fn size_over(blocks: usize) -> (usize, usize)
+    requires few { blocks ≤ 2 ^ 52 + 1 }
+    ensures room { blocks ≤ result.0 }
+    ensures bound { result.0 ≤ 2 ^ 53 }
     ensures wide { result.0 ≡ wide result.1 }
 {
     let mut size = 1;
     let mut height = 0;
-    while size < slots {
+    while size < blocks {
         size += size;
         height += 1;
     }

@@ -1,9 +1,9 @@
-//! The tree: the root is node 1, and node k has the children 2k and 2k + 1; the leaves are the
-//! slots.
+//! The tree: the root is node 1, and node k has the children 2k and 2k + 1; a leaf counts the live
+//! slots of one block.
 
 ghost use Rattle.std.specs.Prelude.{◌≡◌, ◌+◌, ◌<◌, ◌≤◌, ◌^◌, ℕ, length, drop, true};
 ghost use Rattle.std.specs.Prelude.{false};
-ghost use Rattle.st_ranks.specs.Tree.{count_at, sums, wide, IsTree, IsDead, IsLive};
+ghost use Rattle.st_ranks.specs.Tree.{count_at, sums, wide, IsTree, CountsLess, CountsMore};
 
 /// How many slots are live.
 pub(crate) fn count_live(counts: &[u64], height: usize) -> u64
@@ -13,34 +13,20 @@ pub(crate) fn count_live(counts: &[u64], height: usize) -> u64
     counts[1]
 }
 
-/// Whether a slot is live.
-pub(crate) fn is_live_in(counts: &[u64], size: usize, height: usize, slot: usize) -> bool
-    requires tree { IsTree counts.now height }
-    requires size { size ≡ wide height }
-    requires in_range { slot < size }
-    ensures live { result ≡ true → count_at counts.now (size + slot) ≡ 1 }
-    ensures dead { result ≡ false → count_at counts.now (size + slot) ≡ 0 }
-{
-    // That the number of nodes is a `usize` is known where it is read, and so the sum stays in
-    // range.
-    let _node_count = counts.len();
-    counts[size + slot] == 1
-}
-
-/// How many live slots are before this one.
+/// How many slots are live in the blocks before this one.
 #[tactic(auto, using(crate::proofs::TreeLemmas::within))]
-pub(crate) fn rank_in(counts: &[u64], size: usize, height: usize, slot: usize) -> u64
+pub(crate) fn rank_in(counts: &[u64], size: usize, height: usize, block: usize) -> u64
     requires tree { IsTree counts.now height }
     requires size { size ≡ wide height }
-    requires in_range { slot < size }
-    ensures { result ≡ sums (count_at counts.now) size slot }
+    requires in_range { block < size }
+    ensures { result ≡ sums (count_at counts.now) size block }
 {
     // That the number of nodes is a `usize` is known where it is read, and so the sums below stay
     // in range.
     let _node_count = counts.len();
     let mut sum = 0;
     let mut start = size;
-    let mut place = slot;
+    let mut place = block;
     let mut level = height;
     while level > 0 {
         if place % 2 == 1 {
@@ -53,14 +39,15 @@ pub(crate) fn rank_in(counts: &[u64], size: usize, height: usize, slot: usize) -
     sum
 }
 
-/// The live slot before which so many live slots are.
-pub(crate) fn select_in(counts: &[u64], size: usize, height: usize, wanted: u64) -> usize
+/// The block with the live slot before which so many live slots are, and how many of these are in
+/// the block.
+pub(crate) fn select_in(counts: &[u64], size: usize, height: usize, wanted: u64) -> (usize, u64)
     requires tree { IsTree counts.now height }
     requires size { size ≡ wide height }
     requires there { wanted < count_at counts.now 1 }
-    ensures in_range { result < size }
-    ensures live { count_at counts.now (size + result) ≡ 1 }
-    ensures rank { sums (count_at counts.now) size result ≡ wanted }
+    ensures in_range { result.0 < size }
+    ensures before { sums (count_at counts.now) size result.0 + result.1 ≡ wanted }
+    ensures inside { result.1 < count_at counts.now (size + result.0) }
 {
     let mut left = wanted;
     let mut start = 1;
@@ -76,37 +63,37 @@ pub(crate) fn select_in(counts: &[u64], size: usize, height: usize, wanted: u64)
         }
         level += 1;
     }
-    place
+    (place, left)
 }
 
-/// Marks a live slot dead.
-pub(crate) fn count_down(counts: &mut [u64], size: usize, height: usize, slot: usize)
+/// Counts a block's live slots down by one.
+pub(crate) fn count_down(counts: &mut [u64], size: usize, height: usize, block: usize)
     requires tree { IsTree counts.old height }
     requires size { size ≡ wide height }
-    requires in_range { slot < size }
-    requires live { count_at counts.old (size + slot) ≡ 1 }
+    requires in_range { block < size }
+    requires live { 0 < count_at counts.old (size + block) }
     ensures tree { IsTree counts.new height }
     ensures len { length counts.new ≡ length counts.old }
-    ensures dead { IsDead counts.old counts.new size slot }
+    ensures less { CountsLess counts.old counts.new size block }
 {
-    let mut node = size + slot;
+    let mut node = size + block;
     while node > 0 {
         counts[node] -= 1;
         node /= 2;
     }
 }
 
-/// Marks a dead slot live.
-pub(crate) fn count_up(counts: &mut [u64], size: usize, height: usize, slot: usize)
+/// Counts a block's live slots up by one.
+pub(crate) fn count_up(counts: &mut [u64], size: usize, height: usize, block: usize)
     requires tree { IsTree counts.old height }
     requires size { size ≡ wide height }
-    requires in_range { slot < size }
-    requires dead { count_at counts.old (size + slot) ≡ 0 }
+    requires in_range { block < size }
+    requires room { count_at counts.old (size + block) < 64 }
     ensures tree { IsTree counts.new height }
     ensures len { length counts.new ≡ length counts.old }
-    ensures live { IsLive counts.old counts.new size slot }
+    ensures more { CountsMore counts.old counts.new size block }
 {
-    let mut node = size + slot;
+    let mut node = size + block;
     while node > 0 {
         counts[node] += 1;
         node /= 2;
@@ -117,8 +104,8 @@ pub(crate) fn count_up(counts: &mut [u64], size: usize, height: usize, slot: usi
 pub(crate) fn add_up(counts: &mut [u64], size: usize, height: usize)
     requires len { length counts.old ≡ size + size }
     requires size { size ≡ wide height }
-    requires few { size ≤ 2 ^ 59 }
-    requires leaves { (slot : ℕ) → slot < size → count_at counts.old (size + slot) ≤ 1 }
+    requires few { size ≤ 2 ^ 53 }
+    requires leaves { (leaf : ℕ) → leaf < size → count_at counts.old (size + leaf) ≤ 64 }
     ensures tree { IsTree counts.new height }
     ensures leaves_stay { drop size counts.new ≡ drop size counts.old }
 {

@@ -4,7 +4,7 @@ use Rattle.st_ranks.specs.Tree.{wide}
 use Rattle.st_ranks.proofs.slots.size_over.Given as goal
 
 abbrev pub invariant-loop-size : goal.invariant-loop-size
-invariant-loop-size l = (l.size ≡ wide l.height) × (l.height < l.size) × (l.size ≤ 2 ^ 59)
+invariant-loop-size l = (l.size ≡ wide l.height) × (l.height < l.size) × (l.size ≤ 2 ^ 53)
 
 abbrev pub decreases-loop-size : goal.decreases-loop-size
-decreases-loop-size l = l.slots - l.size
+decreases-loop-size l = l.blocks - l.size

@@ -9,7 +9,7 @@ invariant-loop-node l =
     IsAllBut (count_at l.counts) l.fn.height l.node
     × (length l.counts ≡ length l.fn.counts)
     × (l.node < length l.counts)
-    × IsStill (count_at l.fn.counts) (count_at l.counts) l.fn.size l.fn.slot l.node
+    × IsStill (count_at l.fn.counts) (count_at l.counts) l.fn.size l.fn.block l.node
 
 abbrev pub decreases-loop-node : goal.decreases-loop-node
 decreases-loop-node l = l.node

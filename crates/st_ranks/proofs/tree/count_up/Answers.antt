@@ -1,6 +1,6 @@
 -- The climb: no node on its way counts more than all slots yet.
-use Rattle.std.proofs.Common.{◌≡◌, ◌+◌, ◌≤◌, length, ◌∙◌, arith}
-use Rattle.st_ranks.specs.Tree.{count_at, wide}
+use Rattle.std.proofs.Common.{◌≡◌, ◌+◌, ◌≤◌, ◌^◌, arith}
+use Rattle.st_ranks.specs.Tree.{count_at}
 use Rattle.st_ranks.proofs.TreeLemmas.{node-bound}
 use Rattle.st_ranks.proofs.tree.count_up.Goals as goal
 
@@ -11,9 +11,6 @@ overflow_add-counts c =
     let bound =
     node-bound c.args.counts.now c.args.height c.requires.tree c.loop-node.node
     (omega (arith, c.loop-node-test.true)) (omega (arith, c.loop-node.invariant.1, c.loop-node.invariant.2)) in
-    let len : length c.loop-node.counts ≡ wide c.args.height + wide c.args.height =
-    c.loop-node.invariant.1 ∙ c.requires.tree.len in
-    let size = c.requires.size in
-    let inside : count_at c.loop-node.counts c.loop-node.node + 1 ≤ length c.loop-node.counts =
-    omega (arith, same, bound, len, size, c.requires.in_range) in
-    search (arith, inside)
+    let most : count_at c.loop-node.counts c.loop-node.node + 1 ≤ 2 ^ 60 =
+    omega (arith, same, bound, c.requires.tree.few) in
+    search (arith, most)

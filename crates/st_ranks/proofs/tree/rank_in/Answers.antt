@@ -29,10 +29,10 @@ offset_bounds-counts-start c =
 pub overflow_add-sum-then-place-eq1 : goal.overflow_add-sum-then-place-eq1
 overflow_add-sum-then-place-eq1 c =
     let most =
-    rank-fits c.args.counts.now c.args.height c.requires.tree c.args.size c.args.slot c.loop-level.sum
+    rank-fits c.args.counts.now c.args.height c.requires.tree c.args.size c.args.block c.loop-level.sum
     c.loop-level.start c.loop-level.place c.requires.size c.requires.in_range c.loop-level.invariant.0
     (omega (arith, c.if-place-eq1.true)) in
-    omega (arith, most, c.ranges.slot.fits)
+    omega (arith, most, c.requires.in_range, c.requires.size, c.requires.tree.few)
 
 pub loop-level-preserved : goal.loop-level-preserved
 loop-level-preserved c =

@@ -7,7 +7,7 @@ use Rattle.st_core.specs.declared.types.Pid.{Pid}
 use Rattle.st_core.specs.Run.{Stream}
 use Rattle.st_plan.specs.Build.{tracers_after}
 use Rattle.st_audit.specs.declared.construction.Construction.{Construction}
-use Rattle.st_audit.specs.Progress.{acts_turn, AreCounted, AreTold, IsMatched, IsSoFar, Meets, SaysNothing}
+use Rattle.st_audit.specs.Progress.{acts_turn, AreAllCounted, AreTold, IsMatched, IsSoFar, Meets, SaysNothing}
 use Rattle.st_audit.specs.Progress.{TellsLast}
 use Rattle.st_audit.proofs.Attempts.{done_by, goes_through, one_step}
 use Rattle.st_audit.proofs.FirstCounts.{tracer_counted}
@@ -55,7 +55,7 @@ loop-pid-preserved g c =
                 → IsSoFar streams [] x) (sym w.self-is) (λ streams was.
                 let so = i.so_far streams was in
                 record {
-                  counted = subst (AreCounted []) (sym one.2)
+                  counted = subst (AreAllCounted []) (sym one.2)
                       (tracer_counted top now.world p true one.0 one.1 so.counted);
                   missed = done.skipped ∙ so.missed;
                   listed = ap (λ t. length t.items) done.told ∙ so.listed;
