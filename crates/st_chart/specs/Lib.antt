@@ -9,3 +9,4 @@ pub mod Room
 -- For the parts alone: the functions that both texts are made of.
 pub mod Parts
 pub mod Sheet
+pub mod Page

@@ -4,12 +4,13 @@ ghost use Rattle.std.specs.Prelude.{◌≡◌, ◌↔◌, ◌+◌, ◌++◌, fal
 ghost use Rattle.std.specs.List.{flat_map, list_any};
 ghost use Rattle.st_core.specs.Pid.{IsRising};
 ghost use Rattle.st_text.specs.Room.{line_room, HasRoom};
-ghost use Rattle.st_text.specs.Writing.{WritesOn, WritesText};
+ghost use Rattle.st_text.specs.Writing.{WritesText};
 ghost use Rattle.st_order.specs.Labels.{item_has_label};
 ghost use Rattle.st_chart.specs.Answer.{WritesChart};
 ghost use Rattle.st_chart.specs.Chart.{lane_line, lane_lines, mark, item_line};
 ghost use Rattle.st_chart.specs.Chart.{label_line, chart_text};
 ghost use Rattle.st_chart.specs.Parts.{bars, HasNoEndBeforeLast};
+ghost use Rattle.st_chart.specs.Page.{Draws};
 ghost use Rattle.st_chart.specs.Sheet.{line_on, sheet_lines};
 
 use crate::charted_item::{ChartedItem, is_any_charted};
@@ -51,8 +52,7 @@ fn put_lane_line(buffer: &mut Buffer, number: u64, pid: Pid)
 
 /// Writes the line that names the label.
 fn write_label<W: ByteSink>(writer: &mut W, page: &mut Page, label: Label) -> Result<(), Device>
-    ensures { WritesOn W.puts W.failed (label_line label)
-        writer.old writer.new page.old.waits.items page.new.waits.items result }
+    ensures { Draws W.ByteSink (label_line label) writer.old writer.new page.old page.new result }
 {
     page.line.clear();
     put_label_line(&mut page.line, label);
@@ -61,8 +61,8 @@ fn write_label<W: ByteSink>(writer: &mut W, page: &mut Page, label: Label) -> Re
 
 /// Writes a line for each lane.
 fn write_lanes<W: ByteSink>(writer: &mut W, page: &mut Page, lanes: &[Pid]) -> Result<(), Device>
-    ensures { WritesOn W.puts W.failed (lane_lines 1 lanes.now)
-        writer.old writer.new page.old.waits.items page.new.waits.items result }
+    ensures { Draws W.ByteSink (lane_lines 1 lanes.now)
+        writer.old writer.new page.old page.new result }
 {
     for (i, pid) in lanes.iter().enumerate() {
         page.line.clear();
@@ -79,8 +79,8 @@ fn write_each_mark<W: ByteSink>(
     lanes: &[Pid],
     charted: &ChartedItem,
 ) -> Result<(), Device>
-    ensures { WritesOn W.puts W.failed (flat_map (mark charted.now) lanes.now)
-        writer.old writer.new page.old.waits.items page.new.waits.items result }
+    ensures { Draws W.ByteSink (flat_map (mark charted.now) lanes.now)
+        writer.old writer.new page.old page.new result }
 {
     for lane in lanes {
         put_on(writer, &mut page.waits, mark_of(charted, *lane))?;
@@ -90,8 +90,7 @@ fn write_each_mark<W: ByteSink>(
 
 /// Writes the bars of so many lanes, a run of them at a time.
 fn write_bars<W: ByteSink>(writer: &mut W, page: &mut Page, count: usize) -> Result<(), Device>
-    ensures { WritesOn W.puts W.failed (bars count)
-        writer.old writer.new page.old.waits.items page.new.waits.items result }
+    ensures { Draws W.ByteSink (bars count) writer.old writer.new page.old page.new result }
 {
     let mut left = count;
     while left > 0 {
@@ -110,8 +109,8 @@ fn write_run<W: ByteSink>(
     charted: &ChartedItem,
 ) -> Result<(), Device>
     requires { HasNoEndBeforeLast charted.now.event lanes.now }
-    ensures { WritesOn W.puts W.failed (flat_map (mark charted.now) lanes.now)
-        writer.old writer.new page.old.waits.items page.new.waits.items result }
+    ensures { Draws W.ByteSink (flat_map (mark charted.now) lanes.now)
+        writer.old writer.new page.old page.new result }
 {
     let Some((last, others)) = lanes.split_last() else {
         return Ok(());
@@ -128,8 +127,8 @@ fn write_runs<W: ByteSink>(
     charted: &ChartedItem,
 ) -> Result<(), Device>
     requires { IsRising lanes.now }
-    ensures { WritesOn W.puts W.failed (flat_map (mark charted.now) lanes.now)
-        writer.old writer.new page.old.waits.items page.new.waits.items result }
+    ensures { Draws W.ByteSink (flat_map (mark charted.now) lanes.now)
+        writer.old writer.new page.old page.new result }
 {
     let (first, second) = lanes_to_ends(lanes, &charted.event);
     let (front, back) = lanes.split_at(second);
@@ -147,8 +146,8 @@ fn write_marks<W: ByteSink>(
     charted: &ChartedItem,
 ) -> Result<(), Device>
     requires { IsRising lanes.now }
-    ensures { WritesOn W.puts W.failed (flat_map (mark charted.now) lanes.now)
-        writer.old writer.new page.old.waits.items page.new.waits.items result }
+    ensures { Draws W.ByteSink (flat_map (mark charted.now) lanes.now)
+        writer.old writer.new page.old page.new result }
 {
     if lanes.len() <= FEW {
         write_each_mark(writer, page, lanes, charted)
@@ -165,9 +164,8 @@ fn write_item<W: ByteSink>(
     charted: &ChartedItem,
 ) -> Result<(), Device>
     requires { IsRising sheet.now.lanes.now }
-    ensures { WritesOn W.puts W.failed
-        (item_line sheet.now.causes.now sheet.now.lanes.now charted.now)
-        writer.old writer.new page.old.waits.items page.new.waits.items result }
+    ensures { Draws W.ByteSink (item_line sheet.now.causes.now sheet.now.lanes.now charted.now)
+        writer.old writer.new page.old page.new result }
 {
     write_marks(writer, page, sheet.lanes, charted)?;
     page.line.clear();
@@ -183,8 +181,8 @@ fn write_if_charted<W: ByteSink>(
     item: Item,
 ) -> Result<(), Device>
     requires { IsRising sheet.now.lanes.now }
-    ensures { WritesOn W.puts W.failed (line_on sheet.now item)
-        writer.old writer.new page.old.waits.items page.new.waits.items result }
+    ensures { Draws W.ByteSink (line_on sheet.now item)
+        writer.old writer.new page.old page.new result }
 {
     match ChartedItem::of(sheet.streams, sheet.label, item) {
         None => Ok(()),
@@ -200,8 +198,8 @@ fn write_items<W: ByteSink>(
     items: &[Item],
 ) -> Result<(), Device>
     requires { IsRising sheet.now.lanes.now }
-    ensures { WritesOn W.puts W.failed (flat_map (line_on sheet.now) items.now)
-        writer.old writer.new page.old.waits.items page.new.waits.items result }
+    ensures { Draws W.ByteSink (flat_map (line_on sheet.now) items.now)
+        writer.old writer.new page.old page.new result }
 {
     for item in items {
         write_if_charted(writer, page, sheet, *item)?;
@@ -217,8 +215,8 @@ fn write_chart<W: ByteSink>(
     items: &[Item],
 ) -> Result<(), Device>
     requires { IsRising sheet.now.lanes.now }
-    ensures { WritesOn W.puts W.failed (sheet_lines sheet.now items.now)
-        writer.old writer.new page.old.waits.items page.new.waits.items result }
+    ensures { Draws W.ByteSink (sheet_lines sheet.now items.now)
+        writer.old writer.new page.old page.new result }
 {
     write_label(writer, page, sheet.label)?;
     write_lanes(writer, page, sheet.lanes)?;
