@@ -1,8 +1,9 @@
 -- What the parts of a command say adds up to what the command owes: the bytes that were read go
 -- with each answer.
-use Rattle.std.proofs.Common.{◌≡◌, ◌≢◌, ℕ, ◌<◌, ◌≤◌, false, List, length, refl, sym, subst}
+use Rattle.std.proofs.Common.{◌≡◌, ◌≢◌, ℕ, ◌<◌, ◌≤◌, false, List, length, refl, sym, subst, ◌∙◌}
 use Rattle.std.proofs.Common.{inl, inr, arith}
-use Rattle.std.specs.Prelude.{Some, None, Result, Ok, Err, MatchResult}
+use Rattle.std.proofs.lemmas.Option.{same_Some}
+use Rattle.std.specs.Prelude.{Option, Some, None, Result, Ok, Err, MatchResult}
 use Rattle.st_core.specs.declared.types.Act.{Act}
 use Rattle.st_core.specs.declared.types.Label.{Label}
 use Rattle.st_pair.specs.Pairing.{refusal}
@@ -34,7 +35,10 @@ use Rattle.st_commands.specs.Command.{OfBytes, ForMemory, ForReader, Delivers, W
 use Rattle.st_commands.specs.Parts.{ChecksTo, AuditsTo, DrawsTo, ChartsTo, ReplaysTo, OfBundle}
 use Rattle.st_commands.specs.Parts.{OfSome, OfNone}
 use Rattle.st_commands.specs.Parts as parts
-use Rattle.st_commands.specs.Meaning.{Says, Performs}
+use Rattle.st_commands.specs.declared.words.Task.{Task}
+use Rattle.st_commands.specs.declared.words.Task.TheVariants as task
+use Rattle.st_commands.specs.Command.{OwesBy}
+use Rattle.st_commands.specs.Meaning.{Says, Performs, PerformsBy}
 
 -- ---- writing
 
@@ -270,3 +274,22 @@ performs if_yes if_no told = record {
   yes = says 0 (λ same. cc) if_yes told;
   no = says 1 (λ same. cc) if_no told;
 }
+
+-- ---- all commands
+
+-- what a command comes to is that the output that it owes was delivered, and what that means
+pub performs_tells : (limits : Limits) {R W : Type 0} (reader : ReaderCall R) (writer : WriterCall W) (t : Task)
+    (status : ℕ)
+    → PerformsBy limits reader writer t status → Tells writer (OwesBy limits reader t) status
+performs_tells limits reader writer task.Check status done = done.told
+performs_tells limits reader writer task.Audit status done = done.told
+performs_tells limits reader writer task.Replay status done = done.told
+performs_tells limits reader writer task.Drive status done = done.told
+performs_tells limits reader writer (task.Chart label) status done = done.told
+
+-- and it is what the command comes to that was asked for, since one task was
+pub performs_asked : (limits : Limits) {R W : Type 0} (reader : ReaderCall R) (writer : WriterCall W)
+    (asked : Option Task) (t u : Task) (status : ℕ) → asked ≡ Some t → asked ≡ Some u
+    → PerformsBy limits reader writer t status → PerformsBy limits reader writer u status
+performs_asked limits reader writer asked t u status one other done =
+    subst (λ (x : Task). PerformsBy limits reader writer x status) (same_Some t u (sym one ∙ other)) done

@@ -33,9 +33,14 @@ use Rattle.st_text.specs.Text.{spelling}
 use Rattle.st_text.specs.Spelling as words
 use Rattle.st_text.specs.Spelling.{ended_line}
 use Rattle.st_text.specs.Writing.{Writes}
+use Rattle.st_commands.specs.declared.words.Task.{Task}
+use Rattle.st_commands.specs.declared.words.Task.TheVariants as task
 use Rattle.st_commands.specs.Output.{Output, pair_line, verdict_text}
-use Rattle.st_commands.specs.Checked.{top, Spells}
-use Rattle.st_commands.specs.Recorded.{ranks, scripts_of, act_fault_words}
+use Rattle.st_commands.specs.Checked.{top, Spells, IsChecked}
+use Rattle.st_commands.specs.Audited.{IsAudited}
+use Rattle.st_commands.specs.Charted.{IsCharted}
+use Rattle.st_commands.specs.Recorded.{ranks, scripts_of, act_fault_words, IsRecorded}
+use Rattle.st_commands.specs.Replayed.{IsReplayed}
 use Rattle.st_commands.specs.Command.{ReaderCall, WriterCall, ReadsAll, Owes, Tells}
 
 -- a yes: status 0
@@ -235,3 +240,19 @@ pub record Performs (limits : Limits) {R W : Type 0} (reader : ReaderCall R) (wr
   pub told : Tells writer (Owes limits reader IsOutput) status
   pub yes : status ≡ 0 → Says limits reader writer Yes
   pub no : status ≡ 1 → Says limits reader writer No
+
+-- what each command comes to
+module _ (limits : Limits) {R W : Type 0} (reader : ReaderCall R) (writer : WriterCall W) where
+  abbrev pub PerformsBy : Task → ℕ → Type 0
+  PerformsBy task.Check status =
+      Performs limits reader writer (IsChecked limits) (MeansYes limits) (MeansNo limits) status
+  PerformsBy task.Audit status =
+      Performs limits reader writer (IsAudited limits) (MeansFits limits) (MeansUnfit limits) status
+  PerformsBy task.Replay status =
+      Performs limits reader writer (IsReplayed limits) (MeansReplayed limits) NeverMeant status
+  PerformsBy task.Drive status =
+      Performs limits reader writer (IsRecorded limits) (MeansDriven limits) (MeansStray limits)
+      status
+  PerformsBy (task.Chart label) status =
+      Performs limits reader writer (IsCharted limits label) (MeansCharted limits label)
+      (MeansNoChart limits label) status

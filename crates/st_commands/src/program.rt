@@ -1,7 +1,10 @@
 //! A run of the program: the command that its words ask for, on its reader and its writer.
 
-ghost use Rattle.std.specs.Prelude.{map};
-ghost use Rattle.st_commands.specs.Command.{OwesBy, OwesFor, Tells, call};
+ghost use Rattle.std.specs.Prelude.{◌≡◌, ◌<◌, Some, map};
+ghost use Rattle.st_commands.specs.declared.words.Task.{Task};
+ghost use Rattle.st_commands.specs.Command.{OwesFor, Tells, call};
+ghost use Rattle.st_commands.specs.Meaning.{PerformsBy};
+ghost use Rattle.st_commands.specs.Words.{task_asked};
 ghost use Rattle.st_text.specs.Limits.{standard};
 
 use crate::answer::tell_refusal;
@@ -25,8 +28,8 @@ fn run_task<H: AllocGlobal + Threads + Wait + Sync, R: ByteSource, W: ByteSink>(
     writer: &mut W,
     limits: Limits,
 ) -> u8
-    ensures { Tells (call W.ByteSink writer.old writer.new)
-        (OwesBy limits (call R.ByteSource reader.old reader.new) task) result }
+    ensures { PerformsBy limits (call R.ByteSource reader.old reader.new)
+        (call W.ByteSink writer.old writer.new) task result }
 {
     match task {
         Task::Check => run_check(rt.alloc(), reader, writer, limits),
@@ -46,8 +49,13 @@ pub fn run<H: AllocGlobal + Threads + Wait + Sync, S: AsStr, R: ByteSource, W: B
     reader: &mut R,
     writer: &mut W,
 ) -> u8
-    ensures { Tells (call W.ByteSink writer.old writer.new)
+    ensures told { Tells (call W.ByteSink writer.old writer.new)
         (OwesFor standard (call R.ByteSource reader.old reader.new) (map S.text words.now)) result }
+
+    // What a yes and a no of the command mean that the words ask for.
+    ensures means { (task : Task) → task_asked (map S.text words.now) ≡ Some task → result < 2 →
+        PerformsBy standard (call R.ByteSource reader.old reader.new)
+        (call W.ByteSink writer.old writer.new) task result }
 {
     match read_words(rt.alloc(), words) {
         Ok(task) => run_task(rt, task, reader, writer, Limits::STANDARD),

@@ -1,28 +1,43 @@
--- What each command does to its reader and its writer.
-use Rattle.std.specs.Prelude.{ℕ, List}
-use Rattle.st_commands.specs.Output.{Output}
+-- What each command comes to, from its reader to its writer, within the greater limits.
+use Rattle.std.specs.Prelude.{◌≡◌, ℕ}
 use Rattle.st_commands.specs.Command.{ReaderCall, WriterCall, Owes, Tells}
 use Rattle.st_commands.specs.Checked.{IsChecked}
 use Rattle.st_commands.specs.Audited.{IsAudited}
+use Rattle.st_commands.specs.Meaning.{MeansYes, MeansNo, MeansFits, MeansUnfit, Performs, Says}
 use Rattle.st_text.specs.Limits.{greater}
 use Rattle.st_tasks.specs.declared.task.Task.{Task}
 use Rattle.st_tasks.specs.declared.task.Task.TheVariants as task
-use Rattle.st_tool.specs.Complete.{IsOutputOfComplete}
-use Rattle.st_tool.specs.Renumber.{IsRenumbered}
+use Rattle.st_tool.specs.declared.complete.Form.{Form}
+use Rattle.st_tool.specs.Complete.{IsOutputOfComplete, MeansCompleted, MeansLong, MeansNever}
+use Rattle.st_tool.specs.Renumber.{IsRenumbered, MeansRefused, MeansRenumbered}
 use Rattle.st_why.specs.Why.{IsWhy}
+use Rattle.st_why.specs.Meaning.{MeansTold, MeansUntold}
 
 module _ {R W : Type 0} (reader : ReaderCall R) (writer : WriterCall W) where
-  -- it read all bytes, within the greater limits, and wrote the output that it owes of them
-  abbrev TellsOf : (List ℕ → Output → Type 0) → ℕ → Type 0
-  TellsOf IsOutput status = Tells writer (Owes greater reader IsOutput) status
+  -- `complete` has a third answer beside yes and no: too long, which is status 5
+  pub record DoesComplete (form : Form) (status : ℕ) : Type 0 where
+    pub performed : Performs greater reader writer
+        (IsOutputOfComplete form) (MeansCompleted form) MeansNever status
+    pub long : status ≡ 5 → Says greater reader writer (MeansLong form)
+
+  -- `renumber` has no no: it refuses text alone, which is status 2
+  pub record DoesRenumber (status : ℕ) : Type 0 where
+    pub told : Tells writer (Owes greater reader IsRenumbered) status
+    pub renumbered : status ≡ 0 → Says greater reader writer MeansRenumbered
+    pub refused : status ≡ 2 → Says greater reader writer MeansRefused
 
   -- what each command does; of the words of those for people nothing is claimed
   abbrev pub Does : Task → ℕ → Type 0
-  Does (task.Why question) status = TellsOf (IsWhy question) status
-  Does (task.Complete form) status = TellsOf (IsOutputOfComplete form) status
-  Does task.Renumber status = TellsOf IsRenumbered status
-  Does task.Check status = TellsOf (IsChecked greater) status
-  Does task.Audit status = TellsOf (IsAudited greater) status
+  Does (task.Why question) status =
+      Performs greater reader writer (IsWhy question) (MeansTold question) (MeansUntold question)
+      status
+  Does (task.Complete form) status = DoesComplete form status
+  Does task.Renumber status = DoesRenumber status
+  Does task.Check status =
+      Performs greater reader writer (IsChecked greater) (MeansYes greater) (MeansNo greater) status
+  Does task.Audit status =
+      Performs greater reader writer (IsAudited greater) (MeansFits greater) (MeansUnfit greater)
+      status
   Does (task.Lint most) status = Unit {0}
   Does task.Fix status = Unit {0}
   Does task.Explain status = Unit {0}
