@@ -426,7 +426,7 @@ impl<'a> Judge<'a> {
 }
 
 /// What to do about a process line that isn't above the one before, or comes again.
-const RISING: &str = "processes stand by rising pid, each once";
+const RISING: &str = "list the processes by rising pid, each once";
 
 /// The mistake of a process line that isn't above the one before.
 fn falling<'a>(line: &Line<'a>, process: Process<'a>, last: Process<'a>) -> Mistake<'a> {

@@ -61,7 +61,7 @@ const PID_WORDS: &str =
 
 const EVENT_WORDS: &str =
     "name the event by PID and I, as in seqtool why 0.31.0 1 trace.txt, or by --line alone; \
-    PID is 0.31.0 or '<0.31.0>', up to 65535";
+    PID is 0.31.0 or '<0.31.0>', with numbers up to 65535";
 
 const INDEX_WORDS: &str =
     "the number of the event is missing: why takes PID and I, the event's number in the stream \
