@@ -1,4 +1,4 @@
-"""The checks of one page: each yields what the sources don't bear out."""
+"""The checks of one page: each yields what disagrees with the sources."""
 import re
 from functools import cache
 
