@@ -741,7 +741,7 @@
       "ring: a send; disc: a receive; diamond: a print",
       "arrow: a message, from its send to its receive; time runs downwards",
       "a line that ends in a bar: a message whose receive isn't in the trace",
-      "dashed: " + (data.cut ? "not here" : "unreported") + ", but other events tell of it",
+      "dashed: " + (data.cut ? "not here" : "unreported") + ", as other events suggest",
       "?: what the event follows may be something else, or may not " + (data.cut ? "be here" : "have been reported"),
       "a cause holds if each receive of a token " + (data.cut ? "is here" : "was reported") + ", and if no process "
         + "set a token of a label that it or another process had had before, but where it's said",

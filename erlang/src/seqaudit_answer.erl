@@ -160,10 +160,15 @@ audit(#{name := Name, legend := Legend, losses := Losses, cut := Cut, outcome :=
                              [seqaudit_explain:whole(Outcome, Legend) || is_map_key("--whole", Options)]]
                  end),
     ok = seqaudit_convert:remove_answers(Name),
-    Kept = [{Name ++ ".answer", Answer}
-            | [{seqaudit_convert:part_answer(Name, Which), PartAnswer}
-               || {Which, {_, #{answer := PartAnswer}}} <- lists:enumerate(Parts)]],
-    lists:max([keep(File, Text, status(Said, Answer)) || {File, Text} <- Kept]).
+    %% What a program refused has no answer.
+    Kept = [{Name ++ ".answer", Answer} || Said =/= fault]
+            ++ [{seqaudit_convert:part_answer(Name, Which), PartAnswer}
+                || {Which, {_, #{answer := PartAnswer}}} <- lists:enumerate(Parts)],
+    Status = case seqaudit_bundle:events(Streams) of
+                 0 when Said =/= fault -> ?UNFIT;
+                 _ -> status(Said, Answer)
+             end,
+    lists:max([Status | [keep(File, Text, Status) || {File, Text} <- Kept]]).
 
 status(Said, _Answer) when Said =:= fits; Said =:= completed -> ?FITS;
 status(fault, <<"fault memory", _/binary>>) -> ?SYSTEM;
@@ -192,12 +197,12 @@ chart(#{"" := [Name], "--label" := [Label | _]} = Options) ->
             {error, Reason} -> {?UNFIT, seqaudit_legend:format_error(Reason)}
         end
     end);
-chart(#{"" := [_], "--svg" := _}) ->
-    {usage, "chart draws one label for --svg: name it by --label"};
+chart(#{"" := [Name], "--svg" := _} = Options) ->
+    chart_only_label(Name, Options);
 chart(#{"" := [Name]} = Options) ->
     Drawn = ["--html" | [Option || {Option, _} <- seqaudit_export:formats()]],
     case [Option || Option <- Drawn, is_map_key(Option, Options)] of
-        [] -> chart(#{});
+        [] -> chart_only_label(Name, Options);
         _ ->
             with_trace(Name, wish(Options, [processes, from, to]), fun(Trace) ->
                 with_outcome(Trace, fun(Audited) ->
@@ -207,7 +212,17 @@ chart(#{"" := [Name]} = Options) ->
             end)
     end;
 chart(_) ->
-    {usage, "chart needs the NAME of one trace, and --label, --html, --mermaid, --perfetto or --otlp"}.
+    {usage, "chart needs the NAME of one trace"}.
+
+%% A trace with one label needs no --label.
+chart_only_label(Name, Options) ->
+    with_trace(Name, wish(Options, [processes, from, to]), fun(#{legend := Legend, streams := Streams} = Trace) ->
+        case lists:usort([Label || {_, Events} <- Streams, #{label := Label} <- Events]) of
+            [Label] -> chart_label(Label, binary_to_list(Label), Trace, Options);
+            [] -> {?UNFIT, "the trace has no events"};
+            Labels -> {usage, seqaudit_legend:which_label(Labels, Legend)}
+        end
+    end).
 
 %% A trace that `seqaudit' doesn't take as a whole may be taken when it is cut to the label.
 chart_label(Number, Label, #{streams := Streams, legend := Legend, times := Times} = Trace, Options) ->
@@ -323,6 +338,8 @@ page(Audited, #{"--html" := [File | _]}, Label, Status) ->
 
 %% @doc Prints the chain from an event back to its beginning, or what the event caused.
 -spec why(options()) -> result().
+why(#{"" := [Event, Name]} = Options) when not is_map_key("--event", Options) ->
+    why(Options#{"" := [Name], "--event" => [Event]});
 why(#{"" := [Name], "--event" := [Event | _]} = Options) ->
     with_trace(Name, wish(Options, [labels, processes, from, to]), fun(#{legend := Legend} = Trace) ->
         with_outcome(Trace, fun(#{cut := Cut, outcome := Outcome} = Audited) ->
@@ -331,7 +348,7 @@ why(#{"" := [Name], "--event" := [Event | _]} = Options) ->
         end)
     end);
 why(_) ->
-    {usage, "why needs the NAME of one trace, and --event"}.
+    {usage, "why needs the NAME of one trace and that of an event, as shop#2"}.
 
 why(Event, Shown, Options, #{legend := Legend, outcome := Whole} = Audited) ->
     Found = [{Place, Outcome} || #{streams := Streams} = Outcome <- Shown,

@@ -16,13 +16,16 @@
 -define(GREATEST, 16#FFFF_FFFF_FFFF_FFFF).
 -define(NANOSECONDS, 1_000_000_000).
 -define(NOWHERE, <<"nonode@nohost">>).
+%% So many entries of each kind that are no events are shown, and so many characters of each.
+-define(SAMPLES, 3).
+-define(SHOWN, 80).
 
 -type packed() :: binary().
 %% Records of events, one behind the other.
 
 -type collected() :: #{node => binary(), facts => seqaudit_events:facts(),
-                       dropped => non_neg_integer(), left => non_neg_integer(),
-                       own => non_neg_integer()}.
+                       dropped => non_neg_integer(), left => non_neg_integer(), left_at => string(),
+                       own => non_neg_integer(), passed => {Lines :: pos_integer(), First :: string()}}.
 %% A collection without its events.
 
 -type build() :: #build{}.
@@ -42,6 +45,7 @@
                values = seqaudit_numbers:few() :: seqaudit_numbers:few(),
                known = #{} :: #{seqaudit_external:encoded() => seqaudit_events:about()},
                counts = #{} :: #{atom() => non_neg_integer()},
+               samples = #{} :: #{atom() => [string()]},
                own_events = 0 :: non_neg_integer()}).
 
 %% Some events, with numbers of their own for their terms.
@@ -53,6 +57,7 @@
                 values :: [seqaudit_external:encoded()],
                 known :: #{seqaudit_external:encoded() => seqaudit_events:about()},
                 counts :: #{atom() => non_neg_integer()},
+                samples :: #{atom() => [string()]},
                 own_events :: non_neg_integer()}).
 
 -opaque found() :: #found{}.
@@ -85,7 +90,7 @@ part(Events, {Home, Own, Clock}) ->
     Part = lists:foldl(fun take/2, #part{home = Home, own = Own, clock = Clock}, Events),
     {Part#part.packed,
      #found{home = Part#part.home, known = Part#part.known, counts = Part#part.counts,
-            own_events = Part#part.own_events,
+            samples = Part#part.samples, own_events = Part#part.own_events,
             actors = seqaudit_numbers:terms(Part#part.actors),
             others = seqaudit_numbers:terms(Part#part.others),
             labels = seqaudit_numbers:terms(Part#part.labels),
@@ -106,7 +111,9 @@ number(Found, Build) ->
     Added = Build#build{home = Found#found.home,
                         known = maps:merge(Found#found.known, Build#build.known),
                         counts = maps:merge_with(fun(_, Before, More) -> Before + More end,
-                                                 Build#build.counts, Found#found.counts)},
+                                                 Build#build.counts, Found#found.counts),
+                        samples = maps:merge_with(fun(_, Before, More) -> first_samples(More ++ Before) end,
+                                                  Build#build.samples, Found#found.samples)},
     case Found#found.own_events of
         0 -> {Numbers, Added};
         Own -> {Numbers, add(own, Own, Added)}
@@ -149,8 +156,15 @@ item({dropped, Count}, Build) ->
     add(dropped, Count, Build);
 item({left, Bytes}, Build) ->
     add(left, Bytes, Build);
+item({left, Bytes, Where}, Build) ->
+    know(left_at, Where, add(left, Bytes, Build));
+item({passed, Lines, First}, Build) ->
+    know(passed, {Lines, First}, Build);
 item(stray, #build{counts = Counts} = Build) ->
     Build#build{counts = more(strays, Counts)};
+item({stray, Where, Term}, #build{counts = Counts, samples = Samples} = Build) ->
+    Kind = stray_kind(Term),
+    Build#build{counts = more(Kind, Counts), samples = sampled(Kind, [Where, ": ", shown(Term)], Samples)};
 item({event, Bytes}, Build) ->
     add(part([Bytes], context(Build)), Build).
 
@@ -161,21 +175,59 @@ learn({Pid, About}, Known) ->
 add(What, Count, #build{collections = [Now | Before]} = Build) ->
     Build#build{collections = [Now#{What => maps:get(What, Now, 0) + Count} | Before]}.
 
+know(What, Value, #build{collections = [Now | Before]} = Build) ->
+    Build#build{collections = [Now#{What => Value} | Before]}.
+
 more(What, Counts) -> Counts#{What => maps:get(What, Counts, 0) + 1}.
 
 count(What, #part{counts = Counts} = Part) -> Part#part{counts = more(What, Counts)}.
 
-stray(Part) -> count(strays, Part).
+%% An entry that is no event. One that begins as those of seq_trace do is something that the trace lacks.
+stray(Bytes, #part{samples = Samples} = Part) ->
+    Kind = stray_kind(Bytes),
+    (count(Kind, Part))#part{samples = case Samples of
+                                           #{Kind := [_, _, _]} -> Samples;
+                                           #{} -> sampled(Kind, shown(Bytes), Samples)
+                                       end}.
+
+stray_kind(Bytes) ->
+    case seqaudit_external:tuple(Bytes) of
+        [First | _] ->
+            case seqaudit_external:view(First) of
+                {atom, <<"seq_trace">>} -> no_events;
+                _ -> strays
+            end;
+        _ -> strays
+    end.
+
+sampled(Kind, Text, Samples) ->
+    Samples#{Kind => first_samples([lists:flatten(Text) | maps:get(Kind, Samples, [])])}.
+
+%% The first ones are at the end.
+first_samples(Samples) -> lists:nthtail(max(0, length(Samples) - ?SAMPLES), Samples).
+
+%% Its letters may be none.
+shown(Bytes) ->
+    try seqaudit_terms:short(seqaudit_terms:encoded(Bytes), ?SHOWN)
+    catch error:_ -> "an entry that can't be printed"
+    end.
 
 %% An event of a part.
 take(Bytes, Part) ->
     case seqaudit_external:event(Bytes) of
-        {ok, Event} -> event(Event, Part);
-        _ -> stray(Part)
+        {ok, Event} ->
+            case event(Event, Part) of
+                stray -> stray(Bytes, Part);
+                Taken -> Taken
+            end;
+        other ->
+            stray(Bytes, Part);
+        damaged ->
+            count(strays, Part)
     end.
 
-event({_, _, {Prev, This}, _, _, _, _}, Part) when Prev > ?GREATEST; This > ?GREATEST ->
-    stray(Part);
+event({_, _, {Prev, This}, _, _, _, _}, _Part) when Prev > ?GREATEST; This > ?GREATEST ->
+    stray;
 event({_, _, _, From, To, _, _} = Event, #part{home = unknown} = Part) ->
     event(Event, Part#part{home = home(From, To)});
 event({print, _, _, From, _, _, _} = Event, Part) ->
@@ -211,8 +263,8 @@ party_of_ttb({Kind, _, _, _}, First, Info) when Kind =:= process -> {actor, Firs
 party_of_ttb({port, _, _}, First, _Info) -> {actor, First, none};
 party_of_ttb(_, _, _) -> stray.
 
-place(_Event, From, To, Part) when From =:= stray; To =:= stray ->
-    stray(Part);
+place(_Event, From, To, _Part) when From =:= stray; To =:= stray ->
+    stray;
 place(_Event, {_, Own, _}, _To, #part{own = Own} = Part) ->
     Part#part{own_events = Part#part.own_events + 1};
 place(_Event, _From, {_, Own, _}, #part{own = Own} = Part) ->

@@ -308,7 +308,7 @@ format_error({file, File, enoent}) ->
 format_error({file, File, Reason}) ->
     text("~ts: ~ts", [File, file:format_error(Reason)]);
 format_error({not_a_bundle, File, Line}) ->
-    text("~ts, line ~b, isn't a line of a bundle; ~ts", [File, Line, seqaudit_errors:linted(File)]);
+    seqaudit_errors:no_trace(File, text(", line ~b", [Line]));
 format_error({no_event_name, Name}) ->
     text("~ts isn't the name of an event; write its process and its number there, as shop#24",
          [Name]);

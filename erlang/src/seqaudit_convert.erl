@@ -237,8 +237,8 @@ parts(#build{actors = Actors, others = Others} = Build) ->
     Times = fun(Out) -> seqaudit_times:write(Sorted, Streams, Packed, Out) end,
     {maps:from_list([{seqtrace, Bundle}, {terms, Terms}, {messages, Messages}]
                     ++ [{times, Times} || is_map_key(timestamps, Counts)]),
-     #{collections => lists:reverse(Build#build.collections), counts => Counts, listed => Sorted,
-       labels => ByLabel, events => Placed, kept => Kept}}.
+     #{collections => lists:reverse(Build#build.collections), counts => Counts,
+       samples => Build#build.samples, listed => Sorted, labels => ByLabel, events => Placed, kept => Kept}}.
 
 noted(Bytes, #{listed := Listed, collections := Collections, counts := Counts} = Facts) ->
     Sizes = #{bytes => Bytes, processes => length(Listed), events => maps:get(events, Facts)},

@@ -114,7 +114,7 @@ key(Rows, Arrivals, Legend) ->
     Unreported = [Row || #{shown := #{id := Id}} = Row <- Rows, reported(Id) =:= unreported],
     Doubtful = [Row || #{shown := #{cause := Cause}} = Row <- Rows, seqaudit_causes:is_doubtful(Cause)],
     [[["<g class=\"d\"><path d=\"M12 62H48\"/></g><circle class=\"u\" cx=\"30\" cy=\"62\" r=\"4\"/>"
-      "<text x=\"56\" y=\"66\">", Absent, ", but other events tell of it</text>\n"]
+      "<text x=\"56\" y=\"66\">", Absent, ", as other events suggest</text>\n"]
      || Unreported =/= []],
      [["<text class=\"q\" x=\"352\" y=\"66\">?</text>"
       "<text x=\"364\" y=\"66\">what it follows ", MayBe, "</text>\n"] || Doubtful =/= []],

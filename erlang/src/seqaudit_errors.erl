@@ -1,7 +1,7 @@
 %% @doc What the errors of several modules have in common.
 -module(seqaudit_errors).
 
--export([text/2, unread/2, unwritten/2, wrong_line/3, linted/1]).
+-export([text/2, unread/2, unwritten/2, wrong_line/3, no_trace/2]).
 
 %% @doc As `io_lib:format/2', in one list of characters.
 -spec text(io:format(), [term()]) -> string().
@@ -23,7 +23,8 @@ unwritten(File, Reason) ->
 wrong_line(File, Line, What) ->
     text("~ts, line ~b, isn't ~ts; `seqaudit-node convert' writes it anew", [File, Line, What]).
 
-%% @doc How to find out what is wrong with the text of a trace.
--spec linted(file:filename()) -> string().
-linted(File) ->
-    text("`seqtool lint ~ts' says what is wrong with it", [File]).
+%% @doc A file isn't the text of a trace, from this line on if it is known.
+-spec no_trace(file:filename(), iodata()) -> string().
+no_trace(File, Where) ->
+    text("~ts~ts isn't the text of a trace (docs/FORMATS.md); `seqtool lint ~ts' says what is wrong with it",
+         [File, [[Where, ","] || iolist_size(Where) > 0], File]).

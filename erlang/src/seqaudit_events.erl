@@ -58,9 +58,12 @@
 %% Facts of a file that have the form that they should have.
 
 -type item() :: collection | {facts, facts()} | {event, binary()} | {dropped, non_neg_integer()}
-              | {left, Bytes :: non_neg_integer()} | stray.
+              | {left, Bytes :: non_neg_integer()} | {left, Bytes :: pos_integer(), Where :: string()} | stray
+              | {stray, Where :: string(), binary()}
+              | {passed, Lines :: pos_integer(), Where :: string()}.
 %% What a file holds, in its order: a collection begins; facts about it; an event's bytes; events
-%% that were dropped there; so many bytes that aren't understood; a term that is no event.
+%% that were dropped there; so many bytes that aren't understood; a term that is no event; lines of a log that have
+%% none, and where the first is.
 
 %% @doc Goes through what a file holds, whatever form it has.
 -spec fold(file:filename(), fun((item(), Acc) -> Acc), Acc) -> {ok, Acc} | {error, term()}.
@@ -112,11 +115,19 @@ fold_form({error, Reason}, File, _Device, _Do, _Acc) ->
     {error, {file, File, Reason}};
 fold_form(_, File, _Device, Do, Acc) ->
     whole(File, fun(Text) ->
-        case seqaudit_text:fold(Text, Do, Acc) of
+        case seqaudit_text:fold(Text, fun(Item, Sum) -> Do(placed(Item, File), Sum) end, Acc) of
             {ok, Folded} -> {ok, Folded};
             {error, {Line, Reason}} -> {error, {text, File, Line, Reason}}
         end
     end).
+
+placed({stray, Line, Term}, File) -> {stray, place(File, Line), Term};
+placed({left, Bytes, Line}, File) -> {left, Bytes, place(File, Line)};
+placed({passed, Lines, First}, File) -> {passed, Lines, place(File, First)};
+placed(Item, _File) -> Item.
+
+place(File, Line) ->
+    text("~ts, line ~b", [seqaudit_shown:escaped(unicode:characters_to_binary(File)), Line]).
 
 whole(File, Do) ->
     case file:read_file(File) of
@@ -403,6 +414,8 @@ read_item(collection, Read) -> [{#{dropped => 0}, []} | Read];
 read_item({facts, Facts}, [{Known, Events} | Read]) -> [{maps:merge(Known, Facts), Events} | Read];
 read_item({event, Event}, [{Facts, Events} | Read]) ->
     [{Facts, [seqaudit_external:to_term(binary:copy(Event)) | Events]} | Read];
+read_item({stray, _Where, Term}, Read) ->
+    read_item({event, Term}, Read);
 read_item({dropped, Count}, [{#{dropped := Dropped} = Facts, Events} | Read]) ->
     [{Facts#{dropped := Dropped + Count}, Events} | Read];
 read_item(_, Read) -> Read.
@@ -538,7 +551,7 @@ format_error({no_spool, Folder}) ->
     text("~ts is a folder without files of events; give the folder that the collector named",
          [Folder]);
 format_error({broken_trace, File, Left}) ->
-    text("~ts begins as a trace file of dbg or ttb, and its first entry is cut or damaged (~b bytes)",
-         [File, Left]);
+    text("~ts begins as a collector's file or a trace file of dbg or ttb, and its first entry is cut or damaged "
+         "(~b bytes)", [File, Left]);
 format_error({text, File, Line, Reason}) ->
     text("~ts, line ~b: ~ts", [File, Line, Reason]).

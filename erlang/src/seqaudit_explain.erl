@@ -11,15 +11,22 @@
 -define(LISTED, 20).
 %% Characters of a term in a sentence.
 -define(CHARACTERS, 80).
+%% What explains an event as well as a message whose receive wasn't reported does.
+-define(ANEW, "begun anew with a counter left from an earlier trace").
 %% What to do about a trace that is too large.
 -define(SMALLER, "audit each label by itself (--each-label), or cut it with --label, --process, --from and --to").
 
 %% @doc The outcome in one line.
 -spec headline(seqaudit_outcome:outcome(), seqaudit_legend:legend()) -> unicode:chardata().
 headline(#{said := Said, streams := Streams} = Outcome, Legend) when Said =:= fits; Said =:= completed ->
-    [format("fits~ts: ~ts of ~ts", [by(Outcome), count(length(reported(Streams)), "event"),
-                                    count(length(Streams) - length(unlisted(Outcome)), "process")]),
-     left_out(missing(Outcome, Legend), Outcome, Legend), $\n];
+    case length(reported(Streams)) of
+        0 ->
+            "nothing to audit: the trace has no events\n";
+        Events ->
+            [format("fits~ts: ~ts of ~ts", [by(Outcome), count(Events, "event"),
+                                            count(length(Streams) - length(unlisted(Outcome)), "process")]),
+             left_out(missing(Outcome, Legend), Outcome, Legend), $\n]
+    end;
 headline(#{said := never, finding := {Reason, _}, twice := [{Copy, First} | More]} = Outcome, Legend) ->
     format("doesn't fit~ts: ~ts (~ts)~n",
            [by(Outcome),
@@ -62,13 +69,42 @@ about(Words, [{{Pid, At}, _} | _], Legend) -> [Words, seqaudit_bundle:name(Pid, 
 unreported_or_cut(#{cut := true}) -> "nobody reported or that the cut took away";
 unreported_or_cut(#{}) -> "nobody reported".
 
-what_is_missing(#{said := completed} = Outcome) ->
-    [what_nobody_reported(Outcome), ", in the run that was found:\n"];
-what_is_missing(Outcome) ->
-    [what_nobody_reported(Outcome), ":\n"].
+%% A send is certain if its receive was reported. What only explains another event is supposed.
+what_is_missing([], _Outcome, _Legend) ->
+    "";
+what_is_missing(Events, #{said := completed} = Outcome, Legend) ->
+    [what_nobody_reported(Outcome), ", in the run that was found:\n", missing_events(Events, Legend),
+     in_place_of(lists:partition(fun is_certain/1, Events), Legend)];
+what_is_missing(Events, Outcome, Legend) ->
+    {Certain, Supposed} = lists:partition(fun is_certain/1, Events),
+    [[[what_nobody_reported(Outcome), ":\n", missing_events(Certain, Legend)] || Certain =/= []],
+     [[what_probably(Outcome), ", unless its process has " ?ANEW ":\n", missing_events(Supposed, Legend)]
+      || Supposed =/= []]].
+
+missing_events(Events, Legend) ->
+    [[["  ", missing_event(Event, Legend), $\n] || Event <- lists:sublist(Events, ?LISTED)],
+     [["  and ", number(length(Events) - ?LISTED), " more\n"] || length(Events) > ?LISTED]].
+
+in_place_of({_Certain, []}, _Legend) ->
+    "";
+in_place_of({[], _Supposed}, _Legend) ->
+    "In place of this a process may have " ?ANEW ".\n";
+in_place_of({_Certain, _Supposed}, Legend) ->
+    ["Of this only the sends whose receive ", seqaudit_legend:present(Legend), " are certain; in place of the rest a "
+     "process may have " ?ANEW ".\n"].
+
+is_certain({added, Row}) -> is_sent(Row);
+is_certain({hidden, _}) -> true;
+is_certain({unreceived, _, _}) -> false.
+
+%% Whether this is the send of a receive that was reported.
+is_sent(#{invented := Invented, event := #{kind := Kind}}) -> Kind =:= send andalso not Invented.
 
 what_nobody_reported(#{cut := true}) -> "What nobody reported, or what the cut took away";
 what_nobody_reported(#{}) -> "What nobody reported".
+
+what_probably(#{cut := true}) -> "What probably isn't here";
+what_probably(#{}) -> "What was probably not reported".
 
 unreported_or_not_here(#{cut := true}) -> "that isn't here";
 unreported_or_not_here(#{}) -> "unreported".
@@ -82,12 +118,14 @@ missing(#{said := Said, streams := Streams} = Outcome, Legend) ->
     #{hidden := Hidden, unreceived := Unreceived, silent := Silent, jumps := Jumps} = Gaps =
         seqaudit_gaps:find(Rows, Streams, Legend),
     Strangers = maps:from_keys(unlisted(Outcome), unlisted),
-    Sends = [Row || #{actor := Actor} = Row <- Hidden, not is_map_key(Actor, Strangers)],
+    Listed = fun(Some) -> [Row || #{actor := Actor} = Row <- Some, not is_map_key(Actor, Strangers)] end,
+    Sends = Listed(Hidden),
     Added = [Row || Said =:= completed, #{hidden := false, id := {_, {_, _}}} = Row <- Rows],
+    {Sent, Supposed} = lists:partition(fun is_sent/1, Listed(Added)),
     Gaps#{events => [{added, Row} || Row <- Added] ++ [{hidden, Row} || Row <- Sends]
               ++ [{unreceived, Row, Send} || {Row, Send} <- Unreceived],
-          kinds => kinds([Row || #{actor := Actor} = Row <- Added ++ Sends, not is_map_key(Actor, Strangers)],
-                         length(Unreceived), lists:sum([Count || {_, Count} <- Silent])),
+          certain => kinds(Sent ++ Sends, 0), supposed => kinds(Supposed, length(Unreceived)),
+          counts => lists:sum([Count || {_, Count} <- Silent]),
           strangers => length([Row || #{event := #{kind := 'receive', from := From}} = Row <- Added,
                                       is_map_key(From, Strangers)]),
           open => [Row || #{hidden := false, id := {_, At}, cause := Cause} = Row <- Rows,
@@ -95,37 +133,43 @@ missing(#{said := Said, streams := Streams} = Outcome, Legend) ->
           put_back => seqaudit_exchange:put_back(Rows),
           leaps => lists:sum([Count || {_, Count} <- Jumps])}.
 
-%% How many events of each kind nobody reported, and how many counts no event has.
-kinds(Rows, Unreceived, Silent) ->
+%% How many events of each kind nobody reported.
+kinds(Rows, Unreceived) ->
     Of = fun(Kind) -> length([Row || #{event := #{kind := One}} = Row <- Rows, One =:= Kind]) end,
-    [{Of(send), "send"}, {Of('receive') + Unreceived, "receive"}, {Silent, "count"}].
+    [{Count, Thing} || {Count, Thing} <- [{Of(send), "send"}, {Of('receive') + Unreceived, "receive"}], Count > 0].
 
 %% What is missing. By a cut or the collectors' facts something may be known to be gone of which no event tells. A stamp
 %% that nobody reported, as its flag was off, needn't be seen: a receive may have raised the counter over it.
-left_out(#{events := [], kinds := Kinds, leaps := 0, behind := Behind, waiting := [], open := []} = Missing, Outcome,
-         Legend) ->
-    case {Outcome, [Kind || {Count, _} = Kind <- Kinds, Count > 0]} of
-        {#{streams := []}, _} -> "";
-        {#{}, []} when Behind =/= [] ->
-            ["; ", count(length(Behind), "process"), " may have sent or printed something ",
-             unreported_or_not_here(Outcome), " before the first send or print here"];
-        {#{cut := Cut, lost := Lost}, []} when Cut; Lost -> "; nothing else is known to be missing";
-        {#{}, []} -> "; nothing is known to be missing";
-        _ -> what_is_left_out(Missing, Outcome, Legend)
-    end;
-left_out(Missing, Outcome, Legend) ->
-    what_is_left_out(Missing, Outcome, Legend).
-
-what_is_left_out(#{kinds := Kinds, strangers := Strangers, leaps := Leaps, waiting := Waiting, open := Open},
-                 Outcome, Legend) ->
-    Unreported = [count(Count, Thing) || {Count, Thing} <- Kinds, Thing =/= "count", Count > 0],
-    Missing = [[and_listed(Unreported), " that ", unreported_or_cut(Outcome)] || Unreported =/= []]
-        ++ [[count(Strangers, "message"), " from ", strangers(unlisted(Outcome))] || Strangers > 0]
-        ++ [[count(Count, "count"), " that no event here has"] || {Count, "count"} <- Kinds, Count > 0]
+left_out(#{events := [], counts := 0, leaps := 0, waiting := [], open := [], behind := []}, #{cut := Cut, lost := Lost},
+         _Legend) when Cut; Lost ->
+    "; nothing else is known to be missing";
+left_out(#{events := [], counts := 0, leaps := 0, waiting := [], open := [], behind := []}, _Outcome, _Legend) ->
+    "; nothing is known to be missing";
+left_out(#{events := [], counts := 0, leaps := 0, waiting := [], open := [], behind := Behind}, Outcome, _Legend) ->
+    ["; ", count(length(Behind), "process"), " may have sent or printed something ", unreported_or_not_here(Outcome),
+     " before the first send or print here"];
+left_out(#{certain := Certain, supposed := Supposed, counts := Counts, strangers := Strangers, leaps := Leaps,
+           waiting := Waiting, open := Open}, Outcome, Legend) ->
+    Missing = [[Unreported, " that ", unreported_or_cut(Outcome)] || Unreported <- unreported(Certain, Supposed)]
+        ++ [["probably ", count(Strangers, "message"), " from ", strangers(unlisted(Outcome))] || Strangers > 0]
+        ++ [[count(Counts, "count"), " that no event here has"] || Counts > 0]
         ++ [count(Leaps, "jump of a counter") || Leaps > 0],
     [[[", with ", lists:join(", ", Missing)] || Missing =/= []],
-     [["; the cause of ", count(length(Open), "event"), " isn't known"] || Open =/= []],
+     [["; the cause of ", count(length(Open), "event"), not_known(Outcome)] || Open =/= []],
      [["; ", not_received(Waiting, Outcome, Legend)] || Waiting =/= []]].
+
+unreported([], []) -> [];
+unreported(Certain, []) -> [counted(Certain, "")];
+unreported([], Supposed) -> [["probably ", counted(Supposed, "")]];
+unreported(Certain, Supposed) -> [[counted(Certain, ""), " and probably ", counted(Supposed, "more ")]].
+
+%% Receives are never certain.
+counted(Kinds, More) ->
+    and_listed([count(Count, case Thing of "send" -> More ++ Thing; _ -> Thing end) || {Count, Thing} <- Kinds]).
+
+%% The cut may have taken the cause away.
+not_known(#{cut := true}) -> " isn't known here";
+not_known(#{}) -> " isn't known".
 
 and_listed([One]) -> One;
 and_listed(Several) -> [lists:join(", ", lists:droplast(Several)), " and ", lists:last(Several)].
@@ -166,20 +210,17 @@ outcome(Outcome, Losses, Legend) ->
 details(#{said := Said} = Outcome, Legend) when Said =:= fits; Said =:= completed ->
     #{events := Events, silent := Silent, before := Before, spawns := Spawns, jumps := Jumps, waiting := Waiting,
       open := Open, put_back := PutBack} = missing(Outcome, Legend),
-    [[what_is_missing(Outcome) || Events =/= []],
-     [["  ", missing_event(Event, Legend), $\n] || Event <- lists:sublist(Events, ?LISTED)],
-     [["  and ", number(length(Events) - ?LISTED), " more\n"] || length(Events) > ?LISTED],
+    [what_is_missing(Events, Outcome, Legend),
      ["Nobody knows what the unknown messages were, or whether other processes sent them.\n"
       || lists:any(fun is_invented/1, Events)],
      [[what_waits(Outcome), messages(Waiting, Legend), ".\n"] || Waiting =/= []],
-     [[silent(Outcome), counted(Silent, Legend), ".\n"] || Silent =/= []],
-     [["The cause isn't known of ", listed(fun(#{id := {Pid, At}}) -> seqaudit_bundle:name(Pid, At, Legend) end, Open,
-                                           fun(More) -> ["and ", number(More), " more"] end),
-       ": `why' says what it may be.\n"] || Open =/= []],
+     [[silent(Outcome), by_process(Silent, Legend), ".\n"] || Silent =/= []],
+     [cause_unknown(Open, Outcome, Legend) || Open =/= [], not is_cut(Outcome)],
      put_back(PutBack, Outcome, Legend),
      [[jumps(Outcome, often(Jumps, Legend)), ".\n"] || Jumps =/= []],
      [["Counters go on from trace to trace, and count what isn't reported too. Before the first send or "
-       "print here, the counter of ", stood(Before, Legend), ".\n"] || Before =/= []],
+       "print here, the counter of ", was(Before, Legend), ". That is usual if the node was traced before; "
+       "`seqaudit-node collect --reset' begins with all counters at 0.\n"] || Before =/= [], not is_cut(Outcome)],
      [["When OTP answers a spawn, it moves the counter of the process that asked for it: ",
        often(Spawns, Legend), ".\n"] || Spawns =/= []],
      renumbered(Outcome)];
@@ -195,6 +236,22 @@ details(Outcome, Legend) ->
      renumbered(Outcome),
      tool(maps:get(tool, Outcome), Outcome)].
 
+is_cut(Outcome) -> maps:get(cut, Outcome, false).
+
+%% The command for the first of them says how to ask for the others.
+cause_unknown([#{id := {Pid, At}} | _] = Open, Outcome, Legend) ->
+    ["The cause isn't known of ", listed(fun(#{id := Id}) -> name(Id, Legend) end, Open,
+                                         fun(More) -> ["and ", number(More), " more"] end),
+     "; this says what it may be: seqaudit-node why ", quoted(maps:get(name, Outcome, "NAME")), $\s,
+     quoted(unicode:characters_to_list(seqaudit_bundle:name(Pid, At, Legend))), $\n].
+
+%% A word as a shell takes it.
+quoted(Word) ->
+    case re:run(Word, "^[A-Za-z0-9_./-]+$", [unicode, {capture, none}]) of
+        match -> Word;
+        nomatch -> [$', string:replace(Word, "'", "'\\''", all), $']
+    end.
+
 %% A serial that was set by hand moves the counter as well.
 silent(Outcome) ->
     ["Counts that no event here has, of prints, or of sends whose receives ",
@@ -205,11 +262,11 @@ silent(Outcome) ->
 
 jumps(#{cut := true}, Often) ->
     ["A counter jumps if it is higher than anything here explains: ", Often,
-     ". Something was received or stamped there that isn't here, unless a token's serial was set by hand "
+     ". Something was received, sent or printed there that isn't here, unless a token's serial was set by hand "
      "(set_token/2)"];
 jumps(#{}, Often) ->
     ["A counter jumps if it is higher than anything reported explains: ", Often,
-     ". Something was received or stamped there that wasn't reported, unless a token's serial was set by hand "
+     ". Something was received, sent or printed there that wasn't reported, unless a token's serial was set by hand "
      "(set_token/2)"].
 
 %% @doc The events that don't go together: of copies the first one, and what it is a copy of.
@@ -266,11 +323,11 @@ times(Count) -> [number(Count), " times"].
 often(Counts, Legend) ->
     of_processes([["that of ", process(Pid, Legend), $\s, times(Count)] || {Pid, Count} <- Counts]).
 
-stood([{First, Count} | Counts], Legend) ->
-    of_processes([[process(First, Legend), " stood at ", number(Count)]
-                  | [["that of ", process(Pid, Legend), " at ", number(One)] || {Pid, One} <- Counts]]).
+was([{First, Count} | Counts], Legend) ->
+    of_processes([[process(First, Legend), " was ", number(Count)]
+                  | [["that of ", process(Pid, Legend), $\s, number(One)] || {Pid, One} <- Counts]]).
 
-counted(Counts, Legend) ->
+by_process(Counts, Legend) ->
     of_processes([[number(Count), " of ", process(Pid, Legend)] || {Pid, Count} <- Counts]).
 
 %% What is said of each of several processes; the first of them are named.
@@ -388,15 +445,19 @@ whole(#{streams := Streams, answer := Answer}, Legend) ->
 
 format(Format, Values) -> io_lib:format(Format, Values).
 
-%% A refusal of a program in words. Its line numbers are those of a file that nobody sees.
+%% A refusal of a program in words. Of a trace that was cut its line numbers are those of a file that nobody sees.
 fault(<<"fault too large">>, _Outcome) ->
     "the trace has more bytes than the program takes; " ?SMALLER;
 fault(<<"fault too many ", _/binary>>, _Outcome) ->
     "the trace has more processes or events than the program takes; " ?SMALLER;
 fault(<<"fault memory">>, _Outcome) -> "the program ran out of memory; trace for a shorter time, or cut the trace";
 fault(<<"fault device">>, _Outcome) -> "the trace couldn't be read, or the answer couldn't be written";
-fault(<<"fault", _/binary>>, Outcome) ->
-    ["the text of this trace isn't that of a bundle; ",
-     seqaudit_errors:linted(maps:get(name, Outcome, "NAME") ++ ".seqtrace")];
+fault(Fault, Outcome) when binary_part(Fault, 0, 5) =:= <<"fault">> ->
+    File = maps:get(name, Outcome, "NAME") ++ ".seqtrace",
+    Where = case {string:to_integer(lists:last(binary:split(Fault, <<" ">>, [global]))), is_cut(Outcome)} of
+                {{Line, _}, false} when is_integer(Line) -> [", line ", integer_to_list(Line)];
+                _ -> ""
+            end,
+    seqaudit_errors:no_trace(File, Where);
 fault(Other, _Outcome) ->
     Other.

@@ -1,7 +1,7 @@
 %% @doc What `seqaudit-node --help' prints, and the help of each command.
 -module(seqaudit_help).
 
--export([all/0, usage/1, of_command/1]).
+-export([all/0, version/0, usage/1, of_command/1]).
 
 %% @doc The commands, a line each.
 -spec all() -> string().
@@ -15,7 +15,17 @@ all() ->
     "  chart     prints the messages of a trace, or draws them\n"
     "  why       says what caused an event, or what it caused\n"
     "  times     says how long messages and labels took\n\n"
-    "`seqaudit-node COMMAND --help' has the options of each.\n" ++ statuses().
+    "`seqaudit-node COMMAND --help' has the options of each, and `seqaudit-node --version' says which versions\n"
+    "these are.\n" ++ statuses().
+
+%% @doc The version of the application.
+-spec version() -> string().
+version() ->
+    File = filename:join(filename:dirname(code:which(?MODULE)), "seqaudit.app"),
+    case file:consult(File) of
+        {ok, [{application, seqaudit, Keys}]} -> proplists:get_value(vsn, Keys);
+        {error, _} -> "of an unknown version"
+    end.
 
 %% @doc How a command is called.
 -spec usage(string()) -> string().
@@ -32,7 +42,7 @@ of_command(Command) ->
 
 statuses() ->
     "\nStatus: 0 all is done, or the trace fits\n"
-    "        1 the trace doesn't fit, or nobody knows; or what you ask for isn't in it\n"
+    "        1 the trace doesn't fit, or nobody knows, or it has no events; or what you ask for isn't in it\n"
     "        2 a file can't be understood, or is too large\n"
     "        3 the command line can't be understood\n"
     "        4 a file, a node or a program is missing or fails\n".
@@ -75,12 +85,14 @@ text("watch") ->
      "The other options are those of collect, except --seconds and --limit.\n"};
 text("convert") ->
     {"convert FILE .. -o NAME",
-     "Makes a trace from files of events: NAME.seqtrace; NAME.terms, what its numbers stand for; NAME.messages,\n"
+     "Makes a trace from files of events: NAME.seqtrace; NAME.terms, what its numbers mean; NAME.messages,\n"
      "the whole texts of long messages; NAME.notes and NAME.facts, what was decided or left out; and\n"
      "NAME.times, if the events have timestamps.\n\n"
      "  FILE                a NAME.events, the folder of a collector, term_to_binary of a list of events,\n"
-     "                      a trace file of dbg or ttb, or events as text, as a log has them; there must be\n"
-     "                      an event of seq_trace in it, if no collector wrote it\n"
+     "                      a trace file of dbg or ttb, or events as text, as io:format(\"~p~n\", [Event]) prints\n"
+     "                      them, at the beginning of a line or behind what a log puts in front; other lines of\n"
+     "                      a log are counted and passed over. There must be an event of seq_trace in it, if no\n"
+     "                      collector wrote it\n"
      "  -o NAME             the name of the trace\n"};
 text("audit") ->
     {"audit NAME [OPTION ..]",
@@ -90,12 +102,14 @@ text("audit") ->
      "  --parts             if resets divide the trace, print all that was found out of each part\n"
      "  --each-label        audit the events of each label by themselves, side by side, with a line for each; no\n"
      "                      NAME.answer is kept\n"
-     "  --json              print the outcome as JSON; with --each-label a line for each label\n" ++ cuts(label)};
+     "  --json              print the outcome as JSON; with --each-label a line for each label. `unreported' has\n"
+     "                      the events that are known by others or were found to complete the trace, `unreceived'\n"
+     "                      the sends whose receive another event probably follows\n" ++ cuts(label)};
 text("chart") ->
-    {"chart NAME --label TERM [OPTION ..]\n       seqaudit-node chart NAME --html FILE [OPTION ..]\n"
+    {"chart NAME [--label TERM] [OPTION ..]\n       seqaudit-node chart NAME --html FILE [OPTION ..]\n"
      "       seqaudit-node chart NAME --mermaid FILE | --perfetto FILE | --otlp FILE [OPTION ..]",
      "Prints the messages of a label, with what caused each, and draws them; or makes a page of all labels.\n\n"
-     "  --label TERM        the label\n"
+     "  --label TERM        the label; a trace with one label needs none\n"
      "  --svg FILE          draw it, for a document, up to 2,000 rows\n"
      "  --html FILE         make a page for a browser, with all labels; it needs no --label\n"
      "  --mermaid FILE      write a sequence diagram of Mermaid, up to 500 events\n"
@@ -103,10 +117,9 @@ text("chart") ->
      "  --otlp FILE         write OpenTelemetry's JSON, a span for each message below its cause; it needs times\n"
      "                      These three take the one label, or all without --label.\n" ++ cuts(no_label)};
 text("why") ->
-    {"why NAME --event PROCESS#NUMBER [OPTION ..]",
+    {"why NAME PROCESS#NUMBER [OPTION ..]",
      "Says what caused an event, back to where the trace begins.\n\n"
-     "  --event PROCESS#NUMBER\n"
-     "                      the event, by its name in audits and charts, as shop#2\n"
+     "  PROCESS#NUMBER      the event, by its name in audits and charts, as shop#2; or --event PROCESS#NUMBER\n"
      "  --effects           say what the event caused instead\n"
      "  --json              print the events as JSON\n" ++ cuts(label)};
 text("times") ->

@@ -8,12 +8,14 @@
 -export([text/4, read/1, numbers/1, unlisted/2, is_unlisted/2, process/2, about/2, is_port/2, label/2, value/2,
          brief/2]).
 -export([of_cut/1, is_of_cut/1, absent/1, present/1]).
--export([is_spawned/2, find_label/2, format_error/1]).
+-export([is_spawned/2, find_label/2, which_label/2, format_error/1]).
 -export_type([legend/0]).
 
 -import(seqaudit_errors, [text/2]).
 
 -define(HEADER, <<"seqaudit terms 1">>).
+%% So many labels are named.
+-define(NAMED, 20).
 
 %% Messages of gen_server: a call, a cast, and the replies to an alias and to a reference; and those
 %% by which OTP spawns a process. What is captured replaces its number.
@@ -142,11 +144,11 @@ is_port(Pid, Legend) ->
 -spec label(binary(), legend()) -> binary().
 label(Number, Legend) -> maps:get({label, Number}, Legend, Number).
 
-%% @doc The term of a message, its number after a number sign if the legend hasn't it.
+%% @doc The term of a message, `value' and its number if the legend hasn't it.
 -spec value(binary(), legend()) -> binary().
 value(Number, Legend) -> shown(erlang_value(Number, Legend), Legend).
 
-erlang_value(Number, Legend) -> maps:get({value, Number}, Legend, <<"#", Number/binary>>).
+erlang_value(Number, Legend) -> maps:get({value, Number}, Legend, <<"value ", Number/binary>>).
 
 shown(Text, #{style := _}) -> seqaudit_elixir:text(Text);
 shown(Text, _Legend) -> Text.
@@ -190,6 +192,14 @@ find_label(Text, Legend) ->
                                                                 <- maps:to_list(Legend)])}}
     end.
 
+%% @doc That one of these labels is to be named.
+-spec which_label([binary()], legend()) -> string().
+which_label(Labels, Legend) ->
+    Spelled = [label(Label, Legend) || Label <- lists:sublist(Labels, ?NAMED)],
+    text("the trace has ~ts; choose one by --label: ~ts~ts",
+         [seqaudit_explain:count(length(Labels), "label"), lists:join(", ", Spelled),
+          [", .." || length(Labels) > ?NAMED]]).
+
 parse(Text) ->
     case seqaudit_text:read(utf8(Text)) of
         {ok, [{_, [Term]}]} -> [Term];
@@ -209,4 +219,4 @@ format_error({no_label, Text, []}) ->
     text("there is no label ~ts, as the trace has no events", [Text]);
 format_error({no_label, Text, Labels}) ->
     text("there is no label ~ts; the trace has ~ts",
-         [Text, lists:join(", ", lists:sublist(Labels, 20))]).
+         [Text, lists:join(", ", lists:sublist(Labels, ?NAMED))]).

@@ -33,6 +33,10 @@ main(Words) ->
 run([Help | _]) when Help =:= "--help"; Help =:= "-h"; Help =:= "help" ->
     io:put_chars(seqaudit_help:all()),
     ?FITS;
+run(["--version" | _]) ->
+    io:format("seqaudit-node ~ts (Erlang/OTP ~ts)~n~ts~n",
+              [seqaudit_help:version(), erlang:system_info(otp_release), lists:join($\n, seqaudit_program:versions())]),
+    ?FITS;
 run([Command | Words]) ->
     case lists:keyfind(Command, 1, commands()) of
         false -> usage("there is no command ~ts", [Command]);
@@ -129,8 +133,25 @@ collect(#{"--node" := Nodes, "-o" := [[_ | _] = Name]} = Options) when not is_ma
             collect(seqaudit_reach:connect(Node, Options), Start#{name => Name}, {Wait, unload(Options)});
         {error, Text} -> {usage, Text}
     end;
-collect(_) ->
-    {usage, "collect needs --node and -o, and takes options alone"}.
+collect(Options) ->
+    lacks("collect", [{"--node", " NAME@HOST"}, {"-o", " NAME"}], Options).
+
+%% What a command line lacks that has only options.
+lacks(Command, Needed, Options) ->
+    case {[Option ++ Value || {Option, Value} <- Needed, not is_given(Option, Options)], Options} of
+        {[_ | _] = Missing, _} -> needs(Command, Missing);
+        {[], #{"" := Words}} -> {usage, Command ++ " takes options alone, and " ++ lists:last(Words) ++ " is none"};
+        {[], #{}} -> {usage, Command ++ " takes -o once"}
+    end.
+
+needs(Command, Missing) ->
+    {usage, lists:append([Command, " needs " | lists:join(" and ", Missing)])}.
+
+is_given(Option, Options) ->
+    case Options of
+        #{Option := Words} -> lists:any(fun(Word) -> Word =/= "" end, Words);
+        #{} -> false
+    end.
 
 watch(#{"--node" := Nodes, "-o" := [[_ | _] = Name], "--every" := _} = Options) when not is_map_key("", Options) ->
     case collect_options(lists:reverse(Nodes), Options) of
@@ -145,8 +166,8 @@ watch(#{"--node" := Nodes, "-o" := [[_ | _] = Name], "--every" := _} = Options) 
         {error, Text} ->
             {usage, Text}
     end;
-watch(_) ->
-    {usage, "watch needs --node, --every and -o, and takes options alone"}.
+watch(Options) ->
+    lacks("watch", [{"--node", " NAME@HOST"}, {"--every", " SECONDS"}, {"-o", " NAME"}], Options).
 
 watch({error, Reason}, _Start, _How) ->
     failed(?SYSTEM, seqaudit_reach:format_error(Reason));
@@ -310,5 +331,6 @@ convert(#{"" := Files, "-o" := [[_ | _] = Name]}) ->
         {error, Reason} ->
             failed(?INPUT, seqaudit_events:format_error(Reason))
     end;
-convert(_) ->
-    {usage, "convert needs files of events, and -o"}.
+convert(Options) ->
+    needs("convert", ["files of events" || not is_map_key("", Options)]
+                     ++ ["-o NAME, once" || not is_given("-o", Options) orelse tl(maps:get("-o", Options)) =/= []]).

@@ -5,7 +5,7 @@
 %% in a sentence may be any word.
 -module(seqaudit_notes).
 
--export([facts/2, facts_text/1, losses/1, dropped/2]).
+-export([facts/2, facts_text/1, losses/1, nothing/0, dropped/2]).
 -export_type([fact/0]).
 
 -import(seqaudit_errors, [text/2]).
@@ -23,7 +23,7 @@
 
 -define(HEADER, <<"seqaudit facts 1">>).
 %% What is gone if there is a fact of this kind.
--define(LOSSES, [nothing, lost, ended, dropped, left, pauses, written_over, taken, nameless]).
+-define(LOSSES, [nothing, lost, ended, dropped, left, no_events, pauses, written_over, taken, nameless]).
 
 -type fact() :: {Kind :: atom(), Sentence :: string()}.
 
@@ -33,7 +33,7 @@
 %% bytes are known: they are taken to be as large as the kept ones.
 -spec dropped([seqaudit_build:collected()], #{atom() => non_neg_integer()}) -> non_neg_integer().
 dropped(Collections, Counts) ->
-    count(nameless, Counts) + count(strays, Counts)
+    count(nameless, Counts) + count(strays, Counts) + count(no_events, Counts)
         + lists:sum([known(Kind, Collection) || Collection <- Collections,
                                                 Kind <- [dropped, own, strays]])
         + lists:sum([Events || Collection <- Collections, {_, Events} <- [over(Collection)]]).
@@ -67,10 +67,10 @@ over(_) ->
               listed := [{seqaudit_processes:pid_number(), seqaudit_processes:party()}],
               labels := [{non_neg_integer(), seqaudit_external:encoded()}], atom() => term()},
             sizes()) -> [fact()].
-facts(#{collections := Collections, counts := Counts, listed := Listed, labels := Labels}, Sizes) ->
-    lists:append([of_kind(nothing, nothing(Sizes)),
-                  lists:append([collected(Collection) || Collection <- Collections]),
-                  converted(Counts),
+facts(#{collections := Collections, counts := Counts, samples := Samples, listed := Listed, labels := Labels}, Sizes) ->
+    Known = lists:append([collected(Collection) || Collection <- Collections]) ++ converted(Counts, Samples),
+    lists:append([of_kind(nothing, [nothing() || is_nothing(Known, Sizes)]),
+                  Known,
                   of_kind(limits, limits(Sizes)),
                   of_kind(nodes, several("nodes are numbered by name: ", nodes_of(Listed))),
                   of_kind(renumbered, several("no processes, or their number was taken, so they have free numbers: ",
@@ -93,10 +93,14 @@ losses(Text) ->
     [Sentence || Line <- binary:split(Text, <<"\n">>, [global, trim]),
                  [Kind, Sentence] <- [binary:split(Line, <<"\t">>)], lists:member(Kind, Kinds)].
 
-nothing(#{events := 0}) ->
-    ["no events came; set a token while the tracer is on, as seqaudit_trace:with_trace/2 does"];
-nothing(_) ->
-    [].
+%% @doc What is said if nothing came, and nothing is known to be gone.
+-spec nothing() -> string().
+nothing() ->
+    "no events came; set a token while the tracer is on, as seqaudit_trace:with_trace/2 does".
+
+%% If something is gone, events may have come.
+is_nothing(Known, #{events := 0}) -> [] =:= [Kind || {Kind, _} <- Known, lists:member(Kind, ?LOSSES)];
+is_nothing(_Known, _Sizes) -> false.
 
 collected(#{facts := Facts} = Collection) ->
     Node = seqaudit_terms:plain(maps:get(node, Facts, <<"a node">>)),
@@ -107,12 +111,28 @@ collected(#{facts := Facts} = Collection) ->
                    [{dropped, "event", "~ts: the collector dropped ~ts beyond the limit; raise the limit "
                      "or trace for a shorter time"},
                     {own, "event", "~ts: convert left out ~ts that named the collector"},
-                    {strays, "message", "~ts: the collector got ~ts besides trace events"},
-                    {left, "byte", "~ts: convert left out ~ts of the file, which is cut or damaged there"}],
+                    {strays, "message", "~ts: the collector got ~ts besides trace events"}],
                known(Kind, Collection) > 0]
+        ++ of_kind(left, left(Node, known(left, Collection), Collection))
+        ++ of_kind(passed, passed(Collection))
         ++ of_kind(pauses, pauses(Node, Facts))
         ++ of_kind(written_over, written_over(Node, Collection))
         ++ of_kind(Tracer, tracer(Node, Tracer)).
+
+left(_Node, 0, _Collection) ->
+    [];
+left(_Node, Bytes, #{left_at := Where}) ->
+    [text("convert left out the last ~ts, from ~ts on, where an event isn't whole",
+          [seqaudit_explain:count(Bytes, "byte"), Where])];
+left(Node, Bytes, _Collection) ->
+    [text("~ts: convert left out ~ts of the file, which is cut or damaged there",
+          [Node, seqaudit_explain:count(Bytes, "byte")])].
+
+passed(#{passed := {Lines, First}}) ->
+    [text("convert passed over ~ts without an event of seq_trace; the first is ~ts",
+          [seqaudit_explain:count(Lines, "line"), First])];
+passed(_) ->
+    [].
 
 %% A collector that wrote its last facts ended as it should, though nobody asked it.
 lost(_Node, #{lost := _, tracer := _}) ->
@@ -229,22 +249,33 @@ tracer(Node, taken) ->
 tracer(Node, gone) ->
     [text("~ts: the former system tracer is gone, so the node has none now", [Node])].
 
-converted(Counts) ->
-    [{Kind, text(Format, [seqaudit_explain:count(count(Kind, Counts), thing(Kind))])}
+converted(Counts, Samples) ->
+    [{Kind, text(Format, [seqaudit_explain:count(count(Kind, Counts), thing(Kind))])
+            ++ samples(count(Kind, Counts), lists:reverse(maps:get(Kind, Samples, [])))}
      || {Kind, Format} <-
             [{by_receive, "~ts to an alias or a name: the receive of each says which process that is"},
              {by_request, "~ts to an alias: the request that handed it out says whose it is"},
              {ambiguous, "~ts to an alias or a name that two receives or requests fit: it isn't known "
-              "whose it was, and it stands as a process of its own"},
-             {unresolved, "~ts to an alias or a name that nothing resolves; it stands as a process of "
+              "whose it was, and it is shown as a process of its own"},
+             {unresolved, "~ts to an alias or a name that nothing resolves; it is shown as a process of "
               "its own"},
              {strays, "convert left out ~ts that seq_trace doesn't write"},
+             {no_events, "convert left out ~ts of seq_trace whose form it doesn't know"},
              {nameless, "convert left out ~ts, as it takes 65,536 nodes and as many processes of each"}],
         count(Kind, Counts) > 0].
 
-thing(strays) -> "entry";
+thing(Kind) when Kind =:= strays; Kind =:= no_events -> "entry";
 thing(nameless) -> "event";
 thing(_) -> "send".
+
+samples(_Count, []) ->
+    "";
+samples(Count, Samples) ->
+    lists:append([": ", lists:append(lists:join("; ", Samples)),
+                  case Count - length(Samples) of
+                      0 -> "";
+                      More -> text("; and ~ts more", [seqaudit_explain:number(More)])
+                  end]).
 
 limits(Sizes) ->
     [text("the programs don't take this bundle as a whole: it has ~ts ~ts, and `seqtool audit' takes ~ts; audit "

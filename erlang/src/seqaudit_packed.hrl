@@ -25,6 +25,8 @@
                 collections = [] :: [seqaudit_build:collected()],   % last first
                 known = #{} :: #{seqaudit_external:encoded() => seqaudit_events:about()},
                 counts = #{} :: #{atom() => non_neg_integer()},
+                %% The first entries that are no events, by kind, last first.
+                samples = #{} :: #{atom() => [string()]},
                 %% Of the collection whose events come now.
                 home = unknown :: binary() | unknown,
                 own = none :: seqaudit_external:encoded() | none,

@@ -168,9 +168,9 @@ cut(Files, _Period, false) ->
 
 part(File, Which) -> filename:rootname(File) ++ "." ++ Which ++ ".events".
 
-%% The first thing that is gone then is all.
+%% That nothing came is said in two words.
 outcome(Period, 0, [_ | Became], Later) ->
-    [_All | Lost] = seqaudit_answer:losses(Period),
+    Lost = lists:delete(list_to_binary(seqaudit_notes:nothing()), seqaudit_answer:losses(Period)),
     {ok, fits, ["nothing came", losses(Lost), Became], Later};
 outcome(Period, _Events, How, Later) ->
     {ok, Legend} = seqaudit_legend:read(Period ++ ".terms"),

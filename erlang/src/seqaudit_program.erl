@@ -1,8 +1,8 @@
 %% @doc Runs the programs `seqaudit' and `seqtool'.
 -module(seqaudit_program).
 
--export([ask/2, ask/3, ask_if_known/3, find/0, find/1, unproved/0, lacks_proofs/0, how_built/0, how_proved/0, run/3,
-         with_text/2, format_error/1]).
+-export([ask/2, ask/3, ask_if_known/3, find/0, find/1, unproved/0, lacks_proofs/0, how_built/0, how_proved/0]).
+-export([versions/0, run/3, with_text/2, format_error/1]).
 
 -import(seqaudit_errors, [text/2]).
 
@@ -60,21 +60,22 @@ ask_if_known(Name, Words, Input) ->
 find() ->
     find("seqaudit").
 
-%% @doc Where a program is: where the variable of its name in capitals says, beside this application
-%% (in its folder, or in `bin', `bin/rust' or `bin/quick' beside that), or on the path.
+%% @doc Where a program is: where the variable of its name in capitals says; in the folder of this application, or in
+%% `bin' beside that, in which the proved ones are; on the path; or in `bin/rust' or `bin/quick' beside the application.
+%% So what isn't proved never takes the place of what is, and whoever puts another program on the path gets that one.
 -spec find(string()) -> {ok, file:filename()} | {error, {no_program, string(), [file:filename()]}
                                                        | {missing, string(), file:filename()}}.
 find(Name) ->
     Home = home(),
     Bin = filename:join(filename:dirname(Home), "bin"),
-    Unproved = [filename:join(Bin, Folder) || {Folder, _, _} <- ?UNPROVED],
-    Beside = [filename:join(Folder, Name) || Folder <- [Home, Bin | Unproved]],
+    Beside = [filename:join(Folder, Name) || Folder <- [Home, Bin]],
+    Unproved = [filename:join([Bin, Folder, Name]) || {Folder, _, _} <- ?UNPROVED],
     Said = [File || File <- [os:getenv(string:uppercase(Name))], File =/= false],
     OnPath = [File || File <- [os:find_executable(Name)], File =/= false],
-    case [File || File <- Said ++ Beside ++ OnPath, filelib:is_regular(File)] of
+    case [File || File <- Said ++ Beside ++ OnPath ++ Unproved, filelib:is_regular(File)] of
         [File | _] when Said =:= []; [File] =:= Said -> {ok, File};
         _ when Said =/= [] -> {error, {missing, Name, hd(Said)}};
-        [] -> {error, {no_program, Name, Beside}}
+        [] -> {error, {no_program, Name, Beside ++ Unproved}}
     end.
 
 %% The folder of this application.
@@ -95,7 +96,8 @@ packed() ->
 how_built() ->
     case packed() of
         {ok, Top} -> text("`make -C ~ts' builds it as plain Rust, not proved", [Top]);
-        none -> "in the repository `make program' builds it (`make rust' as plain Rust, not proved)"
+        none -> "in the repository `make rust' builds it in 1 to 2 minutes (plain Rust, not proved), and `make "
+                    "program' the proved one"
     end.
 
 %% @doc How to come by the proved programs.
@@ -131,6 +133,23 @@ what(Name, File) ->
                   ++ [What || {Folder, _, What} <- ?UNPROVED,
                               lists:suffix(["bin", Folder, Name], filename:split(File))],
                   1).
+
+%% @doc What the programs are that are asked, and where they are, a line each.
+-spec versions() -> [string()].
+versions() ->
+    [case find(Name) of
+         {ok, File} -> text("~ts ~ts: ~ts", [Name, stated(Name, File), File]);
+         {error, Reason} -> format_error(Reason)
+     end || Name <- ["seqaudit", "seqtool"]].
+
+%% A seqaudit has no words for its version, so what is said of it is what is known of its proofs.
+stated(Name, File) ->
+    Linked = linked(filename:absname(File)),
+    case {Name, string:lexemes(version(Linked), " \n"), what(Name, Linked)} of
+        {"seqtool", [<<"seqtool">> | Version], _} -> lists:join($\s, Version);
+        {_, _, [What]} -> ["(", What, ")"];
+        {_, _, []} -> "(no version is known)"
+    end.
 
 %% The slow models have no version.
 version(Tool) ->
@@ -224,7 +243,7 @@ format_error({cut, Program}) ->
 format_error({missing, Name, Program}) ->
     text("there is no ~ts, which the variable ~ts names", [Program, string:uppercase(Name)]);
 format_error({no_program, Name, Beside}) ->
-    text("there is no ~ts on the path, nor at ~ts; ~ts; or say where it is in the variable ~ts",
+    text("there is no ~ts at ~ts, nor on the path; ~ts; or say where it is in the variable ~ts",
          [Name, lists:join(" or ", Beside), how_built(), string:uppercase(Name)]);
 format_error({file, File, Reason}) ->
     seqaudit_errors:unread(File, Reason).

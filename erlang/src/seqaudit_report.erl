@@ -12,9 +12,10 @@ audit(#{name := Name, cut := Cut, losses := Losses, outcome := Outcome, parts :=
                                        parts => [outcome(Part, Legend) || {_, Part} <- Parts]}).
 
 outcome(#{said := Said, streams := Streams, unlisted := Unlisted} = Outcome, Legend) ->
-    Fits = Said =:= fits orelse Said =:= completed,
-    Known = #{fits => Fits, said => atom_to_binary(Said), headline => line(seqaudit_explain:headline(Outcome, Legend)),
-              events => length([Event || {_, Events} <- Streams, #{at := At} = Event <- Events, is_integer(At)]),
+    Events = length([Event || {_, Own} <- Streams, #{at := At} = Event <- Own, is_integer(At)]),
+    Fits = Events > 0 andalso (Said =:= fits orelse Said =:= completed),
+    Known = #{fits => Fits, said => case {Events, Said} of {0, fits} -> <<"empty">>; _ -> atom_to_binary(Said) end,
+              headline => line(seqaudit_explain:headline(Outcome, Legend)), events => Events,
               processes => length(Streams) - length(Unlisted), renumbered => maps:get(renumbered, Outcome, false)},
     case Outcome of
         #{finding := {Reason, _}} when not Fits ->

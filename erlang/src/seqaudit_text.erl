@@ -2,9 +2,11 @@
 %%
 %% One term after the other, each ended by a newline or a full stop. Processes, references, ports
 %% and funs may be in their printed form, which Erlang itself doesn't read back. What `logger' or
-%% another log puts in front of `{seq_trace,' on its line is passed over, and in such a text so are
-%% lines without an event. A comment says where the events after it were collected, and which node
-%% the first number of a pid means there:
+%% another log puts in front of `{seq_trace,' on its line is passed over, and so are lines that are no
+%% term and have no event; they are counted. An event that can't be read is a fault, but for one at the
+%% end of the text that isn't closed: the text was cut there, and what comes before it is whole.
+%% A comment says where the events after it were collected, and which node the first number of a pid
+%% means there:
 %% ```
 %% %% node a@host
 %% %% channel 8576 b@host
@@ -33,23 +35,47 @@
 %% Of what isn't understood so many characters are shown.
 -define(SHOWN, 30).
 
+%% So many terms that are no events are handed on with their line.
+-define(STRAYS, 3).
+
 -record(place, {node = ?NOWHERE :: binary(), channels = #{} :: #{binary() => binary()}}).
 
--type scan() :: {Text :: binary(), #place{}, Prefixed :: boolean(),
-                 Fault :: none | {pos_integer(), string()}}.
+%% What is known of a text up to where it is read: whether there was an event yet, the first line that is no term, how
+%% many lines were passed over, and how many terms are no events. `torn' are bytes of a character that isn't whole,
+%% which come behind the text.
+-record(scan, {text :: binary(), torn :: non_neg_integer(), place = #place{} :: #place{}, found = false :: boolean(),
+               fault = none :: none | {pos_integer(), string()}, passed = 0 :: non_neg_integer(),
+               strays = 0 :: non_neg_integer()}).
+
+-type item() :: collection | {facts, #{node := binary()}} | {event, binary()} | {stray, pos_integer(), binary()}
+              | {left, Bytes :: pos_integer(), Line :: pos_integer()}
+              | {passed, Lines :: pos_integer(), First :: pos_integer()}.
+%% As {@link seqaudit_events:item()} has them, with the number of a line in place of where it is.
 
 %% @doc Goes through the events, and the collections and nodes that they are of.
--spec fold(binary(), fun((seqaudit_events:item(), Acc) -> Acc), Acc) ->
+-spec fold(binary(), fun((item(), Acc) -> Acc), Acc) ->
           {ok, Acc} | {error, {pos_integer(), string()}}.
 fold(Text, Do, Acc) ->
-    case is_utf8(Text) of
-        true -> scan(Text, {Text, #place{}, false, none}, Do, {new, Acc});
-        false -> {error, {1, "this isn't UTF-8 text"}}
+    case torn(Text) of
+        not_utf8 ->
+            {error, {1, "this isn't UTF-8 text"}};
+        Torn ->
+            Whole = binary:part(Text, 0, byte_size(Text) - Torn),
+            scan(Whole, #scan{text = Whole, torn = Torn}, Do, {new, Acc})
     end.
 
-is_utf8(<<Seven:56, Rest/binary>>) when Seven band 16#80808080808080 =:= 0 -> is_utf8(Rest);
-is_utf8(<<_/utf8, Rest/binary>>) -> is_utf8(Rest);
-is_utf8(Rest) -> Rest =:= <<>>.
+%% How many bytes the last character has if it isn't whole.
+torn(Text) ->
+    Rest = not_utf8(Text),
+    case unicode:characters_to_binary(Rest) of
+        <<>> -> 0;
+        {incomplete, <<>>, _} -> byte_size(Rest);
+        _ -> not_utf8
+    end.
+
+not_utf8(<<Seven:56, Rest/binary>>) when Seven band 16#80808080808080 =:= 0 -> not_utf8(Rest);
+not_utf8(<<_/utf8, Rest/binary>>) -> not_utf8(Rest);
+not_utf8(Rest) -> Rest.
 
 %% @doc The events as terms by the node where they were printed, or the line that isn't understood.
 -spec read(binary()) -> {ok, [{node(), [term()]}]} | {error, {pos_integer(), string()}}.
@@ -63,22 +89,22 @@ read(Text) ->
 read_item({facts, #{node := Node}}, Read) -> [{Node, []} | Read];
 read_item({event, Event}, [{Node, Events} | Read]) ->
     [{Node, [seqaudit_external:to_term(Event) | Events]} | Read];
+read_item({stray, _Line, Term}, Read) ->
+    read_item({event, Term}, Read);
 read_item(_, Read) -> Read.
 
 %% `Last' is the node of the collection that is open.
--spec scan(binary(), scan(), fun((seqaudit_events:item(), Acc) -> Acc), {binary() | new, Acc}) ->
+-spec scan(binary(), #scan{}, fun((item(), Acc) -> Acc), {binary() | new, Acc}) ->
           {ok, Acc} | {error, {pos_integer(), string()}}.
-scan(Bytes, {Text, Place, Prefixed, Fault} = Scan, Do, {_Last, Acc} = State) ->
+scan(Bytes, #scan{place = Place, fault = Fault} = Scan, Do, State) ->
     case blanks(Bytes) of
-        <<>> when Fault =/= none, not Prefixed ->
-            {error, Fault};
         <<>> ->
-            {ok, Acc};
+            scanned(Scan, Do, State);
         <<".", Rest/binary>> ->
             scan(Rest, Scan, Do, State);
         <<"%", Rest/binary>> ->
             {Comment, After} = line(Rest),
-            scan(After, {Text, comment(words(Comment), Place), Prefixed, Fault}, Do, State);
+            scan(After, Scan#scan{place = comment(words(Comment), Place)}, Do, State);
         Begin when Fault =/= none ->
             {Line, _} = line(Begin),
             case binary:match(Line, <<"{seq_trace,">>) of
@@ -89,42 +115,82 @@ scan(Bytes, {Text, Place, Prefixed, Fault} = Scan, Do, {_Last, Acc} = State) ->
             scan_term(Begin, Scan, Do, State)
     end.
 
-scan_term(Begin, {_Text, Place, _, _} = Scan, Do, {Last, Acc}) ->
+%% A text without an event is none of a trace.
+scanned(#scan{found = false, fault = {Line, Reason}}, _Do, _State) ->
+    {error, {Line, Reason}};
+scanned(#scan{passed = Lines, fault = {First, _}}, Do, {_Last, Acc}) when Lines > 0 ->
+    {ok, Do({passed, Lines, First}, Acc)};
+scanned(#scan{}, _Do, {_Last, Acc}) ->
+    {ok, Acc}.
+
+scan_term(Begin, #scan{place = Place} = Scan, Do, State) ->
     try ended_term(Begin, Place) of
-        {Term, Rest} ->
-            Opened = opened(Place#place.node, Last, Do, Acc),
-            scan(Rest, Scan, Do, {Place#place.node, Do({event, Term}, Opened)})
+        {Term, Rest} -> taken(Term, Begin, Rest, Scan, Do, State)
     catch
-        throw:{fault, Reason} -> prefixed(Begin, Reason, Scan, Do, {Last, Acc})
+        throw:{fault, Reason} -> prefixed(Begin, Reason, Scan, Do, State)
+    end.
+
+taken(Term, Begin, Rest, #scan{text = Text, place = #place{node = Node}, strays = Strays} = Scan, Do, {Last, Acc}) ->
+    Opened = opened(Node, Last, Do, Acc),
+    case seqaudit_external:event(Term) of
+        {ok, _} ->
+            scan(Rest, Scan#scan{found = true}, Do, {Node, Do({event, Term}, Opened)});
+        _ when Strays < ?STRAYS ->
+            Stray = {stray, line_number(Text, Begin), Term},
+            scan(Rest, Scan#scan{strays = Strays + 1}, Do, {Node, Do(Stray, Opened)});
+        _ ->
+            scan(Rest, Scan, Do, {Node, Do({event, Term}, Opened)})
     end.
 
 opened(Node, Node, _Do, Acc) -> Acc;
 opened(Node, _Last, Do, Acc) -> Do({facts, #{node => Node}}, Do(collection, Acc)).
 
 %% A line that is no term may have an event behind what a log wrote in front.
-prefixed(Begin, Reason, {Text, Place, Prefixed, Fault}, Do, {Last, Acc}) ->
+prefixed(Begin, Reason, #scan{place = Place, passed = Passed} = Scan, Do, State) ->
     {Line, After} = line(Begin),
-    First = case Fault of
-                none -> {line_number(Text, Begin), Reason};
-                _ -> Fault
-            end,
     case binary:match(Line, <<"{seq_trace,">>) of
-        {Start, _} when Start > 0 ->
+        {0, _} ->
+            broken(Begin, Begin, Reason, Scan, Do, State);
+        {Start, _} ->
             <<_:Start/binary, Event/binary>> = Begin,
             try term(Event, Place, 0) of
-                {Term, Rest} ->
-                    {_, Next} = line(Rest),
-                    Opened = opened(Place#place.node, Last, Do, Acc),
-                    scan(Next, {Text, Place, true, Fault}, Do,
-                         {Place#place.node, Do({event, Term}, Opened)})
+                {Term, Rest} -> taken(Term, Begin, element(2, line(Rest)), Scan, Do, State)
             catch
-                throw:{fault, Inner} -> {error, {line_number(Text, Begin), Inner}}
+                throw:{fault, Inner} -> broken(Begin, Event, Inner, Scan, Do, State)
             end;
-        {0, _} ->
-            {error, First};
         nomatch ->
-            scan(After, {Text, Place, Prefixed, First}, Do, {Last, Acc})
+            scan(After, (first_fault(Begin, Reason, Scan))#scan{passed = Passed + 1}, Do, State)
     end.
+
+first_fault(Begin, Reason, #scan{text = Text, fault = none} = Scan) ->
+    Scan#scan{fault = {line_number(Text, Begin), Reason}};
+first_fault(_Begin, _Reason, Scan) ->
+    Scan.
+
+%% An event that can't be read. If it is the last one and isn't closed, the text was cut there.
+broken(Begin, Event, Reason, #scan{text = Text, torn = Torn, found = Found} = Scan, Do, {Last, Acc}) ->
+    Line = line_number(Text, Begin),
+    case Found andalso is_last(Event) andalso is_open(Event, 0) of
+        true -> scanned(Scan, Do, {Last, Do({left, byte_size(Event) + Torn, Line}, Acc)});
+        false -> {error, {Line, Reason}}
+    end.
+
+is_last(<<"{", Rest/binary>>) -> binary:match(Rest, <<"{seq_trace,">>) =:= nomatch.
+
+%% Whether brackets or a quote that are open stay so to the end.
+is_open(<<>>, Depth) -> Depth > 0;
+is_open(<<"$\\", _, Rest/binary>>, Depth) -> is_open(Rest, Depth);
+is_open(<<"$", _, Rest/binary>>, Depth) -> is_open(Rest, Depth);
+is_open(<<Quote, Rest/binary>>, Depth) when Quote =:= $"; Quote =:= $' -> is_open_quote(Rest, Quote, Depth);
+is_open(<<Open, Rest/binary>>, Depth) when Open =:= ${; Open =:= $[ -> is_open(Rest, Depth + 1);
+is_open(<<Close, _/binary>>, 1) when Close =:= $}; Close =:= $] -> false;
+is_open(<<Close, Rest/binary>>, Depth) when Close =:= $}; Close =:= $] -> is_open(Rest, Depth - 1);
+is_open(<<_, Rest/binary>>, Depth) -> is_open(Rest, Depth).
+
+is_open_quote(<<"\\", _, Rest/binary>>, Quote, Depth) -> is_open_quote(Rest, Quote, Depth);
+is_open_quote(<<Quote, Rest/binary>>, Quote, Depth) -> is_open(Rest, Depth);
+is_open_quote(<<_, Rest/binary>>, Quote, Depth) -> is_open_quote(Rest, Quote, Depth);
+is_open_quote(<<>>, _Quote, _Depth) -> true.
 
 line_number(Text, Begin) ->
     Before = byte_size(Text) - byte_size(Begin),

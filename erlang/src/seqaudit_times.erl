@@ -12,7 +12,7 @@
 
 -include("seqaudit_packed.hrl").
 
--export([none/0, write/4, read/1, at/2, took/2, clock/1, span/1, summary/1, summary/2, format_error/1]).
+-export([none/0, write/4, read/1, at/2, took/2, clock/1, span/1, spans/1, summary/1, summary/2, format_error/1]).
 -export_type([times/0]).
 
 -import(seqaudit_errors, [text/2]).
@@ -205,13 +205,13 @@ summary(#{start := Start, events := Events, messages := Messages}) ->
     text("~ts from the first event to the last", [span(Last)])
         ++ case Took of
                [] -> "";
-               _ -> text("; of ~b messages half took at most ~ts, the slowest ~ts",
-                         [length(Took), span(lists:nth(length(Took) div 2 + 1, Took)),
-                          span(lists:last(Took))])
+               _ -> text("; a message took ~ts in the median, the slowest ~ts (~ts)",
+                         [span(lists:nth(length(Took) div 2 + 1, Took)), span(lists:last(Took)),
+                          seqaudit_explain:count(length(Took), "message")])
            end
         ++ case clock(Start) of
                none -> "";
-               Clock -> text("; the first at ~ts", [Clock])
+               Clock -> text("; the first event was at ~ts", [Clock])
            end.
 
 %% @doc How long something took, in the unit that shows it best.
@@ -220,6 +220,19 @@ span(Nanoseconds) when Nanoseconds < 10_000 -> text("~b ns", [Nanoseconds]);
 span(Nanoseconds) when Nanoseconds < 10_000_000 -> text("~b us", [Nanoseconds div 1_000]);
 span(Nanoseconds) when Nanoseconds < 10_000_000_000 -> text("~b ms", [Nanoseconds div 1_000_000]);
 span(Nanoseconds) -> text("~b s", [Nanoseconds div 1_000_000_000]).
+
+%% @doc The same of several, all in one unit, so that they can be compared at a glance.
+-spec spans([integer()]) -> [string()].
+spans(Times) ->
+    {Unit, Size} = case lists:max([0 | [abs(Time) || Time <- Times]]) of
+                       Greatest when Greatest < 10_000 -> {"ns", 1};
+                       Greatest when Greatest < 10_000_000 -> {"us", 1_000};
+                       _ -> {"ms", 1_000_000}
+                   end,
+    [case Size of
+         1 -> text("~b ns", [Time]);
+         _ -> text("~.3f ~ts", [Time / Size, Unit])
+     end || Time <- Times].
 
 %% @doc A reason of this module in words, with what to do about it.
 -spec format_error(term()) -> string().

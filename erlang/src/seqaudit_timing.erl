@@ -77,15 +77,22 @@ table(_Title, [], _Legend) ->
     "no message has a time for both its send and its receive\n";
 table(Title, Entries, Legend) ->
     rows([Title, "count", "median", "99 %", "greatest", "which"],
-         [[Of, integer_to_list(Count)]
-          ++ [seqaudit_times:span(maps:get(Which, Known)) || Which <- [median, most, greatest]]
-          ++ [seqaudit_bundle:name(Pid, At, Legend)]
-          || {Of, #{count := Count, slowest := {Pid, At}} = Known} <- Entries]).
+         [[Of, integer_to_list(Count), Median, Most, Greatest, seqaudit_bundle:name(Pid, At, Legend)]
+          || {{Of, #{count := Count, slowest := {Pid, At}}}, Median, Most, Greatest}
+                 <- with_spans(Entries, [median, most, greatest])]).
+
+%% The entries, each with the times of these columns, of which each has one unit.
+with_spans(Entries, Columns) ->
+    Spans = [seqaudit_times:spans([maps:get(Which, Known) || {_, Known} <- Entries]) || Which <- Columns],
+    zipped([Entries | Spans]).
+
+zipped([[] | _]) -> [];
+zipped(Columns) -> [list_to_tuple([hd(Column) || Column <- Columns]) | zipped([tl(Column) || Column <- Columns])].
 
 label_table(Labels) ->
     rows(["slowest labels", "events", "took", "from"],
-         [[Label, integer_to_list(Events), seqaudit_times:span(Took), text("~.6f s", [First / 1.0e9])]
-          || {Label, #{events := Events, took := Took, first := First}} <- Labels]).
+         [[Label, integer_to_list(Events), Took, text("~.6f s", [First / 1.0e9])]
+          || {{Label, #{events := Events, first := First}}, Took} <- with_spans(Labels, [took])]).
 
 %% The first column is on the left, the others are as wide as they have to be.
 rows(Titles, Entries) ->

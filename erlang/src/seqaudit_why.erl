@@ -11,14 +11,14 @@
             seqaudit_times:times()) -> unicode:chardata().
 chain(Place, Rows, Legend, Times) ->
     [Row | Before] = Chain = seqaudit_causes:back(Place, seqaudit_causes:index(Rows)),
-    [line("", Row, Legend, Times),
-     [line(["because ", by(Cause, Legend)], One, Legend, Times)
+    [line({"", ""}, Row, Legend, Times),
+     [line(because(Cause, Legend), One, Legend, Times)
       || {#{cause := Cause}, One} <- lists:zip(lists:droplast(Chain), Before)],
      ending(lists:last(Chain), Legend),
      [premises(Legend) || lists:any(fun is_of_counts/1, Chain)]].
 
-line(Begin, #{id := Id} = Row, Legend, Times) ->
-    [Begin, name(Id, Legend), ": ", seqaudit_explain:sentence(Row, Legend), time(Id, Times), $\n].
+line({Begin, Behind}, #{id := Id} = Row, Legend, Times) ->
+    [Begin, name(Id, Legend), Behind, ": ", seqaudit_explain:sentence(Row, Legend), time(Id, Times), $\n].
 
 time(Id, Times) ->
     case seqaudit_times:at(Id, Times) of
@@ -26,15 +26,16 @@ time(Id, Times) ->
         Time -> [", at ", Time]
     end.
 
-by({spawned, _}, _Legend) -> "(OTP moved the counter when it answered a spawn) ";
-by({restored, _}, _Legend) -> "(a token was put back here, or its serial set by hand) ";
-by({perhaps, _}, _Legend) -> "(perhaps: counts alone don't tell) ";
-by({alike, _}, _Legend) -> "(perhaps: another message is like it) ";
-by({unreported, _}, Legend) -> ["(perhaps: its receive ", seqaudit_legend:absent(Legend), ") "];
-by({received, {_, {_, _}}}, Legend) -> ["(perhaps: it ", seqaudit_legend:absent(Legend), ") "];
-by({_, {sent_to, _}}, Legend) -> ["(it ", seqaudit_legend:absent(Legend), ") "];
-by({_, {_, {_, _}}}, Legend) -> ["(it ", seqaudit_legend:absent(Legend), ") "];
-by(_, _Legend) -> "".
+%% What comes before a cause's name and behind it.
+because({spawned, _}, _Legend) -> {"because ", " (OTP moved the counter when it answered a spawn)"};
+because({restored, _}, _Legend) -> {"because of ", ", whose token was put back or set by hand"};
+because({perhaps, _}, _Legend) -> {"perhaps because of ", ", as counts alone don't tell"};
+because({alike, _}, _Legend) -> {"perhaps because of ", ", or of another message like it"};
+because({unreported, _}, Legend) -> {"perhaps because of ", [", whose receive ", seqaudit_legend:absent(Legend)]};
+because({received, {_, {_, _}}}, Legend) -> {"perhaps because of ", [", which ", seqaudit_legend:absent(Legend)]};
+because({_, {sent_to, _}}, Legend) -> {"because of ", [", which ", seqaudit_legend:absent(Legend)]};
+because({_, {_, {_, _}}}, Legend) -> {"because of ", [", which ", seqaudit_legend:absent(Legend)]};
+because(_, _Legend) -> {"because ", ""}.
 
 %% What is said of a send's or print's cause goes by its counts.
 is_of_counts(#{cause := {How, _}}) when How =:= sent; How =:= alike -> false;
@@ -48,7 +49,22 @@ ending(#{cause := {_, _}}, _Legend) ->
 ending(#{cause := unseen}, Legend) ->
     ["That send ", seqaudit_legend:absent(Legend), ", so its cause isn't known.\n"];
 ending(#{cause := Cause, event := #{from := From}}, Legend) ->
-    ["There ", seqaudit_legend:process(From, Legend), $\s, cause(Cause, Legend), ".\n"].
+    [seqaudit_legend:process(From, Legend), $\s, began(Cause, Legend), ".\n"].
+
+%% What the process did at the last event of a chain.
+began(start, _Legend) -> "began the trace with this event";
+began(open, Legend) -> [began(start, Legend), or_follows(Legend)];
+began({relabelled, Label, none}, Legend) -> [began_label(Label, Legend), " token that it had"];
+began({relabelled, Label, open}, Legend) ->
+    [began_label(Label, Legend), " token that was put back", or_follows(Legend)];
+began({relabelled, Label, {Id, Other}}, Legend) ->
+    [began({relabelled, Label, none}, Legend), "; it had last received ", name(Id, Legend), " of label ",
+     seqaudit_legend:label(Other, Legend)].
+
+began_label(Label, Legend) ->
+    ["began label ", seqaudit_legend:label(Label, Legend), " with this event, or set it on a"].
+
+or_follows(Legend) -> [", or this event follows a message whose receive ", seqaudit_legend:absent(Legend)].
 
 %% @doc What an event caused, at one remove or more, a line each.
 -spec effects(seqaudit_bundle:place(), [seqaudit_causes:row()], seqaudit_legend:legend(),
@@ -69,8 +85,8 @@ effects(Place, Rows, Legend, Times) ->
     end.
 
 premises(Legend) ->
-    ["This holds if each receive of a token ", seqaudit_legend:present(Legend), ", and if no process set a token of a "
-     "label that it or another process had had before, but where it's said.\n"].
+    ["This holds if each receive of a token ", seqaudit_legend:present(Legend), ", and if no process set a token with "
+     "a label that had been in use, except where it's said above.\n"].
 
 %% @doc What a row is called.
 -spec name(seqaudit_causes:id(), seqaudit_legend:legend()) -> unicode:chardata().

@@ -326,7 +326,8 @@ older_tools_test_() ->
             {_, Tool} ->
                 Completes = older(Tool, "renumber"),
                 Said = command(["audit"], Name, Completes),
-                has(Said, ["fits: 24 events of 5 processes, with 24 sends that nobody reported, 3 counts that no event here has",
+                has(Said, ["fits: 24 events of 5 processes, with 24 sends that nobody reported, 3 counts that no event "
+                           "here has",
                            "(status 0)"]),
                 nothing_of(Said, ["error: what is", "were renumbered"]),
                 checked(Name),
@@ -460,6 +461,7 @@ normal(Text) ->
     lists:foldl(fun({Pattern, With}, Done) -> re:replace(Done, Pattern, With,
                                                          [global, multiline, {return, binary}]) end,
                 Numbered, [{"[a-z_]+:[a-z_]+/[0-9]+ (?=<[0-9])", ""}, {"(?<=\\S)  +", "  "}, {"^ {3,}(?=\\S)", "  "},
+                           {"/\\S*/test/out/", ""},
                            %% Where a term is cut short depends on the pids in it.
                            {"\\S*\\.\\.\\.", "..."}, {"#Fun<[^>\\n]*>", "#Fun<>"}]).
 

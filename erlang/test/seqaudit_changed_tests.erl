@@ -87,15 +87,15 @@ silent_test_() ->
     with_tool(fun(Said) ->
         ok = write("silent", without(["'receive',{1,2}", "send,{2,3}"])),
         Audit = Said(["audit"], "silent"),
-        has(Audit, ["fits: 9 events of 4 processes, with 1 send and 1 receive that nobody reported\n",
-                    "  stock sends reply {left,7} to shop, serial {2,3}, label {order,7}, received as shop#2\n"
+        has(Audit, ["fits: 9 events of 4 processes, with 1 send and probably 1 receive that nobody reported\n",
+                    "  stock sends reply {left,7} to shop, serial {2,3}, label {order,7}, received as shop#2\n",
                     "  stock receives call {take,apple,3} from shop, serial {1,2}, label {order,7}, before the send of "
                     "shop#2\n"]),
         has_not(Audit, ["may still wait"]),
         has(Said(["audit", "--json"], "silent"),
             ["\"unreceived\":[{\"before\":\"the send of shop#2\",\"event\":\"shop#1\"}]", "\"waiting\":[]"]),
         has(Said(["why", "--event", "shop#2"], "silent"),
-            ["because (perhaps: its receive wasn't reported) shop#1: shop sends call {take,apple,3} to stock"]),
+            ["perhaps because of shop#1, whose receive wasn't reported: shop sends call {take,apple,3} to stock"]),
         has(Said(["chart", "--label", "{order,7}"], "silent"),
             ["  unreported  receive  {1,2} call {take,apple,3}  perhaps after shop#1\n",
              "{2,3} reply {left,7}  perhaps after shop#1, whose receive wasn't reported\n"]),
@@ -116,10 +116,20 @@ no_terms_test_() ->
                 ".terms, so processes, labels and messages are shown by their numbers\n"],
         has(Said(["audit"], "no_terms"),
             [Note, "fits: 6 events of 4 processes",
-             "  <0.85.0> receives #0 from <0.81.0>, serial {0,1}, label 1000000, before <0.85.0>#0\n", "(status 0)"]),
-        has(Said(["chart", "--label", "1000000"], "no_terms"), [Note, "<0.84.0>#0  print    {4,5} #5", "(status 0)"]),
+             "  <0.85.0> receives value 0 from <0.81.0>, serial {0,1}, label 1000000, before <0.85.0>#0\n",
+             "(status 0)"]),
+        has(Said(["chart", "--label", "1000000"], "no_terms"),
+            [Note, "<0.84.0>#0  print    {4,5} value 5", "(status 0)"]),
         has(Said(["chart", "--label", "7"], "no_terms"), ["there is no label 7; the trace has 1000000\n(status 1)"]),
-        has(Said(["why", "--event", "<0.85.0>#1"], "no_terms"), [Note, "<0.85.0>#1: <0.85.0> sends #3", "(status 0)"])
+        has(Said(["why", "--event", "<0.85.0>#1"], "no_terms"),
+            [Note, "<0.85.0>#1: <0.85.0> sends value 3", "(status 0)"]),
+        %% The event's name needs no option.
+        has(Said(["why", "<0.85.0>#1"], "no_terms"), ["<0.85.0>#1: <0.85.0> sends value 3", "(status 0)"]),
+        %% Nor does the only label of a trace.
+        has(Said(["chart"], "no_terms"), ["label 1000000\n", "{4,5} value 5", "(status 0)"]),
+        ok = write("labels", twice(order(), other(order()))),
+        has(Said(["chart"], "labels"),
+            ["the trace has 2 labels; choose one by --label: {order,7}, 17\n", "(status 3)"])
     end).
 
 wrong_name_test_() ->
@@ -145,13 +155,17 @@ no_bundle_test_() ->
         [begin
              ok = write("no_bundle", Text),
              has(Said(["audit"], "no_bundle"),
-                 [[name("no_bundle"), ".seqtrace, line 1, isn't a line of a bundle; ", Lint], "(status 2)"])
+                 [[name("no_bundle"), ".seqtrace, line 1, isn't the text of a trace (docs/FORMATS.md); ", Lint],
+                  "(status 2)"])
          end || Text <- ["", "junk\n"]],
         %% An event below another process.
         ok = write("no_bundle", swapped(line(10), line(11))),
         [has(Said(Words, "no_bundle"),
-             [["not audited: the text of this trace isn't that of a bundle; ", Lint], "(status 2)"])
-         || Words <- [["audit"], ["chart", "--label", "{order,7}"]]],
+             [["not audited: ", name("no_bundle"), ".seqtrace", Line, " isn't the text of a trace (docs/FORMATS.md); ",
+               Lint], "(status 2)"])
+         || {Words, Line} <- [{["audit"], ", line 11,"}, {["chart", "--label", "{order,7}"], ""}]],
+        %% An earlier answer goes, and none comes.
+        false = filelib:is_regular(name("no_bundle") ++ ".answer"),
         has(Said(["audit", "--each-label"], "no_bundle"), [Lint, "(status 2)"])
     end).
 
@@ -169,7 +183,20 @@ no_events_test_() ->
         {ok, File} = seqaudit_events:open(Name),
         ok = seqaudit_events:close(File),
         {0, Done} = seqaudit_test_shell:run([Command, " convert ", Name, ".events ", Name, ".txt -o ", Name]),
-        has(Done, ["0 events of 0 processes", "no events came"])
+        has(Done, ["0 events of 0 processes", "no events came"]),
+        has(Said(["audit"], "no_events"),
+            ["nothing to audit: the trace has no events\n", "no events came", "(status 1)"]),
+        has(Said(["audit", "--json"], "no_events"), ["\"fits\":false", "\"said\":\"empty\"", "(status 1)"]),
+        %% Of a file that is cut it isn't known whether any came.
+        {ok, Cut} = seqaudit_events:open(Name),
+        ok = seqaudit_events:begin_collection(Cut, #{node => node()}),
+        ok = seqaudit_events:append(Cut, <<0, 9:32, 131>>),
+        ok = seqaudit_events:close(Cut),
+        {0, Left} = seqaudit_test_shell:run([Command, " convert ", Name, ".events -o ", Name]),
+        has(Left, ["convert left out 6 bytes of the file"]),
+        has_not(Left, ["no events came"]),
+        has(Said(["audit"], "no_events"),
+            ["nothing to audit: the trace has no events\nThe trace isn't whole:\n", "left out 6 bytes", "(status 1)"])
     end).
 
 %% Helpers

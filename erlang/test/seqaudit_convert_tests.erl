@@ -143,17 +143,21 @@ counts_test() ->
     Strays = [hello, {seq_trace, 1, {send, {0, 1}, self(), "x", x}}, {seq_trace, 1, 2},
               {seq_trace, 1, {print, {0, -1}, self(), [], x}}, {seq_trace, 1, {spawn, {0, 1}, 2, 3, 4}},
               {seq_trace, 1, {print, {0, 1 bsl 64}, self(), [], x}}],
-    #{events := 1, dropped := 9, notes := [Dropped, Own, Left]} =
+    #{events := 1, dropped := 9, notes := [Dropped, Own, Left, Unknown]} =
         seqaudit_convert:convert([#{node => 'a@h', dropped => 2, own => 1, strays => 0, events =>
             [{seq_trace, 1, {print, {0, 1}, self(), [], x}} | Strays]}]),
     true = has(Dropped, "a@h: the collector dropped 2 events beyond the limit"),
     true = has(Own, "a@h: convert left out 1 event that named the collector"),
-    true = has(Left, "convert left out 6 entries that seq_trace doesn't write").
+    "convert left out 1 entry that seq_trace doesn't write: hello" = Left,
+    true = has(Unknown, "convert left out 5 entries of seq_trace whose form it doesn't know: {seq_trace,1,{send,{0,"),
+    true = has(Unknown, "; {seq_trace,1,2}; "),
+    true = has(Unknown, "; and 2 more").
 
 %% What the program's reader won't take is said.
 limits_test() ->
     Facts = fun(Processes) ->
-                    seqaudit_notes:facts(#{collections => [], counts => #{}, listed => [], labels => []},
+                    seqaudit_notes:facts(#{collections => [], counts => #{}, samples => #{}, listed => [],
+                                           labels => []},
                                          #{events => 1, processes => Processes})
             end,
     [] = Facts(1_000_000),
@@ -171,7 +175,7 @@ too_many_test_() ->
     end}.
 
 lost_test() ->
-    #{events := 0, notes := [_, Note]} = seqaudit_convert:convert([#{node => 'a@h', lost => noconnection}]),
+    #{events := 0, notes := [Note]} = seqaudit_convert:convert([#{node => 'a@h', lost => noconnection}]),
     true = has(Note, "a@h: the node was lost, or the connection to it, and all of its events are lost").
 
 %% Large terms are cut in what is printed, and not in what is compared. The time is the processor's, as

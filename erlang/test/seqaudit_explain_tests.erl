@@ -1,7 +1,8 @@
 %% Results and charts with names and terms in the place of numbers.
 -module(seqaudit_explain_tests).
 
--export([whole_test/0, acts_test/0, reported_acts_test_/0, fits_test/0, many_test/0, unreceived_test/0,
+-export([whole_test/0, acts_test/0, reported_acts_test_/0, fits_test/0, probably_test/0, cause_command_test/0,
+         many_test/0, unreceived_test/0,
          completed_test/0, labels_test/0, places_test/0, reasons_test/0, no_tool_test/0, faults_test/0,
          losses_test/0, chart_test/0, drawing_test/0, dashed_test/0, drawing_is_safe_test/0, large_drawing_test_/0,
          too_large_drawing_test/0, brief_test/0, legend_test/0]).
@@ -117,14 +118,16 @@ fits_test() ->
                      "{seq_trace,17,{send,{0,1},<0.31.0>,<0.30.0>,7}}\n"),
     has(said(outcome(fits, Higher)), ["fits: 3 events of 2 processes; 1 process may have sent or printed something "
                                       "unreported "
-                                      "before the first send or print here\n", "the counter of alice stood at 2.\n"]),
+                                      "before the first send or print here\n",
+                                      "the counter of alice was 2. That is usual if the node was traced before; "
+                                      "`seqaudit-node collect --reset' begins with all counters at 0.\n"]),
     %% Nothing says so of a trace that was cut, or of which something was lost, or that has no events.
     Print = streams("seqtrace 1\nprocess <0.30.0>\n{seq_trace,17,{print,{0,1},<0.30.0>,[],7}}\n"),
     [<<"fits: 1 event of 1 process; nothing else is known to be missing\n">> =
          said((outcome(fits, Print))#{cut => Cut, lost => Lost}) || {Cut, Lost} <- [{true, false}, {false, true}]],
     <<"fits: 1 event of 1 process; nothing is known to be missing\n">> =
         said((outcome(fits, Print))#{cut => false, lost => false}),
-    <<"fits: 0 events of 0 processes\n">> = said(outcome(fits, [])),
+    <<"nothing to audit: the trace has no events\n">> = said(outcome(fits, [])),
     %% Nor of one with messages that nobody is known to have received.
     Sends = "seqtrace 1\nprocess <0.30.0>\n{seq_trace,17,{send,{0,1},<0.30.0>,<0.31.0>,7}}\n"
             "{seq_trace,17,{send,{0,2},<0.30.0>,<0.31.0>,6}}\nprocess <0.31.0>\n",
@@ -139,8 +142,8 @@ fits_test() ->
         said((outcome(fits, streams(One)))#{cut => true, lost => false}),
     %% A receive that nobody reported, and that an event follows, is told among what nobody reported.
     has(said(outcome(completed, streams(Sends ++ "{seq_trace,17,{print,{1,3},<0.31.0>,[],7}}\n"))),
-        ["fits: 3 events of 2 processes, with 1 receive that nobody reported; 1 message has no reported receive, "
-         "and may still wait\n", "Messages without a reported receive: alice#1 to bob & <co>.\n"]),
+        ["fits: 3 events of 2 processes, with probably 1 receive that nobody reported; 1 message has no reported "
+         "receive, and may still wait\n", "Messages without a reported receive: alice#1 to bob & <co>.\n"]),
     Gaps = "seqtrace 1\nprocess <0.30.0>\n"
            "{seq_trace,17,{print,{4999,5000},<0.30.0>,[],7}}\n"
            "{seq_trace,17,{print,{4999,5003},<0.30.0>,[],7}}\n"
@@ -148,19 +151,50 @@ fits_test() ->
            "{seq_trace,17,{'receive',{0,3},<0.30.0>,<0.31.0>,8}}\n"
            "{seq_trace,17,{send,{63,64},<0.31.0>,<0.30.0>,7}}\n",
     has(said((outcome(fits, streams(Gaps)))#{renumbered := true}),
-        ["fits: 5 events of 2 processes, with 1 send that nobody reported, 2 counts that no event here has, 1 jump of a counter; "
-         "the cause of 3 events isn't known",
+        ["fits: 5 events of 2 processes, with 1 send that nobody reported, 2 counts that no event here has, 1 jump of "
+         "a counter; the cause of 3 events isn't known",
          "A counter jumps if it is higher than anything reported explains: that of alice once.",
          "What nobody reported:\n",
          "  alice sends spawned ",
          "to bob & <co>, serial {0,3}, label 17, received as bob & <co>#0\n",
-         "sends whose receives weren't reported either, unless a token's serial was set by hand (set_token/2): 2 of alice.\n",
-         "Before the first send or print here, the counter of alice stood at 4,999.\n",
+         "sends whose receives weren't reported either, unless a token's serial was set by hand (set_token/2): 2 of "
+         "alice.\n",
+         "Before the first send or print here, the counter of alice was 4,999. That is usual",
          "it moves the counter of the process that asked for it: that of bob & <co> once.\n",
          "the serials shown here are the node's own"]),
     has(said((outcome(fits, streams(Gaps)))#{cut => true}),
         ["with 1 send that nobody reported or that the cut took away, 2 counts that no event here has, ",
          "What nobody reported, or what the cut took away:\n"]).
+
+%% What only explains an event may not have been: a counter that was left from an earlier trace explains it as well. A
+%% send whose receive was reported was.
+probably_test() ->
+    Text = "seqtrace 1\nprocess <0.30.0>\n{seq_trace,17,{send,{0,1},<0.30.0>,<0.31.0>,7}}\n"
+           "{seq_trace,17,{'receive',{1,2},<0.31.0>,<0.30.0>,6}}\nprocess <0.31.0>\n",
+    Send = "{seq_trace,17,{send,{1,2},<0.31.0>,<0.30.0>,6}}\n",
+    Unless = "What was probably not reported, unless its process has begun anew with a counter left from an earlier "
+             "trace:\n  bob & <co> receives start from alice, serial {0,1}, label 17, before ",
+    Reported = said(outcome(fits, streams([Text, Send]))),
+    has(Reported, ["fits: 3 events of 2 processes, with probably 1 receive that nobody reported\n",
+                   Unless ++ "bob & <co>#0\n"]),
+    nomatch = binary:match(Reported, <<"What nobody">>),
+    has(said(outcome(fits, streams(Text))),
+        ["fits: 2 events of 2 processes, with 1 send and probably 1 receive that nobody reported\n"
+         "What nobody reported:\n  bob & <co> sends {ok,six} to alice, serial {1,2}, label 17, received as alice#1\n",
+         Unless ++ "the send of alice#1\n"]),
+    has(said((outcome(fits, streams([Text, Send])))#{cut => true}),
+        ["with probably 1 receive that nobody reported or that the cut took away\nWhat probably isn't here, unless "]).
+
+%% The whole command is said, as a shell takes it; after a cut nothing is said of causes that it took away.
+cause_command_test() ->
+    Streams = streams("seqtrace 1\nprocess <0.30.0>\nprocess <0.31.0>\n{seq_trace,17,{print,{4,5},<0.31.0>,[],7}}\n"),
+    Outcome = outcome(fits, Streams),
+    has(said(Outcome#{name => "out/it's"}),
+        ["fits: 1 event of 2 processes; the cause of 1 event isn't known\n",
+         "The cause isn't known of bob & <co>#0; this says what it may be: seqaudit-node why 'out/it'\\''s' "
+         "'bob & <co>#0'\n"]),
+    <<"fits: 1 event of 2 processes; the cause of 1 event isn't known here\n">> =
+        said(Outcome#{name => "x", cut => true, lost => false}).
 
 %% Of many processes the first are named, and so are the places of a reset.
 many_test() ->
@@ -168,7 +202,7 @@ many_test() ->
     Many = fun(From) ->
                streams(["seqtrace 1\n", [["process ", pid(K), $\n, Print(pid(K), From)] || K <- lists:seq(1, 50)]])
            end,
-    has(said(outcome(fits, Many(9))), [", that of <0.120.0> at 8, and so of 30 more processes.\n"]),
+    has(said(outcome(fits, Many(9))), [", that of <0.120.0> 8, and so of 30 more processes. That is"]),
     Sends = [io_lib:format("{seq_trace,17,{send,{0,~b},<0.30.0>,<0.30.0>,7}}~n", [This])
              || This <- lists:seq(1, 1_025)],
     has(said(outcome(fits, streams(["seqtrace 1\nprocess <0.30.0>\n", Sends]))),
@@ -209,7 +243,9 @@ completed_test() ->
     Completed = seqaudit_bundle:complete(Streams, {Added, [{<<"<0.30.0>">>, 1}, {<<"<0.31.0>">>, 1},
                                                            {<<"<0.31.0>">>, 3}]}),
     has(said(outcome(completed, Completed)),
-        ["fits: 3 events of 2 processes, with 1 send and 2 receives that nobody reported",
+        ["fits: 3 events of 2 processes, with probably 1 send and 2 receives that nobody reported\n",
+         "What nobody reported, in the run that was found:\n",
+         "\nIn place of this a process may have begun anew with a counter left from an earlier trace.\n",
          "  alice#1~1: alice sends an unknown message to bob & <co>, serial {0,2}, label 17\n",
          "  bob & <co>#1~1: bob & <co> receives start from alice, serial {0,1}, label 17\n",
          "  bob & <co>#2~1: bob & <co> receives an unknown message from alice",
@@ -273,7 +309,11 @@ faults_test() ->
         ["not audited: the trace has more bytes than the program takes; audit each label by itself (--each-label), "
          "or cut it"]),
     has(said((outcome(fault, []))#{fault => <<"fault line 3">>}),
-        ["not audited: the text of this trace isn't that of a bundle; `seqtool lint NAME.seqtrace' says what"]).
+        ["not audited: NAME.seqtrace, line 3, isn't the text of a trace (docs/FORMATS.md); `seqtool lint "
+         "NAME.seqtrace' says what"]),
+    %% The lines of a cut are those of no file.
+    has(said((outcome(fault, []))#{fault => <<"fault line 3">>, cut => true}),
+        ["not audited: NAME.seqtrace isn't the text of a trace"]).
 
 %% Notes that tell of losses are in the result.
 losses_test() ->
@@ -322,7 +362,7 @@ chart_test() ->
                "known\n",
                "   .   R  bob & <co>#0  receive  {0,2} call {get,\"5 < 6\"}  its send wasn't reported\n",
                "   .   S  bob & <co>#1  send     {2,3} {ok,six}  after bob & <co>#0\n",
-               "   S   .  alice#3       send     {3,5} #9  after alice#1\n",
+               "   S   .  alice#3       send     {3,5} value 9  after alice#1\n",
                "   |   P  bob & <co>#2  print    {4,6} start  begins here, or follows a message whose receive wasn't "
                "reported\n"]),
     {error, {no_chart, <<"no label 18">>}} = seqaudit_chart:read(<<"no label 18\n">>),
@@ -370,7 +410,7 @@ dashed_test() ->
          "   |   P  bob & <co>#0  print    {1,2} start  " ++ After ++
          "   |   P  bob & <co>#1  print    {1,3} start  " ++ After]),
     Drawing = drawn(Chart, heading("fits")),
-    has(Drawing, ["unreported, but other events tell of it", ": 4 rows, 2 processes<",
+    has(Drawing, ["unreported, as other events suggest", ": 4 rows, 2 processes<",
                   "unreported: receive {0,1}, perhaps after alice#0\n",
                   ">receive not reported</text>"]),
     %% One ring that is dashed is in the legend.
@@ -382,7 +422,7 @@ dashed_test() ->
     %% What a cut took away may have been reported.
     {ok, OfCut} = seqaudit_draw:svg(Chart, heading("fits"), seqaudit_legend:of_cut(legend())),
     Cut = unicode:characters_to_binary(OfCut),
-    has(Cut, [">not here, but other events tell of it<", ">what it follows may not be here<", ">receive not here<",
+    has(Cut, [">not here, as other events suggest<", ">what it follows may not be here<", ">receive not here<",
               "not here: receive {0,1}, perhaps after alice#0\n",
               "print {1,2}, perhaps after alice#0, whose receive isn't here\n"]),
     nomatch = binary:match(Cut, <<"reported">>).

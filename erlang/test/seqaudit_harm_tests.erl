@@ -145,7 +145,8 @@ trigger_test_() ->
         {ok, #{events := Times, messages := Messages} = Read} = seqaudit_times:read(Name ++ ".times"),
         true = map_size(Times) >= 4 andalso map_size(Messages) >= 2,
         [] = [Took || {_, Took} <- maps:values(Messages), Took < 0 orelse Took > 4_000_000_000],
-        {match, _} = re:run(seqaudit_times:summary(Read), "from the first event to the last; of [0-9]+ messages half"),
+        {match, _} = re:run(seqaudit_times:summary(Read),
+                            "from the first event to the last; a message took [0-9]+ [a-z]+ in the median"),
         seqaudit_audits:fits(Name),
         %% Afterwards nothing is traced, and no token is left.
         {[], false} = traced(There),

@@ -35,8 +35,8 @@ usage_test_() ->
                                   {"frobnicate", <<"there is no command frobnicate\nusage: seqaudit-node COMMAND">>}],
             {3, Said} <- [command(Words)]],
         [{3, _} = command(Words)
-         || Words <- ["", "frobnicate", "audit", "audit a b", "audit a --label", "chart a", "why a",
-                      "chart a --html x --svg y", "chart a --label b --parts",
+         || Words <- ["", "frobnicate", "audit", "audit a b", "audit a --label", "chart", "chart a b", "why a",
+                      "chart a --label b --parts",
                       "convert x", "collect --node a@h", "collect -o x", "convert -o", "times", "watch --node a@h -o x",
                       "watch --every 1 -o x", "audit a --each-label --whole"]],
         {3, Text} = command("collect --node a@h --seconds ten -o x"),
@@ -91,7 +91,8 @@ damaged_test_() ->
                      {_, _} = binary:match(Gone, iolist_to_binary(["there is no ", Name, Suffix]))
              end,
              ok = file:write_file(Name ++ Suffix, Whole)
-         end || {Suffix, What} <- [{".terms", "an entry of NAME.terms"}, {".seqtrace", "a line of a bundle"},
+         end || {Suffix, What} <- [{".terms", "an entry of NAME.terms"},
+                                   {".seqtrace", "the text of a trace (docs/FORMATS.md)"},
                                    {".times", "an entry of NAME.times"}]]
     end}.
 

@@ -5,7 +5,7 @@
          large_event_test/0, ended_test_/0, back_test_/0, quiet_test/0, rest_test/0, never_quiet_test/0, watch_test_/0,
          too_many_test_/0]).
 %% Called by name.
--export([serve/0, serve/1, answer/0, request/2]).
+-export([serve/1, answer/0, request/2]).
 
 %% No event is lost between two files, and processes keep their names.
 rotate_test_() ->
@@ -268,19 +268,21 @@ never_quiet_test() ->
 watch_test_() ->
     with_watch("w", fun(Program) -> Program end, fun watched/4).
 
-with_watch(Name, Asked, Test) ->
-    {timeout, 240, fun() ->
+with_watch(Name, Asked, Test) -> with_watch(Name, 25, Asked, Test).
+
+with_watch(Name, InSecond, Asked, Test) ->
+    {timeout, 600, fun() ->
         case {seqaudit_program:find("seqaudit"), seqaudit_program:find("seqtool")} of
             {{ok, Program}, {ok, Tool}} ->
                 seqaudit_test_nodes:with_second("watch", fun(There) ->
-                    begun(There, Name, [{"SEQAUDIT", Asked(Program)}, {"SEQTOOL", Asked(Tool)}], Test)
+                    begun(There, {Name, InSecond}, [{"SEQAUDIT", Asked(Program)}, {"SEQTOOL", Asked(Tool)}], Test)
                 end);
             _ -> io:format(user, "watch: skipped, the programs aren't built~n", [])
         end
     end}.
 
 %% The command watches a node with a service, and what it says goes to a file.
-begun(There, Name, Programs, Test) ->
+begun(There, {Name, InSecond}, Programs, Test) ->
     Folder = seqaudit_audits:file("watched_" ++ Name),
     _ = file:del_dir_r(Folder),
     ok = file:make_dir(Folder),
@@ -291,7 +293,7 @@ begun(There, Name, Programs, Test) ->
                                        " 2>&1"],
                                       seqaudit_test_shell:cookie() ++ Programs),
     seqaudit_test_nodes:until(fun() -> seqaudit_test_nodes:is_traced(There) end),
-    Service = served(There),
+    Service = served(There, InSecond),
     Says = fun(Pattern) ->
                    {ok, Text} = file:read_file(Said),
                    case re:run(Text, Pattern, [global, {capture, all, list}]) of
@@ -315,10 +317,10 @@ begun(There, Name, Programs, Test) ->
     exit(Service, kill).
 
 %% The node has this module and a service.
-served(There) ->
+served(There, InSecond) ->
     {_, Binary, File} = code:get_object_code(?MODULE),
     {module, _} = erpc:call(There, code, load_binary, [?MODULE, File, Binary]),
-    erpc:call(There, erlang, spawn, [?MODULE, serve, []]).
+    erpc:call(There, erlang, spawn, [?MODULE, serve, [InSecond]]).
 
 watched(There, Name, Says, End) ->
     seqaudit_test_nodes:until(fun() -> length(Says("period [0-9]+: fits.*: .* not kept")) >= 3 end),
@@ -364,7 +366,7 @@ back_test_() ->
         seqaudit_test_nodes:until(fun() -> Says("wasn't asked \\(it can't be reached\\)") =/= [] end),
         Stop = seqaudit_test_nodes:again(There),
         seqaudit_test_nodes:until(fun() -> Says("had stopped collecting and began again") =/= [] end),
-        _ = served(There),
+        _ = served(There, 25),
         seqaudit_test_nodes:until(fun() -> Says("began again; .*\n(.*\n)*.*period [0-9]+: fits.*: ") =/= [] end),
         0 = End(),
         Stop()
@@ -373,7 +375,9 @@ back_test_() ->
 %% A period with more processes than the programs take is audited label by label. These take three; of more, seqtool
 %% audits those of every second period, and finds no run.
 too_many_test_() ->
-    with_watch("many", fun(Program) ->
+    %% Each label takes some programs and shells. If auditing a period takes longer than the period, the next one is
+    %% longer still, and on a busy machine that wouldn't end: so there are few labels.
+    with_watch("many", 2, fun(Program) ->
         Script = seqaudit_audits:file("few_processes_" ++ filename:basename(Program) ++ ".sh"),
         Audits = case string:find(filename:basename(Program), "seqtool") of nomatch -> "none"; _ -> "audit" end,
         _ = file:delete(Script ++ ".once"),
@@ -392,14 +396,12 @@ too_many_test_() ->
         %% The programs may be plain Rust.
         Fits = "period [0-9]+: [0-9]+ events, too many for the programs at once; of ([0-9]+) labels \\1 fit by "
                "themselves( \\(by programs without proofs\\))?; cut .*; not kept",
-        seqaudit_test_nodes:until(fun() -> length(Says(Fits)) >= 2 end),
+        seqaudit_test_nodes:until_within(300, fun() -> length(Says(Fits)) >= 2 end),
         0 = End(),
         [] = filelib:wildcard(Name ++ ".*")
     end).
 
-%% Some twenty requests a second, each with a process and a label of its own; whoever makes them has no token.
-serve() -> serve(25).
-
+%% So many requests a second, each with a process and a label of its own; whoever makes them has no token.
 serve(InSecond) ->
     drive(spawn_link(?MODULE, answer, []), InSecond, erlang:monotonic_time(millisecond), 0).
 

@@ -2,7 +2,8 @@
 -module(seqaudit_reading_tests).
 
 -export([damaged_files_test_/0, swapped_files_test_/0, no_atoms_test/0, forged_names_test/0,
-         log_lines_test/0, out_of_range_test/0, unpacked_size_test/0, old_release_test/0,
+         log_lines_test/0, foreign_lines_test/0, broken_end_test/0, strays_test/0,
+         out_of_range_test/0, unpacked_size_test/0, old_release_test/0,
          equal_maps_test/0, version_1_test/0, damaged_version_1_test/0, before_events_test/0, ttb_names_test_/0,
          long_text_test_/0, million_events_test_/0]).
 
@@ -201,6 +202,49 @@ log_lines_test() ->
     %% Without any event the first line that isn't understood is named.
     {error, {1, "this isn't an Erlang term" ++ _}} = seqaudit_text:read(<<"2026-11-23 info: started\nok\n">>),
     {error, {2, _}} = seqaudit_text:read(<<"ok\n2026-11-23 info: {seq_trace,1,\n">>).
+
+%% Events at the beginnings of lines, between lines of other things: these are counted, and the trace lacks nothing.
+foreign_lines_test() ->
+    Event = fun(K) -> io_lib:format("{seq_trace,1,{print,{~b,~b},<0.80.0>,[],x}}~n", [K, K + 1]) end,
+    {[_, _, _], Notes, []} = text_converted(["hello world\n", Event(0), "=INFO REPORT====\n'tis\n", Event(1),
+                                             Event(2)]),
+    ["convert passed over 3 lines without an event of seq_trace; the first is " ++ First] = Notes,
+    true = lists:suffix("lines.txt, line 1", First),
+    %% An event that can't be read, and isn't the end of the text, is an error at its own line.
+    [{error, {Line, _}} = seqaudit_text:read(iolist_to_binary(Lines))
+     || {Line, Lines} <- [{3, ["hello world\n", Event(0), "{seq_trace,1,{print,{1,\n", Event(2)]},
+                          {2, [Event(0), "{seq_trace,1,{print,{1,2},<0.80>,[],x}}\n"]}]].
+
+%% A text that ends within an event has what comes before it, wherever it ends and whatever is in the message.
+broken_end_test() ->
+    Event = fun(K) -> unicode:characters_to_binary(io_lib:format(
+                          "{seq_trace,1,~n  {print,{~b,~b},<0.80.0>,[],\"a\\\"}]}é'\"}}~n", [K, K + 1])) end,
+    Text = <<(Event(0))/binary, (Event(1))/binary>>,
+    [begin
+         {[_], _, [Loss]} = text_converted(binary:part(Text, 0, Size)),
+         {match, [Bytes]} = re:run(Loss, "left out the last ([0-9]+) bytes, from .*lines.txt, line 3 on, where an "
+                                         "event isn't whole$", [{capture, [1], list}]),
+         {Size, Left} = {Size, byte_size(Event(0)) + list_to_integer(Bytes)},
+         Left = Size
+     end || Size <- lists:seq(byte_size(Event(0)) + 12, byte_size(Text) - 2, 9)],
+    ok.
+
+%% Entries that begin as those of seq_trace are named by their lines, and the trace lacks them; others are only noted.
+strays_test() ->
+    {[_], Notes, [Loss]} = text_converted(["{seq_trace,1,{print,{0,1},<0.80.0>,[],x}}\n",
+                                           "{seq_trace,1,{recieve,{0,1},<0.80.0>,<0.81.0>,x}}\n", "hello.\n"]),
+    {_, _} = binary:match(Loss, <<"convert left out 1 entry of seq_trace whose form it doesn't know: ">>),
+    {_, _} = binary:match(Loss, <<"lines.txt, line 2: {seq_trace,1,{recieve,{0,1},<0.80.0>,<0.81.0>,x}}">>),
+    [_] = [Note || Note <- Notes, string:find(Note, "left out 1 entry that seq_trace doesn't write: ") =/= nomatch,
+                   lists:suffix("lines.txt, line 3: hello", Note)].
+
+%% The events of a text, the notes, and what is said to be missing in the trace.
+text_converted(Text) ->
+    Name = seqaudit_audits:file("lines"),
+    ok = file:write_file(Name ++ ".txt", Text),
+    {ok, #{notes := Notes}} = seqaudit_convert:from_files([Name ++ ".txt"], Name),
+    {ok, Streams} = seqaudit_bundle:read(Name ++ ".seqtrace"),
+    {lists:append([Events || {_, Events} <- Streams]), Notes, seqaudit_answer:losses(Name)}.
 
 out_of_range_test() ->
     [{error, {1, Reason}} = seqaudit_text:read(Text)

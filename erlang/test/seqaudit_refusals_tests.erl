@@ -4,7 +4,8 @@
 -export([long_wait_ends_when_asked_test/0, long_name_is_no_function_test/0, wrong_option_is_usage_test_/0,
          cookie_with_a_letter_test/0, failed_start_leaves_no_file_test/0, unwritable_promises_nothing_test/0,
          unwritten_file_is_said_to_be_so_test/0, label_is_spelled_as_it_is_taken_test/0,
-         cut_says_not_here_test/0, port_may_have_got_it_test/0, version_tells_what_is_proved_test/0]).
+         cut_says_not_here_test/0, port_may_have_got_it_test/0, version_tells_what_is_proved_test/0,
+         proved_comes_first_test_/0, lacking_option_is_named_test_/0, version_test/0]).
 
 has(Text, Part) -> {_, _} = binary:match(unicode:characters_to_binary(Text), unicode:characters_to_binary(Part)).
 
@@ -30,6 +31,24 @@ wrong_option_is_usage_test_() ->
                       Collect ++ ["-o", "x", "--bytes", "~p"],
                       Collect ++ ["-o", "x", "--trigger", "mess:deep/300", "--label", "1"]]]
     end}.
+
+%% What is missing is named.
+lacking_option_is_named_test_() ->
+    {timeout, 60, fun() ->
+        [begin
+             {3, Said} = seqaudit_test_shell:run([seqaudit_test_shell:node_command(), $\s, Words]),
+             has(Said, ["seqaudit-node: ", What, "\n"])
+         end || {Words, What} <- [{"collect -o x --seconds 1", "collect needs --node NAME@HOST"},
+                                  {"collect", "collect needs --node NAME@HOST and -o NAME"},
+                                  {"collect --node a@b -o x y", "collect takes options alone, and y is none"},
+                                  {"watch --node a@b -o x", "watch needs --every SECONDS"},
+                                  {"convert x", "convert needs -o NAME, once"}]]
+    end}.
+
+version_test() ->
+    {0, Said} = seqaudit_test_shell:run([seqaudit_test_shell:node_command(), " --version"]),
+    has(Said, ["seqaudit-node ", seqaudit_help:version(), " (Erlang/OTP "]),
+    [has(Said, ["\n", Name]) || Name <- ["seqaudit", "seqtool"], {ok, _} <- [seqaudit_program:find(Name)]].
 
 cookie_with_a_letter_test() ->
     {error, Reason} = seqaudit_reach:connect('a@b', #{"--cookie" => [[16#3B1]]}),
@@ -110,3 +129,25 @@ version_tells_what_is_proved_test() ->
              _ -> os:putenv(Variable, Value)
          end || {Variable, Value} <- Before]
     end.
+
+%% What isn't proved comes behind the path, and the path behind what is proved.
+proved_comes_first_test_() ->
+    {timeout, 120, fun proved_comes_first/0}.
+
+proved_comes_first() ->
+    Top = filename:join(filename:dirname(seqaudit_audits:file("x")), "checkout"),
+    _ = file:del_dir_r(Top),
+    Beam = filename:join([Top, "erlang", "ebin", "seqaudit_program.beam"]),
+    ok = filelib:ensure_dir(Beam),
+    {ok, _} = file:copy(code:which(seqaudit_program), Beam),
+    Ask = ["PATH=", Top, "/path:$PATH erl -noinput -boot no_dot_erlang -pa ", filename:dirname(Beam),
+           " -eval 'io:format(\"~0p\", [seqaudit_program:find()]), halt().'"],
+    [begin
+         File = filename:join([Top | Folder] ++ ["seqaudit"]),
+         ok = filelib:ensure_dir(File),
+         ok = file:write_file(File, "#!/bin/sh\n"),
+         ok = file:change_mode(File, 8#755),
+         {0, Said} = seqaudit_test_shell:run(Ask, [{"SEQAUDIT", false}]),
+         {Said, Said} = {Said, iolist_to_binary(io_lib:format("~0p", [{ok, File}]))}
+     end || Folder <- [["bin", "quick"], ["bin", "rust"], ["path"], ["bin"]]],
+    ok = file:del_dir_r(Top).

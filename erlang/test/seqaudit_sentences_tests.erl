@@ -67,10 +67,12 @@ calls_under_labels_test_() ->
              || N <- lists:seq(1, 20)]
         end)
     end, fun(Command) ->
-        Begins = "begins label 120 here, or set it on its token; it had last received client#37 of label 119",
+        Had = "; it had last received client#37 of label 119",
+        Begins = "begins label 120 here, or set it on its token" ++ Had,
         has(Command(["audit"]), ["fits: 80 events of 2 processes; nothing is known to be missing\n"]),
         has(Command(["why", "--event", "client#38"]),
-            ["client#38: client sends call 20 to served, serial ", ", label 120\nThere client " ++ Begins ++ ".\n"]),
+            ["client#38: client sends call 20 to served, serial ", ", label 120\nclient began label 120 with this "
+             "event, or set it on a token that it had" ++ Had ++ ".\n"]),
         has_none(Command(["why", "--event", "client#38"]), ["because"]),
         has_none(Command(["why", "--event", "client#1", "--effects"]), ["label 102"]),
         Svg = seqaudit_audits:file("calls_under_labels.svg"),
@@ -110,12 +112,15 @@ token_put_back_test_() ->
     end, fun(Command) ->
         Audit = Command(["audit"]),
         has(Audit, ["fits: 9 events of 2 processes; nothing is known to be missing\n",
-                    "A token was put back here (seq_trace:set_token/1), or its serial was set by hand: before worker#1, which is after worker#0. ",
+                    "A token was put back here (seq_trace:set_token/1), or its serial was set by hand: before "
+                    "worker#1, which is after worker#0. ",
                     "audited were the prevs that the machine would have given these events"]),
         has_none(Audit, ["nobody reported", "unknown message"]),
         has(Command(["why", "--event", "asker#5"]),
-            ["because (a token was put back here, or its serial set by hand) worker#0: worker receives {", "because asker#4: asker sends "]),
-        has(Command(["chart", "--label", "1"]), ["{answer,7}  after worker#0, whose token was put back or set by hand\n",
+            ["because of worker#0, whose token was put back or set by hand: worker receives {",
+             "because asker#4: asker sends "]),
+        has(Command(["chart", "--label", "1"]),
+            ["{answer,7}  after worker#0, whose token was put back or set by hand\n",
                                                  "answered  after worker#0, whose token was put back or set by hand\n"])
     end).
 
@@ -149,11 +154,11 @@ put_back_in_doubt_test_() ->
         Audit = Command(["audit"]),
         has(Audit,
             ["fits: 5 events of 2 processes, with 4 sends that nobody reported; the cause of 1 event isn't known\n",
-                    "The cause isn't known of noting#2: ",
+                    "The cause isn't known of noting#2; ",
                     "Tokens may have been put back (seq_trace:set_token/1), so the audit took the prevs that the "
                     "machine would have given the events behind them; "]),
         has_none(Audit, ["unknown message", "1 receive"]),
-        has(Command(["why", "--event", "noting#2"]), ["because (perhaps: "])
+        has(Command(["why", "--event", "noting#2"]), ["perhaps because of "])
     end).
 
 %% The same of a token that was put back to send something, which nobody reported. The send's count is below that of
@@ -258,7 +263,7 @@ unreported_send_test_() ->
             ["teller sends 1 to told, serial {0,2}, label 1\nThat send wasn't reported, so its cause isn't known.\n"]),
         has(Command(["why", "--event", "told#1"]),
             ["teller sends 2 to told, serial {2,3}, label 2\nbecause teller#1: teller receives {tell,2} from begins, ",
-             "\nThere begins begins here.\n"])
+             "\nbegins began the trace with this event.\n"])
     end).
 
 %% Two messages of one label have one count, and the token of the first is put back behind the second, with a count that
@@ -292,7 +297,8 @@ tokens_alike_test_() ->
     end, fun(Command) ->
         Why = Command(["why", "--event", "twice#6"]),
         has(Why,
-            ["twice#6: twice prints 5, serial {3,5}, label 1\nbecause (perhaps: counts alone don't tell) twice#0: "])
+            ["twice#6: twice prints 5, serial {3,5}, label 1\nperhaps because of twice#0, as counts alone don't "
+             "tell: "])
     end).
 
 %% A server keeps the token of each client that waits, and puts it back to reply.
@@ -320,17 +326,18 @@ kept_tokens_test_() ->
     end, fun(Command) ->
         Audit = Command(["audit"]),
         has(Audit, [" of 5 processes; nothing is known to be missing\n",
-                    "A token was put back here (seq_trace:set_token/1), or its serial was set by hand: before keeper#3, which is after keeper#0",
+                    "A token was put back here (seq_trace:set_token/1), or its serial was set by hand: before "
+                    "keeper#3, which is after keeper#0",
                     "audited were the counts that the machine would have given all events", "(status 0)"]),
         has(Command(["why", "--event", "client2#20"]),
-            ["because (a token was put back here, or its serial set by hand) keeper#1: keeper receives {"]),
+            ["because of keeper#1, whose token was put back or set by hand: keeper receives {"]),
         {ok, Streams} = seqaudit_bundle:read(seqaudit_audits:file("kept_tokens") ++ ".seqtrace"),
         case seqaudit_outcome:ask(Streams) of
             {ok, Outcome} -> ordered(seqaudit_outcome:rows(Outcome), #{});
             {error, {no_program, _, _}} -> skipped
         end,
         has(Command(["why", "--event", "client3#10"]),
-            ["because (a token was put back here, or its serial set by hand) keeper#2: keeper receives {"])
+            ["because of keeper#2, whose token was put back or set by hand: keeper receives {"])
     end).
 
 %% No event comes before its cause.
@@ -373,10 +380,11 @@ second_trace_test_() ->
         left([printer]),
         Audit = Command(["audit"]),
         has(Audit, ["fits: 2 events of 1 process; the cause of 2 events isn't known\n",
-                    "The cause isn't known of printer#0, printer#1: `why' says what it may be.\n"]),
+                    "The cause isn't known of printer#0, printer#1; this says what it may be: seqaudit-node why "]),
         has_none(Audit, ["nothing is known to be missing"]),
         has(Command(["why", "--event", "printer#1"]),
-            ["There printer begins here, or follows a message whose receive wasn't reported.\n"]),
+            ["printer began the trace with this event, or this event follows a message whose receive wasn't "
+             "reported.\n"]),
         has(Command(["chart", "--label", "1"]),
             ["one  begins here, or follows a message whose receive wasn't reported\n"])
     end).
@@ -413,8 +421,8 @@ flags_test_() ->
          end)
      end, fun(Command) -> has(Command(["audit"]), [Said]) end)
      || {Flags, Said} <- [{['receive', print], "fits: 6 events of 2 processes, with 4 sends that nobody reported\n"},
-                          {[send, print], "fits: 6 events of 2 processes, with 3 receives that nobody reported; 1 "
-                                          "message has no"},
+                          {[send, print], "fits: 6 events of 2 processes, with probably 3 receives that nobody "
+                                          "reported; 1 message has no"},
                           {[send, 'receive'], "fits: 8 events of 2 processes, with 1 count that no event here "
                                               "has\n"}]].
 
@@ -459,7 +467,7 @@ messages_alike_test_() ->
          has(Command(["audit"]), ["fits: 12 events of 2 processes; the cause of 2 events isn't known; 1 message has no "
                                   "reported receive, and may still wait\n"]),
          has(Command(["why", "--event", "ticked#7"]),
-             ["because (perhaps: another message is like it) ticker#2: ticker sends tick to ticked"]),
+             ["perhaps because of ticker#2, or of another message like it: ticker sends tick to ticked"]),
          has(Command(["why", "--event", "ticker#2", "--effects"]), ["ticker#2 caused, or perhaps caused, 2 events, "]),
          has(Command(["chart", "--label", "1"]),
              ["ticked#6  receive  {2,4} tick  perhaps after ticker#2, or after another message like it\n"])
@@ -552,12 +560,12 @@ unlisted(Name) ->
     Command = fun(Words) -> seqaudit_answers_tests:command(Words, Name, Tool) end,
     Audit = Command(["audit"]),
     Received = "one#2~1: one receives an unknown message from a process that the trace doesn't list",
-    has(Audit, ["fits: 3 events of 1 process, with 1 receive that nobody reported, 1 message from a process that the "
-                "trace doesn't list\n",
+    has(Audit, ["fits: 3 events of 1 process, with probably 1 receive that nobody reported, probably 1 message from a "
+                "process that the trace doesn't list\n",
                 "  " ++ Received ++ ", serial {0,1}, label 1\n"]),
     has_none(Audit, ["65535"]),
     has(Command(["why", "--event", "one#2"]),
-        ["because (perhaps: it wasn't reported) " ++ Received]),
+        ["perhaps because of one#2~1, which wasn't reported: one receives an unknown message from a process that "]),
     Svg = Name ++ ".svg",
     has(Command(["chart", "--label", "1", "--svg", Svg]), ["lane 2 a process that the trace doesn't list\n"]),
     {ok, Drawing} = file:read_file(Svg),

@@ -1,7 +1,7 @@
 %% How long messages took, the wall clock, JSON, and what other programs draw.
 -module(seqaudit_timing_tests).
 
--export([statistics_test/0, kinds_test/0, clock_test/0, alike_test/0, json_test/0, commands_test_/0]).
+-export([statistics_test/0, kinds_test/0, clock_test/0, spans_test/0, alike_test/0, json_test/0, commands_test_/0]).
 
 statistics_test() ->
     Streams = [{<<"<0.1.0>">>, []},
@@ -38,10 +38,15 @@ clock_test() ->
     "2026-11-27T01:22:18.123456Z" = seqaudit_times:clock(Begin),
     "01:22:19.623456Z 1.500000 s" = seqaudit_times:at({<<"<0.1.0>">>, 1}, Times),
     none = seqaudit_times:at({<<"<0.1.0>">>, 2}, Times),
-    true = lists:suffix("; the first at 2026-11-27T01:22:18.123456Z", seqaudit_times:summary(Times)),
+    true = lists:suffix("; the first event was at 2026-11-27T01:22:18.123456Z", seqaudit_times:summary(Times)),
     "1.500000 s" = seqaudit_times:at({<<"<0.1.0>">>, 1}, Times#{start := -576_460_750_652_114_560}),
     "1500 ms from the first event to the last" = seqaudit_times:summary(Times#{start := -576_460_750_652_114_560}),
     "9999-12-31T23:59:59.999999Z" = seqaudit_times:clock(1 bsl 80).
+
+%% Times of a column have one unit, that of the greatest.
+spans_test() ->
+    [["0 ns", "9999 ns"], ["0.004 us", "10.000 us"], ["0.004 ms", "12000.000 ms"], []] =
+        [seqaudit_times:spans(Times) || Times <- [[0, 9_999], [4, 10_000], [4_000, 12_000_000_000], []]].
 
 %% Of messages that are alike, as when a token is put back for each, the first that one process receives is the first
 %% that
@@ -106,7 +111,7 @@ tables(Name, Run) ->
     {match, _} = re:run(Said, "\nby processes +count +median +99 % +greatest +which\n"),
     {match, _} = re:run(Said, "\n<[0-9.]+> -> timed_server +4 "),
     {match, _} = re:run(Said, "\ncall {order,[.][.]} +3 "),
-    {match, _} = re:run(Said, "slowest labels +events +took +from\nslow +9 +[0-9]+ ms .*\nquick +9 "),
+    {match, _} = re:run(Said, "slowest labels +events +took +from\nslow +9 +[0-9.]+ ms .*\nquick +9 "),
     {0, Path} = Run(["times ", Name, " --label slow"]),
     {match, _} = re:run(Path,
                         "what the last event of label slow waited for \\([0-9]+ [un]?m?s under way, [0-9]+ ms in "
@@ -120,7 +125,7 @@ clocks(Name, Run) ->
     [{_, Today}] = [{{Year, Month}, list_to_binary(io_lib:format("~4..0b-~2..0b-", [Year, Month]))}
                     || {{Year, Month, _}, _} <- [calendar:universal_time()]],
     {0, Audit} = Run(["audit ", Name]),
-    {_, _} = binary:match(Audit, <<"; the first at ", Today/binary>>),
+    {_, _} = binary:match(Audit, <<"; the first event was at ", Today/binary>>),
     Clock = "[0-9]{2}:[0-9]{2}:[0-9]{2}[.][0-9]{6}Z [0-9]+[.][0-9]{6} s",
     {0, Chart} = Run(["chart ", Name, " --label slow"]),
     {match, _} = re:run(Chart, Clock ++ "  receive "),

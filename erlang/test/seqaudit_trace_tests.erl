@@ -173,7 +173,7 @@ second_tracer_stays_test() ->
     Second = spawn(fun() -> receive stop -> ok end end),
     ok = seqaudit_trace:start(#{name => seqaudit_audits:file("second")}),
     seq_trace:set_system_tracer(Second),
-    {ok, #{notes := [_, Note]}} = seqaudit_trace:stop(),
+    {ok, #{notes := [Note]}} = seqaudit_trace:stop(),
     {match, _} = re:run(Note, "another system tracer took the collector's place"),
     Second = seq_trace:set_system_tracer(false),
     exit(Second, kill),
