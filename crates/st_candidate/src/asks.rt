@@ -10,7 +10,7 @@ use std::alloc::{AllocError, Global};
 use std::cmp::Ordering;
 
 /// The message that a stamp gets.
-#[derive(Clone, Copy, Debug, PartialEq, Eq)]
+#[derive(Clone, Copy, PartialEq, Eq)]
 pub(crate) enum Message {
     /// None.
     Missing,
@@ -22,7 +22,7 @@ pub(crate) enum Message {
 }
 
 /// A send or print that asks for a message of its prev.
-#[derive(Clone, Copy, Debug)]
+#[derive(Clone, Copy)]
 pub(crate) struct Ask {
     /// The process whose stamp it is.
     pub process: Pid,
@@ -66,7 +66,7 @@ impl Ask {
 }
 
 /// The stamps that ask, by process and index.
-#[derive(Debug, Drop)]
+#[derive(Drop)]
 pub(crate) struct Asks {
     /// The needs: their prev is below the clock, so that only a message can give it.
     pub needs: Vec<Ask>,

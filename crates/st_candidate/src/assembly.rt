@@ -13,7 +13,7 @@ use std::alloc::{AllocError, Global};
 use std::mem::replace;
 
 /// What is added to streams.
-#[derive(Debug, Drop)]
+#[derive(Drop)]
 pub(crate) struct Parts {
     /// The hidden sends, by sender and count.
     pub hidden: Vec<HiddenSend>,
@@ -26,7 +26,7 @@ pub(crate) struct Parts {
 }
 
 /// Whole streams that are being put together, with the parts that are left.
-#[derive(Debug, Drop)]
+#[derive(Drop)]
 struct Assembly<'a> {
     streams: &'a Streams,
     draft: Draft,

@@ -20,7 +20,7 @@ use st_pair::Pairing;
 use std::alloc::{AllocError, Global};
 
 /// Whole streams that may be a completion.
-#[derive(Debug, Drop)]
+#[derive(Drop)]
 pub struct Candidate {
     /// All events, of the listed processes and the unlisted ones.
     pub streams: Streams,

@@ -7,7 +7,7 @@ use crate::hidden_sends::HiddenSend;
 use st_core::{Event, Kind, Streams};
 
 /// Where an event comes from.
-#[derive(Clone, Copy, Debug)]
+#[derive(Clone, Copy)]
 pub(crate) enum Origin {
     /// It was reported.
     Reported,
@@ -30,7 +30,7 @@ impl Origin {
 }
 
 /// An event of a process, and where it comes from.
-#[derive(Clone, Copy, Debug)]
+#[derive(Clone, Copy)]
 pub(crate) struct Entry {
     pub event: Event,
     pub origin: Origin,
@@ -38,7 +38,7 @@ pub(crate) struct Entry {
 
 /// The events of a process in order: the reported ones, its hidden sends at their places, and right
 /// before the stamps that ask the receives that they got.
-#[derive(Debug, Drop)]
+#[derive(Drop)]
 pub(crate) struct Entries<'a> {
     streams: &'a Streams,
     /// The reported events that are left.

@@ -8,7 +8,7 @@ use std::alloc::{AllocError, Global};
 
 /// The receive of a hidden send. Indexes have half the memory of a `usize` in all of the candidate:
 /// one past what they hold is wrong, and the judge refuses the outcome of it.
-#[derive(Clone, Copy, Debug, PartialEq, Eq, PartialOrd, Ord)]
+#[derive(Clone, Copy, PartialEq, Eq, PartialOrd, Ord)]
 struct Receipt {
     /// The count of the message.
     this: u64,
@@ -21,7 +21,7 @@ struct Receipt {
 }
 
 /// A hidden send.
-#[derive(Clone, Copy, Debug)]
+#[derive(Clone, Copy)]
 pub(crate) struct HiddenSend {
     /// The send, as its receive tells of it.
     pub event: Event,

@@ -11,7 +11,7 @@ use std::alloc::{AllocError, Global};
 
 /// The send of an invented message. It is before the first event of its sender that doesn't
 /// count lower, or at the end.
-#[derive(Clone, Copy, Debug)]
+#[derive(Clone, Copy)]
 pub(crate) struct Invention {
     /// Its count.
     pub count: u64,
@@ -70,7 +70,7 @@ fn prev_before(left: Left, count: u64, next: Option<&Event>) -> u64 {
 }
 
 /// The invented sends of one process, on a walk over its events.
-#[derive(Debug, Drop)]
+#[derive(Drop)]
 struct Inventor<'a> {
     inventions: &'a mut [Invention],
     /// How many of them have their prevs.

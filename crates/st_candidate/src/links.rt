@@ -18,7 +18,7 @@ pub(crate) fn short(index: usize) -> u32 {
 }
 
 /// One end of a message: an event of the whole streams.
-#[derive(Clone, Copy, Debug)]
+#[derive(Clone, Copy)]
 struct End {
     /// The place of its process.
     process: usize,
@@ -27,7 +27,7 @@ struct End {
 }
 
 /// The links of whole streams, as far as they were found.
-#[derive(Debug, Drop)]
+#[derive(Drop)]
 struct Linker<'a> {
     streams: &'a Streams,
     whole: &'a Streams,

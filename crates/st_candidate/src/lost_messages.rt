@@ -13,7 +13,7 @@ use st_pair::Pairing;
 use std::alloc::{AllocError, Global};
 
 /// A reported send which nobody received.
-#[derive(Clone, Copy, Debug)]
+#[derive(Clone, Copy)]
 struct LostMessage {
     /// Its count.
     count: u64,
@@ -30,7 +30,7 @@ struct LostMessage {
 }
 
 /// Which messages a stamp may get.
-#[derive(Clone, Copy, Debug, PartialEq, Eq)]
+#[derive(Clone, Copy, PartialEq, Eq)]
 enum Choice {
     /// Those of its own label.
     OwnLabel,
@@ -40,7 +40,7 @@ enum Choice {
 
 /// What a stamp and a message must have in common: the receiver, the count, and the label where it
 /// counts, else no label.
-#[derive(Clone, Copy, Debug, PartialEq, Eq, PartialOrd, Ord)]
+#[derive(Clone, Copy, PartialEq, Eq, PartialOrd, Ord)]
 struct Key {
     to: Pid,
     count: u64,

@@ -7,7 +7,7 @@ use std::alloc::{AllocError, Global};
 
 /// The index of each event among all of its process, in the order in which they were added: that of
 /// what they come from.
-#[derive(Debug, Drop)]
+#[derive(Drop)]
 pub(crate) struct Positions {
     /// For each process of the streams, by its place, the number of its first event among the reported
     /// ones of all.

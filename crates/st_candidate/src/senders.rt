@@ -15,7 +15,7 @@ use st_needs::is_stamp;
 use std::alloc::{AllocError, Global};
 
 /// A count that a process stamps.
-#[derive(Clone, Copy, Debug, PartialEq, Eq, PartialOrd, Ord)]
+#[derive(Clone, Copy, PartialEq, Eq, PartialOrd, Ord)]
 struct Stamp {
     count: u64,
     process: Pid,
@@ -23,7 +23,7 @@ struct Stamp {
 
 /// Which counts needs ask for, as far as their remainders tell: a stamp of another one is in
 /// nobody's way, and is left out.
-#[derive(Debug, Drop)]
+#[derive(Drop)]
 struct Asked {
     /// For each remainder whether a need asks for a count that has it. Counts are mostly lower than
     /// twice the needs.
@@ -105,7 +105,7 @@ fn stamps_in_the_way(
 }
 
 /// Gives senders out. The counts that are asked for must rise.
-#[derive(Debug, Drop)]
+#[derive(Drop)]
 struct Giver<'a> {
     streams: &'a Streams,
     /// The stamps whose counts may be asked for, by count and process.
@@ -179,7 +179,7 @@ impl Giver<'_> {
 }
 
 /// A need without a message.
-#[derive(Clone, Copy, Debug)]
+#[derive(Clone, Copy)]
 pub(crate) struct Turn {
     /// Its count.
     pub count: u64,
@@ -188,7 +188,7 @@ pub(crate) struct Turn {
 }
 
 /// The needs that are left among stamps, and who sends their messages.
-#[derive(Debug, Drop)]
+#[derive(Drop)]
 pub(crate) struct Senders {
     /// The needs, by count, and those of one count in the order of the streams.
     pub turns: Vec<Turn>,
@@ -207,7 +207,7 @@ fn count_of_need(ask: &Ask) -> Option<u64> {
 }
 
 /// The counts of the needs that are left.
-#[derive(Clone, Copy, Debug)]
+#[derive(Clone, Copy)]
 struct NeedCounts {
     /// How many they are.
     needs: usize,

@@ -9,7 +9,7 @@ use st_core::{Event, Label};
 use std::alloc::{AllocError, Global};
 
 /// The receives of a stretch, and the reported stamps at its ends.
-#[derive(Clone, Copy, Debug)]
+#[derive(Clone, Copy)]
 pub(crate) struct Stretch<'a> {
     /// The stamp before it; none at the start of a process.
     pub before: Option<&'a Event>,
@@ -41,7 +41,7 @@ fn count_passing<T, F: Fn(&T) -> bool>(items: &[T], near: usize, passes: &F) -> 
 /// Tables of a stretch, so that each question about it takes no more than a binary search, and mostly
 /// less: it begins near where the last one ended. They are filled anew for each stretch, so that their
 /// memory is taken once.
-#[derive(Debug, Drop)]
+#[derive(Drop)]
 pub(crate) struct Ground {
     /// The clock at each gap: the greatest count of what the process reported before it.
     clocks: Vec<u64>,

@@ -13,7 +13,7 @@ fn pid_after(pid: Pid) -> Pid {
 }
 
 /// Pids that streams don't list, as many as were asked for.
-#[derive(Debug, Drop)]
+#[derive(Drop)]
 pub(crate) struct UnlistedPids {
     /// In the order in which they were found.
     pids: Vec<Pid>,

@@ -21,7 +21,7 @@ use st_needs::is_stamp;
 use std::alloc::{AllocError, Global};
 
 /// A hidden send of the stretch that is walked.
-#[derive(Clone, Copy, Debug)]
+#[derive(Clone, Copy)]
 struct Step {
     label: Label,
     prev: u64,
@@ -31,7 +31,7 @@ struct Step {
 }
 
 /// What comes behind a send in its stretch.
-#[derive(Clone, Copy, Debug, PartialEq, Eq)]
+#[derive(Clone, Copy, PartialEq, Eq)]
 enum Next {
     /// Nothing, at the end of a process.
     Nothing,
@@ -100,7 +100,7 @@ fn walk_back(ground: &mut Ground, stretch: Stretch<'_>, steps: &mut [Step]) {
 }
 
 /// Where the walk forth has come.
-#[derive(Clone, Copy, Debug)]
+#[derive(Clone, Copy)]
 struct Standing {
     /// The gap, which never goes back.
     gap: usize,
@@ -208,7 +208,7 @@ fn move_to_stamp(ground: &Ground, steps: &mut [Step], count: usize) {
 }
 
 /// The walk over the stretches of one process after the other.
-#[derive(Debug, Drop)]
+#[derive(Drop)]
 struct Walk {
     ground: Ground,
     steps: Vec<Step>,

@@ -4,7 +4,7 @@ use crate::queue::{Queue, Sent};
 use st_core::{Act, Event};
 
 /// In what a message with the sender and the count of a receive still isn't the message of it.
-#[derive(Clone, Copy, Debug, PartialEq, Eq)]
+#[derive(Clone, Copy, PartialEq, Eq)]
 pub(crate) struct Differences {
     /// Its value is another.
     pub(crate) value: bool,
@@ -24,7 +24,7 @@ impl Differences {
 }
 
 /// How a message that waits fits a receive.
-#[derive(Clone, Copy, Debug, PartialEq, Eq)]
+#[derive(Clone, Copy, PartialEq, Eq)]
 pub(crate) enum Fit {
     /// Under a tracer its receive is reported as just that event.
     Exact,
@@ -37,7 +37,7 @@ pub(crate) enum Fit {
 }
 
 /// Why no receive would be reported as an event, even under a tracer.
-#[derive(Clone, Copy, Debug, PartialEq, Eq)]
+#[derive(Clone, Copy, PartialEq, Eq)]
 pub(crate) enum Missing {
     /// A reset took the token of the message, which waits at this place.
     Wiped(u64),

@@ -5,7 +5,7 @@ use st_ranks::Ranks;
 use std::alloc::{AllocError, Global};
 
 /// A message that was sent to the process.
-#[derive(Clone, Copy, Debug, PartialEq, Eq)]
+#[derive(Clone, Copy, PartialEq, Eq)]
 pub(crate) struct Sent {
     /// The number of the act that sent it.
     pub(crate) act: u64,

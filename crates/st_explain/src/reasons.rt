@@ -7,7 +7,7 @@ use st_say::{TextWriter, kind_word};
 use st_text::Device;
 
 /// A reason why no single act would report an event.
-#[derive(Clone, Copy, Debug, PartialEq, Eq)]
+#[derive(Clone, Copy, PartialEq, Eq)]
 pub(crate) enum Reason {
     /// Its node has no tracer.
     NoTracer,

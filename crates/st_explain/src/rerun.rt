@@ -19,7 +19,7 @@ pub(crate) struct Rerun {
 }
 
 /// What came of an act.
-#[derive(Clone, Copy, Debug, PartialEq, Eq)]
+#[derive(Clone, Copy, PartialEq, Eq)]
 pub(crate) enum Came {
     /// It was a step, with this report or none.
     Step(Option<Event>),

@@ -25,7 +25,7 @@ use std::collections::{BTreeMap, BinaryHeap};
 const MESSAGE_ACTS: u64 = 4;
 
 /// Counts that a process passes unreported before one of its sends or prints.
-#[derive(Clone, Copy, Debug)]
+#[derive(Clone, Copy)]
 pub(crate) struct Gap {
     /// The process, by its place in the streams.
     pub process: usize,
@@ -129,7 +129,7 @@ impl Gap {
 
 /// Counts of a gap that nobody took a message of yet: those above `low` and up to `next`. Offers
 /// are ordered by these.
-#[derive(Clone, Copy, Debug, PartialEq, Eq, PartialOrd, Ord)]
+#[derive(Clone, Copy, PartialEq, Eq, PartialOrd, Ord)]
 pub(crate) struct Offer {
     pub next: u64,
     pub low: u64,
@@ -138,7 +138,7 @@ pub(crate) struct Offer {
 }
 
 /// What is offered. It is asked for falling counts.
-#[derive(Debug, Drop)]
+#[derive(Drop)]
 pub(crate) struct Offers {
     /// Those that reach up to the count that was asked for last.
     ready: Vec<Offer>,
@@ -228,7 +228,7 @@ pub(crate) fn gaps_of(alloc: Global, streams: &Streams, most: u64) -> Result<Vec
 }
 
 /// A gap that a message can help over.
-#[derive(Clone, Copy, Debug, PartialEq, Eq, PartialOrd, Ord)]
+#[derive(Clone, Copy, PartialEq, Eq, PartialOrd, Ord)]
 struct Wish {
     /// The greatest count of the message.
     target: u64,
@@ -291,7 +291,7 @@ fn message(streams: &Streams, from: &Gap, to: &Gap, count: u64) -> Option<(Inser
 }
 
 /// The messages that save acts.
-#[derive(Debug, Drop)]
+#[derive(Drop)]
 struct Sharing {
     gaps: Vec<Gap>,
     offers: Offers,
@@ -342,7 +342,7 @@ impl Sharing {
 }
 
 /// A message that waits: the place of its process and its count.
-#[derive(Clone, Copy, Debug, PartialEq, Eq, PartialOrd, Ord)]
+#[derive(Clone, Copy, PartialEq, Eq, PartialOrd, Ord)]
 struct Address {
     to: usize,
     count: u64,

@@ -14,7 +14,7 @@ use st_pair::{PairFault, Pairing, pair};
 use std::alloc::{AllocError, Global};
 
 /// An invented message whose send is among the last events of its process.
-#[derive(Clone, Copy, Debug, PartialEq, Eq, PartialOrd, Ord)]
+#[derive(Clone, Copy, PartialEq, Eq, PartialOrd, Ord)]
 struct Stray {
     /// Its count.
     count: u64,
@@ -27,7 +27,7 @@ struct Stray {
 }
 
 /// An event that doesn't stay: the send or the receive of a stray message.
-#[derive(Clone, Copy, Debug, PartialEq, Eq, PartialOrd, Ord)]
+#[derive(Clone, Copy, PartialEq, Eq, PartialOrd, Ord)]
 struct Removal {
     process: usize,
     index: usize,
@@ -36,7 +36,7 @@ struct Removal {
 }
 
 /// A process, with what its events leave, by how high they count.
-#[derive(Clone, Copy, Debug, PartialEq, Eq, PartialOrd, Ord)]
+#[derive(Clone, Copy, PartialEq, Eq, PartialOrd, Ord)]
 struct End {
     greatest: u64,
     process: usize,
@@ -94,7 +94,7 @@ fn may_save(whole: MarkedStreams<'_>) -> bool {
 }
 
 /// The stray messages, and the events that go with them.
-#[derive(Debug, Drop)]
+#[derive(Drop)]
 struct Strays {
     strays: Vec<Stray>,
     removals: Vec<Removal>,
@@ -248,7 +248,7 @@ fn ends_of(alloc: Global, streams: &Streams) -> Result<Vec<End>, AllocError> {
 }
 
 /// Looks for homes, for messages of falling counts.
-#[derive(Debug, Drop)]
+#[derive(Drop)]
 struct Search {
     gaps: Vec<Gap>,
     offers: Offers,

@@ -6,7 +6,7 @@ use st_needs::{is_marked, marks_at};
 use std::alloc::{AllocError, Global};
 
 /// An untold event and its place.
-#[derive(Clone, Copy, Debug)]
+#[derive(Clone, Copy)]
 pub(crate) struct Insertion {
     /// The process, by its place in the streams.
     pub process: usize,
@@ -24,7 +24,7 @@ impl Insertion {
 }
 
 /// Untold events. Before one event the sends come first, and then the receives.
-#[derive(Debug, Drop)]
+#[derive(Drop)]
 pub(crate) struct Insertions {
     /// The untold sends.
     pub sends: Vec<Insertion>,

@@ -17,7 +17,7 @@ use std::alloc::{AllocError, Global};
 use std::thread::Threads;
 
 /// Why there are no lean acts.
-#[derive(Clone, Copy, Debug, PartialEq, Eq)]
+#[derive(Clone, Copy, PartialEq, Eq)]
 pub enum LeanFault {
     /// Memory ran out.
     Memory,
@@ -28,7 +28,7 @@ pub enum LeanFault {
 }
 
 /// What a stamp wants of its token; none of a flag that decides nothing.
-#[derive(Clone, Copy, Debug)]
+#[derive(Clone, Copy)]
 struct Wanted {
     /// The label of the event.
     label: Label,
@@ -132,7 +132,7 @@ fn change_of(pid: Pid, token: Option<Token>, wanted: Wanted, usual: Flags) -> Op
 }
 
 /// How many events of one kind are told, and how many aren't.
-#[derive(Clone, Copy, Debug)]
+#[derive(Clone, Copy)]
 struct Tally {
     told: u64,
     untold: u64,
@@ -160,7 +160,7 @@ impl Tally {
 }
 
 /// The same for each kind, and how many counts are missing in all.
-#[derive(Clone, Copy, Debug)]
+#[derive(Clone, Copy)]
 struct Tallies {
     sends: Tally,
     receives: Tally,

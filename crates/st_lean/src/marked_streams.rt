@@ -4,7 +4,7 @@ use st_core::{Pid, Sequence, Streams};
 use st_needs::{is_marked, marks_at};
 
 /// All events of each process, and which are told.
-#[derive(Clone, Copy, Debug)]
+#[derive(Clone, Copy)]
 pub(crate) struct MarkedStreams<'a> {
     /// All events.
     pub streams: &'a Streams,
@@ -28,7 +28,7 @@ pub(crate) fn pid_at(streams: &Streams, process: usize) -> Option<Pid> {
 }
 
 /// Whole streams to which untold events were added.
-#[derive(Debug, Drop)]
+#[derive(Drop)]
 pub(crate) struct LongerStreams {
     /// All events.
     pub streams: Streams,

@@ -6,7 +6,7 @@ use st_column::Above;
 use std::alloc::{AllocError, Global};
 
 /// What a last line without a newline is.
-#[derive(Clone, Copy, Debug, PartialEq, Eq)]
+#[derive(Clone, Copy, PartialEq, Eq)]
 pub(crate) enum Ending {
     /// A line that can't go on, or nothing once it is mended.
     Whole,

@@ -23,7 +23,7 @@ pub(crate) const LIMITS: Limits = Limits::GREATER;
 const PID_COLUMN: usize = 8;
 
 /// A process line above: its pid, as text and by its numbers.
-#[derive(Clone, Copy, Debug)]
+#[derive(Clone, Copy)]
 struct Process<'a> {
     text: &'a str,
     pid: (u64, u64),

@@ -1,7 +1,7 @@
 //! What a line was meant to be, by its first word, even if something in it is wrong.
 
 /// What a line was meant to be.
-#[derive(Clone, Copy, Debug, PartialEq, Eq)]
+#[derive(Clone, Copy, PartialEq, Eq)]
 pub(crate) enum Kind {
     /// The header.
     Header,

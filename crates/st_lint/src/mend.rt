@@ -6,7 +6,7 @@ use st_column::Above;
 use std::alloc::{AllocError, Global};
 
 /// How many of each mistake were mended.
-#[derive(Clone, Copy, Debug, Default)]
+#[derive(Clone, Copy, Default)]
 pub(crate) struct Mended {
     /// Carriage returns at the ends of lines.
     pub(crate) ends: u64,

@@ -3,7 +3,7 @@
 use crate::scan::Expected;
 
 /// What could be at the column.
-#[derive(Clone, Copy, Debug)]
+#[derive(Clone, Copy)]
 pub(crate) enum Wanted<'a> {
     /// What the grammar has there.
     Grammar(Expected),
@@ -22,7 +22,7 @@ pub(crate) enum Wanted<'a> {
 }
 
 /// What it takes to be rid of a mistake.
-#[derive(Clone, Copy, Debug, PartialEq, Eq)]
+#[derive(Clone, Copy, PartialEq, Eq)]
 pub(crate) enum Cure {
     /// A person's decision.
     ByHand,
@@ -31,7 +31,7 @@ pub(crate) enum Cure {
 }
 
 /// A place in a text and what is wrong there.
-#[derive(Clone, Copy, Debug)]
+#[derive(Clone, Copy)]
 pub(crate) struct Mistake<'a> {
     /// The line's number, from 1.
     pub(crate) number: u64,

@@ -7,7 +7,7 @@ use arrayvec::ArrayVec;
 use st_column::Above;
 
 /// What could be at the first byte at which no line goes on.
-#[derive(Clone, Copy, Debug, PartialEq, Eq)]
+#[derive(Clone, Copy, PartialEq, Eq)]
 pub(crate) enum Expected {
     /// These very bytes.
     Text(&'static str),
@@ -24,7 +24,7 @@ pub(crate) enum Expected {
 }
 
 /// A pid of a line, by the columns at which it begins and ends, counted from 0, and its numbers.
-#[derive(Clone, Copy, Debug, Default, PartialEq, Eq)]
+#[derive(Clone, Copy, Default, PartialEq, Eq)]
 pub(crate) struct Place {
     /// The column of its `<`.
     pub(crate) start: usize,
@@ -35,7 +35,7 @@ pub(crate) struct Place {
 }
 
 /// The two numbers of an event's serial, and the column at which the second begins.
-#[derive(Clone, Copy, Debug, PartialEq, Eq)]
+#[derive(Clone, Copy, PartialEq, Eq)]
 pub(crate) struct Counts {
     pub(crate) prev: u64,
     pub(crate) this: u64,
@@ -43,7 +43,7 @@ pub(crate) struct Counts {
 }
 
 /// What a line is.
-#[derive(Clone, Copy, Debug, PartialEq, Eq)]
+#[derive(Clone, Copy, PartialEq, Eq)]
 pub(crate) enum Sort {
     /// The header.
     Header,
@@ -71,7 +71,7 @@ const MOST_PID: u64 = 65_535;
 const MOST_LABEL: u64 = 4_294_967_295;
 
 /// A line under way.
-#[derive(Debug, Drop)]
+#[derive(Drop)]
 pub(crate) struct Scan<'a> {
     line: &'a [u8],
     rest: &'a [u8],

@@ -7,7 +7,7 @@ use crate::kind::MARK;
 use memchr::memchr;
 
 /// A line of a text.
-#[derive(Clone, Copy, Debug)]
+#[derive(Clone, Copy)]
 pub(crate) struct Line<'a> {
     /// Its number, from 1.
     pub(crate) number: u64,
@@ -32,7 +32,7 @@ impl<'a> Line<'a> {
 
 /// A text, and the byte that ends its lines: a newline, or a carriage return if there are only
 /// those, as on old Macs.
-#[derive(Clone, Copy, Debug)]
+#[derive(Clone, Copy)]
 pub(crate) struct Text<'a> {
     pub(crate) bytes: &'a [u8],
     end: u8,
@@ -62,7 +62,7 @@ impl<'a> Text<'a> {
 }
 
 /// The lines of a text that are left.
-#[derive(Clone, Copy, Debug)]
+#[derive(Clone, Copy)]
 pub(crate) struct Lines<'a> {
     rest: &'a [u8],
     end: u8,
