@@ -31,7 +31,7 @@ def wrong_spellings(pages):
             yield f"{FORMATS}: `{it}`: {spelling.FILE} spells no line so"
     for it in re.findall(r"(?i)[^.:|\n]*\b(?:blanks?|spaces?|tabs?)\b[^.:|\n]*", prose(chapter)):
         if not any(re.search(words, it) and is_so for words, is_so in BLANKS.items()):
-            yield f"{FORMATS}: `{it.strip()}`: a sentence about blanks has to be in BLANKS of .ci/pages/whole.py, word for word"
+            yield f"{FORMATS}: `{it.strip()}`: BLANKS of .ci/pages/whole.py has to have this, word for word"
 
 
 # What the chapter on the text form may say of blanks, each with whether the spellings bear it out.
