@@ -52,7 +52,7 @@ ending(#{cause := Cause, event := #{from := From}}, Legend) ->
     [seqaudit_legend:process(From, Legend), $\s, began(Cause, Legend), ".\n"].
 
 %% What the process did at the last event of a chain.
-began(start, _Legend) -> "began the trace with this event";
+began(start, _Legend) -> "began this chain with this event";
 began(open, Legend) -> [began(start, Legend), or_follows(Legend)];
 began({relabelled, Label, none}, Legend) -> [began_label(Label, Legend), " token that it had"];
 began({relabelled, Label, open}, Legend) ->

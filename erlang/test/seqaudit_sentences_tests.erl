@@ -263,7 +263,7 @@ unreported_send_test_() ->
             ["teller sends 1 to told, serial {0,2}, label 1\nThat send wasn't reported, so its cause isn't known.\n"]),
         has(Command(["why", "--event", "told#1"]),
             ["teller sends 2 to told, serial {2,3}, label 2\nbecause teller#1: teller receives {tell,2} from begins, ",
-             "\nbegins began the trace with this event.\n"])
+             "\nbegins began this chain with this event.\n"])
     end).
 
 %% Two messages of one label have one count, and the token of the first is put back behind the second, with a count that
@@ -383,7 +383,7 @@ second_trace_test_() ->
                     "The cause isn't known of printer#0, printer#1; this says what it may be: seqaudit-node why "]),
         has_none(Audit, ["nothing is known to be missing"]),
         has(Command(["why", "--event", "printer#1"]),
-            ["printer began the trace with this event, or this event follows a message whose receive wasn't "
+            ["printer began this chain with this event, or this event follows a message whose receive wasn't "
              "reported.\n"]),
         has(Command(["chart", "--label", "1"]),
             ["one  begins here, or follows a message whose receive wasn't reported\n"])
