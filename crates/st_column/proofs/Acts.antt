@@ -16,7 +16,7 @@ use Rattle.st_text.specs.Spelling as spelled
 use Rattle.st_text.specs.Range.{FitsAct, FitsComponent, FitsWant}
 use Rattle.st_text.specs.Text.{named, wanted}
 use Rattle.st_column.specs.declared.above.Above.TheVariants as above
-use Rattle.st_column.specs.Longest.{IsAnyOf, templates_below}
+use Rattle.st_column.specs.Templates.{IsAnyOf, templates_below}
 use Rattle.st_column.proofs.Lines.{FitsNode, IsLine, fit, line_at, line_is, near}
 use Rattle.st_column.proofs.Spelled.{in_row, joined, line}
 use Rattle.st_column.proofs.Pieces.{ForAll, ForEach}

@@ -11,7 +11,7 @@ use Rattle.st_text.specs.declared.line.Line.TheVariants as lines
 use Rattle.st_text.specs.Spelling as spelled
 use Rattle.st_text.specs.Range.{FitsEvent, FitsPlace, most_label, most_number, most_pid}
 use Rattle.st_column.specs.declared.above.Above.TheVariants as above
-use Rattle.st_column.specs.Longest.{IsAnyOf, most_node, templates_below}
+use Rattle.st_column.specs.Templates.{IsAnyOf, most_node, templates_below}
 use Rattle.st_column.proofs.Lines.{FitsNode, IsLine, fit, line_at, line_is, near}
 use Rattle.st_column.proofs.Spelled.{in_row, joined, line}
 use Rattle.st_column.proofs.Pieces.{ForEach}

@@ -14,7 +14,7 @@ use Rattle.st_text.specs.Text.{names}
 use Rattle.st_column.specs.declared.above.Above.{Above}
 use Rattle.st_column.specs.declared.above.Above.TheVariants as above
 use Rattle.st_column.specs.Column.{IsLineBehind, IsLongest, above_of, has_wide_header}
-use Rattle.st_column.specs.Longest.{IsAnyOf, templates_below}
+use Rattle.st_column.specs.Templates.{IsAnyOf, templates_below}
 use Rattle.st_column.proofs.Fronts.{same_texts}
 use Rattle.st_column.proofs.Lines.{line_at, line_is, FitsNode, IsLine, allowed_may, fit, fits_names, is_allowed}
 use Rattle.st_column.proofs.Lines.{may_stands, near, pids_in, pids_out}

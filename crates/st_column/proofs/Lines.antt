@@ -25,7 +25,7 @@ use Rattle.st_text.specs.Fault.{may_stand, pids}
 use Rattle.st_column.specs.declared.above.Above.{Above}
 use Rattle.st_column.specs.declared.above.Above.TheVariants as above
 use Rattle.st_column.specs.Column.{above_by, above_of, has_wide_header}
-use Rattle.st_column.specs.Longest.{IsAnyOf, most_node, templates_below}
+use Rattle.st_column.specs.Templates.{IsAnyOf, most_node, templates_below}
 use Rattle.st_column.proofs.Pieces.{ForEach, at}
 use Rattle.st_column.proofs.Spelled.{in_row, joined, joined_is, line}
 

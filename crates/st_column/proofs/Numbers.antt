@@ -13,7 +13,7 @@ use Rattle.std.proofs.lemmas.Str.{digit_value_digit}
 use Rattle.std.proofs.lemmas.Str.Parse.{IsNumeralModel, numerals_by_value, tells_digits, digits_value-take-le, digit_at}
 use Rattle.std.proofs.lemmas.Fmt.{decimal_is_IsNumeral, decimal_digit, first_decimal, decimal-digits_value}
 use Rattle.st_column.specs.Column.{Begins, IsLongest}
-use Rattle.st_column.specs.Longest.{IsNumber}
+use Rattle.st_column.specs.Templates.{IsNumber}
 use Rattle.st_column.proofs.Fronts.{begins_whole}
 
 -- digits without a needless 0, worth at most `most`

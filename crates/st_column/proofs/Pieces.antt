@@ -6,7 +6,7 @@ use Rattle.std.specs.Prelude.{decimal}
 use Rattle.st_text.specs.Spelling as spelled
 use Rattle.st_column.specs.declared.column.Piece.{Piece}
 use Rattle.st_column.specs.declared.column.Piece.TheVariants as pieces
-use Rattle.st_column.specs.Longest.{IsAnyOf, IsOf, Matches, piece_of}
+use Rattle.st_column.specs.Templates.{IsAnyOf, IsOfPiece, Matches, piece_of}
 
 -- it holds of a piece's text, whatever its value, and what is behind it
 abbrev pub Piecewise : Piece → ℕ → ((List ℕ → Type 0) → Type 0) → (List ℕ → Type 0) → Type 0
@@ -27,7 +27,7 @@ module _ (wide : Bool) where
 
   piece_in : (p : Piece) (c : ℕ) (template word rest : List ℕ) (Holds : List ℕ → Type 0)
       → ((More : List ℕ → Type 0) → ForEach template More → More rest) → Piecewise p c (ForEach template) Holds
-      → IsOf p c word → Holds (word ++ rest)
+      → IsOfPiece p c word → Holds (word ++ rest)
   piece_in pieces.Byte c template word rest Holds more each is =
       subst (λ (w : List ℕ). Holds (w ++ rest)) (sym is) (more (λ text. Holds (c ∷ text)) each)
   piece_in (pieces.Number most) c template word rest Holds more each is =
@@ -54,7 +54,7 @@ module _ (wide : Bool) where
   piece_out : (p : Piece) (c : ℕ) (template : List ℕ) (Holds : List ℕ → Type 0)
       → ((More : List ℕ → Type 0) → ((text : List ℕ) → Matches wide template text → More text)
       → ForEach template More)
-      → ((word rest : List ℕ) → IsOf p c word → Matches wide template rest → Holds (word ++ rest))
+      → ((word rest : List ℕ) → IsOfPiece p c word → Matches wide template rest → Holds (word ++ rest))
       → Piecewise p c (ForEach template) Holds
   piece_out pieces.Byte c template Holds more is = more (λ text. Holds (c ∷ text)) (λ rest x. is (c ∷ []) rest refl x)
   piece_out (pieces.Number most) c template Holds more is =

@@ -8,10 +8,10 @@ use Rattle.st_column.specs.declared.above.Above.{Above}
 use Rattle.st_column.specs.declared.above.Above.TheVariants as above
 use Rattle.st_column.specs.declared.column.Piece.{Piece}
 use Rattle.st_column.specs.declared.column.Piece.TheVariants as pieces
-use Rattle.st_column.specs.Longest.{IsAnyOf, IsOf, Matches, piece_of, templates_below}
+use Rattle.st_column.specs.Templates.{IsAnyOf, IsOfPiece, Matches, piece_of, templates_below}
 use Rattle.st_column.proofs.Fronts.{same_texts}
 
-any_of : (p : Piece) (c : ℕ) → (word : List ℕ) × IsOf p c word
+any_of : (p : Piece) (c : ℕ) → (word : List ℕ) × IsOfPiece p c word
 any_of pieces.Byte c = (c ∷ [], refl)
 any_of (pieces.Number most) c = (decimal 0, (0, omega arith, refl))
 any_of pieces.Truth c = (codes "true", (true, refl))

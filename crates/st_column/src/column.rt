@@ -6,8 +6,8 @@ ghost use Rattle.std.specs.Bool.{Decides};
 ghost use Rattle.std.specs.Option.{SomeIff};
 ghost use Rattle.st_text.specs.declared.line.Line.{Line};
 ghost use Rattle.st_column.specs.Column.{IsLineBehind, IsLongest, above_of, has_wide_header};
-ghost use Rattle.st_column.specs.Longest.{IsAnyOf, IsNumber, IsPiece, IsTruth, Matches, piece_of};
-ghost use Rattle.st_column.specs.Longest.{templates_below};
+ghost use Rattle.st_column.specs.Templates.{IsAnyOf, IsNumber, IsPiece, IsTruth, Matches, piece_of};
+ghost use Rattle.st_column.specs.Templates.{templates_below};
 
 use crate::above::Above;
 

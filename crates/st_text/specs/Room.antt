@@ -28,6 +28,7 @@ pub record Puts (room : ℕ) (text : List ℕ) (old new : ArrayVec ℕ) : Type 0
 abbrev pub number_room : ℕ
 number_room = 20
 
+-- `false`
 abbrev pub bool_room : ℕ
 bool_room = 5
 
@@ -35,18 +36,23 @@ bool_room = 5
 abbrev pub pid_room : ℕ
 pid_room = 5 + number_room + number_room
 
+-- `{`, `,` and `}` around two numbers
 abbrev pub serial_room : ℕ
 serial_room = 3 + number_room + number_room
 
+-- `'receive'`
 abbrev pub kind_room : ℕ
 kind_room = 9
 
+-- an event's label and kind, as `17,{print,`
 abbrev pub head_room : ℕ
 head_room = 3 + number_room + kind_room
 
+-- a sender and a receiver
 abbrev pub ends_room : ℕ
 ends_room = 1 + pid_room + pid_room
 
+-- an event, with its index and its value
 abbrev pub event_room : ℕ
 event_room = 15 + head_room + serial_room + ends_room + number_room
 
@@ -58,6 +64,7 @@ component_room = 6 + number_room
 abbrev pub want_room : ℕ
 want_room = 6 + pid_room + number_room
 
+-- three truth values
 abbrev pub flags_room : ℕ
 flags_room = 2 + bool_room + bool_room + bool_room
 

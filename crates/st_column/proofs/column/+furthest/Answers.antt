@@ -2,7 +2,7 @@
 use Rattle.std.proofs.Common.{◌≡◌, ◌+◌, ◌≤◌, ℕ, List, length, max, subst, arith}
 use Rattle.std.proofs.lemmas.List.{take_rest}
 use Rattle.st_column.specs.Column.{IsLongest}
-use Rattle.st_column.specs.Longest.{IsPiece, Matches}
+use Rattle.st_column.specs.Templates.{IsPiece, Matches}
 use Rattle.st_column.proofs.Fronts.{IsBest, best_is, best_more, best_none, best_same}
 use Rattle.st_column.proofs.Templates.{any_text}
 use Rattle.st_column.proofs.column.+furthest.Goals.{then-is_piece, else-is_piece}

@@ -1,6 +1,6 @@
 -- The template gets shorter at each call; the fronts so far give the best.
 use Rattle.std.proofs.Common.{length}
-use Rattle.st_column.specs.Longest.{IsPiece, Matches}
+use Rattle.st_column.specs.Templates.{IsPiece, Matches}
 use Rattle.st_column.proofs.Fronts.{IsBest}
 use Rattle.st_column.proofs.column.+furthest.Given as goal
 

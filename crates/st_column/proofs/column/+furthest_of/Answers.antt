@@ -2,7 +2,7 @@
 use Rattle.std.proofs.Common.{◌≡◌, ◌∷◌, ℕ, List, length, map, arith}
 use Rattle.std.specs.Borrow.{Bor}
 use Rattle.std.proofs.lemmas.Bool.Decides.{nat_tests}
-use Rattle.st_column.specs.Longest.{IsAnyOf, Matches}
+use Rattle.st_column.specs.Templates.{IsAnyOf, Matches}
 use Rattle.st_column.proofs.Fronts.{either_longest}
 use Rattle.st_column.proofs.Templates.{alone_longest}
 use Rattle.st_column.proofs.column.+furthest_of.Goals as goal

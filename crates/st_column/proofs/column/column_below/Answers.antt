@@ -2,7 +2,7 @@
 use Rattle.std.proofs.Common.{ℕ, List, length, ap, subst, arith}
 use Rattle.std.proofs.lemmas.List.{length-map}
 use Rattle.st_column.specs.Column.{IsLongest}
-use Rattle.st_column.specs.Longest.{IsAnyOf}
+use Rattle.st_column.specs.Templates.{IsAnyOf}
 use Rattle.st_column.proofs.Templates.{some_template}
 use Rattle.st_column.proofs.Grammar.{column_is}
 use Rattle.st_column.proofs.column.column_below.Goals as goal

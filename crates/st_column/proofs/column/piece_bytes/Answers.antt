@@ -4,7 +4,7 @@ use Rattle.std.specs.Prelude.{codes}
 use Rattle.st_text.specs.Spelling as spelled
 use Rattle.st_column.specs.declared.column.Piece.{Piece}
 use Rattle.st_column.specs.Column.{IsLongest}
-use Rattle.st_column.specs.Longest.{IsOf, IsTruth}
+use Rattle.st_column.specs.Templates.{IsOfPiece, IsTruth}
 use Rattle.st_column.proofs.Fronts.{either_longest}
 use Rattle.st_column.proofs.column.piece_bytes.Goals as goal
 
@@ -18,7 +18,7 @@ word_of t false e = inr e
 
 pub returns-in-Number : goal.returns-in-Number
 returns-in-Number c =
-    subst (λ (p : Piece). IsLongest (IsOf p c.args.letter) c.args.line.now c.number_bytes.result)
+    subst (λ (p : Piece). IsLongest (IsOfPiece p c.args.letter) c.args.line.now c.number_bytes.result)
     (sym c.in-Number.is ∙ c.piece_of.ensures) c.number_bytes.ensures
 
 pub returns-in-Truth : goal.returns-in-Truth
@@ -27,10 +27,10 @@ returns-in-Truth c =
     c.word_bytes.result c.word_bytes-in-Truth.result truth_of (λ t x. word_of t x.0 x.1) c.word_bytes.ensures
     c.word_bytes-in-Truth.ensures in
     let truths = subst (IsLongest IsTruth c.args.line.now) (sym c.max.ensures) either in
-    subst (λ (p : Piece). IsLongest (IsOf p c.args.letter) c.args.line.now c.max.result)
+    subst (λ (p : Piece). IsLongest (IsOfPiece p c.args.letter) c.args.line.now c.max.result)
     (sym c.in-Truth.is ∙ c.piece_of.ensures) truths
 
 pub returns-in-Byte : goal.returns-in-Byte
 returns-in-Byte c =
-    subst (λ (p : Piece). IsLongest (IsOf p c.args.letter) c.args.line.now c.word_bytes-in-Byte.result)
+    subst (λ (p : Piece). IsLongest (IsOfPiece p c.args.letter) c.args.line.now c.word_bytes-in-Byte.result)
     (sym c.in-Byte.is ∙ c.piece_of.ensures) c.word_bytes-in-Byte.ensures

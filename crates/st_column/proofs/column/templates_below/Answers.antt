@@ -1,6 +1,6 @@
 -- The tables have the templates of the definition.
 use Rattle.std.proofs.Common.{ap, sym}
-use Rattle.st_column.specs.Longest.{templates_below}
+use Rattle.st_column.specs.Templates.{templates_below}
 use Rattle.st_column.proofs.column.templates_below.Goals as goal
 
 pub returns-in-Nothing : goal.returns-in-Nothing

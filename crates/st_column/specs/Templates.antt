@@ -25,10 +25,10 @@ abbrev pub most_node : Bool → ℕ
 most_node true = most_pid
 most_node false = 0
 
-abbrev pub IsOf : Piece → ℕ → List ℕ → Type 0
-IsOf pieces.Byte c word = word ≡ c ∷ []
-IsOf (pieces.Number most) c word = IsNumber most word
-IsOf pieces.Truth c word = IsTruth word
+abbrev pub IsOfPiece : Piece → ℕ → List ℕ → Type 0
+IsOfPiece pieces.Byte c word = word ≡ c ∷ []
+IsOfPiece (pieces.Number most) c word = IsNumber most word
+IsOfPiece pieces.Truth c word = IsTruth word
 
 module _ (wide : Bool) where
   abbrev pub piece_of : ℕ → Piece
@@ -39,7 +39,7 @@ module _ (wide : Bool) where
       else pieces.Byte))))
 
   abbrev pub IsPiece : ℕ → List ℕ → Type 0
-  IsPiece c word = IsOf (piece_of c) c word
+  IsPiece c word = IsOfPiece (piece_of c) c word
 
   -- the text is the template's pieces, one behind the other
   abbrev pub Matches : List ℕ → List ℕ → Type 0
