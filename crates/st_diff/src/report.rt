@@ -107,13 +107,9 @@ impl<'a> Report<'a> {
     }
 
     /// Writes a change of the first trace.
-    fn say_first<W: ByteSink>(
-        &self,
-        out: &mut TextWriter<'_, W>,
-        change: &Change,
-    ) -> Result<(), Device> {
+    fn say_first<W: ByteSink>(&self, out: &mut TextWriter<'_, W>, change: &Change) {
         let Some(row) = self.first.row(change.process, change.index) else {
-            return Ok(());
+            return;
         };
         match self.now(change) {
             Some(now) => say_change(out, "elsewhere", &row, Some(&now), self.style),
@@ -122,17 +118,12 @@ impl<'a> Report<'a> {
     }
 
     /// Writes a change of the second trace, unless it is told with one of the first.
-    fn say_second<W: ByteSink>(
-        &self,
-        out: &mut TextWriter<'_, W>,
-        change: &Change,
-    ) -> Result<(), Device> {
+    fn say_second<W: ByteSink>(&self, out: &mut TextWriter<'_, W>, change: &Change) {
         if change.elsewhere.is_some() {
-            return Ok(());
+            return;
         }
-        match self.second.row(change.process, change.index) {
-            Some(row) => say_change(out, "new", &row, None, self.style),
-            None => Ok(()),
+        if let Some(row) = self.second.row(change.process, change.index) {
+            say_change(out, "new", &row, None, self.style);
         }
     }
 
@@ -142,62 +133,54 @@ impl<'a> Report<'a> {
         out: &mut TextWriter<'_, W>,
         gone: &[Change],
         new: &[Change],
-    ) -> Result<(), Device> {
+    ) {
         let mut next: usize = 0;
         for change in gone {
             let is_before = |other: &Change| -> bool { other.before < change.before };
             let until = new.partition_point(is_before);
             for other in new.get(next..until).unwrap_or(&[]) {
-                self.say_second(out, other)?;
+                self.say_second(out, other);
             }
             next = next.max(until);
-            self.say_first(out, change)?;
+            self.say_first(out, change);
         }
         for other in new.get(next..).unwrap_or(&[]) {
-            self.say_second(out, other)?;
+            self.say_second(out, other);
         }
-        Ok(())
     }
 
     /// Writes what differs in two processes that are matched.
-    fn say_pair<W: ByteSink>(&self, out: &mut TextWriter<'_, W>, pair: Pair) -> Result<(), Device> {
+    fn say_pair<W: ByteSink>(&self, out: &mut TextWriter<'_, W>, pair: Pair) {
         if matches!(self.style, Style::Text) && self.has_changes(pair) {
             if let Some(found) = self.found(pair) {
-                say_match(out, &found)?;
+                say_match(out, &found);
             }
         }
         let gone = of_process(self.changes.first.as_slice(), pair.first);
         let new = of_process(self.changes.second.as_slice(), pair.second);
-        self.say_changes(out, gone, new)
+        self.say_changes(out, gone, new);
     }
 
     /// Writes what differs in a process of the first trace.
-    fn say_process<W: ByteSink>(
-        &self,
-        out: &mut TextWriter<'_, W>,
-        place: usize,
-    ) -> Result<(), Device> {
+    fn say_process<W: ByteSink>(&self, out: &mut TextWriter<'_, W>, place: usize) {
         if let Some(pair) = self.pairs.of(Which::First, place) {
-            return self.say_pair(out, pair);
+            self.say_pair(out, pair);
+            return;
         }
         if let Some(pid) = self.first.pid(place) {
-            say_alone(out, "gone", pid, self.style)?;
+            say_alone(out, "gone", pid, self.style);
         }
         let gone = of_process(self.changes.first.as_slice(), place);
-        self.say_changes(out, gone, &[])
+        self.say_changes(out, gone, &[]);
     }
 
     /// Writes a process of the second trace that is matched with none.
-    fn say_new_process<W: ByteSink>(
-        &self,
-        out: &mut TextWriter<'_, W>,
-        place: usize,
-    ) -> Result<(), Device> {
+    fn say_new_process<W: ByteSink>(&self, out: &mut TextWriter<'_, W>, place: usize) {
         if let Some(pid) = self.second.pid(place) {
-            say_alone(out, "new", pid, self.style)?;
+            say_alone(out, "new", pid, self.style);
         }
         let new = of_process(self.changes.second.as_slice(), place);
-        self.say_changes(out, &[], new)
+        self.say_changes(out, &[], new);
     }
 
     /// The process at this place of the first trace with the one that it is matched with, in words.
@@ -206,43 +189,39 @@ impl<'a> Report<'a> {
     }
 
     /// Writes an object for each two processes that are matched, by rising pid of the first.
-    fn say_matches<W: ByteSink>(&self, out: &mut TextWriter<'_, W>) -> Result<(), Device> {
+    fn say_matches<W: ByteSink>(&self, out: &mut TextWriter<'_, W>) {
         if let Style::Text = self.style {
-            return Ok(());
+            return;
         }
         for place in 0..self.first.len() {
             if let Some(found) = self.found_at(place) {
-                say_match_object(out, &found)?;
+                say_match_object(out, &found);
             }
         }
-        Ok(())
     }
 
     /// Writes all that differs.
-    fn say_all<W: ByteSink>(&self, out: &mut TextWriter<'_, W>) -> Result<(), Device> {
+    fn say_all<W: ByteSink>(&self, out: &mut TextWriter<'_, W>) {
         for place in 0..self.first.len() {
-            self.say_process(out, place)?;
+            if out.has_failed() {
+                return;
+            }
+            self.say_process(out, place);
         }
         for place in 0..self.second.len() {
             if self.pairs.is_free(Which::Second, place) {
-                self.say_new_process(out, place)?;
+                self.say_new_process(out, place);
             }
         }
-        Ok(())
     }
 
     /// Writes the first event whose counts have another order, of two traces that are the same but for
     /// that.
-    fn say_moved<W: ByteSink>(
-        &self,
-        out: &mut TextWriter<'_, W>,
-        moved: Moved,
-    ) -> Result<(), Device> {
+    fn say_moved<W: ByteSink>(&self, out: &mut TextWriter<'_, W>, moved: Moved) {
         let row = self.first.row(moved.pair.first, moved.index);
         let now = self.second.row(moved.pair.second, moved.index);
-        match row {
-            Some(row) => say_change(out, "counts", &row, now.as_ref(), self.style),
-            None => Ok(()),
+        if let Some(row) = row {
+            say_change(out, "counts", &row, now.as_ref(), self.style);
         }
     }
 
@@ -256,14 +235,14 @@ impl<'a> Report<'a> {
         let mut out = TextWriter::new(writer);
         let is_same = sums.are_none() && moved.is_none();
         if is_same {
-            say_same(&mut out, self.style)?;
+            say_same(&mut out, self.style);
         } else {
-            say_sums(&mut out, sums, self.style)?;
+            say_sums(&mut out, sums, self.style);
         }
-        self.say_matches(&mut out)?;
-        self.say_all(&mut out)?;
+        self.say_matches(&mut out);
+        self.say_all(&mut out);
         if let Some(moved) = moved {
-            self.say_moved(&mut out, moved)?;
+            self.say_moved(&mut out, moved);
         }
         out.flush()?;
         Ok(if is_same { 0 } else { 1 })

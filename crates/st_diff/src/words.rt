@@ -5,7 +5,6 @@ use st_core::{ByteSink, Pid};
 use st_events::{Style, say_counts, say_row, say_row_fields};
 use st_list::Row;
 use st_say::TextWriter;
-use st_text::Device;
 
 /// How many of each there are.
 #[derive(Clone, Copy)]
@@ -54,14 +53,10 @@ fn ground_words(ground: Ground) -> (&'static str, &'static str) {
 }
 
 /// Writes the first line: how much is different.
-pub(crate) fn say_sums<W: ByteSink>(
-    out: &mut TextWriter<'_, W>,
-    sums: &Sums,
-    style: Style,
-) -> Result<(), Device> {
+pub(crate) fn say_sums<W: ByteSink>(out: &mut TextWriter<'_, W>, sums: &Sums, style: Style) {
     match style {
-        Style::Text => out.say("different:")?,
-        Style::Json => out.say("{\"result\":\"different\"")?,
+        Style::Text => out.say("different:"),
+        Style::Json => out.say("{\"result\":\"different\""),
     }
     let all = [
         ("gone", " events gone ", sums.gone),
@@ -74,14 +69,11 @@ pub(crate) fn say_sums<W: ByteSink>(
     ];
     let is_without_counts = sums.counts == 0 && matches!(style, Style::Text);
     let len = if is_without_counts { 6 } else { 7 };
-    say_counts(out, style, all.get(..len).unwrap_or(&[]))
+    say_counts(out, style, all.get(..len).unwrap_or(&[]));
 }
 
 /// Writes that two traces are the same.
-pub(crate) fn say_same<W: ByteSink>(
-    out: &mut TextWriter<'_, W>,
-    style: Style,
-) -> Result<(), Device> {
+pub(crate) fn say_same<W: ByteSink>(out: &mut TextWriter<'_, W>, style: Style) {
     match style {
         Style::Text => out.say("same\n"),
         Style::Json => out.say("{\"result\":\"same\"}\n"),
@@ -98,44 +90,38 @@ pub(crate) struct Match {
 }
 
 /// Writes the object of two processes that are matched.
-pub(crate) fn say_match_object<W: ByteSink>(
-    out: &mut TextWriter<'_, W>,
-    found: &Match,
-) -> Result<(), Device> {
-    out.say("{\"process\":\"")?;
-    out.say_pid(found.first)?;
-    out.say("\"")?;
-    out.say_pid_field("is", found.second)?;
-    out.say(",\"because\":\"")?;
-    out.say(ground_words(found.ground).0)?;
-    out.say("\",\"guess\":")?;
-    out.say_bool(found.ground.is_guess())?;
-    out.say(",\"coarse\":")?;
-    out.say_bool(found.is_coarse)?;
-    out.say("}\n")
+pub(crate) fn say_match_object<W: ByteSink>(out: &mut TextWriter<'_, W>, found: &Match) {
+    out.say("{\"process\":\"");
+    out.say_pid(found.first);
+    out.say("\"");
+    out.say_pid_field("is", found.second);
+    out.say(",\"because\":\"");
+    out.say(ground_words(found.ground).0);
+    out.say("\",\"guess\":");
+    out.say_bool(found.ground.is_guess());
+    out.say(",\"coarse\":");
+    out.say_bool(found.is_coarse);
+    out.say("}\n");
 }
 
 /// Writes the line of two processes that are matched and differ, unless their pid says it all.
-pub(crate) fn say_match<W: ByteSink>(
-    out: &mut TextWriter<'_, W>,
-    found: &Match,
-) -> Result<(), Device> {
+pub(crate) fn say_match<W: ByteSink>(out: &mut TextWriter<'_, W>, found: &Match) {
     let is_guess = found.ground.is_guess();
     if found.first == found.second && !is_guess && !found.is_coarse {
-        return Ok(());
+        return;
     }
-    out.say("process ")?;
-    out.say_pid(found.first)?;
-    out.say(" is ")?;
-    out.say_pid(found.second)?;
+    out.say("process ");
+    out.say_pid(found.first);
+    out.say(" is ");
+    out.say_pid(found.second);
     if is_guess {
-        out.say(", a guess: ")?;
-        out.say(ground_words(found.ground).1)?;
+        out.say(", a guess: ");
+        out.say(ground_words(found.ground).1);
     }
     if found.is_coarse {
-        out.say("; compared coarsely, so there may be fewer changes")?;
+        out.say("; compared coarsely, so there may be fewer changes");
     }
-    out.say("\n")
+    out.say("\n");
 }
 
 /// Writes that a process has no partner in the other trace.
@@ -144,41 +130,36 @@ pub(crate) fn say_alone<W: ByteSink>(
     what: &str,
     pid: Pid,
     style: Style,
-) -> Result<(), Device> {
+) {
     match style {
         Style::Text => {
-            out.say(what)?;
-            out.say(" process ")?;
-            out.say_pid(pid)?;
+            out.say(what);
+            out.say(" process ");
+            out.say_pid(pid);
         }
         Style::Json => {
-            out.say("{\"change\":\"")?;
-            out.say(what)?;
-            out.say(" process\"")?;
-            out.say_pid_field("pid", pid)?;
+            out.say("{\"change\":\"");
+            out.say(what);
+            out.say(" process\"");
+            out.say_pid_field("pid", pid);
         }
     }
-    out.say(style.end())
+    out.say(style.end());
 }
 
 /// Writes the front of the line of an event.
-fn say_front<W: ByteSink>(
-    out: &mut TextWriter<'_, W>,
-    what: &str,
-    row: &Row,
-    style: Style,
-) -> Result<(), Device> {
+fn say_front<W: ByteSink>(out: &mut TextWriter<'_, W>, what: &str, row: &Row, style: Style) {
     match style {
         Style::Text => {
-            out.say(what)?;
-            out.say(" ")?;
-            say_row(out, row)
+            out.say(what);
+            out.say(" ");
+            say_row(out, row);
         }
         Style::Json => {
-            out.say("{\"change\":\"")?;
-            out.say(what)?;
-            out.say("\",")?;
-            say_row_fields(out, row)
+            out.say("{\"change\":\"");
+            out.say(what);
+            out.say("\",");
+            say_row_fields(out, row);
         }
     }
 }
@@ -190,21 +171,22 @@ fn say_now<W: ByteSink>(
     row: &Row,
     has_other_counts: bool,
     style: Style,
-) -> Result<(), Device> {
+) {
     if let Style::Json = style {
-        out.say(",\"now\":{")?;
-        say_row_fields(out, row)?;
-        return out.say("}");
+        out.say(",\"now\":{");
+        say_row_fields(out, row);
+        out.say("}");
+        return;
     }
-    out.say_part(", now ", row.line)?;
-    out.say(": ")?;
-    out.say_pid(row.pid)?;
-    out.say_part(" ", row.index)?;
+    out.say_part(", now ", row.line);
+    out.say(": ");
+    out.say_pid(row.pid);
+    out.say_part(" ", row.index);
     if has_other_counts {
-        out.say(" ")?;
-        out.say_serial(row.event.serial)?;
+        out.say(" ");
+        out.say_serial(row.event.serial);
     }
-    out.say_other(&row.event)
+    out.say_other(&row.event);
 }
 
 /// Writes an event of one trace, with its place in the other one if it has one there.
@@ -214,10 +196,10 @@ pub(crate) fn say_change<W: ByteSink>(
     row: &Row,
     now: Option<&Row>,
     style: Style,
-) -> Result<(), Device> {
-    say_front(out, what, row, style)?;
+) {
+    say_front(out, what, row, style);
     if let Some(now) = now {
-        say_now(out, now, what == "counts", style)?;
+        say_now(out, now, what == "counts", style);
     }
-    out.say(style.end())
+    out.say(style.end());
 }

@@ -25,27 +25,22 @@ const MESSAGE: &str = " [color=blue]";
 const OPEN_MESSAGE: &str = " [color=blue, style=dashed]";
 
 /// Writes the name of a node.
-fn say_node<W: ByteSink>(out: &mut TextWriter<'_, W>, node: Node) -> Result<(), Device> {
+fn say_node<W: ByteSink>(out: &mut TextWriter<'_, W>, node: Node) {
     let (letter, number, index) = match node {
         Node::Event(number, index) => ("e", number, index),
         Node::Open(number, index) => ("u", number, index),
     };
-    out.say_part(letter, number)?;
-    out.say_part("_", index)
+    out.say_part(letter, number);
+    out.say_part("_", index);
 }
 
 /// Writes an edge, with how it is drawn.
-fn say_edge<W: ByteSink>(
-    out: &mut TextWriter<'_, W>,
-    from: Node,
-    to: Node,
-    style: &str,
-) -> Result<(), Device> {
-    say_node(out, from)?;
-    out.say(" -> ")?;
-    say_node(out, to)?;
-    out.say(style)?;
-    out.say(";\n")
+fn say_edge<W: ByteSink>(out: &mut TextWriter<'_, W>, from: Node, to: Node, style: &str) {
+    say_node(out, from);
+    out.say(" -> ");
+    say_node(out, to);
+    out.say(style);
+    out.say(";\n");
 }
 
 /// Writes the node of an event, and the edge from the event before, if there is one.
@@ -56,25 +51,25 @@ fn say_event_node<W: ByteSink>(
     index: u64,
     event: &Event,
     before: Option<u64>,
-) -> Result<(), Device> {
+) {
     let node = Node::Event(number, index);
-    out.say("        ")?;
-    say_node(out, node)?;
-    out.say(" [label=\"")?;
-    out.say(kind_word(event.kind))?;
-    out.say(" ")?;
-    say_content(out, scene, event)?;
+    out.say("        ");
+    say_node(out, node);
+    out.say(" [label=\"");
+    out.say(kind_word(event.kind));
+    out.say(" ");
+    say_content(out, scene, event);
     let end = if scene.is_added(pid, index) {
         "\", style=dashed];\n"
     } else {
         "\"];\n"
     };
-    out.say(end)?;
+    out.say(end);
     let Some(before) = before else {
-        return Ok(());
+        return;
     };
-    out.say("        ")?;
-    say_edge(out, Node::Event(number, before), node, "")
+    out.say("        ");
+    say_edge(out, Node::Event(number, before), node, "");
 }
 
 /// Writes the nodes of a process's events and the edges between them.
@@ -83,51 +78,41 @@ fn say_event_nodes<W: ByteSink>(
     scene: &Scene<'_>,
     (number, pid): (u64, Pid),
     events: &[Event],
-) -> Result<(), Device> {
+) {
     let mut before = None;
     let mut index: u64 = 0;
     for event in events {
         if scene.has(event) {
-            say_event_node(out, scene, (number, pid), index, event, before)?;
+            say_event_node(out, scene, (number, pid), index, event, before);
             before = Some(index);
         }
         index = index.saturating_add(1);
     }
-    Ok(())
 }
 
 /// Writes the box of a process.
-fn say_process<W: ByteSink>(
-    out: &mut TextWriter<'_, W>,
-    scene: &Scene<'_>,
-    number: u64,
-    pid: Pid,
-) -> Result<(), Device> {
-    out.say_part("    subgraph cluster_", number)?;
-    out.say(" {\n        label=\"")?;
-    out.say_pid(pid)?;
+fn say_process<W: ByteSink>(out: &mut TextWriter<'_, W>, scene: &Scene<'_>, number: u64, pid: Pid) {
+    out.say_part("    subgraph cluster_", number);
+    out.say(" {\n        label=\"");
+    out.say_pid(pid);
     let end = if scene.is_unlisted(pid) {
         " (unlisted)\";\n        style=dashed;\n"
     } else {
         "\";\n"
     };
-    out.say(end)?;
+    out.say(end);
     let events = scene.streams.events(pid);
-    say_event_nodes(out, scene, (number, pid), events)?;
-    out.say("    }\n")
+    say_event_nodes(out, scene, (number, pid), events);
+    out.say("    }\n");
 }
 
 /// Writes the node of an end that nobody reported.
-fn say_open_end<W: ByteSink>(
-    out: &mut TextWriter<'_, W>,
-    node: Node,
-    words: &str,
-) -> Result<(), Device> {
-    out.say("    ")?;
-    say_node(out, node)?;
-    out.say(" [label=\"")?;
-    out.say(words)?;
-    out.say("\", style=dashed];\n    ")
+fn say_open_end<W: ByteSink>(out: &mut TextWriter<'_, W>, node: Node, words: &str) {
+    out.say("    ");
+    say_node(out, node);
+    out.say(" [label=\"");
+    out.say(words);
+    out.say("\", style=dashed];\n    ");
 }
 
 /// Writes the edge of the message that an event received, or that it sent if nobody reported the
@@ -139,26 +124,26 @@ fn say_message<W: ByteSink>(
     pid: Pid,
     index: u64,
     partner: Partner,
-) -> Result<(), Device> {
+) {
     let number = lanes.number(pid);
     let node = Node::Event(number, index);
     let open = Node::Open(number, index);
     match partner {
-        Partner::Nobody | Partner::Receive(..) => Ok(()),
+        Partner::Nobody | Partner::Receive(..) => {}
         Partner::Send(from, sent) => {
-            out.say("    ")?;
+            out.say("    ");
             let send = Node::Event(lanes.number(from), sent);
             let has_added = scene.is_added(from, sent) || scene.is_added(pid, index);
             let style = if has_added { OPEN_MESSAGE } else { MESSAGE };
-            say_edge(out, send, node, style)
+            say_edge(out, send, node, style);
         }
         Partner::NoReceive => {
-            say_open_end(out, open, "no receive reported")?;
-            say_edge(out, node, open, OPEN_MESSAGE)
+            say_open_end(out, open, "no receive reported");
+            say_edge(out, node, open, OPEN_MESSAGE);
         }
         Partner::NoSend => {
-            say_open_end(out, open, "send not reported")?;
-            say_edge(out, open, node, OPEN_MESSAGE)
+            say_open_end(out, open, "send not reported");
+            say_edge(out, open, node, OPEN_MESSAGE);
         }
     }
 }
@@ -169,16 +154,15 @@ fn say_messages<W: ByteSink>(
     scene: &Scene<'_>,
     lanes: &Lanes<'_>,
     pid: Pid,
-) -> Result<(), Device> {
+) {
     let mut index: u64 = 0;
     for event in scene.streams.events(pid) {
         if scene.has(event) {
             let partner = scene.partner(pid, index, event.kind);
-            say_message(out, scene, lanes, pid, index, partner)?;
+            say_message(out, scene, lanes, pid, index, partner);
         }
         index = index.saturating_add(1);
     }
-    Ok(())
 }
 
 /// Sends the graph of a scene, with its processes.
@@ -188,15 +172,18 @@ pub(crate) fn send_dot<W: ByteSink>(
     lanes: &Lanes<'_>,
 ) -> Result<(), Device> {
     let mut out = TextWriter::new(writer);
-    out.say("digraph trace {\n    node [shape=box];\n")?;
+    out.say("digraph trace {\n    node [shape=box];\n");
     for (place, pid) in scene.streams.pids().iter().enumerate() {
         if let Some(number) = lanes.at(place) {
-            say_process(&mut out, scene, number, *pid)?;
+            say_process(&mut out, scene, number, *pid);
         }
     }
     for pid in scene.streams.pids() {
-        say_messages(&mut out, scene, lanes, *pid)?;
+        if out.has_failed() {
+            break;
+        }
+        say_messages(&mut out, scene, lanes, *pid);
     }
-    out.say("}\n")?;
+    out.say("}\n");
     out.flush()
 }

@@ -36,43 +36,45 @@ struct Marker<'a, W> {
 
 impl<'a, W: ByteSink> Marker<'a, W> {
     /// Ends a line.
-    fn end_line(&mut self) -> Result<(), Device> {
+    fn end_line(&mut self) {
         let mark = self.marks.get(self.ended).copied().unwrap_or(NO_MARK);
         self.ended = self.ended.saturating_add(1);
-        self.out.say(mark)?;
-        self.out.say("\n")
+        self.out.say(mark);
+        self.out.say("\n");
     }
 
     /// Passes bytes on.
-    fn pass(&mut self, bytes: &[u8]) -> Result<(), Device> {
+    fn pass(&mut self, bytes: &[u8]) {
         let mut is_first = true;
         for piece in bytes.split(|byte| *byte == b'\n') {
             if !is_first {
-                self.end_line()?;
+                self.end_line();
             }
             is_first = false;
-            self.out.say_bytes(piece)?;
+            self.out.say_bytes(piece);
         }
-        Ok(())
     }
 }
 
-/// The result of a writer, for a caller that knows an error of the system alone.
-fn as_io(sent: Result<(), Device>) -> io::Result<()> {
-    match sent {
-        Ok(()) => Ok(()),
-        Err(Device) => Err(Error::new(ErrorKind::WriteZero, "the writer failed")),
-    }
+/// What a caller is told that knows an error of the system alone.
+fn writer_failed() -> Error {
+    Error::new(ErrorKind::WriteZero, "the writer failed")
 }
 
 impl<W: ByteSink> Write for Marker<'_, W> {
     fn write(&mut self, bytes: &[u8]) -> io::Result<usize> {
-        as_io(self.pass(bytes))?;
+        self.pass(bytes);
+        if self.out.has_failed() {
+            return Err(writer_failed());
+        }
         Ok(bytes.len())
     }
 
     fn flush(&mut self) -> io::Result<()> {
-        as_io(self.out.flush())
+        match self.out.flush() {
+            Ok(()) => Ok(()),
+            Err(Device) => Err(writer_failed()),
+        }
     }
 }
 

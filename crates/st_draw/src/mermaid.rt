@@ -35,26 +35,21 @@ fn is_hidden(scene: &Scene<'_>, item: Item) -> bool {
 
 impl<'a> Diagram<'a> {
     /// Writes a line for each process, by rising pid, and for what nobody reported.
-    fn say_participants<W: ByteSink>(
-        &self,
-        out: &mut TextWriter<'_, W>,
-        items: &[Item],
-    ) -> Result<(), Device> {
+    fn say_participants<W: ByteSink>(&self, out: &mut TextWriter<'_, W>, items: &[Item]) {
         for (place, pid) in self.scene.streams.pids().iter().enumerate() {
             if let Some(number) = self.lanes.at(place) {
-                out.say_part("    participant P", number)?;
-                out.say(" as ")?;
-                say_bare_pid(out, *pid)?;
+                out.say_part("    participant P", number);
+                out.say(" as ");
+                say_bare_pid(out, *pid);
                 if self.scene.is_unlisted(*pid) {
-                    out.say(" (unlisted)")?;
+                    out.say(" (unlisted)");
                 }
-                out.say("\n")?;
+                out.say("\n");
             }
         }
         if items.iter().any(|item| is_hidden(self.scene, *item)) {
-            out.say("    participant U as not reported\n")?;
+            out.say("    participant U as not reported\n");
         }
-        Ok(())
     }
 
     /// Writes a note at a process: words, and what the event carries.
@@ -64,19 +59,19 @@ impl<'a> Diagram<'a> {
         event: &Event,
         words: &str,
         is_added: bool,
-    ) -> Result<(), Device> {
+    ) {
         let number = self.lanes.number(event.from);
-        out.say_part("    Note over P", number)?;
-        out.say(words)?;
-        say_content(out, self.scene, event)?;
+        out.say_part("    Note over P", number);
+        out.say(words);
+        say_content(out, self.scene, event);
         if let Some(to) = event.to {
-            out.say(" to ")?;
-            say_bare_pid(out, to)?;
+            out.say(" to ");
+            say_bare_pid(out, to);
         }
         if is_added {
-            out.say(" (added)")?;
+            out.say(" (added)");
         }
-        out.say("\n")
+        out.say("\n");
     }
 
     /// Writes the arrow of a message from its sender to its receiver, with words behind it, and a line
@@ -87,18 +82,18 @@ impl<'a> Diagram<'a> {
         event: &Event,
         arrow: &str,
         words: &str,
-    ) -> Result<(), Device> {
+    ) {
         let from = self.lanes.number(event.from);
         let to = match event.to {
             Some(to) => self.lanes.number(to),
             None => 0,
         };
-        out.say_part("    P", from)?;
-        out.say_part(arrow, to)?;
-        out.say(": ")?;
-        say_content(out, self.scene, event)?;
-        out.say(words)?;
-        out.say("\n")
+        out.say_part("    P", from);
+        out.say_part(arrow, to);
+        out.say(": ");
+        say_content(out, self.scene, event);
+        out.say(words);
+        out.say("\n");
     }
 
     /// Writes the arrow of a message of which both ends are there, at its receive.
@@ -108,7 +103,7 @@ impl<'a> Diagram<'a> {
         event: &Event,
         receive: (Pid, u64),
         sent: (Pid, u64),
-    ) -> Result<(), Device> {
+    ) {
         let is_above = self.overtaken.contains(&sent);
         // A send that is told above has its mark there.
         let send_added = !is_above && self.scene.is_added(sent.0, sent.1);
@@ -122,22 +117,17 @@ impl<'a> Diagram<'a> {
             (false, true, true) => " (send and receive added)",
         };
         let arrow = if words.is_empty() { "->>P" } else { "-->>P" };
-        self.say_arrow(out, event, arrow, words)
+        self.say_arrow(out, event, arrow, words);
     }
 
     /// Writes the arrow of a receive whose send nobody reported.
-    fn say_unsent<W: ByteSink>(
-        &self,
-        out: &mut TextWriter<'_, W>,
-        pid: Pid,
-        event: &Event,
-    ) -> Result<(), Device> {
-        out.say_part("    U->>P", self.lanes.number(pid))?;
-        out.say(": ")?;
-        say_content(out, self.scene, event)?;
-        out.say(" from ")?;
-        say_bare_pid(out, event.from)?;
-        out.say("\n")
+    fn say_unsent<W: ByteSink>(&self, out: &mut TextWriter<'_, W>, pid: Pid, event: &Event) {
+        out.say_part("    U->>P", self.lanes.number(pid));
+        out.say(": ");
+        say_content(out, self.scene, event);
+        out.say(" from ");
+        say_bare_pid(out, event.from);
+        out.say("\n");
     }
 
     /// Writes the line of an event. A send whose arrow is in its place has none.
@@ -147,15 +137,15 @@ impl<'a> Diagram<'a> {
         pid: Pid,
         index: u64,
         event: &Event,
-    ) -> Result<(), Device> {
+    ) {
         let is_added = self.scene.is_added(pid, index);
         match self.scene.partner(pid, index, event.kind) {
             Partner::Nobody => self.say_note(out, event, ": print ", is_added),
             Partner::Receive(..) => {
                 if self.overtaken.contains(&(pid, index)) {
-                    return self.say_note(out, event, ": sends ", is_added);
+                    self.say_note(out, event, ": sends ", is_added);
+                    return;
                 }
-                Ok(())
             }
             Partner::NoReceive => {
                 let words: &str = if is_added {
@@ -163,10 +153,10 @@ impl<'a> Diagram<'a> {
                 } else {
                     " (no receive reported)"
                 };
-                self.say_arrow(out, event, "-xP", words)
+                self.say_arrow(out, event, "-xP", words);
             }
             Partner::Send(from, sent) => {
-                self.say_received(out, event, (pid, index), (from, sent))
+                self.say_received(out, event, (pid, index), (from, sent));
             }
             Partner::NoSend => self.say_unsent(out, pid, event),
         }
@@ -188,12 +178,15 @@ pub(crate) fn send_mermaid<'a, W: ByteSink>(
         lanes,
         overtaken,
     };
-    out.say("sequenceDiagram\n")?;
-    diagram.say_participants(&mut out, items)?;
+    out.say("sequenceDiagram\n");
+    diagram.say_participants(&mut out, items);
     for item in items {
+        if out.has_failed() {
+            break;
+        }
         if let Item::Reported(pid, index) = *item {
             if let Some(event) = scene.event(pid, index) {
-                diagram.say_event(&mut out, pid, index, &event)?;
+                diagram.say_event(&mut out, pid, index, &event);
             }
         }
     }

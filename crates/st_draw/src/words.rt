@@ -6,13 +6,10 @@ use st_say::{TextWriter, send_words};
 use st_text::Device;
 
 /// Writes a pid without its brackets, which have a meaning in Mermaid's language.
-pub(crate) fn say_bare_pid<W: ByteSink>(
-    out: &mut TextWriter<'_, W>,
-    pid: Pid,
-) -> Result<(), Device> {
-    out.say_number(u64::from(pid.node()))?;
-    out.say_part(".", u64::from(pid.number()))?;
-    out.say(".0")
+pub(crate) fn say_bare_pid<W: ByteSink>(out: &mut TextWriter<'_, W>, pid: Pid) {
+    out.say_number(u64::from(pid.node()));
+    out.say_part(".", u64::from(pid.number()));
+    out.say(".0");
 }
 
 /// Writes what an event carries: its value, its serial, and its label if the drawing has several.
@@ -20,14 +17,13 @@ pub(crate) fn say_content<W: ByteSink>(
     out: &mut TextWriter<'_, W>,
     scene: &Scene<'_>,
     event: &Event,
-) -> Result<(), Device> {
-    out.say_number(event.value)?;
-    out.say(" ")?;
-    out.say_serial(event.serial)?;
+) {
+    out.say_number(event.value);
+    out.say(" ");
+    out.say_serial(event.serial);
     if scene.names_labels {
-        out.say_part(" label ", u64::from(event.label.0))?;
+        out.say_part(" label ", u64::from(event.label.0));
     }
-    Ok(())
 }
 
 /// Sends that the tables would be too long.
@@ -44,6 +40,6 @@ pub(crate) fn send_nothing<W: ByteSink>(
         return send_words(writer, "no events\n");
     };
     let mut out = TextWriter::new(writer);
-    out.say_count("no label ", u64::from(label.0))?;
+    out.say_count("no label ", u64::from(label.0));
     out.flush()
 }

@@ -70,26 +70,26 @@ fn say_event_line<W: ByteSink>(
     streams: &Streams,
     pid: Pid,
     index: u64,
-) -> Result<(), Device> {
-    out.say("event ")?;
-    out.say_place(pid, index)?;
-    out.say(" ")?;
+) {
+    out.say("event ");
+    out.say_place(pid, index);
+    out.say(" ");
     if let Some(event) = streams.event(pid, index) {
-        out.say_event(&event)?;
+        out.say_event(&event);
     }
-    out.say("\n")
+    out.say("\n");
 }
 
 /// Sends that no run without a reset has the streams, because of a late event, in the words of the
 /// command `complete`.
 pub fn send_late<W: ByteSink>(writer: &mut W, streams: &Streams, late: Late) -> Result<(), Device> {
     let mut out = TextWriter::new(writer);
-    out.say("never ")?;
-    out.say_place(late.pid, late.index)?;
-    out.say(" late ")?;
-    out.say_place(late.pid, late.higher)?;
-    out.say("\n")?;
-    say_event_line(&mut out, streams, late.pid, late.index)?;
-    say_event_line(&mut out, streams, late.pid, late.higher)?;
+    out.say("never ");
+    out.say_place(late.pid, late.index);
+    out.say(" late ");
+    out.say_place(late.pid, late.higher);
+    out.say("\n");
+    say_event_line(&mut out, streams, late.pid, late.index);
+    say_event_line(&mut out, streams, late.pid, late.higher);
     out.flush()
 }

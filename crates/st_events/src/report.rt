@@ -13,30 +13,25 @@ fn say_front<W: ByteSink>(
     style: Style,
     of: &str,
     pids: &[(&str, &str, Pid)],
-) -> Result<(), Device> {
+) {
     if let Style::Json = style {
-        out.say("{\"of\":")?;
-        out.say_word(of)?;
+        out.say("{\"of\":");
+        out.say_word(of);
     }
     for (name, words, pid) in pids {
         match style {
             Style::Text => {
-                out.say(words)?;
-                out.say_pid(*pid)?;
+                out.say(words);
+                out.say_pid(*pid);
             }
-            Style::Json => out.say_pid_field(name, *pid)?,
+            Style::Json => out.say_pid_field(name, *pid),
         }
     }
-    Ok(())
 }
 
 /// Writes the line of a process.
-fn say_process<W: ByteSink>(
-    out: &mut TextWriter<'_, W>,
-    stats: &ProcessStats,
-    style: Style,
-) -> Result<(), Device> {
-    say_front(out, style, "process", &[("pid", "process ", stats.pid)])?;
+fn say_process<W: ByteSink>(out: &mut TextWriter<'_, W>, stats: &ProcessStats, style: Style) {
+    say_front(out, style, "process", &[("pid", "process ", stats.pid)]);
     say_counts(
         out,
         style,
@@ -47,7 +42,7 @@ fn say_process<W: ByteSink>(
             ("skipped", ", counts skipped ", stats.skipped),
             ("queue", ", longest queue ", stats.queue),
         ],
-    )
+    );
 }
 
 /// Writes the line of a pair of processes.
@@ -56,9 +51,9 @@ fn say_pair<W: ByteSink>(
     pair: &(Pid, Pid),
     stats: &PairStats,
     style: Style,
-) -> Result<(), Device> {
+) {
     let ends = [("from", "messages from ", pair.0), ("to", " to ", pair.1)];
-    say_front(out, style, "pair", &ends)?;
+    say_front(out, style, "pair", &ends);
     say_counts(
         out,
         style,
@@ -71,17 +66,12 @@ fn say_pair<W: ByteSink>(
             ),
             ("unsent", ", without a reported send ", stats.unsent),
         ],
-    )
+    );
 }
 
 /// Writes the line of a label.
-fn say_label<W: ByteSink>(
-    out: &mut TextWriter<'_, W>,
-    label: u32,
-    shape: &Shape,
-    style: Style,
-) -> Result<(), Device> {
-    say_front(out, style, "label", &[])?;
+fn say_label<W: ByteSink>(out: &mut TextWriter<'_, W>, label: u32, shape: &Shape, style: Style) {
+    say_front(out, style, "label", &[]);
     say_counts(
         out,
         style,
@@ -91,20 +81,26 @@ fn say_label<W: ByteSink>(
             ("depth", ", depth ", shape.depth),
             ("width", ", width ", shape.width),
         ],
-    )
+    );
 }
 
 /// Sends the counts.
 pub fn send_stats<W: ByteSink>(writer: &mut W, stats: &Stats, style: Style) -> Result<(), Device> {
     let mut out = TextWriter::new(writer);
     for process in stats.processes.iter() {
-        say_process(&mut out, process, style)?;
+        if out.has_failed() {
+            break;
+        }
+        say_process(&mut out, process, style);
     }
     for (pair, messages) in &stats.pairs {
-        say_pair(&mut out, pair, messages, style)?;
+        if out.has_failed() {
+            break;
+        }
+        say_pair(&mut out, pair, messages, style);
     }
     for (label, shape) in &stats.labels {
-        say_label(&mut out, *label, shape, style)?;
+        say_label(&mut out, *label, shape, style);
     }
     out.flush()
 }

@@ -93,14 +93,14 @@ pub fn send_open<N: ByteSink>(
     open: Option<Open>,
 ) -> Result<(), Device> {
     let mut out = TextWriter::new(notes);
-    out.say_part("note: ", kept)?;
-    out.say_part(" of ", total)?;
-    out.say(" events are kept")?;
+    out.say_part("note: ", kept);
+    out.say_part(" of ", total);
+    out.say(" events are kept");
     if let Some(open) = open {
-        out.say_part("; the sends of ", open.receives)?;
-        out.say_part(" receives and the receives of ", open.sends)?;
-        out.say(" sends are cut off")?;
+        out.say_part("; the sends of ", open.receives);
+        out.say_part(" receives and the receives of ", open.sends);
+        out.say(" sends are cut off");
     }
-    out.say("\n")?;
+    out.say("\n");
     out.flush()
 }

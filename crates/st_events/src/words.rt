@@ -30,14 +30,14 @@ pub fn say_counts<W: ByteSink>(
     out: &mut TextWriter<'_, W>,
     style: Style,
     counts: &[(&str, &str, u64)],
-) -> Result<(), Device> {
+) {
     for (name, words, count) in counts {
         match style {
-            Style::Text => out.say_part(words, *count)?,
-            Style::Json => out.say_field(name, *count)?,
+            Style::Text => out.say_part(words, *count),
+            Style::Json => out.say_field(name, *count),
         }
     }
-    out.say(style.end())
+    out.say(style.end());
 }
 
 /// So many blanks as bring the word to the width of the longest.
@@ -50,65 +50,59 @@ fn padding(kind: Kind) -> &'static str {
 }
 
 /// Writes the place of a partner, or that nobody reported it, if that is known.
-fn say_partner<W: ByteSink>(
-    out: &mut TextWriter<'_, W>,
-    partner: Option<Partner>,
-) -> Result<(), Device> {
+fn say_partner<W: ByteSink>(out: &mut TextWriter<'_, W>, partner: Option<Partner>) {
     match partner {
         Some(Partner::Receive(pid, index)) => {
-            out.say(", received as ")?;
-            out.say_place(pid, index)
+            out.say(", received as ");
+            out.say_place(pid, index);
         }
         Some(Partner::Send(pid, index)) => {
-            out.say(", sent as ")?;
-            out.say_place(pid, index)
+            out.say(", sent as ");
+            out.say_place(pid, index);
         }
         Some(Partner::NoReceive) => out.say(", no receive reported"),
         Some(Partner::NoSend) => out.say(", its send wasn't reported"),
-        Some(Partner::Nobody) | None => Ok(()),
+        Some(Partner::Nobody) | None => {}
     }
 }
 
 /// Writes an event for people, with its line and its place.
-pub fn say_row<W: ByteSink>(out: &mut TextWriter<'_, W>, row: &Row) -> Result<(), Device> {
+pub fn say_row<W: ByteSink>(out: &mut TextWriter<'_, W>, row: &Row) {
     let event = &row.event;
-    out.say_number(row.line)?;
-    out.say(": ")?;
-    out.say_place(row.pid, row.index)?;
-    out.say("  ")?;
-    out.say(kind_word(event.kind))?;
-    out.say(padding(event.kind))?;
-    out.say_part(" label ", u64::from(event.label.0))?;
-    out.say(" ")?;
-    out.say_serial(event.serial)?;
-    out.say_part(" value ", event.value)?;
-    out.say_other(event)
+    out.say_number(row.line);
+    out.say(": ");
+    out.say_place(row.pid, row.index);
+    out.say("  ");
+    out.say(kind_word(event.kind));
+    out.say(padding(event.kind));
+    out.say_part(" label ", u64::from(event.label.0));
+    out.say(" ");
+    out.say_serial(event.serial);
+    out.say_part(" value ", event.value);
+    out.say_other(event);
 }
 
 /// Writes the field of a message's partner: its place, or null if nobody reported it.
-fn say_partner_field<W: ByteSink>(
-    out: &mut TextWriter<'_, W>,
-    partner: Option<Partner>,
-) -> Result<(), Device> {
+fn say_partner_field<W: ByteSink>(out: &mut TextWriter<'_, W>, partner: Option<Partner>) {
     match partner {
         Some(Partner::Receive(pid, index) | Partner::Send(pid, index)) => {
-            out.say(",\"partner\":{\"pid\":")?;
-            out.say_pid_word(pid)?;
-            out.say_field("index", index)?;
-            out.say("}")
+            out.say(",\"partner\":{\"pid\":");
+            out.say_pid_word(pid);
+            out.say_field("index", index);
+            out.say("}");
         }
         Some(Partner::NoReceive | Partner::NoSend) => out.say(",\"partner\":null"),
-        Some(Partner::Nobody) | None => Ok(()),
+        Some(Partner::Nobody) | None => {}
     }
 }
 
 /// Writes the fields of an event, with its line and its place.
-pub fn say_row_fields<W: ByteSink>(out: &mut TextWriter<'_, W>, row: &Row) -> Result<(), Device> {
+pub fn say_row_fields<W: ByteSink>(out: &mut TextWriter<'_, W>, row: &Row) {
     let event = &row.event;
-    out.say_part("\"line\":", row.line)?;
-    out.say_pid_field("pid", row.pid)?;
-    out.say_field("index", row.index)?;
-    out.say_event_fields(event)
+    out.say_part("\"line\":", row.line);
+    out.say_pid_field("pid", row.pid);
+    out.say_field("index", row.index);
+    out.say_event_fields(event);
 }
 
 /// Writes a row of a list.
@@ -117,19 +111,19 @@ fn say_listed<W: ByteSink>(
     row: &Row,
     partner: Option<Partner>,
     style: Style,
-) -> Result<(), Device> {
+) {
     match style {
         Style::Text => {
-            say_row(out, row)?;
-            say_partner(out, partner)?;
+            say_row(out, row);
+            say_partner(out, partner);
         }
         Style::Json => {
-            out.say("{")?;
-            say_row_fields(out, row)?;
-            say_partner_field(out, partner)?;
+            out.say("{");
+            say_row_fields(out, row);
+            say_partner_field(out, partner);
         }
     }
-    out.say(style.end())
+    out.say(style.end());
 }
 
 /// Says that the rows have no partners.
@@ -154,7 +148,10 @@ pub fn send_rows<W: ByteSink>(
 ) -> Result<(), Device> {
     let mut out = TextWriter::new(writer);
     for row in rows {
-        say_listed(&mut out, row, partner_of(pairing, row), style)?;
+        if out.has_failed() {
+            break;
+        }
+        say_listed(&mut out, row, partner_of(pairing, row), style);
     }
     out.flush()
 }

@@ -27,38 +27,33 @@ struct Given<'a> {
 }
 
 /// Writes a flag's word if it is set.
-fn say_flag<W: ByteSink>(
-    out: &mut TextWriter<'_, W>,
-    word: &str,
-    is_set: bool,
-) -> Result<(), Device> {
+fn say_flag<W: ByteSink>(out: &mut TextWriter<'_, W>, word: &str, is_set: bool) {
     if is_set {
-        out.say(word)?;
+        out.say(word);
     }
-    Ok(())
 }
 
 /// Writes a token.
-fn say_token<W: ByteSink>(out: &mut TextWriter<'_, W>, token: Option<Token>) -> Result<(), Device> {
+fn say_token<W: ByteSink>(out: &mut TextWriter<'_, W>, token: Option<Token>) {
     let Some(token) = token else {
-        return out.say("none");
+        out.say("none");
+        return;
     };
-    out.say_part("label ", u64::from(token.label.0))?;
-    out.say(", flags")?;
-    say_flag(out, " send", token.flags.send)?;
-    say_flag(out, " receive", token.flags.receive)?;
-    say_flag(out, " print", token.flags.print)?;
-    out.say(", serial ")?;
-    out.say_serial(token.serial)?;
-    out.say(", from ")?;
-    out.say_pid(token.from)
+    out.say_part("label ", u64::from(token.label.0));
+    out.say(", flags");
+    say_flag(out, " send", token.flags.send);
+    say_flag(out, " receive", token.flags.receive);
+    say_flag(out, " print", token.flags.print);
+    out.say(", serial ");
+    out.say_serial(token.serial);
+    out.say(", from ");
+    out.say_pid(token.from);
 }
 
 /// Writes the line of an event or an act behind what names it, if it has one.
-fn say_line<W: ByteSink>(out: &mut TextWriter<'_, W>, line: Option<u64>) -> Result<(), Device> {
-    match line {
-        Some(line) => { out.say_part(", line ", line) }
-        None => Ok(()),
+fn say_line<W: ByteSink>(out: &mut TextWriter<'_, W>, line: Option<u64>) {
+    if let Some(line) = line {
+        out.say_part(", line ", line);
     }
 }
 
@@ -69,22 +64,22 @@ fn say_message<W: ByteSink>(
     place: u64,
     message: Sent,
     is_due: bool,
-) -> Result<(), Device> {
-    out.say_part("    place ", place)?;
+) {
+    out.say_part("    place ", place);
     if let Some(Act::Send(from, _, value)) = given.acts.get(message.act as usize) {
-        out.say_part(": ", *value)?;
-        out.say(" from ")?;
-        out.say_pid(*from)?;
+        out.say_part(": ", *value);
+        out.say(" from ");
+        out.say_pid(*from);
     }
     let count = message.count();
     if count > 0 {
-        out.say_part(", count ", count)?;
+        out.say_part(", count ", count);
     } else {
-        out.say(", without a token")?;
+        out.say(", without a token");
     }
-    out.say_part(", sent by act ", message.act)?;
-    say_line(out, given.numbers.act_line(message.act))?;
-    out.say(if is_due { ": this one is due\n" } else { "\n" })
+    out.say_part(", sent by act ", message.act);
+    say_line(out, given.numbers.act_line(message.act));
+    out.say(if is_due { ": this one is due\n" } else { "\n" });
 }
 
 /// Writes the messages that wait at places from `first` up to `end` of the queue. Each is due whose
@@ -96,16 +91,15 @@ fn say_messages<W: ByteSink>(
     due: Option<&Event>,
     first: u64,
     end: u64,
-) -> Result<(), Device> {
+) {
     for place in first..end {
         if let Some(message) = rerun.queue.message(place) {
             let is_due = due.is_some_and(|event| {
                 fit_of(&message, given.acts, event) == Fit::Exact
             });
-            say_message(out, given, place, message, is_due)?;
+            say_message(out, given, place, message, is_due);
         }
     }
-    Ok(())
 }
 
 /// Writes the queue of a process: its first messages, and if this event is a receive, the message
@@ -116,12 +110,12 @@ fn say_queue<W: ByteSink>(
     rerun: &Rerun,
     is_traced: bool,
     event: Option<Event>,
-) -> Result<(), Device> {
+) {
     let count = rerun.queue.len();
-    out.say_count("  messages in its queue ", count)?;
+    out.say_count("  messages in its queue ", count);
     let receive = event.filter(|event| event.kind == Kind::Receive);
     let due = receive.filter(|_| is_traced);
-    say_messages(out, given, rerun, due.as_ref(), 0, count.min(SHOWN))?;
+    say_messages(out, given, rerun, due.as_ref(), 0, count.min(SHOWN));
     let more = count.saturating_sub(SHOWN);
     let Some(event) = receive else {
         return say_more(out, more);
@@ -130,89 +124,80 @@ fn say_queue<W: ByteSink>(
     match nearest(&found) {
         Some(place) if place >= SHOWN => {
             let behind = place.saturating_add(1);
-            say_messages(out, given, rerun, due.as_ref(), place, behind)?;
-            say_more(out, more.saturating_sub(1))?;
+            say_messages(out, given, rerun, due.as_ref(), place, behind);
+            say_more(out, more.saturating_sub(1));
         }
-        _ => say_more(out, more)?,
+        _ => say_more(out, more),
     }
     match &found {
-        Ok(_) => Ok(()),
+        Ok(_) => {}
         Err(missing) => {
-            out.say("    ")?;
-            say_missing(out, missing)?;
-            out.say("\n")
+            out.say("    ");
+            say_missing(out, missing);
+            out.say("\n");
         }
     }
 }
 
 /// Writes how many more messages wait, if some do.
-fn say_more<W: ByteSink>(out: &mut TextWriter<'_, W>, count: u64) -> Result<(), Device> {
+fn say_more<W: ByteSink>(out: &mut TextWriter<'_, W>, count: u64) {
     if count == 0 {
-        return Ok(());
+        return;
     }
-    out.say_part("    and ", count)?;
-    out.say(" more\n")
+    out.say_part("    and ", count);
+    out.say(" more\n");
 }
 
 /// Writes the state of a process, which is in the world: the reader takes no act of another.
-fn say_state<W: ByteSink>(
-    out: &mut TextWriter<'_, W>,
-    given: &Given<'_>,
-    rerun: &Rerun,
-    pid: Pid,
-) -> Result<(), Device> {
-    out.say("state of ")?;
-    out.say_pid(pid)?;
+fn say_state<W: ByteSink>(out: &mut TextWriter<'_, W>, given: &Given<'_>, rerun: &Rerun, pid: Pid) {
+    out.say("state of ");
+    out.say_pid(pid);
     let Some(local) = rerun.world.local(pid) else {
-        return out.say("\n");
+        out.say("\n");
+        return;
     };
-    out.say("\n  token ")?;
-    say_token(out, local.token())?;
-    out.say("\n")?;
-    out.say_count("  clock ", local.clock())?;
-    out.say_count("  last ", local.last())?;
+    out.say("\n  token ");
+    say_token(out, local.token());
+    out.say("\n");
+    out.say_count("  clock ", local.clock());
+    out.say_count("  last ", local.last());
     if !local.traced() {
-        out.say("  no tracer on its node\n")?;
+        out.say("  no tracer on its node\n");
     }
     let event = rerun.due(given.streams, pid);
-    say_queue(out, given, rerun, local.traced(), event)
+    say_queue(out, given, rerun, local.traced(), event);
 }
 
 /// Writes the event that is due from a process.
-fn say_due<W: ByteSink>(
-    out: &mut TextWriter<'_, W>,
-    given: &Given<'_>,
-    rerun: &Rerun,
-    pid: Pid,
-) -> Result<(), Device> {
+fn say_due<W: ByteSink>(out: &mut TextWriter<'_, W>, given: &Given<'_>, rerun: &Rerun, pid: Pid) {
     let next = rerun.next_index(given.streams, pid);
     match given.streams.event(pid, next) {
         Some(event) => {
-            out.say_part("due: event ", next)?;
-            out.say(" of ")?;
-            out.say_pid(pid)?;
-            say_line(out, given.numbers.line(pid, next))?;
-            out.say("\n  ")?;
-            out.say_event(&event)?;
+            out.say_part("due: event ", next);
+            out.say(" of ");
+            out.say_pid(pid);
+            say_line(out, given.numbers.line(pid, next));
+            out.say("\n  ");
+            out.say_event(&event);
         }
         None => {
-            out.say("due: nothing, all events of ")?;
-            out.say_pid(pid)?;
-            out.say(" are reported")?;
+            out.say("due: nothing, all events of ");
+            out.say_pid(pid);
+            out.say(" are reported");
         }
     }
-    out.say("\n")
+    out.say("\n");
 }
 
 /// Writes what came of an act.
-fn say_came<W: ByteSink>(out: &mut TextWriter<'_, W>, came: &Came) -> Result<(), Device> {
+fn say_came<W: ByteSink>(out: &mut TextWriter<'_, W>, came: &Came) {
     match came {
         Came::Stuck => out.say("came: no step\n"),
         Came::Step(None) => out.say("came: no report\n"),
         Came::Step(Some(event)) => {
-            out.say("came:\n  ")?;
-            out.say_event(event)?;
-            out.say("\n")
+            out.say("came:\n  ");
+            out.say_event(event);
+            out.say("\n");
         }
     }
 }
@@ -228,30 +213,26 @@ fn send_difference<W: ByteSink>(
     came: &Came,
 ) -> Result<(), Device> {
     let mut out = TextWriter::new(writer);
-    out.say_part("act ", number)?;
-    say_line(&mut out, given.numbers.act_line(number))?;
-    out.say(": ")?;
-    out.say_act(act)?;
-    out.say("\n")?;
-    say_due(&mut out, given, rerun, act.actor())?;
-    say_came(&mut out, came)?;
-    say_state(&mut out, given, rerun, act.actor())?;
+    out.say_part("act ", number);
+    say_line(&mut out, given.numbers.act_line(number));
+    out.say(": ");
+    out.say_act(act);
+    out.say("\n");
+    say_due(&mut out, given, rerun, act.actor());
+    say_came(&mut out, came);
+    say_state(&mut out, given, rerun, act.actor());
     out.flush()
 }
 
 /// Writes what an act would report if it doesn't report what is due.
-fn say_tried<W: ByteSink>(
-    out: &mut TextWriter<'_, W>,
-    act: &Act,
-    came: &Came,
-) -> Result<(), Device> {
-    out.say("  ")?;
-    out.say_act(act)?;
+fn say_tried<W: ByteSink>(out: &mut TextWriter<'_, W>, act: &Act, came: &Came) {
+    out.say("  ");
+    out.say_act(act);
     match came {
         Came::Step(Some(other)) => {
-            out.say(" would report ")?;
-            out.say_event(other)?;
-            out.say("\n")
+            out.say(" would report ");
+            out.say_event(other);
+            out.say("\n");
         }
         Came::Step(None) | Came::Stuck => out.say(" would report nothing\n"),
     }
@@ -266,26 +247,26 @@ fn say_next<W: ByteSink>(
     pid: Pid,
     event: &Event,
     tried: Option<(Act, Came)>,
-) -> Result<(), Device> {
-    out.say("next: ")?;
+) {
+    out.say("next: ");
     if let Some((act, came)) = &tried {
         if *came == Came::Step(Some(*event)) {
-            out.say_act(act)?;
-            return out.say(" would report it\n");
+            out.say_act(act);
+            out.say(" would report it\n");
+            return;
         }
     }
-    out.say("no single act would report it")?;
+    out.say("no single act would report it");
     if let Some(local) = rerun.world.local(pid) {
         let missing = match event.kind {
             Kind::Receive => rerun.find(given.acts, event).err(),
             Kind::Send | Kind::Print => None,
         };
-        say_reasons(out, &reasons(&local, event, missing))?;
+        say_reasons(out, &reasons(&local, event, missing));
     }
-    out.say("\n")?;
-    match &tried {
-        Some((act, came)) => say_tried(out, act, came),
-        None => Ok(()),
+    out.say("\n");
+    if let Some((act, came)) = &tried {
+        say_tried(out, act, came);
     }
 }
 
@@ -299,13 +280,13 @@ fn send_left<W: ByteSink>(
     tried: Option<(Act, Came)>,
 ) -> Result<(), Device> {
     let mut out = TextWriter::new(writer);
-    out.say("the acts end, and ")?;
-    out.say_pid(pid)?;
-    out.say(" has events left\n")?;
-    say_due(&mut out, given, rerun, pid)?;
-    say_state(&mut out, given, rerun, pid)?;
+    out.say("the acts end, and ");
+    out.say_pid(pid);
+    out.say(" has events left\n");
+    say_due(&mut out, given, rerun, pid);
+    say_state(&mut out, given, rerun, pid);
     if let Some(event) = rerun.due(given.streams, pid) {
-        say_next(&mut out, given, rerun, pid, &event, tried)?;
+        say_next(&mut out, given, rerun, pid, &event, tried);
     }
     out.flush()
 }

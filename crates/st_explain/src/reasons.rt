@@ -4,7 +4,6 @@ use crate::due::{Differences, Missing};
 use st_commands::TOP;
 use st_core::{ByteSink, Event, Kind, Local};
 use st_say::{TextWriter, kind_word};
-use st_text::Device;
 
 /// A reason why no single act would report an event.
 #[derive(Clone, Copy, PartialEq, Eq)]
@@ -32,40 +31,33 @@ fn say_joined<W: ByteSink>(
     joint: &'static str,
     words: &str,
     is_so: bool,
-) -> Result<&'static str, Device> {
+) -> &'static str {
     if !is_so {
-        return Ok(joint);
+        return joint;
     }
-    out.say(joint)?;
-    out.say(words)?;
-    Ok(" and ")
+    out.say(joint);
+    out.say(words);
+    " and "
 }
 
 /// Writes in what a message differs.
-fn say_differences<W: ByteSink>(
-    out: &mut TextWriter<'_, W>,
-    differences: &Differences,
-) -> Result<(), Device> {
-    let joint = say_joined(out, ", but ", "with another value", differences.value)?;
-    let joint = say_joined(out, joint, "with another label", differences.label)?;
-    let joint = say_joined(out, joint, "with another prev", differences.prev)?;
-    let _ = say_joined(out, joint, "without the flag receive", differences.flag)?;
-    Ok(())
+fn say_differences<W: ByteSink>(out: &mut TextWriter<'_, W>, differences: &Differences) {
+    let joint = say_joined(out, ", but ", "with another value", differences.value);
+    let joint = say_joined(out, joint, "with another label", differences.label);
+    let joint = say_joined(out, joint, "with another prev", differences.prev);
+    let _ = say_joined(out, joint, "without the flag receive", differences.flag);
 }
 
 /// Writes why no message that waits is due.
-pub(crate) fn say_missing<W: ByteSink>(
-    out: &mut TextWriter<'_, W>,
-    missing: &Missing,
-) -> Result<(), Device> {
+pub(crate) fn say_missing<W: ByteSink>(out: &mut TextWriter<'_, W>, missing: &Missing) {
     match missing {
         Missing::Wiped(place) => {
-            out.say_part("the message that is due waits at place ", *place)?;
-            out.say(", but a reset took its token")
+            out.say_part("the message that is due waits at place ", *place);
+            out.say(", but a reset took its token");
         }
         Missing::Differs(place, differences) => {
-            out.say_part("a message of this sender and count waits at place ", *place)?;
-            say_differences(out, differences)
+            out.say_part("a message of this sender and count waits at place ", *place);
+            say_differences(out, differences);
         }
         Missing::Several => out.say(
             "several messages of this sender and count wait, but none fits",
@@ -75,14 +67,14 @@ pub(crate) fn say_missing<W: ByteSink>(
 }
 
 /// Writes a reason.
-fn say_reason<W: ByteSink>(out: &mut TextWriter<'_, W>, reason: &Reason) -> Result<(), Device> {
+fn say_reason<W: ByteSink>(out: &mut TextWriter<'_, W>, reason: &Reason) {
     match reason {
         Reason::NoTracer => out.say("no tracer is set on its node"),
         Reason::NoToken => out.say("its process has no token"),
         Reason::Label => out.say("its token has another label"),
         Reason::Flag(kind) => {
-            out.say("its token has no flag ")?;
-            out.say(kind_word(*kind))
+            out.say("its token has no flag ");
+            out.say(kind_word(*kind));
         }
         Reason::Clock(clock) => out.say_part("its clock is at ", *clock),
         Reason::Last(last) => out.say_part("its last count is ", *last),
@@ -91,19 +83,15 @@ fn say_reason<W: ByteSink>(out: &mut TextWriter<'_, W>, reason: &Reason) -> Resu
 }
 
 /// Writes these reasons.
-pub(crate) fn say_reasons<W: ByteSink>(
-    out: &mut TextWriter<'_, W>,
-    reasons: &[Option<Reason>],
-) -> Result<(), Device> {
+pub(crate) fn say_reasons<W: ByteSink>(out: &mut TextWriter<'_, W>, reasons: &[Option<Reason>]) {
     let mut joint = ", since ";
     for reason in reasons {
         if let Some(reason) = reason {
-            out.say(joint)?;
-            say_reason(out, reason)?;
+            out.say(joint);
+            say_reason(out, reason);
             joint = ", and ";
         }
     }
-    Ok(())
 }
 
 /// What keeps a process in this state from stamping its token so that this send or print is

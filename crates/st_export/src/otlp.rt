@@ -75,17 +75,13 @@ fn hex_digit(number: u8) -> u8 {
 }
 
 /// Writes so many bytes of a digest in hexadecimal digits, as a string.
-fn say_name_of<W: ByteSink>(
-    out: &mut TextWriter<'_, W>,
-    digest: Sha256,
-    count: usize,
-) -> Result<(), Device> {
+fn say_name_of<W: ByteSink>(out: &mut TextWriter<'_, W>, digest: Sha256, count: usize) {
     let bytes = digest.finalize();
-    out.say("\"")?;
+    out.say("\"");
     for byte in bytes.iter().take(count) {
-        out.say_bytes(&[hex_digit(*byte / 16), hex_digit(*byte % 16)])?;
+        out.say_bytes(&[hex_digit(*byte / 16), hex_digit(*byte % 16)]);
     }
-    out.say("\"")
+    out.say("\"");
 }
 
 /// What an attribute has.
@@ -100,65 +96,60 @@ enum Value {
 }
 
 /// Writes a value behind the name of its kind.
-fn say_value<W: ByteSink>(out: &mut TextWriter<'_, W>, value: Value) -> Result<(), Device> {
+fn say_value<W: ByteSink>(out: &mut TextWriter<'_, W>, value: Value) {
     match value {
         Value::Pid(pid) => {
-            out.say("\"stringValue\":")?;
-            out.say_pid_word(pid)
+            out.say("\"stringValue\":");
+            out.say_pid_word(pid);
         }
         Value::Number(number) => {
-            out.say_part("\"stringValue\":\"", number)?;
-            out.say("\"")
+            out.say_part("\"stringValue\":\"", number);
+            out.say("\"");
         }
         Value::Bool(value) => {
-            out.say("\"boolValue\":")?;
-            out.say_bool(value)
+            out.say("\"boolValue\":");
+            out.say_bool(value);
         }
         Value::Place(pid, index) => {
-            out.say("\"stringValue\":\"")?;
-            out.say_place(pid, index)?;
-            out.say("\"")
+            out.say("\"stringValue\":\"");
+            out.say_place(pid, index);
+            out.say("\"");
         }
     }
 }
 
 /// Writes an attribute behind this mark.
-fn say_attribute<W: ByteSink>(
-    out: &mut TextWriter<'_, W>,
-    mark: &str,
-    key: &str,
-    value: Value,
-) -> Result<(), Device> {
-    out.say(mark)?;
-    out.say("{\"key\":")?;
-    out.say_word(key)?;
-    out.say(",\"value\":{")?;
-    say_value(out, value)?;
-    out.say("}}")
+fn say_attribute<W: ByteSink>(out: &mut TextWriter<'_, W>, mark: &str, key: &str, value: Value) {
+    out.say(mark);
+    out.say("{\"key\":");
+    out.say_word(key);
+    out.say(",\"value\":{");
+    say_value(out, value);
+    out.say("}}");
 }
 
 /// Writes a field that has a time.
-fn say_time<W: ByteSink>(out: &mut TextWriter<'_, W>, name: &str, time: u64) -> Result<(), Device> {
-    out.say_name(name)?;
-    out.say_part("\"", time)?;
-    out.say("\"")
+fn say_time<W: ByteSink>(out: &mut TextWriter<'_, W>, name: &str, time: u64) {
+    out.say_name(name);
+    out.say_part("\"", time);
+    out.say("\"");
 }
 
 /// Writes what is sent to whom, or printed.
-fn say_title<W: ByteSink>(out: &mut TextWriter<'_, W>, event: &Event) -> Result<(), Device> {
-    out.say_name("name")?;
-    out.say("\"")?;
-    out.say_pid(event.from)?;
+fn say_title<W: ByteSink>(out: &mut TextWriter<'_, W>, event: &Event) {
+    out.say_name("name");
+    out.say("\"");
+    out.say_pid(event.from);
     match event.to {
         Some(to) => {
-            out.say(" -> ")?;
-            out.say_pid(to)?;
-            out.say(": ")?;
+            out.say(" -> ");
+            out.say_pid(to);
+            out.say(": ");
         }
-        None => out.say(" prints ")?,
+        None => out.say(" prints "),
     }
-    out.say_number(event.value)?;
-    out.say("\"")
+    out.say_number(event.value);
+    out.say("\"");
 }
 
 impl<'a> Spans<'a> {
@@ -251,83 +242,66 @@ impl<'a> Spans<'a> {
     }
 
     /// Writes the names of the trace and of a span.
-    fn say_names<W: ByteSink>(
-        &self,
-        out: &mut TextWriter<'_, W>,
-        span: &Span,
-    ) -> Result<(), Device> {
-        out.say("{\"traceId\":")?;
+    fn say_names<W: ByteSink>(&self, out: &mut TextWriter<'_, W>, span: &Span) {
+        out.say("{\"traceId\":");
         let trace = self.trace_digest(span.event.label);
-        say_name_of(out, trace, TRACE_BYTES)?;
-        out.say_name("spanId")?;
-        say_name_of(out, self.span_digest(span.origin), SPAN_BYTES)
+        say_name_of(out, trace, TRACE_BYTES);
+        out.say_name("spanId");
+        say_name_of(out, self.span_digest(span.origin), SPAN_BYTES);
     }
 
     /// Writes the span that a span is below, or with which it is linked if that is of another label.
-    fn say_parent<W: ByteSink>(
-        &self,
-        out: &mut TextWriter<'_, W>,
-        span: &Span,
-    ) -> Result<(), Device> {
+    fn say_parent<W: ByteSink>(&self, out: &mut TextWriter<'_, W>, span: &Span) {
         let Some(parent) = self.parent(span) else {
-            return Ok(());
+            return;
         };
         if parent.event.label.0 == span.event.label.0 {
-            out.say_name("parentSpanId")?;
+            out.say_name("parentSpanId");
             return say_name_of(out, self.span_digest(parent.origin), SPAN_BYTES);
         }
-        out.say_name("links")?;
-        out.say("[")?;
-        self.say_names(out, &parent)?;
-        out.say("}]")
+        out.say_name("links");
+        out.say("[");
+        self.say_names(out, &parent);
+        out.say("}]");
     }
 
     /// Writes what else the trace tells of a span.
-    fn say_attributes<W: ByteSink>(
-        &self,
-        out: &mut TextWriter<'_, W>,
-        span: &Span,
-    ) -> Result<(), Device> {
+    fn say_attributes<W: ByteSink>(&self, out: &mut TextWriter<'_, W>, span: &Span) {
         let event = &span.event;
         let (is_sent, (pid, index)) = match span.origin {
             Origin::Event(pid, index) => (true, (pid, index)),
             Origin::Hidden(pid, index) => (false, (pid, index)),
         };
-        out.say_name("attributes")?;
-        say_attribute(out, "[", "erlang.from", Value::Pid(event.from))?;
+        out.say_name("attributes");
+        say_attribute(out, "[", "erlang.from", Value::Pid(event.from));
         if let Some(to) = event.to {
             let is_received = span.receive.is_some();
-            say_attribute(out, ",", "erlang.to", Value::Pid(to))?;
-            say_attribute(out, ",", "seqaudit.send_reported", Value::Bool(is_sent))?;
+            say_attribute(out, ",", "erlang.to", Value::Pid(to));
+            say_attribute(out, ",", "seqaudit.send_reported", Value::Bool(is_sent));
             say_attribute(
                 out,
                 ",",
                 "seqaudit.receive_reported",
                 Value::Bool(is_received),
-            )?;
+            );
         }
-        say_attribute(out, ",", "erlang.message", Value::Number(event.value))?;
+        say_attribute(out, ",", "erlang.message", Value::Number(event.value));
         let label = u64::from(event.label.0);
-        say_attribute(out, ",", "erlang.label", Value::Number(label))?;
-        say_attribute(out, ",", "seqaudit.event", Value::Place(pid, index))?;
-        out.say("]")
+        say_attribute(out, ",", "erlang.label", Value::Number(label));
+        say_attribute(out, ",", "seqaudit.event", Value::Place(pid, index));
+        out.say("]");
     }
 
     /// Writes a span with these times.
-    fn say_span<W: ByteSink>(
-        &self,
-        out: &mut TextWriter<'_, W>,
-        span: &Span,
-        times: (u64, u64),
-    ) -> Result<(), Device> {
-        self.say_names(out, span)?;
-        self.say_parent(out, span)?;
-        out.say(",\"kind\":1")?;
-        say_title(out, &span.event)?;
-        say_time(out, "startTimeUnixNano", times.0)?;
-        say_time(out, "endTimeUnixNano", times.1)?;
-        self.say_attributes(out, span)?;
-        out.say("}")
+    fn say_span<W: ByteSink>(&self, out: &mut TextWriter<'_, W>, span: &Span, times: (u64, u64)) {
+        self.say_names(out, span);
+        self.say_parent(out, span);
+        out.say(",\"kind\":1");
+        say_title(out, &span.event);
+        say_time(out, "startTimeUnixNano", times.0);
+        say_time(out, "endTimeUnixNano", times.1);
+        self.say_attributes(out, span);
+        out.say("}");
     }
 
     /// Writes the spans that the events of a process begin, and says whether there are some before.
@@ -336,28 +310,31 @@ impl<'a> Spans<'a> {
         out: &mut TextWriter<'_, W>,
         pid: Pid,
         mut is_first: bool,
-    ) -> Result<bool, Device> {
+    ) -> bool {
         for (index, event) in self.streams.events(pid).iter().enumerate() {
             if let Some((span, times)) = self.timed_at(pid, index as u64, event) {
                 if !is_first {
-                    out.say(",")?;
+                    out.say(",");
                 }
-                self.say_span(out, &span, times)?;
+                self.say_span(out, &span, times);
                 is_first = false;
             }
         }
-        Ok(is_first)
+        is_first
     }
 
     /// Sends all spans.
     fn send<W: ByteSink>(&self, writer: &mut W) -> Result<(), Device> {
         let mut out = TextWriter::new(writer);
         let mut is_first = true;
-        out.say(HEAD)?;
+        out.say(HEAD);
         for pid in self.streams.pids() {
-            is_first = self.say_process(&mut out, *pid, is_first)?;
+            if out.has_failed() {
+                break;
+            }
+            is_first = self.say_process(&mut out, *pid, is_first);
         }
-        out.say(TAIL)?;
+        out.say(TAIL);
         out.flush()
     }
 }

@@ -26,60 +26,47 @@ struct Export<'a> {
 }
 
 /// Writes the beginning of a trace event of this kind, on the thread of this number.
-fn say_start<W: ByteSink>(
-    out: &mut TextWriter<'_, W>,
-    phase: &str,
-    thread: u64,
-) -> Result<(), Device> {
-    out.say(",\n{\"ph\":\"")?;
-    out.say(phase)?;
-    out.say("\",\"pid\":1")?;
-    out.say_field("tid", thread)
+fn say_start<W: ByteSink>(out: &mut TextWriter<'_, W>, phase: &str, thread: u64) {
+    out.say(",\n{\"ph\":\"");
+    out.say(phase);
+    out.say("\",\"pid\":1");
+    out.say_field("tid", thread);
 }
 
 /// Writes the name of a thread, which is the pid of its process, and where it is.
-fn say_thread<W: ByteSink>(
-    out: &mut TextWriter<'_, W>,
-    thread: u64,
-    pid: Pid,
-) -> Result<(), Device> {
-    say_start(out, "M", thread)?;
-    out.say(",\"name\":\"thread_name\",\"args\":{\"name\":")?;
-    out.say_pid_word(pid)?;
-    out.say("}}")?;
-    say_start(out, "M", thread)?;
+fn say_thread<W: ByteSink>(out: &mut TextWriter<'_, W>, thread: u64, pid: Pid) {
+    say_start(out, "M", thread);
+    out.say(",\"name\":\"thread_name\",\"args\":{\"name\":");
+    out.say_pid_word(pid);
+    out.say("}}");
+    say_start(out, "M", thread);
     out.say_part(
         ",\"name\":\"thread_sort_index\",\"args\":{\"sort_index\":",
         thread,
-    )?;
-    out.say("}}")
+    );
+    out.say("}}");
 }
 
 /// Writes what the trace tells of an event. A count or a value may be greater than what a reader of
 /// JSON keeps of a number, so these are strings.
-fn say_args<W: ByteSink>(
-    out: &mut TextWriter<'_, W>,
-    index: u64,
-    event: &Event,
-    partner: Partner,
-) -> Result<(), Device> {
-    out.say_name("args")?;
-    out.say_part("{\"index\":", index)?;
-    out.say_field("label", u64::from(event.label.0))?;
-    out.say(",\"serial\":\"")?;
-    out.say_serial(event.serial)?;
-    out.say_part("\",\"value\":\"", event.value)?;
-    out.say("\"")?;
+fn say_args<W: ByteSink>(out: &mut TextWriter<'_, W>, index: u64, event: &Event, partner: Partner) {
+    out.say_name("args");
+    out.say_part("{\"index\":", index);
+    out.say_field("label", u64::from(event.label.0));
+    out.say(",\"serial\":\"");
+    out.say_serial(event.serial);
+    out.say_part("\",\"value\":\"", event.value);
+    out.say("\"");
     if let Some(to) = event.to {
-        out.say_pid_field("from", event.from)?;
-        out.say_pid_field("to", to)?;
+        out.say_pid_field("from", event.from);
+        out.say_pid_field("to", to);
     }
     match partner {
-        Partner::NoReceive => out.say_word_field("receive", "not reported")?,
-        Partner::NoSend => out.say_word_field("send", "not reported")?,
+        Partner::NoReceive => out.say_word_field("receive", "not reported"),
+        Partner::NoSend => out.say_word_field("send", "not reported"),
         Partner::Nobody | Partner::Receive(..) | Partner::Send(..) => {}
     }
-    out.say("}}")
+    out.say("}}");
 }
 
 /// Writes the slice of an event.
@@ -90,17 +77,17 @@ fn say_slice<W: ByteSink>(
     index: u64,
     event: &Event,
     partner: Partner,
-) -> Result<(), Device> {
-    say_start(out, "X", thread)?;
-    out.say_field("ts", time)?;
-    out.say(DURATION)?;
-    out.say_word_field("cat", kind_word(event.kind))?;
-    out.say_name("name")?;
-    out.say("\"")?;
-    out.say(kind_word(event.kind))?;
-    out.say_part(" ", event.value)?;
-    out.say("\"")?;
-    say_args(out, index, event, partner)
+) {
+    say_start(out, "X", thread);
+    out.say_field("ts", time);
+    out.say(DURATION);
+    out.say_word_field("cat", kind_word(event.kind));
+    out.say_name("name");
+    out.say("\"");
+    out.say(kind_word(event.kind));
+    out.say_part(" ", event.value);
+    out.say("\"");
+    say_args(out, index, event, partner);
 }
 
 /// Writes an end of a message's flow, which has the number of its send.
@@ -110,15 +97,15 @@ fn say_flow<W: ByteSink>(
     thread: u64,
     time: u64,
     number: usize,
-) -> Result<(), Device> {
-    say_start(out, phase, thread)?;
-    out.say_field("ts", time)?;
-    out.say_field("id", number as u64)?;
-    out.say_word_field("cat", "message")?;
-    out.say_word_field("name", "message")?;
+) {
+    say_start(out, phase, thread);
+    out.say_field("ts", time);
+    out.say_field("id", number as u64);
+    out.say_word_field("cat", "message");
+    out.say_word_field("name", "message");
     // The end binds to the slice that is open at its time, as the start does.
-    out.say_word_field("bp", "e")?;
-    out.say("}")
+    out.say_word_field("bp", "e");
+    out.say("}");
 }
 
 impl<'a> Export<'a> {
@@ -130,35 +117,29 @@ impl<'a> Export<'a> {
         pid: Pid,
         index: u64,
         event: &Event,
-    ) -> Result<(), Device> {
+    ) {
         let partner = partner_at(self.pairing, pid, index, event.kind);
         let time = self.times.time(pid, index);
-        say_slice(out, thread, time, index, event, partner)?;
+        say_slice(out, thread, time, index, event, partner);
         match partner {
-            Partner::Nobody | Partner::NoReceive | Partner::NoSend => Ok(()),
+            Partner::Nobody | Partner::NoReceive | Partner::NoSend => {}
             Partner::Receive(..) => {
                 let number = self.times.number(pid, index);
-                say_flow(out, "s", thread, time, number)
+                say_flow(out, "s", thread, time, number);
             }
             Partner::Send(from, sent) => {
                 let number = self.times.number(from, sent);
-                say_flow(out, "f", thread, time, number)
+                say_flow(out, "f", thread, time, number);
             }
         }
     }
 
     /// Writes a process and its events.
-    fn say_process<W: ByteSink>(
-        &self,
-        out: &mut TextWriter<'_, W>,
-        thread: u64,
-        pid: Pid,
-    ) -> Result<(), Device> {
-        say_thread(out, thread, pid)?;
+    fn say_process<W: ByteSink>(&self, out: &mut TextWriter<'_, W>, thread: u64, pid: Pid) {
+        say_thread(out, thread, pid);
         for (index, event) in self.streams.events(pid).iter().enumerate() {
-            self.say_event(out, thread, pid, index as u64, event)?;
+            self.say_event(out, thread, pid, index as u64, event);
         }
-        Ok(())
     }
 }
 
@@ -175,12 +156,15 @@ pub(crate) fn send_perfetto<'a, W: ByteSink>(
         pairing,
         times,
     };
-    out.say(HEAD)?;
+    out.say(HEAD);
     let mut thread: u64 = 0;
     for pid in streams.pids() {
+        if out.has_failed() {
+            break;
+        }
         thread = thread.saturating_add(1);
-        export.say_process(&mut out, thread, *pid)?;
+        export.say_process(&mut out, thread, *pid);
     }
-    out.say("\n]}\n")?;
+    out.say("\n]}\n");
     out.flush()
 }

@@ -14,39 +14,28 @@ use std::alloc::{AllocError, Global};
 /// The status of a log that would be too long.
 const LONG: u8 = 5;
 
-/// Why a log breaks off.
-#[derive(Clone, Copy)]
-enum Broken {
-    Memory,
-    Device,
-}
-
 /// Writes a clock as an object with a field for each process that it counts.
-fn say_clock<W: ByteSink>(
-    out: &mut TextWriter<'_, W>,
-    streams: &Streams,
-    clock: &Clock,
-) -> Result<(), Device> {
+fn say_clock<W: ByteSink>(out: &mut TextWriter<'_, W>, streams: &Streams, clock: &Clock) {
     let mut is_first = true;
     for (place, count) in clock {
         if let Some(pid) = streams.pids().get(*place) {
-            out.say(if is_first { "{" } else { "," })?;
-            out.say_pid_word(*pid)?;
-            out.say_part(":", *count)?;
+            out.say(if is_first { "{" } else { "," });
+            out.say_pid_word(*pid);
+            out.say_part(":", *count);
             is_first = false;
         }
     }
-    out.say("}")
+    out.say("}");
 }
 
 /// Writes what an event is.
-fn say_words<W: ByteSink>(out: &mut TextWriter<'_, W>, event: &Event) -> Result<(), Device> {
-    out.say(kind_word(event.kind))?;
-    out.say_part(" ", event.value)?;
-    out.say(" ")?;
-    out.say_serial(event.serial)?;
-    out.say_part(" label ", u64::from(event.label.0))?;
-    out.say_other(event)
+fn say_words<W: ByteSink>(out: &mut TextWriter<'_, W>, event: &Event) {
+    out.say(kind_word(event.kind));
+    out.say_part(" ", event.value);
+    out.say(" ");
+    out.say_serial(event.serial);
+    out.say_part(" label ", u64::from(event.label.0));
+    out.say_other(event);
 }
 
 /// Writes the two lines of an event, whose process has this clock then.
@@ -56,13 +45,13 @@ fn say_lines<W: ByteSink>(
     pid: Pid,
     event: &Event,
     clock: &Clock,
-) -> Result<(), Device> {
-    say_words(out, event)?;
-    out.say("\n")?;
-    out.say_pid(pid)?;
-    out.say(" ")?;
-    say_clock(out, streams, clock)?;
-    out.say("\n")
+) {
+    say_words(out, event);
+    out.say("\n");
+    out.say_pid(pid);
+    out.say(" ");
+    say_clock(out, streams, clock);
+    out.say("\n");
 }
 
 /// Takes an event and writes its lines.
@@ -73,20 +62,15 @@ fn write_event<W: ByteSink>(
     clocks: &mut Clocks,
     pid: Pid,
     index: u64,
-) -> Result<(), Broken> {
+) -> Result<(), AllocError> {
     let (Some(place), Some(event)) = (streams.place_of(pid), streams.event(pid, index)) else {
         return Ok(());
     };
-    if clocks.take(pairing, place, pid, index, event.kind).is_err() {
-        return Err(Broken::Memory);
+    clocks.take(pairing, place, pid, index, event.kind)?;
+    if let Some(clock) = clocks.of(place) {
+        say_lines(out, streams, pid, &event, clock);
     }
-    let Some(clock) = clocks.of(place) else {
-        return Ok(());
-    };
-    match say_lines(out, streams, pid, &event, clock) {
-        Ok(()) => Ok(()),
-        Err(Device) => Err(Broken::Device),
-    }
+    Ok(())
 }
 
 /// Writes the lines of all events, in the order of their items.
@@ -96,16 +80,16 @@ fn write_log<W: ByteSink>(
     pairing: &Pairing,
     clocks: &mut Clocks,
     items: &[Item],
-) -> Result<(), Broken> {
+) -> Result<(), AllocError> {
     for item in items {
+        if out.has_failed() {
+            break;
+        }
         if let Item::Reported(pid, index) = *item {
             write_event(out, streams, pairing, clocks, pid, index)?;
         }
     }
-    match out.flush() {
-        Ok(()) => Ok(()),
-        Err(Device) => Err(Broken::Device),
-    }
+    Ok(())
 }
 
 /// Says that memory ran out, as far as it can be said.
@@ -135,9 +119,8 @@ pub(crate) fn tell_shiviz<W: ByteSink, N: ByteSink>(
     let mut clocks = Clocks::new(alloc, streams)?;
     let mut out = TextWriter::new(writer);
     match write_log(&mut out, streams, pairing, &mut clocks, items) {
-        Ok(()) => Ok(0),
-        Err(Broken::Device) => Ok(4),
-        Err(Broken::Memory) => {
+        Ok(()) => Ok(status_of(out.flush(), 0)),
+        Err(AllocError) => {
             note_memory(notes);
             Ok(4)
         }

@@ -1,8 +1,8 @@
 //! The status of what was written, and the fault of a text that can't be judged.
 
 use st_core::ByteSink;
-use st_say::say;
-use st_text::{Buffer, Device, ReadFault, flush};
+use st_say::send_words;
+use st_text::{Device, ReadFault};
 
 /// The status if memory runs out, or a reader or a writer fails.
 const FAILED: u8 = 4;
@@ -24,19 +24,13 @@ pub(crate) fn status_of(sent: Result<(), Device>, status: u8) -> u8 {
     }
 }
 
-/// Sends a line.
-fn send_line<W: ByteSink>(writer: &mut W, line: &[u8]) -> Result<(), Device> {
-    let mut buffer = Buffer::new();
-    say(writer, &mut buffer, line)?;
-    flush(writer, &mut buffer)
-}
-
 /// Writes the fault of a text of which no line is at fault, in the reader's words, and returns its
 /// status.
 pub(crate) fn tell_unread<W: ByteSink>(writer: &mut W, fault: ReadFault) -> u8 {
-    match fault {
-        ReadFault::Device => status_of(send_line(writer, b"fault device\n"), FAILED),
-        ReadFault::TooLarge => status_of(send_line(writer, b"fault too large\n"), FAULTY),
-        _ => status_of(send_line(writer, b"fault memory\n"), FAILED),
-    }
+    let (words, status) = match fault {
+        ReadFault::Device => ("fault device\n", FAILED),
+        ReadFault::TooLarge => ("fault too large\n", FAULTY),
+        _ => ("fault memory\n", FAILED),
+    };
+    status_of(send_words(writer, words), status)
 }

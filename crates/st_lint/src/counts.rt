@@ -1,8 +1,8 @@
 //! What is in a text that is a bundle: how many processes, events and acts, and the labels.
 
 use st_core::{Act, ByteSink, Pid, Sequence, Streams};
-use st_say::{say, say_count, say_number};
-use st_text::{Buffer, Bundle, Device, flush};
+use st_say::TextWriter;
+use st_text::{Bundle, Device};
 use std::alloc::{AllocError, Global};
 use std::collections::BTreeMap;
 
@@ -32,29 +32,22 @@ fn count_labels(
 }
 
 /// Writes how many acts there are.
-fn say_acts<W: ByteSink>(
-    writer: &mut W,
-    buffer: &mut Buffer,
-    acts: &Option<Sequence<Act>>,
-) -> Result<(), Device> {
+fn say_acts<W: ByteSink>(out: &mut TextWriter<'_, W>, acts: &Option<Sequence<Act>>) {
     match acts {
-        None => say(writer, buffer, b"no acts\n"),
-        Some(acts) => say_count(writer, buffer, b"acts ", acts.len() as u64),
+        None => out.say("no acts\n"),
+        Some(acts) => out.say_count("acts ", acts.len() as u64),
     }
 }
 
 /// Writes a line for each label.
-fn say_labels<W: ByteSink>(
-    writer: &mut W,
-    buffer: &mut Buffer,
-    counts: &BTreeMap<u32, u64>,
-) -> Result<(), Device> {
+fn say_labels<W: ByteSink>(out: &mut TextWriter<'_, W>, counts: &BTreeMap<u32, u64>) {
     for (label, count) in counts {
-        say(writer, buffer, b"label ")?;
-        say_number(writer, buffer, u64::from(*label))?;
-        say_count(writer, buffer, b", events ", *count)?;
+        if out.has_failed() {
+            return;
+        }
+        out.say_part("label ", u64::from(*label));
+        out.say_count(", events ", *count);
     }
-    Ok(())
 }
 
 /// Sends what is in a bundle.
@@ -63,12 +56,11 @@ pub(crate) fn send_counts<W: ByteSink>(
     bundle: &Bundle,
     counts: &BTreeMap<u32, u64>,
 ) -> Result<(), Device> {
-    let mut buffer = Buffer::new();
-    say(writer, &mut buffer, b"ok\n")?;
-    let processes = bundle.streams.pids().len() as u64;
-    say_count(writer, &mut buffer, b"processes ", processes)?;
-    say_count(writer, &mut buffer, b"events ", bundle.streams.total())?;
-    say_acts(writer, &mut buffer, &bundle.acts)?;
-    say_labels(writer, &mut buffer, counts)?;
-    flush(writer, &mut buffer)
+    let mut out = TextWriter::new(writer);
+    out.say("ok\n");
+    out.say_count("processes ", bundle.streams.pids().len() as u64);
+    out.say_count("events ", bundle.streams.total());
+    say_acts(&mut out, &bundle.acts);
+    say_labels(&mut out, counts);
+    out.flush()
 }

@@ -2,11 +2,12 @@
 //! within a line, and what is left of it can be a line of another meaning.
 
 use crate::mend::mends;
+use memchr::memrchr;
 use st_column::Above;
 use std::alloc::{AllocError, Global};
 
 /// What a last line without a newline is.
-#[derive(Clone, Copy, PartialEq, Eq)]
+#[derive(Clone, Copy)]
 pub(crate) enum Ending {
     /// A line that can't go on, or nothing once it is mended.
     Whole,
@@ -18,26 +19,37 @@ pub(crate) enum Ending {
 
 /// Whether these bytes are a line, wherever it may be, once they are mended, or nothing is left of them.
 fn is_line(alloc: Global, bytes: &[u8]) -> Result<bool, AllocError> {
-    Ok(
-        mends(alloc, bytes, Above::Nothing)?
-            || mends(alloc, bytes, Above::Process)?
-            || mends(alloc, bytes, Above::Acts)?,
-    )
+    for above in &[Above::Nothing, Above::Process, Above::Acts] {
+        if mends(alloc, bytes, *above)? {
+            return Ok(true);
+        }
+    }
+    Ok(false)
 }
 
-/// What a last line without a newline is. A carriage return ends a line too.
-pub(crate) fn ending_of(alloc: Global, bytes: &[u8]) -> Result<Ending, AllocError> {
-    let mut last = bytes;
-    for piece in bytes.split(|byte| *byte == b'\r') {
-        last = piece;
+/// What is behind the last carriage return, which ends a line too; all of it if there is none.
+fn last_piece(bytes: &[u8]) -> &[u8] {
+    match memrchr(b'\r', bytes) {
+        Some(end) => bytes.split_at(end.saturating_add(1).min(bytes.len())).1,
+        None => bytes,
     }
+}
+
+/// Whether these bytes are a line with another digit behind them too.
+fn is_line_with_digit(alloc: Global, bytes: &[u8]) -> Result<bool, AllocError> {
+    let mut longer = Vec::new(alloc);
+    longer.extend_from_slice(bytes)?;
+    longer.extend_from_slice(b"0")?;
+    is_line(alloc, longer.as_slice())
+}
+
+/// What a last line without a newline is.
+pub(crate) fn ending_of(alloc: Global, bytes: &[u8]) -> Result<Ending, AllocError> {
+    let last = last_piece(bytes);
     if !is_line(alloc, last)? {
         return Ok(Ending::Part);
     }
-    let mut longer = Vec::new(alloc);
-    longer.extend_from_slice(last)?;
-    longer.push(b'0')?;
-    if !last.is_empty() && is_line(alloc, longer.as_slice())? {
+    if !last.is_empty() && is_line_with_digit(alloc, last)? {
         return Ok(Ending::Number);
     }
     Ok(Ending::Whole)

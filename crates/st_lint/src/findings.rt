@@ -38,16 +38,16 @@ impl<'a> Findings<'a> {
     }
 
     /// Adds a mistake.
-    fn add(&mut self, mistake: Mistake<'a>) -> Result<(), AllocError> {
+    fn add(&mut self, mistake: &Mistake<'a>) -> Result<(), AllocError> {
         if self.count < self.most {
-            self.named.push(mistake)?;
+            self.named.push(*mistake)?;
         }
         self.count = self.count.saturating_add(1);
-        if mistake.cure == Cure::ByFix {
+        if matches!(mistake.cure, Cure::ByFix) {
             self.by_fix = self.by_fix.saturating_add(1);
         }
         if self.first_refused.is_none() && !mistake.is_read {
-            self.first_refused = Some(mistake);
+            self.first_refused = Some(*mistake);
         }
         Ok(())
     }
@@ -55,7 +55,7 @@ impl<'a> Findings<'a> {
     /// Adds mistakes.
     fn add_all(&mut self, mistakes: &[Mistake<'a>]) -> Result<(), AllocError> {
         for mistake in mistakes {
-            self.add(*mistake)?;
+            self.add(mistake)?;
         }
         Ok(())
     }
@@ -68,14 +68,11 @@ fn judge_lines<'a>(
     findings: &mut Findings<'a>,
 ) -> Result<(), AllocError> {
     let mut judge = Judge::new(alloc, Survey::new(alloc, text)?);
-    let mut found = Vec::new(alloc);
     for line in text.lines() {
         if text.is_of_mac() && line.number == 1 {
-            findings.add(mistake_of_mac(&line))?;
+            findings.add(&mistake_of_mac(&line))?;
         }
-        found.clear();
-        judge.take(&line, &mut found)?;
-        findings.add_all(found.as_slice())?;
+        findings.add_all(judge.take(&line)?)?;
     }
     Ok(())
 }
@@ -96,7 +93,7 @@ pub(crate) fn findings_of<'a>(
                 is_ended: false,
             };
             let first = text.lines().next().unwrap_or(nothing);
-            findings.add(mistake_of_text(&first, remedy))?;
+            findings.add(&mistake_of_text(&first, remedy))?;
         }
         None => judge_lines(alloc, &text, &mut findings)?,
     }

@@ -6,15 +6,16 @@ use crate::findings::NAMED;
 use crate::form::remedy_of_text;
 use crate::input::gather;
 use crate::kind::{Kind, MARK, kind_of};
-use crate::lint::{Judgement, judgement_of, send_findings};
+use crate::lint::{Judgement, judgement_of};
 use crate::mend::{Mended, mend_line};
+use crate::report::say_findings;
 use crate::scan::Scan;
 use crate::survey::Survey;
 use crate::text::Text;
 use st_column::Above;
 use st_core::{ByteSink, ByteSource};
-use st_say::{say, say_number};
-use st_text::{Buffer, Device, ReadFault, flush};
+use st_say::TextWriter;
+use st_text::{Device, ReadFault};
 use std::alloc::{AllocError, Global};
 
 /// A text that is mended, line by line.
@@ -56,8 +57,7 @@ impl Fixer {
     fn put_header(&mut self) -> Result<(), AllocError> {
         self.has_header = true;
         self.text.extend_from_slice(self.header)?;
-        self.text.push(b'\n')?;
-        Ok(())
+        self.text.extend_from_slice(b"\n")
     }
 
     /// Appends a line, mended, and a newline if the line ends; nothing if nothing is left of it. A
@@ -68,13 +68,11 @@ impl Fixer {
             self.mended.empty = self.mended.empty.saturating_add(1);
             return Ok(());
         }
-        if !self.has_header && kind_of(self.line.as_slice()) == Kind::Header {
+        let line = self.line.as_slice();
+        if !self.has_header && matches!(kind_of(line), Kind::Header) {
             self.has_header = true;
-            if Scan::new(self.line.as_slice())
-                .whole(Above::Nothing)
-                .is_ok()
-            {
-                if self.line.as_slice() != self.header {
+            if Scan::new(line).whole(Above::Nothing).is_ok() {
+                if line != self.header {
                     self.mended.headers = 1;
                 }
                 return self.put_header();
@@ -82,9 +80,10 @@ impl Fixer {
         }
         self.text.extend_from_slice(self.line.as_slice())?;
         if ends {
-            self.text.push(b'\n')?;
+            self.text.extend_from_slice(b"\n")
+        } else {
+            Ok(())
         }
-        Ok(())
     }
 
     /// Appends a line of the text, or several that carriage returns end, the last one with a newline
@@ -135,7 +134,7 @@ fn fixed(alloc: Global, bytes: &[u8]) -> Result<Fixer, AllocError> {
         if text.is_of_mac() && line.is_ended {
             fixer.mended.ends = fixer.mended.ends.saturating_add(1);
         }
-        let is_whole = !line.is_ended && ending_of(alloc, line.bytes)? == Ending::Whole;
+        let is_whole = !line.is_ended && matches!(ending_of(alloc, line.bytes)?, Ending::Whole);
         if is_whole {
             fixer.mended.newlines = 1;
         }
@@ -144,61 +143,29 @@ fn fixed(alloc: Global, bytes: &[u8]) -> Result<Fixer, AllocError> {
     Ok(fixer)
 }
 
-/// Writes the mistakes of a sort and how many were mended, behind those of other sorts.
-fn say_sort<N: ByteSink>(
-    notes: &mut N,
-    buffer: &mut Buffer,
-    is_any: &mut bool,
-    words: &str,
-    count: u64,
-) -> Result<(), Device> {
-    if count == 0 {
-        return Ok(());
-    }
-    let comma: &[u8] = if *is_any { b", " } else { b" " };
-    *is_any = true;
-    say(notes, buffer, comma)?;
-    say(notes, buffer, words.as_bytes())?;
-    say(notes, buffer, b" ")?;
-    say_number(notes, buffer, count)
-}
-
 /// Writes what was mended, on a line.
-fn say_mended<N: ByteSink>(
-    notes: &mut N,
-    buffer: &mut Buffer,
-    mended: &Mended,
-) -> Result<(), Device> {
+fn say_mended<N: ByteSink>(out: &mut TextWriter<'_, N>, mended: &Mended) {
+    let sorts = [
+        ("mark of UTF-8", mended.marks),
+        ("line ends", mended.ends),
+        ("newline at the end", mended.newlines),
+        ("empty lines", mended.empty),
+        ("lines with blanks", mended.blanks),
+        ("quotes of 'receive'", mended.quotes),
+        ("#Pid", mended.pids),
+        ("header", mended.headers),
+    ];
     let mut is_any = false;
-    say(notes, buffer, b"mended:")?;
-    say_sort(notes, buffer, &mut is_any, "mark of UTF-8", mended.marks)?;
-    say_sort(notes, buffer, &mut is_any, "line ends", mended.ends)?;
-    say_sort(
-        notes,
-        buffer,
-        &mut is_any,
-        "newline at the end",
-        mended.newlines,
-    )?;
-    say_sort(notes, buffer, &mut is_any, "empty lines", mended.empty)?;
-    say_sort(
-        notes,
-        buffer,
-        &mut is_any,
-        "lines with blanks",
-        mended.blanks,
-    )?;
-    say_sort(
-        notes,
-        buffer,
-        &mut is_any,
-        "quotes of 'receive'",
-        mended.quotes,
-    )?;
-    say_sort(notes, buffer, &mut is_any, "#Pid", mended.pids)?;
-    say_sort(notes, buffer, &mut is_any, "header", mended.headers)?;
-    let end: &[u8] = if is_any { b"\n" } else { b" nothing\n" };
-    say(notes, buffer, end)
+    out.say("mended:");
+    for (words, count) in &sorts {
+        if *count > 0 {
+            out.say(if is_any { ", " } else { " " });
+            out.say(words);
+            out.say_part(" ", *count);
+            is_any = true;
+        }
+    }
+    out.say(if is_any { "\n" } else { " nothing\n" });
 }
 
 /// Sends what was mended, and what is left.
@@ -207,30 +174,24 @@ fn send_notes<N: ByteSink>(
     mended: &Mended,
     judgement: &Judgement<'_>,
 ) -> Result<(), Device> {
-    let mut buffer = Buffer::new();
-    say_mended(notes, &mut buffer, mended)?;
+    let mut out = TextWriter::new(notes);
+    say_mended(&mut out, mended);
     match judgement {
-        Judgement::Good(_) => {
-            say(notes, &mut buffer, b"left: nothing\n")?;
-            flush(notes, &mut buffer)
-        }
+        Judgement::Good(_) => out.say("left: nothing\n"),
         Judgement::Impossible(findings) | Judgement::Faulty(findings) => {
-            say(
-                notes,
-                &mut buffer,
-                b"left, by the lines of what is written:\n",
-            )?;
-            flush(notes, &mut buffer)?;
-            send_findings(notes, findings)
+            out.say("left, by the lines of what is written:\n");
+            out.flush()?;
+            say_findings(&mut out, findings);
         }
     }
+    out.flush()
 }
 
 /// Sends a text.
 fn send_text<W: ByteSink>(writer: &mut W, text: &[u8]) -> Result<(), Device> {
-    let mut buffer = Buffer::new();
-    say(writer, &mut buffer, text)?;
-    flush(writer, &mut buffer)
+    let mut out = TextWriter::new(writer);
+    out.say_bytes(text);
+    out.flush()
 }
 
 /// Writes the text of these bytes, mended.
@@ -258,15 +219,11 @@ fn tell_fixed<W: ByteSink, N: ByteSink>(
 
 /// Says of a text that is no bundle as a whole what to do about it; nothing else is written.
 fn tell_form<N: ByteSink>(notes: &mut N, remedy: &str) -> u8 {
-    let mut buffer = Buffer::new();
-    let _ = say(
-        notes,
-        &mut buffer,
-        b"mended: nothing, and nothing is written: ",
-    );
-    let _ = say(notes, &mut buffer, remedy.as_bytes());
-    let _ = say(notes, &mut buffer, b"\n");
-    let _ = flush(notes, &mut buffer);
+    let mut out = TextWriter::new(notes);
+    out.say("mended: nothing, and nothing is written: ");
+    out.say(remedy);
+    out.say("\n");
+    let _ = out.flush();
     FAULTY
 }
 

@@ -1,6 +1,6 @@
 //! Texts that are no bundle as a whole: one mistake is named, and nothing is mended.
 
-use crate::kind::{Kind, MARK, kind_of};
+use crate::kind::{Kind, behind_mark, kind_of};
 use crate::mend::blank_bytes;
 use crate::text::Text;
 
@@ -33,6 +33,26 @@ const PACKED: [(&[u8], &str); 5] = [
     (b"PK\x03\x04", "the text is packed: unpack it by unzip"),
 ];
 
+/// What a table of fronts has beside the first of them that these bytes begin with.
+fn remedy_of_front(fronts: &[(&[u8], &'static str)], bytes: &[u8]) -> Option<&'static str> {
+    for (front, remedy) in fronts {
+        if bytes.starts_with(front) {
+            return Some(*remedy);
+        }
+    }
+    None
+}
+
+/// Whether bytes begin as a report of a command does.
+fn is_report(bytes: &[u8]) -> bool {
+    for word in &REPORTS {
+        if bytes.starts_with(word.as_bytes()) {
+            return true;
+        }
+    }
+    false
+}
+
 /// Whether bytes are text in UTF-16: a mark at the front, or a byte of 0 beside the first.
 fn is_utf16(bytes: &[u8]) -> bool {
     matches!(
@@ -44,10 +64,20 @@ fn is_utf16(bytes: &[u8]) -> bool {
 /// So many bytes at the front tell whether bytes are text.
 const FRONT: usize = 512;
 
+/// Whether some bytes are of control, and are no blanks.
+fn has_control(bytes: &[u8]) -> bool {
+    for byte in bytes {
+        if matches!(*byte, 0..=8 | 14..=31) {
+            return true;
+        }
+    }
+    false
+}
+
 /// Whether bytes are no text: they don't begin as a bundle does, and have bytes of control.
 fn is_binary(bytes: &[u8]) -> bool {
     let (front, _) = bytes.split_at(FRONT.min(bytes.len()));
-    kind_of(front) == Kind::Other && front.iter().any(|byte| matches!(*byte, 0..=8 | 14..=31))
+    matches!(kind_of(front), Kind::Other) && has_control(front)
 }
 
 /// Whether a text is a log of events: it begins with one, below comments if there are some.
@@ -64,8 +94,7 @@ fn is_log(bytes: &[u8]) -> bool {
 
 /// Whether a text has nothing but blanks and ends of lines, behind a mark of UTF-8 or without one.
 fn is_blank(bytes: &[u8]) -> bool {
-    let bytes = bytes.strip_prefix(MARK.as_slice()).unwrap_or(bytes);
-    for line in Text::new(bytes).lines() {
+    for line in Text::new(behind_mark(bytes)).lines() {
         let line = line.bytes.trim_ascii();
         if blank_bytes(line) < line.len() {
             return false;
@@ -96,22 +125,19 @@ pub(crate) fn remedy_of_text(bytes: &[u8]) -> Option<&'static str> {
     if is_blank(bytes) {
         return Some("the text is empty");
     }
-    if let Some(packed) = PACKED.iter().find(|packed| bytes.starts_with(packed.0)) {
-        return Some(packed.1);
+    if let Some(remedy) = remedy_of_front(&PACKED, bytes) {
+        return Some(remedy);
     }
     if is_utf16(bytes) {
         return Some("the text is UTF-16: write it as ASCII, as by iconv -f UTF-16 -t ASCII");
     }
-    if REPORTS
-        .iter()
-        .any(|word| bytes.starts_with(word.as_bytes()))
-    {
+    if is_report(bytes) {
         return Some(
             "this is what a command found, and no bundle: see what the command before said",
         );
     }
-    if let Some(beside) = BESIDE.iter().find(|beside| bytes.starts_with(beside.0)) {
-        return Some(beside.1);
+    if let Some(remedy) = remedy_of_front(&BESIDE, bytes) {
+        return Some(remedy);
     }
     if is_log(bytes) {
         return Some("a log of events, and no bundle: seqaudit-node convert makes one of it");

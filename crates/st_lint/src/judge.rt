@@ -46,12 +46,15 @@ pub(crate) struct Judge<'a> {
     named: BTreeSet<(u64, u64)>,
     events: u64,
     acts: u64,
+    // The mistakes of the line.
+    found: Vec<Mistake<'a>>,
+    // Memory ran out, which `take` says: what was found since then counts for nothing.
+    has_failed: bool,
 }
 
 /// The text of a pid of a line.
 fn pid_text(line: &[u8], place: Place) -> &str {
-    let front = line.split_at(place.end.min(line.len())).0;
-    let pid = front.split_at(place.start.min(front.len())).1;
+    let pid = line.get(place.start..place.end).unwrap_or(&[]);
     str::from_utf8(pid).unwrap_or("")
 }
 
@@ -73,28 +76,32 @@ fn mistake_at<'a>(
     }
 }
 
-/// The mistake with this remedy.
-fn with_remedy<'a>(mistake: Mistake<'a>, remedy: &'static str) -> Mistake<'a> {
-    let mut mistake = mistake;
-    mistake.remedy = remedy;
-    mistake
+/// A mistake of a line that the reader refuses, which `--fix` mends.
+fn mistake_by_fix<'a>(
+    line: &Line<'a>,
+    column: usize,
+    words: &'static str,
+    remedy: &'static str,
+) -> Mistake<'a> {
+    Mistake {
+        cure: Cure::ByFix,
+        ..mistake_at(line, column, Wanted::Words(words), remedy)
+    }
 }
 
-/// The same mistake if `--fix` mends it.
-fn by_fix(mistake: Mistake<'_>) -> Mistake<'_> {
-    let mut mistake = mistake;
-    mistake.cure = Cure::ByFix;
-    mistake
+/// What it takes to be rid of a mistake, if mending its line is enough or not.
+fn cure_of(is_mended: bool) -> Cure {
+    if is_mended { Cure::ByFix } else { Cure::ByHand }
 }
 
 /// The mistake of a text that carriage returns alone end, at the end of its first line.
 pub(crate) fn mistake_of_mac<'a>(line: &Line<'a>) -> Mistake<'a> {
-    by_fix(mistake_at(
+    mistake_by_fix(
         line,
         line.bytes.len(),
-        Wanted::Words("a newline"),
+        "a newline",
         "lines end with a carriage return alone, as on old Macs: end each with a newline",
-    ))
+    )
 }
 
 /// The mistake of a text that is no bundle as a whole, for which there is this remedy.
@@ -121,59 +128,78 @@ impl<'a> Judge<'a> {
             named: BTreeSet::new(alloc),
             events: 0,
             acts: 0,
+            found: Vec::new(alloc),
+            has_failed: false,
         }
     }
 
-    /// Judges the next line, and adds its mistakes.
-    pub(crate) fn take(
-        &mut self,
-        line: &Line<'a>,
-        found: &mut Vec<Mistake<'a>>,
-    ) -> Result<(), AllocError> {
-        let before = found.len();
+    /// Judges the next line, and returns its mistakes.
+    pub(crate) fn take(&mut self, line: &Line<'a>) -> Result<&[Mistake<'a>], AllocError> {
+        self.found.clear();
         if self.above == Above::Nothing {
-            self.take_header(line, found)?;
+            self.take_header(line);
         } else {
-            self.take_line(line, found)?;
+            self.take_line(line);
         }
         if !line.is_ended {
-            self.take_end(line, before, found)?;
+            self.take_end(line);
         }
-        Ok(())
+        if self.has_failed {
+            Err(AllocError)
+        } else {
+            Ok(self.found.as_slice())
+        }
+    }
+
+    /// Adds a mistake of the line.
+    fn add(&mut self, mistake: Mistake<'a>) {
+        if self.found.push(mistake).is_err() {
+            self.has_failed = true;
+        }
+    }
+
+    /// Whether this line is right below what is above once it is mended.
+    fn is_mended(&mut self, line: &Line<'a>, above: Above) -> bool {
+        match mends(self.alloc, line.behind_mark(), above) {
+            Ok(is_mended) => is_mended,
+            Err(AllocError) => {
+                self.has_failed = true;
+                false
+            }
+        }
     }
 
     /// Judges the first line.
-    fn take_header(
-        &mut self,
-        line: &Line<'a>,
-        found: &mut Vec<Mistake<'a>>,
-    ) -> Result<(), AllocError> {
+    fn take_header(&mut self, line: &Line<'a>) {
         let Err(expected) = Scan::new(line.bytes).whole(Above::Nothing) else {
-            return self.take_width(line, found);
+            return self.take_width(line);
         };
+        let kind = kind_of(line.bytes);
         let column = column_below(Above::Nothing, false, line.bytes);
-        let wrong = mistake_at(line, column, Wanted::Grammar(expected), "");
-        match kind_of(line.bytes) {
+        let is_mended = self.is_mended(line, Above::Nothing);
+        let remote = self.survey.is_remote;
+        let (remedy, cure) = match kind {
+            Kind::Comment | Kind::Other => (
+                remedy_of(line.bytes, column, Above::Nothing, expected),
+                cure_of(is_mended),
+            ),
+            Kind::Header if is_mended => {
+                (remedy_of_front(line.bytes, column, remote), Cure::ByFix)
+            }
+            Kind::Header => (remedy_of_version(line.behind_mark(), remote), Cure::ByHand),
+            _ => (remedy_of_header(remote), Cure::ByFix),
+        };
+        self.add(Mistake {
+            cure,
+            ..mistake_at(line, column, Wanted::Grammar(expected), remedy)
+        });
+        match kind {
             // The header may still come.
-            Kind::Comment | Kind::Other => {
-                let remedy = remedy_of(line.bytes, column, Above::Nothing, expected);
-                return self.add_wrong(line, with_remedy(wrong, remedy), Above::Nothing, found);
-            }
-            Kind::Header => {
-                let remote = self.survey.is_remote;
-                let remedy = if mends(self.alloc, line.behind_mark(), Above::Nothing)? {
-                    remedy_of_front(line.bytes, column, remote)
-                } else {
-                    remedy_of_version(line.behind_mark(), remote)
-                };
-                self.begin(remote);
-                self.add_wrong(line, with_remedy(wrong, remedy), Above::Nothing, found)
-            }
+            Kind::Comment | Kind::Other => {}
+            Kind::Header => self.begin(remote),
             _ => {
-                let remedy = remedy_of_header(self.survey.is_remote);
-                found.push(by_fix(with_remedy(wrong, remedy)))?;
-                self.begin(self.survey.is_remote);
-                self.take_line(line, found)
+                self.begin(remote);
+                self.take_line(line);
             }
         }
     }
@@ -185,68 +211,43 @@ impl<'a> Judge<'a> {
     }
 
     /// Judges whether the header is the one that the pids need.
-    fn take_width(
-        &mut self,
-        line: &Line<'a>,
-        found: &mut Vec<Mistake<'a>>,
-    ) -> Result<(), AllocError> {
+    fn take_width(&mut self, line: &Line<'a>) {
         self.begin(line.bytes == b"seqtrace 2".as_slice());
         if self.wide && !self.survey.is_remote {
             let remedy = "no pid of a node other than 0 is named, so the header is seqtrace 1";
             let column = line.bytes.len().saturating_sub(1);
-            found.push(by_fix(mistake_at(line, column, Wanted::Words("1"), remedy)))?;
+            self.add(mistake_by_fix(line, column, "1", remedy));
         }
-        Ok(())
-    }
-
-    /// Adds the mistake of a line that isn't one of those below what is above.
-    fn add_wrong(
-        &mut self,
-        line: &Line<'a>,
-        mistake: Mistake<'a>,
-        above: Above,
-        found: &mut Vec<Mistake<'a>>,
-    ) -> Result<(), AllocError> {
-        let is_mended = mends(self.alloc, line.behind_mark(), above)?;
-        found.push(if is_mended { by_fix(mistake) } else { mistake })?;
-        Ok(())
     }
 
     /// Judges a line below the first one.
-    fn take_line(
-        &mut self,
-        line: &Line<'a>,
-        found: &mut Vec<Mistake<'a>>,
-    ) -> Result<(), AllocError> {
+    fn take_line(&mut self, line: &Line<'a>) {
         let mut scan = Scan::new(line.bytes);
         let read = scan.whole(self.above);
         if scan.is_remote() && !self.wide {
-            self.take_remote(line, found)?;
+            self.take_remote(line);
         }
         match read {
-            Ok(sort) => self.take_sort(line, sort, &scan, found),
+            Ok(sort) => self.take_sort(line, sort, &scan),
             Err(expected) => {
                 let column = column_below(self.above, self.wide, line.bytes);
-                let wrong = mistake_at(line, column, Wanted::Grammar(expected), "");
                 let remedy = remedy_of(line.bytes, column, self.above, expected);
-                self.add_wrong(line, with_remedy(wrong, remedy), self.above, found)?;
+                let cure = cure_of(self.is_mended(line, self.above));
+                self.add(Mistake {
+                    cure,
+                    ..mistake_at(line, column, Wanted::Grammar(expected), remedy)
+                });
                 self.pass(line, scan.pids());
-                Ok(())
             }
         }
     }
 
     /// Adds that the header doesn't let the pid of another node in, once.
-    fn take_remote(
-        &mut self,
-        line: &Line<'a>,
-        found: &mut Vec<Mistake<'a>>,
-    ) -> Result<(), AllocError> {
+    fn take_remote(&mut self, line: &Line<'a>) {
         let column = column_below(self.above, false, line.bytes);
         let remedy = "a bundle that names a pid of another node begins with seqtrace 2";
-        let wanted = Wanted::Words("node 0 under seqtrace 1");
         self.wide = true;
-        Ok(found.push(by_fix(mistake_at(line, column, wanted, remedy)))?)
+        self.add(mistake_by_fix(line, column, "node 0 under seqtrace 1", remedy));
     }
 
     /// Passes a line that isn't one of the grammar's, as what it was meant to be.
@@ -277,151 +278,120 @@ impl<'a> Judge<'a> {
     }
 
     /// Judges a line that is one of the grammar's.
-    fn take_sort(
-        &mut self,
-        line: &Line<'a>,
-        sort: Sort,
-        scan: &Scan<'a>,
-        found: &mut Vec<Mistake<'a>>,
-    ) -> Result<(), AllocError> {
-        match sort {
-            Sort::Header => Ok(()),
-            Sort::Acts => {
-                self.above = Above::Acts;
-                Ok(())
-            }
-            Sort::Process => self.take_process(line, scan.pids(), found),
-            Sort::Stamp => self.take_event(line, scan, scan.pids().first(), found),
-            Sort::Receive => self.take_event(line, scan, scan.pids().last(), found),
-            Sort::Act => self.take_act(line, scan.pids().first(), None, found),
-            Sort::SendAct => self.take_act(line, scan.pids().first(), scan.pids().last(), found),
+    fn take_sort(&mut self, line: &Line<'a>, sort: Sort, scan: &Scan<'a>) {
+        match (sort, scan.pids()) {
+            (Sort::Acts, _) => self.above = Above::Acts,
+            (Sort::Process, [pid, ..]) => self.take_process(line, *pid),
+            (Sort::Stamp, [from, ..]) => self.take_event(line, *from, scan),
+            (Sort::Receive, [.., to]) => self.take_event(line, *to, scan),
+            (Sort::Act, [actor, ..]) => self.take_act(line, &[*actor]),
+            (Sort::SendAct, pids) => self.take_act(line, pids),
+            _ => {}
         }
     }
 
-    /// Judges whether a process line is above the one before.
-    fn take_process(
-        &mut self,
-        line: &Line<'a>,
-        pids: &[Place],
-        found: &mut Vec<Mistake<'a>>,
-    ) -> Result<(), AllocError> {
+    /// Notes that a process line lists this pid, and says whether it is the first one that does.
+    fn is_first(&mut self, pid: (u64, u64)) -> bool {
+        match self.listed.insert(pid) {
+            Ok(is_first) => is_first,
+            Err(_) => {
+                self.has_failed = true;
+                false
+            }
+        }
+    }
+
+    /// Judges whether a process line, with its pid at this place, is above the one before.
+    fn take_process(&mut self, line: &Line<'a>, place: Place) {
         self.above = Above::Process;
-        let Some(place) = pids.first() else {
-            return Ok(());
-        };
         let process = Process {
-            text: pid_text(line.bytes, *place),
+            text: pid_text(line.bytes, place),
             pid: place.pid,
         };
-        let is_new = self.listed.insert(place.pid)?;
+        let is_new = self.is_first(place.pid);
         let last = self.last;
         match last {
-            Some(last) if process.pid <= last.pid => found.push(falling(line, process, last))?,
-            _ if !is_new => found.push(repeated(line))?,
+            Some(last) if process.pid <= last.pid => self.add(falling(line, process, last)),
+            _ if !is_new => self.add(repeated(line)),
             _ => {}
         }
         self.last = Some(process);
         self.current = Some(process.text);
         let count = self.listed.len() as u64;
         if is_new && count == u64::from(LIMITS.processes).saturating_add(1) {
-            found.push(too_many(line, "process", LIMITS.processes))?;
+            self.add(too_many(line, "process", LIMITS.processes));
         }
-        Ok(())
     }
 
     /// Judges an event that the process at this place reports.
-    fn take_event(
-        &mut self,
-        line: &Line<'a>,
-        scan: &Scan<'a>,
-        reporter: Option<&Place>,
-        found: &mut Vec<Mistake<'a>>,
-    ) -> Result<(), AllocError> {
-        if let (Some(current), Some(place)) = (self.current, reporter) {
-            let pid = pid_text(line.bytes, *place);
+    fn take_event(&mut self, line: &Line<'a>, reporter: Place, scan: &Scan<'a>) {
+        if let Some(current) = self.current {
+            let pid = pid_text(line.bytes, reporter);
             if pid != current {
-                found.push(foreign(line, *place, pid, current))?;
+                self.add(foreign(line, reporter, pid, current));
             }
         }
         self.events = self.events.saturating_add(1);
         if self.events == u64::from(LIMITS.events).saturating_add(1) {
-            found.push(too_many(line, "event", LIMITS.events))?;
+            self.add(too_many(line, "event", LIMITS.events));
         }
         for place in scan.pids() {
             // Below a process line that can't be read its own process is taken to report.
-            if self.current.is_some() || reporter.copied() != Some(*place) {
-                self.take_pid(line, *place, found)?;
+            if self.current.is_some() || place.start != reporter.start {
+                self.take_pid(line, *place);
             }
         }
         match scan.counts() {
-            Some(counts) if counts.prev >= counts.this => found.push(unrising(line, counts))?,
+            Some(counts) if counts.prev >= counts.this => self.add(unrising(line, counts)),
             _ => {}
         }
-        Ok(())
     }
 
-    /// Judges an act of the process at the first place, which sends to that at the second if there
-    /// is one.
-    fn take_act(
-        &mut self,
-        line: &Line<'a>,
-        actor: Option<&Place>,
-        receiver: Option<&Place>,
-        found: &mut Vec<Mistake<'a>>,
-    ) -> Result<(), AllocError> {
+    /// Judges an act for which the pids at these places have to be listed.
+    fn take_act(&mut self, line: &Line<'a>, pids: &[Place]) {
         self.acts = self.acts.saturating_add(1);
         if self.acts == u64::from(LIMITS.acts).saturating_add(1) {
-            found.push(too_many(line, "act", LIMITS.acts))?;
+            self.add(too_many(line, "act", LIMITS.acts));
         }
-        if let Some(place) = actor {
-            self.take_pid(line, *place, found)?;
+        for place in pids {
+            self.take_pid(line, *place);
         }
-        if let Some(place) = receiver {
-            self.take_pid(line, *place, found)?;
-        }
-        Ok(())
     }
 
     /// Judges whether a pid has a process line; one that has none is named once.
-    fn take_pid(
-        &mut self,
-        line: &Line<'a>,
-        place: Place,
-        found: &mut Vec<Mistake<'a>>,
-    ) -> Result<(), AllocError> {
+    fn take_pid(&mut self, line: &Line<'a>, place: Place) {
         let pid = pid_text(line.bytes, place);
         if self.current == Some(pid) {
-            return Ok(());
+            return;
         }
         let Some(count) = self.survey.unlisted_bytes(pid) else {
-            return Ok(());
+            return;
         };
-        if self.named.insert(place.pid)? {
-            let column = place.start.saturating_add(count);
-            let remedy = "add a process line for it, even if it reported nothing";
-            found.push(mistake_at(line, column, Wanted::Listed(pid), remedy))?;
+        match self.named.insert(place.pid) {
+            Ok(true) => {
+                let column = place.start.saturating_add(count);
+                let remedy = "add a process line for it, even if it reported nothing";
+                self.add(mistake_at(line, column, Wanted::Listed(pid), remedy));
+            }
+            Ok(false) => {}
+            Err(_) => self.has_failed = true,
         }
-        Ok(())
     }
 
-    /// Judges the end of a text whose last line, which this is, has no newline. Its mistakes are those
-    /// from this place on.
-    fn take_end(
-        &mut self,
-        line: &Line<'a>,
-        before: usize,
-        found: &mut Vec<Mistake<'a>>,
-    ) -> Result<(), AllocError> {
+    /// Judges the end of a text whose last line, which this is, has no newline.
+    fn take_end(&mut self, line: &Line<'a>) {
         let end = line.bytes.len();
-        for mistake in found.iter_mut().skip(before) {
+        for mistake in self.found.iter_mut() {
             if mistake.column == end {
                 mistake.remedy = BROKEN;
                 mistake.cure = Cure::ByHand;
-                return Ok(());
+                return;
             }
         }
-        let ending = ending_of(self.alloc, line.behind_mark())?;
-        Ok(found.push(unended(line, ending))?)
+        match ending_of(self.alloc, line.behind_mark()) {
+            Ok(ending) => self.add(unended(line, ending)),
+            Err(AllocError) => self.has_failed = true,
+        }
     }
 }
 
@@ -462,9 +432,10 @@ fn foreign<'a>(line: &Line<'a>, place: Place, pid: &'a str, current: &'a str) ->
 /// The mistake of an event whose serial doesn't rise: the reader takes it, and no run reports it.
 fn unrising<'a>(line: &Line<'a>, counts: Counts) -> Mistake<'a> {
     let remedy = "no run reports this event: the second count of a serial is above its first";
-    let mut mistake = mistake_at(line, counts.start, Wanted::Greater(counts.prev), remedy);
-    mistake.is_read = true;
-    mistake
+    Mistake {
+        is_read: true,
+        ..mistake_at(line, counts.start, Wanted::Greater(counts.prev), remedy)
+    }
 }
 
 /// What to do about a text that ends where its last line has to go on.
@@ -472,18 +443,23 @@ const BROKEN: &str = "the text breaks off here: get the whole of it, or leave th
 
 /// The mistake of a last line without a newline, which `--fix` ends only if it is whole.
 fn unended<'a>(line: &Line<'a>, ending: Ending) -> Mistake<'a> {
-    let remedy = match ending {
-        Ending::Whole => "each line is ended by a newline, the last one too",
-        Ending::Number => {
-            "the text may break off within this number: see whether it is whole, and end the line"
-        }
-        Ending::Part => "the text may break off here: see whether the line is whole, and end it",
+    let (remedy, cure) = match ending {
+        Ending::Whole => (
+            "each line is ended by a newline, the last one too",
+            Cure::ByFix,
+        ),
+        Ending::Number => (
+            "the text may break off within this number: see whether it is whole, and end the line",
+            Cure::ByHand,
+        ),
+        Ending::Part => (
+            "the text may break off here: see whether the line is whole, and end it",
+            Cure::ByHand,
+        ),
     };
     let wanted = Wanted::Words("a newline at the end");
-    let mistake = mistake_at(line, line.bytes.len(), wanted, remedy);
-    if ending == Ending::Whole {
-        by_fix(mistake)
-    } else {
-        mistake
+    Mistake {
+        cure,
+        ..mistake_at(line, line.bytes.len(), wanted, remedy)
     }
 }

@@ -1,7 +1,7 @@
 //! What a line was meant to be, by its first word, even if something in it is wrong.
 
 /// What a line was meant to be.
-#[derive(Clone, Copy, PartialEq, Eq)]
+#[derive(Clone, Copy)]
 pub(crate) enum Kind {
     /// The header.
     Header,
@@ -52,41 +52,45 @@ const ACTS: [(&str, &str); 10] = [
 
 /// Whether a line has this word in front of a blank.
 fn begins_with(line: &[u8], word: &str) -> bool {
-    match line.strip_prefix(word.as_bytes()) {
-        Some([b' ' | b'\t', ..]) => true,
-        _ => false,
-    }
+    matches!(line.strip_prefix(word.as_bytes()), Some([b' ' | b'\t', ..]))
 }
 
 /// The form of the act whose word a line begins with.
 pub(crate) fn form_of_act(line: &[u8]) -> Option<&'static str> {
-    let act = ACTS.iter().find(|act| begins_with(line, act.0))?;
-    Some(act.1)
+    for (word, form) in &ACTS {
+        if begins_with(line, word) {
+            return Some(*form);
+        }
+    }
+    None
+}
+
+/// What is behind a mark of UTF-8 at the front; all of it if there is none.
+pub(crate) fn behind_mark(bytes: &[u8]) -> &[u8] {
+    match bytes.strip_prefix(MARK.as_slice()) {
+        Some(behind) => behind,
+        None => bytes,
+    }
 }
 
 /// What a line was meant to be.
 pub(crate) fn kind_of(line: &[u8]) -> Kind {
-    let line = line
-        .strip_prefix(MARK.as_slice())
-        .unwrap_or(line)
-        .trim_ascii();
-    match line.first().copied() {
-        Some(b'%' | b'#') => return Kind::Comment,
-        Some(b'{') if line.starts_with(b"{seq_trace".as_slice()) => return Kind::Event,
-        Some(b'{') if line.starts_with(b"{trace".as_slice()) => return Kind::OtherTrace,
-        _ => {}
-    }
-    if line.starts_with(b"seqtrace".as_slice()) {
-        return Kind::Header;
-    }
-    if line.starts_with(b"process".as_slice()) {
-        return Kind::Process;
-    }
-    if line == b"acts".as_slice() {
-        return Kind::Acts;
-    }
-    match form_of_act(line) {
-        Some(_) => Kind::Act,
-        None => Kind::Other,
+    let line = behind_mark(line).trim_ascii();
+    if matches!(line, [b'%' | b'#', ..]) {
+        Kind::Comment
+    } else if line.starts_with(b"{seq_trace".as_slice()) {
+        Kind::Event
+    } else if line.starts_with(b"{trace".as_slice()) {
+        Kind::OtherTrace
+    } else if line.starts_with(b"seqtrace".as_slice()) {
+        Kind::Header
+    } else if line.starts_with(b"process".as_slice()) {
+        Kind::Process
+    } else if line == b"acts".as_slice() {
+        Kind::Acts
+    } else if form_of_act(line).is_some() {
+        Kind::Act
+    } else {
+        Kind::Other
     }
 }

@@ -6,8 +6,9 @@ use crate::findings::{Findings, findings_of};
 use crate::input::gather;
 use crate::judge::LIMITS;
 use crate::report::say_findings;
-use st_core::{ByteSink, ByteSource, MemorySource, Streams};
-use st_text::{Buffer, Bundle, Device, ReadFault, flush, read_within};
+use st_core::{ByteSink, ByteSource, Event, MemorySource, Streams};
+use st_say::TextWriter;
+use st_text::{Bundle, Device, ReadFault, read_within};
 use std::alloc::{AllocError, Global};
 
 /// What a text is.
@@ -21,14 +22,24 @@ pub(crate) enum Judgement<'a> {
     Faulty(Findings<'a>),
 }
 
-/// Whether no run reports some event of streams, since its serial doesn't rise.
+/// Whether no run reports some event of these, since its serial doesn't rise.
+fn has_unrising(events: &[Event]) -> bool {
+    for event in events {
+        if event.serial.prev >= event.serial.this {
+            return true;
+        }
+    }
+    false
+}
+
+/// Whether no run reports some event of streams.
 fn is_impossible(streams: &Streams) -> bool {
-    streams.pids().iter().any(|pid| {
-        streams
-            .events(*pid)
-            .iter()
-            .any(|event| event.serial.prev >= event.serial.this)
-    })
+    for pid in streams.pids() {
+        if has_unrising(streams.events(*pid)) {
+            return true;
+        }
+    }
+    false
 }
 
 /// The mistakes of a text, of which so many are to be named.
@@ -60,9 +71,9 @@ pub(crate) fn send_findings<W: ByteSink>(
     writer: &mut W,
     findings: &Findings<'_>,
 ) -> Result<(), Device> {
-    let mut buffer = Buffer::new();
-    say_findings(writer, &mut buffer, findings)?;
-    flush(writer, &mut buffer)
+    let mut out = TextWriter::new(writer);
+    say_findings(&mut out, findings);
+    out.flush()
 }
 
 /// Writes what a text is.

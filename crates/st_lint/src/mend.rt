@@ -2,6 +2,7 @@
 
 use crate::kind::{Kind, kind_of};
 use crate::scan::Scan;
+use memchr::memchr;
 use st_column::Above;
 use std::alloc::{AllocError, Global};
 
@@ -64,7 +65,7 @@ fn receive_bytes(bytes: &[u8]) -> Option<usize> {
 /// How many bytes at the front are a text in double quotes.
 fn quoted_bytes(bytes: &[u8]) -> usize {
     match bytes.split_first() {
-        Some((b'"', tail)) => match tail.iter().position(|byte| *byte == b'"') {
+        Some((b'"', tail)) => match memchr(b'"', tail) {
             Some(end) => end.saturating_add(2).min(bytes.len()),
             None => bytes.len(),
         },
@@ -78,6 +79,11 @@ fn is_word(byte: Option<&u8>) -> bool {
         Some(byte) => byte.is_ascii_alphanumeric() || *byte == b'_',
         None => false,
     }
+}
+
+/// Whether a pid comes next behind `#Pid`, as the shells write it.
+fn begins_with_pid_mark(line: &[u8]) -> bool {
+    line.starts_with(b"#Pid<".as_slice()) || line.starts_with(b"#PID<".as_slice())
 }
 
 /// Whether a line ends in `#Pid`, as the shells write it.
@@ -108,22 +114,41 @@ impl<'a> Mender<'a> {
         Ok(())
     }
 
-    /// Appends what remains of so many blanks: one between the words of a line that is no event, or
-    /// if two words would become one, or `#Pid` come to be in front of a pid.
+    /// Whether a blank stays between these bytes and the rest: between the words of a line that is
+    /// no event, or if two words would become one, or `#Pid` come to be in front of a pid.
+    fn keeps_blank(&self, out: &[u8]) -> bool {
+        if self.is_event {
+            (is_word(out.last()) && is_word(self.rest.first())) || ends_in_pid_mark(out)
+        } else {
+            !out.is_empty() && !self.rest.is_empty()
+        }
+    }
+
+    /// Appends what remains of so many blanks.
     fn put_blanks(&mut self, count: usize, out: &mut Vec<u8>) -> Result<(), AllocError> {
         let is_space = count == 1 && self.rest.starts_with(b" ".as_slice());
         self.skip(count);
-        let is_between = !out.is_empty() && !self.rest.is_empty();
-        let is_kept = if self.is_event {
-            (is_word(out.last()) && is_word(self.rest.first())) || ends_in_pid_mark(out.as_slice())
+        if self.keeps_blank(out.as_slice()) {
+            self.is_blank_mended = self.is_blank_mended || !is_space;
+            out.extend_from_slice(b" ")
         } else {
-            is_between
-        };
-        if is_kept {
-            out.push(b' ')?;
+            self.is_blank_mended = true;
+            Ok(())
         }
-        self.is_blank_mended = self.is_blank_mended || !is_kept || !is_space;
-        Ok(())
+    }
+
+    /// Appends the word 'receive' for so many bytes.
+    fn put_receive(
+        &mut self,
+        count: usize,
+        out: &mut Vec<u8>,
+        mended: &mut Mended,
+    ) -> Result<(), AllocError> {
+        if !self.rest.starts_with(b"'receive'".as_slice()) {
+            mended.quotes = mended.quotes.saturating_add(1);
+        }
+        self.skip(count);
+        out.extend_from_slice(b"'receive'")
     }
 
     /// Appends what the line goes on with.
@@ -132,23 +157,13 @@ impl<'a> Mender<'a> {
         if blanks > 0 {
             return self.put_blanks(blanks, out);
         }
-        let word = if out.ends_with(b"{".as_slice()) {
-            receive_bytes(self.rest)
-        } else {
-            None
-        };
-        if let Some(count) = word {
-            if !self.rest.starts_with(b"'receive'".as_slice()) {
-                mended.quotes = mended.quotes.saturating_add(1);
+        if out.ends_with(b"{".as_slice()) {
+            if let Some(count) = receive_bytes(self.rest) {
+                return self.put_receive(count, out, mended);
             }
-            self.skip(count);
-            out.extend_from_slice(b"'receive'")?;
-            return Ok(());
         }
-        let is_pid_mark = self.rest.starts_with(b"#Pid<".as_slice())
-            || self.rest.starts_with(b"#PID<".as_slice());
         // Of two in a row both stay, so that mending twice is mending once.
-        if is_pid_mark && !ends_in_pid_mark(out.as_slice()) {
+        if begins_with_pid_mark(self.rest) && !ends_in_pid_mark(out.as_slice()) {
             mended.pids = mended.pids.saturating_add(1);
             self.skip(4);
             return Ok(());
@@ -165,13 +180,12 @@ pub(crate) fn mend_line(
 ) -> Result<(), AllocError> {
     out.clear();
     let kind = kind_of(line);
-    if kind == Kind::Comment {
-        out.extend_from_slice(line)?;
-        return Ok(());
+    if matches!(kind, Kind::Comment) {
+        return out.extend_from_slice(line);
     }
     let mut mender = Mender {
         rest: line,
-        is_event: kind == Kind::Event,
+        is_event: matches!(kind, Kind::Event),
         is_blank_mended: false,
     };
     for _ in 0..line.len() {

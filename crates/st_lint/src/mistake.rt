@@ -22,7 +22,7 @@ pub(crate) enum Wanted<'a> {
 }
 
 /// What it takes to be rid of a mistake.
-#[derive(Clone, Copy, PartialEq, Eq)]
+#[derive(Clone, Copy)]
 pub(crate) enum Cure {
     /// A person's decision.
     ByHand,

@@ -5,12 +5,14 @@ use crate::judge::LIMITS;
 use crate::mistake::Mistake;
 use crate::report::say_place;
 use st_core::{ByteSink, MemorySource};
-use st_say::say;
-use st_text::{Buffer, Device, flush, read_within};
+use st_say::TextWriter;
+use st_text::{Device, read_within};
 use std::alloc::Global;
 
-/// The first mistake of a text that the reader refuses, if there is memory to find it.
-fn mistake_of(alloc: Global, text: &[u8]) -> Option<Mistake<'_>> {
+/// The first mistake of a text that the reader refuses, if the text was kept and there is memory to
+/// find it.
+fn mistake_of(alloc: Global, text: Option<&[u8]>) -> Option<Mistake<'_>> {
+    let text = text?;
     match read_within(alloc, &mut MemorySource::new(text, None), LIMITS) {
         Ok(_) => None,
         Err(_) => findings_of(alloc, text, 0).ok()?.first_refused,
@@ -26,21 +28,21 @@ pub fn tell_place<N: ByteSink>(
     words: &[u8],
     notes: &mut N,
 ) -> Result<(), Device> {
-    let mut buffer = Buffer::new();
-    say(notes, &mut buffer, b"error: ")?;
-    say(notes, &mut buffer, name.as_bytes())?;
-    match text.and_then(|text| mistake_of(alloc, text)) {
+    let mut out = TextWriter::new(notes);
+    out.say("error: ");
+    out.say(name);
+    match mistake_of(alloc, text) {
         Some(mistake) => {
-            say(notes, &mut buffer, b", ")?;
-            say_place(notes, &mut buffer, &mistake)?;
-            say(notes, &mut buffer, b"; ")?;
-            say(notes, &mut buffer, mistake.remedy.as_bytes())?;
+            out.say(", ");
+            say_place(&mut out, &mistake);
+            out.say("; ");
+            out.say(mistake.remedy);
         }
         None => {
-            say(notes, &mut buffer, b": ")?;
-            say(notes, &mut buffer, words)?;
+            out.say(": ");
+            out.say_bytes(words);
         }
     }
-    say(notes, &mut buffer, b"; see seqtool lint\n")?;
-    flush(notes, &mut buffer)
+    out.say("; see seqtool lint\n");
+    out.flush()
 }

@@ -3,6 +3,7 @@
 use crate::kind::{Kind, form_of_act, kind_of};
 use crate::mend::behind_quote;
 use crate::scan::Expected;
+use memchr::memchr;
 use st_column::Above;
 
 /// What to do about a text without a header, or with a wrong one.
@@ -55,12 +56,13 @@ fn remedy_of_kind(kind: Kind, above: Above) -> Option<&'static str> {
 
 /// What is behind the second brace of an event.
 fn word_of(line: &[u8]) -> &[u8] {
-    for (i, byte) in line.iter().enumerate().skip(1) {
-        if *byte == b'{' {
-            return line.split_at(i.saturating_add(1).min(line.len())).1;
-        }
+    let [_, behind @ ..] = line else {
+        return b"";
+    };
+    match memchr(b'{', behind) {
+        Some(end) => behind.split_at(end.saturating_add(1).min(behind.len())).1,
+        None => b"",
     }
-    b""
 }
 
 /// What to do about the word of an event that isn't send, 'receive' or print.
@@ -93,10 +95,10 @@ fn remedy_of_bytes(rest: &[u8]) -> &'static str {
 
 /// Whether a blank between two digits is at the column.
 fn is_within_number(front: &[u8], rest: &[u8]) -> bool {
-    let is_behind_digit = front.last().is_some_and(|byte| byte.is_ascii_digit());
     let behind = rest.trim_ascii_start();
-    let is_blank = behind.len() < rest.len();
-    is_behind_digit && is_blank && behind.first().is_some_and(|byte| byte.is_ascii_digit())
+    behind.len() < rest.len()
+        && matches!(front, [.., b'0'..=b'9'])
+        && matches!(behind, [b'0'..=b'9', ..])
 }
 
 /// What to do about what is at the column, if its first byte tells that.
@@ -106,17 +108,18 @@ fn remedy_of_byte(
     kind: Kind,
     expected: Expected,
 ) -> Option<&'static str> {
+    let ends = matches!(expected, Expected::End);
     match rest.first().copied()? {
         b'\r' => Some("a carriage return: end lines with a newline alone"),
         b' ' | b'\t' if rest.trim_ascii().is_empty() => {
             Some("a blank ends the line: leave it out")
         }
-        b' ' | b'\t' if kind == Kind::Other => None,
-        b' ' | b'\t' if expected != Expected::End && is_within_number(front, rest) => {
+        b' ' | b'\t' if matches!(kind, Kind::Other) => None,
+        b' ' | b'\t' if !ends && is_within_number(front, rest) => {
             Some("a blank within a number")
         }
-        b'\t' if kind != Kind::Event => Some("one space separates words, and no tab"),
-        b' ' | b'\t' if expected != Expected::End => Some("a blank too many: leave it out"),
+        b'\t' if !matches!(kind, Kind::Event) => Some("one space separates words, and no tab"),
+        b' ' | b'\t' if !ends => Some("a blank too many: leave it out"),
         b'#' => Some("a pid is written <0.30.0>, without #Pid before it"),
         0 => Some("a byte of 0, as in a file that wasn't written to its end: leave it out"),
         128.. => Some(remedy_of_bytes(rest)),

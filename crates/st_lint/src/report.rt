@@ -4,8 +4,7 @@ use crate::findings::Findings;
 use crate::mistake::{Mistake, Wanted};
 use crate::scan::Expected;
 use st_core::ByteSink;
-use st_say::{say, say_number};
-use st_text::{Buffer, Device};
+use st_say::TextWriter;
 
 /// So many bytes of a line are shown, on one line of a wide terminal; of a longer line those
 /// around the column.
@@ -15,60 +14,47 @@ const SHOWN: usize = 150;
 const IN_FRONT: usize = 60;
 
 /// Writes what the grammar has at a column.
-fn say_expected<W: ByteSink>(
-    writer: &mut W,
-    buffer: &mut Buffer,
-    expected: Expected,
-) -> Result<(), Device> {
+fn say_expected<W: ByteSink>(out: &mut TextWriter<'_, W>, expected: Expected) {
     match expected {
-        Expected::Text(" ") => say(writer, buffer, b"one space"),
-        Expected::Text(text) => say(writer, buffer, text.as_bytes()),
-        Expected::Thing(thing) => say(writer, buffer, thing.as_bytes()),
+        Expected::Text(" ") => out.say("one space"),
+        Expected::Text(text) => out.say(text),
+        Expected::Thing(thing) => out.say(thing),
         Expected::Number(noun, most) => {
-            say(writer, buffer, noun.as_bytes())?;
-            say(writer, buffer, b" up to ")?;
-            say_number(writer, buffer, most)
+            out.say(noun);
+            out.say_part(" up to ", most);
         }
-        Expected::NoLeadingZero => say(writer, buffer, b"no digit behind a leading 0"),
-        Expected::EventEnd => say(writer, buffer, b"}"),
-        Expected::End => say(writer, buffer, b"the end of the line"),
+        Expected::NoLeadingZero => out.say("no digit behind a leading 0"),
+        Expected::EventEnd => out.say("}"),
+        Expected::End => out.say("the end of the line"),
     }
 }
 
 /// Writes what could be at a column.
-fn say_wanted<W: ByteSink>(
-    writer: &mut W,
-    buffer: &mut Buffer,
-    wanted: Wanted<'_>,
-) -> Result<(), Device> {
+fn say_wanted<W: ByteSink>(out: &mut TextWriter<'_, W>, wanted: Wanted<'_>) {
     match wanted {
-        Wanted::Grammar(expected) => say_expected(writer, buffer, expected),
+        Wanted::Grammar(expected) => say_expected(out, expected),
         Wanted::Above(pid) => {
-            say(writer, buffer, b"a pid above ")?;
-            say(writer, buffer, pid.as_bytes())
+            out.say("a pid above ");
+            out.say(pid);
         }
         Wanted::EventOf(pid, other) => {
-            say(writer, buffer, b"an event of ")?;
-            say(writer, buffer, pid.as_bytes())?;
-            say(writer, buffer, b", this is one of ")?;
-            say(writer, buffer, other.as_bytes())
+            out.say("an event of ");
+            out.say(pid);
+            out.say(", this is one of ");
+            out.say(other);
         }
         Wanted::Listed(pid) => {
-            say(writer, buffer, b"a pid with a process line, ")?;
-            say(writer, buffer, pid.as_bytes())?;
-            say(writer, buffer, b" has none")
+            out.say("a pid with a process line, ");
+            out.say(pid);
+            out.say(" has none");
         }
-        Wanted::Greater(count) => {
-            say(writer, buffer, b"a number above ")?;
-            say_number(writer, buffer, count)
-        }
+        Wanted::Greater(count) => out.say_part("a number above ", count),
         Wanted::NoMore(noun, most) => {
-            say(writer, buffer, b"no ")?;
-            say(writer, buffer, noun.as_bytes())?;
-            say(writer, buffer, b" more than ")?;
-            say_number(writer, buffer, u64::from(most))
+            out.say("no ");
+            out.say(noun);
+            out.say_part(" more than ", u64::from(most));
         }
-        Wanted::Words(words) => say(writer, buffer, words.as_bytes()),
+        Wanted::Words(words) => out.say(words),
     }
 }
 
@@ -76,56 +62,45 @@ fn say_wanted<W: ByteSink>(
 const DIGITS: &[u8; 16] = b"0123456789abcdef";
 
 /// As many blanks as a byte takes places where a line is shown.
-fn blanks(byte: u8) -> &'static [u8] {
+fn blanks(byte: u8) -> &'static str {
     match byte {
-        b' '..=b'~' => b" ",
-        b'\t' => b"  ",
-        _ => b"    ",
+        b' '..=b'~' => " ",
+        b'\t' => "  ",
+        _ => "    ",
     }
 }
 
 /// Writes a byte: one that isn't seen, or isn't ASCII, as `\\t` or `\\xNN`.
-fn say_byte<W: ByteSink>(writer: &mut W, buffer: &mut Buffer, byte: u8) -> Result<(), Device> {
+fn say_byte<W: ByteSink>(out: &mut TextWriter<'_, W>, byte: u8) {
     match byte {
-        b' '..=b'~' => say(writer, buffer, &[byte]),
-        b'\t' => say(writer, buffer, b"\\t"),
+        b' '..=b'~' => out.say_bytes(&[byte]),
+        b'\t' => out.say("\\t"),
         _ => {
             let high = DIGITS[(byte / 16) as usize];
             let low = DIGITS[(byte % 16) as usize];
-            say(writer, buffer, &[b'\\', b'x', high, low])
+            out.say_bytes(&[b'\\', b'x', high, low]);
         }
     }
 }
 
 /// Writes bytes so that each is seen.
-fn say_bytes<W: ByteSink>(writer: &mut W, buffer: &mut Buffer, bytes: &[u8]) -> Result<(), Device> {
+fn say_bytes<W: ByteSink>(out: &mut TextWriter<'_, W>, bytes: &[u8]) {
     for byte in bytes {
-        say_byte(writer, buffer, *byte)?;
+        say_byte(out, *byte);
     }
-    Ok(())
 }
 
 /// Writes blanks below these bytes of a line.
-fn say_blanks<W: ByteSink>(
-    writer: &mut W,
-    buffer: &mut Buffer,
-    bytes: &[u8],
-) -> Result<(), Device> {
+fn say_blanks<W: ByteSink>(out: &mut TextWriter<'_, W>, bytes: &[u8]) {
     for byte in bytes {
-        say(writer, buffer, blanks(*byte))?;
+        out.say(blanks(*byte));
     }
-    Ok(())
 }
 
 /// Writes a line, or what is around the column in a long one, and a mark below the column.
-fn say_line<W: ByteSink>(
-    writer: &mut W,
-    buffer: &mut Buffer,
-    line: &[u8],
-    column: usize,
-) -> Result<(), Device> {
+fn say_line<W: ByteSink>(out: &mut TextWriter<'_, W>, line: &[u8], column: usize) {
     if line.is_empty() {
-        return Ok(());
+        return;
     }
     let (before, rest) = line.split_at(column.min(line.len()));
     let cut = if line.len() > SHOWN {
@@ -136,85 +111,61 @@ fn say_line<W: ByteSink>(
     let (_, before) = before.split_at(cut.min(before.len()));
     let room = SHOWN.saturating_sub(before.len());
     let (shown, left) = rest.split_at(room.min(rest.len()));
-    let dots: &[u8] = if cut > 0 { b"  .. " } else { b"  " };
-    say(writer, buffer, dots)?;
-    say_bytes(writer, buffer, before)?;
-    say_bytes(writer, buffer, shown)?;
-    say(
-        writer,
-        buffer,
-        if left.is_empty() { b"\n" } else { b" ..\n" },
-    )?;
-    say_blanks(writer, buffer, dots)?;
-    say_blanks(writer, buffer, before)?;
-    say(writer, buffer, b"^\n")
+    let dots = if cut > 0 { "  .. " } else { "  " };
+    out.say(dots);
+    say_bytes(out, before);
+    say_bytes(out, shown);
+    out.say(if left.is_empty() { "\n" } else { " ..\n" });
+    say_blanks(out, dots.as_bytes());
+    say_blanks(out, before);
+    out.say("^\n");
 }
 
 /// Writes the place of a mistake and what could be there.
-pub(crate) fn say_place<W: ByteSink>(
-    writer: &mut W,
-    buffer: &mut Buffer,
-    mistake: &Mistake<'_>,
-) -> Result<(), Device> {
-    say(writer, buffer, b"line ")?;
-    say_number(writer, buffer, mistake.number)?;
-    say(writer, buffer, b", column ")?;
-    let column = (mistake.column as u64).saturating_add(1);
-    say_number(writer, buffer, column)?;
-    say(writer, buffer, b": expected ")?;
-    say_wanted(writer, buffer, mistake.wanted)
+pub(crate) fn say_place<W: ByteSink>(out: &mut TextWriter<'_, W>, mistake: &Mistake<'_>) {
+    out.say_part("line ", mistake.number);
+    out.say_part(", column ", (mistake.column as u64).saturating_add(1));
+    out.say(": expected ");
+    say_wanted(out, mistake.wanted);
 }
 
 /// Writes a mistake.
-fn say_mistake<W: ByteSink>(
-    writer: &mut W,
-    buffer: &mut Buffer,
-    mistake: &Mistake<'_>,
-) -> Result<(), Device> {
-    say_place(writer, buffer, mistake)?;
-    say(writer, buffer, b"\n")?;
-    say_line(writer, buffer, mistake.line, mistake.column)?;
-    say(writer, buffer, mistake.remedy.as_bytes())?;
-    say(writer, buffer, b"\n")
+fn say_mistake<W: ByteSink>(out: &mut TextWriter<'_, W>, mistake: &Mistake<'_>) {
+    say_place(out, mistake);
+    out.say("\n");
+    say_line(out, mistake.line, mistake.column);
+    out.say(mistake.remedy);
+    out.say("\n");
 }
 
 /// Writes how many mistakes there are, how many of them are named, and how many `--fix` mends.
-fn say_counts<W: ByteSink>(
-    writer: &mut W,
-    buffer: &mut Buffer,
-    findings: &Findings<'_>,
-) -> Result<(), Device> {
-    say_number(writer, buffer, findings.count)?;
-    let noun: &[u8] = if findings.count == 1 {
-        b" mistake"
+fn say_counts<W: ByteSink>(out: &mut TextWriter<'_, W>, findings: &Findings<'_>) {
+    out.say_number(findings.count);
+    out.say(if findings.count == 1 {
+        " mistake"
     } else {
-        b" mistakes"
-    };
-    say(writer, buffer, noun)?;
+        " mistakes"
+    });
     let named = findings.named.len() as u64;
     if named < findings.count {
-        say(writer, buffer, b", the first ")?;
-        say_number(writer, buffer, named)?;
-        say(writer, buffer, b" of them here (--most N names more)")?;
+        out.say_part(", the first ", named);
+        out.say(" of them here (--most N names more)");
     }
     if findings.by_fix > 0 {
-        say(writer, buffer, b"; --fix mends ")?;
-        say_number(writer, buffer, findings.by_fix)?;
+        out.say_part("; --fix mends ", findings.by_fix);
     }
-    say(writer, buffer, b"\n")
+    out.say("\n");
 }
 
 /// Writes the mistakes that are named, and how many there are if that isn't seen.
-pub(crate) fn say_findings<W: ByteSink>(
-    writer: &mut W,
-    buffer: &mut Buffer,
-    findings: &Findings<'_>,
-) -> Result<(), Device> {
+pub(crate) fn say_findings<W: ByteSink>(out: &mut TextWriter<'_, W>, findings: &Findings<'_>) {
     for mistake in &findings.named {
-        say_mistake(writer, buffer, mistake)?;
+        if out.has_failed() {
+            return;
+        }
+        say_mistake(out, mistake);
     }
     if findings.count > 1 || findings.by_fix > 0 || findings.named.is_empty() {
-        say_counts(writer, buffer, findings)?;
+        say_counts(out, findings);
     }
-    Ok(())
 }

@@ -7,7 +7,7 @@ use arrayvec::ArrayVec;
 use st_column::Above;
 
 /// What could be at the first byte at which no line goes on.
-#[derive(Clone, Copy, PartialEq, Eq)]
+#[derive(Clone, Copy)]
 pub(crate) enum Expected {
     /// These very bytes.
     Text(&'static str),
@@ -24,7 +24,7 @@ pub(crate) enum Expected {
 }
 
 /// A pid of a line, by the columns at which it begins and ends, counted from 0, and its numbers.
-#[derive(Clone, Copy, Default, PartialEq, Eq)]
+#[derive(Clone, Copy, Default)]
 pub(crate) struct Place {
     /// The column of its `<`.
     pub(crate) start: usize,
@@ -35,7 +35,7 @@ pub(crate) struct Place {
 }
 
 /// The two numbers of an event's serial, and the column at which the second begins.
-#[derive(Clone, Copy, PartialEq, Eq)]
+#[derive(Clone, Copy)]
 pub(crate) struct Counts {
     pub(crate) prev: u64,
     pub(crate) this: u64,
@@ -43,7 +43,7 @@ pub(crate) struct Counts {
 }
 
 /// What a line is.
-#[derive(Clone, Copy, PartialEq, Eq)]
+#[derive(Clone, Copy)]
 pub(crate) enum Sort {
     /// The header.
     Header,
@@ -70,7 +70,7 @@ const MOST_PID: u64 = 65_535;
 /// The greatest label.
 const MOST_LABEL: u64 = 4_294_967_295;
 
-/// A line under way.
+/// A line under way. Once the line has gone wrong, nothing more passes.
 #[derive(Drop)]
 pub(crate) struct Scan<'a> {
     line: &'a [u8],
@@ -78,6 +78,8 @@ pub(crate) struct Scan<'a> {
     pids: ArrayVec<Place, PIDS>,
     counts: Option<Counts>,
     is_remote: bool,
+    // What could be where the line went wrong.
+    missed: Option<Expected>,
 }
 
 /// How many bytes two texts have in common at their front.
@@ -109,11 +111,12 @@ impl<'a> Scan<'a> {
             pids: ArrayVec::new(),
             counts: None,
             is_remote: false,
+            missed: None,
         }
     }
 
     /// How many bytes have passed.
-    pub(crate) fn at(&self) -> usize {
+    fn at(&self) -> usize {
         self.line.len().saturating_sub(self.rest.len())
     }
 
@@ -137,207 +140,217 @@ impl<'a> Scan<'a> {
         self.rest = self.rest.split_at(count.min(self.rest.len())).1;
     }
 
-    /// Passes these bytes, or those of them that are here.
-    fn text(&mut self, text: &'static str) -> Result<(), Expected> {
+    /// Passes these bytes, or those of them that are here; this is what could be behind those.
+    fn text_as(&mut self, text: &'static str, expected: Expected) {
+        if self.missed.is_some() {
+            return;
+        }
         let same = common(self.rest, text.as_bytes());
         self.skip(same);
-        if same == text.len() {
-            Ok(())
-        } else {
-            Err(Expected::Text(text))
+        if same < text.len() {
+            self.missed = Some(expected);
         }
     }
 
+    /// Passes these bytes, or those of them that are here.
+    fn text(&mut self, text: &'static str) {
+        self.text_as(text, Expected::Text(text));
+    }
+
     /// Passes the one of these texts that is here, or what one of them has in common with the
-    /// line; says which.
-    fn choose(&mut self, texts: &[&'static str], thing: &'static str) -> Result<usize, Expected> {
+    /// line; says which, and 0 if it is none.
+    fn choose(&mut self, texts: &[&'static str], thing: &'static str) -> usize {
+        if self.missed.is_some() {
+            return 0;
+        }
         let mut best: usize = 0;
         for (i, text) in texts.iter().enumerate() {
             let same = common(self.rest, text.as_bytes());
             if same == text.len() {
                 self.skip(same);
-                return Ok(i);
+                return i;
             }
             best = best.max(same);
         }
         self.skip(best);
-        Err(Expected::Thing(thing))
+        self.missed = Some(Expected::Thing(thing));
+        0
     }
 
-    /// Passes a number up to `most`.
-    fn number(&mut self, noun: &'static str, most: u64) -> Result<u64, Expected> {
+    /// Passes a number up to `most`; says which, and 0 if it is none.
+    fn number(&mut self, noun: &'static str, most: u64) -> u64 {
+        if self.missed.is_some() {
+            return 0;
+        }
         let digits = self.rest;
         let mut value: u64 = 0;
         for (i, byte) in digits.iter().enumerate() {
+            self.rest = &digits[i..];
             if !byte.is_ascii_digit() {
-                self.rest = &digits[i..];
-                return if i == 0 {
-                    Err(Expected::Number(noun, most))
-                } else {
-                    Ok(value)
-                };
+                if i == 0 {
+                    self.missed = Some(Expected::Number(noun, most));
+                }
+                return value;
             }
             if i > 0 && value == 0 {
-                self.rest = &digits[i..];
-                return Err(Expected::NoLeadingZero);
+                self.missed = Some(Expected::NoLeadingZero);
+                return 0;
             }
             match with_digit(value, *byte, most) {
                 Some(grown) => value = grown,
                 None => {
-                    self.rest = &digits[i..];
-                    return Err(Expected::Number(noun, most));
+                    self.missed = Some(Expected::Number(noun, most));
+                    return 0;
                 }
             }
         }
         self.rest = &digits[digits.len()..];
         if digits.is_empty() {
-            Err(Expected::Number(noun, most))
-        } else {
-            Ok(value)
+            self.missed = Some(Expected::Number(noun, most));
         }
+        value
     }
 
     /// Passes a number of 64 bits.
-    fn count(&mut self, noun: &'static str) -> Result<u64, Expected> {
-        self.number(noun, u64::MAX)
+    fn count(&mut self) -> u64 {
+        self.number("a number", u64::MAX)
     }
 
     /// Passes a value.
-    fn value(&mut self) -> Result<(), Expected> {
-        self.count("a value, a number")?;
-        Ok(())
+    fn value(&mut self) {
+        self.number("a value, a number", u64::MAX);
     }
 
     /// Passes a label.
-    fn label(&mut self) -> Result<(), Expected> {
-        self.number("a label", MOST_LABEL)?;
-        Ok(())
+    fn label(&mut self) {
+        self.number("a label", MOST_LABEL);
     }
 
     /// Passes a pid.
-    fn pid(&mut self) -> Result<(), Expected> {
+    fn pid(&mut self) {
         let start = self.at();
-        self.text("<")?;
-        let node = self.number("a pid's node", MOST_PID)?;
+        self.text("<");
+        let node = self.number("a pid's node", MOST_PID);
         self.is_remote = self.is_remote || node > 0;
-        self.text(".")?;
-        let number = self.number("a pid's number", MOST_PID)?;
-        self.text(".")?;
-        self.choose(["0"].as_slice(), "0, the third part of a pid")?;
-        self.text(">")?;
-        let end = self.at();
-        let pid = (node, number);
-        let _ = self.pids.try_push(Place { start, end, pid });
-        Ok(())
+        self.text(".");
+        let number = self.number("a pid's number", MOST_PID);
+        self.text(".");
+        self.choose(&["0"], "0, the third part of a pid");
+        self.text(">");
+        if self.missed.is_none() {
+            let end = self.at();
+            let pid = (node, number);
+            let _ = self.pids.try_push(Place { start, end, pid });
+        }
     }
 
     /// Passes a pid, and says how many bytes it has.
     pub(crate) fn pid_bytes(&mut self) -> Option<usize> {
-        self.pid().ok()?;
-        Some(self.at())
+        self.pid();
+        match self.missed {
+            Some(_) => None,
+            None => Some(self.at()),
+        }
     }
 
     /// Passes a truth value.
-    fn flag(&mut self) -> Result<(), Expected> {
-        self.choose(["true", "false"].as_slice(), "true or false")?;
-        Ok(())
+    fn flag(&mut self) {
+        self.choose(&["true", "false"], "true or false");
     }
 
     /// Passes a serial.
-    fn serial(&mut self) -> Result<(), Expected> {
-        self.text("{")?;
-        let prev = self.count("a number")?;
-        self.text(",")?;
+    fn serial(&mut self) {
+        self.text("{");
+        let prev = self.count();
+        self.text(",");
         let start = self.at();
-        let this = self.count("a number")?;
+        let this = self.count();
         self.counts = Some(Counts { prev, this, start });
-        self.text("}")
+        self.text("}");
     }
 
     /// Passes an event behind its first word.
-    fn event(&mut self) -> Result<Sort, Expected> {
-        self.label()?;
-        self.text(",")?;
-        self.text("{")?;
-        let kind = self.choose(
-            ["send,", "'receive',", "print,"].as_slice(),
-            "send, 'receive' or print",
-        )?;
-        self.serial()?;
-        self.text(",")?;
-        self.pid()?;
-        self.text(",")?;
+    fn event(&mut self) -> Sort {
+        self.label();
+        self.text(",");
+        self.text("{");
+        let words = ["send,", "'receive',", "print,"];
+        let kind = self.choose(&words, "send, 'receive' or print");
+        self.serial();
+        self.text(",");
+        self.pid();
+        self.text(",");
         if kind == 2 {
-            self.text("[]")?;
+            self.text("[]");
         } else {
-            self.pid()?;
+            self.pid();
         }
-        self.text(",")?;
-        self.value()?;
-        self.text("}")?;
-        self.text("}").map_err(|_| Expected::EventEnd)?;
-        Ok(if kind == 1 {
+        self.text(",");
+        self.value();
+        self.text("}");
+        self.text_as("}", Expected::EventEnd);
+        if kind == 1 {
             Sort::Receive
         } else {
             Sort::Stamp
-        })
+        }
     }
 
     /// Passes what a receive wants.
-    fn want(&mut self) -> Result<(), Expected> {
+    fn want(&mut self) {
         let words = ["first", "from ", "value ", "both ", "place "];
-        match self.choose(words.as_slice(), "first, from, value, both or place")? {
-            0 => Ok(()),
+        match self.choose(&words, "first, from, value, both or place") {
+            0 => {}
             1 => self.pid(),
             3 => {
-                self.pid()?;
-                self.text(" ")?;
-                self.value()
+                self.pid();
+                self.text(" ");
+                self.value();
             }
             _ => self.value(),
         }
     }
 
     /// Passes a component.
-    fn component(&mut self) -> Result<(), Expected> {
+    fn component(&mut self) {
         let words = ["label ", "send ", "receive ", "print "];
-        match self.choose(words.as_slice(), "label, send, receive or print")? {
+        match self.choose(&words, "label, send, receive or print") {
             0 => self.label(),
             _ => self.flag(),
         }
     }
 
     /// Passes a token.
-    fn token(&mut self) -> Result<(), Expected> {
-        self.label()?;
-        self.text(" ")?;
-        self.flag()?;
-        self.text(" ")?;
-        self.flag()?;
-        self.text(" ")?;
-        self.flag()?;
-        self.text(" ")?;
-        self.count("a number")?;
-        self.text(" ")?;
-        self.count("a number")?;
-        self.text(" ")?;
-        self.pid()
+    fn token(&mut self) {
+        self.label();
+        self.text(" ");
+        self.flag();
+        self.text(" ");
+        self.flag();
+        self.text(" ");
+        self.flag();
+        self.text(" ");
+        self.count();
+        self.text(" ");
+        self.count();
+        self.text(" ");
+        self.pid();
     }
 
     /// Passes what is behind the actor of the act of this number among `ACTS`.
-    fn act_fields(&mut self, act: usize) -> Result<(), Expected> {
+    fn act_fields(&mut self, act: usize) {
         match act {
             0 => {
-                self.pid()?;
-                self.text(" ")?;
-                self.value()
+                self.pid();
+                self.text(" ");
+                self.value();
             }
             1 => self.want(),
             2 => self.value(),
             3 => {
-                self.label()?;
-                self.text(" ")?;
-                self.value()
+                self.label();
+                self.text(" ");
+                self.value();
             }
             4 => self.component(),
             5 => self.token(),
@@ -346,45 +359,40 @@ impl<'a> Scan<'a> {
     }
 
     /// Passes an act.
-    fn act(&mut self) -> Result<Sort, Expected> {
-        let act = self.choose(ACTS.as_slice(), "an act")?;
-        self.pid()?;
+    fn act(&mut self) -> Sort {
+        let act = self.choose(&ACTS, "an act");
+        self.pid();
         if act < BARE {
-            self.text(" ")?;
-            self.act_fields(act)?;
+            self.text(" ");
+            self.act_fields(act);
         }
-        Ok(if act == 0 { Sort::SendAct } else { Sort::Act })
+        if act == 0 { Sort::SendAct } else { Sort::Act }
     }
 
     /// Passes a process line behind its word.
-    fn process(&mut self) -> Result<Sort, Expected> {
-        self.pid()?;
-        Ok(Sort::Process)
+    fn process(&mut self) -> Sort {
+        self.pid();
+        Sort::Process
     }
 
-    /// Passes a line that may be below what is above.
-    fn content(&mut self, above: Above) -> Result<Sort, Expected> {
+    /// Passes a line that may be below what is above; says what it is if it didn't go wrong.
+    fn content(&mut self, above: Above) -> Sort {
         match above {
             Above::Nothing => {
-                self.choose(
-                    ["seqtrace 1", "seqtrace 2"].as_slice(),
-                    "the header seqtrace 1 or seqtrace 2",
-                )?;
-                Ok(Sort::Header)
+                let words = ["seqtrace 1", "seqtrace 2"];
+                self.choose(&words, "the header seqtrace 1 or seqtrace 2");
+                Sort::Header
             }
-            Above::Header => match self.choose(
-                ["process ", "acts"].as_slice(),
-                "a process line, or acts",
-            )? {
+            Above::Header => match self.choose(&["process ", "acts"], "a process line, or acts") {
                 0 => self.process(),
-                _ => Ok(Sort::Acts),
+                _ => Sort::Acts,
             },
             Above::Process => {
                 let words = ["{seq_trace,", "process ", "acts"];
-                match self.choose(words.as_slice(), "an event, a process line, or acts")? {
+                match self.choose(&words, "an event, a process line, or acts") {
                     0 => self.event(),
                     1 => self.process(),
-                    _ => Ok(Sort::Acts),
+                    _ => Sort::Acts,
                 }
             }
             Above::Acts => self.act(),
@@ -393,11 +401,11 @@ impl<'a> Scan<'a> {
 
     /// Passes a whole line that may be below what is above.
     pub(crate) fn whole(&mut self, above: Above) -> Result<Sort, Expected> {
-        let sort = self.content(above)?;
-        if self.rest.is_empty() {
-            Ok(sort)
-        } else {
-            Err(Expected::End)
+        let sort = self.content(above);
+        match self.missed {
+            Some(expected) => Err(expected),
+            None if self.rest.is_empty() => Ok(sort),
+            None => Err(Expected::End),
         }
     }
 }

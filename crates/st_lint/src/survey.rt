@@ -4,9 +4,10 @@
 //! A process line counts if it begins as one, even if something else in it is wrong: its own
 //! mistake is enough.
 
-use crate::kind::MARK;
+use crate::kind::behind_mark;
 use crate::scan::{Scan, common};
 use crate::text::Text;
+use memchr::memchr;
 use std::alloc::{AllocError, Global};
 use std::str;
 
@@ -21,9 +22,10 @@ pub(crate) struct Survey<'a> {
 
 /// The pid of a line that begins as a process line, if it can be read.
 pub(crate) fn process_pid(line: &[u8]) -> Option<&str> {
-    let line = line.strip_prefix(MARK.as_slice()).unwrap_or(line);
-    let rest = line.trim_ascii_start().strip_prefix(b"process".as_slice())?;
-    let start = rest.iter().position(|byte| *byte == b'<')?;
+    let rest = behind_mark(line)
+        .trim_ascii_start()
+        .strip_prefix(b"process".as_slice())?;
+    let start = memchr(b'<', rest)?;
     let (_, open) = rest.split_at(start.min(rest.len()));
     let count = Scan::new(open).pid_bytes()?;
     str::from_utf8(open.split_at(count.min(open.len())).0).ok()
@@ -31,8 +33,21 @@ pub(crate) fn process_pid(line: &[u8]) -> Option<&str> {
 
 /// Whether a line names a pid of a node other than 0, which begins with `<` and another number.
 fn names_remote(line: &[u8]) -> bool {
-    line.windows(2)
-        .any(|pair| matches!(pair, [b'<', b'1'..=b'9']))
+    for pair in line.windows(2) {
+        if matches!(pair, [b'<', b'1'..=b'9']) {
+            return true;
+        }
+    }
+    false
+}
+
+/// How many bytes a pid's text and that of a listed pid have in common at their front, if there is
+/// one.
+fn common_with(listed: Option<&&str>, pid: &str) -> usize {
+    match listed {
+        Some(listed) => common(listed.as_bytes(), pid.as_bytes()),
+        None => 0,
+    }
 }
 
 impl<'a> Survey<'a> {
@@ -58,12 +73,6 @@ impl<'a> Survey<'a> {
         };
         // Of sorted texts, those that have the most in common with another are its neighbours.
         let (below, above) = self.listed.split_at(place.min(self.listed.len()));
-        let before = below
-            .last()
-            .map_or(0, |other| common(other.as_bytes(), pid.as_bytes()));
-        let behind = above
-            .first()
-            .map_or(0, |other| common(other.as_bytes(), pid.as_bytes()));
-        Some(before.max(behind))
+        Some(common_with(below.last(), pid).max(common_with(above.first(), pid)))
     }
 }

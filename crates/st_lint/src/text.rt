@@ -3,7 +3,7 @@
 ghost use Rattle.std.specs.Prelude.{length};
 ghost use Rattle.std.specs.Iterator.{at_most};
 
-use crate::kind::MARK;
+use crate::kind::behind_mark;
 use memchr::memchr;
 
 /// A line of a text.
@@ -21,9 +21,7 @@ impl<'a> Line<'a> {
     /// Its bytes, without the mark of UTF-8 that the first line of a text may begin with.
     pub(crate) fn behind_mark(&self) -> &'a [u8] {
         if self.number == 1 {
-            self.bytes
-                .strip_prefix(MARK.as_slice())
-                .unwrap_or(self.bytes)
+            behind_mark(self.bytes)
         } else {
             self.bytes
         }

@@ -181,17 +181,17 @@ impl<'a, N: ByteSink> NoWriter<'a, N> {
     }
 
     /// Writes a line of the text, in front of what is there.
-    fn say_line(&mut self, line: u64) -> Result<(), Device> {
-        self.out.say_part("line ", line)?;
-        self.out.say(", ")
+    fn say_line(&mut self, line: u64) {
+        self.out.say_part("line ", line);
+        self.out.say(", ");
     }
 
     /// Writes where an event is, with its line if that is known.
-    fn say_event_place(&mut self, place: (Pid, u64)) -> Result<(), Device> {
+    fn say_event_place(&mut self, place: (Pid, u64)) {
         if let Some((line, _)) = self.event(place) {
-            self.say_line(line)?;
+            self.say_line(line);
         }
-        self.out.say_place(place.0, place.1)
+        self.out.say_place(place.0, place.1);
     }
 
     /// Whether the events at both places are known and are the same, so that their lines are too.
@@ -203,86 +203,81 @@ impl<'a, N: ByteSink> NoWriter<'a, N> {
     }
 
     /// Writes an event, where it is, and the reason.
-    fn say_unfit(
-        &mut self,
-        place: (Pid, u64),
-        word: &str,
-        other: Option<(Pid, u64)>,
-    ) -> Result<(), Device> {
-        self.say_event_place(place)?;
-        self.out.say(": ")?;
+    fn say_unfit(&mut self, place: (Pid, u64), word: &str, other: Option<(Pid, u64)>) {
+        self.say_event_place(place);
+        self.out.say(": ");
         if let Some((_, event)) = self.event(place) {
-            self.out.say_event(&event)?;
-            self.out.say(": ")?;
+            self.out.say_event(&event);
+            self.out.say(": ");
         }
         let meaning = meaning_of(word);
-        self.out.say(meaning.front)?;
+        self.out.say(meaning.front);
         if let Some(other) = other {
-            self.say_event_place(other)?;
+            self.say_event_place(other);
         }
-        self.out.say(meaning.back)?;
-        self.out.say(meaning.conclusion)?;
+        self.out.say(meaning.back);
+        self.out.say(meaning.conclusion);
         match other {
             Some(other) if self.are_alike(place, other) => self.out.say(TWICE),
-            _ => Ok(()),
+            _ => {}
         }
     }
 
     /// Writes an act, where it is, and what is said of it.
-    fn say_refused(&mut self, number: u64, words: &str) -> Result<(), Device> {
+    fn say_refused(&mut self, number: u64, words: &str) {
         let act = self.act(number);
         if let Some((line, _)) = act {
-            self.say_line(line)?;
+            self.say_line(line);
         }
-        self.out.say_part("act ", number)?;
-        self.out.say(": ")?;
+        self.out.say_part("act ", number);
+        self.out.say(": ");
         if let Some((_, act)) = act {
-            self.out.say_act(&act)?;
-            self.out.say(": ")?;
+            self.out.say_act(&act);
+            self.out.say(": ");
         }
-        self.out.say(words)?;
-        self.out.say("; see seqtool explain")
+        self.out.say(words);
+        self.out.say("; see seqtool explain");
     }
 
     /// Writes that events of a process are left, with the line of the process.
-    fn say_left(&mut self, pid: Pid) -> Result<(), Device> {
+    fn say_left(&mut self, pid: Pid) {
         if let Some((line, _)) = self.event((pid, 0)) {
-            self.say_line(line.saturating_sub(1))?;
+            self.say_line(line.saturating_sub(1));
         }
-        self.out.say("process ")?;
-        self.out.say_pid(pid)?;
-        self.out.say(": the acts end before all its events are reported; see seqtool explain")
+        self.out.say("process ");
+        self.out.say_pid(pid);
+        self.out.say(": the acts end before all its events are reported; see seqtool explain");
     }
 
     /// Writes that a process has no such event, and which it has.
-    fn say_no_event(&mut self, pid: Pid, index: u64) -> Result<(), Device> {
-        self.out.say_place(pid, index)?;
-        self.out.say(": there is no such event")?;
+    fn say_no_event(&mut self, pid: Pid, index: u64) {
+        self.out.say_place(pid, index);
+        self.out.say(": there is no such event");
         let Some(known) = &self.known else {
-            return Ok(());
+            return;
         };
         let count = known.bundle.streams.len(pid);
         match known.event((pid, 0)) {
             None if known.bundle.streams.pids().contains(&pid) => {
-                self.out.say(": this process has none")
+                self.out.say(": this process has none");
             }
             None => self.out.say(": the trace lists no such process"),
             Some((first, _)) => {
-                self.out.say_part(": this process has ", count)?;
-                self.out.say_part(", from line ", first)?;
-                self.out.say(" on")
+                self.out.say_part(": this process has ", count);
+                self.out.say_part(", from line ", first);
+                self.out.say(" on");
             }
         }
     }
 
     /// Writes a number behind the word for what it is, and words.
-    fn say_missing(&mut self, what: &str, number: u64, words: &str) -> Result<(), Device> {
-        self.out.say_part(what, number)?;
-        self.out.say(words)
+    fn say_missing(&mut self, what: &str, number: u64, words: &str) {
+        self.out.say_part(what, number);
+        self.out.say(words);
     }
 
     /// Writes what a no says.
-    fn say_no(&mut self, no: No<'_>) -> Result<(), Device> {
+    fn say_no(&mut self, no: No<'_>) {
         match no {
             No::Event(place, word, other) => self.say_unfit(place, word, other),
             No::Stuck(number) => self.say_refused(number, NO_STEP),
@@ -301,11 +296,11 @@ impl<'a, N: ByteSink> NoWriter<'a, N> {
     /// Writes what a no says of the text of this name, and all that waits.
     fn send(&mut self, name: &str, no: No<'_>) -> Result<(), Device> {
         let (front, mark) = marks_of(no);
-        self.out.say(front)?;
-        self.out.say(name)?;
-        self.out.say(mark)?;
-        self.say_no(no)?;
-        self.out.say("\n")?;
+        self.out.say(front);
+        self.out.say(name);
+        self.out.say(mark);
+        self.say_no(no);
+        self.out.say("\n");
         self.out.flush()
     }
 }

@@ -1,14 +1,24 @@
 //! A sink with a buffer in front of it, on the stack: what is said takes no memory.
 
-use crate::pieces::{say, say_number};
-use st_core::{Act, ByteSink, Event, Kind, Pid, Serial};
-use st_text::{Buffer, Device, flush, make_room, put_act, put_event, put_pid, put_serial};
+ghost use Rattle.std.specs.Prelude.{◌≡◌, true};
+ghost use Rattle.st_text.specs.Room.{line_room, HasRoom};
 
-/// A sink, and what waits to be written to it.
+use st_core::{Act, ByteSink, Event, Kind, Pid, Serial};
+use st_text::{
+    Buffer, Device, flush, make_room, put_act, put_bytes, put_event, put_number, put_pid,
+    put_serial,
+};
+
+/// So many bytes have room in a line.
+const PIECE: usize = 200;
+
+/// A sink, and what waits to be written to it. Once the sink has failed, nothing more is written,
+/// and `flush` says so.
 #[derive(Drop)]
 pub struct TextWriter<'a, W> {
     sink: &'a mut W,
     buffer: Buffer,
+    has_failed: bool,
 }
 
 impl<'a, W: ByteSink> TextWriter<'a, W> {
@@ -17,95 +27,120 @@ impl<'a, W: ByteSink> TextWriter<'a, W> {
         TextWriter {
             sink,
             buffer: Buffer::new(),
+            has_failed: false,
         }
+    }
+
+    /// Whether the sink has failed. What is said from then on is lost, so a long loop may end.
+    pub fn has_failed(&self) -> bool {
+        self.has_failed
+    }
+
+    /// Makes room for one line, and returns whether there is some: there is none once the sink has
+    /// failed.
+    fn has_room(&mut self) -> bool
+        ensures { result ≡ true → HasRoom line_room self.new.buffer }
+    {
+        if !self.has_failed {
+            self.has_failed = make_room(&mut *self.sink, &mut self.buffer).is_err();
+        }
+        !self.has_failed
     }
 
     /// Writes bytes.
-    pub fn say_bytes(&mut self, bytes: &[u8]) -> Result<(), Device> {
-        say(&mut *self.sink, &mut self.buffer, bytes)
+    pub fn say_bytes(&mut self, bytes: &[u8]) {
+        for piece in bytes.chunks(PIECE) {
+            if self.has_room() {
+                put_bytes(&mut self.buffer, piece);
+            }
+        }
     }
 
     /// Writes words.
-    pub fn say(&mut self, words: &str) -> Result<(), Device> {
-        self.say_bytes(words.as_bytes())
+    pub fn say(&mut self, words: &str) {
+        self.say_bytes(words.as_bytes());
     }
 
     /// Writes a number.
-    pub fn say_number(&mut self, number: u64) -> Result<(), Device> {
-        say_number(&mut *self.sink, &mut self.buffer, number)
+    pub fn say_number(&mut self, number: u64) {
+        if self.has_room() {
+            put_number(&mut self.buffer, number);
+        }
     }
 
     /// Writes words and a number.
-    pub fn say_part(&mut self, words: &str, number: u64) -> Result<(), Device> {
-        self.say(words)?;
-        self.say_number(number)
+    pub fn say_part(&mut self, words: &str, number: u64) {
+        self.say(words);
+        self.say_number(number);
     }
 
     /// Writes words and a number, of each of these.
-    pub fn say_parts(&mut self, parts: &[(&str, u64)]) -> Result<(), Device> {
+    pub fn say_parts(&mut self, parts: &[(&str, u64)]) {
         for (words, number) in parts {
-            self.say_part(words, *number)?;
+            self.say_part(words, *number);
         }
-        Ok(())
     }
 
     /// Writes words and a number on a line.
-    pub fn say_count(&mut self, words: &str, count: u64) -> Result<(), Device> {
-        self.say_part(words, count)?;
-        self.say("\n")
+    pub fn say_count(&mut self, words: &str, count: u64) {
+        self.say_part(words, count);
+        self.say("\n");
     }
 
     /// Writes a pid.
-    pub fn say_pid(&mut self, pid: Pid) -> Result<(), Device> {
-        make_room(&mut *self.sink, &mut self.buffer)?;
-        put_pid(&mut self.buffer, pid);
-        Ok(())
+    pub fn say_pid(&mut self, pid: Pid) {
+        if self.has_room() {
+            put_pid(&mut self.buffer, pid);
+        }
     }
 
     /// Writes where an event is: its process and its index there.
-    pub fn say_place(&mut self, pid: Pid, index: u64) -> Result<(), Device> {
-        self.say_pid(pid)?;
-        self.say_part(" ", index)
+    pub fn say_place(&mut self, pid: Pid, index: u64) {
+        self.say_pid(pid);
+        self.say_part(" ", index);
     }
 
     /// Writes a serial.
-    pub fn say_serial(&mut self, serial: Serial) -> Result<(), Device> {
-        make_room(&mut *self.sink, &mut self.buffer)?;
-        put_serial(&mut self.buffer, serial);
-        Ok(())
+    pub fn say_serial(&mut self, serial: Serial) {
+        if self.has_room() {
+            put_serial(&mut self.buffer, serial);
+        }
     }
 
     /// Writes an event.
-    pub fn say_event(&mut self, event: &Event) -> Result<(), Device> {
-        make_room(&mut *self.sink, &mut self.buffer)?;
-        put_event(&mut self.buffer, event);
-        Ok(())
+    pub fn say_event(&mut self, event: &Event) {
+        if self.has_room() {
+            put_event(&mut self.buffer, event);
+        }
     }
 
     /// Writes the other process of a message.
-    pub fn say_other(&mut self, event: &Event) -> Result<(), Device> {
+    pub fn say_other(&mut self, event: &Event) {
         match (event.kind, event.to) {
             (Kind::Send, Some(to)) => {
-                self.say(" to ")?;
-                self.say_pid(to)
+                self.say(" to ");
+                self.say_pid(to);
             }
             (Kind::Receive, _) => {
-                self.say(" from ")?;
-                self.say_pid(event.from)
+                self.say(" from ");
+                self.say_pid(event.from);
             }
-            _ => Ok(()),
+            _ => {}
         }
     }
 
     /// Writes an act.
-    pub fn say_act(&mut self, act: &Act) -> Result<(), Device> {
-        make_room(&mut *self.sink, &mut self.buffer)?;
-        put_act(&mut self.buffer, act);
-        Ok(())
+    pub fn say_act(&mut self, act: &Act) {
+        if self.has_room() {
+            put_act(&mut self.buffer, act);
+        }
     }
 
-    /// Writes what waits.
+    /// Writes what waits. Fails if the sink fails now or has failed before.
     pub fn flush(&mut self) -> Result<(), Device> {
+        if self.has_failed {
+            return Err(Device);
+        }
         flush(&mut *self.sink, &mut self.buffer)
     }
 }
@@ -113,6 +148,6 @@ impl<'a, W: ByteSink> TextWriter<'a, W> {
 /// Sends words alone.
 pub fn send_words<W: ByteSink>(sink: &mut W, words: &str) -> Result<(), Device> {
     let mut out = TextWriter::new(sink);
-    out.say(words)?;
+    out.say(words);
     out.flush()
 }

@@ -35,15 +35,17 @@ fn other_place(pid: Pid, reason: &Reason) -> Option<(Pid, u64)> {
 }
 
 /// Writes an object for each act.
-fn say_acts<W: ByteSink>(out: &mut TextWriter<'_, W>, acts: &[Act]) -> Result<(), Device> {
+fn say_acts<W: ByteSink>(out: &mut TextWriter<'_, W>, acts: &[Act]) {
     for (number, act) in acts.iter().enumerate() {
-        out.say_part("{\"act\":", number as u64)?;
-        out.say_name("text")?;
-        out.say("\"")?;
-        out.say_act(act)?;
-        out.say("\"}\n")?;
+        if out.has_failed() {
+            return;
+        }
+        out.say_part("{\"act\":", number as u64);
+        out.say_name("text");
+        out.say("\"");
+        out.say_act(act);
+        out.say("\"}\n");
     }
-    Ok(())
 }
 
 /// Writes a reason against the event at this place.
@@ -53,17 +55,18 @@ fn say_unfit<W: ByteSink>(
     pid: Pid,
     index: u64,
     reason: &Reason,
-) -> Result<(), Device> {
+) {
     let words = ("unfit", reason_word(reason));
     let other = other_place(pid, reason);
-    say_refused_event(out, streams, words, (pid, index), other)?;
+    say_refused_event(out, streams, words, (pid, index), other);
     let Reason::NotReplayed(acts, verdict) = reason else {
-        return out.say("}\n");
+        out.say("}\n");
+        return;
     };
-    out.say_name("verdict")?;
-    say_verdict(out, verdict)?;
-    out.say("}\n")?;
-    say_acts(out, acts.as_slice())
+    out.say_name("verdict");
+    say_verdict(out, verdict);
+    out.say("}\n");
+    say_acts(out, acts.as_slice());
 }
 
 /// Sends what was found of streams.
@@ -75,15 +78,15 @@ fn send_finding<W: ByteSink>(
     let mut out = TextWriter::new(writer);
     match finding {
         Finding::Fits(acts, pairs) => {
-            out.say_first("result", "fits")?;
-            out.say_field("acts", acts.len() as u64)?;
-            out.say_field("pairs", pairs.len() as u64)?;
-            out.say("}\n")?;
-            say_acts(&mut out, acts.as_slice())?;
-            say_pairs(&mut out, pairs.as_slice())?;
+            out.say_first("result", "fits");
+            out.say_field("acts", acts.len() as u64);
+            out.say_field("pairs", pairs.len() as u64);
+            out.say("}\n");
+            say_acts(&mut out, acts.as_slice());
+            say_pairs(&mut out, pairs.as_slice());
         }
         Finding::Unfit(pid, index, reason) => {
-            say_unfit(&mut out, streams, *pid, *index, reason)?;
+            say_unfit(&mut out, streams, *pid, *index, reason);
         }
     }
     out.flush()

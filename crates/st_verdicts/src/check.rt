@@ -8,57 +8,49 @@ use st_text::{Bundle, Device, Limits, ReadFault, read_within};
 use std::alloc::Global;
 
 /// Writes an object for each pair of a receive's act and its send's.
-pub(crate) fn say_pairs<W: ByteSink>(
-    out: &mut TextWriter<'_, W>,
-    pairs: &[(u64, u64)],
-) -> Result<(), Device> {
+pub(crate) fn say_pairs<W: ByteSink>(out: &mut TextWriter<'_, W>, pairs: &[(u64, u64)]) {
     for (receive, sent) in pairs {
-        out.say_part("{\"receive\":", *receive)?;
-        out.say_field("send", *sent)?;
-        out.say("}\n")?;
+        if out.has_failed() {
+            return;
+        }
+        out.say_part("{\"receive\":", *receive);
+        out.say_field("send", *sent);
+        out.say("}\n");
     }
-    Ok(())
 }
 
 /// Writes the object of a verdict about an act, for the reason of this word, but for its end.
-fn say_refused_act<W: ByteSink>(
-    out: &mut TextWriter<'_, W>,
-    reason: &str,
-    act: u64,
-) -> Result<(), Device> {
-    out.say_first("result", "no")?;
-    out.say_word_field("reason", reason)?;
-    out.say_field("act", act)
+fn say_refused_act<W: ByteSink>(out: &mut TextWriter<'_, W>, reason: &str, act: u64) {
+    out.say_first("result", "no");
+    out.say_word_field("reason", reason);
+    out.say_field("act", act);
 }
 
 /// Writes the object of a verdict.
-pub(crate) fn say_verdict<W: ByteSink>(
-    out: &mut TextWriter<'_, W>,
-    verdict: &Verdict,
-) -> Result<(), Device> {
+pub(crate) fn say_verdict<W: ByteSink>(out: &mut TextWriter<'_, W>, verdict: &Verdict) {
     match verdict {
         Verdict::Yes(pairs) => {
-            out.say_first("result", "yes")?;
-            out.say_field("pairs", pairs.len() as u64)?;
+            out.say_first("result", "yes");
+            out.say_field("pairs", pairs.len() as u64);
         }
-        Verdict::Stuck(act) => say_refused_act(out, "stuck", *act)?,
-        Verdict::Differs(act) => say_refused_act(out, "differs", *act)?,
+        Verdict::Stuck(act) => say_refused_act(out, "stuck", *act),
+        Verdict::Differs(act) => say_refused_act(out, "differs", *act),
         Verdict::Left(pid) => {
-            out.say_first("result", "no")?;
-            out.say_word_field("reason", "left")?;
-            out.say_pid_field("pid", *pid)?;
+            out.say_first("result", "no");
+            out.say_word_field("reason", "left");
+            out.say_pid_field("pid", *pid);
         }
     }
-    out.say("}")
+    out.say("}");
 }
 
 /// Sends a verdict, and of a yes its pairs.
 fn send_verdict<W: ByteSink>(writer: &mut W, verdict: &Verdict) -> Result<(), Device> {
     let mut out = TextWriter::new(writer);
-    say_verdict(&mut out, verdict)?;
-    out.say("\n")?;
+    say_verdict(&mut out, verdict);
+    out.say("\n");
     if let Verdict::Yes(pairs) = verdict {
-        say_pairs(&mut out, pairs.as_slice())?;
+        say_pairs(&mut out, pairs.as_slice());
     }
     out.flush()
 }

@@ -31,51 +31,41 @@ fn other_place(pid: Pid, never: Never) -> Option<(Pid, u64)> {
 }
 
 /// Writes the next field, a list of pids.
-fn say_pids<W: ByteSink>(
-    out: &mut TextWriter<'_, W>,
-    name: &str,
-    pids: &[Pid],
-) -> Result<(), Device> {
-    out.say_name(name)?;
+fn say_pids<W: ByteSink>(out: &mut TextWriter<'_, W>, name: &str, pids: &[Pid]) {
+    out.say_name(name);
     let mut mark = "[";
     for pid in pids {
-        out.say(mark)?;
-        out.say_pid_word(*pid)?;
+        out.say(mark);
+        out.say_pid_word(*pid);
         mark = ",";
     }
     let end = if pids.is_empty() { "[]" } else { "]" };
-    out.say(end)
+    out.say(end);
 }
 
 /// Writes an object for each added event of a process.
-fn say_added<W: ByteSink>(
-    out: &mut TextWriter<'_, W>,
-    completion: &Completion,
-    pid: Pid,
-) -> Result<(), Device> {
+fn say_added<W: ByteSink>(out: &mut TextWriter<'_, W>, completion: &Completion, pid: Pid) {
     let events = completion.streams().events(pid);
     for (index, event) in events.iter().enumerate() {
         if completion.told(pid, index as u64) == Some(false) {
-            say_placed(out, pid, index as u64, Some(*event))?;
-            out.say("\n")?;
+            say_placed(out, pid, index as u64, Some(*event));
+            out.say("\n");
         }
     }
-    Ok(())
 }
 
 /// Writes what a completion adds.
-fn say_completion<W: ByteSink>(
-    out: &mut TextWriter<'_, W>,
-    completion: &Completion,
-) -> Result<(), Device> {
-    out.say_first("result", "completed")?;
-    out.say_field("added", completion.added())?;
-    say_pids(out, "unlisted", completion.unlisted())?;
-    out.say("}\n")?;
+fn say_completion<W: ByteSink>(out: &mut TextWriter<'_, W>, completion: &Completion) {
+    out.say_first("result", "completed");
+    out.say_field("added", completion.added());
+    say_pids(out, "unlisted", completion.unlisted());
+    out.say("}\n");
     for pid in completion.streams().pids() {
-        say_added(out, completion, *pid)?;
+        if out.has_failed() {
+            return;
+        }
+        say_added(out, completion, *pid);
     }
-    Ok(())
 }
 
 /// Writes a reason against the event at this place.
@@ -85,11 +75,11 @@ fn say_never<W: ByteSink>(
     pid: Pid,
     index: u64,
     never: Never,
-) -> Result<(), Device> {
+) {
     let words = ("never", never_word(never));
     let other = other_place(pid, never);
-    say_refused_event(out, streams, words, (pid, index), other)?;
-    out.say("}\n")
+    say_refused_event(out, streams, words, (pid, index), other);
+    out.say("}\n");
 }
 
 /// Sends what was found out about streams.
@@ -100,9 +90,9 @@ fn send_answer<W: ByteSink>(
 ) -> Result<(), Device> {
     let mut out = TextWriter::new(writer);
     match answer {
-        Answer::Whole(completion) => say_completion(&mut out, completion)?,
+        Answer::Whole(completion) => say_completion(&mut out, completion),
         Answer::Never(pid, index, never) => {
-            say_never(&mut out, streams, *pid, *index, *never)?;
+            say_never(&mut out, streams, *pid, *index, *never);
         }
     }
     out.flush()

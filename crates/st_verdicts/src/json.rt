@@ -2,7 +2,6 @@
 
 use st_core::{ByteSink, Event, Pid, Streams};
 use st_say::TextWriter;
-use st_text::Device;
 
 /// Writes an object with the place of an event and, if there is one, the event.
 pub(crate) fn say_placed<W: ByteSink>(
@@ -10,14 +9,14 @@ pub(crate) fn say_placed<W: ByteSink>(
     pid: Pid,
     index: u64,
     event: Option<Event>,
-) -> Result<(), Device> {
-    out.say("{\"pid\":")?;
-    out.say_pid_word(pid)?;
-    out.say_field("index", index)?;
+) {
+    out.say("{\"pid\":");
+    out.say_pid_word(pid);
+    out.say_field("index", index);
     if let Some(event) = event {
-        out.say_event_fields(&event)?;
+        out.say_event_fields(&event);
     }
-    out.say("}")
+    out.say("}");
 }
 
 /// Writes a field with the event at a place.
@@ -26,9 +25,9 @@ fn say_event_field<W: ByteSink>(
     name: &str,
     streams: &Streams,
     (pid, index): (Pid, u64),
-) -> Result<(), Device> {
-    out.say_name(name)?;
-    say_placed(out, pid, index, streams.event(pid, index))
+) {
+    out.say_name(name);
+    say_placed(out, pid, index, streams.event(pid, index));
 }
 
 /// Writes the object of a no against the event at a place, but for its end. The words are those of
@@ -39,12 +38,11 @@ pub(crate) fn say_refused_event<W: ByteSink>(
     (verdict, reason): (&str, &str),
     place: (Pid, u64),
     other: Option<(Pid, u64)>,
-) -> Result<(), Device> {
-    out.say_first("result", verdict)?;
-    out.say_word_field("reason", reason)?;
-    say_event_field(out, "event", streams, place)?;
-    match other {
-        Some(other) => say_event_field(out, "other", streams, other),
-        None => Ok(()),
+) {
+    out.say_first("result", verdict);
+    out.say_word_field("reason", reason);
+    say_event_field(out, "event", streams, place);
+    if let Some(other) = other {
+        say_event_field(out, "other", streams, other);
     }
 }

@@ -34,7 +34,7 @@ fn mistake_of(words: &str) -> Option<Mistake<'_>> {
 }
 
 /// Writes a byte of a string.
-fn say_byte<W: ByteSink>(out: &mut TextWriter<'_, W>, byte: u8) -> Result<(), Device> {
+fn say_byte<W: ByteSink>(out: &mut TextWriter<'_, W>, byte: u8) {
     match byte {
         b'"' | b'\\' => out.say_bytes(&[b'\\', byte]),
         _ => out.say_bytes(&[byte]),
@@ -42,98 +42,87 @@ fn say_byte<W: ByteSink>(out: &mut TextWriter<'_, W>, byte: u8) -> Result<(), De
 }
 
 /// Writes a string, words of `lint`, which have no control characters.
-fn say_words<W: ByteSink>(out: &mut TextWriter<'_, W>, words: &str) -> Result<(), Device> {
-    out.say("\"")?;
+fn say_words<W: ByteSink>(out: &mut TextWriter<'_, W>, words: &str) {
+    out.say("\"");
     for byte in words.as_bytes() {
-        say_byte(out, *byte)?;
+        say_byte(out, *byte);
     }
-    out.say("\"")
+    out.say("\"");
 }
 
 /// Writes the object of a mistake, which isn't closed: its remedy may follow.
-fn say_mistake<W: ByteSink>(
-    out: &mut TextWriter<'_, W>,
-    mistake: &Mistake<'_>,
-) -> Result<(), Device> {
-    out.say_part("{\"line\":", mistake.line)?;
-    out.say_part(",\"column\":", mistake.column)?;
-    out.say_name("expected")?;
-    say_words(out, mistake.expected)
+fn say_mistake<W: ByteSink>(out: &mut TextWriter<'_, W>, mistake: &Mistake<'_>) {
+    out.say_part("{\"line\":", mistake.line);
+    out.say_part(",\"column\":", mistake.column);
+    out.say_name("expected");
+    say_words(out, mistake.expected);
 }
 
 /// Writes what a line of a report tells, and says whether an object is open behind it. Lines that show
 /// the text begin with blanks and are left out.
-fn say_report_line<W: ByteSink>(
-    out: &mut TextWriter<'_, W>,
-    words: &str,
-    is_open: bool,
-) -> Result<bool, Device> {
+fn say_report_line<W: ByteSink>(out: &mut TextWriter<'_, W>, words: &str, is_open: bool) -> bool {
     if words.is_empty() || words.starts_with("  ") {
-        return Ok(is_open);
+        return is_open;
     }
     if let Some(mistake) = mistake_of(words) {
         if is_open {
-            out.say("}\n")?;
+            out.say("}\n");
         }
-        say_mistake(out, &mistake)?;
-        return Ok(true);
+        say_mistake(out, &mistake);
+        return true;
     }
     if is_open {
-        out.say_name("remedy")?;
-        say_words(out, words)?;
-        out.say("}\n")?;
+        out.say_name("remedy");
+        say_words(out, words);
+        out.say("}\n");
     }
-    Ok(false)
+    false
 }
 
 /// Writes an object of one field, a number whose digits these are.
-fn say_count<W: ByteSink>(
-    out: &mut TextWriter<'_, W>,
-    name: &str,
-    digits: &str,
-) -> Result<(), Device> {
-    out.say("{")?;
-    out.say_word(name)?;
-    out.say(":")?;
-    out.say(digits)?;
-    out.say("}\n")
+fn say_count<W: ByteSink>(out: &mut TextWriter<'_, W>, name: &str, digits: &str) {
+    out.say("{");
+    out.say_word(name);
+    out.say(":");
+    out.say(digits);
+    out.say("}\n");
 }
 
 /// Writes what a line tells of a text that the reader takes.
-fn say_fact<W: ByteSink>(out: &mut TextWriter<'_, W>, words: &str) -> Result<(), Device> {
+fn say_fact<W: ByteSink>(out: &mut TextWriter<'_, W>, words: &str) {
     if words == "ok" {
-        return out.say("{\"result\":\"ok\"}\n");
+        out.say("{\"result\":\"ok\"}\n");
+        return;
     }
     if words == "no acts" {
-        return out.say("{\"acts\":null}\n");
+        out.say("{\"acts\":null}\n");
+        return;
     }
-    match words.split_once(" ") {
-        Some((name, count)) => say_number_of(out, name, count),
-        None => Ok(()),
+    if let Some((name, count)) = words.split_once(" ") {
+        say_number_of(out, name, count);
     }
 }
 
 /// Writes a count of a text: `label 17, events 2` is two numbers, the others are one.
-fn say_number_of<W: ByteSink>(
-    out: &mut TextWriter<'_, W>,
-    name: &str,
-    count: &str,
-) -> Result<(), Device> {
+fn say_number_of<W: ByteSink>(out: &mut TextWriter<'_, W>, name: &str, count: &str) {
     let Some((label, events)) = count.split_once(", events ") else {
         return say_count(out, name, count);
     };
-    out.say("{\"label\":")?;
-    out.say(label)?;
-    out.say_name("events")?;
-    out.say(events)?;
-    out.say("}\n")
+    out.say("{\"label\":");
+    out.say(label);
+    out.say_name("events");
+    out.say(events);
+    out.say("}\n");
 }
 
 /// Sends the objects of what was said of a text that the reader takes.
 fn send_facts<W: ByteSink>(writer: &mut W, said: &str) -> Result<(), Device> {
     let mut out = TextWriter::new(writer);
     for words in said.lines() {
-        say_fact(&mut out, words)?;
+        if out.has_failed() {
+            break;
+        }
+        say_fact(&mut out, words);
     }
     out.flush()
 }
@@ -160,11 +149,11 @@ fn counts_of(words: &str) -> Option<Counts> {
 }
 
 /// Writes the counts of a text's mistakes.
-fn say_counts<W: ByteSink>(out: &mut TextWriter<'_, W>, counts: Counts) -> Result<(), Device> {
-    out.say_part("{\"mistakes\":", counts.mistakes)?;
-    out.say_name("by_fix")?;
-    out.say_number(counts.by_fix)?;
-    out.say("}\n")
+fn say_counts<W: ByteSink>(out: &mut TextWriter<'_, W>, counts: Counts) {
+    out.say_part("{\"mistakes\":", counts.mistakes);
+    out.say_name("by_fix");
+    out.say_number(counts.by_fix);
+    out.say("}\n");
 }
 
 /// Sends the objects of what was said of a text with mistakes.
@@ -176,16 +165,19 @@ fn send_report<W: ByteSink>(writer: &mut W, said: &str, is_faulty: bool) -> Resu
         by_fix: 0,
     };
     let result = if is_faulty { "faulty" } else { "unfit" };
-    out.say("{\"result\":")?;
-    out.say_word(result)?;
-    out.say("}\n")?;
+    out.say("{\"result\":");
+    out.say_word(result);
+    out.say("}\n");
     for words in said.lines() {
+        if out.has_failed() {
+            break;
+        }
         match counts_of(words) {
             Some(found) if !is_open => counts = found,
-            _ => is_open = say_report_line(&mut out, words, is_open)?,
+            _ => is_open = say_report_line(&mut out, words, is_open),
         }
     }
-    say_counts(&mut out, counts)?;
+    say_counts(&mut out, counts);
     out.flush()
 }
 
