@@ -5,7 +5,7 @@ use st_audit::unfit_by;
 use st_commands::{status_of, tell_fault, tell_finding};
 use st_core::{ByteSink, ByteSource, Streams};
 use st_events::{
-    Style, count, count_open, cut, find_late, send_late, send_open, send_rows, send_stats,
+    Open, Style, count, count_open, cut, find_late, send_late, send_open, send_rows, send_stats,
     send_unpaired,
 };
 use st_list::{Filter, Row, list};
@@ -63,20 +63,15 @@ pub fn run_list<R: ByteSource, W: ByteSink, N: ByteSink>(
     }
 }
 
-/// Says what a cut of streams to these events leaves open.
-fn note_open<N: ByteSink>(
-    alloc: Global,
-    streams: &Streams,
-    rows: &[Row],
-    notes: &mut N,
-) -> Result<(), ReadFault> {
-    let pairing = pairing_of(alloc, streams)?;
-    let open = pairing.as_ref().map(|pairing| count_open(rows, pairing));
-    let _ = send_open(notes, rows.len() as u64, streams.total(), open);
-    Ok(())
+/// What a cut of streams to these events leaves open, if they can be paired.
+fn open_of(alloc: Global, streams: &Streams, rows: &[Row]) -> Result<Option<Open>, ReadFault> {
+    match pairing_of(alloc, streams)? {
+        Some(pairing) => Ok(Some(count_open(rows, &pairing))),
+        None => Ok(None),
+    }
 }
 
-/// Writes the bundle of the events of streams that are asked for.
+/// Writes the bundle of the events of streams that are asked for, and notes how many these are.
 fn cut_streams<W: ByteSink, N: ByteSink>(
     alloc: Global,
     streams: &Streams,
@@ -90,13 +85,16 @@ fn cut_streams<W: ByteSink, N: ByteSink>(
     let Ok(smaller) = cut(alloc, rows.as_slice()) else {
         return Err(ReadFault::Memory);
     };
-    note_open(alloc, streams, rows.as_slice(), notes)?;
+    let open = open_of(alloc, streams, rows.as_slice())?;
     let sent = write_parts(writer, &smaller, None);
+    if sent.is_ok() {
+        let _ = send_open(notes, rows.len() as u64, streams.total(), open);
+    }
     Ok(status_of(sent, 0))
 }
 
-/// Reads a bundle and writes that of the events that are asked for, with status 0; the notes say
-/// how many these are, and what the cut leaves open. Faulty input is 2; running out of memory, and
+/// Reads a bundle and writes that of the events that are asked for, with status 0; then the notes
+/// say how many these are, and what the cut leaves open. Faulty input is 2; running out of memory, and
 /// a reader or a writer that fails, are 4.
 pub fn run_cut<R: ByteSource, W: ByteSink, N: ByteSink>(
     alloc: Global,
