@@ -131,7 +131,7 @@ with_parts([Part | Parts], Outcomes, Trace, Do) ->
 
 %% Processes that the trace doesn't list have names too.
 named(Outcomes, #{legend := Legend} = Trace) ->
-    Unlisted = lists:usort(lists:append([maps:get(unlisted, Outcome) || Outcome <- Outcomes])),
+    Unlisted = seqaudit_bundle:in_order(lists:append([maps:get(unlisted, Outcome) || Outcome <- Outcomes])),
     Trace#{legend := seqaudit_legend:unlisted(Unlisted, Legend)}.
 
 %% The outcome, which knows what the trace is called, whether the trace was cut and whether anything was lost.

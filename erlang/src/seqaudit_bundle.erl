@@ -6,7 +6,7 @@
 -module(seqaudit_bundle).
 
 -export([read/1, parse/1, text/1, event_text/1, events/1, actor/1]).
--export([complete/2, copies/1, without/2, name/3, find/3, format_error/1]).
+-export([complete/2, copies/1, without/2, in_order/1, name/3, find/3, format_error/1]).
 -export_type([streams/0, event/0, pid_text/0, at/0, place/0]).
 
 -import(seqaudit_errors, [text/2]).
@@ -38,6 +38,14 @@ read(File) ->
         {error, Reason} ->
             {error, {file, File, Reason}}
     end.
+
+%% @doc Processes each once, in the order in which a bundle lists them: by the numbers of their pids.
+-spec in_order([pid_text()]) -> [pid_text()].
+in_order(Pids) ->
+    [Pid || {_, Pid} <- lists:usort([{numbers(Pid), Pid} || Pid <- Pids])].
+
+numbers(Pid) ->
+    [binary_to_integer(Number) || Number <- binary:split(Pid, [<<"<">>, <<".">>, <<">">>], [global, trim_all])].
 
 %% @doc The streams of a text, or the number of the first line that no bundle has there.
 -spec parse(binary()) -> {ok, streams()} | {error, pos_integer()}.

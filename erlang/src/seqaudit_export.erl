@@ -40,7 +40,8 @@ text(Format, Label, Parts, Trace) ->
 %% Mermaid
 
 mermaid(Rows, #{legend := Legend}) ->
-    Pids = lists:usort(lists:append([[From | [To || To =/= none]] || #{event := #{from := From, to := To}} <- Rows])),
+    Pids = seqaudit_bundle:in_order(lists:append([[From | [To || To =/= none]]
+                                                  || #{event := #{from := From, to := To}} <- Rows])),
     Lanes = maps:from_list([{Pid, ["p", integer_to_list(N)]} || {N, Pid} <- lists:enumerate(Pids)]),
     Received = received(Rows),
     utf8(["sequenceDiagram\n",
@@ -81,7 +82,7 @@ plain(Text) ->
 %% Perfetto
 
 perfetto(Rows, #{legend := Legend, timed := #{start := Start} = Times}) ->
-    Pids = lists:usort([Pid || #{actor := Pid} <- Rows]),
+    Pids = seqaudit_bundle:in_order([Pid || #{actor := Pid} <- Rows]),
     Lanes = maps:from_list([{Pid, N} || {N, Pid} <- lists:enumerate(Pids)]),
     Shown = [{Row, At} || #{id := Id} = Row <- Rows, At <- times_of(Id, Times)],
     Known = maps:from_list([{Id, place(Row, At, Lanes)} || {#{id := Id} = Row, At} <- Shown]),

@@ -115,9 +115,9 @@ went_back(Streams) ->
 %% they sent show it.
 went_back_of(Streams) ->
     Received = [{From, This} || {_, Events} <- Streams, #{kind := 'receive', from := From, this := This} <- Events],
-    lists:usort([Pid || {Pid, Events} <- Streams, falls([This || #{kind := Kind, this := This} <- Events,
-                                                                 Kind =/= 'receive'])]
-                ++ [From || {From, _} <- Received -- lists:usort(Received)]).
+    Fallen = [Pid || {Pid, Events} <- Streams, falls([This || #{kind := Kind, this := This} <- Events,
+                                                              Kind =/= 'receive'])],
+    seqaudit_bundle:in_order(Fallen ++ [From || {From, _} <- Received -- lists:usort(Received)]).
 
 falls([This | [Next | _]]) when Next =< This -> true;
 falls([_ | Counts]) -> falls(Counts);

@@ -2,6 +2,7 @@
 -module(seqaudit_timing_tests).
 
 -export([statistics_test/0, kinds_test/0, clock_test/0, spans_test/0, alike_test/0, json_test/0, commands_test_/0]).
+-export([processes_are_drawn_in_the_order_of_the_bundle_test/0]).
 
 statistics_test() ->
     Streams = [{<<"<0.1.0>">>, []},
@@ -67,6 +68,11 @@ took(Sent, Received) ->
     {ok, _} = seqaudit_convert:from_files([Name ++ ".list"], Name),
     {ok, #{messages := Messages}} = seqaudit_times:read(Name ++ ".times"),
     lists:sort([Took div 1_000_000 || {_, Took} <- maps:values(Messages)]).
+
+%% As texts they would be in another order.
+processes_are_drawn_in_the_order_of_the_bundle_test() ->
+    Pids = [<<"<0.9.0>">>, <<"<0.79.0>">>, <<"<0.101.0>">>, <<"<3.1.0>">>, <<"<10.0.0>">>],
+    Pids = seqaudit_bundle:in_order(lists:sort(Pids ++ Pids)).
 
 json_test() ->
     <<"{\"a\":[1,1.500,null,true,\"k\\u00e4se\\u0022\\u000a\"],\"b\":{}}">> =
