@@ -138,10 +138,13 @@ impl<'a, W: ByteSink> TextWriter<'a, W> {
 
     /// Writes what waits. Fails if the sink fails now or has failed before.
     pub fn flush(&mut self) -> Result<(), Device> {
+        if !self.has_failed {
+            self.has_failed = flush(&mut *self.sink, &mut self.buffer).is_err();
+        }
         if self.has_failed {
             return Err(Device);
         }
-        flush(&mut *self.sink, &mut self.buffer)
+        Ok(())
     }
 }
 
