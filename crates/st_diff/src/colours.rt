@@ -112,18 +112,16 @@ pub(crate) fn next_colours(
 }
 
 /// The colours, rising.
-fn sorted(alloc: Global, colours: &[u64]) -> Result<Vec<u64>, AllocError> {
+fn in_order(alloc: Global, colours: &[u64]) -> Result<Vec<u64>, AllocError> {
     let mut all = Vec::new(alloc);
-    for colour in colours {
-        all.push(*colour)?;
-    }
+    all.extend_from_slice(colours)?;
     all.sort_unstable();
     Ok(all)
 }
 
 /// How many different colours there are.
 pub(crate) fn count_colours(alloc: Global, colours: &[u64]) -> Result<usize, AllocError> {
-    let mut all = sorted(alloc, colours)?;
+    let mut all = in_order(alloc, colours)?;
     all.dedup();
     Ok(all.len())
 }
@@ -133,7 +131,7 @@ pub(crate) fn are_alike(alloc: Global, first: &[u64], second: &[u64]) -> Result<
     if first.len() != second.len() {
         return Ok(false);
     }
-    let (ones, others) = (sorted(alloc, first)?, sorted(alloc, second)?);
+    let (ones, others) = (in_order(alloc, first)?, in_order(alloc, second)?);
     for (one, other) in ones.iter().zip(others.iter()) {
         if *one != *other {
             return Ok(false);

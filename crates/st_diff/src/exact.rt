@@ -111,19 +111,54 @@ struct Search<'a> {
     rounds: u64,
 }
 
-/// Whether a guess was made in the part that ends with this process.
-fn is_guessed(guessed: &[bool], end: usize) -> bool {
-    guessed.get(end).copied().unwrap_or(false)
+/// A round of guesses.
+#[derive(Drop)]
+struct Round {
+    /// The processes of the second trace that were free before it.
+    others: Groups,
+    /// So many processes of each group were passed, as the number at its start says.
+    passed: Vec<usize>,
+    /// Of each part of the first trace, by the process that it ends with, whether it has a guess.
+    first_parts: Vec<bool>,
+    /// The same of the second trace.
+    second_parts: Vec<bool>,
+    /// Whether it is the last round, which makes all guesses.
+    is_last: bool,
 }
 
-/// Notes that a guess was made in the part that ends with this process, unless it is the last one.
-fn note_guess(guessed: &mut Vec<bool>, end: usize, is_last: bool) {
-    if let Some(guessed) = guessed.get_mut(end) {
-        *guessed = !is_last;
+/// Whether a guess was made in the part that ends with this process.
+fn has_guess(parts: &[bool], end: usize) -> bool {
+    parts.get(end).copied().unwrap_or(false)
+}
+
+/// Notes a guess in the part that ends with this process.
+fn note_guess(parts: &mut Vec<bool>, end: usize) {
+    if let Some(has_guess) = parts.get_mut(end) {
+        *has_guess = true;
     }
 }
 
 impl<'a> Search<'a> {
+    /// Of two traces with their first colours. No process is matched yet.
+    fn new(
+        alloc: Global,
+        first: (&'a Trace<'a>, Vec<u64>),
+        second: (&'a Trace<'a>, Vec<u64>),
+    ) -> Result<Search<'a>, AllocError> {
+        let pairs = Pairs::new(alloc, first.0.len(), second.0.len())?;
+        let rounds = rounds_of(first.0);
+        let first = Side::of(alloc, first.0, first.1)?;
+        let second = Side::of(alloc, second.0, second.1)?;
+        Ok(Search {
+            alloc,
+            first,
+            second,
+            pairs,
+            followed: 0,
+            rounds,
+        })
+    }
+
     /// Refines the colours until no process more is told apart.
     fn refine(&mut self) -> Result<(), AllocError> {
         let mut count = count_colours(self.alloc, self.first.colours.as_slice())?;
@@ -185,21 +220,27 @@ impl<'a> Search<'a> {
         Ok(())
     }
 
+    /// A round without guesses yet.
+    fn round(&self) -> Result<Round, AllocError> {
+        let others = self.second.groups(self.alloc, &self.pairs, Which::Second)?;
+        Ok(Round {
+            passed: vec![in self.alloc; 0; others.len()]?,
+            others,
+            first_parts: vec![in self.alloc; false; self.first.trace.len()]?,
+            second_parts: vec![in self.alloc; false; self.second.trace.len()]?,
+            is_last: self.rounds == 0,
+        })
+    }
+
     /// The next process of the second trace that is free, of this colour and in a part without a
     /// guess.
-    fn next_free(
-        &mut self,
-        groups: &Groups,
-        colour: u64,
-        next: &mut Vec<usize>,
-        guessed: &[bool],
-    ) -> Option<usize> {
-        let (start, end) = groups.range(colour);
-        let passed = next.get_mut(start)?;
+    fn next_free(&mut self, round: &mut Round, colour: u64) -> Option<usize> {
+        let (start, end) = round.others.range(colour);
+        let passed = round.passed.get_mut(start)?;
         for at in start.saturating_add(*passed)..end {
             *passed = passed.saturating_add(1);
-            let place = groups.place(at)?;
-            let is_known = is_guessed(guessed, self.second.parts.end(place));
+            let place = round.others.place(at)?;
+            let is_known = has_guess(&round.second_parts, self.second.parts.end(place));
             if self.pairs.is_free(Which::Second, place) && !is_known {
                 return Some(place);
             }
@@ -207,27 +248,30 @@ impl<'a> Search<'a> {
         None
     }
 
+    /// Guesses which process is this one of the first trace, unless its part has a guess.
+    fn guess_of(&mut self, place: usize, round: &mut Round) -> Result<(), AllocError> {
+        let end = self.first.parts.end(place);
+        if !self.pairs.is_free(Which::First, place) || has_guess(&round.first_parts, end) {
+            return Ok(());
+        }
+        let colour = self.first.colour(place);
+        let Some(other) = self.next_free(round, colour) else {
+            return Ok(());
+        };
+        if !round.is_last {
+            note_guess(&mut round.first_parts, end);
+            note_guess(&mut round.second_parts, self.second.parts.end(other));
+        }
+        self.pairs.add(place, other, Ground::Several)?;
+        self.follow(Ground::Message)
+    }
+
     /// Guesses a pair in each part of the trace, or all if no round of colours is left.
     fn guess(&mut self) -> Result<(), AllocError> {
-        let is_last = self.rounds == 0;
-        let others = self.second.groups(self.alloc, &self.pairs, Which::Second)?;
-        let mut next = vec![in self.alloc; 0; others.len()]?;
-        let mut ones_guessed = vec![in self.alloc; false; self.first.trace.len()]?;
-        let mut others_guessed = vec![in self.alloc; false; self.second.trace.len()]?;
+        let mut round = self.round()?;
         for number in 0..self.first.order.len() {
             let place = self.first.order.get(number).copied().unwrap_or(0);
-            let end = self.first.parts.end(place);
-            if self.pairs.is_free(Which::First, place) && !is_guessed(&ones_guessed, end) {
-                let colour = self.first.colour(place);
-                let found = self.next_free(&others, colour, &mut next, &others_guessed);
-                if let Some(other) = found {
-                    self.pairs.add(place, other, Ground::Several)?;
-                    self.follow(Ground::Message)?;
-                    note_guess(&mut ones_guessed, end, is_last);
-                    let its_end = self.second.parts.end(other);
-                    note_guess(&mut others_guessed, its_end, is_last);
-                }
-            }
+            self.guess_of(place, &mut round)?;
         }
         Ok(())
     }
@@ -238,6 +282,19 @@ impl<'a> Search<'a> {
             self.first.mark(pair.first, number);
             self.second.mark(pair.second, number);
         }
+    }
+
+    /// Refines the colours, and matches all processes if both traces then have the same. Returns
+    /// whether they do.
+    fn match_by_colours(&mut self) -> Result<bool, AllocError> {
+        self.refine()?;
+        self.first.take_parts(self.alloc)?;
+        self.second.take_parts(self.alloc)?;
+        let is_alike = self.are_alike()?;
+        if is_alike {
+            self.match_all()?;
+        }
+        Ok(is_alike)
     }
 
     /// Matches all processes as well as it can.
@@ -267,33 +324,17 @@ fn rounds_of(trace: &Trace<'_>) -> u64 {
     ROUNDS.saturating_add(more).min(MOST_ROUNDS)
 }
 
-/// Matches the processes of two traces, with their first colours, of which one renaming may make the
-/// one of the other. None if no renaming keeps all that the colours tell.
+/// Matches the processes of two traces, with their first colours, which are alike, so that one
+/// renaming may make the one of the other. None if no renaming keeps all that the colours tell.
 pub(crate) fn match_exactly<'a>(
     alloc: Global,
     first: (&'a Trace<'a>, Vec<u64>),
     second: (&'a Trace<'a>, Vec<u64>),
 ) -> Result<Option<Pairs>, AllocError> {
-    let (first, colours) = first;
-    let (second, others) = second;
-    if !are_alike(alloc, colours.as_slice(), others.as_slice())? {
+    let mut search = Search::new(alloc, first, second)?;
+    if !search.match_by_colours()? {
         return Ok(None);
     }
-    let mut search = Search {
-        alloc,
-        first: Side::of(alloc, first, colours)?,
-        second: Side::of(alloc, second, others)?,
-        pairs: Pairs::new(alloc, first.len(), second.len())?,
-        followed: 0,
-        rounds: rounds_of(first),
-    };
-    search.refine()?;
-    search.first.take_parts(alloc)?;
-    search.second.take_parts(alloc)?;
-    if !search.are_alike()? {
-        return Ok(None);
-    }
-    search.match_all()?;
     let Search { pairs, .. } = search;
     Ok(Some(pairs))
 }

@@ -68,15 +68,25 @@ impl<'a> Search<'a> {
         let others = self.groups_of_second(second)?;
         let mut next = vec![in self.alloc; 0; others.len()]?;
         for place in self.first.order() {
+            let key = first.get(*place).copied().unwrap_or(0);
             if self.pairs.is_free(Which::First, *place) {
-                let key = first.get(*place).copied().unwrap_or(0);
                 if let Some(other) = self.next_free(&others, key, &mut next) {
-                    self.pairs.add(*place, other, ground)?;
-                    self.follow()?;
+                    self.match_pair(*place, other, ground)?;
                 }
             }
         }
         Ok(())
+    }
+
+    /// Matches two processes, and follows their messages.
+    fn match_pair(
+        &mut self,
+        first: usize,
+        second: usize,
+        ground: Ground,
+    ) -> Result<(), AllocError> {
+        self.pairs.add(first, second, ground)?;
+        self.follow()
     }
 
     /// The next free process of a group, of which so many were passed, as the number at its start
@@ -150,6 +160,15 @@ impl<'a> Search<'a> {
         Ok(())
     }
 
+    /// Matches by what is alike, from all events to nothing.
+    fn match_all(&mut self) -> Result<(), AllocError> {
+        self.match_by_events()?;
+        self.match_by(Aspect::Kinds, Ground::Kinds)?;
+        self.match_by(Aspect::First, Ground::First)?;
+        self.match_by(Aspect::FirstKind, Ground::FirstKind)?;
+        self.match_silent()
+    }
+
     /// Matches the processes that report nothing, and that no matched one tells of, in their order.
     fn match_silent(&mut self) -> Result<(), AllocError> {
         let mut free = Vec::new(self.alloc);
@@ -181,6 +200,9 @@ fn match_by_ranks<'a>(
     let (one, other) = (Ranks::of(alloc, first)?, Ranks::of(alloc, second)?);
     let ones = first_colours(alloc, first, Some(&one))?;
     let others = first_colours(alloc, second, Some(&other))?;
+    if !are_alike(alloc, ones.as_slice(), others.as_slice())? {
+        return Ok(None);
+    }
     match_exactly(alloc, (first, ones), (second, others))
 }
 
@@ -228,11 +250,7 @@ pub(crate) fn match_processes<'a>(
         pairs,
         budget: Budget::of(first.total().saturating_add(second.total())),
     };
-    search.match_by_events()?;
-    search.match_by(Aspect::Kinds, Ground::Kinds)?;
-    search.match_by(Aspect::First, Ground::First)?;
-    search.match_by(Aspect::FirstKind, Ground::FirstKind)?;
-    search.match_silent()?;
+    search.match_all()?;
     let Search { pairs, .. } = search;
     Ok(pairs)
 }
