@@ -54,7 +54,26 @@ fn split_inventions(inventions: &[Invention], pid: Pid) -> (&[Invention], &[Inve
     inventions.split_at(count)
 }
 
-impl Assembly<'_> {
+impl<'a> Assembly<'a> {
+    /// Streams with these processes, to which nothing was added yet.
+    fn open(
+        alloc: Global,
+        streams: &'a Streams,
+        pids: &[Pid],
+        parts: &'a Parts,
+    ) -> Result<Assembly<'a>, AllocError> {
+        let positions = Positions::new(alloc, streams, parts)?;
+        Ok(Assembly {
+            streams,
+            draft: open_draft(alloc, pids)?,
+            positions,
+            marks: Vec::new(alloc),
+            hidden_left: &parts.hidden,
+            fed_left: &parts.fed,
+            inventions_left: &parts.inventions,
+        })
+    }
+
     /// Makes room for so many events of the process.
     fn make_room(&mut self, pid: Pid, most: usize) -> Result<(), AllocError> {
         self.draft.reserve(pid, most)?;
@@ -123,16 +142,22 @@ impl Assembly<'_> {
         Ok(replace(&mut self.marks, Vec::new(alloc)))
     }
 
+    /// Adds all events of these processes, and returns the marks of each.
+    fn add_all(&mut self, alloc: Global, pids: &[Pid]) -> Result<Vec<Sequence<bool>>, AllocError> {
+        let mut told = Vec::with_capacity(alloc, pids.len())?;
+        for &pid in pids {
+            let marks = self.add_next(alloc, pid)?;
+            told.push(Sequence::from_vec(marks))?;
+        }
+        Ok(told)
+    }
+
     /// The draft of all that was added, and where it is.
     fn into_draft(self) -> (Draft, Positions) {
         let Assembly {
-            streams: _,
             draft,
             positions,
-            marks: _,
-            hidden_left: _,
-            fed_left: _,
-            inventions_left: _,
+            ..
         } = self;
         (draft, positions)
     }
@@ -157,31 +182,14 @@ pub(crate) fn assemble(
     parts: Parts,
 ) -> Result<Option<Candidate>, AllocError> {
     let pids = all_pids(alloc, streams, &parts.unlisted)?;
-    let mut assembly = Assembly {
-        streams,
-        draft: open_draft(alloc, &pids)?,
-        positions: Positions::new(alloc, streams, &parts)?,
-        marks: Vec::new(alloc),
-        hidden_left: &parts.hidden,
-        fed_left: &parts.fed,
-        inventions_left: &parts.inventions,
-    };
-    let mut told = Vec::with_capacity(alloc, pids.len())?;
-    for &pid in &pids {
-        let marks = assembly.add_next(alloc, pid)?;
-        told.push(Sequence::from_vec(marks))?;
-    }
+    let mut assembly = Assembly::open(alloc, streams, &pids, &parts)?;
+    let told = assembly.add_all(alloc, &pids)?;
     let (draft, positions) = assembly.into_draft();
     let Ok(whole) = draft.close() else {
         return Ok(None);
     };
     let links = links_of(alloc, streams, pairing, &parts, &positions, &whole)?;
-    let Parts {
-        hidden: _,
-        fed: _,
-        inventions: _,
-        unlisted,
-    } = parts;
+    let Parts { unlisted, .. } = parts;
     Ok(Some(Candidate {
         streams: whole,
         told,

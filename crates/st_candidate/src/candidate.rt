@@ -8,9 +8,9 @@
 //! 3. The needs that are left get messages that are invented, of listed processes that stamp their
 //!    count nowhere, then of processes that the streams don't list (`senders`, `inventions`).
 
-use crate::asks::Asks;
+use crate::asks::{Ask, Asks};
 use crate::assembly::{Parts, assemble};
-use crate::hidden_sends::hidden_sends;
+use crate::hidden_sends::{HiddenSend, hidden_sends};
 use crate::inventions::invent;
 use crate::lost_messages::give_lost;
 use crate::senders::{Senders, find_senders};
@@ -50,6 +50,47 @@ pub(crate) fn items_between<T>(items: &[T], start: usize, end: usize) -> &[T] {
     &[]
 }
 
+/// The hidden sends, at their places.
+fn hidden_in_place(
+    alloc: Global,
+    streams: &Streams,
+    pairing: &Pairing,
+) -> Result<Vec<HiddenSend>, AllocError> {
+    let mut hidden = hidden_sends(alloc, streams, pairing)?;
+    place_hidden(alloc, streams, &mut hidden)?;
+    Ok(hidden)
+}
+
+/// The stamps that ask for messages, with the lost ones that they get.
+fn fed_by_lost(
+    alloc: Global,
+    streams: &Streams,
+    pairing: &Pairing,
+    hidden: &[HiddenSend],
+) -> Result<Vec<Ask>, AllocError> {
+    let mut asks = Asks::of(alloc, streams, hidden)?;
+    give_lost(alloc, streams, pairing, &mut asks)?;
+    asks.into_fed()
+}
+
+/// What is added to the streams.
+fn parts_of(alloc: Global, streams: &Streams, pairing: &Pairing) -> Result<Parts, AllocError> {
+    let hidden = hidden_in_place(alloc, streams, pairing)?;
+    let mut fed = fed_by_lost(alloc, streams, pairing, &hidden)?;
+    let Senders {
+        turns,
+        senders,
+        unlisted,
+    } = find_senders(alloc, streams, &hidden, &fed)?;
+    let inventions = invent(alloc, streams, &hidden, &mut fed, &turns, &senders)?;
+    Ok(Parts {
+        hidden,
+        fed,
+        inventions,
+        unlisted,
+    })
+}
+
 /// Builds the candidate of streams of which no reason holds: pairing accepts them, no event is
 /// late, none is unfounded, none counts too high. Nothing has to hold of what it builds: the judge
 /// looks at all of it. It returns none only if what it builds isn't streams, which never happens.
@@ -58,24 +99,6 @@ pub fn build_candidate(
     streams: &Streams,
     pairing: &Pairing,
 ) -> Result<Option<Candidate>, AllocError> {
-    let mut hidden = hidden_sends(alloc, streams, pairing)?;
-    place_hidden(alloc, streams, &mut hidden)?;
-    let mut asks = Asks::of(alloc, streams, &hidden)?;
-    give_lost(alloc, streams, pairing, &mut asks)?;
-    let mut fed = asks.into_fed()?;
-    let Senders {
-        turns,
-        senders,
-        unlisted,
-    } = find_senders(alloc, streams, &hidden, &fed)?;
-    let inventions = invent(alloc, streams, &hidden, &mut fed, &turns, &senders)?;
-    drop(turns);
-    drop(senders);
-    let parts = Parts {
-        hidden,
-        fed,
-        inventions,
-        unlisted,
-    };
+    let parts = parts_of(alloc, streams, pairing)?;
     assemble(alloc, streams, pairing, parts)
 }
