@@ -159,6 +159,14 @@ impl Strays {
         Ok(())
     }
 
+    /// Notes the stray messages of all processes.
+    fn note_all(&mut self, whole: MarkedStreams<'_>, pairing: &Pairing) -> Result<(), AllocError> {
+        for (process, &pid) in whole.streams.pids().iter().enumerate() {
+            self.note_process(whole, pairing, process, pid)?;
+        }
+        Ok(())
+    }
+
     /// Adds the events of a process that stay.
     fn keep_process(
         &mut self,
@@ -214,18 +222,16 @@ impl Strays {
     }
 }
 
-/// The stray messages of whole streams.
-fn strays_of(
-    alloc: Global,
-    whole: MarkedStreams<'_>,
-    pairing: &Pairing,
-) -> Result<Strays, AllocError> {
+/// The stray messages of whole streams; none if these can't be paired.
+fn strays_of(alloc: Global, whole: MarkedStreams<'_>) -> Result<Strays, AllocError> {
     let mut strays = Strays {
         strays: Vec::new(alloc),
         removals: Vec::new(alloc),
     };
-    for (process, &pid) in whole.streams.pids().iter().enumerate() {
-        strays.note_process(whole, pairing, process, pid)?;
+    match pair(alloc, whole.streams) {
+        Ok(pairing) => strays.note_all(whole, &pairing)?,
+        Err(PairFault::Memory) => return Err(AllocError),
+        Err(_) => {}
     }
     Ok(strays)
 }
@@ -258,6 +264,24 @@ struct Search {
 }
 
 impl Search {
+    /// No message has a home yet in these streams.
+    fn new(alloc: Global, streams: &Streams) -> Result<Search, AllocError> {
+        let gaps = gaps_of(alloc, streams, 0)?;
+        let mut offers = Offers::new(alloc);
+        for (number, gap) in gaps.iter().enumerate() {
+            offers.put(offer_of(gap, number))?;
+        }
+        Ok(Search {
+            gaps,
+            offers,
+            ends: ends_of(alloc, streams)?,
+            untold: Insertions {
+                sends: Vec::new(alloc),
+                receives: Vec::new(alloc),
+            },
+        })
+    }
+
     /// A gap whose process passes this count, which is then taken.
     fn gap_with(&mut self, count: u64) -> Result<Option<Gap>, AllocError> {
         let Some(offer) = self.offers.take(count)? else {
@@ -350,37 +374,19 @@ fn gap_behind(end: End, stray: Stray) -> Gap {
 
 /// The sends and receives of the messages, at homes that need few silent stamps; none if some
 /// message has no home, though its old one is there.
-fn settled(
+fn settle_all(
     alloc: Global,
     streams: &Streams,
     mut strays: Vec<Stray>,
 ) -> Result<Option<Insertions>, AllocError> {
     strays.sort()?;
-    let gaps = gaps_of(alloc, streams, 0)?;
-    let mut offers = Offers::new(alloc);
-    for (number, gap) in gaps.iter().enumerate() {
-        offers.put(offer_of(gap, number))?;
-    }
-    let mut search = Search {
-        gaps,
-        offers,
-        ends: ends_of(alloc, streams)?,
-        untold: Insertions {
-            sends: Vec::new(alloc),
-            receives: Vec::new(alloc),
-        },
-    };
+    let mut search = Search::new(alloc, streams)?;
     for &stray in strays.iter().rev() {
         if !search.settle(streams, stray)? {
             return Ok(None);
         }
     }
-    let Search {
-        gaps: _,
-        offers: _,
-        ends: _,
-        untold,
-    } = search;
+    let Search { untold, .. } = search;
     Ok(Some(untold))
 }
 
@@ -393,23 +399,15 @@ pub(crate) fn with_near_homes(
     if !may_save(whole) {
         return Ok(None);
     }
-    let pairing = match pair(alloc, whole.streams) {
-        Ok(pairing) => pairing,
-        Err(PairFault::Memory) => return Err(AllocError),
-        Err(_) => return Ok(None),
-    };
-    let mut strays = strays_of(alloc, whole, &pairing)?;
+    let mut strays = strays_of(alloc, whole)?;
     if strays.strays.is_empty() {
         return Ok(None);
     }
     let Some(kept) = strays.keep(alloc, whole)? else {
         return Ok(None);
     };
-    let Strays {
-        strays,
-        removals: _,
-    } = strays;
-    match settled(alloc, &kept.streams, strays)? {
+    let Strays { strays, .. } = strays;
+    match settle_all(alloc, &kept.streams, strays)? {
         None => Ok(None),
         Some(untold) => with_insertions(alloc, kept.whole(), untold),
     }

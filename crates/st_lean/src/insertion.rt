@@ -81,15 +81,13 @@ fn add_process<'a>(
     Ok((sends, receives))
 }
 
-/// The whole streams with these untold events besides their own; nothing if one of them is in a
-/// process that isn't listed, which nobody asks for.
-pub(crate) fn with_insertions(
+/// A draft of the whole streams with these untold events, which come in order, and the marks of each
+/// process.
+fn draft_with(
     alloc: Global,
     whole: MarkedStreams<'_>,
-    mut untold: Insertions,
-) -> Result<Option<LongerStreams>, AllocError> {
-    untold.sends.sort_by_key(|one| one.key())?;
-    untold.receives.sort_by_key(|one| one.key())?;
+    untold: &Insertions,
+) -> Result<(Draft, Vec<Sequence<bool>>), AllocError> {
     let mut draft = Draft::new(alloc);
     for &pid in whole.streams.pids() {
         let Ok(()) = draft.open(pid) else {
@@ -104,6 +102,19 @@ pub(crate) fn with_insertions(
         rest = add_process(&mut draft, &mut marks, pid, own, rest, process)?;
         told.push(Sequence::from_vec(marks))?;
     }
+    Ok((draft, told))
+}
+
+/// The whole streams with these untold events besides their own; nothing if one of them is in a
+/// process that isn't listed, which nobody asks for.
+pub(crate) fn with_insertions(
+    alloc: Global,
+    whole: MarkedStreams<'_>,
+    mut untold: Insertions,
+) -> Result<Option<LongerStreams>, AllocError> {
+    untold.sends.sort_by_key(|one| one.key())?;
+    untold.receives.sort_by_key(|one| one.key())?;
+    let (draft, told) = draft_with(alloc, whole, &untold)?;
     match draft.close() {
         Err(_) => Ok(None),
         Ok(streams) => Ok(Some(LongerStreams { streams, told })),

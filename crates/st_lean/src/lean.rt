@@ -235,6 +235,19 @@ struct Acts<const TOP: u64> {
 }
 
 impl<const TOP: u64> Acts<TOP> {
+    /// No acts yet of these processes, and so many at most.
+    fn new(alloc: Global, pids: &[Pid], most: u64, usual: Flags) -> Result<Acts<TOP>, LeanFault> {
+        match World::<TOP>::new(alloc, pids) {
+            Ok(world) => Ok(Acts {
+                world,
+                acts: Sequence::new(alloc),
+                most,
+                usual,
+            }),
+            Err(_) => Err(LeanFault::Memory),
+        }
+    }
+
     /// Puts the act at the end, and steps it.
     fn perform(&mut self, act: Act) -> Result<(), LeanFault> {
         if self.acts.len() as u64 >= self.most {
@@ -348,14 +361,26 @@ impl<const TOP: u64> Acts<TOP> {
         }
     }
 
+    /// Puts the acts of all items at the end.
+    fn append_all(
+        &mut self,
+        whole: MarkedStreams<'_>,
+        pairing: &Pairing,
+        items: &[Item],
+    ) -> Result<(), LeanFault> {
+        self.open(whole.streams.pids())?;
+        for &item in items {
+            match item {
+                Item::Reported(pid, index) => self.append(whole, pairing, pid, index)?,
+                Item::Hidden(..) => return Err(LeanFault::Stopped),
+            }
+        }
+        Ok(())
+    }
+
     /// The acts.
     fn into_acts(self) -> Sequence<Act> {
-        let Acts {
-            world: _,
-            acts,
-            most: _,
-            usual: _,
-        } = self;
+        let Acts { acts, .. } = self;
         acts
     }
 }
@@ -373,23 +398,8 @@ fn acts_in_order<const TOP: u64>(
     if whole.streams.total().saturating_add(tallies.missing) > most {
         return Err(LeanFault::TooMany);
     }
-    let pids = whole.streams.pids();
-    let Ok(world) = World::<TOP>::new(alloc, pids) else {
-        return Err(LeanFault::Memory);
-    };
-    let mut acts = Acts::<TOP> {
-        world,
-        acts: Sequence::new(alloc),
-        most,
-        usual: tallies.flags(),
-    };
-    acts.open(pids)?;
-    for &item in items {
-        match item {
-            Item::Reported(pid, index) => acts.append(whole, pairing, pid, index)?,
-            Item::Hidden(..) => return Err(LeanFault::Stopped),
-        }
-    }
+    let mut acts = Acts::<TOP>::new(alloc, whole.streams.pids(), most, tallies.flags())?;
+    acts.append_all(whole, pairing, items)?;
     Ok(acts.into_acts())
 }
 
