@@ -24,6 +24,7 @@ BELOW_ITS_LINE = "an event stands below the line of its process"
 RISING = "list the processes by rising pid, each once"
 PID_PARTS = "a pid is <NODE.NUMBER.0> with numbers up to 65535: number the processes anew"
 LIST = "add a process line for it, even if it reported nothing"
+LIST_OR_WHOLE = "the text may break off before its process line: get the whole of it, or add that line"
 RETURN = "a carriage return: end lines with a newline alone"
 VALUES = "a value, a number up to 18446744073709551615"
 QUOTES = "the word 'receive' stands in straight single quotes"
@@ -201,6 +202,10 @@ SEVERAL = (
      HEAD + "".join(f"{{seq_trace,17,{{send,{{0,{n}}},<0.30.0>,<0.{pid}.0>,7}}}}\n" for n, pid in enumerate((98, 99, 98), 1)),
      ((3, 39, "a pid with a process line, <0.98.0> has none", LIST),
       (4, 39, "a pid with a process line, <0.99.0> has none", LIST)), 0),
+    ("a pid whose process line may be behind the cut",
+     f"{HEAD}{{seq_trace,17,{{send,{{0,1}},<0.30.0>,<0.98.0>,7}}}}\n{PRINT[:20]}",
+     ((3, 39, "a pid with a process line, <0.98.0> has none", LIST_OR_WHOLE),
+      (4, 21, OF_EVENT, BREAKS_OFF)), 0),
     ("a node under header 1 is named once", "seqtrace 1\nprocess <3.30.0>\nprocess <3.31.0>\nprocess <3.x.0>\n",
      ((2, 10, "node 0 under seqtrace 1", "a bundle that names a pid of another node begins with seqtrace 2"),
       (4, 12, "a pid's number up to 65535", PID_PARTS)), 1),

@@ -109,37 +109,46 @@ impl Fixer {
             None => Ok(()),
         }
     }
+
+    /// Appends a whole text.
+    fn put_text(&mut self, alloc: Global, text: &Text<'_>) -> Result<(), AllocError> {
+        if !begins_with_header(text) {
+            self.mended.headers = 1;
+            self.put_header()?;
+        }
+        for line in text.lines() {
+            if text.is_of_mac() && line.is_ended {
+                self.mended.ends = self.mended.ends.saturating_add(1);
+            }
+            let is_whole = !line.is_ended && matches!(ending_of(alloc, line.bytes)?, Ending::Whole);
+            if is_whole {
+                self.mended.newlines = 1;
+            }
+            self.put_pieces(line.bytes, line.is_ended || is_whole)?;
+        }
+        Ok(())
+    }
+}
+
+/// The header that a text should have.
+fn header_of(alloc: Global, text: &Text<'_>) -> Result<&'static [u8], AllocError> {
+    if Survey::new(alloc, text)?.is_remote {
+        Ok(b"seqtrace 2")
+    } else {
+        Ok(b"seqtrace 1")
+    }
 }
 
 /// The text of these bytes, mended.
-fn fixed(alloc: Global, bytes: &[u8]) -> Result<Fixer, AllocError> {
+fn mend_text(alloc: Global, bytes: &[u8]) -> Result<Fixer, AllocError> {
     let (bytes, marks) = match bytes.strip_prefix(MARK.as_slice()) {
         Some(behind) => (behind, 1),
         None => (bytes, 0),
     };
     let text = Text::new(bytes);
-    let is_remote = Survey::new(alloc, &text)?.is_remote;
-    let header: &'static [u8] = if is_remote {
-        b"seqtrace 2"
-    } else {
-        b"seqtrace 1"
-    };
-    let mut fixer = Fixer::new(alloc, header);
+    let mut fixer = Fixer::new(alloc, header_of(alloc, &text)?);
     fixer.mended.marks = marks;
-    if !begins_with_header(&text) {
-        fixer.mended.headers = 1;
-        fixer.put_header()?;
-    }
-    for line in text.lines() {
-        if text.is_of_mac() && line.is_ended {
-            fixer.mended.ends = fixer.mended.ends.saturating_add(1);
-        }
-        let is_whole = !line.is_ended && matches!(ending_of(alloc, line.bytes)?, Ending::Whole);
-        if is_whole {
-            fixer.mended.newlines = 1;
-        }
-        fixer.put_pieces(line.bytes, line.is_ended || is_whole)?;
-    }
+    fixer.put_text(alloc, &text)?;
     Ok(fixer)
 }
 
@@ -201,7 +210,7 @@ fn tell_fixed<W: ByteSink, N: ByteSink>(
     writer: &mut W,
     notes: &mut N,
 ) -> Result<u8, ReadFault> {
-    let Ok(fixer) = fixed(alloc, bytes) else {
+    let Ok(fixer) = mend_text(alloc, bytes) else {
         return Err(ReadFault::Memory);
     };
     let judgement = judgement_of(alloc, fixer.text.as_slice(), NAMED)?;

@@ -370,7 +370,11 @@ impl<'a> Judge<'a> {
         match self.named.insert(place.pid) {
             Ok(true) => {
                 let column = place.start.saturating_add(count);
-                let remedy = "add a process line for it, even if it reported nothing";
+                let remedy = if self.survey.is_cut {
+                    LISTED_FURTHER_DOWN
+                } else {
+                    "add a process line for it, even if it reported nothing"
+                };
                 self.add(mistake_at(line, column, Wanted::Listed(pid), remedy));
             }
             Ok(false) => {}
@@ -394,6 +398,10 @@ impl<'a> Judge<'a> {
         }
     }
 }
+
+/// What to do about a pid without a process line in a text that may have been cut off.
+const LISTED_FURTHER_DOWN: &str =
+    "the text may break off before its process line: get the whole of it, or add that line";
 
 /// What to do about a process line that isn't above the one before, or comes again.
 const RISING: &str = "list the processes by rising pid, each once";

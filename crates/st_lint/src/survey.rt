@@ -1,5 +1,5 @@
-//! What a text has as a whole: the processes that it lists, and whether it names a pid of another
-//! node.
+//! What a text has as a whole: the processes that it lists, whether it names a pid of another node, and
+//! whether it may have been cut off.
 //!
 //! A process line counts if it begins as one, even if something else in it is wrong: its own
 //! mistake is enough.
@@ -18,6 +18,8 @@ pub(crate) struct Survey<'a> {
     listed: Vec<&'a str>,
     /// A pid of a node other than 0 is named.
     pub(crate) is_remote: bool,
+    /// The last line has no newline, so the text may have gone on.
+    pub(crate) is_cut: bool,
 }
 
 /// The pid of a line that begins as a process line, if it can be read.
@@ -55,14 +57,20 @@ impl<'a> Survey<'a> {
     pub(crate) fn new(alloc: Global, text: &Text<'a>) -> Result<Survey<'a>, AllocError> {
         let mut listed = Vec::new(alloc);
         let mut is_remote = false;
+        let mut is_cut = false;
         for line in text.lines() {
             if let Some(pid) = process_pid(line.bytes) {
                 listed.push(pid)?;
             }
             is_remote = is_remote || names_remote(line.bytes);
+            is_cut = !line.is_ended;
         }
         listed.sort()?;
-        Ok(Survey { listed, is_remote })
+        Ok(Survey {
+            listed,
+            is_remote,
+            is_cut,
+        })
     }
 
     /// How many bytes of a pid's text that of some listed pid begins with; none if it is listed
