@@ -1,10 +1,9 @@
 //! The acts of a completion.
 
-ghost use Rattle.std.specs.Prelude.{◌≡◌, ◌<◌, ◌≤◌, ◌↔◌, IfErr, IfOk, IfSome, IsTrue};
+ghost use Rattle.std.specs.Prelude.{◌≡◌, ◌↔◌, IfErr, IfOk, IfSome, IsTrue};
 ghost use Rattle.st_core.specs.Laws.{is_reset, NoReset};
-ghost use Rattle.st_plan.specs.Marks.{all_streams};
 ghost use Rattle.st_complete.specs.Answers.{IsCertificate};
-ghost use Rattle.st_complete.specs.Bounds.{act_bound, saturated};
+ghost use Rattle.st_complete.specs.Bounds.{IsCertificateFault};
 
 use crate::answer::{Certificate, CertificateFault};
 use crate::bounds::act_bound;
@@ -105,10 +104,7 @@ fn certify_construction<const TOP: u64>(
 
 /// Why a completion has no certificate, if none of the acts that were tried serves.
 fn fault_of(completion: &Completion, most: u64) -> CertificateFault
-    ensures too_many { result ≡ CertificateFault.TooManyActs →
-        most < act_bound (all_streams completion.now.wholes) }
-    ensures uncertified { result ≡ CertificateFault.Uncertified →
-        saturated (act_bound (all_streams completion.now.wholes)) ≤ most }
+    ensures { IsCertificateFault completion.now.wholes most result }
 {
     if act_bound(completion.streams()) > most {
         CertificateFault::TooManyActs
@@ -128,10 +124,7 @@ pub fn certificate_by_construction<const TOP: u64>(
     most: u64,
 ) -> Result<Certificate, CertificateFault>
     ensures certified { IfOk result (IsCertificate TOP streams.now most) }
-    ensures too_many { IfErr result (λ fault. fault ≡ CertificateFault.TooManyActs →
-        most < act_bound (all_streams completion.now.wholes)) }
-    ensures uncertified { IfErr result (λ fault. fault ≡ CertificateFault.Uncertified →
-        saturated (act_bound (all_streams completion.now.wholes)) ≤ most) }
+    ensures fault { IfErr result (IsCertificateFault completion.now.wholes most) }
 {
     match certify_construction::<TOP>(rt, alloc, streams, completion, most) {
         Err(AllocError) => Err(CertificateFault::Memory),
@@ -160,10 +153,7 @@ pub fn certificate<const TOP: u64>(
     most: u64,
 ) -> Result<Certificate, CertificateFault>
     ensures certified { IfOk result (IsCertificate TOP streams.now most) }
-    ensures too_many { IfErr result (λ fault. fault ≡ CertificateFault.TooManyActs →
-        most < act_bound (all_streams completion.now.wholes)) }
-    ensures uncertified { IfErr result (λ fault. fault ≡ CertificateFault.Uncertified →
-        saturated (act_bound (all_streams completion.now.wholes)) ≤ most) }
+    ensures fault { IfErr result (IsCertificateFault completion.now.wholes most) }
 {
     match certify_lean::<TOP>(rt, alloc, streams, completion, most) {
         Err(AllocError) => Err(CertificateFault::Memory),

@@ -1,13 +1,22 @@
 -- The acts show the streams with their unlisted processes; running out of memory has a line of its own.
-use Rattle.std.proofs.Common.{List, refl, subst, arith}
+use Rattle.std.proofs.Common.{◌≡◌, ℕ, List, refl, subst, arith}
 use Rattle.st_core.specs.Run.{Shows, Stream}
+use Rattle.st_text.specs.Limits.{greater}
 use Rattle.st_commands.specs.Output.{no_memory, bundled}
 use Rattle.st_commands.specs.Checked.{top}
+use Rattle.st_plan.specs.Marks.{Whole}
+use Rattle.st_complete.specs.Bounds.{IsCertificateFault}
 use Rattle.st_complete.specs.declared.answer.Answer.TheVariants as answer
+use Rattle.st_complete.specs.declared.answer.CertificateFault.{CertificateFault}
 use Rattle.st_open_world.specs.Silent.{with_silent}
 use Rattle.st_tool.specs.Complete.{Certifies, HasActs, IsLong, IsUncertified, long, uncertified}
 use Rattle.st_tool.specs.Parts.{Finds, NoRoomToComplete}
 use Rattle.st_tool.proofs.complete.tell_shown.Goals as goal
+
+-- what is known of a fault, if it is this one
+fault_is : (wholes : List Whole) (most : ℕ) {f f2 : CertificateFault}
+    → IsCertificateFault wholes most f → f ≡ f2 → IsCertificateFault wholes most f2
+fault_is wholes most known is = subst (IsCertificateFault wholes most) is known
 
 pub returns-in-Ok : goal.returns-in-Ok
 returns-in-Ok g c =
@@ -27,13 +36,15 @@ returns-in-Err-TooManyActs g c =
     record {
       output = long;
       owed = Finds (answer.Whole c.args.completion.now) long c.requires.whole (IsLong c.args.completion.now
-          (HasActs refl (c.in-Err-TooManyActs.ensures.too_many c.in-Err-TooManyActs.field-0-is)));
+          (HasActs refl (fault_is c.args.completion.now.wholes greater.acts c.in-Err-TooManyActs.ensures.fault
+          c.in-Err-TooManyActs.field-0-is)));
       delivered = c.tell_line.ensures;
     }
 
 pub returns-in-Err-Uncertified : goal.returns-in-Err-Uncertified
 returns-in-Err-Uncertified g c =
-    let enough = c.in-Err-Uncertified.ensures.uncertified c.in-Err-Uncertified.field-0-is in
+    let enough = fault_is c.args.completion.now.wholes greater.acts c.in-Err-Uncertified.ensures.fault
+    c.in-Err-Uncertified.field-0-is in
     record {
       output = uncertified;
       owed = Finds (answer.Whole c.args.completion.now) uncertified c.requires.whole
