@@ -1,9 +1,10 @@
 -- What is told of an act under its locks, of which nothing is known but what their types keep.
-use Rattle.std.specs.Prelude.{◌≡◌, ◌↔◌, ℕ, Bool, List, Result, Ok, Err, IfOk, OnErr}
+use Rattle.std.specs.Prelude.{◌≡◌, ◌<◌, ◌≤◌, ◌↔◌, ℕ, Bool, List, Option, None, IfSome, Result, Ok, Err, IfOk, OnErr}
 use Rattle.st_core.specs.Step.{actor, receiver}
 use Rattle.st_runtime.specs.Lent.{AreSame, FindsClockFull, FindsRankFull}
 use Rattle.st_runtime.specs.Pcb.{Control, IsStepped}
 use Rattle.st_core.specs.declared.types.Act.{Act}
+use Rattle.st_log.specs.declared.entry.Entry.{Entry}
 use Rattle.st_core.specs.declared.types.Act.TheVariants as act
 use Rattle.st_core.specs.declared.types.Reply.{Reply}
 use Rattle.st_core.specs.declared.types.Reply.TheVariants as reply
@@ -24,6 +25,16 @@ IsLockFault (Err fault.Memory) = Unit {0}
 abbrev pub wide_reply : Act → Bool → Reply
 wide_reply (act.Tracer p b) was = reply.Was was
 wide_reply a was = reply.Done
+
+-- the entry of an act of a whole node, if so far its logs go up to this rank, and its actor, once it was
+-- met, was traced or not
+pub record IsWideEntry (ranks last : ℕ) (was : Option Bool) (a : Act) (e : Entry) : Type 0 where
+  pub act : e.act ≡ a
+  pub above : last < e.rank
+  pub within : e.rank ≤ ranks
+  pub reply : IfSome was (λ was. e.reply ≡ wide_reply a was)
+  pub report : e.report ≡ None
+  pub carried : e.carried ≡ None
 
 -- these are the actor's process and the receiver's
 abbrev pub AreFor : Act → Control → Control → Type 0

@@ -1,13 +1,13 @@
 //! Processes under their locks, and the acts that threads make of them. Locks are taken in rising
 //! order of their pids, and nothing is known of what a lock holds but what its type keeps.
 
-ghost use Rattle.std.specs.Prelude.{◌≡◌, ◌≢◌, ◌<◌, ◌≤◌, ◌↔◌, ◌⊎◌, false, true, [], ◌∷◌, ◌++◌};
+ghost use Rattle.std.specs.Prelude.{◌≡◌, ◌≢◌, ◌≤◌, ◌↔◌, ◌⊎◌, false, true, [], ◌∷◌, ◌++◌};
 ghost use Rattle.std.specs.Prelude.{length, map, is_some, slice_get, Some, None, Err};
 ghost use Rattle.std.specs.Prelude.{Ok, IfOk, IfErr, IfSome, OnOk, OnErr, vec_len};
 ghost use Rattle.st_core.specs.Pid.{IsRising};
 ghost use Rattle.st_core.specs.Step.{actor, receiver};
 ghost use Rattle.st_log.specs.Entries.{is_wide};
-ghost use Rattle.st_runtime.specs.Locked.{wide_reply, AreFor, IsHeldStep, IsLockFault};
+ghost use Rattle.st_runtime.specs.Locked.{AreFor, IsHeldStep, IsLockFault, IsWideEntry};
 ghost use Rattle.st_runtime.specs.declared.fault.PcbFault.{PcbFault};
 ghost use Rattle.st_runtime.specs.Pieces.{pids_in};
 ghost use Rattle.st_runtime.specs.Seat.{no_calls};
@@ -292,12 +292,9 @@ impl<const TOP: u64, const RANKS: u64> System<TOP, RANKS> {
         requires actor { found.actor ≡ actor entry.old.act }
         requires place { place ≤ length self.now }
         requires last { found.last ≤ RANKS }
-        ensures act { OnOk result (entry.new.act ≡ entry.old.act) }
-        ensures bare { OnOk result ((entry.new.report ≡ None) × (entry.new.carried ≡ None)) }
-        ensures above { OnOk result ((found.last < entry.new.rank) × (entry.new.rank ≤ RANKS)) }
+        ensures entry { OnOk result
+            (IsWideEntry RANKS found.last found.was entry.old.act entry.new) }
         ensures stray { OnOk result (found.stray ≡ false) }
-        ensures reply { OnOk result
-            (IfSome found.was (λ was. entry.new.reply ≡ wide_reply entry.old.act was)) }
         ensures known { IsLockFault result }
         ensures clock { result ≢ Err ActFault.ClockFull }
     {

@@ -2,7 +2,7 @@
 
 ghost use Rattle.std.specs.Prelude.{◌≡◌, ◌≢◌, ◌+◌, ◌≤◌, ◌↔◌, ◌⊎◌, true, false, max, Some, None};
 ghost use Rattle.std.specs.Prelude.{Err, IfOk, IfSome, IsSome};
-ghost use Rattle.st_runtime.specs.Locked.{wide_reply, IsLockFault};
+ghost use Rattle.st_runtime.specs.Locked.{IsLockFault, IsWideEntry};
 ghost use Rattle.st_log.specs.Entries.{is_wide, last_rank};
 
 use crate::fault::ActFault;
@@ -54,16 +54,13 @@ impl Found {
     pub fn entry(&self, act: &Act, ranks: u64) -> Result<Entry, ActFault>
         requires wide { is_wide act.now ≡ true }
         requires last { self.now.last ≤ ranks }
-        ensures act { IfOk result (λ e. e.act ≡ act.now) }
-        ensures bare { IfOk result (λ e. (e.report ≡ None) × (e.carried ≡ None)) }
-        ensures rank { IfOk result (λ e. (e.rank ≡ self.now.last + 1) × (e.rank ≤ ranks)) }
+        ensures entry { IfOk result (IsWideEntry ranks self.now.last self.now.was act.now) }
+        ensures rank { IfOk result (λ e. e.rank ≡ self.now.last + 1) }
         ensures stray { (result ≡ Err ActFault.Stray)
             ↔ ((self.now.stray ≡ true) ⊎ (self.now.was ≡ None)) }
         ensures full { (result ≡ Err ActFault.RankFull)
             ↔ ((self.now.stray ≡ false) × IsSome self.now.was × (self.now.last ≡ ranks)) }
         ensures memory { result ≢ Err ActFault.Memory }
-        ensures reply { IfOk result
-            (λ e. IfSome self.now.was (λ was. e.reply ≡ wide_reply act.now was)) }
         ensures known { IsLockFault result }
         ensures clock { result ≢ Err ActFault.ClockFull }
     {

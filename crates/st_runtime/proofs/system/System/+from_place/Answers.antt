@@ -3,6 +3,7 @@
 use Rattle.std.proofs.Common.{arith, rules, ◌≡◌, ◌<◌, false, true, length, get_or, sym, ap, ◌∙◌}
 use Rattle.st_core.specs.Pid.{node_eq}
 use Rattle.st_core.specs.Step.{actor}
+use Rattle.st_log.specs.Entries.{is_wide}
 use Rattle.st_runtime.proofs.HeldLemmas.{read_same}
 use Rattle.st_runtime.proofs.system.System.+from_place.Goals as goal
 
@@ -22,18 +23,19 @@ commit-requires g t c =
     let near : node_eq q p ≡ true = ap (λ r. node_eq r p) (sym one) ∙ here in
     let held : c.deref.result.now.process.pid ≡ q = c.with-next.ensures.pid straight in
     let lent : c.deref_mut-2.result.now.process.pid ≡ q = search (rules, held) in
-    let whose : actor e.act ≡ p = ap actor c.in_ok-from_place.ensures.act ∙ sym c.requires.actor in (
+    let entry = c.in_ok-from_place.ensures.entry in
+    let whose : actor e.act ≡ p = ap actor entry.act ∙ sym c.requires.actor in (
       omega arith,
       (
         search rules,
         record {
-          wide = search rules;
+          wide = ap is_wide entry.act ∙ c.requires.wide;
           node = ap (λ r. node_eq r (actor e.act)) lent ∙ ap (node_eq q) whose ∙ near;
-          above = search rules;
-          within = search rules;
-          reply = search rules;
-          report = search rules;
-          carried = search rules;
+          above = search (rules, entry.above);
+          within = entry.within;
+          reply = search (rules, entry.reply, entry.act);
+          report = entry.report;
+          carried = entry.carried;
         },
       ),
     )
