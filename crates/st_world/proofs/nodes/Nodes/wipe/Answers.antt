@@ -12,26 +12,24 @@ use Rattle.st_world.proofs.Groups.{node_is}
 use Rattle.st_world.proofs.Wipes.{in_node, all_left, fewer_left, none_left, clean_still, wiped_one, clean_node}
 use Rattle.st_world.proofs.nodes.Nodes.wipe.Goals as goal
 
+-- the groups are what is inside, and the node that was read there is that of the process `number`
+read_in : {inside g : Groups} → inside ≡ g → AreGroups inside → (number k : ℕ) (n : Node) → number < length g.places
+    → k ≡ get_or inside.places number k → n ≡ get_or inside.nodes k n
+    → AreGroups g × (n ≡ node_at g number)
+read_in {inside} is inv number k n h at read =
+    let h2 : number < length inside.places = rw (← is) at h in
+    subst (λ (x : Groups). AreGroups x × (n ≡ node_at x number)) is (inv, node_is inside number k n inv h2 at read)
+
 pub loop-slot-init : goal.loop-slot-init
 loop-slot-init g c =
-    let inside : Groups =
-    record {
-      places = c.self.inside.places.items;
-      nodes = c.self.inside.nodes.items;
-      slots = c.self.inside.slots.items;
-    } in
-    let own : AreGroups inside = c.self.invariant in
-    let inv : AreGroups c.args.self.now = subst AreGroups c.self.view_is own in
-    let h : c.args.number < length c.self.inside.places.items = rw (← c.self.view_is) at c.requires.number in
     let n : Node = c.index-2.result.now in
-    let is : n ≡ node_at c.args.self.now c.args.number =
-    subst (λ (x : Groups). n ≡ node_at x c.args.number) c.self.view_is
-    (node_is inside c.args.number c.index.result.now n own h c.index.ensures c.index-2.ensures) in
+    let read = read_in c.self.view_is c.self.invariant c.args.number c.index.result.now n c.requires.number
+    c.index.ensures c.index-2.ensures in
     record {
       locals_len = c.requires.locals_len;
       queues_len = c.requires.queues_len;
       left = λ i below same old.
-          all_left c.args.self.now c.args.number n inv c.requires.number is c.args.locals.now c.args.queues.now.boxes i
+          all_left c.args.self.now c.args.number n read.0 c.requires.number read.1 c.args.locals.now c.args.queues.now.boxes i
           same old;
       others = λ i clean. clean;
       state = λ pids me by_node own. refl;
@@ -39,19 +37,9 @@ loop-slot-init g c =
 
 pub loop-slot-preserved : goal.loop-slot-preserved
 loop-slot-preserved g c =
-    let inside : Groups =
-    record {
-      places = c.self.inside.places.items;
-      nodes = c.self.inside.nodes.items;
-      slots = c.self.inside.slots.items;
-    } in
-    let own : AreGroups inside = c.self.invariant in
-    let inv : AreGroups c.args.self.now = subst AreGroups c.self.view_is own in
-    let h : c.args.number < length c.self.inside.places.items = rw (← c.self.view_is) at c.requires.number in
     let n : Node = c.index-2.result.now in
-    let is : n ≡ node_at c.args.self.now c.args.number =
-    subst (λ (x : Groups). n ≡ node_at x c.args.number) c.self.view_is
-    (node_is inside c.args.number c.index.result.now n own h c.index.ensures c.index-2.ensures) in
+    let read = read_in c.self.view_is c.self.invariant c.args.number c.index.result.now n c.requires.number
+    c.index.ensures c.index-2.ensures in
     let now = c.loop-slot.invariant in
     let ls : List LocalState = c.loop-slot.locals in
     let bs : List (List Message) = c.loop-slot.queues.boxes in
@@ -64,7 +52,7 @@ loop-slot-preserved g c =
     c.process_in-touched.ensures ∙ ap (λ s. process_in s n t) slots_are in
     let wiped_is : c.wipe.new.self ≡ wiped l = c.wipe.ensures ∙ ap wiped (sym c.index-locals-touched.is) in
     let el : l ≡ get_or ls m l = c.index-locals-touched.is ∙ ap (λ i. get_or ls i l) touched_is in
-    let node = in_node c.args.self.now c.args.number n inv c.requires.number is t (omega arith) (omega arith) in
+    let node = in_node c.args.self.now c.args.number n read.0 c.requires.number read.1 t (omega arith) (omega arith) in
     let local : m < length ls = omega (arith, node.0, now.locals_len) in
     let queue : m < length bs = omega (arith, node.0, now.queues_len) in
     rw (c.wipe_tokens.ensures.boxes, wiped_is, touched_is) (record {
