@@ -122,7 +122,9 @@ tables(Name, Run) ->
     {match, _} = re:run(Path,
                         "what the last event of label slow waited for \\([0-9]+ [un]?m?s under way, [0-9]+ ms in "
                          "processes\\):"),
-    {match, _} = re:run(Path, "\n +2[0-9] ms  until timed_server#[0-9]+: timed_server sends reply waited to <"),
+    %% It waited for 20 ms at least; a busy machine adds to that.
+    {match, _} = re:run(Path, "\n +([2-9][0-9]|[0-9]{3}) ms  until timed_server#[0-9]+: "
+                              "timed_server sends reply waited to <"),
     nomatch = re:run(Path, "\nquick"),
     {1, Other} = Run(["times ", Name, " --label other"]),
     {_, _} = binary:match(Other, <<"there is no label other; the trace has quick, slow">>).
