@@ -36,7 +36,7 @@ FALSEHOODS = [
     (README, "A real node reported 11 events", "A real node reported 12 events"),
     (README, "and six functions (`.ci/clauses`", "and nine functions (`.ci/clauses`"),
     (README, "has three more commands", "has four more commands"),
-    ("docs/CONTRIBUTING.md", "about three a crate", "about thirty a crate"),
+    ("docs/CONTRIBUTING.md", "about two a crate", "about thirty a crate"),
     (MANUAL, "up to 2,000 rows", "up to 200 rows"),
     (MANUAL, "[default: 100]", "[default: 10]"),
     # Names of constants, of functions and of files.
