@@ -1,7 +1,7 @@
 -- What a part of `step` returns is a step by its definition: an outcome is the definition's and keeps each process
 -- sound, and each refusal comes if the definition has no step, or none that memory was there for.
 use Rattle.std.proofs.Common.{◌≡◌, ◌⊎◌, ℕ, true, List, length, Option, Some, None, Ok, Err, IsSome, All, IfSome}
-use Rattle.std.proofs.Common.{Result, IfOk, OnErr, position, get_or, set, refl, sym, ◌∙◌, ap, inl, inr}
+use Rattle.std.proofs.Common.{Result, IfOk, OnErr, position, get_or, set, refl, ◌∙◌, ap, inl, inr}
 use Rattle.std.proofs.lemmas.List.{length-set, set-get_or}
 use Rattle.std.specs.Option.{ForSome}
 use Rattle.st_core.specs.declared.types.Pid.{Pid}
@@ -119,8 +119,3 @@ rows_after_inner top ps ls bs a i l l2 (Ok told) rows inner at el acts err =
 rows_after_inner top ps ls bs a i l l2 (Err e) rows inner at el acts err =
     let back : set ls i l2 ≡ ls = ap (set ls i) (err ∙ el) ∙ set-get_or ls i l in
     rw back rows
-
--- what is read of a process, in the rows and in the state that they make
-pub reads : {A : Type 0} (f : Option Process → A) (rows state : State) (p : Pid) (o : Option Process)
-    → rows ≡ state → process rows p ≡ o → f o ≡ f (process state p)
-reads f rows state p o same is = ap f (sym is ∙ ap (λ (s : State). process s p) same)

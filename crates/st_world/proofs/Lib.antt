@@ -13,3 +13,4 @@ mod NodeActs
 mod Once
 mod Steps
 mod Answering
+mod Reading

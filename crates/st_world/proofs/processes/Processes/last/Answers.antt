@@ -1,53 +1,22 @@
--- The row has at the number of the pid what the state has of its process, and each process is sound.
-use Rattle.std.proofs.Common.{◌≡◌, Option, Some, None, option_map, position, get_or, [], sym, ◌∙◌, ap}
-use Rattle.st_core.specs.Pid.{pid_eq}
-use Rattle.st_core.specs.State.{LocalState, Process}
-use Rattle.st_mail.specs.Actor.{process_of}
-use Rattle.st_world.specs.Nodes.{are_traced, flagged, traced_at}
-use Rattle.st_world.specs.Rows.{state_of}
-use Rattle.st_world.proofs.Answering.{ordered, reads}
-use Rattle.st_world.proofs.Kept.{marked_at}
-use Rattle.st_world.proofs.RowLemmas.{unknown, stands}
+-- The row at the number of the pid has the process's last count.
+use Rattle.std.proofs.Common.{Some, option_map, sym, ◌∙◌, ap}
+use Rattle.st_core.specs.State.{Process}
+use Rattle.st_world.proofs.Reading.{read_kept, read_nothing, read_ordered}
 use Rattle.st_world.proofs.processes.Processes.last.Goals as goal
 
 pub returns-in_default-clause-value : goal.returns-in_default-clause-value
 returns-in_default-clause-value g c =
-    let ps = c.self.inside.pids in
-    let ls = flagged (are_traced c.self.inside.nodes) c.self.inside.locals.items in
-    let bs = c.self.inside.queues.boxes in
-    let at : position (λ p. pid_eq p c.args.pid) c.self.inside.pids ≡ None =
-    sym c.number_of.ensures ∙ c.in_default.is in
-    let gone = unknown ps ls bs c.self.invariant.rows.aligned c.args.pid at in
-    reads (λ (o : Option Process). option_map (λ r. r.local.last) o) (state_of ps ls bs) c.args.self.now c.args.pid
-    None c.self.view_is gone
+    ap (option_map (λ (r : Process). r.local.last))
+    (sym (read_nothing c.self.invariant c.self.view_is c.args.pid (sym c.number_of.ensures ∙ c.in_default.is)))
 
 pub returns-clause-value : goal.returns-clause-value
 returns-clause-value g c =
-    let ps = c.self.inside.pids in
-    let ls = flagged (are_traced c.self.inside.nodes) c.self.inside.locals.items in
-    let bs = c.self.inside.queues.boxes in
-    let i = c.in-Some.number in
-    let at : position (λ p. pid_eq p c.args.pid) c.self.inside.pids ≡ Some c.in-Some.number =
-    sym c.number_of.ensures ∙ c.in-Some.is in
-    let l : LocalState = record c.index.result.now { traced = traced_at c.self.inside.nodes c.in-Some.number } in
-    let el =
-    marked_at g.row.TOP ps c.self.inside.nodes c.self.inside.locals.items bs c.self.invariant c.args.pid i at
-    c.index.result.now c.index.ensures in
-    let here = stands ps ls bs c.self.invariant.rows.aligned c.args.pid i at l el in
-    let own : Process =
-    process_of c.args.pid l (get_or c.self.inside.queues.boxes c.in-Some.number []) in
-    ap Some c.last.ensures.value
-    ∙ reads (λ (o : Option Process). option_map (λ r. r.local.last) o) (state_of ps ls bs) c.args.self.now c.args.pid
-    (Some own) c.self.view_is here.found
+    let read = read_kept c.self.invariant c.self.view_is c.args.pid c.in-Some.number c.index.result.now
+    (sym c.number_of.ensures ∙ c.in-Some.is) c.index.ensures in
+    ap Some c.last.ensures.value ∙ ap (option_map (λ (r : Process). r.local.last)) (sym read)
 
 pub returns-in_default-clause-ordered : goal.returns-in_default-clause-ordered
-returns-in_default-clause-ordered g c =
-    let ls = flagged (are_traced c.self.inside.nodes) c.self.inside.locals.items in
-    let state = state_of c.self.inside.pids ls c.self.inside.queues.boxes in
-    rw (← c.self.view_is) (ordered g.row.TOP state c.args.pid c.self.invariant.rows.sound)
+returns-in_default-clause-ordered g c = read_ordered c.self.invariant c.self.view_is c.args.pid
 
 pub returns-clause-ordered : goal.returns-clause-ordered
-returns-clause-ordered g c =
-    let ls = flagged (are_traced c.self.inside.nodes) c.self.inside.locals.items in
-    let state = state_of c.self.inside.pids ls c.self.inside.queues.boxes in
-    rw (← c.self.view_is) (ordered g.row.TOP state c.args.pid c.self.invariant.rows.sound)
+returns-clause-ordered g c = read_ordered c.self.invariant c.self.view_is c.args.pid
