@@ -7,17 +7,14 @@ use Rattle.st_world.specs.Nodes.{are_traced, flagged}
 use Rattle.st_world.specs.Rows.{state_of}
 use Rattle.st_world.proofs.Acting.{inner_mark, started, read_at, read_mark, act_rows, acted_kept}
 use Rattle.st_world.proofs.Answering.{refused_unknown, refused_full, answered, rows_after_inner}
-use Rattle.st_world.proofs.RowLemmas.{unknown}
+use Rattle.st_world.proofs.Reading.{read_nothing}
 use Rattle.st_world.proofs.Steps.{receiver_inner, is_there, full_act, step_inner}
 use Rattle.st_world.proofs.processes.Processes.inner.Goals as goal
 
 pub returns-in_default : goal.returns-in_default
 returns-in_default g c =
-    let ps = c.self.inside.pids in
-    let ls = flagged (are_traced c.self.inside.nodes) c.self.inside.locals.items in
-    let bs = c.self.inside.queues.boxes in
-    let gone = unknown ps ls bs c.self.invariant.rows.aligned c.args.me (sym c.number_of.ensures ∙ c.in_default.is) in
-    rw (← c.self.view_is) (refused_unknown g.row.TOP (state_of ps ls bs) c.args.act.now (inl (rw c.requires.me gone)))
+    let gone = read_nothing c.self.invariant c.self.view_is c.args.me (sym c.number_of.ensures ∙ c.in_default.is) in
+    refused_unknown g.row.TOP c.args.self.now c.args.act.now (inl (rw c.requires.me gone))
 
 pub invariant_of-self : goal.invariant_of-self
 invariant_of-self g c =

@@ -13,18 +13,15 @@ use Rattle.st_world.specs.World.{outcome_to}
 use Rattle.st_world.proofs.Acting.{started, read_at, read_mark, act_rows, acted_kept}
 use Rattle.st_world.proofs.Answering.{refused_unknown, answered, rows_after}
 use Rattle.st_world.proofs.Marks.{acted_mark}
-use Rattle.st_world.proofs.RowLemmas.{unknown, number_within}
+use Rattle.st_world.proofs.Reading.{read_nothing}
+use Rattle.st_world.proofs.RowLemmas.{number_within}
 use Rattle.st_world.proofs.Steps.{queue_fits, step_receive}
 use Rattle.st_world.proofs.processes.Processes.receive.Goals as goal
 
 pub returns-in_default : goal.returns-in_default
 returns-in_default g c =
-    let ps = c.self.inside.pids in
-    let ls = flagged (are_traced c.self.inside.nodes) c.self.inside.locals.items in
-    let bs = c.self.inside.queues.boxes in
-    let gone = unknown ps ls bs c.self.invariant.rows.aligned c.args.me (sym c.number_of.ensures ∙ c.in_default.is) in
-    rw (← c.self.view_is)
-    (refused_unknown g.row.TOP (state_of ps ls bs) (act.Receive c.args.me c.args.want.now) (inl gone))
+    let gone = read_nothing c.self.invariant c.self.view_is c.args.me (sym c.number_of.ensures ∙ c.in_default.is) in
+    refused_unknown g.row.TOP c.args.self.now (act.Receive c.args.me c.args.want.now) (inl gone)
 
 pub receive-requires : goal.receive-requires
 receive-requires g c =

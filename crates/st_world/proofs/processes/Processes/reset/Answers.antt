@@ -1,6 +1,6 @@
 -- A reset of the rows is that of the state: it changes each process of the node that is listed, and
 -- the others are clean.
-use Rattle.std.proofs.Common.{◌≡◌, Some, None, inl, position, length, sym, ◌∙◌, ap, subst}
+use Rattle.std.proofs.Common.{◌≡◌, Some, inl, position, length, sym, ◌∙◌, ap, subst}
 use Rattle.std.proofs.lemmas.List.{with_items_is}
 use Rattle.std.specs.Vec.{with_items}
 use Rattle.st_core.specs.declared.types.Act.TheVariants as act
@@ -11,18 +11,13 @@ use Rattle.st_world.specs.Nodes.{are_traced, flagged}
 use Rattle.st_world.specs.Rows.{state_of, AreKept}
 use Rattle.st_world.proofs.Answering.{refused_unknown, answered}
 use Rattle.st_world.proofs.NodeActs.{own_pid, told_of, reset_step, reset_kept, reset_listed}
-use Rattle.st_world.proofs.RowLemmas.{unknown}
+use Rattle.st_world.proofs.Reading.{read_nothing}
 use Rattle.st_world.proofs.processes.Processes.reset.Goals as goal
 
 pub returns-in_default : goal.returns-in_default
 returns-in_default g c =
-    let ps = c.self.inside.pids in
-    let ls = flagged (are_traced c.self.inside.nodes) c.self.inside.locals.items in
-    let bs = c.self.inside.queues.boxes in
-    let at : position (λ p. pid_eq p c.args.me) c.self.inside.pids ≡ None =
-    sym c.number_of.ensures ∙ c.in_default.is in
-    let gone = unknown ps ls bs c.self.invariant.rows.aligned c.args.me at in
-    rw (← c.self.view_is) (refused_unknown g.row.TOP (state_of ps ls bs) (act.Reset c.args.me) (inl gone))
+    let gone = read_nothing c.self.invariant c.self.view_is c.args.me (sym c.number_of.ensures ∙ c.in_default.is) in
+    refused_unknown g.row.TOP c.args.self.now (act.Reset c.args.me) (inl gone)
 
 pub invariant_of-self : goal.invariant_of-self
 invariant_of-self g c =

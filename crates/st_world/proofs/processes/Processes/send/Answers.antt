@@ -14,28 +14,20 @@ use Rattle.st_world.specs.Rows.{state_of}
 use Rattle.st_world.specs.World.{outcome_to}
 use Rattle.st_world.proofs.Acting.{started, touched, read_at, read_mark, ready_rows, act_rows, ready_kept, sent_kept}
 use Rattle.st_world.proofs.Answering.{refused_unknown, refused_full, refused_memory, answered, rows_after}
-use Rattle.st_world.proofs.RowLemmas.{unknown}
+use Rattle.st_world.proofs.Reading.{read_nothing}
 use Rattle.st_world.proofs.Steps.{is_there, full_send, step_send, mail, told_of_send}
 use Rattle.st_world.proofs.processes.Processes.send.Goals as goal
 
 pub returns-in_default : goal.returns-in_default
 returns-in_default g c =
-    let ps = c.self.inside.pids in
-    let ls = flagged (are_traced c.self.inside.nodes) c.self.inside.locals.items in
-    let bs = c.self.inside.queues.boxes in
-    let gone = unknown ps ls bs c.self.invariant.rows.aligned c.args.me (sym c.number_of.ensures ∙ c.in_default.is) in
-    rw (← c.self.view_is)
-    (refused_unknown g.row.TOP (state_of ps ls bs) (act.Send c.args.me c.args.to c.args.value) (inl gone))
+    let gone = read_nothing c.self.invariant c.self.view_is c.args.me (sym c.number_of.ensures ∙ c.in_default.is) in
+    refused_unknown g.row.TOP c.args.self.now (act.Send c.args.me c.args.to c.args.value) (inl gone)
 
 pub returns-in_default-number_of : goal.returns-in_default-number_of
 returns-in_default-number_of g c =
-    let ps = c.self.inside.pids in
-    let ls = flagged (are_traced c.self.inside.nodes) c.self.inside.locals.items in
-    let bs = c.self.inside.queues.boxes in
-    let gone =
-    unknown ps ls bs c.self.invariant.rows.aligned c.args.to (sym c.number_of-2.ensures ∙ c.in_default-number_of.is) in
-    rw (← c.self.view_is)
-    (refused_unknown g.row.TOP (state_of ps ls bs) (act.Send c.args.me c.args.to c.args.value) (inr gone))
+    let gone = read_nothing c.self.invariant c.self.view_is c.args.to
+    (sym c.number_of-2.ensures ∙ c.in_default-number_of.is) in
+    refused_unknown g.row.TOP c.args.self.now (act.Send c.args.me c.args.to c.args.value) (inr gone)
 
 pub invariant_of-self : goal.invariant_of-self
 invariant_of-self g c =

@@ -1,5 +1,5 @@
 -- A tracer change of the node is that of the state, since the mark of each of its processes is the node's.
-use Rattle.std.proofs.Common.{◌≡◌, Some, None, inl, position, sym, ◌∙◌}
+use Rattle.std.proofs.Common.{◌≡◌, Some, inl, position, sym, ◌∙◌}
 use Rattle.st_core.specs.declared.types.Act.TheVariants as act
 use Rattle.st_core.specs.declared.types.Reply.TheVariants as reply
 use Rattle.st_core.specs.Pid.{pid_eq}
@@ -8,18 +8,13 @@ use Rattle.st_world.specs.Nodes.{are_traced, flagged}
 use Rattle.st_world.specs.Rows.{state_of}
 use Rattle.st_world.proofs.Answering.{refused_unknown, answered}
 use Rattle.st_world.proofs.NodeActs.{told_of, trace_step, trace_kept}
-use Rattle.st_world.proofs.RowLemmas.{unknown}
+use Rattle.st_world.proofs.Reading.{read_nothing}
 use Rattle.st_world.proofs.processes.Processes.trace.Goals as goal
 
 pub returns-in_default : goal.returns-in_default
 returns-in_default g c =
-    let ps = c.self.inside.pids in
-    let ls = flagged (are_traced c.self.inside.nodes) c.self.inside.locals.items in
-    let bs = c.self.inside.queues.boxes in
-    let at : position (λ p. pid_eq p c.args.me) c.self.inside.pids ≡ None =
-    sym c.number_of.ensures ∙ c.in_default.is in
-    let gone = unknown ps ls bs c.self.invariant.rows.aligned c.args.me at in
-    rw (← c.self.view_is) (refused_unknown g.row.TOP (state_of ps ls bs) (act.Tracer c.args.me c.args.on) (inl gone))
+    let gone = read_nothing c.self.invariant c.self.view_is c.args.me (sym c.number_of.ensures ∙ c.in_default.is) in
+    refused_unknown g.row.TOP c.args.self.now (act.Tracer c.args.me c.args.on) (inl gone)
 
 pub invariant_of-self : goal.invariant_of-self
 invariant_of-self g c =
