@@ -1,17 +1,19 @@
 //! The stored queues. One in which calls have walked far has an index.
 
-ghost use Rattle.std.specs.Prelude.{◌≡◌, ◌+◌, ◌<◌, ◌≤◌, ◌==◌, ◌&&◌, ◌++◌, [], ◌∷◌, IfNone, IfOk};
-ghost use Rattle.std.specs.Prelude.{IsOk, OnOk, OnErr, OnSome, drop, length, option_map, position};
+ghost use Rattle.std.specs.Prelude.{◌≡◌, ◌+◌, ◌<◌, ◌≤◌, ◌==◌, ◌&&◌, ◌++◌, [], ◌∷◌, true, IfNone, IfOk};
+ghost use Rattle.std.specs.Prelude.{IfSome, IsOk, OnOk, OnErr, OnSome, drop, length, option_map, position};
 ghost use Rattle.std.specs.Prelude.{remove, replicate, slice_get, slice_set, option_copied};
 ghost use Rattle.st_core.specs.Pid.{pid_eq};
 ghost use Rattle.st_arena.specs.Arena.{list_at};
 ghost use Rattle.st_arena.specs.Calls.{PassesOnce};
+ghost use Rattle.st_index.specs.Index.{IsIndex, IsIndexOf, keys_of};
+ghost use Rattle.st_index.specs.Keys.{has};
 ghost use Rattle.st_mail.specs.Mail.{bears_stamp};
 
 use crate::finder::{Finder, Search};
 use st_arena::Lists;
 use st_core::{Message, Pid, Token};
-use st_index::Key;
+use st_index::{Index, Key};
 use std::alloc::{AllocError, Global};
 use std::marker::Model;
 
@@ -148,12 +150,23 @@ impl Queues {
         }
     }
 
+    /// An index of the queue, if there is one by this key.
+    #[inline]
+    fn index_of(&self, queue: usize, key: Key) -> Option<&Index>
+        requires { queue < length self.now.lists }
+        ensures kept { IfSome result (λ index. has (keys_of index.now) key ≡ true) }
+        ensures index { IfSome result (λ index. IsIndex index.now) }
+        ensures queue { IfSome result (λ index. IsIndexOf index.now (list_at self.now queue)) }
+    {
+        self.finders[queue].index_by(key)
+    }
+
     /// The least place with a message from this process.
     pub(crate) fn find_from(&self, queue: usize, from: Pid) -> Option<u64>
         requires { queue < length self.now.lists }
         ensures { result ≡ position (λ m. pid_eq m.from from) (list_at self.now queue) }
     {
-        if let Some(index) = self.finders[queue].index_by(Key::Sender) {
+        if let Some(index) = self.index_of(queue, Key::Sender) {
             return index.find_from(from);
         }
         let matches = |message: &Message| -> bool
@@ -167,7 +180,7 @@ impl Queues {
         requires { queue < length self.now.lists }
         ensures { result ≡ position (λ m. m.value == value) (list_at self.now queue) }
     {
-        if let Some(index) = self.finders[queue].index_by(Key::Value) {
+        if let Some(index) = self.index_of(queue, Key::Value) {
             return index.find_value(value);
         }
         let matches = |message: &Message| -> bool
@@ -182,7 +195,7 @@ impl Queues {
         ensures { result ≡ position (λ m. pid_eq m.from from && m.value == value)
             (list_at self.now queue) }
     {
-        if let Some(index) = self.finders[queue].index_by(Key::Both) {
+        if let Some(index) = self.index_of(queue, Key::Both) {
             return index.find_both(from, value);
         }
         let matches = |message: &Message| -> bool
@@ -198,7 +211,7 @@ impl Queues {
         ensures { result ≡ option_map (λ k. start + k)
             (position (λ m. bears_stamp from this m.token) (drop start (list_at self.now queue))) }
     {
-        if let Some(index) = self.finders[queue].index_by(Key::Stamp) {
+        if let Some(index) = self.index_of(queue, Key::Stamp) {
             return index.find_stamp(from, this, start);
         }
         let mut kept = self.lists.walk(queue).skip(start as usize);
@@ -213,7 +226,7 @@ impl Queues {
         requires one { PassesOnce (λ m. bears_stamp from this m.token) (list_at self.now queue) }
         ensures { result ≡ position (λ m. bears_stamp from this m.token) (list_at self.now queue) }
     {
-        if let Some(index) = self.finders[queue].index_by(Key::Stamp) {
+        if let Some(index) = self.index_of(queue, Key::Stamp) {
             return index.find_stamp(from, this, 0);
         }
         let bears = |message: &Message| -> bool
