@@ -2,10 +2,10 @@
 -- told: so the item goes through.
 use Rattle.std.proofs.Common.{◌≡◌, ℕ, ◌+◌, ◌<◌, ◌&&◌, nat_lt, suc, Bool, true, false, not, cond, List, []}
 use Rattle.std.proofs.Common.{◌∷◌, ◌++◌, reverse, take, drop, Option, Some, None, Err, option_and_then, option_to_list}
-use Rattle.std.proofs.Common.{slice_get, refl, sym, ◌∙◌, ap, arith}
+use Rattle.std.proofs.Common.{length, slice_get, get_or, refl, sym, ◌∙◌, ap, arith}
 use Rattle.std.specs.Option.{option_map_or}
 use Rattle.std.proofs.lemmas.Bool.{lt-ltb}
-use Rattle.std.proofs.lemmas.Option.{same_Some}
+use Rattle.std.proofs.lemmas.Option.{same_Some, slice_get-get_or}
 use Rattle.st_core.specs.declared.types.Pid.{Pid}
 use Rattle.st_core.specs.declared.types.Event.{Event}
 use Rattle.st_core.specs.declared.types.Kind.{Kind}
@@ -44,7 +44,7 @@ use Rattle.st_audit.proofs.MoveActs.{last_step, only, print_acts, receive_acts, 
 use Rattle.st_audit.proofs.MoveOutcomes.{same_report}
 use Rattle.st_audit.proofs.NextItem.{caused_as}
 use Rattle.st_audit.proofs.Silence.{ready_silent}
-use Rattle.st_audit.proofs.Track.{goes_next, track_next, GoesNext, IsOnTrack}
+use Rattle.st_audit.proofs.Track.{goes_next, none, track_next, GoesNext, IsOnTrack}
 
 -- THE LAST OF THE ACTS
 
@@ -204,7 +204,7 @@ module _ (top : ℕ) (streams : List Stream) (marks : Marks) (sound : IsStreams 
         ∙ ap (marked_turn marks whole) (goes_tried old.world old.acts track)
         ∙ ap (λ b. cond b (Through g.acts g.outcomes) (Stopped g.acts)) (goes_marked old.world old.acts track)
 
-    pub goes_memory : (h : Halt) (new : Construction top)
+    goes_memory : (h : Halt) (new : Construction top)
         → Meets {T = Unit {0}} SaysNothing (item_turn streams marks old (earlier_of streams (take n xs)) whole) old
         (Err h) new → h ≡ halt.Memory
     goes_memory h new meets =
@@ -220,3 +220,17 @@ module _ (top : ℕ) (streams : List Stream) (marks : Marks) (sound : IsStreams 
         let os : went.outcomes ≡ goes.goes.outcomes = same_Some _ _ (ap outcomes_in same) in
         track_next top streams marks sound plain.settled xs order n x at old.world old.acts track goes new.world
         new.acts (went.put ∙ ap (λ zs. old.acts ++ zs) (ap acts_in same)) (went.after ∙ ap (state_after old.world) os)
+
+-- an item of plain streams halts the construction only if memory runs out
+pub memory_alone : {top : ℕ} {streams : List Stream} {marks : Marks} {xs : List Item} {n : ℕ} {h : Halt}
+    (old new : Construction top) → IsStreams streams → IsOrder streams xs → IsPlain top streams
+    → IsOnTrack top streams marks (take n xs) old.world old.acts → n < length xs
+    → ((x : Item) (e : Event) → slice_get xs n ≡ Some x → event_of streams x ≡ Some e
+    → Meets {T = Unit {0}} SaysNothing
+    (item_turn streams marks old (earlier_of streams (take n xs)) (move_by x e)) old (Err h) new)
+    → h ≡ halt.Memory
+memory_alone {top} {streams} {marks} {xs} {n} {h} old new sound order plain track within exact =
+    let x = get_or xs n none in
+    let at = slice_get-get_or xs n none within in
+    let next = item_goes top streams marks sound plain xs order n x at old.world old.acts track in
+    goes_memory top streams marks sound plain xs order n x at old track h new (exact x next.event at next.there)

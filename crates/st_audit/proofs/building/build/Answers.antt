@@ -6,7 +6,7 @@ use Rattle.st_core.specs.Laws.{NoReset}
 use Rattle.st_core.specs.Run.{Shows}
 use Rattle.st_plan.specs.Marks.{told_parts}
 use Rattle.st_audit.specs.declared.construction.Halt.TheVariants as halt
-use Rattle.st_audit.proofs.PlainItems.{goes_memory, goes_track, item_goes}
+use Rattle.st_audit.proofs.PlainItems.{goes_track, item_goes, memory_alone}
 use Rattle.st_audit.proofs.Track.{tracers_begin, none, on_track, opening_memory, track_shows, IsOnTrack}
 use Rattle.st_audit.proofs.building.build.Goals as goal
 
@@ -57,54 +57,24 @@ loop-number-preserved g c =
 pub returns-in-Err-Uncaused : goal.returns-in-Err-Uncaused
 returns-in-Err-Uncaused g c = λ plain.
     let given = c.requires.prepared in
-    let xs = c.args.items.now in
-    let n = c.loop-number.number in
-    let old = c.loop-number.construction in
-    let marks = g.M.Tells.marks c.args.marks.now in
-    let streams = c.args.streams.now in
-    let at = slice_get-get_or xs n none c.loop-number-test.true in
-    let x = get_or xs n none in
-    let track = c.loop-number.invariant.track plain in
-    let m = item_goes g.row.TOP streams marks given.are_streams plain xs given.order n x at old.world old.acts
-    track in
-    let same = goes_memory g.row.TOP streams marks given.are_streams plain xs given.order n x at old track
-    c.in-Err-Uncaused.field-0 c.append.new.self (c.in-Err-Uncaused.ensures.exact x m.event at m.there) in
+    let same = memory_alone c.loop-number.construction c.append.new.self given.are_streams given.order plain
+    (c.loop-number.invariant.track plain) c.loop-number-test.true c.in-Err-Uncaused.ensures.exact in
     let is = c.in-Err-Uncaused.field-0-is in
     absurd (cc)
 
 pub returns-in-Err-TooWide : goal.returns-in-Err-TooWide
 returns-in-Err-TooWide g c = λ plain.
     let given = c.requires.prepared in
-    let xs = c.args.items.now in
-    let n = c.loop-number.number in
-    let old = c.loop-number.construction in
-    let marks = g.M.Tells.marks c.args.marks.now in
-    let streams = c.args.streams.now in
-    let at = slice_get-get_or xs n none c.loop-number-test.true in
-    let x = get_or xs n none in
-    let track = c.loop-number.invariant.track plain in
-    let m = item_goes g.row.TOP streams marks given.are_streams plain xs given.order n x at old.world old.acts
-    track in
-    let same = goes_memory g.row.TOP streams marks given.are_streams plain xs given.order n x at old track
-    c.in-Err-TooWide.field-0 c.append.new.self (c.in-Err-TooWide.ensures.exact x m.event at m.there) in
+    let same = memory_alone c.loop-number.construction c.append.new.self given.are_streams given.order plain
+    (c.loop-number.invariant.track plain) c.loop-number-test.true c.in-Err-TooWide.ensures.exact in
     let is = c.in-Err-TooWide.field-0-is in
     absurd (cc)
 
 pub returns-in-Err-Stopped : goal.returns-in-Err-Stopped
 returns-in-Err-Stopped g c = λ plain.
     let given = c.requires.prepared in
-    let xs = c.args.items.now in
-    let n = c.loop-number.number in
-    let old = c.loop-number.construction in
-    let marks = g.M.Tells.marks c.args.marks.now in
-    let streams = c.args.streams.now in
-    let at = slice_get-get_or xs n none c.loop-number-test.true in
-    let x = get_or xs n none in
-    let track = c.loop-number.invariant.track plain in
-    let m = item_goes g.row.TOP streams marks given.are_streams plain xs given.order n x at old.world old.acts
-    track in
-    let same = goes_memory g.row.TOP streams marks given.are_streams plain xs given.order n x at old track
-    c.in-Err-Stopped.field-0 c.append.new.self (c.in-Err-Stopped.ensures.exact x m.event at m.there) in
+    let same = memory_alone c.loop-number.construction c.append.new.self given.are_streams given.order plain
+    (c.loop-number.invariant.track plain) c.loop-number-test.true c.in-Err-Stopped.ensures.exact in
     let is = c.in-Err-Stopped.field-0-is in
     absurd (cc)
 
