@@ -29,8 +29,8 @@ loop-slot-init g c =
       locals_len = c.requires.locals_len;
       queues_len = c.requires.queues_len;
       left = λ i below same old.
-          all_left c.args.self.now c.args.number n read.0 c.requires.number read.1 c.args.locals.now c.args.queues.now.boxes i
-          same old;
+          all_left c.args.self.now c.args.number n read.0 c.requires.number read.1 c.args.locals.now
+          c.args.queues.now.boxes i same old;
       others = λ i clean. clean;
       state = λ pids me by_node own. refl;
     }
