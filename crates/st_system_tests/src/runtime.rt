@@ -7,7 +7,6 @@ ghost use Rattle.std.specs.Prelude.{◌≡◌, [], IfOk};
 mod acts;
 mod drives;
 mod joins;
-mod steps;
 
 use crate::helpers::same;
 use st_core::{Act, Pid, Reply};

@@ -1,38 +1,12 @@
-//! Pieces that fit, and pieces that don't.
+//! Pieces are joined, whichever request for memory fails. That pieces which don't fit aren't joined
+//! is a clause.
 
 use super::{act_at_last, gather_at_last, open_at_last, room_at_last};
 use crate::helpers::same;
-use st_core::{Act, Component, Pid, Reply, is_rising};
-use st_runtime::{ActFault, JoinFault, OpenGate, Pcb, Pieces, Record, join_pieces};
-use std::alloc::{AllocError, Global};
-use std::process::Abort;
+use st_core::{Act, Component, Pid, Reply};
+use st_runtime::{ActFault, JoinFault, OpenGate, Pieces, Record, join_pieces};
+use std::alloc::Global;
 use std::test::Fail;
-
-/// A process with a clock and ranks up to 9.
-type Small = Pcb<9, 9>;
-
-/// Pieces of these processes, whose pids rise, and of no seats.
-fn without_seats(
-    rt: &impl Abort,
-    alloc: Global,
-    processes: Vec<Small>,
-) -> Result<Pieces<9, 9>, AllocError> {
-    let mut pids = room_at_last(alloc, processes.len())?;
-    for process in processes.as_slice() {
-        let Ok(()) = pids.push(process.pid()) else {
-            return Err(AllocError);
-        };
-    }
-    assert!(rt; is_rising(pids.as_slice()));
-    Ok(Pieces::new(processes, Vec::new(alloc)))
-}
-
-fn assert_not_joined(rt: &impl Abort, answer: Result<Record, JoinFault>, expected: JoinFault) {
-    match answer {
-        Ok(_) => panic!(rt; "joined"),
-        Err(fault) => same(rt, &fault, &expected),
-    }
-}
 
 /// The record; joined a second time if memory ran out the first time.
 fn join_at_last(alloc: Global, pieces: &Pieces<9, 9>) -> Result<Record, JoinFault> {
@@ -40,46 +14,6 @@ fn join_at_last(alloc: Global, pieces: &Pieces<9, 9>) -> Result<Record, JoinFaul
         Err(JoinFault::Memory) => join_pieces(alloc, pieces),
         answer => answer,
     }
-}
-
-// A process that was sent to and has no entry of it.
-#[test]
-fn missing_entry(rt: HostRuntime) -> Result<(), Fail> {
-    let from = Pid::new(30);
-    let to = Pid::new(31);
-    let (system, seats) = open_at_last::<9, 9>(rt.alloc(), &[from, to])?;
-    for mut seat in seats {
-        if seat.pid() == from {
-            let sent = act_at_last(&rt, &OpenGate, &system, &mut seat, &Act::Send(from, to, 1));
-            same(&rt, &sent, &Ok(Reply::Done));
-        }
-    }
-    let pieces = gather_at_last(system, Vec::new(rt.alloc())).ok_or("not gathered")?;
-    let mut processes = room_at_last(rt.alloc(), 2)?;
-    for process in pieces.into_processes() {
-        if process.pid() == from {
-            processes.push(process)?;
-        }
-    }
-    let fresh = match Small::new(rt.alloc(), to) {
-        Ok(fresh) => fresh,
-        Err(_) => Small::new(rt.alloc(), to)?,
-    };
-    processes.push(fresh)?;
-    let pieces = without_seats(&rt, rt.alloc(), processes)?;
-    let missing = JoinFault::Missing(from, 0);
-    assert_not_joined(&rt, join_at_last(rt.alloc(), &pieces), missing);
-    Ok(())
-}
-
-#[test]
-fn no_seats(rt: HostRuntime) -> Result<(), Fail> {
-    let least = Pid::new(30);
-    let (system, _) = open_at_last::<9, 9>(rt.alloc(), &[least, Pid::new(31)])?;
-    let pieces = gather_at_last(system, Vec::new(rt.alloc())).ok_or("not gathered")?;
-    let differs = JoinFault::SeatDiffers(least);
-    assert_not_joined(&rt, join_at_last(rt.alloc(), &pieces), differs);
-    Ok(())
 }
 
 // Whichever request for memory fails, as when this test runs with an allocation that fails, the
