@@ -16,18 +16,32 @@ def imports(text):
     return found
 
 
-def definitions():
-    """Each definition of specs/, by module and name: its lines, the imports of its module, and the module."""
-    found = {}
+def modules():
+    """Each module of specs/, with its text."""
     for path in files("crates/*/specs/**/*.antt"):
         crate, _, *inner = path.relative_to(TOP / "crates").with_suffix("").parts
-        module = f"Rattle.{crate}.specs." + ".".join(inner)
-        text = path.read_text()
+        yield f"Rattle.{crate}.specs." + ".".join(inner), path.read_text()
+
+
+def exports():
+    """By a module and a name that it passes on (`pub use`): the module that has it, and its name there."""
+    found = {}
+    for module, text in modules():
+        for source, names in re.findall(r"^pub use (Rattle\.\S+?)\.\{([^}]*)\}", text, re.M):
+            found |= {(module, it.strip()): (source, it.strip()) for it in names.split(",")}
+    return found
+
+
+def definitions():
+    """Each definition of specs/, by module and name: its lines, the imports of its module, and the module."""
+    found, passed_on = {}, exports()
+    for module, text in modules():
+        imported = {name: passed_on.get(to, to) for name, to in imports(text).items()}
         heads = list(re.finditer(r"^(?:(?:abbrev|unfoldable) )?pub (?:record |data )?([^\s:({]+)", text, re.M))
-        heads = [it for it in heads if it[1] not in ("mod", "open")]
+        heads = [it for it in heads if it[1] not in ("mod", "open", "use")]
         for head, after in zip(heads, [*heads[1:], None]):
             body = re.sub(r"(\n--[^\n]*|\n)*\Z", "", text[head.start() : after.start() if after else len(text)])
-            found[module, head[1]] = body, imports(text), module
+            found[module, head[1]] = body, imported, module
     return found
 
 
