@@ -22,4 +22,5 @@ mod Fullness
 mod ItemPlaces
 mod Track
 mod TrueFindings
+mod FoundInOrder
 mod Certificates

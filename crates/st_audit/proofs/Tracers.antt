@@ -1,6 +1,5 @@
 -- A tracer is put on a node at its first pid: those so far are the front of all of them.
-use Rattle.std.proofs.Common.{◌≡◌, ℕ, ◌==◌, Bool, true, false, not, cond, List, [], ◌∷◌, ◌++◌, Option, Some, None}
-use Rattle.std.proofs.Common.{Err}
+use Rattle.std.proofs.Common.{◌≡◌, ℕ, ◌==◌, Bool, true, false, not, cond, List, [], ◌∷◌, ◌++◌, Option, Some, None, Err}
 use Rattle.std.proofs.Common.{◌+◌, ◌<◌, ◌≤◌, suc, append_assoc, arith, drop, get_or, length, refl, sym, ◌∙◌, ap, subst}
 use Rattle.std.proofs.Math.ListN.{drop_of_length-le}
 use Rattle.std.proofs.Math.Seq.{drop-cons}
@@ -9,11 +8,13 @@ use Rattle.std.proofs.lemmas.List.{append-nil}
 use Rattle.st_core.specs.declared.types.Pid.{Pid}
 use Rattle.st_core.specs.declared.types.Act.{Act}
 use Rattle.st_core.specs.declared.types.Act.TheVariants as act
+use Rattle.st_core.specs.Run.{Stream}
 use Rattle.st_plan.specs.Build.{tracers_after}
 use Rattle.st_audit.specs.declared.construction.Construction.{Construction}
 use Rattle.st_audit.specs.declared.construction.Halt.{Halt}
-use Rattle.st_audit.specs.Progress.{acts_turn, Meets, SaysNothing, TellsLast}
-use Rattle.st_audit.proofs.Attempts.{halts_after, halts_before, none_performed, then_performed, Performed}
+use Rattle.st_audit.specs.Progress.{acts_turn, AreAllCounted, AreTold, IsSoFar, Meets, SaysNothing, TellsLast}
+use Rattle.st_audit.proofs.Attempts.{halts_after, halts_before, none_performed, one_step, then_performed, Performed}
+use Rattle.st_audit.proofs.FirstCounts.{tracer_counted}
 
 -- the tracers of the pids but these that are left were put, the last on the node that was seen
 pub record Opens {top : ℕ} (pids : List Pid) (seen : Option ℕ) (left : List Pid) (old now : Construction top)
@@ -91,3 +92,17 @@ module _ {top : ℕ} (pids : List Pid) (old : Construction top) where
           subst (λ xs. Meets {T = Unit {0}} SaysNothing (acts_turn top old.world xs) old (Err h) new) (sym after_it)
           (halts_after {U = Unit {0}} TellsLast SaysNothing opens.tracers (act.Tracer p true) rest old now h new
           opens.made next)
+
+-- a tracer leaves all counts of the construction
+pub tracer_so_far : {top : ℕ} (p : Pid) (old new : Construction top) → Performed (act.Tracer p true ∷ []) old new
+    → new.skipped ≡ old.skipped → new.told ≡ old.told
+    → (streams : List Stream) → IsSoFar streams [] old → IsSoFar streams [] new
+tracer_so_far {top} p old new made skipped told streams so =
+    let one = one_step (act.Tracer p true) old new made in
+    record {
+      counted = subst (AreAllCounted []) (sym one.2)
+          (tracer_counted top old.world p true one.0 one.1 so.counted);
+      missed = skipped ∙ so.missed;
+      listed = ap (λ t. length t.items) told ∙ so.listed;
+      told = subst (λ t. AreTold streams [] t.items) (sym told) so.told;
+    }

@@ -1,19 +1,17 @@
 -- If a tracer was put, no count moved, and it is the next one.
-use Rattle.std.proofs.Common.{◌≡◌, ℕ, ◌+◌, ◌∷◌, [], List, true, not, Option, Some, ◌==◌, drop, get_or, length}
-use Rattle.std.proofs.Common.{arith, sym, ◌∙◌, ap, subst}
+use Rattle.std.proofs.Common.{◌≡◌, ℕ, ◌+◌, ◌∷◌, [], List, true, not, Option, Some, ◌==◌, drop, get_or}
+use Rattle.std.proofs.Common.{length, arith, sym, ◌∙◌, ap, subst}
 use Rattle.std.specs.Option.{option_eq}
-use Rattle.st_core.specs.declared.types.Act.TheVariants as act
 use Rattle.st_core.specs.declared.types.Pid.{Pid}
 use Rattle.st_core.specs.Run.{Stream}
+use Rattle.st_core.specs.declared.types.Act.TheVariants as act
 use Rattle.st_plan.specs.Build.{tracers_after}
 use Rattle.st_audit.specs.declared.construction.Construction.{Construction}
-use Rattle.st_audit.specs.Progress.{acts_turn, AreAllCounted, AreTold, IsMatched, IsSoFar, Meets, SaysNothing}
-use Rattle.st_audit.specs.Progress.{TellsLast}
-use Rattle.st_audit.proofs.Attempts.{done_by, goes_through, one_step}
-use Rattle.st_audit.proofs.FirstCounts.{tracer_counted}
+use Rattle.st_audit.specs.Progress.{acts_turn, IsMatched, IsSoFar, Meets, SaysNothing, TellsLast}
+use Rattle.st_audit.proofs.Attempts.{done_by, goes_through}
 use Rattle.st_audit.proofs.MoveOutcomes.{on_err}
 use Rattle.st_audit.proofs.Tracers.{all_opened, next_left, none_opened, one_opened, opening_halts, seen_before}
-use Rattle.st_audit.proofs.Tracers.{was_seen, Opens}
+use Rattle.st_audit.proofs.Tracers.{tracer_so_far, was_seen, Opens}
 use Rattle.st_audit.proofs.construction.Construction.open.Goals as goal
 use Rattle.st_audit.proofs.construction.Construction.open.Goals.{then-ne+in_ok-perform, else-ne}
 
@@ -45,22 +43,13 @@ loop-pid-preserved g c =
       | then-ne+in_ok-perform w ↦
           let done = w.in_ok-perform.ensures in
           let after = w.perform.new.self in
-          let tracer = act.Tracer p true in
-          let made = (done_by TellsLast (tracer ∷ []) now w.in_ok-perform.field-0 after done.exact).made in
-          let one = one_step tracer now after made in
+          let made = (done_by TellsLast (act.Tracer p true ∷ []) now w.in_ok-perform.field-0 after done.exact).made in
           let more = one_opened pids old seen p rest now opens (test ∙ ap not w.if-ne.true) after made in
           let node_is : c.if-ne.node ≡ Some p.node = w.node-is ∙ ap (λ (m : ℕ). Some m) w.node-then-ne.ensures in
           record {
             so_far = subst (λ (x : Construction top). (streams : List Stream) → IsSoFar streams [] old
-                → IsSoFar streams [] x) (sym w.self-is) (λ streams was.
-                let so = i.so_far streams was in
-                record {
-                  counted = subst (AreAllCounted []) (sym one.2)
-                      (tracer_counted top now.world p true one.0 one.1 so.counted);
-                  missed = done.skipped ∙ so.missed;
-                  listed = ap (λ t. length t.items) done.told ∙ so.listed;
-                  told = subst (λ t. AreTold streams [] t.items) (sym done.told) so.told;
-                });
+                → IsSoFar streams [] x) (sym w.self-is)
+                (λ streams was. tracer_so_far p now after made done.skipped done.told streams (i.so_far streams was));
             opens = subst (λ (x : Construction top). Opens pids c.if-ne.node rest old x) (sym w.self-is)
                 (subst (λ (m : Option ℕ). Opens pids m rest old after) (sym node_is) more);
             matched = subst (λ (x : Construction top). IsMatched c.args.streams.now x) (sym w.self-is) done.matched;
