@@ -129,26 +129,28 @@ pub no_room : {S T E : Type 0} (puts : S → List ℕ → S → Type 0) (failed 
 no_room puts failed text x y r is h = on_err text x y r is (part_longer puts failed [] text x h)
 
 -- the front of what waited went
-pub front_went : {S : Type 0} (puts : S → List ℕ → S → Type 0) (failed : S → Bool) (front back : List ℕ) {a b : S}
-    {waited : List ℕ}
-    → waited ≡ front ++ back → Goes puts failed front a b [] [] → Goes puts failed [] a b waited back
-front_went puts failed front back {waited} parts g =
+pub front_went : {S : Type 0} (puts : S → List ℕ → S → Type 0) (failed : S → Bool) (text front back : List ℕ)
+    {a b : S} {waited : List ℕ}
+    → waited ≡ front ++ back → text ≡ front → Goes puts failed text a b [] [] → Goes puts failed [] a b waited back
+front_went puts failed text front back {waited} parts same g =
     record {
       written = g.written;
       put = g.put;
       whole =
-          append-nil waited ∙ parts ∙ ap (λ (w : List ℕ). w ++ back) (g.whole ∙ append-nil g.written);
+          append-nil waited ∙ parts
+          ∙ ap (λ (w : List ℕ). w ++ back) (sym same ∙ g.whole ∙ append-nil g.written);
       mark = g.mark;
       alive = g.alive;
     }
 
 -- it failed on the way
-pub front_failed : {S : Type 0} (puts : S → List ℕ → S → Type 0) (failed : S → Bool) (front back : List ℕ) {a b : S}
-    {waited : List ℕ}
-    → waited ≡ front ++ back → WritesPart puts failed front a b → WritesPart puts failed (waited ++ []) a b
-front_failed puts failed front back {a} {b} {waited} parts h =
+pub front_failed : {S : Type 0} (puts : S → List ℕ → S → Type 0) (failed : S → Bool) (text front back : List ℕ)
+    {a b : S} {waited : List ℕ}
+    → waited ≡ front ++ back → text ≡ front → WritesPart puts failed text a b
+    → WritesPart puts failed (waited ++ []) a b
+front_failed puts failed text front back {a} {b} {waited} parts same h =
     subst (λ (w : List ℕ). WritesPart puts failed w a b) (sym (append-nil waited ∙ parts))
-    (part_longer puts failed front back [] h)
+    (part_longer puts failed front back [] (subst (λ (w : List ℕ). WritesPart puts failed w a b) same h))
 
 -- the text so far and one more failed, so all of it did
 pub failed_among : {S : Type 0} (puts : S → List ℕ → S → Type 0) (failed : S → Bool) (t u v : List ℕ) {whole : List ℕ}
