@@ -1,8 +1,7 @@
 -- A chain has an item under each of its keys, which are apart: so a list has as many items as its ends say, and
 -- keeps them if the slots of its keys stay.
-use Rattle.std.proofs.Common.{◌≡◌, ◌≢◌, ℕ, zero, suc, ◌+◌, ◌<◌, false, List, [], ◌∷◌, length, get_or, drop}
-use Rattle.std.proofs.Common.{Option, Some, None, IsSome, is_some, unwrap_or, slice_get, refl, sym, ap, ◌∙◌}
-use Rattle.std.proofs.Common.{inl, inr, arith}
+use Rattle.std.proofs.Common.{◌≡◌, ◌≢◌, ℕ, zero, suc, ◌+◌, ◌<◌, false, List, [], ◌∷◌, length, get_or, drop, Option}
+use Rattle.std.proofs.Common.{Some, None, IsSome, is_some, unwrap_or, slice_get, refl, sym, ap, ◌∙◌, inl, inr, arith}
 use Rattle.std.proofs.lemmas.Bool.{cases_lt}
 use Rattle.std.proofs.lemmas.List.{same_lists, length-drop, drop_more}
 use Rattle.std.proofs.lemmas.Option.{unwrap_or-slice_get, slice_get-get_or}

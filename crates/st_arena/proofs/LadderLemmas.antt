@@ -13,8 +13,7 @@ use Rattle.std.proofs.lemmas.Option.{slice_get-get_or, same_Some}
 use Rattle.st_arena.specs.declared.node.Node.{Node}
 use Rattle.st_arena.specs.declared.node.Ends.{Ends}
 use Rattle.st_arena.specs.Chain.{len_of, no_ends, ends_at, key_after, keys, node_keys, IsChain, AreChains, AreLadders}
-use Rattle.st_arena.specs.Chain.{KeepsLadder}
-use Rattle.st_arena.specs.Chain.{Appends, Unlinks, ChangesItems}
+use Rattle.st_arena.specs.Chain.{KeepsLadder, Appends, Unlinks, ChangesItems}
 use Rattle.st_arena.proofs.ChainLemmas.{SameAt, chain_stays, key_after-first}
 use Rattle.st_arena.proofs.AppendLemmas.{append_row, append_row-below, append_row-end, append_others, append_here}
 use Rattle.st_arena.proofs.UnlinkLemmas.{unlink_row, unlink_row-below, unlink_row-above, unlink_others, unlink_here}

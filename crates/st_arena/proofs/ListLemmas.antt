@@ -10,8 +10,7 @@ use Rattle.st_arena.specs.declared.node.Node.{Node}
 use Rattle.st_arena.specs.declared.node.Ends.{Ends}
 use Rattle.st_arena.specs.Calls.{Computes}
 use Rattle.st_arena.specs.Chain.{len_of, no_ends, ends_at, value_in, values_of, key_after, IsChained, AreChains}
-use Rattle.st_arena.specs.Chain.{node_keys, AreLadders, KeepsLadder}
-use Rattle.st_arena.specs.Chain.{Appends, Unlinks, ChangesItems}
+use Rattle.st_arena.specs.Chain.{node_keys, AreLadders, KeepsLadder, Appends, Unlinks, ChangesItems}
 use Rattle.st_arena.proofs.CallLemmas.{map-from_AllZip}
 use Rattle.st_arena.proofs.ChainLemmas.{length-values_of, held_after, last_after, item_after, key_after-first}
 use Rattle.st_arena.proofs.ArenaLemmas.{list_of_map}

@@ -17,11 +17,10 @@ use Rattle.st_core.specs.Step.{Outcome}
 use Rattle.st_core.specs.Run.{Stream, pids_of, run_from}
 use Rattle.st_core.proofs.ForCallers.{all_at}
 use Rattle.st_order.specs.declared.item.Item.{Item}
-use Rattle.st_order.specs.Items.{event_of}
+use Rattle.st_order.specs.Items.{event_of, item_place}
 use Rattle.st_order.specs.Order.{IsOrder}
 use Rattle.st_plan.specs.Marks.{all_told}
 use Rattle.st_plan.specs.Moves.{Move, earlier_of, move_by, moves}
-use Rattle.st_order.specs.Items.{item_place}
 use Rattle.st_plan.specs.Build.{state_after, tracers_after}
 use Rattle.st_plan.proofs.ForCallers.{earlier_more, item_is, one_move, order_there, IsThere}
 use Rattle.st_audit.specs.declared.finding.Reason.{Reason}

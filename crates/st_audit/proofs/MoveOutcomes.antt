@@ -34,9 +34,8 @@ use Rattle.st_plan.proofs.ForCallers.{moves_by}
 use Rattle.st_audit.specs.declared.construction.Construction.{Construction}
 use Rattle.st_audit.specs.declared.construction.Halt.{Halt}
 use Rattle.st_audit.specs.declared.construction.Halt.TheVariants as halt
-use Rattle.st_audit.specs.Construction.{acts_from, attempt, compared_turn, event_eq, is_shown, kind_eq}
-use Rattle.st_audit.specs.Construction.{last_report, turn}
-use Rattle.st_audit.specs.Construction.{Turn, Through, Stopped, Refused}
+use Rattle.st_audit.specs.Construction.{acts_from, attempt, compared_turn, event_eq, is_shown, kind_eq, last_report}
+use Rattle.st_audit.specs.Construction.{turn, Turn, Through, Stopped, Refused}
 use Rattle.st_audit.specs.Progress.{if_told, is_below, is_high, is_marked, is_too_wide, is_uncaused, item_turn}
 use Rattle.st_audit.specs.Progress.{marked_turn, missing_count, move_turn, report_turn, stamp_skip, stamp_turn, test_at}
 use Rattle.st_audit.specs.Progress.{IsSoFar, Meets, SaysNothing, TellsLast, TriesAct, WentThrough}

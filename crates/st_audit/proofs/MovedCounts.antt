@@ -1,8 +1,7 @@
 -- What an item's acts do to the counts: those of its own process become what its move makes of them, and no others
 -- move. For a stamp that is told its report says so, for another the clock before it, for a receive its message.
-use Rattle.std.proofs.Common.{◌≡◌, ℕ, ◌+◌, ◌<◌, ◌≤◌, ◌⊎◌, inl, inr, max, true, false, not, ◌&&◌}
-use Rattle.std.proofs.Common.{◌==◌, List, Option, Some, None, nat_lt, refl, sym, ◌∙◌, ap, subst, arith, get_or}
-use Rattle.std.proofs.Common.{option_and_then, position}
+use Rattle.std.proofs.Common.{◌≡◌, ℕ, ◌+◌, ◌<◌, ◌≤◌, ◌⊎◌, inl, inr, max, true, false, not, ◌&&◌, ◌==◌, List, Option}
+use Rattle.std.proofs.Common.{Some, None, nat_lt, refl, sym, ◌∙◌, ap, subst, arith, get_or, option_and_then, position}
 use Rattle.std.proofs.lemmas.Bool.{and_parts, eqb-true, false≢true, ltb-false}
 use Rattle.std.proofs.lemmas.List.Quantifiers.{position-Some}
 use Rattle.std.proofs.lemmas.Option.{same_Some, slice_get-get_or}
@@ -28,11 +27,9 @@ use Rattle.st_mail.specs.Mail.{bears_stamp}
 use Rattle.st_world.specs.World.{place_in}
 use Rattle.st_plan.specs.Build.{ready, start_of, state_after}
 use Rattle.st_audit.specs.Progress.{is_uncaused}
-use Rattle.st_audit.proofs.Counts.{IsNoReset, IsTold, WasActor, WasSame, actor_same, all_risen}
-use Rattle.st_audit.proofs.Counts.{others_same}
+use Rattle.st_audit.proofs.Counts.{IsNoReset, IsTold, WasActor, WasSame, actor_same, all_risen, others_same}
 use Rattle.st_audit.proofs.Counts.{ready_alone, stamp_some, stamp_told, was_same}
-use Rattle.st_plan.proofs.ForCallers.{lifted}
-use Rattle.st_plan.proofs.ForCallers.{is_ready, pick_at}
+use Rattle.st_plan.proofs.ForCallers.{lifted, is_ready, pick_at}
 use Rattle.st_audit.proofs.GreaterClocks.{run_wider}
 
 -- between these states q's counts became those of this serial, and no others moved

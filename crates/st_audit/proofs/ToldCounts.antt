@@ -1,6 +1,5 @@
 -- The counts of what each process told: a reported item adds one to its process's, at the place of its pid alone.
-use Rattle.std.proofs.Common.{◌≡◌, ◌≢◌, ℕ, ◌+◌, ◌^◌, ◌<◌, min, zero, suc, true, false, cond, List, [], ◌∷◌}
-use Rattle.std.proofs.Common.{inl, inr}
+use Rattle.std.proofs.Common.{◌≡◌, ◌≢◌, ℕ, ◌+◌, ◌^◌, ◌<◌, min, zero, suc, true, false, cond, List, [], ◌∷◌, inl, inr}
 use Rattle.std.proofs.Common.{length, replicate, None, Option, Some, slice_get, get_or, refl, sym, ◌∙◌, ap, subst}
 use Rattle.std.proofs.Common.{arith}
 use Rattle.std.specs.List.{AllByRecursion, slice_set}

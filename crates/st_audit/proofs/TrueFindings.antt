@@ -1,9 +1,8 @@
 -- The finding that the streams determine holds of them: it names the place of an item, at which an
 -- event is, and the
 -- construction stops for a reason of its own only if this holds of the item's move.
-use Rattle.std.proofs.Common.{◌≡◌, ℕ, ◌++◌, Bool, true, false, cond, List, [], ◌∷◌, length, reverse, get_or}
-use Rattle.std.proofs.Common.{Option, Some}
-use Rattle.std.proofs.Common.{None, IsSome, option_map, append_assoc, refl, sym, ◌∙◌, ap, subst, arith}
+use Rattle.std.proofs.Common.{◌≡◌, ℕ, ◌++◌, Bool, true, false, cond, List, [], ◌∷◌, length, reverse, get_or, Option}
+use Rattle.std.proofs.Common.{Some, None, IsSome, option_map, append_assoc, refl, sym, ◌∙◌, ap, subst, arith}
 use Rattle.std.proofs.lemmas.Grind.{reverse_onto}
 use Rattle.std.proofs.lemmas.Option.{same_Some, none-some}
 use Rattle.st_core.specs.declared.types.Pid.{Pid}
@@ -36,10 +35,9 @@ use Rattle.st_audit.specs.declared.finding.Reason.{Reason}
 use Rattle.st_audit.specs.declared.finding.Reason.TheVariants as reason
 use Rattle.st_audit.specs.declared.finding.Finding.{Finding}
 use Rattle.st_audit.specs.declared.finding.Finding.TheVariants as finding
-use Rattle.st_audit.specs.Construction.{acts_from, attempt, compared_turn, course, end_of, first_acts}
-use Rattle.st_audit.specs.Construction.{is_shown, last_place}
-use Rattle.st_audit.specs.Construction.{turn, turn_by, End, Judged, Unfounded, Turn, Through, Stopped, Refused}
-use Rattle.st_audit.specs.Construction.{IsAudit, IsFoundAt, IsFoundBy}
+use Rattle.st_audit.specs.Construction.{acts_from, attempt, compared_turn, course, end_of, first_acts, is_shown}
+use Rattle.st_audit.specs.Construction.{last_place, turn, turn_by, End, Judged, Unfounded, Turn, Through, Stopped}
+use Rattle.st_audit.specs.Construction.{Refused, IsAudit, IsFoundAt, IsFoundBy}
 use Rattle.st_audit.specs.Findings.{IsFinding, IsReason}
 use Rattle.st_audit.proofs.Course.{last_at, went_on}
 use Rattle.st_audit.proofs.ItemPlaces.{place_there}

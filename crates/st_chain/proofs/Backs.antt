@@ -1,7 +1,6 @@
 -- What is found for one event more, and one process more.
-use Rattle.std.proofs.Common.{◌≡◌, ℕ, ◌+◌, ◌<◌, zero, suc, List, [], ◌∷◌, ◌++◌, length, map, drop, get_or}
-use Rattle.std.proofs.Common.{Option, None, Some, slice_get, option_and_then, sym, ◌∙◌, ap, arith}
-use Rattle.std.proofs.Common.{append_assoc, Bool, true, cond}
+use Rattle.std.proofs.Common.{◌≡◌, ℕ, ◌+◌, ◌<◌, zero, suc, List, [], ◌∷◌, ◌++◌, length, map, drop, get_or, Option, None}
+use Rattle.std.proofs.Common.{Some, slice_get, option_and_then, sym, ◌∙◌, ap, arith, append_assoc, Bool, true, cond}
 use Rattle.std.proofs.lemmas.Option.{same_Some}
 use Rattle.st_core.specs.declared.types.Pid.{Pid}
 use Rattle.st_core.specs.declared.types.Event.{Event}

@@ -1,7 +1,6 @@
 -- The way back ends: a cause has a smaller count, or the same and is a send.
-use Rattle.std.proofs.Common.{◌≡◌, ℕ, ◌+◌, ◌*◌, ◌<◌, ◌==◌, ◌&&◌, not, zero, suc, Bool, true, false, cond}
-use Rattle.std.proofs.Common.{if◌then◌else◌, List, [], ◌∷◌, Option, None, Some, slice_get, option_map, refl}
-use Rattle.std.proofs.Common.{sym, ◌∙◌, ap, arith}
+use Rattle.std.proofs.Common.{◌≡◌, ℕ, ◌+◌, ◌*◌, ◌<◌, ◌==◌, ◌&&◌, not, zero, suc, Bool, true, false, cond, if◌then◌else◌}
+use Rattle.std.proofs.Common.{List, [], ◌∷◌, Option, None, Some, slice_get, option_map, refl, sym, ◌∙◌, ap, arith}
 use Rattle.std.proofs.lemmas.Bool.{eqb-true, and_parts}
 use Rattle.std.proofs.lemmas.Option.{same_Some}
 use Rattle.st_core.specs.declared.types.Pid.{Pid}
@@ -12,9 +11,7 @@ use Rattle.st_core.proofs.ForCallers.{not_true}
 use Rattle.st_pair.specs.declared.answer.Source.TheVariants as source
 use Rattle.st_pair.specs.Places.{event_at, is_stamp, first_from, or_else}
 use Rattle.st_pair.specs.Pairing.{stamp_of, refusal}
-use Rattle.st_pair.proofs.ForCallers.{own_rule}
-use Rattle.st_pair.proofs.ForCallers.{stamp_at}
-use Rattle.st_pair.proofs.ForCallers.{IsPaired, paired, serial_rises}
+use Rattle.st_pair.proofs.ForCallers.{own_rule, stamp_at, IsPaired, paired, serial_rises}
 use Rattle.st_chain.specs.Causes.{received_before, of_source, of_receive, cause_by, cause_at, place_of_cause}
 use Rattle.st_chain.specs.Causes.{weight, far}
 

@@ -21,10 +21,8 @@ use Rattle.st_core.specs.Streams.{is_among}
 use Rattle.st_core.specs.Step.{Acted, Outcome, actor, receiver, acted, answers, prints, sends, outcome_of, step}
 use Rattle.st_core.specs.Run.{run_from}
 use Rattle.st_core.specs.Laws.{IsStamped, IsSound}
-use Rattle.st_core.proofs.ForCallers.{step_sound, zero_sound, process_holds, leaves_others}
+use Rattle.st_core.proofs.ForCallers.{step_sound, zero_sound, process_holds, leaves_others, zero_pids, both_of}
 use Rattle.st_check.specs.Laws.{acts_among, FewActsRun}
-use Rattle.st_core.proofs.ForCallers.{zero_pids}
-use Rattle.st_core.proofs.ForCallers.{both_of}
 
 -- WHO IS THERE
 

@@ -18,8 +18,7 @@ use Rattle.st_core.specs.Run.{Stream, pids_of, run, run_from, stream}
 use Rattle.st_core.specs.Streams.{events_of}
 use Rattle.st_core.specs.Pairs.{tags_after, pairs}
 use Rattle.st_core.specs.Verdict.{Passes}
-use Rattle.st_core.proofs.ForCallers.{zero_pids, pid_eq-true, pid_eq-same, pid_eq-swap}
-use Rattle.st_core.proofs.ForCallers.{run_parts, leaves_others}
+use Rattle.st_core.proofs.ForCallers.{zero_pids, pid_eq-true, pid_eq-same, pid_eq-swap, run_parts, leaves_others}
 use Rattle.st_world.proofs.ForCallers.{map_agree}
 use Rattle.st_check.specs.Progress.{state_from, tags_of, reported_count, counts_with, IsPassed}
 use Rattle.st_check.proofs.OneMoreAct.{length-run, run-append, state_from-append, stream-append, tags_from-append}

@@ -15,21 +15,16 @@ use Rattle.st_core.specs.State.{Process, State, zero_state}
 use Rattle.st_core.specs.Step.{Outcome, actor, step}
 use Rattle.st_core.specs.Run.{Stream, pids_of, run, stream}
 use Rattle.st_core.specs.Streams.{stream_of, lists, names_listed, unlisted_among, unlisted, with_event, added, is_own}
-use Rattle.st_core.specs.Streams.{is_among, names_among, with_report}
-use Rattle.st_core.specs.Streams.{ComesLast}
+use Rattle.st_core.specs.Streams.{is_among, names_among, with_report, ComesLast}
 use Rattle.st_core.specs.Laws.{IsReportAmong, ReportsAmong}
-use Rattle.st_core.proofs.ForCallers.{pid_eq-true, pid_eq-swap, all_at, position-none}
-use Rattle.st_core.proofs.ForCallers.{step_parts}
-use Rattle.st_core.proofs.ForCallers.{run_named}
+use Rattle.st_core.proofs.ForCallers.{pid_eq-true, pid_eq-swap, all_at, position-none, step_parts, run_named, run_sound}
+use Rattle.st_core.proofs.ForCallers.{zero_pids, process_among}
 use Rattle.st_check.specs.Answers.{reported_streams, AllRise}
 use Rattle.st_check.proofs.Verdicts.{Rises, stream_rises}
-use Rattle.st_core.proofs.ForCallers.{run_sound}
 use Rattle.std.proofs.lemmas.List.Elements.{All-map}
 use Rattle.st_check.specs.Recorded.{kept_replies, IsReplayedTo}
 use Rattle.st_check.proofs.OneMoreAct.{length-run, run-append, state_from-append}
 use Rattle.st_check.proofs.PassedActs.{state_pids, stream_other, stream_silent, stream_own}
-use Rattle.st_core.proofs.ForCallers.{zero_pids}
-use Rattle.st_core.proofs.ForCallers.{process_among}
 
 -- THE PROCESSES OF RECORDED STREAMS
 

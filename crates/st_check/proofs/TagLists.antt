@@ -1,7 +1,6 @@
 -- An act changes one list of tags at most: a send its receiver's, and a receive its own.
-use Rattle.std.proofs.Common.{◌≡◌, ℕ, ◌≤◌, false, cond, List, [], ◌∷◌, ◌++◌, length, map, get_or, set}
-use Rattle.std.proofs.Common.{Option, Some, None, option_and_then, refl, sym, ◌∙◌, ap}
-use Rattle.std.proofs.Common.{inl, inr, if◌then◌else◌}
+use Rattle.std.proofs.Common.{◌≡◌, ℕ, ◌≤◌, false, cond, List, [], ◌∷◌, ◌++◌, length, map, get_or, set, Option, Some}
+use Rattle.std.proofs.Common.{None, option_and_then, refl, sym, ◌∙◌, ap, inl, inr, if◌then◌else◌}
 use Rattle.std.specs.Option.{OnSome, IfNone}
 use Rattle.std.specs.List.{AllByRecursion, slice_get, remove}
 use Rattle.std.proofs.lemmas.Option.{none-some, slice_get-get_or}
@@ -12,11 +11,10 @@ use Rattle.st_core.specs.declared.types.Want.{Want}
 use Rattle.st_core.specs.declared.types.Act.TheVariants as act
 use Rattle.st_core.specs.Pid.{pid_eq, IsRising}
 use Rattle.st_core.specs.Pairs.{Tags, tags_after, pair_at}
-use Rattle.st_core.proofs.ForCallers.{pid_eq-same}
+use Rattle.st_core.proofs.ForCallers.{pid_eq-same, remove_past}
 use Rattle.st_arena.specs.Arena.{Arena}
 use Rattle.st_check.specs.Progress.{without_tag, pair_to}
 use Rattle.st_check.proofs.Places.{map_apart, map_at, entry_at}
-use Rattle.st_core.proofs.ForCallers.{remove_past}
 
 -- A SEND
 

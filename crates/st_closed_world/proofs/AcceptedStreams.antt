@@ -1,9 +1,7 @@
 -- When pairing accepts streams, said of their events two at a time: the least place at which a rule
 -- holds would be one of two events that don't fit.
-use Rattle.std.proofs.Common.{◌≡◌, ℕ, zero, suc, ◌+◌, ◌<◌, ◌==◌, ◌&&◌, ◌||◌, nat_lt, Bool, true}
-use Rattle.std.proofs.Common.{false, not, cond}
-use Rattle.std.proofs.Common.{List, [], ◌∷◌, Option, Some, None, slice_get, refl, sym, ◌∙◌, ap}
-use Rattle.std.proofs.Common.{subst, arith}
+use Rattle.std.proofs.Common.{◌≡◌, ℕ, zero, suc, ◌+◌, ◌<◌, ◌==◌, ◌&&◌, ◌||◌, nat_lt, Bool, true, false, not, cond, List}
+use Rattle.std.proofs.Common.{[], ◌∷◌, Option, Some, None, slice_get, refl, sym, ◌∙◌, ap, subst, arith}
 use Rattle.std.proofs.lemmas.Bool.{eq-eqb, eqb-true, and_from, and_parts, false≢true}
 use Rattle.std.proofs.lemmas.Bool.Decides.{nat_tests}
 use Rattle.std.proofs.lemmas.Option.{none-some, same_Some, option_and_then_some}
@@ -16,8 +14,7 @@ use Rattle.st_core.proofs.ForCallers.{pid_eq-refl, pid_same}
 use Rattle.st_pair.specs.declared.answer.PairFault.{PairFault}
 use Rattle.st_pair.specs.declared.answer.PairFault.TheVariants as fault
 use Rattle.st_pair.specs.Places.{event_at, first, is_stamp}
-use Rattle.st_pair.specs.Pairing.{agrees, first_rule, mismatch, not_rising, prev_not_before}
-use Rattle.st_pair.specs.Pairing.{receive_of, refusal}
+use Rattle.st_pair.specs.Pairing.{agrees, first_rule, mismatch, not_rising, prev_not_before, receive_of, refusal}
 use Rattle.st_pair.specs.Pairing.{repeated, stamp_before, stamp_of}
 use Rattle.st_pair.proofs.ForCallers.{given_at, given_from, got_rule, own_rule, Rule}
 use Rattle.st_closed_world.proofs.Suppliers.{given_if, given_unless}

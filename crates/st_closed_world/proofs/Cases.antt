@@ -1,7 +1,6 @@
 -- A worked run: the premises of the law, computed. Nothing cites this file; it shows that the
 -- definitions say what is meant.
-use Rattle.std.specs.Prelude.{◌≡◌, ℕ, ◌&&◌, ◌||◌, Bool, true, false, not, List, [], ◌∷◌, ◌++◌}
-use Rattle.std.specs.Prelude.{Option, Some, None}
+use Rattle.std.specs.Prelude.{◌≡◌, ℕ, ◌&&◌, ◌||◌, Bool, true, false, not, List, [], ◌∷◌, ◌++◌, Option, Some, None}
 use Rattle.std.specs.Prelude.{is_some}
 use Rattle.std.proofs.Common.{refl, sym, ◌∙◌, ap, arith, sum_by}
 use Rattle.std.specs.List.{count_by}
@@ -30,8 +29,7 @@ use Rattle.st_plan.specs.Marks.{all_streams, Marked, Whole}
 use Rattle.st_closed_world.specs.Completion.{completion}
 use Rattle.st_closed_world.specs.Needs.{is_late, is_need, is_rootless}
 use Rattle.st_closed_world.specs.Reasons.{Late, StandsAgainst, TooHigh, Unfounded, Unsent}
-use Rattle.st_closed_world.specs.Renumbering.{count_of_rank, counts_of, renumbered_streams}
-use Rattle.st_closed_world.specs.Renumbering.{with_counts}
+use Rattle.st_closed_world.specs.Renumbering.{count_of_rank, counts_of, renumbered_streams, with_counts}
 use Rattle.st_closed_world.specs.Supply.{excess, is_free}
 use Rattle.st_closed_world.specs.Wholes.{wholes_of}
 use Rattle.st_closed_world.proofs.ReasonsOfCompletions.{shown_nothing}

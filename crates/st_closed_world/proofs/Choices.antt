@@ -2,11 +2,9 @@
 -- holds. From a run: its full completion has each hidden send somewhere, and with these alone told
 -- its streams are shown too, so that no reason holds of them. To a run: what has no reason has a
 -- completion, which completes the streams as well.
-use Rattle.std.proofs.Common.{◌≡◌, ◌↔◌, ℕ, zero, suc, ◌&&◌, ◌||◌, Bool, true, false, cond, List, []}
-use Rattle.std.proofs.Common.{◌∷◌, map, filter}
-use Rattle.std.proofs.Common.{◌+◌, ◌==◌, Option, Some, None, find, is_some, option_and_then}
-use Rattle.std.proofs.Common.{slice_get}
-use Rattle.std.proofs.Common.{refl, sym, ◌∙◌, ap, subst, take}
+use Rattle.std.proofs.Common.{◌≡◌, ◌↔◌, ℕ, zero, suc, ◌&&◌, ◌||◌, Bool, true, false, cond, List, [], ◌∷◌, map, filter}
+use Rattle.std.proofs.Common.{◌+◌, ◌==◌, Option, Some, None, find, is_some, option_and_then, slice_get, refl, sym, ◌∙◌}
+use Rattle.std.proofs.Common.{ap, subst, take}
 use Rattle.std.proofs.lemmas.Bool.{false≢true, and_from, and_parts, eq-eqb, eqb-true, or_parts}
 use Rattle.std.proofs.lemmas.Option.{none-some, same_Some}
 use Rattle.st_core.specs.declared.types.Pid.{Pid}
@@ -20,10 +18,8 @@ use Rattle.st_pair.specs.declared.answer.PairFault.TheVariants as fault
 use Rattle.st_pair.specs.declared.answer.Source.{Source}
 use Rattle.st_pair.specs.declared.answer.Source.TheVariants as source
 use Rattle.st_pair.specs.Places.{event_at, is_stamp}
-use Rattle.st_pair.specs.Pairing.{agrees, is_send, mismatch, receive_of, refusal, source_of}
-use Rattle.st_pair.specs.Pairing.{stamp_of}
-use Rattle.st_pair.proofs.ForCallers.{cond_none, event_none, from_none, given_from, once_place}
-use Rattle.st_pair.proofs.ForCallers.{own_rule, paired}
+use Rattle.st_pair.specs.Pairing.{agrees, is_send, mismatch, receive_of, refusal, source_of, stamp_of}
+use Rattle.st_pair.proofs.ForCallers.{cond_none, event_none, from_none, given_from, once_place, own_rule, paired}
 use Rattle.st_pair.proofs.ForCallers.{refused_never_shown}
 use Rattle.st_order.specs.Items.{is_hidden}
 use Rattle.st_plan.specs.Marks.{all_streams, Marked, told_events, told_streams, Whole}

@@ -25,8 +25,7 @@ use Rattle.st_closed_world.proofs.GoodStreams.{IsGood, IsLack}
 use Rattle.st_closed_world.proofs.InsertedEvents.{more}
 use Rattle.st_closed_world.proofs.InsertedReceives.{fed, good_fed, IsSupply, needs_less}
 use Rattle.st_closed_world.proofs.InsertedReceives.{needs_others, own_else, supply_of}
-use Rattle.st_closed_world.proofs.CompletionSends.{AllApart, Apart, differs, differs_swap, IsOwn}
-use Rattle.st_closed_world.proofs.CompletionSends.{own_stamp}
+use Rattle.st_closed_world.proofs.CompletionSends.{AllApart, Apart, differs, differs_swap, IsOwn, own_stamp}
 
 -- THE FIRST NEED OF A COUNT
 

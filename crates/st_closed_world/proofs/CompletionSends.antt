@@ -1,9 +1,8 @@
 -- The sends of the completion: if each supply is told of or its sender is free for it, and no two
 -- are of one sender and count, the streams with the sends that they lack are good, need what they
 -- needed, and have the send of each supply.
-use Rattle.std.proofs.Common.{◌≡◌, ◌⊎◌, inl, inr, ℕ, ◌==◌, ◌&&◌, Bool, true, false, List, []}
-use Rattle.std.proofs.Common.{◌∷◌, map, take, Option, Some, None, is_none, slice_get, refl, sym}
-use Rattle.std.proofs.Common.{◌∙◌, ap, subst}
+use Rattle.std.proofs.Common.{◌≡◌, ◌⊎◌, inl, inr, ℕ, ◌==◌, ◌&&◌, Bool, true, false, List, [], ◌∷◌, map, take, Option}
+use Rattle.std.proofs.Common.{Some, None, is_none, slice_get, refl, sym, ◌∙◌, ap, subst}
 use Rattle.std.specs.List.{AllByRecursion}
 use Rattle.std.proofs.lemmas.Bool.{false≢true}
 use Rattle.st_core.specs.declared.types.Pid.{Pid}
@@ -14,17 +13,15 @@ use Rattle.st_core.specs.Streams.{events_of, lists, is_among}
 use Rattle.st_core.proofs.ForCallers.{and_false, eqb-swap, pid_eq-swap, lists_among}
 use Rattle.st_pair.specs.Pairing.{receive_of, stamp_of}
 use Rattle.st_plan.specs.Marks.{all_streams, Whole}
-use Rattle.st_closed_world.specs.Completion.{count_of, place_below, prev_between, put, send_among}
-use Rattle.st_closed_world.specs.Completion.{send_for, Supply}
+use Rattle.st_closed_world.specs.Completion.{count_of, place_below, prev_between, put, send_among, send_for, Supply}
 use Rattle.st_closed_world.specs.Completion.{with_send_of, with_sends}
 use Rattle.st_closed_world.specs.Supply.{is_free, is_own_supply, needs}
 use Rattle.st_closed_world.proofs.Lookups.{stamp_passes}
 use Rattle.st_closed_world.proofs.CompletionSteps.{put_more}
 use Rattle.st_closed_world.proofs.GoodStreams.{IsGood, sends_to}
 use Rattle.st_closed_world.proofs.InsertedEvents.{more}
-use Rattle.st_closed_world.proofs.InsertedSends.{free_else, good_sent, IsServed, needs_same}
-use Rattle.st_closed_world.proofs.InsertedSends.{own_else, own_now, pids_same, place, sent}
-use Rattle.st_closed_world.proofs.InsertedSends.{unstamped}
+use Rattle.st_closed_world.proofs.InsertedSends.{free_else, good_sent, IsServed, needs_same, own_else, own_now}
+use Rattle.st_closed_world.proofs.InsertedSends.{pids_same, place, sent, unstamped}
 
 -- the sender and count of neither are those of the other
 abbrev pub differs : Pid → ℕ → Supply → Bool

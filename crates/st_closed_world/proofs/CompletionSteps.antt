@@ -1,7 +1,6 @@
 -- The completion is filled step by step: an untold event is put into whole streams, all of which
 -- have it then, and what is told of them stays.
-use Rattle.std.proofs.Common.{◌≡◌, ℕ, zero, suc, true, false, cond, List, [], ◌∷◌, ◌++◌, map, take}
-use Rattle.std.proofs.Common.{drop, Some, None}
+use Rattle.std.proofs.Common.{◌≡◌, ℕ, zero, suc, true, false, cond, List, [], ◌∷◌, ◌++◌, map, take, drop, Some, None}
 use Rattle.std.proofs.Common.{refl, ◌∙◌, ap}
 use Rattle.st_core.specs.declared.types.Pid.{Pid}
 use Rattle.st_core.specs.declared.types.Event.{Event}
@@ -10,10 +9,8 @@ use Rattle.st_core.specs.Run.{Stream}
 use Rattle.st_core.specs.Streams.{events_of}
 use Rattle.st_pair.specs.Pairing.{stamp_of}
 use Rattle.st_plan.specs.Marks.{all_streams, Marked, told_events, told_streams, Whole}
-use Rattle.st_closed_world.specs.Completion.{count_of, place_below, place_of_need, put, receive_for}
-use Rattle.st_closed_world.specs.Completion.{send_among, Supply}
-use Rattle.st_closed_world.specs.Completion.{with_receive_of, with_receives, with_send_of}
-use Rattle.st_closed_world.specs.Completion.{with_sends}
+use Rattle.st_closed_world.specs.Completion.{count_of, place_below, place_of_need, put, receive_for, send_among, Supply}
+use Rattle.st_closed_world.specs.Completion.{with_receive_of, with_receives, with_send_of, with_sends}
 use Rattle.st_closed_world.proofs.FedNeeds.{events}
 use Rattle.st_closed_world.proofs.InsertedEvents.{more}
 

@@ -3,13 +3,9 @@
 -- start: so what is right before a stamp with prev 0 is a stamp of a lower count or, if the stamp
 -- is reported, a receive. If neither a receive nor a stamp with another prev is before one with
 -- prev 0, 0 is left there, or nothing is before it.
-use Rattle.std.proofs.Common.{◌≡◌, ◌⊎◌, inl, inr, ℕ, zero, suc, ◌<◌, ◌≤◌, ◌==◌, ◌&&◌, max, nat_lt}
-use Rattle.std.proofs.Common.{Bool, true}
-use Rattle.std.proofs.Common.{false, not, cond, List, [], ◌∷◌, ◌++◌, Some, None, slice_get, refl}
-use Rattle.std.proofs.Common.{sym, ◌∙◌}
-use Rattle.std.proofs.Common.{ap, subst, arith}
-use Rattle.std.proofs.lemmas.Bool.{and_parts, cases_lt, eq-eqb, eqb-true, false≢true, le-ltb}
-use Rattle.std.proofs.lemmas.Bool.{lt-ltb, ltb-false}
+use Rattle.std.proofs.Common.{◌≡◌, ◌⊎◌, inl, inr, ℕ, zero, suc, ◌<◌, ◌≤◌, ◌==◌, ◌&&◌, max, nat_lt, Bool, true, false}
+use Rattle.std.proofs.Common.{not, cond, List, [], ◌∷◌, ◌++◌, Some, None, slice_get, refl, sym, ◌∙◌, ap, subst, arith}
+use Rattle.std.proofs.lemmas.Bool.{and_parts, cases_lt, eq-eqb, eqb-true, false≢true, le-ltb, lt-ltb, ltb-false}
 use Rattle.std.proofs.lemmas.Bool.{ltb-true, not-true}
 use Rattle.std.proofs.lemmas.Option.{none-some, same_Some}
 use Rattle.st_core.specs.declared.types.Pid.{Pid}
@@ -26,8 +22,7 @@ use Rattle.st_plan.proofs.ForCallers.{leaves}
 use Rattle.st_closed_world.specs.FinalReasons.{HasZeroBehindReceive, HasZeroBehindStamp, IsStampOf}
 use Rattle.st_closed_world.specs.HiddenSends.{hidden_from, hidden_send, hidden_sends}
 use Rattle.st_closed_world.specs.Needs.{HoldsOfNone, is_late, is_need}
-use Rattle.st_closed_world.specs.Placed.{AreTimely, comes_first, earliest, earliest_of, IsPlacing}
-use Rattle.st_closed_world.specs.Placed.{untold_events}
+use Rattle.st_closed_world.specs.Placed.{AreTimely, comes_first, earliest, earliest_of, IsPlacing, untold_events}
 use Rattle.st_closed_world.specs.Supply.{needs_from}
 use Rattle.st_closed_world.proofs.EventsBefore.{no_stamp}
 use Rattle.st_closed_world.proofs.FedNeeds.{events}
@@ -36,8 +31,7 @@ use Rattle.st_closed_world.proofs.Lookups.{none_stamped}
 use Rattle.st_closed_world.proofs.MetNeeds.{timely_alike}
 use Rattle.st_closed_world.proofs.ReasonlessStreams.{fit_together, timely_from}
 use Rattle.st_closed_world.proofs.Supplies.{highest}
-use Rattle.st_closed_world.proofs.UntoldEvents.{first_of, hidden_is, rises_all, rises_lower}
-use Rattle.st_closed_world.proofs.UntoldEvents.{RisesFrom}
+use Rattle.st_closed_world.proofs.UntoldEvents.{first_of, hidden_is, rises_all, rises_lower, RisesFrom}
 
 abbrev mark : Bool → Event → Marked
 mark told e = record { event = e; told = told }

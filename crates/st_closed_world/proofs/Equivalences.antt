@@ -4,12 +4,11 @@ use Rattle.std.proofs.Common.{◌↔◌, ℕ, List, subst}
 use Rattle.st_core.specs.Pid.{IsRising}
 use Rattle.st_core.specs.Run.{Shows, Stream, pids_of}
 use Rattle.st_plan.specs.Plain.{IsSettled}
-use Rattle.st_plan.proofs.ForCallers.{completion_is_shown}
+use Rattle.st_plan.proofs.ForCallers.{completion_is_shown, full_streams_plain}
 use Rattle.st_closed_world.specs.Completed.{IsCompleted, IsShownInOneTrace}
 use Rattle.st_plan.specs.Full.{IsFull}
 use Rattle.st_closed_world.specs.Wholes.{wholes_of}
 use Rattle.st_closed_world.proofs.RunCompletions.{run_completed}
-use Rattle.st_plan.proofs.ForCallers.{full_streams_plain}
 
 module _ (top : ℕ) (streams : List Stream) where
   pub shown_full : IsRising (pids_of streams) → IsShownInOneTrace top streams

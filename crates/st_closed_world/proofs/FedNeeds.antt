@@ -1,10 +1,8 @@
 -- A need is fed: back from it to the told event before it, each untold stamp passes the prev on
 -- that it has, so that it came from an untold receive.
-use Rattle.std.proofs.Common.{◌≡◌, ◌≢◌, ℕ, zero, suc, ◌<◌, ◌≤◌, ◌==◌, ◌&&◌, max, nat_lt, Bool, true}
-use Rattle.std.proofs.Common.{false, not}
-use Rattle.std.proofs.Common.{cond, List, [], ◌∷◌, ◌++◌, map, take, Some, inl, inr, slice_get}
-use Rattle.std.proofs.Common.{append-nil}
-use Rattle.std.proofs.Common.{refl, sym, ◌∙◌, ap, arith}
+use Rattle.std.proofs.Common.{◌≡◌, ◌≢◌, ℕ, zero, suc, ◌<◌, ◌≤◌, ◌==◌, ◌&&◌, max, nat_lt, Bool, true, false, not, cond}
+use Rattle.std.proofs.Common.{List, [], ◌∷◌, ◌++◌, map, take, Some, inl, inr, slice_get, append-nil, refl, sym, ◌∙◌, ap}
+use Rattle.std.proofs.Common.{arith}
 use Rattle.std.proofs.lemmas.Bool.{eq-eqb, false≢true, ltb-true, and_parts}
 use Rattle.std.proofs.lemmas.Bool.Decides.{nat_tests}
 use Rattle.std.proofs.lemmas.Option.{none-some, same_Some}
@@ -14,10 +12,9 @@ use Rattle.st_core.proofs.ForCallers.{prev_push}
 use Rattle.st_pair.specs.Places.{is_stamp}
 use Rattle.st_pair.proofs.ForCallers.{take_map}
 use Rattle.st_plan.specs.Marks.{Marked, told_events}
-use Rattle.st_plan.proofs.ForCallers.{take_more}
+use Rattle.st_plan.proofs.ForCallers.{take_more, leaves}
 use Rattle.st_closed_world.specs.Needs.{is_late, is_need, IsFed, IsToldAt}
 use Rattle.st_closed_world.proofs.LoudRuns.{told_append}
-use Rattle.st_plan.proofs.ForCallers.{leaves}
 
 -- every event of these
 abbrev pub events : List Marked → List Event

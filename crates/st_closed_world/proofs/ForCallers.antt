@@ -23,11 +23,9 @@ pub use Rattle.st_closed_world.proofs.NeedlessStreams.{needless_shown}
 pub use Rattle.st_closed_world.proofs.CompletionsOfCompletions.{completed_again}
 pub use Rattle.st_closed_world.proofs.FreeSenders.{sum_low}
 -- ---- lists of counts that rise
-pub use Rattle.st_closed_world.proofs.Ranks.{AllAbove, Climbs, IsIn, above_in, above_lower}
-pub use Rattle.st_closed_world.proofs.Ranks.{insert_climbs}
+pub use Rattle.st_closed_world.proofs.Ranks.{AllAbove, Climbs, IsIn, above_in, above_lower, insert_climbs}
 -- ---- hidden sends, and needs of 0 that stay wherever they stand
-pub use Rattle.st_closed_world.proofs.UntoldEvents.{count_at, HasCount, hidden_all, hidden_is}
-pub use Rattle.st_closed_world.proofs.UntoldEvents.{RisesFrom}
+pub use Rattle.st_closed_world.proofs.UntoldEvents.{count_at, HasCount, hidden_all, hidden_is, RisesFrom}
 pub use Rattle.st_closed_world.proofs.Zeros.{zeros_final}
 -- ---- the earliest places
 pub use Rattle.st_closed_world.proofs.EarliestPlaces.{earliest_placing, earliest_zero}

@@ -1,8 +1,7 @@
 -- Who is free to send what needs ask for is the same in each choice as in the streams: a hidden
 -- send has its receive, so its process isn't free for its count in either.
-use Rattle.std.proofs.Common.{◌≡◌, ℕ, ◌≤◌, ◌&&◌, Bool, true, false, not}
-use Rattle.std.proofs.Common.{List, [], ◌∷◌, Option, Some, None, is_none, is_some, sum_by}
-use Rattle.std.proofs.Common.{slice_get, refl, sym, ◌∙◌, ap, arith}
+use Rattle.std.proofs.Common.{◌≡◌, ℕ, ◌≤◌, ◌&&◌, Bool, true, false, not, List, [], ◌∷◌, Option, Some, None, is_none}
+use Rattle.std.proofs.Common.{is_some, sum_by, slice_get, refl, sym, ◌∙◌, ap, arith}
 use Rattle.std.proofs.lemmas.Bool.{false≢true}
 use Rattle.std.proofs.lemmas.List.Sums.{sum_by-cons}
 use Rattle.std.specs.List.{count_by}
@@ -20,9 +19,8 @@ use Rattle.st_closed_world.proofs.Lookups.{stamp_passes, taken_alike}
 use Rattle.st_closed_world.proofs.Choices.{mark_at, send_stamps, told_somewhere}
 use Rattle.st_closed_world.proofs.GoodStreams.{any_event, free_is}
 use Rattle.st_closed_world.proofs.Needs.{events_all, events_told}
-use Rattle.st_closed_world.proofs.UntoldEvents.{fit, rising, same_pids, stamp_all, taken_all}
-use Rattle.st_closed_world.proofs.UntoldEvents.{untold_got}
-use Rattle.st_closed_world.proofs.UntoldEvents.{untold_mark, untold_sends}
+use Rattle.st_closed_world.proofs.UntoldEvents.{fit, rising, same_pids, stamp_all, taken_all, untold_got, untold_mark}
+use Rattle.st_closed_world.proofs.UntoldEvents.{untold_sends}
 
 pub sum_low : (f g : Pid → ℕ) → ((p : Pid) → f p ≤ g p) → (ps : List Pid)
     → sum_by f ps ≤ sum_by g ps

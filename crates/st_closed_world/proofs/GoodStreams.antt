@@ -1,8 +1,7 @@
 -- Streams that law D goes through: no reason holds of them, and each receive's send is there. What
 -- one more event leaves of this, wherever it fits.
-use Rattle.std.proofs.Common.{◌≡◌, ℕ, ◌≤◌, ◌&&◌, Bool, true, false, List, []}
-use Rattle.std.proofs.Common.{take, length, inl, inr, Option, Some, None, is_none, not}
-use Rattle.std.proofs.Common.{refl, ◌∙◌, ap, subst}
+use Rattle.std.proofs.Common.{◌≡◌, ℕ, ◌≤◌, ◌&&◌, Bool, true, false, List, [], take, length, inl, inr, Option, Some}
+use Rattle.std.proofs.Common.{None, is_none, not, refl, ◌∙◌, ap, subst}
 use Rattle.st_core.specs.declared.types.Pid.{Pid}
 use Rattle.st_core.specs.declared.types.Event.{Event}
 use Rattle.st_core.specs.Run.{Stream}

@@ -1,10 +1,8 @@
 -- The receive of an unpaired send, put right before a need of its count: the streams stay good,
 -- with one need less, and what else is told of messages stays.
-use Rattle.std.proofs.Common.{◌≡◌, ℕ, zero, suc, ◌+◌, ◌≤◌, ◌==◌, ◌&&◌, Bool, true, false, cond}
-use Rattle.std.proofs.Common.{List, []}
-use Rattle.std.proofs.Common.{◌∷◌, ◌++◌, take, drop, length, Option, Some, None, is_none, is_some}
-use Rattle.std.proofs.Common.{slice_get}
-use Rattle.std.proofs.Common.{refl, sym, ◌∙◌, ap, subst, arith}
+use Rattle.std.proofs.Common.{◌≡◌, ℕ, zero, suc, ◌+◌, ◌≤◌, ◌==◌, ◌&&◌, Bool, true, false, cond, List, [], ◌∷◌, ◌++◌}
+use Rattle.std.proofs.Common.{take, drop, length, Option, Some, None, is_none, is_some, slice_get, refl, sym, ◌∙◌, ap}
+use Rattle.std.proofs.Common.{subst, arith}
 use Rattle.std.specs.Option.{option_map_or}
 use Rattle.std.proofs.lemmas.Bool.{eq-eqb, false≢true, and_parts, and_from}
 use Rattle.std.proofs.lemmas.Option.{none-some, same_Some, slice_get_within}
@@ -21,8 +19,7 @@ use Rattle.st_pair.specs.Places.{event_at, is_stamp}
 use Rattle.st_pair.specs.Pairing.{agrees, is_send, receive_of, stamp_of, to_eq}
 use Rattle.st_closed_world.specs.Completion.{receive_for}
 use Rattle.st_closed_world.specs.Supply.{is_own_supply, needs, needs_from}
-use Rattle.st_closed_world.proofs.Lookups.{events_with, HasStamp, none_taken, one_stamp, passes_with}
-use Rattle.st_closed_world.proofs.Lookups.{stamp_if}
+use Rattle.st_closed_world.proofs.Lookups.{events_with, HasStamp, none_taken, one_stamp, passes_with, stamp_if}
 use Rattle.st_closed_world.proofs.Lookups.{stamp_passes, taken_with}
 use Rattle.st_closed_world.specs.Placed.{AreTimely}
 use Rattle.st_closed_world.proofs.GoodStreams.{IsGood, IsLack, sends_to, sent_with, within_with}

@@ -1,9 +1,8 @@
 -- The send of a process that is free for a count: put in where its counts pass this one, it leaves
 -- the streams good, with the needs that they had. No reported receive takes it, and what else is
 -- told of messages stays.
-use Rattle.std.proofs.Common.{◌≡◌, ◌≢◌, ◌≤◌, ℕ, ◌<◌, ◌==◌, ◌&&◌, Bool, true, false, cond, List, []}
-use Rattle.std.proofs.Common.{◌∷◌, ◌++◌, take, drop, Option, Some, None, is_none, not}
-use Rattle.std.proofs.Common.{refl, sym, ◌∙◌, ap, subst}
+use Rattle.std.proofs.Common.{◌≡◌, ◌≢◌, ◌≤◌, ℕ, ◌<◌, ◌==◌, ◌&&◌, Bool, true, false, cond, List, [], ◌∷◌, ◌++◌, take}
+use Rattle.std.proofs.Common.{drop, Option, Some, None, is_none, not, refl, sym, ◌∙◌, ap, subst}
 use Rattle.std.proofs.lemmas.Bool.{false≢true, and_parts, and_from}
 use Rattle.st_core.specs.declared.types.Pid.{Pid}
 use Rattle.st_core.specs.declared.types.Event.{Event}
@@ -21,12 +20,9 @@ use Rattle.st_closed_world.proofs.Lookups.{events_with, HasStamp, none_stamped, 
 use Rattle.st_closed_world.proofs.Lookups.{passes_with, stamp_is, stamp_passes, taken_with}
 use Rattle.st_closed_world.proofs.FedNeeds.{events}
 use Rattle.st_closed_world.specs.Placed.{AreTimely}
-use Rattle.st_closed_world.proofs.GoodStreams.{any_event, free_is, IsGood, sends_to, sent_with}
-use Rattle.st_closed_world.proofs.GoodStreams.{within_with}
-use Rattle.st_closed_world.proofs.InventedSends.{HasNo, IsSend, Keeps, send_keeps, send_told}
-use Rattle.st_closed_world.proofs.InventedSends.{with_send}
-use Rattle.st_closed_world.proofs.InventedPlaces.{AllRise, IsPlaced, keeps_needs, keeps_timely}
-use Rattle.st_closed_world.proofs.InventedPlaces.{placed_at}
+use Rattle.st_closed_world.proofs.GoodStreams.{any_event, free_is, IsGood, sends_to, sent_with, within_with}
+use Rattle.st_closed_world.proofs.InventedSends.{HasNo, IsSend, Keeps, send_keeps, send_told, with_send}
+use Rattle.st_closed_world.proofs.InventedPlaces.{AllRise, IsPlaced, keeps_needs, keeps_timely, placed_at}
 use Rattle.st_closed_world.proofs.InsertedEvents.{fit_with, FitsAt, more, new_there, with_pids}
 use Rattle.st_closed_world.proofs.LongerStreams.{all_from, sound_with}
 

@@ -1,11 +1,9 @@
 -- Where an invented send is: before it all counts are lower, and behind it each stamp is higher,
 -- since none is late; its prev is lower too, being what events of lower counts leave, or the prev
 -- that begins a trace.
-use Rattle.std.proofs.Common.{◌≡◌, ℕ, zero, suc, ◌+◌, ◌<◌, ◌≤◌, ◌==◌, ◌&&◌, nat_lt, true, false}
-use Rattle.std.proofs.Common.{not, cond}
-use Rattle.std.proofs.Common.{List, [], ◌∷◌, ◌++◌, length, Some, slice_get, take, drop, append-nil}
-use Rattle.std.proofs.Common.{append_assoc, refl}
-use Rattle.std.proofs.Common.{sym, ◌∙◌, ap, arith}
+use Rattle.std.proofs.Common.{◌≡◌, ℕ, zero, suc, ◌+◌, ◌<◌, ◌≤◌, ◌==◌, ◌&&◌, nat_lt, true, false, not, cond, List, []}
+use Rattle.std.proofs.Common.{◌∷◌, ◌++◌, length, Some, slice_get, take, drop, append-nil, append_assoc, refl, sym, ◌∙◌}
+use Rattle.std.proofs.Common.{ap, arith}
 use Rattle.std.specs.List.{AllByRecursion}
 use Rattle.std.proofs.lemmas.Bool.{and_parts, ltb-true, ltb-false}
 use Rattle.std.proofs.lemmas.Option.{none-some, same_Some}
@@ -19,8 +17,7 @@ use Rattle.st_closed_world.specs.Needs.{is_need}
 use Rattle.st_closed_world.specs.Supply.{needs_from}
 use Rattle.st_closed_world.proofs.FedNeeds.{events}
 use Rattle.st_closed_world.specs.Placed.{AreTimely}
-use Rattle.st_closed_world.proofs.InventedSends.{all_there, HasNo, Keeps, prev_for, told_only}
-use Rattle.st_closed_world.proofs.InventedSends.{with_send}
+use Rattle.st_closed_world.proofs.InventedSends.{all_there, HasNo, Keeps, prev_for, told_only, with_send}
 use Rattle.st_closed_world.proofs.NeedlessStreams.{above_if}
 use Rattle.st_plan.proofs.ForCallers.{leaves}
 

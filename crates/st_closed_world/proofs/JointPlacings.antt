@@ -2,11 +2,9 @@
 -- reported or a hidden send. Stamps that aren't late rise. A receive occurs once, since only
 -- reported events are receives. Its send is reported or a hidden send; then it is in its
 -- process's placing, as do all hidden sends of the process.
-use Rattle.std.proofs.Common.{◌≡◌, ◌⊎◌, inl, inr, ℕ, zero, suc, ◌+◌, ◌<◌, ◌≤◌, ◌==◌, ◌&&◌}
-use Rattle.std.proofs.Common.{true, false, cond, List, [], ◌∷◌, ◌++◌, map, take, find, Option, Some}
-use Rattle.std.proofs.Common.{None, is_none, is_some}
-use Rattle.std.proofs.Common.{option_map, option_and_then, slice_get, append-nil, append_assoc}
-use Rattle.std.proofs.Common.{refl, sym, ◌∙◌, ap, subst, arith}
+use Rattle.std.proofs.Common.{◌≡◌, ◌⊎◌, inl, inr, ℕ, zero, suc, ◌+◌, ◌<◌, ◌≤◌, ◌==◌, ◌&&◌, true, false, cond, List, []}
+use Rattle.std.proofs.Common.{◌∷◌, ◌++◌, map, take, find, Option, Some, None, is_none, is_some, option_map}
+use Rattle.std.proofs.Common.{option_and_then, slice_get, append-nil, append_assoc, refl, sym, ◌∙◌, ap, subst, arith}
 use Rattle.std.proofs.lemmas.Bool.{and_from, and_parts, cases_lt, eq-eqb, false≢true, ltb-true}
 use Rattle.std.proofs.lemmas.Option.{none-some, same_Some}
 use Rattle.st_core.specs.declared.types.Pid.{Pid}
@@ -25,13 +23,11 @@ use Rattle.st_plan.specs.Marks.{all_streams, Marked, told_events, told_streams, 
 use Rattle.st_closed_world.specs.Choice.{IsChoice, is_taken}
 use Rattle.st_closed_world.specs.HiddenSends.{hidden_from, hidden_send, send_of}
 use Rattle.st_closed_world.specs.Needs.{HoldsOfNone, is_late, marked_of}
-use Rattle.st_closed_world.specs.Placed.{AreTimely, IsPlacing, IsTimelyChoice, placed_wholes}
-use Rattle.st_closed_world.specs.Placed.{untold_events}
+use Rattle.st_closed_world.specs.Placed.{AreTimely, IsPlacing, IsTimelyChoice, placed_wholes, untold_events}
 use Rattle.st_closed_world.specs.Reasons.{HasEachSend}
 use Rattle.st_closed_world.proofs.AcceptedStreams.{accepted_if, FitTogether}
 use Rattle.st_closed_world.proofs.Lookups.{HasStamp, none_stamped, none_taken, stamp_if}
-use Rattle.st_closed_world.proofs.Choices.{hidden_stamp, IsMarkedAt, IsSomewhere, later, mark_at}
-use Rattle.st_closed_world.proofs.Choices.{not_hidden}
+use Rattle.st_closed_world.proofs.Choices.{hidden_stamp, IsMarkedAt, IsSomewhere, later, mark_at, not_hidden}
 use Rattle.st_closed_world.proofs.Choices.{send_stamps, told_somewhere}
 use Rattle.st_closed_world.proofs.FedNeeds.{event_of_mark, events, told_at}
 use Rattle.st_closed_world.proofs.Needs.{at_mark, events_all}
@@ -40,8 +36,7 @@ use Rattle.st_closed_world.proofs.LongerStreams.{all_from, sound_of}
 use Rattle.st_closed_world.proofs.ReasonlessStreams.{fit_together}
 use Rattle.st_closed_world.proofs.Supplies.{greatest_among, highest}
 use Rattle.st_closed_world.proofs.Suppliers.{named, own_at, received_to}
-use Rattle.st_closed_world.proofs.UntoldEvents.{above_if, count_at, first_of, hidden_is}
-use Rattle.st_closed_world.proofs.UntoldEvents.{IsHiddenSend, untold_at}
+use Rattle.st_closed_world.proofs.UntoldEvents.{above_if, count_at, first_of, hidden_is, IsHiddenSend, untold_at}
 use Rattle.st_closed_world.proofs.InsertedReceives.{to_refl}
 
 -- MARKED EVENTS

@@ -1,7 +1,6 @@
 -- Streams with one more event are streams still, if it is one that its process may report among all
 -- of them.
-use Rattle.std.proofs.Common.{◌≡◌, ℕ, zero, suc, true, false, cond, List, [], ◌∷◌, ◌++◌, take, drop}
-use Rattle.std.proofs.Common.{Some, slice_get}
+use Rattle.std.proofs.Common.{◌≡◌, ℕ, zero, suc, true, false, cond, List, [], ◌∷◌, ◌++◌, take, drop, Some, slice_get}
 use Rattle.std.proofs.Common.{refl, sym, ◌∙◌, ap, subst}
 use Rattle.std.specs.List.{AllByRecursion}
 use Rattle.st_core.specs.declared.types.Pid.{Pid}
@@ -10,8 +9,7 @@ use Rattle.st_core.specs.Laws.{IsReportAmong}
 use Rattle.st_core.specs.Pid.{pid_eq, IsRising}
 use Rattle.st_core.specs.Run.{Stream, pids_of}
 use Rattle.st_core.specs.Streams.{IsStreams}
-use Rattle.st_core.proofs.ForCallers.{pid_same, are_own, AreReports, names_among_listed}
-use Rattle.st_core.proofs.ForCallers.{unlisted_none}
+use Rattle.st_core.proofs.ForCallers.{pid_same, are_own, AreReports, names_among_listed, unlisted_none}
 use Rattle.st_pair.specs.Places.{event_at}
 use Rattle.st_order.proofs.ForCallers.{all_found, AreFound}
 use Rattle.st_closed_world.proofs.InsertedEvents.{more, with_pids}

@@ -1,10 +1,8 @@
 -- What one more event changes in what is asked of streams: whether a message is received, and what
 -- its sender stamped, is as it was, but where the event is its receive or its stamp.
-use Rattle.std.proofs.Common.{◌≡◌, ℕ, zero, suc, ◌+◌, ◌==◌, ◌&&◌, Bool, true, false, cond, List, []}
-use Rattle.std.proofs.Common.{◌∷◌, ◌++◌}
-use Rattle.std.proofs.Common.{take, drop, Option, Some, None, is_none, is_some, inl, inr, length}
-use Rattle.std.proofs.Common.{◌≤◌}
-use Rattle.std.proofs.Common.{refl, sym, ◌∙◌, ap, subst, arith}
+use Rattle.std.proofs.Common.{◌≡◌, ℕ, zero, suc, ◌+◌, ◌==◌, ◌&&◌, Bool, true, false, cond, List, [], ◌∷◌, ◌++◌, take}
+use Rattle.std.proofs.Common.{drop, Option, Some, None, is_none, is_some, inl, inr, length, ◌≤◌, refl, sym, ◌∙◌, ap}
+use Rattle.std.proofs.Common.{subst, arith}
 use Rattle.std.specs.Option.{option_map_or}
 use Rattle.std.proofs.lemmas.Bool.{eq-eqb, eqb-true, false≢true, and_parts, and_from, cases_lt}
 use Rattle.std.proofs.lemmas.Option.{none-some, same_Some}
@@ -16,8 +14,7 @@ use Rattle.st_core.specs.Streams.{events_of, lists, stream_of, is_among}
 use Rattle.st_core.proofs.ForCallers.{pid_eq-refl, pid_same, lists_among}
 use Rattle.st_pair.specs.Places.{event_at, first_from, is_stamp, or_else}
 use Rattle.st_pair.specs.Pairing.{receive_of, stamp_of}
-use Rattle.st_pair.proofs.ForCallers.{event_none, events_in, from_none, given_at, given_from}
-use Rattle.st_pair.proofs.ForCallers.{got_rule, own_rule}
+use Rattle.st_pair.proofs.ForCallers.{event_none, events_in, from_none, given_at, given_from, got_rule, own_rule}
 use Rattle.st_closed_world.proofs.AcceptedStreams.{FitTogether}
 use Rattle.st_closed_world.proofs.InsertedEvents.{is_placed, more, stays, with_events, with_pids}
 use Rattle.st_closed_world.proofs.Suppliers.{given_if, given_unless}

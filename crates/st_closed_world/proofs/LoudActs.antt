@@ -1,10 +1,8 @@
 -- A process's act does the same if it is traced and all flags are set, and then it reports its
 -- event: no act looks at the tracer or a flag but to report.
-use Rattle.std.proofs.Common.{◌≡◌, ℕ, ◌+◌, ◌&&◌, zero, suc, Bool, true, false, cond, nat_lt, List}
-use Rattle.std.proofs.Common.{[], ◌∷◌, ◌++◌, map}
-use Rattle.std.proofs.Common.{Option, Some, None, is_some, IsSome, option_map, option_and_then}
-use Rattle.std.proofs.Common.{refl, sym, ◌∙◌}
-use Rattle.std.proofs.Common.{ap, subst}
+use Rattle.std.proofs.Common.{◌≡◌, ℕ, ◌+◌, ◌&&◌, zero, suc, Bool, true, false, cond, nat_lt, List, [], ◌∷◌, ◌++◌, map}
+use Rattle.std.proofs.Common.{Option, Some, None, is_some, IsSome, option_map, option_and_then, refl, sym, ◌∙◌, ap}
+use Rattle.std.proofs.Common.{subst}
 use Rattle.std.specs.Option.{option_map_or}
 use Rattle.std.specs.List.{remove}
 use Rattle.std.proofs.lemmas.Bool.{false≢true}
@@ -28,8 +26,7 @@ use Rattle.st_core.specs.Stamp.{stamp, stamp_any, stamped_token}
 use Rattle.st_core.specs.Local.{received, has_label}
 use Rattle.st_core.specs.Pick.{matches, pick, pick_from}
 use Rattle.st_core.specs.Report.{flag_of, report}
-use Rattle.st_core.specs.Step.{Acted, acted, actor, answers, changed, prints, reached, receiver}
-use Rattle.st_core.specs.Step.{receives, sends}
+use Rattle.st_core.specs.Step.{Acted, acted, actor, answers, changed, prints, reached, receiver, receives, sends}
 use Rattle.st_core.specs.Laws.{is_reset, moves_token}
 use Rattle.st_core.proofs.ForCallers.{mapped}
 use Rattle.st_closed_world.specs.Wholes.{event_by, loud, loud_local, loud_message, loud_token}

@@ -1,9 +1,8 @@
 -- To each run there is one in which all processes are traced with all flags set: the same acts do
 -- the same, a set makes its token with all flags at once, and each process reports all its events.
-use Rattle.std.proofs.Common.{◌≡◌, ℕ, ◌⊎◌, Bool, true, false, cond, List, [], ◌∷◌, ◌++◌, map}
-use Rattle.std.proofs.Common.{Option, Some, None, is_some, option_map, option_and_then}
-use Rattle.std.proofs.Common.{option_to_list, inl, inr}
-use Rattle.std.proofs.Common.{append-nil, refl, sym, ◌∙◌, ap, subst}
+use Rattle.std.proofs.Common.{◌≡◌, ℕ, ◌⊎◌, Bool, true, false, cond, List, [], ◌∷◌, ◌++◌, map, Option, Some, None}
+use Rattle.std.proofs.Common.{is_some, option_map, option_and_then, option_to_list, inl, inr, append-nil, refl, sym}
+use Rattle.std.proofs.Common.{◌∙◌, ap, subst}
 use Rattle.std.specs.List.{AllByRecursion}
 use Rattle.std.proofs.lemmas.Bool.{false≢true}
 use Rattle.std.proofs.lemmas.List.{map-append}
@@ -21,16 +20,12 @@ use Rattle.st_core.specs.Local.{default_token, old_component, with_component, wi
 use Rattle.st_core.specs.Step.{Outcome, acted, actor, answers, changed, outcome_of, receiver, step}
 use Rattle.st_core.specs.Run.{run_from, stream}
 use Rattle.st_core.specs.Laws.{is_reset, moves_token, NoReset, ReportsEverything}
-use Rattle.st_core.proofs.ForCallers.{changed_pid, leaves_others, pid_eq-refl, pid_same}
-use Rattle.st_core.proofs.ForCallers.{process-map, process_after}
-use Rattle.st_core.proofs.ForCallers.{process_pid, run_from-one, run_parts, step_done, step_parts}
-use Rattle.st_core.proofs.ForCallers.{Stepped}
+use Rattle.st_core.proofs.ForCallers.{changed_pid, leaves_others, pid_eq-refl, pid_same, process-map, process_after}
+use Rattle.st_core.proofs.ForCallers.{process_pid, run_from-one, run_parts, step_done, step_parts, Stepped}
 use Rattle.st_plan.specs.Build.{state_after}
 use Rattle.st_plan.specs.Marks.{Marked, told_events}
-use Rattle.st_plan.proofs.ForCallers.{IsQuiet, lifted, QuietRun, run_append, stream_append}
-use Rattle.st_plan.proofs.ForCallers.{stream_silent}
-use Rattle.st_closed_world.specs.Wholes.{event_by, event_in, loud, loud_local, loud_token, marked_if}
-use Rattle.st_closed_world.specs.Wholes.{whole_from}
+use Rattle.st_plan.proofs.ForCallers.{IsQuiet, lifted, QuietRun, run_append, stream_append, stream_silent}
+use Rattle.st_closed_world.specs.Wholes.{event_by, event_in, loud, loud_local, loud_token, marked_if, whole_from}
 use Rattle.st_closed_world.proofs.LoudActs.{acted_louder, changed_loud, is_set, IsLouder, louder}
 use Rattle.st_closed_world.proofs.LoudActs.{louder_actor, louder_plain, louder_receiver, report_of}
 

@@ -9,8 +9,7 @@ use Rattle.st_pair.specs.Places.{is_stamp}
 use Rattle.st_closed_world.specs.Needs.{is_need}
 use Rattle.st_closed_world.specs.Supply.{needs_from}
 use Rattle.st_closed_world.specs.Placed.{AreTimely}
-use Rattle.st_closed_world.proofs.EventsBefore.{Alike, alike_late, alike_need, alike_push}
-use Rattle.st_closed_world.proofs.EventsBefore.{both_false, no_stamp}
+use Rattle.st_closed_world.proofs.EventsBefore.{Alike, alike_late, alike_need, alike_push, both_false, no_stamp}
 use Rattle.st_plan.proofs.ForCallers.{leaves}
 
 -- after what is alike the needs are the same

@@ -1,9 +1,7 @@
 -- Streams without a need are settled: if each stamp is above the events of its process before it,
 -- the order keeps these in turn, so that the counts at each move are those of the events before it.
-use Rattle.std.proofs.Common.{◌≡◌, ◌↔◌, ℕ, ◌<◌, ◌⊎◌, ◌==◌, inl, inr, ◌&&◌, nat_lt, Bool, true}
-use Rattle.std.proofs.Common.{false, not, cond, List}
-use Rattle.std.proofs.Common.{[], ◌∷◌, ◌++◌, take, drop, map, reverse, filter, refl, sym, ◌∙◌, ap}
-use Rattle.std.proofs.Common.{subst, arith}
+use Rattle.std.proofs.Common.{◌≡◌, ◌↔◌, ℕ, ◌<◌, ◌⊎◌, ◌==◌, inl, inr, ◌&&◌, nat_lt, Bool, true, false, not, cond, List}
+use Rattle.std.proofs.Common.{[], ◌∷◌, ◌++◌, take, drop, map, reverse, filter, refl, sym, ◌∙◌, ap, subst, arith}
 use Rattle.std.proofs.lemmas.Bool.{eq-eqb, false≢true, ltb-true}
 use Rattle.std.proofs.lemmas.Bool.Decides.{nat_tests}
 use Rattle.st_core.specs.declared.types.Pid.{Pid}
@@ -26,9 +24,8 @@ use Rattle.st_plan.specs.Full.{IsFull}
 use Rattle.st_closed_world.specs.Local.{IsNeedless}
 use Rattle.st_closed_world.specs.Needs.{HoldsOfNone, is_late, is_need}
 use Rattle.st_closed_world.proofs.Equivalences.{settled_shown, shown_full}
-use Rattle.st_plan.proofs.ForCallers.{greatest_has}
-use Rattle.st_plan.proofs.ForCallers.{After, after, event_move, event_move_there, is_move_of}
-use Rattle.st_plan.proofs.ForCallers.{own_step, turned}
+use Rattle.st_plan.proofs.ForCallers.{greatest_has, After, after, event_move, event_move_there, is_move_of, own_step}
+use Rattle.st_plan.proofs.ForCallers.{turned}
 
 -- a stamp that isn't late is above the greatest count
 pub above_if : (stamp less : Bool) → stamp ≡ true → (stamp && not less) ≡ false → less ≡ true

@@ -1,9 +1,8 @@
 -- If whole streams are full, no reason holds of what is told of them: the counts of all events are
 -- above those of the told ones alone, and each need is fed by a receive, whose this is above its
 -- prev.
-use Rattle.std.proofs.Common.{◌≡◌, ℕ, ◌<◌, ◌==◌, ◌&&◌, true, false, cond, List, [], ◌∷◌, take}
-use Rattle.std.proofs.Common.{Option, Some}
-use Rattle.std.proofs.Common.{None, find, slice_get, refl, sym, ◌∙◌, ap, subst, arith}
+use Rattle.std.proofs.Common.{◌≡◌, ℕ, ◌<◌, ◌==◌, ◌&&◌, true, false, cond, List, [], ◌∷◌, take, Option, Some, None, find}
+use Rattle.std.proofs.Common.{slice_get, refl, sym, ◌∙◌, ap, subst, arith}
 use Rattle.std.proofs.lemmas.Bool.{eqb-true, and_parts}
 use Rattle.st_core.specs.declared.types.Pid.{Pid}
 use Rattle.st_core.specs.declared.types.Event.{Event}
@@ -15,10 +14,8 @@ use Rattle.st_pair.specs.Places.{event_at}
 use Rattle.st_pair.proofs.ForCallers.{events_in, paired, serial_rises}
 use Rattle.st_plan.specs.Marks.{all_streams, Marked, told_events, told_streams, Whole}
 use Rattle.st_plan.specs.Full.{IsFull}
-use Rattle.st_closed_world.specs.Needs.{HoldsOfNone, is_late, is_need, is_rootless, IsFed, IsFedAt}
-use Rattle.st_closed_world.specs.Needs.{marked_of}
-use Rattle.st_closed_world.proofs.FedNeeds.{event_of_mark, events, GoOn, need_fed, never_late}
-use Rattle.st_closed_world.proofs.FedNeeds.{told_at}
+use Rattle.st_closed_world.specs.Needs.{HoldsOfNone, is_late, is_need, is_rootless, IsFed, IsFedAt, marked_of}
+use Rattle.st_closed_world.proofs.FedNeeds.{event_of_mark, events, GoOn, need_fed, never_late, told_at}
 
 abbrev marked_in : Option Whole → List Marked
 marked_in o = elim o [ None ↦ [] | Some w ↦ w.marked ]

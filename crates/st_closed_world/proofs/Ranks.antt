@@ -1,9 +1,8 @@
 -- The counts of streams are in a rising list that begins with 0. The rank of one of them is its
 -- place there, and what stands at that place is the count again; and a later place has a greater
 -- count. So streams are their renumbered streams with the counts put back, in order.
-use Rattle.std.proofs.Common.{◌≡◌, ℕ, ◌+◌, zero, suc, ◌<◌, ◌≤◌, ◌⊎◌, inl, inr, nat_lt, true, false}
-use Rattle.std.proofs.Common.{cond}
-use Rattle.std.proofs.Common.{List, [], ◌∷◌, map, refl, sym, ◌∙◌, ap, subst, arith}
+use Rattle.std.proofs.Common.{◌≡◌, ℕ, ◌+◌, zero, suc, ◌<◌, ◌≤◌, ◌⊎◌, inl, inr, nat_lt, true, false, cond, List, [], ◌∷◌}
+use Rattle.std.proofs.Common.{map, refl, sym, ◌∙◌, ap, subst, arith}
 use Rattle.std.specs.List.{AllByRecursion}
 use Rattle.std.proofs.lemmas.Bool.{ltb-true, ltb-false, le-ltb}
 use Rattle.std.proofs.lemmas.Bool.Decides.{nat_tests}
@@ -11,9 +10,8 @@ use Rattle.st_core.specs.declared.types.Event.{Event}
 use Rattle.st_core.specs.Pid.{IsRising}
 use Rattle.st_core.specs.Run.{Stream, pids_of}
 use Rattle.st_closed_world.specs.Completed.{IsShownInOneTrace}
-use Rattle.st_closed_world.specs.Renumbering.{count_of_rank, counts_of, event_with, insert_count}
-use Rattle.st_closed_world.specs.Renumbering.{insert_counts, KeepsOrder, rank, renumbered_streams}
-use Rattle.st_closed_world.specs.Renumbering.{with_counts}
+use Rattle.st_closed_world.specs.Renumbering.{count_of_rank, counts_of, event_with, insert_count, insert_counts}
+use Rattle.st_closed_world.specs.Renumbering.{KeepsOrder, rank, renumbered_streams, with_counts}
 use Rattle.st_closed_world.proofs.NeedlessStreams.{exactly_needless, needless_shown}
 use Rattle.st_closed_world.proofs.ReplacedCounts.{pids_with}
 use Rattle.st_closed_world.proofs.Renumbering.{shown_with}

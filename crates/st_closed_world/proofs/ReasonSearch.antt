@@ -1,10 +1,7 @@
 -- A reason holds of streams, or none does: the events are finitely many, and of counts that are
 -- above all of theirs there are no needs.
-use Rattle.std.proofs.Common.{◌≡◌, ◌⊎◌, inl, inr, ℕ, zero, suc, ◌<◌, ◌≤◌, ◌||◌, Bool, true, false}
-use Rattle.std.proofs.Common.{List, [], ◌∷◌}
-use Rattle.std.proofs.Common.{◌++◌, take}
-use Rattle.std.proofs.Common.{Some, slice_get, sum_by, append-nil, append_assoc, refl, sym, ◌∙◌, ap}
-use Rattle.std.proofs.Common.{subst, arith}
+use Rattle.std.proofs.Common.{◌≡◌, ◌⊎◌, inl, inr, ℕ, zero, suc, ◌<◌, ◌≤◌, ◌||◌, Bool, true, false, List, [], ◌∷◌, ◌++◌}
+use Rattle.std.proofs.Common.{take, Some, slice_get, sum_by, append-nil, append_assoc, refl, sym, ◌∙◌, ap, subst, arith}
 use Rattle.std.proofs.lemmas.Bool.{cases_lt, false≢true, ltb-false}
 use Rattle.std.proofs.lemmas.List.Sums.{sum_by-cons}
 use Rattle.std.proofs.lemmas.Option.{none-some, same_Some}
@@ -17,8 +14,7 @@ use Rattle.st_core.specs.Streams.{events_of, is_among}
 use Rattle.st_core.proofs.ForCallers.{pid_same, lists_among}
 use Rattle.st_pair.specs.Places.{event_at}
 use Rattle.st_closed_world.specs.Needs.{HoldsOfNone, is_late, is_rootless}
-use Rattle.st_closed_world.specs.Reasons.{HasNoReason, HasReason, HoldsAt, is_too_high, Late}
-use Rattle.st_closed_world.specs.Reasons.{TooHigh, Unfounded}
+use Rattle.st_closed_world.specs.Reasons.{HasNoReason, HasReason, HoldsAt, is_too_high, Late, TooHigh, Unfounded}
 use Rattle.st_closed_world.specs.Reasons.{Unsent}
 use Rattle.st_closed_world.specs.Supply.{excess, is_free, IsSupplied}
 use Rattle.st_closed_world.proofs.InsertedEvents.{listed_at}

@@ -1,10 +1,8 @@
 -- Streams of which no reason holds are good: what pairing accepts fits together, two events at a
 -- time, and what holds of no event at its place holds of none along its process.
-use Rattle.std.proofs.Common.{◌≡◌, ℕ, suc, ◌+◌, ◌<◌, ◌==◌, ◌&&◌, ◌||◌, Bool, true, false, cond}
-use Rattle.std.proofs.Common.{List, [], ◌∷◌}
-use Rattle.std.proofs.Common.{◌++◌, take, Option, Some, None, inl, inr, slice_get, append-nil}
-use Rattle.std.proofs.Common.{append_assoc, refl, sym}
-use Rattle.std.proofs.Common.{◌∙◌, ap, arith, option_and_then}
+use Rattle.std.proofs.Common.{◌≡◌, ℕ, suc, ◌+◌, ◌<◌, ◌==◌, ◌&&◌, ◌||◌, Bool, true, false, cond, List, [], ◌∷◌, ◌++◌}
+use Rattle.std.proofs.Common.{take, Option, Some, None, inl, inr, slice_get, append-nil, append_assoc, refl, sym, ◌∙◌}
+use Rattle.std.proofs.Common.{ap, arith, option_and_then}
 use Rattle.std.proofs.lemmas.Bool.{and_from, and_parts, cases_lt, eq-eqb, eqb-true, false≢true}
 use Rattle.std.proofs.lemmas.Option.{same_Some}
 use Rattle.st_core.specs.declared.types.Pid.{Pid}
@@ -16,8 +14,7 @@ use Rattle.st_pair.specs.declared.answer.Source.{Source}
 use Rattle.st_pair.specs.declared.answer.Source.TheVariants as source
 use Rattle.st_pair.specs.Places.{event_at, is_stamp}
 use Rattle.st_pair.specs.Pairing.{agrees, mismatch, receive_of, stamp_of}
-use Rattle.st_pair.proofs.ForCallers.{cond_none, event_none, IsPaired, once_place, paired}
-use Rattle.st_pair.proofs.ForCallers.{serial_rises}
+use Rattle.st_pair.proofs.ForCallers.{cond_none, event_none, IsPaired, once_place, paired, serial_rises}
 use Rattle.st_pair.proofs.ForCallers.{stamp_counts_rise, stamp_once}
 use Rattle.st_order.specs.Items.{is_hidden}
 use Rattle.st_closed_world.specs.Needs.{is_late, is_need}

@@ -1,8 +1,7 @@
 -- Streams whose counts are replaced in order: pairing compares counts alone, so that each rule
 -- gives what it gave, at the same places; the same events have a hidden send; and each process's
 -- events name the same pids.
-use Rattle.std.proofs.Common.{◌≡◌, ℕ, ◌+◌, true, false, cond}
-use Rattle.std.proofs.Common.{List, [], ◌∷◌, Option, Some, None, map, slice_get}
+use Rattle.std.proofs.Common.{◌≡◌, ℕ, ◌+◌, true, false, cond, List, [], ◌∷◌, Option, Some, None, map, slice_get}
 use Rattle.std.proofs.Common.{option_map, refl, sym, ◌∙◌, ap}
 use Rattle.std.proofs.lemmas.Option.{slice_get-map}
 use Rattle.st_core.specs.declared.types.Pid.{Pid}

@@ -1,9 +1,8 @@
 -- If all sends were reported, no need has a sender that is free: its message was received, so it
 -- was sent, and that is told. So each need has a reported send of its count to its process, another
 -- for each.
-use Rattle.std.proofs.Common.{◌≡◌, ℕ, ◌≤◌, ◌==◌, ◌&&◌, ◌||◌, true, false, List, [], ◌∷◌}
-use Rattle.std.proofs.Common.{length, slice_get, Option, Some}
-use Rattle.std.proofs.Common.{None, is_none, sym, ◌∙◌, ap, subst, arith, refl}
+use Rattle.std.proofs.Common.{◌≡◌, ℕ, ◌≤◌, ◌==◌, ◌&&◌, ◌||◌, true, false, List, [], ◌∷◌, length, slice_get, Option}
+use Rattle.std.proofs.Common.{Some, None, is_none, sym, ◌∙◌, ap, subst, arith, refl}
 use Rattle.std.specs.List.{count_by}
 use Rattle.std.specs.Set.{is_member}
 use Rattle.std.proofs.lemmas.Bool.{and_parts, false≢true}

@@ -1,9 +1,7 @@
 -- Each run without a reset has a full completion: after a tracer on each node the loud run begins,
 -- and its streams are all the run's events, of which the run's streams are told.
-use Rattle.std.proofs.Common.{◌≡◌, ℕ, zero, suc, Bool, true, false, cond, List, [], ◌∷◌, ◌++◌, map}
-use Rattle.std.proofs.Common.{Option, Some, None}
-use Rattle.std.proofs.Common.{is_some, option_map, option_and_then, get_or, refl, sym, ◌∙◌, ap}
-use Rattle.std.proofs.Common.{subst}
+use Rattle.std.proofs.Common.{◌≡◌, ℕ, zero, suc, Bool, true, false, cond, List, [], ◌∷◌, ◌++◌, map, Option, Some, None}
+use Rattle.std.proofs.Common.{is_some, option_map, option_and_then, get_or, refl, sym, ◌∙◌, ap, subst}
 use Rattle.std.specs.Prelude.{All}
 use Rattle.std.specs.List.{slice_get}
 use Rattle.std.proofs.lemmas.Bool.{eq-eqb, false≢true}
@@ -19,17 +17,14 @@ use Rattle.st_core.specs.Step.{Acted, Outcome, answers, changed, outcome_of, ste
 use Rattle.st_core.specs.Run.{Shows, Stream, pids_of, run, run_from, stream}
 use Rattle.st_core.specs.Streams.{IsStreams}
 use Rattle.st_core.specs.Laws.{NoReset, ReportsEverything}
-use Rattle.st_core.proofs.ForCallers.{changed_pid, pid_eq-refl, pid_same, process-map, process_pid}
-use Rattle.st_core.proofs.ForCallers.{some_of, shown_are_streams}
-use Rattle.st_core.proofs.ForCallers.{step_done}
+use Rattle.st_core.proofs.ForCallers.{changed_pid, pid_eq-refl, pid_same, process-map, process_pid, some_of}
+use Rattle.st_core.proofs.ForCallers.{shown_are_streams, step_done}
 use Rattle.st_plan.specs.Build.{state_after}
 use Rattle.st_plan.specs.Marks.{all_streams, Marked, told_events, told_streams, Whole}
-use Rattle.st_plan.proofs.ForCallers.{run_append, Silent, stream_append, stream_silent}
+use Rattle.st_plan.proofs.ForCallers.{run_append, Silent, stream_append, stream_silent, run_full}
 use Rattle.st_plan.specs.Full.{IsFull}
 use Rattle.st_closed_world.specs.Wholes.{loud, whole_from, wholes_of}
-use Rattle.st_closed_world.proofs.LoudRuns.{are_heard, AreHeard, IsLoud, no_reset_append}
-use Rattle.st_closed_world.proofs.LoudRuns.{whole_append, whole_told}
-use Rattle.st_plan.proofs.ForCallers.{run_full}
+use Rattle.st_closed_world.proofs.LoudRuns.{are_heard, AreHeard, IsLoud, no_reset_append, whole_append, whole_told}
 
 -- TRACERS
 

@@ -1,9 +1,7 @@
 -- Replacing counts leaves each event's process and the pids that it names, so streams stay streams;
 -- and what is told of whole streams is replaced as these are.
-use Rattle.std.proofs.Common.{◌≡◌, ℕ, ◌&&◌, true, false, not, cond, List, [], ◌∷◌, Option, Some}
-use Rattle.std.proofs.Common.{None, map}
-use Rattle.std.proofs.Common.{position, is_some, option_map, ◌+◌, nat_lt, length, refl, sym, ◌∙◌}
-use Rattle.std.proofs.Common.{ap, subst}
+use Rattle.std.proofs.Common.{◌≡◌, ℕ, ◌&&◌, true, false, not, cond, List, [], ◌∷◌, Option, Some, None, map, position}
+use Rattle.std.proofs.Common.{is_some, option_map, ◌+◌, nat_lt, length, refl, sym, ◌∙◌, ap, subst}
 use Rattle.std.proofs.lemmas.List.{length-map}
 use Rattle.std.specs.Option.{option_map_or}
 use Rattle.std.specs.List.{AllByRecursion, position_or_len}
@@ -11,8 +9,7 @@ use Rattle.st_core.specs.declared.types.Pid.{Pid}
 use Rattle.st_core.specs.declared.types.Event.{Event}
 use Rattle.st_core.specs.Pid.{IsRising}
 use Rattle.st_core.specs.Run.{Stream}
-use Rattle.st_core.specs.Streams.{AreOwn, is_own, IsStreams, lists, names_listed, stream_of}
-use Rattle.st_core.specs.Streams.{unlisted_among}
+use Rattle.st_core.specs.Streams.{AreOwn, is_own, IsStreams, lists, names_listed, stream_of, unlisted_among}
 use Rattle.st_plan.specs.Marks.{all_streams, Marked, told_events, told_streams, Whole}
 use Rattle.st_closed_world.specs.Renumbering.{event_with, with_counts}
 use Rattle.st_closed_world.proofs.ReplacedCounts.{pids_with, stream_with}

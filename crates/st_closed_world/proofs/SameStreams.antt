@@ -1,7 +1,6 @@
 -- Streams by rising pid are what their pids and each process's events say: if these are the same,
 -- the streams are.
-use Rattle.std.proofs.Common.{◌≡◌, List, [], ◌∷◌, map}
-use Rattle.std.proofs.Common.{refl, sym, ◌∙◌, ap, subst}
+use Rattle.std.proofs.Common.{◌≡◌, List, [], ◌∷◌, map, refl, sym, ◌∙◌, ap, subst}
 use Rattle.std.specs.List.{AllByRecursion}
 use Rattle.st_core.specs.declared.types.Pid.{Pid}
 use Rattle.st_core.specs.declared.types.Event.{Event}

@@ -1,9 +1,7 @@
 -- Who may have sent what feeds a need is asked of counts by whether they are the same: a map that
 -- keeps their order leaves as many needs and as many senders as there were.
-use Rattle.std.proofs.Common.{◌≡◌, ◌↔◌, ℕ, ◌+◌, ◌-◌, ◌≤◌, ◌==◌, ◌&&◌, Bool, false, cond, List, []}
-use Rattle.std.proofs.Common.{◌∷◌, ◌++◌}
-use Rattle.std.proofs.Common.{Option, Some, None, is_none, map, option_map, sum_by, refl, sym, ◌∙◌}
-use Rattle.std.proofs.Common.{ap, subst}
+use Rattle.std.proofs.Common.{◌≡◌, ◌↔◌, ℕ, ◌+◌, ◌-◌, ◌≤◌, ◌==◌, ◌&&◌, Bool, false, cond, List, [], ◌∷◌, ◌++◌, Option}
+use Rattle.std.proofs.Common.{Some, None, is_none, map, option_map, sum_by, refl, sym, ◌∙◌, ap, subst}
 use Rattle.std.specs.List.{count_by}
 use Rattle.std.specs.Option.{option_map_or}
 use Rattle.std.proofs.lemmas.List.{map-append}
@@ -14,8 +12,7 @@ use Rattle.st_core.specs.Streams.{events_of}
 use Rattle.st_pair.specs.Pairing.{is_send, receive_of, stamp_of, to_eq}
 use Rattle.st_closed_world.specs.Needs.{is_need}
 use Rattle.st_closed_world.specs.Renumbering.{event_with, KeepsOrder, with_counts}
-use Rattle.st_closed_world.specs.Supply.{excess, is_free, is_own_supply, IsSupplied, needs}
-use Rattle.st_closed_world.specs.Supply.{needs_from}
+use Rattle.st_closed_world.specs.Supply.{excess, is_free, is_own_supply, IsSupplied, needs, needs_from}
 use Rattle.st_closed_world.proofs.CountMaps.{eq_same, need_same}
 use Rattle.st_closed_world.proofs.ReplacedCounts.{events_with, pids_with}
 use Rattle.st_closed_world.proofs.SamePairing.{receive_of_same, stamp_of_same}

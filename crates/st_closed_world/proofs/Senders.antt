@@ -1,10 +1,8 @@
 -- Who sends what: the supplies of one count. Each need gets a sender, since own ones and free ones
 -- are enough; each is told of a send to this process or is free; and no process sends twice, since
 -- it is told of one receiver at most, isn't free then, and is taken from the free ones once.
-use Rattle.std.proofs.Common.{◌≡◌, inl, inr, ℕ, zero, suc, ◌+◌, ◌-◌, ◌≤◌, ◌==◌, ◌&&◌, ◌||◌, Bool}
-use Rattle.std.proofs.Common.{true, false, cond}
-use Rattle.std.proofs.Common.{List, [], ◌∷◌, ◌++◌, filter, length, take, drop, Option, Some, None}
-use Rattle.std.proofs.Common.{is_none, sum_by}
+use Rattle.std.proofs.Common.{◌≡◌, inl, inr, ℕ, zero, suc, ◌+◌, ◌-◌, ◌≤◌, ◌==◌, ◌&&◌, ◌||◌, Bool, true, false, cond}
+use Rattle.std.proofs.Common.{List, [], ◌∷◌, ◌++◌, filter, length, take, drop, Option, Some, None, is_none, sum_by}
 use Rattle.std.proofs.Common.{refl, sym, ◌∙◌, ap, subst, arith, length-append, length-drop}
 use Rattle.std.specs.List.{AllByRecursion, count_by}
 use Rattle.std.proofs.lemmas.Bool.{and_parts, eq-eqb, eqb-true, false≢true}
@@ -16,8 +14,7 @@ use Rattle.st_core.specs.Run.{Stream, pids_of}
 use Rattle.st_core.specs.Streams.{events_of, lists, is_among}
 use Rattle.st_core.proofs.ForCallers.{and_false, IsBelow-apart, pid_eq-swap, pid_same}
 use Rattle.st_pair.specs.Pairing.{is_send, receive_of, stamp_of, to_eq}
-use Rattle.st_closed_world.specs.Completion.{count_of, needs_of, own, supplied_by, supplies_of}
-use Rattle.st_closed_world.specs.Completion.{Supply}
+use Rattle.st_closed_world.specs.Completion.{count_of, needs_of, own, supplied_by, supplies_of, Supply}
 use Rattle.st_closed_world.specs.Needs.{is_need}
 use Rattle.st_closed_world.specs.Supply.{excess, is_free, is_own_supply, needs, needs_from}
 use Rattle.st_closed_world.proofs.Lookups.{stamp_passes}

@@ -1,12 +1,9 @@
 -- A full completion supplies all needs: of one count each process has sent one message at most, so
 -- that the untold receives of it, as many as needs, are of different senders, and each of these
 -- reported that it sent it there or is free.
-use Rattle.std.proofs.Common.{◌≡◌, ℕ, zero, suc, ◌+◌, ◌≤◌, ◌⊎◌, ◌==◌, ◌&&◌, ◌||◌, Bool, true, false}
-use Rattle.std.proofs.Common.{not}
-use Rattle.std.proofs.Common.{cond, List, [], ◌∷◌, ◌++◌, drop, filter, length, Option, Some, None}
-use Rattle.std.proofs.Common.{is_none, inl}
-use Rattle.std.proofs.Common.{inr, slice_get, sum_by, refl, sym, ◌∙◌, ap, subst, arith}
-use Rattle.std.proofs.Common.{length-append, option_and_then}
+use Rattle.std.proofs.Common.{◌≡◌, ℕ, zero, suc, ◌+◌, ◌≤◌, ◌⊎◌, ◌==◌, ◌&&◌, ◌||◌, Bool, true, false, not, cond, List}
+use Rattle.std.proofs.Common.{[], ◌∷◌, ◌++◌, drop, filter, length, Option, Some, None, is_none, inl, inr, slice_get}
+use Rattle.std.proofs.Common.{sum_by, refl, sym, ◌∙◌, ap, subst, arith, length-append, option_and_then}
 use Rattle.std.specs.Cmp.{IsEquivalence}
 use Rattle.std.specs.List.{AllByRecursion, IsDistinct, count_by}
 use Rattle.std.specs.Option.{MatchOption, option_map_or}
@@ -22,25 +19,21 @@ use Rattle.st_core.specs.declared.types.Event.{Event}
 use Rattle.st_core.specs.Pid.{pid_eq, IsBelow, IsRising}
 use Rattle.st_core.specs.Laws.{AreAllListed, IsLeastUnlisted}
 use Rattle.st_core.specs.Run.{Stream, pids_of}
-use Rattle.st_core.specs.Streams.{events_of, is_own, is_of, lists, stream_of, AreOwn, IsStreams}
-use Rattle.st_core.specs.Streams.{is_among}
+use Rattle.st_core.specs.Streams.{events_of, is_own, is_of, lists, stream_of, AreOwn, IsStreams, is_among}
 use Rattle.st_core.proofs.ForCallers.{all_at, IsBelow-apart, pid_eq-refl, pid_eq-swap, pid_same}
 use Rattle.st_core.proofs.ForCallers.{unlisted_is_least, lists_among}
 use Rattle.st_pair.specs.declared.answer.PairFault.TheVariants as fault
 use Rattle.st_pair.specs.Places.{event_at, is_stamp}
 use Rattle.st_pair.specs.Pairing.{agrees, is_send, mismatch, receive_of, stamp_of, to_eq}
-use Rattle.st_pair.proofs.ForCallers.{cond_none, event_none, events_in, given_at, given_from}
-use Rattle.st_pair.proofs.ForCallers.{got_rule, IsPaired}
+use Rattle.st_pair.proofs.ForCallers.{cond_none, event_none, events_in, given_at, given_from, got_rule, IsPaired}
 use Rattle.st_pair.proofs.ForCallers.{once_place, own_rule, paired, stamp_once}
 use Rattle.st_order.proofs.ForCallers.{drop_front}
 use Rattle.st_plan.specs.Marks.{all_streams, Marked, told_streams, Whole}
 use Rattle.st_plan.specs.Full.{IsFull}
 use Rattle.st_closed_world.specs.Needs.{IsFed, marked_of}
-use Rattle.st_closed_world.specs.Supply.{excess, is_free, is_own_supply, IsSupplied, needs}
-use Rattle.st_closed_world.specs.Supply.{needs_from}
+use Rattle.st_closed_world.specs.Supply.{excess, is_free, is_own_supply, IsSupplied, needs, needs_from}
 use Rattle.st_closed_world.proofs.FedNeeds.{need_fed, told_at}
-use Rattle.st_closed_world.proofs.Feeders.{any, feeder_at, feeders, feeders_split, feeds}
-use Rattle.st_closed_world.proofs.Feeders.{needs_within}
+use Rattle.st_closed_world.proofs.Feeders.{any, feeder_at, feeders, feeders_split, feeds, needs_within}
 use Rattle.st_closed_world.proofs.Needs.{at_mark, events_told, go_on}
 
 -- LISTS OF PIDS

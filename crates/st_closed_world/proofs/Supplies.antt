@@ -1,9 +1,7 @@
 -- The supplies of all counts: no two are of one sender and count, each can be had, and there are as
 -- many of each count to each process as it has needs of it, if no reason holds of the streams.
-use Rattle.std.proofs.Common.{◌≡◌, ℕ, zero, suc, ◌<◌, ◌≤◌, ◌==◌, ◌&&◌, Bool, true, false, cond}
-use Rattle.std.proofs.Common.{List, [], ◌∷◌}
-use Rattle.std.proofs.Common.{filter, map, take, Some, inl, inr, slice_get, refl, sym}
-use Rattle.std.proofs.Common.{◌∙◌, ap, subst, arith}
+use Rattle.std.proofs.Common.{◌≡◌, ℕ, zero, suc, ◌<◌, ◌≤◌, ◌==◌, ◌&&◌, Bool, true, false, cond, List, [], ◌∷◌, filter}
+use Rattle.std.proofs.Common.{map, take, Some, inl, inr, slice_get, refl, sym, ◌∙◌, ap, subst, arith}
 use Rattle.std.specs.List.{AllByRecursion, count_by}
 use Rattle.std.proofs.lemmas.Bool.{cases_lt, eqb-true, false≢true}
 use Rattle.std.proofs.lemmas.List.Sums.{length-filter, sum_by-append, sum_by-cons}
@@ -24,10 +22,8 @@ use Rattle.st_closed_world.proofs.Lookups.{unlisted_events}
 use Rattle.st_closed_world.proofs.MetNeeds.{need_low}
 use Rattle.st_closed_world.proofs.InsertedSends.{IsServed}
 use Rattle.st_closed_world.proofs.CompletionSends.{AllApart, Apart, differs, IsReady}
-use Rattle.st_closed_world.proofs.Senders.{all_apart, all_both, all_filter, all_map, all_parts}
-use Rattle.st_closed_world.proofs.Senders.{apart_both}
-use Rattle.st_closed_world.proofs.Senders.{count_all, different_filter}
-use Rattle.st_closed_world.proofs.Senders.{IsPart, no_supplies, passes_filter}
+use Rattle.st_closed_world.proofs.Senders.{all_apart, all_both, all_filter, all_map, all_parts, apart_both, count_all}
+use Rattle.st_closed_world.proofs.Senders.{different_filter, IsPart, no_supplies, passes_filter}
 use Rattle.st_closed_world.proofs.ReasonlessStreams.{need_of}
 use Rattle.st_closed_world.proofs.CompletionReceives.{AsMany, is_for, one_if}
 

@@ -1,9 +1,8 @@
 -- In a choice the untold events of a process are its hidden sends: each is the send of a receive in
 -- the streams, of whose count they report no stamp, and each such send is there.
-use Rattle.std.proofs.Common.{◌≡◌, inl, inr, ℕ, zero, suc, ◌+◌, ◌<◌, ◌≤◌, ◌==◌, ◌&&◌, Bool, true}
-use Rattle.std.proofs.Common.{false, not}
-use Rattle.std.proofs.Common.{cond, List, [], ◌∷◌, Option, Some, None, is_none, is_some, option_map}
-use Rattle.std.proofs.Common.{option_and_then, slice_get, refl, sym, ◌∙◌, ap, subst, arith}
+use Rattle.std.proofs.Common.{◌≡◌, inl, inr, ℕ, zero, suc, ◌+◌, ◌<◌, ◌≤◌, ◌==◌, ◌&&◌, Bool, true, false, not, cond}
+use Rattle.std.proofs.Common.{List, [], ◌∷◌, Option, Some, None, is_none, is_some, option_map, option_and_then}
+use Rattle.std.proofs.Common.{slice_get, refl, sym, ◌∙◌, ap, subst, arith}
 use Rattle.std.proofs.lemmas.Bool.{and_parts, cases_lt, eqb-true, false≢true}
 use Rattle.std.proofs.lemmas.Option.{none-some, same_Some}
 use Rattle.st_core.specs.declared.types.Pid.{Pid}
@@ -19,8 +18,7 @@ use Rattle.st_pair.specs.Pairing.{agrees, is_send, receive_of, stamp_of, to_eq}
 use Rattle.st_pair.proofs.ForCallers.{given_at, got_rule, paired}
 use Rattle.st_plan.specs.Marks.{all_streams, Marked, told_events, told_streams, Whole}
 use Rattle.st_closed_world.specs.Choice.{IsChoice, is_taken}
-use Rattle.st_closed_world.specs.HiddenSends.{hidden_from, hidden_send}
-use Rattle.st_closed_world.specs.HiddenSends.{send_of}
+use Rattle.st_closed_world.specs.HiddenSends.{hidden_from, hidden_send, send_of}
 use Rattle.st_closed_world.specs.Needs.{marked_of}
 use Rattle.st_closed_world.specs.Placed.{untold_events}
 use Rattle.st_closed_world.proofs.AcceptedStreams.{FitTogether}

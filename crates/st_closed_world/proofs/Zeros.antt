@@ -1,12 +1,10 @@
 -- Once there is a stamp with another prev, or a receive, what is left isn't 0; so the next stamp
 -- with prev 0 is a need of it. Stamps stand by rising counts at each placing, and reported events
 -- in turn, so a stamp with prev 0 behind such a one stays behind it wherever hidden sends are.
-use Rattle.std.proofs.Common.{◌≡◌, ◌⊎◌, inl, inr, ℕ, zero, suc, ◌+◌, ◌<◌, ◌==◌, ◌&&◌, nat_lt, Bool}
-use Rattle.std.proofs.Common.{true, false, not}
-use Rattle.std.proofs.Common.{if◌then◌else◌, List, [], ◌∷◌, ◌++◌, take, Some, slice_get, refl, sym}
-use Rattle.std.proofs.Common.{◌∙◌, ap, subst, arith}
-use Rattle.std.proofs.lemmas.Bool.{and_from, and_parts, cases_lt, eq-eqb, eqb-true, false≢true}
-use Rattle.std.proofs.lemmas.Bool.{lt-ltb}
+use Rattle.std.proofs.Common.{◌≡◌, ◌⊎◌, inl, inr, ℕ, zero, suc, ◌+◌, ◌<◌, ◌==◌, ◌&&◌, nat_lt, Bool, true, false, not}
+use Rattle.std.proofs.Common.{if◌then◌else◌, List, [], ◌∷◌, ◌++◌, take, Some, slice_get, refl, sym, ◌∙◌, ap, subst}
+use Rattle.std.proofs.Common.{arith}
+use Rattle.std.proofs.lemmas.Bool.{and_from, and_parts, cases_lt, eq-eqb, eqb-true, false≢true, lt-ltb}
 use Rattle.std.proofs.lemmas.Option.{none-some, same_Some}
 use Rattle.st_core.specs.declared.types.Act.{Act}
 use Rattle.st_core.specs.declared.types.Pid.{Pid}
@@ -30,9 +28,8 @@ use Rattle.st_closed_world.proofs.Choices.{exactly_chosen, send_stamps}
 use Rattle.st_closed_world.proofs.Decision.{no_reason}
 use Rattle.st_closed_world.proofs.Needs.{at_mark}
 use Rattle.st_closed_world.proofs.ReasonlessStreams.{founded_at, need_of}
-use Rattle.st_closed_world.proofs.UntoldEvents.{among, fit, stamp_all, untold_at, untold_has}
-use Rattle.st_closed_world.proofs.UntoldEvents.{untold_in}
-use Rattle.st_closed_world.proofs.UntoldEvents.{untold_is, untold_sends}
+use Rattle.st_closed_world.proofs.UntoldEvents.{among, fit, stamp_all, untold_at, untold_has, untold_in, untold_is}
+use Rattle.st_closed_world.proofs.UntoldEvents.{untold_sends}
 
 -- WHAT IS LEFT
 

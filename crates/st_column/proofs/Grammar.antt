@@ -1,7 +1,6 @@
 -- The templates spell the very lines of the grammar that may be there, so the longest front of the ones is that of
 -- the others.
-use Rattle.std.proofs.Common.{◌≡◌, ℕ, Bool, true, false, List}
-use Rattle.std.proofs.Common.{refl, sym, subst, lit<}
+use Rattle.std.proofs.Common.{◌≡◌, ℕ, Bool, true, false, List, refl, sym, subst, lit<}
 use Rattle.std.specs.Prelude.{codes}
 use Rattle.std.specs.List.{AllByRecursion}
 use Rattle.st_core.specs.Pid.{pid_on}

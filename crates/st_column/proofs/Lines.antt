@@ -2,10 +2,9 @@
 -- the width of the header tell matters.
 use Rattle.std.proofs.Common.{◌≡◌, ◌<◌, get_or, length, ℕ, ◌≤◌, Bool, true, false, not, ◌&&◌, ◌||◌, List, [], ◌∷◌}
 use Rattle.std.proofs.Common.{Option, Some, None, refl, sym, ap, subst, ◌∙◌, arith}
-use Rattle.std.specs.Prelude.{◌==◌}
+use Rattle.std.specs.Prelude.{◌==◌, option_to_list}
 use Rattle.std.specs.List.{list_any, AllByRecursion}
 use Rattle.std.proofs.lemmas.Bool.Decides.{nat_tests}
-use Rattle.std.specs.Prelude.{option_to_list}
 use Rattle.st_core.specs.declared.types.Pid.{Pid}
 use Rattle.st_core.specs.declared.types.Kind.{Kind}
 use Rattle.st_core.specs.declared.types.Kind.TheVariants as kinds
@@ -20,8 +19,7 @@ use Rattle.st_text.specs.declared.line.Line.TheVariants as lines
 use Rattle.st_text.specs.Spelling as spelled
 use Rattle.st_text.specs.Range.{Fits, FitsAct, FitsPid, FitsPlace, FitsWant, most_pid}
 use Rattle.st_text.specs.Text.{is_away, is_remote, named, names, wanted}
-use Rattle.st_text.specs.Fault.{has_acts, is_header, is_wide_header, last_of, may_follow}
-use Rattle.st_text.specs.Fault.{may_stand, pids}
+use Rattle.st_text.specs.Fault.{has_acts, is_header, is_wide_header, last_of, may_follow, may_stand, pids}
 use Rattle.st_column.specs.declared.above.Above.{Above}
 use Rattle.st_column.specs.declared.above.Above.TheVariants as above
 use Rattle.st_column.specs.Column.{above_by, above_of, has_wide_header}

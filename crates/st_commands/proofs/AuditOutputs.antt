@@ -13,8 +13,7 @@ use Rattle.st_audit.specs.Findings.{HasCertificate}
 use Rattle.st_text.specs.declared.limits.Limits.{Limits}
 use Rattle.st_commands.specs.Output.{Output, refused}
 use Rattle.st_commands.specs.Checked.{top, Spells}
-use Rattle.st_commands.specs.Audited.{Faulty, Found, HasFinding, IsAudited, finding_status}
-use Rattle.st_commands.specs.Audited.{report_output}
+use Rattle.st_commands.specs.Audited.{Faulty, Found, HasFinding, IsAudited, finding_status, report_output}
 use Rattle.st_commands.specs.Laws.{CertainTracesFit, HasOneOutput}
 use Rattle.st_commands.proofs.ChartOutputs.{same_streams}
 use Rattle.st_commands.proofs.Outputs.{fault_apart, one_fault}

@@ -1,7 +1,6 @@
 -- What the parts of a command say adds up to what the command owes: the bytes that were read go
 -- with each answer.
-use Rattle.std.proofs.Common.{◌≡◌, ◌≢◌, ℕ, ◌<◌, ◌≤◌, false, List, length, refl, sym, subst, ◌∙◌}
-use Rattle.std.proofs.Common.{inl, inr, arith}
+use Rattle.std.proofs.Common.{◌≡◌, ◌≢◌, ℕ, ◌<◌, ◌≤◌, false, List, length, refl, sym, subst, ◌∙◌, inl, inr, arith}
 use Rattle.std.proofs.lemmas.Option.{same_Some}
 use Rattle.std.specs.Prelude.{Option, Some, None, Result, Ok, Err, MatchResult}
 use Rattle.st_core.specs.declared.types.Act.{Act}
@@ -30,14 +29,12 @@ use Rattle.st_commands.specs.Audited.{IsAudited, report_output}
 use Rattle.st_commands.specs.Audited as audits
 use Rattle.st_commands.specs.Charted.{IsCharted, drawn, no_label}
 use Rattle.st_commands.specs.Charted as charts
-use Rattle.st_commands.specs.Command.{ReaderCall, WriterCall, ReadsAll, Owes}
-use Rattle.st_commands.specs.Command.{OfBytes, ForMemory, ForReader, Delivers, Whole, Part, Tells}
-use Rattle.st_commands.specs.Parts.{ChecksTo, AuditsTo, DrawsTo, ChartsTo, ReplaysTo, OfBundle}
-use Rattle.st_commands.specs.Parts.{OfSome, OfNone}
+use Rattle.st_commands.specs.Command.{ReaderCall, WriterCall, ReadsAll, Owes, OfBytes, ForMemory, ForReader, Delivers}
+use Rattle.st_commands.specs.Command.{Whole, Part, Tells, OwesBy}
+use Rattle.st_commands.specs.Parts.{ChecksTo, AuditsTo, DrawsTo, ChartsTo, ReplaysTo, OfBundle, OfSome, OfNone}
 use Rattle.st_commands.specs.Parts as parts
 use Rattle.st_commands.specs.declared.words.Task.{Task}
 use Rattle.st_commands.specs.declared.words.Task.TheVariants as task
-use Rattle.st_commands.specs.Command.{OwesBy}
 use Rattle.st_commands.specs.Meaning.{Says, Performs, PerformsBy}
 
 -- ---- writing

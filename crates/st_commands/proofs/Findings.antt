@@ -7,8 +7,7 @@ use Rattle.st_audit.specs.declared.finding.Finding.TheVariants as finding
 use Rattle.st_text.specs.declared.limits.Limits.{Limits}
 use Rattle.st_commands.specs.Output.{judged}
 use Rattle.st_commands.specs.Checked.{Judged}
-use Rattle.st_commands.specs.Audited.{HasFinding, Found, Faulty, report_output}
-use Rattle.st_commands.specs.Audited.{finding_status}
+use Rattle.st_commands.specs.Audited.{HasFinding, Found, Faulty, report_output, finding_status}
 use Rattle.st_commands.specs.Meaning.{MeansFits, MeansUnfit}
 use Rattle.st_commands.specs.Laws.{FitsMeans, UnfitMeans, CertificateIsYes, certificate}
 use Rattle.st_commands.proofs.Meanings.{fault_status_high}

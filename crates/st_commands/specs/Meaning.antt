@@ -1,8 +1,7 @@
 -- What a yes and a no of each command mean, each as one record of plain facts, in the words of the
 -- machine. The limits are those of the reader: how many bytes, processes, events and acts a text
 -- may have.
-use Rattle.std.specs.Prelude.{◌≡◌, ℕ, true, false, List, ◌++◌, Option, Some, None, IsSome, All}
-use Rattle.std.specs.Prelude.{codes, filter}
+use Rattle.std.specs.Prelude.{◌≡◌, ℕ, true, false, List, ◌++◌, Option, Some, None, IsSome, All, codes, filter}
 use Rattle.std.specs.List.{flat_map, list_any}
 use Rattle.std.specs.Option.{ForSome}
 use Rattle.st_core.specs.declared.types.Pid.{Pid}

@@ -13,7 +13,7 @@ use Rattle.st_core.specs.Laws.{greatest_count}
 use Rattle.st_core.specs.Pid.{pid_eq, IsRising}
 use Rattle.st_core.specs.Run.{Stream, pids_of}
 use Rattle.st_core.specs.Streams.{events_of, stream_of, IsStreams}
-use Rattle.st_core.proofs.ForCallers.{above_apart, pid_eq-refl, pid_same}
+use Rattle.st_core.proofs.ForCallers.{above_apart, pid_eq-refl, pid_same, place_within}
 use Rattle.st_pair.specs.Pairing.{agrees, is_send, refusal, source_of, stamp_of, to_eq}
 use Rattle.st_pair.specs.Places.{event_at, is_stamp}
 use Rattle.st_pair.specs.declared.answer.Source.{Source}
@@ -22,7 +22,6 @@ use Rattle.st_pair.proofs.ForCallers.{events_in, paired, stamp_once}
 use Rattle.st_order.specs.Items.{is_hidden}
 use Rattle.st_closed_world.specs.Local.{IsNeedless}
 use Rattle.st_closed_world.proofs.ForCallers.{accepted_if, own_at, received_to, FitTogether}
-use Rattle.st_core.proofs.ForCallers.{place_within}
 use Rattle.st_complete.specs.Links.{other_end, receipt_of, AreEventsFit, IsEventFit, IsLinked}
 
 -- THE EVENTS OF A PROCESS

@@ -1,14 +1,12 @@
 -- What is found is a reason in the words of the results: if a rule gives nothing at an event, its
 -- reason isn't against that event, and where it gives something first, it is the first one that is.
-use Rattle.std.proofs.Common.{◌≡◌, ◌⊎◌, ℕ, zero, suc, ◌<◌, ◌≤◌, ◌==◌, ◌&&◌, ◌||◌, nat_lt, not}
-use Rattle.std.proofs.Common.{Bool, true, false, cond, inl, inr, List, [], ◌∷◌, take, slice_get}
-use Rattle.std.proofs.Common.{Option, Some, None, option_and_then, refl, sym, ◌∙◌, ap, subst, arith}
-use Rattle.std.proofs.Common.{if◌then◌else◌}
+use Rattle.std.proofs.Common.{◌≡◌, ◌⊎◌, ℕ, zero, suc, ◌<◌, ◌≤◌, ◌==◌, ◌&&◌, ◌||◌, nat_lt, not, Bool, true, false, cond}
+use Rattle.std.proofs.Common.{inl, inr, List, [], ◌∷◌, take, slice_get, Option, Some, None, option_and_then, refl, sym}
+use Rattle.std.proofs.Common.{◌∙◌, ap, subst, arith, if◌then◌else◌}
 use Rattle.std.specs.Prelude.{is_none, is_some}
 use Rattle.std.specs.declared.cmp.Ordering.TheVariants.{Less, Equal, Greater}
 use Rattle.std.specs.Ordering.{ordering_reverse}
-use Rattle.std.proofs.lemmas.Bool.{and_from, and_parts, cases_lt, eq-eqb, eqb-true, false≢true}
-use Rattle.std.proofs.lemmas.Bool.{ltb-false, ltb-true}
+use Rattle.std.proofs.lemmas.Bool.{and_from, and_parts, cases_lt, eq-eqb, eqb-true, false≢true, ltb-false, ltb-true}
 use Rattle.std.proofs.lemmas.Option.{none-some, same_Some}
 use Rattle.st_core.specs.declared.types.Pid.{Pid}
 use Rattle.st_core.specs.declared.types.Event.{Event}
@@ -17,19 +15,16 @@ use Rattle.st_core.specs.Laws.{greatest_count}
 use Rattle.st_core.specs.Pid.{pid_cmp, pid_eq, IsRising}
 use Rattle.st_core.specs.Run.{Stream, pids_of}
 use Rattle.st_core.specs.Streams.{events_of, IsStreams}
-use Rattle.st_core.proofs.ForCallers.{pid_cmp-Equal, pid_eq-refl, pid_same, some_if, false_if}
-use Rattle.st_core.proofs.ForCallers.{both_of}
+use Rattle.st_core.proofs.ForCallers.{pid_cmp-Equal, pid_eq-refl, pid_same, some_if, false_if, both_of}
 use Rattle.st_pair.specs.declared.answer.PairFault.{PairFault}
 use Rattle.st_pair.specs.declared.answer.PairFault.TheVariants as fault
 use Rattle.st_pair.specs.declared.answer.Source.{Source}
 use Rattle.st_pair.specs.declared.answer.Source.TheVariants as source
 use Rattle.st_pair.specs.Laws.{IsEarlier, IsLeast}
-use Rattle.st_pair.specs.Pairing.{agrees, first_rule, is_send, mismatch, not_rising}
-use Rattle.st_pair.specs.Pairing.{prev_not_before}
-use Rattle.st_pair.specs.Pairing.{receive_of, refusal, repeated, stamp_before, stamp_of, to_eq}
+use Rattle.st_pair.specs.Pairing.{agrees, first_rule, is_send, mismatch, not_rising, prev_not_before, receive_of}
+use Rattle.st_pair.specs.Pairing.{refusal, repeated, stamp_before, stamp_of, to_eq}
 use Rattle.st_pair.specs.Places.{event_at, first, is_stamp}
-use Rattle.st_pair.proofs.ForCallers.{cond_none, event_none, first_least, got_rule, paired}
-use Rattle.st_pair.proofs.ForCallers.{pid_total, Rule}
+use Rattle.st_pair.proofs.ForCallers.{cond_none, event_none, first_least, got_rule, paired, pid_total, Rule}
 use Rattle.st_order.specs.Items.{is_hidden}
 use Rattle.st_closed_world.specs.Needs.{HoldsOfNone, is_late}
 use Rattle.st_closed_world.specs.Reasons.{is_too_high}

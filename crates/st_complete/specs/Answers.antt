@@ -1,7 +1,6 @@
 -- What the results mean: a completion, or a place and a reason why no acts without a reset show the
 -- streams, whatever other processes report nothing.
-use Rattle.std.specs.Prelude.{◌≡◌, ◌⊎◌, ℕ, ◌<◌, ◌≤◌, ◌||◌, true, false, length, List}
-use Rattle.std.specs.Prelude.{Some, is_none, is_some, take}
+use Rattle.std.specs.Prelude.{◌≡◌, ◌⊎◌, ℕ, ◌<◌, ◌≤◌, ◌||◌, true, false, length, List, Some, is_none, is_some, take}
 use Rattle.st_core.specs.declared.types.Act.{Act}
 use Rattle.st_core.specs.declared.types.Pid.{Pid}
 use Rattle.st_core.specs.declared.types.Event.{Event}

@@ -18,9 +18,8 @@ use Rattle.st_core.specs.State.{Process, State, process, zero_state}
 use Rattle.st_core.specs.Pick.{pick}
 use Rattle.st_core.specs.Step.{Acted, Outcome, acted, actor, changed, receiver, receives, step}
 use Rattle.st_core.specs.Run.{run, run_from}
-use Rattle.st_core.specs.Laws.{AreAllApart, AreApart, clock_in, HasQueuesApart, HasStampsOnce}
-use Rattle.st_core.specs.Laws.{is_reset, IsStampedBefore}
-use Rattle.st_core.specs.Laws.{NoReset}
+use Rattle.st_core.specs.Laws.{AreAllApart, AreApart, clock_in, HasQueuesApart, HasStampsOnce, is_reset}
+use Rattle.st_core.specs.Laws.{IsStampedBefore, NoReset}
 use Rattle.st_core.proofs.Others.{actor_is, mapped, process_after, process_pid, run_parts, step_parts, Stepped}
 use Rattle.st_core.proofs.Pids.{pid_eq-true}
 use Rattle.st_core.proofs.Queues.{changed_queue, IsReceive, own_queue, queue_after}

@@ -14,9 +14,8 @@ use Rattle.st_core.specs.declared.types.Pid.{Pid}
 use Rattle.st_core.specs.declared.types.Event.{Event}
 use Rattle.st_core.specs.Pid.{pid_eq, IsBelow, IsRising}
 use Rattle.st_core.specs.Run.{Stream, pids_of}
-use Rattle.st_core.specs.Streams.{stream_of, lists, events_of, total_of, is_own, AreOwn, IsDraft}
-use Rattle.st_core.specs.Streams.{ComesLast, with_event, is_among, names_among, added, names_listed}
-use Rattle.st_core.specs.Streams.{unlisted_among, unlisted}
+use Rattle.st_core.specs.Streams.{stream_of, lists, events_of, total_of, is_own, AreOwn, IsDraft, ComesLast, with_event}
+use Rattle.st_core.specs.Streams.{is_among, names_among, added, names_listed, unlisted_among, unlisted}
 use Rattle.st_core.specs.Collected.{collected, IsCollected, first_failing}
 use Rattle.st_core.proofs.Pids.{pid_eq-true, pid_eq-same, pid_eq-swap, IsBelow-apart, all_at, all_push, IsRising-push}
 use Rattle.st_core.proofs.Bools.{or_true}

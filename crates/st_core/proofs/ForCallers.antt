@@ -9,9 +9,8 @@ pub use Rattle.st_core.proofs.Bools.{and_false, or_right, false_if, some_of, som
 pub use Rattle.st_core.proofs.Pids.{is_eq-Equal, both_equal}
 pub use Rattle.st_core.proofs.Pids.{is_lt-true, nat_cmp-Equal, nat_cmp-same, nat_cmp-below, below_or_same, eqb-swap}
 -- ---- pids, and the streams of each
-pub use Rattle.st_core.proofs.Pids.{pid_eq-true, pid_eq-same, pid_eq-swap, pid_cmp-same, pid_cmp-Equal}
-pub use Rattle.st_core.proofs.Pids.{IsBelow-trans, IsBelow-apart, not_below_itself, IsRising-push, missing_from_search}
-pub use Rattle.st_core.proofs.Pids.{all_at}
+pub use Rattle.st_core.proofs.Pids.{pid_eq-true, pid_eq-same, pid_eq-swap, pid_cmp-same, pid_cmp-Equal, IsBelow-trans}
+pub use Rattle.st_core.proofs.Pids.{IsBelow-apart, not_below_itself, IsRising-push, missing_from_search, all_at}
 pub use Rattle.st_core.proofs.Pids.{pid_eq-true as pid_same, pid_eq-same as pid_eq-refl}
 pub use Rattle.st_core.proofs.RisingPids.{rising_at}
 pub use Rattle.st_core.proofs.Collections.{above_apart, is_among-found, is_among-missing, place_within, own_push}

@@ -2,10 +2,9 @@
 -- names it as it names its send. A stamp, since the receive that its hop names is directly before
 -- its row, so that the stamp is in the row behind that receive; and the row of a stamp in it goes
 -- back to the receive.
-use Rattle.std.proofs.Common.{◌≡◌, ℕ, ◌+◌, ◌-◌, ◌≤◌, ◌==◌, ◌||◌, zero, suc, Bool, true, false, cond}
-use Rattle.std.proofs.Common.{List, [], ◌∷◌, ◌++◌, take, drop, Option, Some, None}
-use Rattle.std.proofs.Common.{option_and_then, slice_get}
-use Rattle.std.proofs.Common.{get_or, option_to_list, inl, inr, refl, sym, ◌∙◌, ap, subst, arith}
+use Rattle.std.proofs.Common.{◌≡◌, ℕ, ◌+◌, ◌-◌, ◌≤◌, ◌==◌, ◌||◌, zero, suc, Bool, true, false, cond, List, [], ◌∷◌}
+use Rattle.std.proofs.Common.{◌++◌, take, drop, Option, Some, None, option_and_then, slice_get, get_or, option_to_list}
+use Rattle.std.proofs.Common.{inl, inr, refl, sym, ◌∙◌, ap, subst, arith}
 use Rattle.std.specs.Prelude.{not}
 use Rattle.std.specs.List.{prefix_len}
 use Rattle.std.proofs.lemmas.Bool.{and_from, and_parts, cases_order, eq-eqb, eqb-true, false≢true}
@@ -22,15 +21,13 @@ use Rattle.st_pair.specs.declared.answer.Source.{Source}
 use Rattle.st_pair.specs.declared.answer.Source.TheVariants as source
 use Rattle.st_pair.specs.Places.{event_at, is_stamp}
 use Rattle.st_pair.specs.Pairing.{is_send, receive_of, receiver_at, refusal, source_at, source_of}
-use Rattle.st_pair.proofs.ForCallers.{at_get_or, blank, paired, receiver_from_source}
-use Rattle.st_pair.proofs.ForCallers.{source_from_receiver}
+use Rattle.st_pair.proofs.ForCallers.{at_get_or, blank, paired, receiver_from_source, source_from_receiver}
 use Rattle.st_origin.specs.declared.evidence.Evidence.{Evidence}
 use Rattle.st_origin.specs.declared.evidence.Evidence.TheVariants as what
 use Rattle.st_origin.specs.Events.{has_above, in_row, is_receive, receive_before, row_start}
 use Rattle.st_origin.specs.Events.{origin_evidence, origin_evidence_by}
-use Rattle.st_origin.proofs.ForCallers.{IsReceivedBefore, IsRowBetween, received_at}
-use Rattle.st_origin.proofs.ForCallers.{received_is, row_between, row_passes}
-use Rattle.st_origin.proofs.ForCallers.{row_start_within, row_stops}
+use Rattle.st_origin.proofs.ForCallers.{IsReceivedBefore, IsRowBetween, received_at, received_is, row_between}
+use Rattle.st_origin.proofs.ForCallers.{row_passes, row_start_within, row_stops}
 use Rattle.st_hops.specs.declared.hop.Hop.{Hop}
 use Rattle.st_hops.specs.declared.hop.Hop.TheVariants as hop
 use Rattle.st_hops.specs.Hops.{hop_by, hop_by_label, hop_of, hop_to_send, label_at_or}

@@ -1,17 +1,13 @@
 -- What a hop claims is true. Of a receive, since its count names the send that it took, whether
 -- that was reported or not. Of a stamp, since what its process's events tell of its origin is true,
 -- and the receive directly before its row is the last one.
-use Rattle.std.proofs.Common.{◌≡◌, ◌≢◌, ℕ, ◌+◌, ◌==◌, ◌&&◌, ◌||◌, ◌⊎◌, Bool, true, false, cond}
-use Rattle.std.proofs.Common.{List, []}
-use Rattle.std.proofs.Common.{◌∷◌, length, take, Option, Some, None, option_and_then, All, inl}
-use Rattle.std.proofs.Common.{inr, refl, sym, ◌∙◌}
-use Rattle.std.proofs.Common.{ap, subst}
+use Rattle.std.proofs.Common.{◌≡◌, ◌≢◌, ℕ, ◌+◌, ◌==◌, ◌&&◌, ◌||◌, ◌⊎◌, Bool, true, false, cond, List, [], ◌∷◌, length}
+use Rattle.std.proofs.Common.{take, Option, Some, None, option_and_then, All, inl, inr, refl, sym, ◌∙◌, ap, subst}
 use Rattle.std.specs.List.{slice_get, Contains}
 use Rattle.std.specs.Option.{option_map_or}
 use Rattle.std.proofs.lemmas.Bool.{and_from, and_parts, eq-eqb, eqb-true, false≢true}
 use Rattle.std.proofs.lemmas.List.Elements.{All-head, All-tail, All-from_recursion}
-use Rattle.std.proofs.lemmas.Option.{same_Some, none-some, option_and_then_some, slice_get-get_or}
-use Rattle.std.proofs.lemmas.Option.{cond_some}
+use Rattle.std.proofs.lemmas.Option.{same_Some, none-some, option_and_then_some, slice_get-get_or, cond_some}
 use Rattle.st_core.specs.declared.types.Pid.{Pid}
 use Rattle.st_core.specs.declared.types.Label.{Label}
 use Rattle.st_core.specs.declared.types.Kind.TheVariants as kind
@@ -24,24 +20,20 @@ use Rattle.st_core.specs.Run.{Shows, Stream, pids_of, run, stream}
 use Rattle.st_core.specs.Streams.{stream_of, events_of, is_among}
 use Rattle.st_core.specs.Pairs.{IsFollowing, pairs}
 use Rattle.st_core.specs.Laws.{NoReset, Reports, ReportsAmong, ReportsEvent}
-use Rattle.st_core.proofs.ForCallers.{AllZip_at, All_at, event_reported, pid_eq-true}
-use Rattle.st_core.proofs.ForCallers.{receives_are_paired}
+use Rattle.st_core.proofs.ForCallers.{AllZip_at, All_at, event_reported, pid_eq-true, receives_are_paired}
 use Rattle.st_core.proofs.ForCallers.{receives_follow, report_told, reported_sends_agree, run_named}
 use Rattle.st_pair.specs.declared.answer.Source.{Source}
 use Rattle.st_pair.specs.declared.answer.Source.TheVariants as source
 use Rattle.st_pair.specs.Places.{event_at, is_stamp}
 use Rattle.st_pair.specs.Pairing.{source_of, stamp_of}
-use Rattle.st_pair.proofs.ForCallers.{events_in, from_none, given_from, own_rule, stamp_at}
-use Rattle.st_pair.proofs.ForCallers.{stamp_not_received}
+use Rattle.st_pair.proofs.ForCallers.{events_in, from_none, given_from, own_rule, stamp_at, stamp_not_received}
 use Rattle.st_origin.specs.declared.evidence.Evidence.{Evidence}
 use Rattle.st_origin.specs.declared.evidence.Evidence.TheVariants as what
-use Rattle.st_origin.specs.Events.{has_above, receive_before, row_start, origin_evidence}
-use Rattle.st_origin.specs.Events.{origin_evidence_by}
+use Rattle.st_origin.specs.Events.{has_above, receive_before, row_start, origin_evidence, origin_evidence_by}
 use Rattle.st_origin.specs.Labels.{SetsLabelBetween}
 use Rattle.st_origin.specs.Origin.{Origin, Begins, Follows, ReportsReceives, origin}
 use Rattle.st_origin.specs.Truth.{BeginsAfter, FollowsEvent, IsTrue, IsTrueIfReported}
-use Rattle.st_origin.proofs.ForCallers.{another_label_set, last_of_row, one_label_follows}
-use Rattle.st_origin.proofs.ForCallers.{received_is, sends_told}
+use Rattle.st_origin.proofs.ForCallers.{another_label_set, last_of_row, one_label_follows, received_is, sends_told}
 use Rattle.st_origin.proofs.ForCallers.{told_true, told_true_if_reported}
 use Rattle.st_hops.specs.declared.hop.Hop.{Hop}
 use Rattle.st_hops.specs.declared.hop.Hop.TheVariants as hop

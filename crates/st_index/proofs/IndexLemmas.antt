@@ -1,8 +1,7 @@
 -- An index finds the first slot of a key, and the rank of that slot is the place of the first message that passes the
 -- key's test.
-use Rattle.std.proofs.Common.{◌≡◌, ℕ, ◌+◌, ◌<◌, ◌≤◌, Bool, true, List, length, take, drop}
-use Rattle.std.proofs.Common.{get_or, slice_get, position, Option, Some, None, option_map}
-use Rattle.std.proofs.Common.{refl, sym, ap, subst, ◌∙◌, arith}
+use Rattle.std.proofs.Common.{◌≡◌, ℕ, ◌+◌, ◌<◌, ◌≤◌, Bool, true, List, length, take, drop, get_or, slice_get, position}
+use Rattle.std.proofs.Common.{Option, Some, None, option_map, refl, sym, ap, subst, ◌∙◌, arith}
 use Rattle.std.specs.declared.cmp.Ordering.{Ordering}
 use Rattle.std.specs.List.{sum}
 use Rattle.st_core.specs.declared.types.Message.{Message}

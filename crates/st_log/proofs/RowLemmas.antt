@@ -1,7 +1,6 @@
 -- Rows are only appended, and so is what is kept beside them: each row keeps its entry.
-use Rattle.std.proofs.Common.{◌≡◌, ℕ, ◌+◌, ◌-◌, List, [], ◌∷◌, ◌++◌, length, Some, refl, sym, ap}
-use Rattle.std.proofs.Common.{◌∙◌, arith}
-use Rattle.std.proofs.Common.{suc, ◌≤◌, ⊎_elim, subst}
+use Rattle.std.proofs.Common.{◌≡◌, ℕ, ◌+◌, ◌-◌, List, [], ◌∷◌, ◌++◌, length, Some, refl, sym, ap, ◌∙◌, arith, suc, ◌≤◌}
+use Rattle.std.proofs.Common.{⊎_elim, subst}
 use Rattle.std.specs.Prelude.{slice_get, slice_index_or}
 use Rattle.std.proofs.lemmas.List.{append-nil, get_or_append_left, length-append, map-append}
 use Rattle.st_core.specs.declared.types.Act.{Act}

@@ -1,8 +1,7 @@
 -- Finders and stored lists are read and written queue by queue, so what finds the messages of one queue follows that
 -- queue, and all others stay.
-use Rattle.std.proofs.Common.{◌≡◌, ℕ, zero, suc, ◌+◌, ◌<◌, List, [], ◌∷◌, ◌++◌, length, get_or, set, replicate}
-use Rattle.std.proofs.Common.{Option, Some, None, option_map, Global}
-use Rattle.std.proofs.Common.{refl, ap, subst, ◌∙◌, arith}
+use Rattle.std.proofs.Common.{◌≡◌, ℕ, zero, suc, ◌+◌, ◌<◌, List, [], ◌∷◌, ◌++◌, length, get_or, set, replicate, Option}
+use Rattle.std.proofs.Common.{Some, None, option_map, Global, refl, ap, subst, ◌∙◌, arith}
 use Rattle.std.proofs.lemmas.List.{get_or-set_same}
 use Rattle.std.specs.Prelude.{Box, IfSome}
 use Rattle.st_core.specs.declared.types.Message.{Message}

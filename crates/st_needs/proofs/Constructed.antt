@@ -1,11 +1,8 @@
 -- Why the whole streams that are built are those of the definition: each step changes what the
 -- definition changes, and a loop over processes, events or supplies takes one after the other.
-use Rattle.std.proofs.Common.{◌≡◌, ℕ, ◌+◌, zero, suc, ◌<◌, ◌≤◌, ◌==◌, ◌&&◌, nat_lt, Bool, true}
-use Rattle.std.proofs.Common.{false, cond}
-use Rattle.std.proofs.Common.{List, [], ◌∷◌, ◌++◌, map, find, length, drop, take, get_or, set}
-use Rattle.std.proofs.Common.{slice_get, Option, Some}
-use Rattle.std.proofs.Common.{None, is_some, append-nil, option_map, refl, sym, ◌∙◌, ap, subst}
-use Rattle.std.proofs.Common.{arith}
+use Rattle.std.proofs.Common.{◌≡◌, ℕ, ◌+◌, zero, suc, ◌<◌, ◌≤◌, ◌==◌, ◌&&◌, nat_lt, Bool, true, false, cond, List, []}
+use Rattle.std.proofs.Common.{◌∷◌, ◌++◌, map, find, length, drop, take, get_or, set, slice_get, Option, Some, None}
+use Rattle.std.proofs.Common.{is_some, append-nil, option_map, refl, sym, ◌∙◌, ap, subst, arith}
 use Rattle.std.specs.List.{AllByRecursion}
 use Rattle.std.proofs.lemmas.Bool.{false≢true}
 use Rattle.std.proofs.lemmas.Bool.Decides.{nat_tests}

@@ -1,8 +1,7 @@
 -- Which sends and receives are added, and where, depends on the events alone, and all of them are
 -- untold. So whole streams get the same events whatever is told of them, and what is told stays.
-use Rattle.std.proofs.Common.{◌≡◌, ℕ, zero, suc, true, false, cond, List, [], ◌∷◌, ◌++◌, map, take}
-use Rattle.std.proofs.Common.{drop}
-use Rattle.std.proofs.Common.{if◌then◌else◌, Option, Some, None, refl, sym, ◌∙◌, ap, subst}
+use Rattle.std.proofs.Common.{◌≡◌, ℕ, zero, suc, true, false, cond, List, [], ◌∷◌, ◌++◌, map, take, drop, if◌then◌else◌}
+use Rattle.std.proofs.Common.{Option, Some, None, refl, sym, ◌∙◌, ap, subst}
 use Rattle.st_core.specs.declared.types.Pid.{Pid}
 use Rattle.st_core.specs.declared.types.Event.{Event}
 use Rattle.st_core.specs.Pid.{pid_eq}
@@ -10,10 +9,8 @@ use Rattle.st_core.specs.Run.{Stream}
 use Rattle.st_core.specs.Streams.{events_of, IsStreams}
 use Rattle.st_pair.specs.Pairing.{stamp_of}
 use Rattle.st_plan.specs.Marks.{all_streams, told_events, told_streams, Marked, Whole}
-use Rattle.st_closed_world.specs.Completion.{completion, count_of, place_below, place_of_need, put}
-use Rattle.st_closed_world.specs.Completion.{receive_for}
-use Rattle.st_closed_world.specs.Completion.{send_among, supplies, Supply, told_wholes}
-use Rattle.st_closed_world.specs.Completion.{with_receive_of, with_receives}
+use Rattle.st_closed_world.specs.Completion.{completion, count_of, place_below, place_of_need, put, receive_for}
+use Rattle.st_closed_world.specs.Completion.{send_among, supplies, Supply, told_wholes, with_receive_of, with_receives}
 use Rattle.st_closed_world.specs.Completion.{with_send_of, with_sends}
 use Rattle.st_closed_world.specs.Local.{IsNeedless}
 use Rattle.st_needs.specs.Completions.{IsCompletionOf}

@@ -1,12 +1,9 @@
 -- Why the supplies are those of the definition. A count that no event needs has none, and each
 -- count that is needed is in the streams, below the greatest. So the supplies of the counts
 -- that are there, by rising count, are those of all numbers below the greatest.
-use Rattle.std.proofs.Common.{◌≡◌, ℕ, ◌+◌, ◌-◌, zero, suc, ◌<◌, ◌≤◌, ◌==◌, ◌&&◌, ◌⊎◌, inl, inr}
-use Rattle.std.proofs.Common.{nat_lt, not}
-use Rattle.std.proofs.Common.{Bool, true, false, cond, List, [], ◌∷◌, ◌++◌, map, filter, length}
-use Rattle.std.proofs.Common.{drop, take, get_or}
-use Rattle.std.proofs.Common.{Some, slice_get, refl, sym, ◌∙◌, ap, subst, arith, append_assoc}
-use Rattle.std.proofs.Common.{append-nil}
+use Rattle.std.proofs.Common.{◌≡◌, ℕ, ◌+◌, ◌-◌, zero, suc, ◌<◌, ◌≤◌, ◌==◌, ◌&&◌, ◌⊎◌, inl, inr, nat_lt, not, Bool, true}
+use Rattle.std.proofs.Common.{false, cond, List, [], ◌∷◌, ◌++◌, map, filter, length, drop, take, get_or, Some}
+use Rattle.std.proofs.Common.{slice_get, refl, sym, ◌∙◌, ap, subst, arith, append_assoc, append-nil}
 use Rattle.std.proofs.lemmas.Bool.Decides.{nat_tests}
 use Rattle.std.proofs.lemmas.Option.{same_Some}
 use Rattle.std.proofs.lemmas.Bool.{and_parts, cases_lt, eqb-true, false≢true, ltb-true}
@@ -20,8 +17,7 @@ use Rattle.st_core.specs.Streams.{events_of, stream_of}
 use Rattle.st_pair.specs.Places.{is_stamp}
 use Rattle.st_pair.proofs.ForCallers.{at_get_or, events_in}
 use Rattle.st_order.specs.Items.{greatest}
-use Rattle.st_closed_world.specs.Completion.{needs_of, own, supplied_by, supplies, supplies_below}
-use Rattle.st_closed_world.specs.Completion.{supplies_of, Supply}
+use Rattle.st_closed_world.specs.Completion.{needs_of, own, supplied_by, supplies, supplies_below, supplies_of, Supply}
 use Rattle.st_closed_world.specs.Needs.{is_need}
 use Rattle.st_closed_world.specs.Renumbering.{counts_of}
 use Rattle.st_closed_world.specs.Supply.{is_free, is_own_supply}

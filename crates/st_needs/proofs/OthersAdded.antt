@@ -1,9 +1,7 @@
 -- Why processes are put in where they belong, one below the other; and why no reason is left if
 -- there are as many as events.
-use Rattle.std.proofs.Common.{◌≡◌, ℕ, zero, suc, ◌+◌, ◌≤◌, true, false, cond, List, []}
-use Rattle.std.proofs.Common.{◌∷◌, ◌++◌}
-use Rattle.std.proofs.Common.{take, drop, length, get_or, slice_get, Some}
-use Rattle.std.proofs.Common.{sum_by, refl, sym, ◌∙◌, ap, subst, arith}
+use Rattle.std.proofs.Common.{◌≡◌, ℕ, zero, suc, ◌+◌, ◌≤◌, true, false, cond, List, [], ◌∷◌, ◌++◌, take, drop, length}
+use Rattle.std.proofs.Common.{get_or, slice_get, Some, sum_by, refl, sym, ◌∙◌, ap, subst, arith}
 use Rattle.std.specs.List.{AllByRecursion}
 use Rattle.std.specs.Ordering.{is_lt}
 use Rattle.std.proofs.lemmas.List.Sums.{sum_by-append, sum_by-cons}
@@ -12,12 +10,11 @@ use Rattle.st_core.specs.declared.types.Pid.{Pid}
 use Rattle.st_core.specs.Pid.{pid_cmp, IsBelow, IsRising}
 use Rattle.st_core.specs.Run.{Stream}
 use Rattle.st_core.specs.Streams.{lists, IsStreams}
-use Rattle.st_plan.specs.Marks.{all_streams, told_streams}
+use Rattle.st_plan.specs.Marks.{all_streams, told_streams, Whole}
 use Rattle.st_closed_world.specs.Placed.{earliest_wholes}
 use Rattle.st_open_world.specs.OpenReasons.{HasNoOpenReason}
 use Rattle.st_open_world.specs.Silent.{with_silent}
 use Rattle.st_core.proofs.ForCallers.{is_lt-true, IsBelow-trans}
-use Rattle.st_plan.specs.Marks.{Whole}
 use Rattle.st_plan.proofs.ForCallers.{take_more}
 use Rattle.st_open_world.specs.SilentWholes.{silent_whole, whole_inserted, whole_with}
 use Rattle.st_open_world.proofs.ForCallers.{earliest_open, earliest_told, unlisted_with, IsOpenTo}

@@ -1,11 +1,9 @@
 -- Why what is told of one count is right. A receive of a count is told of a process exactly if the
 -- process is among those whose messages of this count are received. So what is told of each process
 -- says whether it has an own message for a need, or none at all.
-use Rattle.std.proofs.Common.{◌≡◌, ℕ, ◌+◌, suc, ◌<◌, ◌≤◌, ◌==◌, ◌&&◌, ◌||◌, not, Bool, true, false}
-use Rattle.std.proofs.Common.{cond}
-use Rattle.std.proofs.Common.{List, [], ◌∷◌, ◌++◌, find, length, drop, get_or, Option, Some, None}
-use Rattle.std.proofs.Common.{is_none, is_some, option_map, if◌then◌else◌, refl, sym, ◌∙◌, ap}
-use Rattle.std.proofs.Common.{arith}
+use Rattle.std.proofs.Common.{◌≡◌, ℕ, ◌+◌, suc, ◌<◌, ◌≤◌, ◌==◌, ◌&&◌, ◌||◌, not, Bool, true, false, cond, List, [], ◌∷◌}
+use Rattle.std.proofs.Common.{◌++◌, find, length, drop, get_or, Option, Some, None, is_none, is_some, option_map}
+use Rattle.std.proofs.Common.{if◌then◌else◌, refl, sym, ◌∙◌, ap, arith}
 use Rattle.std.specs.List.{list_any}
 use Rattle.std.specs.Option.{option_map_or}
 use Rattle.std.proofs.lemmas.List.{append_assoc, drop_all, drop_more}

@@ -1,14 +1,11 @@
 -- Which events are unfounded. A count that is less than n is the lowest of some events exactly if
 -- one of these events tells of one. So an event with prev 0 counts higher than the lowest of its
 -- process exactly if some event tells of a lower count of this process with another prev.
-use Rattle.std.proofs.Common.{◌≡◌, inl, inr, ℕ, ◌+◌, zero, suc, ◌<◌, ◌==◌, ◌&&◌, ◌||◌, nat_lt, min}
-use Rattle.std.proofs.Common.{Bool}
-use Rattle.std.proofs.Common.{true, false, not, cond, List, [], ◌∷◌, take, slice_get, Option, Some}
-use Rattle.std.proofs.Common.{None, is_some}
-use Rattle.std.proofs.Common.{if◌then◌else◌, refl, sym, ◌∙◌, ap, arith}
-use Rattle.std.proofs.lemmas.Bool.{and_from, and_parts, eq-eqb, eqb-true, false≢true, le-ltb}
-use Rattle.std.proofs.lemmas.Bool.{lt-ltb}
-use Rattle.std.proofs.lemmas.Bool.{ltb-false, ltb-true}
+use Rattle.std.proofs.Common.{◌≡◌, inl, inr, ℕ, ◌+◌, zero, suc, ◌<◌, ◌==◌, ◌&&◌, ◌||◌, nat_lt, min, Bool, true, false}
+use Rattle.std.proofs.Common.{not, cond, List, [], ◌∷◌, take, slice_get, Option, Some, None, is_some, if◌then◌else◌}
+use Rattle.std.proofs.Common.{refl, sym, ◌∙◌, ap, arith}
+use Rattle.std.proofs.lemmas.Bool.{and_from, and_parts, eq-eqb, eqb-true, false≢true, le-ltb, lt-ltb, ltb-false}
+use Rattle.std.proofs.lemmas.Bool.{ltb-true}
 use Rattle.std.proofs.lemmas.Option.{none-some, same_Some}
 use Rattle.st_core.specs.declared.types.Pid.{Pid}
 use Rattle.st_core.specs.declared.types.Event.{Event}
@@ -21,8 +18,7 @@ use Rattle.st_pair.proofs.ForCallers.{event_none, given_at}
 use Rattle.st_order.specs.Items.{is_hidden}
 use Rattle.st_closed_world.specs.Reasons.{HoldsAt}
 use Rattle.st_open_world.specs.OpenReasons.{IsLeastPlace, IsUnfounded}
-use Rattle.st_needs.specs.Unfounded.{has_receive, is_known_below, is_unfounded, lower_count, lowest_count}
-use Rattle.st_needs.specs.Unfounded.{lowest_from}
+use Rattle.st_needs.specs.Unfounded.{has_receive, is_known_below, is_unfounded, lower_count, lowest_count, lowest_from}
 use Rattle.st_needs.specs.Unfounded.{lowest_in, lowest_with, tells_of}
 
 -- A LOWER COUNT IS TOLD

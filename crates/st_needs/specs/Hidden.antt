@@ -1,7 +1,6 @@
 -- For the parts alone: the sends of a process whose messages were received and which nobody
 -- reported, as their receives are, and those whose counts rise.
-use Rattle.std.specs.Prelude.{ℕ, suc, ◌&&◌, nat_lt, List, [], ◌∷◌, ◌++◌, Option}
-use Rattle.std.specs.Prelude.{Some, None, if◌then◌else◌}
+use Rattle.std.specs.Prelude.{ℕ, suc, ◌&&◌, nat_lt, List, [], ◌∷◌, ◌++◌, Option, Some, None, if◌then◌else◌}
 use Rattle.st_core.specs.declared.types.Pid.{Pid}
 use Rattle.st_core.specs.declared.types.Event.{Event}
 use Rattle.st_core.specs.Pid.{pid_eq}

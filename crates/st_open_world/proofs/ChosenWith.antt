@@ -2,9 +2,8 @@
 -- enough senders for the needs at these places, acts show the streams with these processes: the
 -- places stay as they are, and the streams with all their sends and with these processes have none
 -- of the reasons that decide.
-use Rattle.std.proofs.Common.{◌≡◌, ℕ, ◌≤◌, ◌||◌, ◌++◌, Bool, true, false, cond, List, [], ◌∷◌, take}
-use Rattle.std.proofs.Common.{if◌then◌else◌, sum_by, refl, sym, ◌∙◌, ap, subst, arith}
-use Rattle.std.proofs.Common.{zero, suc, length, ◌+◌}
+use Rattle.std.proofs.Common.{◌≡◌, ℕ, ◌≤◌, ◌||◌, ◌++◌, Bool, true, false, cond, List, [], ◌∷◌, take, if◌then◌else◌}
+use Rattle.std.proofs.Common.{sum_by, refl, sym, ◌∙◌, ap, subst, arith, zero, suc, length, ◌+◌}
 use Rattle.std.specs.Ordering.{is_lt}
 use Rattle.std.specs.List.{count_by}
 use Rattle.std.proofs.lemmas.Bool.{false≢true}
@@ -17,19 +16,16 @@ use Rattle.st_closed_world.specs.Completed.{IsShownInOneTrace}
 use Rattle.st_closed_world.specs.Local.{IsNeedless}
 use Rattle.st_closed_world.specs.Needs.{is_late, is_rootless}
 use Rattle.st_closed_world.specs.Reasons.{HasEachSend, HasNoReason}
-use Rattle.st_closed_world.specs.Supply.{excess, is_free, is_own_supply, IsSupplied, needs}
-use Rattle.st_closed_world.specs.Supply.{needs_from}
+use Rattle.st_closed_world.specs.Supply.{excess, is_free, is_own_supply, IsSupplied, needs, needs_from}
 use Rattle.st_core.proofs.ForCallers.{lists_among}
 use Rattle.st_closed_world.proofs.ForCallers.{completed_again, decided, needless_shown}
 use Rattle.st_closed_world.proofs.ForCallers.{same_pids, sum_low, unlisted_events}
 use Rattle.st_open_world.specs.OpenReasons.{asked, HasPlaces, offered}
-use Rattle.st_open_world.specs.Silent.{inserted, silent, with_silent}
+use Rattle.st_open_world.specs.Silent.{inserted, silent, with_silent, IsShownWithSoMany}
 use Rattle.st_open_world.specs.SilentWholes.{silent_whole, whole_inserted, whole_with}
 use Rattle.st_open_world.proofs.SilentStreams.{silent_lists, silent_sound, sum_inserted}
-use Rattle.st_open_world.specs.Silent.{IsShownWithSoMany}
 use Rattle.st_open_world.proofs.EnoughSilent.{enough, free_unlisted, fresh, fresh_unlisted}
-use Rattle.st_open_world.proofs.SameReasons.{free_as, here, is_hidden_as, own_as, refusal_as, silent_same}
-use Rattle.st_open_world.proofs.SameReasons.{TellSame}
+use Rattle.st_open_world.proofs.SameReasons.{free_as, here, is_hidden_as, own_as, refusal_as, silent_same, TellSame}
 
 -- WHOLE STREAMS WITH A SILENT PROCESS
 

@@ -1,10 +1,9 @@
 -- If no reason holds of streams, their hidden sends can be at the earliest places: no stamp is late
 -- there, and none needs 0. And as many processes that report nothing as there are events are
 -- enough: each of them is free to send every count, and no event needs more than one message.
-use Rattle.std.proofs.Common.{◌≡◌, ℕ, ◌+◌, ◌≤◌, ◌==◌, ◌++◌, ◌||◌, zero, suc, Bool, true, false}
-use Rattle.std.proofs.Common.{List, [], ◌∷◌, map, take, length, slice_get, Some, if◌then◌else◌}
-use Rattle.std.proofs.Common.{sum_by, append-nil, append_assoc, refl, sym, ◌∙◌, ap, subst, arith}
-use Rattle.std.proofs.Common.{cond, ◌<◌}
+use Rattle.std.proofs.Common.{◌≡◌, ℕ, ◌+◌, ◌≤◌, ◌==◌, ◌++◌, ◌||◌, zero, suc, Bool, true, false, List, [], ◌∷◌, map}
+use Rattle.std.proofs.Common.{take, length, slice_get, Some, if◌then◌else◌, sum_by, append-nil, append_assoc, refl, sym}
+use Rattle.std.proofs.Common.{◌∙◌, ap, subst, arith, cond, ◌<◌}
 use Rattle.std.specs.List.{AllByRecursion}
 use Rattle.std.proofs.lemmas.Bool.{and_from, and_parts, eq-eqb, eqb-true}
 use Rattle.std.proofs.lemmas.List.{length-map}
@@ -23,9 +22,8 @@ use Rattle.st_closed_world.specs.Needs.{HoldsOfNone, is_need, is_rootless, marke
 use Rattle.st_closed_world.specs.Placed.{earliest_of, earliest_wholes, IsPlacing, IsTimelyChoice}
 use Rattle.st_closed_world.specs.Reasons.{HasEachSend, HasNoReason}
 use Rattle.st_closed_world.specs.Supply.{excess, is_free, needs_from}
-use Rattle.st_closed_world.proofs.ForCallers.{earliest_placing, earliest_zero, events_all}
-use Rattle.st_closed_world.proofs.ForCallers.{events_told, mark_at, placed_there}
-use Rattle.st_closed_world.proofs.ForCallers.{placed_together, same_pids, sum_low, told_somewhere}
+use Rattle.st_closed_world.proofs.ForCallers.{earliest_placing, earliest_zero, events_all, events_told, mark_at}
+use Rattle.st_closed_world.proofs.ForCallers.{placed_there, placed_together, same_pids, sum_low, told_somewhere}
 use Rattle.st_closed_world.proofs.ForCallers.{unlisted_events, untold_mark, untold_within}
 use Rattle.st_open_world.specs.OpenReasons.{asked, HasNoOpenReason, HasPlaces, offered}
 use Rattle.st_open_world.specs.Silent.{inserted, with_silent}

@@ -4,7 +4,7 @@ use Rattle.std.proofs.Common.{◌≡◌, ◌↔◌, ℕ, List, Some, None, refl,
 use Rattle.std.proofs.lemmas.Bool.{false≢true, ltb-true}
 use Rattle.std.proofs.lemmas.Option.{none-some}
 use Rattle.st_core.specs.declared.types.Pid.{Pid}
-use Rattle.st_core.specs.Run.{Stream}
+use Rattle.st_core.specs.Run.{Stream, Shows}
 use Rattle.st_core.specs.Streams.{total_of, IsStreams}
 use Rattle.st_pair.specs.Pairing.{refusal}
 use Rattle.st_pair.proofs.ForCallers.{refused_never_shown}
@@ -16,7 +16,6 @@ use Rattle.st_open_world.specs.OpenReasons.{HasNoOpenReason, Late, OpenReason, R
 use Rattle.st_open_world.specs.OpenReasons.{TooHigh, Unfounded}
 use Rattle.st_core.specs.declared.types.Act.{Act}
 use Rattle.st_core.specs.Laws.{NoReset}
-use Rattle.st_core.specs.Run.{Shows}
 use Rattle.st_open_world.specs.Silent.{IsShownWithOthers, with_silent}
 use Rattle.st_open_world.proofs.SilentStreams.{silent_sound}
 use Rattle.st_open_world.proofs.SameReasons.{none_as, reason_as, silent_same, tell_back}

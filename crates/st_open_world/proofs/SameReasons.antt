@@ -1,9 +1,8 @@
 -- Streams with the same events of each process, and more processes without events: whatever is
 -- asked of events, of what is received and of what is stamped has the same answer. So pairing, late
 -- stamps and supplies are the same.
-use Rattle.std.proofs.Common.{◌≡◌, inl, inr, ℕ, zero, ◌==◌, ◌&&◌, ◌||◌, nat_lt, Bool, true, false}
-use Rattle.std.proofs.Common.{not, cond, List, [], ◌∷◌, take, Option, Some, None}
-use Rattle.std.proofs.Common.{is_none, slice_get, option_and_then, refl, sym, ◌∙◌, ap}
+use Rattle.std.proofs.Common.{◌≡◌, inl, inr, ℕ, zero, ◌==◌, ◌&&◌, ◌||◌, nat_lt, Bool, true, false, not, cond, List, []}
+use Rattle.std.proofs.Common.{◌∷◌, take, Option, Some, None, is_none, slice_get, option_and_then, refl, sym, ◌∙◌, ap}
 use Rattle.std.specs.Option.{option_map_or}
 use Rattle.st_core.specs.declared.types.Pid.{Pid}
 use Rattle.st_core.specs.declared.types.Event.{Event}
@@ -13,9 +12,8 @@ use Rattle.st_core.specs.Streams.{events_of, lists}
 use Rattle.st_pair.specs.declared.answer.PairFault.{PairFault}
 use Rattle.st_pair.specs.declared.answer.PairFault.TheVariants as fault
 use Rattle.st_pair.specs.Places.{event_at, first, first_from, is_stamp}
-use Rattle.st_pair.specs.Pairing.{agrees, first_rule, is_send, mismatch, not_rising}
-use Rattle.st_pair.specs.Pairing.{prev_not_before, receive_of, refusal, repeated, stamp_before}
-use Rattle.st_pair.specs.Pairing.{stamp_of, to_eq}
+use Rattle.st_pair.specs.Pairing.{agrees, first_rule, is_send, mismatch, not_rising, prev_not_before, receive_of}
+use Rattle.st_pair.specs.Pairing.{refusal, repeated, stamp_before, stamp_of, to_eq}
 use Rattle.st_pair.proofs.ForCallers.{got_rule, own_rule}
 use Rattle.st_order.specs.Items.{is_hidden}
 use Rattle.st_pair.specs.declared.answer.Source.{Source}

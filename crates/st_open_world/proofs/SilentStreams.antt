@@ -1,8 +1,7 @@
 -- A process without events, put in by its pid, leaves the streams of all others as they are, and
 -- streams stay streams.
-use Rattle.std.proofs.Common.{◌≡◌, ℕ, ◌||◌, Bool, true, false, not, cond, List, [], ◌∷◌}
-use Rattle.std.proofs.Common.{Option, Some, None, is_some, length, slice_get, suc, sum_by, refl}
-use Rattle.std.proofs.Common.{sym, ◌∙◌, ap, arith, ◌+◌}
+use Rattle.std.proofs.Common.{◌≡◌, ℕ, ◌||◌, Bool, true, false, not, cond, List, [], ◌∷◌, Option, Some, None, is_some}
+use Rattle.std.proofs.Common.{length, slice_get, suc, sum_by, refl, sym, ◌∙◌, ap, arith, ◌+◌}
 use Rattle.std.specs.Prelude.{position}
 use Rattle.std.specs.declared.cmp.Ordering.TheVariants.{Less, Equal, Greater}
 use Rattle.std.specs.Ordering.{is_lt, ordering_reverse}

@@ -1,12 +1,11 @@
 -- Streams with further processes that reported nothing.
-use Rattle.std.specs.Prelude.{List, [], ◌∷◌, if◌then◌else◌}
+use Rattle.std.specs.Prelude.{List, [], ◌∷◌, if◌then◌else◌, ◌≡◌, ℕ, length}
 use Rattle.std.specs.Ordering.{is_lt}
 use Rattle.st_core.specs.declared.types.Pid.{Pid}
 use Rattle.st_core.specs.Pid.{pid_cmp}
 use Rattle.st_core.specs.Run.{Stream}
 use Rattle.st_core.specs.Streams.{lists}
 use Rattle.st_closed_world.specs.Completed.{IsShownInOneTrace}
-use Rattle.std.specs.Prelude.{◌≡◌, ℕ, length}
 
 -- a process that reported nothing
 abbrev pub silent : Pid → Stream

@@ -13,8 +13,7 @@ use Rattle.st_order.specs.declared.item.Item.{Item}
 use Rattle.st_order.specs.declared.item.Item.TheVariants as item
 use Rattle.st_order.specs.Items.{is_hidden, items_at, items_from, items_among, items}
 use Rattle.st_order.proofs.Keys.{IsKeyed, same_key, one_item, items_keyed}
-use Rattle.st_order.proofs.Lists.{all_append, all_left, all_right, all_mapped, all_both, all_crossed}
-use Rattle.st_order.proofs.Lists.{distinct_append}
+use Rattle.st_order.proofs.Lists.{all_append, all_left, all_right, all_mapped, all_both, all_crossed, distinct_append}
 
 -- the place of an item
 abbrev reporter_of : Item → Pid

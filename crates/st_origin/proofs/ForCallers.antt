@@ -3,11 +3,9 @@
 -- definitions alone.
 
 -- ---- evidence
-pub use Rattle.st_origin.proofs.Truths.{told_true, told_true_if_reported, one_label_follows}
-pub use Rattle.st_origin.proofs.Truths.{sends_told}
+pub use Rattle.st_origin.proofs.Truths.{told_true, told_true_if_reported, one_label_follows, sends_told}
 -- ---- labels
 pub use Rattle.st_origin.proofs.Labels.{another_label_set}
 -- ---- rows
-pub use Rattle.st_origin.proofs.Rows.{IsReceivedBefore, received_is, last_of_row, row_between}
-pub use Rattle.st_origin.proofs.Rows.{row_start_within}
+pub use Rattle.st_origin.proofs.Rows.{IsReceivedBefore, received_is, last_of_row, row_between, row_start_within}
 pub use Rattle.st_origin.proofs.Rows.{IsRowBetween, received_at, row_passes, row_stops}

@@ -1,10 +1,8 @@
 -- What events tell of a stamp's origin is true, by the account of its process: the row goes back to
 -- the origin's act at least, and no further than a receive that was reported.
-use Rattle.std.proofs.Common.{◌≡◌, ◌≢◌, ℕ, ◌+◌, ◌<◌, ◌≤◌, ◌⊎◌, ◌==◌, zero, suc, Bool, true, false}
-use Rattle.std.proofs.Common.{cond, List, [], ◌∷◌}
-use Rattle.std.proofs.Common.{◌++◌, length, take, drop, Option, Some, None, option_and_then}
-use Rattle.std.proofs.Common.{option_to_list, inl}
-use Rattle.std.proofs.Common.{inr, refl, sym, ◌∙◌, ap, subst, arith, append_assoc}
+use Rattle.std.proofs.Common.{◌≡◌, ◌≢◌, ℕ, ◌+◌, ◌<◌, ◌≤◌, ◌⊎◌, ◌==◌, zero, suc, Bool, true, false, cond, List, [], ◌∷◌}
+use Rattle.std.proofs.Common.{◌++◌, length, take, drop, Option, Some, None, option_and_then, option_to_list, inl, inr}
+use Rattle.std.proofs.Common.{refl, sym, ◌∙◌, ap, subst, arith, append_assoc}
 use Rattle.std.specs.Prelude.{is_none, MatchOption}
 use Rattle.std.specs.List.{slice_get}
 use Rattle.std.proofs.lemmas.Bool.{eq-eqb, ne_eqb, false≢true}
@@ -26,19 +24,13 @@ use Rattle.st_origin.specs.declared.evidence.Evidence.{Evidence}
 use Rattle.st_origin.specs.declared.evidence.Evidence.TheVariants as what
 use Rattle.st_origin.specs.Origin.{Origin, Follows, Begins, given, given_by, given_to, origin}
 use Rattle.st_origin.specs.Origin.{ReportsReceives, state_before}
-use Rattle.st_origin.specs.Events.{has_above, receive_before, row_start, origin_evidence}
-use Rattle.st_origin.specs.Events.{origin_evidence_by}
-use Rattle.st_origin.specs.Truth.{BeginsAfter, FollowsEvent, FollowsUnreported, IsBeginning}
-use Rattle.st_origin.specs.Truth.{IsTrue, IsTrueIfReported}
+use Rattle.st_origin.specs.Events.{has_above, receive_before, row_start, origin_evidence, origin_evidence_by}
+use Rattle.st_origin.specs.Truth.{BeginsAfter, FollowsEvent, FollowsUnreported, IsBeginning, IsTrue, IsTrueIfReported}
 use Rattle.st_origin.specs.Truth.{IsUnreported, last_receive, NeverBeginsAgain}
-use Rattle.st_origin.proofs.Rows.{AreInRow, event_behind, front_not_above, IsRowBetween}
-use Rattle.st_origin.proofs.Rows.{last_earlier}
-use Rattle.st_origin.proofs.Rows.{last_is, last_passes}
-use Rattle.st_origin.proofs.Rows.{not_above, receive_is, received_at, received_earlier}
-use Rattle.st_origin.proofs.Rows.{row_behind, row_passes}
-use Rattle.st_origin.proofs.Rows.{row_start_within, row_stops}
-use Rattle.st_origin.proofs.Accounts.{Accounts, front, front_and_rest, OfBeginning, OfNothing}
-use Rattle.st_origin.proofs.Accounts.{OfReceive, reported}
+use Rattle.st_origin.proofs.Rows.{AreInRow, event_behind, front_not_above, IsRowBetween, last_earlier, last_is}
+use Rattle.st_origin.proofs.Rows.{last_passes, not_above, receive_is, received_at, received_earlier, row_behind}
+use Rattle.st_origin.proofs.Rows.{row_passes, row_start_within, row_stops}
+use Rattle.st_origin.proofs.Accounts.{Accounts, front, front_and_rest, OfBeginning, OfNothing, OfReceive, reported}
 use Rattle.st_origin.proofs.Accounts.{stamp_accounted}
 
 -- WHAT STANDS BETWEEN THE ORIGIN AND THE STAMP

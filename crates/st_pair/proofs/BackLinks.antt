@@ -15,9 +15,8 @@ use Rattle.st_pair.specs.declared.receives.Key.{Key}
 use Rattle.st_pair.specs.Links.{link_of, received_link, sent_link}
 use Rattle.st_pair.specs.Pairing.{not_rising, receive_of, repeated, stamp_of}
 use Rattle.st_pair.specs.Places.{event_at, first, first_from, is_stamp, or_else}
-use Rattle.st_pair.specs.Tables.{hidden_key, key_in, keys_in, hidden_keys, link_back}
-use Rattle.st_pair.specs.Tables.{receive_rule, sent_in, stamp_index}
-use Rattle.st_pair.specs.Tables.{key_eq, AreDistinctKeys, AreHiddenOnce, IsShown}
+use Rattle.st_pair.specs.Tables.{hidden_key, key_in, keys_in, hidden_keys, link_back, receive_rule, sent_in}
+use Rattle.st_pair.specs.Tables.{stamp_index, key_eq, AreDistinctKeys, AreHiddenOnce, IsShown}
 use Rattle.st_pair.proofs.Converse.{stamp_alone}
 use Rattle.st_pair.proofs.Firsts.{at_get_or, events_in, first_from-step, is_at}
 use Rattle.st_pair.proofs.HiddenOnce.{hidden_once}

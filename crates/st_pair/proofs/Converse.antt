@@ -1,7 +1,6 @@
 -- A receive's source is a send exactly if the send's receiver is that receive: the counts of a process's sends and
 -- prints rise, so one at most has the receive's, and no other receive has its sender and count.
-use Rattle.std.proofs.Common.{◌≡◌, ℕ, ◌+◌, ◌<◌, ◌≤◌, ◌==◌, ◌&&◌, ◌||◌, zero, suc, nat_lt, Bool, true, false, not}
-use Rattle.std.proofs.Common.{cond}
+use Rattle.std.proofs.Common.{◌≡◌, ℕ, ◌+◌, ◌<◌, ◌≤◌, ◌==◌, ◌&&◌, ◌||◌, zero, suc, nat_lt, Bool, true, false, not, cond}
 use Rattle.std.proofs.Common.{List, [], ◌∷◌, Option, Some, None, slice_get, option_and_then, inl, inr, refl, sym, ◌∙◌}
 use Rattle.std.proofs.Common.{ap, subst, arith, if◌then◌else◌}
 use Rattle.std.proofs.lemmas.Bool.{eqb-true, eq-eqb, ltb-true, and_parts, and_from, cases_lt}

@@ -1,9 +1,8 @@
 -- No run shows what a reason says of two events: a report's serial rises, and without a reset a process stamps no count
 -- twice, since each stamp lifts its clock to a count above all that the clock was before.
-use Rattle.std.proofs.Common.{◌≡◌, ◌≢◌, ℕ, ◌+◌, ◌<◌, ◌==◌, Bool, true, false, cond, List, [], ◌∷◌, length, take}
-use Rattle.std.proofs.Common.{get_or, Option, Some, None, option_and_then, All, AllPairs, inl, inr, refl, sym, ◌∙◌, ap}
-use Rattle.std.proofs.Common.{Result, Ok, Err, IfErr}
-use Rattle.std.proofs.Common.{subst, arith}
+use Rattle.std.proofs.Common.{◌≡◌, ◌≢◌, ℕ, ◌+◌, ◌<◌, ◌==◌, Bool, true, false, cond, List, [], ◌∷◌, length, take, get_or}
+use Rattle.std.proofs.Common.{Option, Some, None, option_and_then, All, AllPairs, inl, inr, refl, sym, ◌∙◌, ap, Result}
+use Rattle.std.proofs.Common.{Ok, Err, IfErr, subst, arith}
 use Rattle.std.specs.List.{slice_get, Contains}
 use Rattle.std.proofs.lemmas.Bool.{eq-eqb, and_from, false≢true, cases_order}
 use Rattle.std.proofs.lemmas.List.Elements.{All-head, All-tail, All-from_recursion}
@@ -25,8 +24,7 @@ use Rattle.st_core.proofs.ForCallers.{followed_sends_lift, lifted_once, lifted_l
 use Rattle.st_pair.specs.declared.answer.PairFault.{PairFault}
 use Rattle.st_pair.specs.declared.answer.PairFault.TheVariants as fault
 use Rattle.st_pair.specs.Places.{event_at, is_stamp, first}
-use Rattle.st_pair.specs.Pairing.{to_eq, agrees, prev_not_before, not_rising, repeated, mismatch, refusal}
-use Rattle.st_pair.specs.Pairing.{IsPairFault}
+use Rattle.st_pair.specs.Pairing.{to_eq, agrees, prev_not_before, not_rising, repeated, mismatch, refusal, IsPairFault}
 use Rattle.st_pair.specs.Final.{NeverShown, NeverShownInOneTrace, RulesOut}
 use Rattle.st_pair.proofs.AcceptedEvents.{Rule, got_rule}
 use Rattle.st_pair.proofs.Converse.{first_in, given_from, own_says, got_says}

@@ -6,16 +6,14 @@
 pub use Rattle.st_pair.proofs.AcceptedEvents.{Rule, IsPaired, paired, event_none, serial_rises, once_place}
 pub use Rattle.st_pair.proofs.AcceptedEvents.{from_none, got_rule, cond_none}
 pub use Rattle.st_pair.proofs.Converse.{stamp_counts_rise, stamp_once, source_from_receiver, receiver_from_source}
-pub use Rattle.st_pair.proofs.Stamps.{stamp_at}
-pub use Rattle.st_pair.proofs.Stamps.{receive_unstamped}
+pub use Rattle.st_pair.proofs.Stamps.{stamp_at, receive_unstamped}
 pub use Rattle.st_pair.proofs.FinalReasons.{stamp_not_received}
 pub use Rattle.st_pair.proofs.OwnStamps.{own_rule}
 -- ---- what `refusal streams ≡ Some f` says of all acts, and acts that show streams of pairing
 pub use Rattle.st_pair.proofs.FinalReasons.{refusal_rules_out, refused_never_shown}
 pub use Rattle.st_pair.proofs.FullyShown.{shown_accepted, send_shown}
 -- ---- what a rule gives first, in one stream and in all
-pub use Rattle.st_pair.proofs.Firsts.{or_none, or_assoc}
-pub use Rattle.st_pair.proofs.Firsts.{first_from-at, first_from-end, first-at, first-end, first-loop}
+pub use Rattle.st_pair.proofs.Firsts.{or_none, or_assoc, first_from-at, first_from-end, first-at, first-end, first-loop}
 pub use Rattle.st_pair.proofs.Converse.{IsGiven, given_from, given_at}
 pub use Rattle.st_pair.proofs.Leasts.{first_least}
 -- ---- streams and their pids

@@ -1,8 +1,7 @@
 -- If the keys of the receives of hidden sends differ, none of these receives repeats another: the first receive with
 -- its key is one of a hidden send too, and so has its place.
-use Rattle.std.proofs.Common.{◌≡◌, ℕ, ◌==◌, ◌&&◌, ◌||◌, ◌++◌, zero, suc, Bool, true, false, cond}
-use Rattle.std.proofs.Common.{List, [], ◌∷◌, None, Some, slice_get, option_and_then, option_map}
-use Rattle.std.proofs.Common.{if◌then◌else◌, refl, sym, ◌∙◌, ap, subst}
+use Rattle.std.proofs.Common.{◌≡◌, ℕ, ◌==◌, ◌&&◌, ◌||◌, ◌++◌, zero, suc, Bool, true, false, cond, List, [], ◌∷◌, None}
+use Rattle.std.proofs.Common.{Some, slice_get, option_and_then, option_map, if◌then◌else◌, refl, sym, ◌∙◌, ap, subst}
 use Rattle.std.specs.List.{AllByRecursion}
 use Rattle.std.proofs.lemmas.Bool.{eq-eqb, and_from}
 use Rattle.std.proofs.lemmas.Option.{same_Some, none-some}

@@ -11,17 +11,14 @@ use Rattle.st_core.specs.declared.types.Event.{Event}
 use Rattle.st_core.specs.Pid.{pid_eq, IsRising}
 use Rattle.st_core.specs.Run.{Stream, pids_of}
 use Rattle.st_core.specs.Streams.{events_of, stream_of}
-use Rattle.st_core.proofs.ForCallers.{above_apart, pid_eq-true, pid_eq-same}
+use Rattle.st_core.proofs.ForCallers.{above_apart, pid_eq-true, pid_eq-same, place_within}
 use Rattle.st_pair.specs.declared.answer.Source.{Source}
 use Rattle.st_pair.specs.declared.pairing.Link.{Link}
 use Rattle.st_pair.specs.Places.{event_at, is_stamp}
 use Rattle.st_pair.specs.Pairing.{receive_of, stamp_of, source_of, source_at, receiver_at, is_send}
-use Rattle.st_pair.specs.Links.{ProcessLinks, sent_link, received_link, link_of, links_in, pairing_of}
-use Rattle.st_pair.specs.Links.{IsPairing, link_rows}
-use Rattle.st_pair.specs.Links.{link_at}
-use Rattle.st_pair.specs.Links.{source_in, receiver_in}
+use Rattle.st_pair.specs.Links.{ProcessLinks, sent_link, received_link, link_of, links_in, pairing_of, IsPairing}
+use Rattle.st_pair.specs.Links.{link_rows, link_at, source_in, receiver_in}
 use Rattle.st_pair.proofs.Firsts.{is_at, at_get_or, events_in}
-use Rattle.st_core.proofs.ForCallers.{place_within}
 
 -- ROWS
 

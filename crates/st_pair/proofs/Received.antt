@@ -1,8 +1,7 @@
 -- The first receive of each key: a table that takes receives in their order, and keeps the first
 -- of each key, is told by a key that is there already that its message was received before.
-use Rattle.std.proofs.Common.{◌≡◌, ℕ, ◌+◌, ◌==◌, ◌&&◌, ◌||◌, ◌⊎◌, inl, inr, Bool, true, false}
-use Rattle.std.proofs.Common.{cond, List, length, get_or, drop, ◌<◌}
-use Rattle.std.proofs.Common.{Option, None, Some, slice_get, refl, sym, ◌∙◌, ap, subst}
+use Rattle.std.proofs.Common.{◌≡◌, ℕ, ◌+◌, ◌==◌, ◌&&◌, ◌||◌, ◌⊎◌, inl, inr, Bool, true, false, cond, List, length}
+use Rattle.std.proofs.Common.{get_or, drop, ◌<◌, Option, None, Some, slice_get, refl, sym, ◌∙◌, ap, subst}
 use Rattle.std.proofs.Common.{if◌then◌else◌, option_and_then, Result, Ok, Err, IfErr}
 use Rattle.std.proofs.lemmas.Bool.{eqb-true, eq-eqb, and_parts, and_from}
 use Rattle.st_core.specs.declared.types.Pid.{Pid}

@@ -1,9 +1,8 @@
 -- The sends and prints of a process as rows: the first with a count is the one that `stamp_of` finds, and since counts
 -- rise it is the only one, so that a search by halves finds it.
-use Rattle.std.proofs.Common.{◌≡◌, ℕ, ◌+◌, ◌<◌, ◌==◌, ◌&&◌, zero, suc, ltb, Bool, true, false, cond, List, []}
-use Rattle.std.proofs.Common.{◌∷◌, length, get_or, find, drop, ◌++◌, Option, None, Some}
-use Rattle.std.proofs.Common.{option_map, option_and_then, slice_get, refl}
-use Rattle.std.proofs.Common.{inl, inr, sym, ◌∙◌, ap, arith, append_assoc}
+use Rattle.std.proofs.Common.{◌≡◌, ℕ, ◌+◌, ◌<◌, ◌==◌, ◌&&◌, zero, suc, ltb, Bool, true, false, cond, List, [], ◌∷◌}
+use Rattle.std.proofs.Common.{length, get_or, find, drop, ◌++◌, Option, None, Some, option_map, option_and_then}
+use Rattle.std.proofs.Common.{slice_get, refl, inl, inr, sym, ◌∙◌, ap, arith, append_assoc}
 use Rattle.std.specs.List.{AllByRecursion}
 use Rattle.std.specs.List.Sorted.{IsNonDecreasingBy, IsPartitionPoint}
 use Rattle.std.proofs.lemmas.Bool.{eqb-true, eq-eqb, ltb-true, ltb-false, cases_lt}

@@ -1,8 +1,7 @@
 -- What a full run says of its streams: pairing accepts them, each stamp goes on from the events
 -- before it, no send is hidden, and each count is one that a clock has had.
-use Rattle.std.proofs.Common.{◌≡◌, ℕ, ◌+◌, ◌≤◌, ◌==◌, ◌&&◌, Bool, true, false, cond, if◌then◌else◌}
-use Rattle.std.proofs.Common.{List, [], ◌∷◌, take, Option, Some, None, slice_get, option_and_then}
-use Rattle.std.proofs.Common.{refl, sym, ◌∙◌, ap, subst, arith}
+use Rattle.std.proofs.Common.{◌≡◌, ℕ, ◌+◌, ◌≤◌, ◌==◌, ◌&&◌, Bool, true, false, cond, if◌then◌else◌, List, [], ◌∷◌, take}
+use Rattle.std.proofs.Common.{Option, Some, None, slice_get, option_and_then, refl, sym, ◌∙◌, ap, subst, arith}
 use Rattle.std.specs.List.{All}
 use Rattle.std.proofs.lemmas.Bool.{eqb-true, false≢true, and_parts}
 use Rattle.std.proofs.lemmas.List.Elements.{All-head, All-tail}
@@ -15,16 +14,14 @@ use Rattle.st_core.specs.State.{State, process, zero_state}
 use Rattle.st_core.specs.Step.{Outcome}
 use Rattle.st_core.specs.Run.{Stream, Shows, pids_of, stream}
 use Rattle.st_core.specs.Streams.{events_of, stream_of}
-use Rattle.st_core.specs.Laws.{clock_in, GoesOnFrom, IsSound, KeepsSound, NoReset}
-use Rattle.st_core.specs.Laws.{ReportsEverything}
+use Rattle.st_core.specs.Laws.{clock_in, GoesOnFrom, IsSound, KeepsSound, NoReset, ReportsEverything}
 use Rattle.st_core.proofs.ForCallers.{All_at, event_reported, pid_eq-true, process_holds}
 use Rattle.st_core.proofs.ForCallers.{reported_stamps_lift, run_sound, tell_counts}
 use Rattle.st_pair.specs.declared.answer.Source.{Source}
 use Rattle.st_pair.specs.declared.answer.Source.TheVariants as source
 use Rattle.st_pair.specs.Places.{event_at, is_stamp}
 use Rattle.st_pair.specs.Pairing.{source_of, stamp_of}
-use Rattle.st_pair.proofs.ForCallers.{events_in, given_from, own_rule, send_shown, shown_accepted}
-use Rattle.st_pair.proofs.ForCallers.{stamp_not_received}
+use Rattle.st_pair.proofs.ForCallers.{events_in, given_from, own_rule, send_shown, shown_accepted, stamp_not_received}
 use Rattle.st_order.specs.Items.{is_hidden}
 use Rattle.st_plan.specs.Full.{IsFull}
 

@@ -19,8 +19,7 @@ use Rattle.st_order.specs.Order.{key_by, key, comes_before, KeysRise}
 use Rattle.st_order.proofs.ForCallers.{comes_before_is}
 use Rattle.st_plan.specs.Marks.{Marks}
 use Rattle.st_plan.specs.Moves.{Move, move_by, moves, is_taking, clock}
-use Rattle.st_plan.proofs.EarlierMoves.{event_is, key_below, one_move, there_event, IsAt}
-use Rattle.st_plan.proofs.EarlierMoves.{IsKeyBelow, IsThere}
+use Rattle.st_plan.proofs.EarlierMoves.{event_is, key_below, one_move, there_event, IsAt, IsKeyBelow, IsThere}
 use Rattle.st_plan.proofs.FreeMoves.{AllAlong, IsInTurn}
 use Rattle.st_plan.proofs.Receives.{IsWaiting}
 use Rattle.st_plan.proofs.RisingStamps.{IsTop}

@@ -24,8 +24,7 @@ use Rattle.st_plan.specs.Reasons.{most_skipped, most_skipped_in_all, too_wide, u
 use Rattle.st_plan.specs.Plain.{IsPlain, out_of_turn, event_count}
 use Rattle.st_plan.specs.Full.{IsFull}
 use Rattle.st_plan.proofs.FullRuns.{run_full}
-use Rattle.st_plan.proofs.Turns.{After, after, event_move, event_move_there, is_move_of, move_back}
-use Rattle.st_plan.proofs.Turns.{own_step, turned}
+use Rattle.st_plan.proofs.Turns.{After, after, event_move, event_move_there, is_move_of, move_back, own_step, turned}
 
 -- HEIGHTS
 

@@ -27,9 +27,8 @@ use Rattle.st_plan.specs.Marks.{Marks}
 use Rattle.st_plan.specs.Moves.{Move, is_taking, clock, last, move_by}
 use Rattle.st_plan.specs.Build.{act_of}
 use Rattle.st_plan.proofs.OwnActs.{changed_own}
-use Rattle.st_plan.proofs.KeptState.{queue_of, IsSo, IsKept, is_told, told_event, Continues, found}
-use Rattle.st_plan.proofs.KeptState.{apart_from, step_keeps}
-use Rattle.st_plan.proofs.KeptState.{other_clock, other_last, taken_queue, told_last}
+use Rattle.st_plan.proofs.KeptState.{queue_of, IsSo, IsKept, is_told, told_event, Continues, found, apart_from}
+use Rattle.st_plan.proofs.KeptState.{step_keeps, other_clock, other_last, taken_queue, told_last}
 
 pick_place : (n k : ℕ) (queue : List Message) (x : Message) → slice_get queue k ≡ Some x
     → pick_from n (want.Place (n + k)) queue ≡ Some (n + k, x)

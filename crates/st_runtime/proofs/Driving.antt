@@ -1,8 +1,7 @@
 -- A record of joined pieces is that of driven scripts: the seats hold the scripts, and each seat's calls are in the
 -- run in their order. A worker's refusal is one of an act of its script.
-use Rattle.std.proofs.Common.{◌≡◌, ◌≢◌, ℕ, zero, suc, ◌<◌, ◌≤◌, Bool, true, false, cond, List, []}
-use Rattle.std.proofs.Common.{◌∷◌, ◌++◌}
-use Rattle.std.proofs.Common.{length, map, None, refl, sym, ◌∙◌, ap, subst, arith}
+use Rattle.std.proofs.Common.{◌≡◌, ◌≢◌, ℕ, zero, suc, ◌<◌, ◌≤◌, Bool, true, false, cond, List, [], ◌∷◌, ◌++◌, length}
+use Rattle.std.proofs.Common.{map, None, refl, sym, ◌∙◌, ap, subst, arith}
 use Rattle.std.specs.List.{AllZip, zip}
 use Rattle.std.specs.Prelude.{All, MatchOption, Some, take, slice_get}
 use Rattle.std.proofs.lemmas.List.Elements.{All-nil, All-cons}
@@ -20,9 +19,7 @@ use Rattle.st_runtime.specs.declared.fault.ActFault.{ActFault}
 use Rattle.st_runtime.specs.declared.fault.ActFault.TheVariants as fault
 use Rattle.st_runtime.specs.declared.join.record.Record.{Record}
 use Rattle.st_runtime.specs.declared.driver.worker.Ending.{Ending}
-use Rattle.st_runtime.specs.Driven.{acts_by, acts_in, stamps_in, IsDriven, IsOwn, IsRefused}
-use Rattle.st_runtime.specs.Driven.{IsPossible}
-use Rattle.st_runtime.specs.Driven.{IsWorkerFault}
+use Rattle.st_runtime.specs.Driven.{acts_by, acts_in, stamps_in, IsDriven, IsOwn, IsRefused, IsPossible, IsWorkerFault}
 use Rattle.st_runtime.specs.Joined.{IsJoined}
 use Rattle.st_runtime.specs.Pieces.{Parts, pids_in, calls_of}
 use Rattle.st_runtime.specs.Seat.{Calls, no_calls}

@@ -1,7 +1,6 @@
 -- A pid that is found is among the pids, and one that is missing from a search isn't.
-use Rattle.std.proofs.Common.{◌≡◌, ℕ, true, false, List, length, get_or}
-use Rattle.std.proofs.Common.{refl, sym, ◌∙◌, ap, is_some, Option, Some, None, IfNone, IfSome}
-use Rattle.std.proofs.Common.{Result, Ok, Err}
+use Rattle.std.proofs.Common.{◌≡◌, ℕ, true, false, List, length, get_or, refl, sym, ◌∙◌, ap, is_some, Option, Some}
+use Rattle.std.proofs.Common.{None, IfNone, IfSome, Result, Ok, Err}
 use Rattle.std.specs.List.{AllByRecursion}
 use Rattle.std.specs.List.Sorted.{IsBinarySearchResult, IsSearchInRange}
 use Rattle.std.specs.Prelude.{not, slice_get}
@@ -10,8 +9,7 @@ use Rattle.std.proofs.lemmas.Option.{slice_get-get_or}
 use Rattle.st_core.specs.declared.types.Pid.{Pid}
 use Rattle.st_core.specs.Pid.{pid_cmp, pid_eq}
 use Rattle.st_core.specs.Streams.{is_among}
-use Rattle.st_core.proofs.ForCallers.{pid_cmp-Equal, pid_eq-refl, pid_eq-true, is_among-found}
-use Rattle.st_core.proofs.ForCallers.{is_among-missing}
+use Rattle.st_core.proofs.ForCallers.{pid_cmp-Equal, pid_eq-refl, pid_eq-true, is_among-found, is_among-missing}
 
 -- a place that was searched for
 pub place_tells : (ps : List Pid) (p : Pid) (o : Option ℕ)

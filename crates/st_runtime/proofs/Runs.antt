@@ -1,8 +1,6 @@
 -- Merged entries are a run.
-use Rattle.std.proofs.Common.{◌≡◌, ℕ, Bool, true, false, cond, List, [], ◌∷◌, ◌++◌, map, Option}
-use Rattle.std.proofs.Common.{Some, None}
-use Rattle.std.proofs.Common.{option_map, IsSome, ◌||◌, if◌then◌else◌, refl, sym, ◌∙◌, ap, subst}
-use Rattle.std.proofs.Common.{inl, inr, ⊎_elim}
+use Rattle.std.proofs.Common.{◌≡◌, ℕ, Bool, true, false, cond, List, [], ◌∷◌, ◌++◌, map, Option, Some, None, option_map}
+use Rattle.std.proofs.Common.{IsSome, ◌||◌, if◌then◌else◌, refl, sym, ◌∙◌, ap, subst, inl, inr, ⊎_elim}
 use Rattle.std.specs.Prelude.{filter, All, Contains, option_to_list}
 use Rattle.std.proofs.lemmas.Option.{same_Some}
 use Rattle.st_core.specs.declared.types.Pid.{Pid}
@@ -12,8 +10,7 @@ use Rattle.st_core.specs.State.{Process, State, process, zero_state}
 use Rattle.st_core.specs.Step.{Acted, Outcome, actor, receiver, touches, changed, outcome_of}
 use Rattle.st_core.specs.Run.{Stream, run, run_from, stream, pids_of}
 use Rattle.st_core.specs.Streams.{is_among}
-use Rattle.st_core.proofs.ForCallers.{pid_eq-true, some_of, step_done, run_from-more}
-use Rattle.st_core.proofs.ForCallers.{changed_pid, changed_untouched}
+use Rattle.st_core.proofs.ForCallers.{pid_eq-true, some_of, step_done, run_from-more, changed_pid, changed_untouched}
 use Rattle.st_core.proofs.ForCallers.{process_pid, process-map, mapped}
 use Rattle.st_log.specs.declared.entry.Entry.{Entry}
 use Rattle.st_runtime.specs.Logs.{IsPart, LeadTo, zero_process}
@@ -22,10 +19,8 @@ use Rattle.st_runtime.specs.Pieces.{pids_in, HasIfTouched, IsWholeEntry, AreWhol
 use Rattle.st_runtime.specs.Joined.{reports_of, streams_of, IsMerged, IsOneRun}
 use Rattle.st_runtime.proofs.PartLemmas.{touches_actor, part_pid}
 use Rattle.st_runtime.proofs.Legal.{own_of_part, IsDone, part_changed, untouched_other}
-use Rattle.st_runtime.proofs.Members.{In, In-Contains, Contains-In, All-In, In-All, In-filter}
-use Rattle.st_runtime.proofs.Members.{In-to_filter}
-use Rattle.st_runtime.proofs.Members.{IsOrdered-from_pairs, IsOrdered-filter}
-use Rattle.st_runtime.proofs.Members.{IsOrdered-from_rises, same_list}
+use Rattle.st_runtime.proofs.Members.{In, In-Contains, Contains-In, All-In, In-All, In-filter, In-to_filter}
+use Rattle.st_runtime.proofs.Members.{IsOrdered-from_pairs, IsOrdered-filter, IsOrdered-from_rises, same_list}
 
 abbrev pub touching : Pid → Entry → Bool
 touching p e = touches e.act p

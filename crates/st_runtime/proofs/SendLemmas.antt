@@ -1,6 +1,5 @@
 -- A send's entry is legal for both: its sender by its own part, its receiver since the carried token was stamped.
-use Rattle.std.proofs.Common.{◌≡◌, ℕ, false, ◌++◌, List, [], ◌∷◌, length, set, Option, refl, sym, ◌∙◌, ap}
-use Rattle.std.proofs.Common.{subst, arith}
+use Rattle.std.proofs.Common.{◌≡◌, ℕ, false, ◌++◌, List, [], ◌∷◌, length, set, Option, refl, sym, ◌∙◌, ap, subst, arith}
 use Rattle.std.specs.Option.{ForSome}
 use Rattle.std.proofs.lemmas.List.{get_or-set_same, length-set}
 use Rattle.st_core.specs.declared.types.Pid.{Pid}

@@ -1,8 +1,7 @@
 -- An act that isn't one of a whole node touches its actor and a send's receiver alone; and pids that rise tell
 -- processes apart.
-use Rattle.std.proofs.Common.{◌≡◌, cond, ℕ, ◌<◌, Bool, true, false, ◌||◌, List, [], ◌∷◌, length}
-use Rattle.std.proofs.Common.{get_or}
-use Rattle.std.proofs.Common.{Some, refl, sym, ◌∙◌, ap, subst, inl, inr, ⊎_elim, ◌⊎◌}
+use Rattle.std.proofs.Common.{◌≡◌, cond, ℕ, ◌<◌, Bool, true, false, ◌||◌, List, [], ◌∷◌, length, get_or, Some, refl}
+use Rattle.std.proofs.Common.{sym, ◌∙◌, ap, subst, inl, inr, ⊎_elim, ◌⊎◌}
 use Rattle.std.specs.Prelude.{All, Contains, slice_get}
 use Rattle.st_core.specs.declared.types.Pid.{Pid}
 use Rattle.st_core.specs.declared.types.Act.{Act}

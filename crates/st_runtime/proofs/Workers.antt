@@ -1,8 +1,6 @@
 -- What became of each job is what its worker's promise says.
-use Rattle.std.proofs.Common.{◌≡◌, ℕ, suc, ◌<◌, List, [], ◌∷◌, length, map, get_or, take, reverse}
-use Rattle.std.proofs.Common.{refl, ap, subst}
-use Rattle.std.proofs.Common.{arith, ◌++◌, ◌≢◌, ◌↔◌, ◌∙◌, sym, Bool, true, false, Result, Ok, Err}
-use Rattle.std.proofs.Common.{Option, Some, IfOk}
+use Rattle.std.proofs.Common.{◌≡◌, ℕ, suc, ◌<◌, List, [], ◌∷◌, length, map, get_or, take, reverse, refl, ap, subst}
+use Rattle.std.proofs.Common.{arith, ◌++◌, ◌≢◌, ◌↔◌, ◌∙◌, sym, Bool, true, false, Result, Ok, Err, Option, Some, IfOk}
 use Rattle.std.specs.Prelude.{All, slice_get}
 use Rattle.std.specs.List.{AllZip, zip}
 use Rattle.std.proofs.lemmas.List.{append_assoc, reverse-append}

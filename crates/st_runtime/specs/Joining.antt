@@ -15,10 +15,9 @@ use Rattle.st_core.specs.Streams.{is_among}
 use Rattle.st_log.specs.declared.entry.Entry.{Entry}
 use Rattle.st_runtime.specs.declared.join.record.Record.{Record}
 use Rattle.st_runtime.specs.Joined.{IsMerged, IsOneRun, streams_of}
-use Rattle.st_log.specs.Entries.{Logged, is_wide}
+use Rattle.st_log.specs.Entries.{Logged, is_wide, entry_at}
 use Rattle.st_runtime.specs.Pcb.{Control}
 use Rattle.st_runtime.specs.Pieces.{pids_in, Parts, IsSeated, IsWholeEntry}
-use Rattle.st_log.specs.Entries.{entry_at}
 
 -- the process of this pid is there and has the entry
 pub record HasAt (xs : List Control) (p : Pid) (e : Entry) : Type 0 where

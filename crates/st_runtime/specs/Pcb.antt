@@ -1,6 +1,5 @@
 -- What contracts see of a process under its lock, and what the calls on lent ones do.
-use Rattle.std.specs.Prelude.{◌≡◌, ◌≢◌, ℕ, ◌+◌, ◌≤◌, Bool, true, false, List, [], ◌∷◌, ◌++◌, map}
-use Rattle.std.specs.Prelude.{max, Option, Some}
+use Rattle.std.specs.Prelude.{◌≡◌, ◌≢◌, ℕ, ◌+◌, ◌≤◌, Bool, true, false, List, [], ◌∷◌, ◌++◌, map, max, Option, Some}
 use Rattle.st_core.specs.declared.types.Pid.{Pid}
 use Rattle.st_core.specs.declared.types.Act.{Act}
 use Rattle.st_core.specs.declared.types.Act.TheVariants as act

@@ -1,6 +1,5 @@
 -- What a worker thread is given, and what it leaves.
-use Rattle.std.specs.Prelude.{◌≡◌, ℕ, List, map, length, Option, Some, None, MatchOption, IfSome}
-use Rattle.std.specs.Prelude.{All, take, slice_get}
+use Rattle.std.specs.Prelude.{◌≡◌, ℕ, List, map, length, Option, Some, None, MatchOption, IfSome, All, take, slice_get}
 use Rattle.std.specs.List.{AllZip}
 use Rattle.st_core.specs.declared.types.Pid.{Pid}
 use Rattle.st_core.specs.declared.types.Act.{Act}

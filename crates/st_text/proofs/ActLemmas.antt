@@ -17,9 +17,8 @@ use Rattle.st_text.specs.Parsing.{parse_component, parse_both, parse_want, parse
 use Rattle.st_text.specs.Parsing.{parse_receive, parse_print, parse_printat, parse_set, parse_restore, parse_tracer}
 use Rattle.st_text.specs.Parsing.{parse_alone, parse_act}
 use Rattle.st_text.proofs.Numbers.{Stops}
-use Rattle.st_text.proofs.Fields.{Takes, Any, unread, begins_cases, word_next, field_next}
-use Rattle.st_text.proofs.Fields.{actor_next, made, none_left, five_parts, value_takes}
-use Rattle.st_text.proofs.Fields.{value_again, bool_takes, bool_again, pid_takes, pid_again}
+use Rattle.st_text.proofs.Fields.{Takes, Any, unread, begins_cases, word_next, field_next, actor_next, made, none_left}
+use Rattle.st_text.proofs.Fields.{five_parts, value_takes, value_again, bool_takes, bool_again, pid_takes, pid_again}
 use Rattle.st_text.proofs.Fields.{label_takes, label_again, actor_again, actor_then}
 
 component_takes : (bytes : List ℕ) (x : Component × List ℕ) → parse_component bytes ≡ Some x

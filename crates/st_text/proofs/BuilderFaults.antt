@@ -21,10 +21,8 @@ use Rattle.st_text.specs.Text.{is_away, is_remote}
 use Rattle.st_text.specs.Growth.{is_kept_line}
 use Rattle.st_text.specs.Parts.Builder.{IsBuilt, NeedsRoom}
 use Rattle.st_text.specs.Fault.{pids, last_of, last_passes, has_acts, may_follow, may_stand, is_out_of_order}
-use Rattle.st_text.specs.Fault.{is_foreign}
-use Rattle.st_text.specs.Fault.{is_one_too_many, line_fault}
-use Rattle.st_core.proofs.ForCallers.{or_false}
-use Rattle.st_core.proofs.ForCallers.{both_true}
+use Rattle.st_text.specs.Fault.{is_foreign, is_one_too_many, line_fault}
+use Rattle.st_core.proofs.ForCallers.{or_false, both_true}
 
 -- the fault by the tests in their order
 pub fault_by : ℕ → Bool → Bool → Bool → Bool → Option ReadFault

@@ -13,7 +13,8 @@ use Rattle.st_core.specs.declared.types.Act.{Act}
 use Rattle.st_core.specs.Pid.{pid_eq, IsBelow, IsRising}
 use Rattle.st_core.specs.Run.{Stream, pids_of}
 use Rattle.st_core.specs.Streams.{ComesLast, added, with_event}
-use Rattle.st_core.proofs.ForCallers.{IsRising-push, IsBelow-apart, pid_eq-same, all_at, with_event_pid}
+use Rattle.st_core.proofs.ForCallers.{IsRising-push, IsBelow-apart, pid_eq-same, all_at, with_event_pid, or_false}
+use Rattle.st_core.proofs.ForCallers.{or_true}
 use Rattle.st_text.specs.declared.line.Line.{Line}
 use Rattle.st_text.specs.declared.line.Line.TheVariants as lines
 use Rattle.st_text.specs.declared.builder.BundleBuilder.{BundleBuilder}
@@ -22,8 +23,6 @@ use Rattle.st_text.specs.Parts.Remote.{is_event_remote, is_act_remote}
 use Rattle.st_text.specs.Text.{is_away, is_remote, process_lines}
 use Rattle.st_text.specs.Parts.Builder.{so_far, IsBuilt}
 use Rattle.st_text.specs.Fault.{pids, pid_of, last_of, has_acts, is_acts, is_event, is_act, is_wide_header}
-use Rattle.st_core.proofs.ForCallers.{or_false}
-use Rattle.st_core.proofs.ForCallers.{or_true}
 
 get_end : {A : Type 0} (xs : List A) (x : A) → slice_get (xs ++ x ∷ []) (length xs) ≡ Some x
 get_end [] x = refl

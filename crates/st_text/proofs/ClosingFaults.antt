@@ -15,7 +15,7 @@ use Rattle.st_core.specs.Step.{actor, receiver}
 use Rattle.st_core.specs.Run.{Stream, pids_of}
 use Rattle.st_core.specs.Streams.{is_among, lists, events_of, names_listed, unlisted_among, unlisted}
 use Rattle.std.proofs.lemmas.List.Quantifiers.{position-Some}
-use Rattle.st_core.proofs.ForCallers.{pid_eq-same, pid_eq-true, IsBelow-apart}
+use Rattle.st_core.proofs.ForCallers.{pid_eq-same, pid_eq-true, IsBelow-apart, or_true}
 use Rattle.st_text.specs.declared.line.Line.{Line}
 use Rattle.st_text.specs.declared.line.Line.TheVariants as lines
 use Rattle.st_text.specs.declared.fault.ReadFault.{ReadFault}
@@ -28,7 +28,6 @@ use Rattle.st_text.specs.Parts.Builder.{IsBuilt}
 use Rattle.st_text.specs.Parts.Finish.{line_at_place, event_line_number}
 use Rattle.st_text.specs.Fault.{is_unknown, unknown_from, closing_fault}
 use Rattle.st_text.proofs.ListedPids.{own_events}
-use Rattle.st_core.proofs.ForCallers.{or_true}
 
 and_true : (b : Bool) → (b && true) ≡ b
 and_true true = refl

@@ -17,8 +17,7 @@ use Rattle.st_text.specs.declared.step.Step.TheVariants.{Goes, Stops, Halts}
 use Rattle.st_text.specs.Parsing.{line_of}
 use Rattle.st_text.specs.Fault.{cut, sayings, first_fault, line_fault}
 use Rattle.st_text.specs.Parts.Builder.{IsBuilt, TakesLine}
-use Rattle.st_text.specs.Parts.Cutter.{IsStateAfter, TakesSaid, header_of}
-use Rattle.st_text.specs.Parts.Cutter.{HasNoNewline, IsTail}
+use Rattle.st_text.specs.Parts.Cutter.{IsStateAfter, TakesSaid, header_of, HasNoNewline, IsTail}
 use Rattle.st_text.specs.Growth.{EndsKept, EndsWithin, Grows, KeepsLine, EndsLine, LeavesBytes}
 use Rattle.st_text.specs.declared.cutter.Cutter.{Cutter}
 use Rattle.st_text.specs.Parts.CutterState.{HasTaken, HasTakenAs, Comes, AddsBytes, EndsOne}

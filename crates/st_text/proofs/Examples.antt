@@ -11,12 +11,10 @@ use Rattle.st_text.specs.declared.line.Line.TheVariants as lines
 use Rattle.st_text.specs.Limits.{standard}
 use Rattle.st_text.specs.Spelling.{line}
 use Rattle.st_text.specs.Text.{spelling}
-use Rattle.st_text.specs.Parsing.{line_of, parse_rare, parse_line, number, parse_bool}
-use Rattle.st_text.specs.Parsing.{parse_pid, parse_label, parse_serial, parse_kind}
-use Rattle.st_text.specs.Parsing.{parse_head, parse_some_pid, parse_place, parse_ends}
-use Rattle.st_text.specs.Parsing.{parse_event, parse_actor, parse_component, parse_both}
-use Rattle.st_text.specs.Parsing.{parse_want, parse_flags, parse_token, parse_send}
-use Rattle.st_text.specs.Parsing.{parse_receive, parse_print, parse_printat, parse_set}
+use Rattle.st_text.specs.Parsing.{line_of, parse_rare, parse_line, number, parse_bool, parse_pid, parse_label}
+use Rattle.st_text.specs.Parsing.{parse_serial, parse_kind, parse_head, parse_some_pid, parse_place, parse_ends}
+use Rattle.st_text.specs.Parsing.{parse_event, parse_actor, parse_component, parse_both, parse_want, parse_flags}
+use Rattle.st_text.specs.Parsing.{parse_token, parse_send, parse_receive, parse_print, parse_printat, parse_set}
 use Rattle.st_text.specs.Parsing.{parse_restore, parse_tracer, parse_alone, parse_act}
 use Rattle.st_text.specs.Fault.{fault_within, first_fault, line_fault, unknown_from}
 

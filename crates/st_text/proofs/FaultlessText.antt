@@ -19,20 +19,17 @@ use Rattle.st_core.specs.declared.types.Act.{Act}
 use Rattle.st_core.specs.Pid.{pid_eq, pid_cmp, IsBelow, IsRising}
 use Rattle.st_core.specs.Run.{Stream, pids_of}
 use Rattle.st_core.specs.Streams.{is_own, added, with_event, unlisted, AreOwn, IsDraft}
-use Rattle.st_core.proofs.ForCallers.{IsBelow-trans, IsRising-push, pid_eq-true}
+use Rattle.st_core.proofs.ForCallers.{IsBelow-trans, IsRising-push, pid_eq-true, right_of, own_push}
 use Rattle.st_text.specs.declared.line.Line.{Line}
 use Rattle.st_text.specs.declared.line.Line.TheVariants as lines
 use Rattle.st_text.specs.declared.fault.ReadFault.{ReadFault}
 use Rattle.st_text.specs.declared.fault.ReadFault.TheVariants as faults
 use Rattle.st_text.specs.Text.{Contents, process_lines, act_lines, acts_or_none, body, ended, spelling, is_listed}
-use Rattle.st_text.specs.Text.{is_remote}
-use Rattle.st_text.specs.Text.{unlisted_act}
+use Rattle.st_text.specs.Text.{is_remote, unlisted_act}
 use Rattle.st_text.specs.Parsing.{line_of}
 use Rattle.st_text.specs.Fault.{cut, sayings, said, pids, pid_of, last_of, last_passes, has_acts, is_event, is_act}
-use Rattle.st_text.specs.Fault.{is_acts}
-use Rattle.st_text.specs.Fault.{may_follow}
-use Rattle.st_text.specs.Fault.{line_fault, first_fault, first_of, truncated, needless, unknown_from, closing_fault}
-use Rattle.st_text.specs.Fault.{fault_within}
+use Rattle.st_text.specs.Fault.{is_acts, may_follow, line_fault, first_fault, first_of, truncated, needless}
+use Rattle.st_text.specs.Fault.{unknown_from, closing_fault, fault_within}
 use Rattle.st_text.specs.Parts.Builder.{so_far}
 use Rattle.st_text.specs.Answer.{Reads}
 use Rattle.st_text.proofs.Newlines.{spelled_by, said_back, none_of}
@@ -46,9 +43,7 @@ use Rattle.st_text.proofs.ListedPids.{own_events, none_unlisted}
 use Rattle.st_text.proofs.ClosingFaults.{place_of, place_or, streams_place, acts_place}
 use Rattle.st_text.proofs.CutterEnd.{all_of, all_events}
 use Rattle.st_text.proofs.GoodText.{process_pids, act_pids}
-use Rattle.st_core.proofs.ForCallers.{right_of}
 use Rattle.st_text.specs.declared.limits.Limits.{Limits}
-use Rattle.st_core.proofs.ForCallers.{own_push}
 
 -- the lines are a header and what these streams and acts spell
 pub record Gathered (ls : List Line) : Type 0 where

@@ -10,5 +10,4 @@ pub use Rattle.st_text.proofs.Newlines.{fault_too_large}
 pub use Rattle.st_text.proofs.Spellings.{front_some, line_some}
 -- ---- writing through a buffer
 pub use Rattle.st_text.proofs.Puts.{finishes, part_longer, goes_then, goes_buffer, goes_still, then_on, on_err}
-pub use Rattle.st_text.proofs.Puts.{part_then, room_then, no_room, on_images}
-pub use Rattle.st_text.proofs.Puts.{one_more, one_failed, all_done}
+pub use Rattle.st_text.proofs.Puts.{part_then, room_then, no_room, on_images, one_more, one_failed, all_done}

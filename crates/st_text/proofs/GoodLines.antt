@@ -19,10 +19,8 @@ use Rattle.st_core.specs.Run.{Stream}
 use Rattle.st_core.specs.Streams.{is_own}
 use Rattle.st_text.specs.Text.{is_remote, process_lines}
 use Rattle.st_text.specs.Fault.{first_fault, line_fault, fault_behind, may_stand, may_follow, has_acts, last_of}
-use Rattle.st_text.specs.Fault.{last_passes}
-use Rattle.st_text.specs.Fault.{pids, pid_of, is_wide_header, is_acts, is_out_of_order, is_foreign, is_one_too_many}
-use Rattle.st_text.specs.Fault.{is_event}
-use Rattle.st_text.specs.Fault.{is_act}
+use Rattle.st_text.specs.Fault.{last_passes, pids, pid_of, is_wide_header, is_acts, is_out_of_order, is_foreign}
+use Rattle.st_text.specs.Fault.{is_one_too_many, is_event, is_act}
 
 -- what good lines came to: wide, the pids, how many events and acts, whether acts have begun
 pub record Came (ls : List Line) (wide : Bool) (ps : List Pid) (events acts : ℕ) (begun : Bool) : Type 0 where

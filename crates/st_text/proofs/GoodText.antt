@@ -3,7 +3,7 @@
 use Rattle.std.proofs.Common.{◌≡◌, ℕ, ◌≤◌, Bool, true, false, not, ◌&&◌, ◌||◌, cond, eqb, List, [], ◌∷◌, ◌++◌, length}
 use Rattle.std.proofs.Common.{map, Option, Some, None, refl, sym, ap, subst, ◌∙◌, append_assoc, arith}
 use Rattle.std.specs.Prelude.{codes, decimal}
-use Rattle.std.specs.List.{list_any, flat_map, AllByRecursion}
+use Rattle.std.specs.List.{list_any, flat_map, AllByRecursion, list_all}
 use Rattle.std.specs.Str.Parse.{AllDigits}
 use Rattle.std.proofs.lemmas.Str.Parse.{digit_from_value}
 use Rattle.std.proofs.lemmas.Fmt.{decimal_is_IsNumeral}
@@ -24,19 +24,16 @@ use Rattle.st_text.specs.Spelling.{bool, pid, label, serial, kind, place, head, 
 use Rattle.st_text.specs.Spelling.{token, act, line}
 use Rattle.st_text.specs.Range.{FitsPid, FitsSerial, FitsPlace, FitsEvent, FitsComponent, FitsWant, FitsToken, FitsAct}
 use Rattle.st_text.specs.Range.{Fits, most_label, most_number}
-use Rattle.st_text.specs.Text.{Contents, process_lines, act_lines, is_remote, body, lines_of, ended, IsBundle}
-use Rattle.st_text.specs.Text.{IsWithin}
+use Rattle.st_text.specs.Text.{Contents, process_lines, act_lines, is_remote, body, lines_of, ended, IsBundle, IsWithin}
 use Rattle.st_text.specs.Parts.Cutter.{HasNoNewline}
 use Rattle.st_text.specs.Answer.{Reads}
 use Rattle.st_text.specs.Fault.{cut, onto_first, sayings, first_fault, pids, pid_of, is_wide_header, unknown_from}
-use Rattle.st_text.specs.Fault.{needless}
-use Rattle.st_text.specs.Fault.{closing_fault, fault_within}
+use Rattle.st_text.specs.Fault.{needless, closing_fault, fault_within}
 use Rattle.st_text.proofs.LineLemmas.{line_is}
 use Rattle.st_text.proofs.Newlines.{fault_at_end, truncated_none}
 use Rattle.st_text.proofs.CutterSteps.{first_is_header}
 use Rattle.st_text.proofs.ClosingFaults.{all_known}
 use Rattle.std.proofs.lemmas.List.Concat.{flat_map-append}
-use Rattle.std.specs.List.{list_all}
 use Rattle.st_core.specs.declared.types.Label.{Label}
 use Rattle.st_core.specs.declared.types.Flags.{Flags}
 use Rattle.st_core.specs.declared.types.Token.{Token}

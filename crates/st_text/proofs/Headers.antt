@@ -11,8 +11,7 @@ use Rattle.st_text.specs.Parsing.{line_of}
 use Rattle.st_text.specs.Range.{Fits}
 use Rattle.st_text.specs.Text.{is_remote, Contents, body, ended, spelling}
 use Rattle.st_text.specs.Fault.{cut, sayings, first_fault, line_fault, first_of, may_stand, may_follow, has_acts}
-use Rattle.st_text.specs.Fault.{last_of}
-use Rattle.st_text.specs.Fault.{pids, is_wide_header, closing_fault, unknown_from}
+use Rattle.st_text.specs.Fault.{last_of, pids, is_wide_header, closing_fault, unknown_from}
 use Rattle.st_text.proofs.Newlines.{none_of}
 use Rattle.st_text.proofs.LineLemmas.{line_takes}
 use Rattle.st_core.proofs.ForCallers.{not_true, right_of}

@@ -13,8 +13,7 @@ use Rattle.st_text.specs.Spelling.{act, line}
 use Rattle.st_text.specs.Range.{Fits}
 use Rattle.st_text.specs.Parsing.{on_some, parse_alone, parse_act, parse_rare, parse_line, line_of}
 use Rattle.st_text.proofs.Numbers.{Stops, chosen}
-use Rattle.st_text.proofs.Fields.{Takes, begins_cases, field_next, made, none_left, pid_takes}
-use Rattle.st_text.proofs.Fields.{pid_again}
+use Rattle.st_text.proofs.Fields.{Takes, begins_cases, field_next, made, none_left, pid_takes, pid_again}
 use Rattle.st_text.proofs.EventLemmas.{event_takes, event_again}
 use Rattle.st_text.proofs.ActLemmas.{act_takes, act_again}
 

@@ -13,8 +13,7 @@ use Rattle.st_text.specs.declared.line.Line.TheVariants as lines
 use Rattle.st_text.specs.declared.fault.ReadFault.{ReadFault}
 use Rattle.st_text.specs.declared.fault.ReadFault.TheVariants as faults
 use Rattle.st_text.specs.Range.{Fits}
-use Rattle.st_text.specs.Text.{Contents, process_lines, act_lines, body, lines_of, spelling, IsBundle, IsText}
-use Rattle.st_text.specs.Text.{IsWithin}
+use Rattle.st_text.specs.Text.{Contents, process_lines, act_lines, body, lines_of, spelling, IsBundle, IsText, IsWithin}
 use Rattle.st_text.specs.Contents.{contents}
 use Rattle.st_text.specs.Fault.{sayings, fault_within}
 use Rattle.st_text.specs.Answer.{Reads, IsReadResultOrMemory}

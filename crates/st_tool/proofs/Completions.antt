@@ -25,8 +25,7 @@ use Rattle.st_text.proofs.ForCallers.{finishes, front_some, line_some}
 use Rattle.st_chart.specs.Words.{place_words}
 use Rattle.st_chart.specs.Report.{event_line, place_line}
 use Rattle.st_tool.specs.Complete.{added_from, added_text, never_text}
-use Rattle.st_tool.specs.Lines.{added_at, added_line, added_of, added_parts, count_line, if_untold}
-use Rattle.st_tool.specs.Lines.{never_line}
+use Rattle.st_tool.specs.Lines.{added_at, added_line, added_of, added_parts, count_line, if_untold, never_line}
 use Rattle.st_tool.specs.Lines.{never_parts, never_words, other_line, unlisted_line, up_to}
 
 -- THE PARTS OF A TEXT

@@ -8,8 +8,7 @@ use Rattle.st_commands.proofs.ForCallers.{WasRead}
 use Rattle.st_tool.specs.Renumber.{IsRenumbered, Ranked, streams_output}
 use Rattle.st_tool.specs.declared.complete.Form.{Form}
 use Rattle.st_tool.specs.Complete.{IsOutputOfComplete, Answered}
-use Rattle.st_tool.specs.Parts.{CompletesTo, Finds, NoRoomToComplete}
-use Rattle.st_tool.specs.Parts.{RenumbersTo, Ranks, NoRoomToRenumber}
+use Rattle.st_tool.specs.Parts.{CompletesTo, Finds, NoRoomToComplete, RenumbersTo, Ranks, NoRoomToRenumber}
 
 module _ {R : Type 0} (reader : ReaderCall R) (c : Contents) (h : WasRead greater reader c) where
   -- ---- renumber

@@ -4,8 +4,7 @@ use Rattle.std.proofs.Common.{◌≡◌, ℕ, ◌≤◌, List, refl, arith}
 use Rattle.st_core.specs.Pid.{IsRising}
 use Rattle.st_core.specs.Run.{Stream, pids_of}
 use Rattle.st_closed_world.specs.Completed.{IsShownInOneTrace}
-use Rattle.st_closed_world.specs.Renumbering.{count_of_rank, counts_of, renumbered_streams}
-use Rattle.st_closed_world.specs.Renumbering.{with_counts, KeepsOrder}
+use Rattle.st_closed_world.specs.Renumbering.{count_of_rank, counts_of, renumbered_streams, with_counts, KeepsOrder}
 use Rattle.st_commands.specs.Output.{Output}
 use Rattle.st_commands.specs.Checked.{top}
 use Rattle.st_commands.proofs.ForCallers.{fault_status_high}

@@ -9,8 +9,7 @@ use Rattle.st_text.specs.Limits.{greater}
 use Rattle.st_text.specs.Spelling.{ended_line}
 use Rattle.st_text.specs.Text.{spelling}
 use Rattle.st_closed_world.specs.Completed.{IsShownInOneTrace}
-use Rattle.st_closed_world.specs.Renumbering.{count_of_rank, counts_of, renumbered_streams}
-use Rattle.st_closed_world.specs.Renumbering.{with_counts, KeepsOrder}
+use Rattle.st_closed_world.specs.Renumbering.{count_of_rank, counts_of, renumbered_streams, with_counts, KeepsOrder}
 use Rattle.st_commands.specs.Output.{Output, fault_words, refused}
 use Rattle.st_commands.specs.Checked.{top, Spells}
 

@@ -2,9 +2,8 @@
 -- node's. So a write of what an act leaves is the same write in the state, if the mark was put in first; and with its
 -- actor listed, each process is clean or listed after it.
 use Rattle.std.proofs.Common.{◌≡◌, ◌≢◌, ℕ, ◌<◌, ◌==◌, zero, suc, Bool, true, false, if◌then◌else◌, List, [], ◌∷◌}
-use Rattle.std.proofs.Common.{length, map, get_or, set, drop, replicate, slice_get, Some, None, inl, inr}
-use Rattle.std.proofs.Common.{position, refl}
-use Rattle.std.proofs.Common.{sym, ◌∙◌, ap, arith}
+use Rattle.std.proofs.Common.{length, map, get_or, set, drop, replicate, slice_get, Some, None, inl, inr, position}
+use Rattle.std.proofs.Common.{refl, sym, ◌∙◌, ap, arith}
 use Rattle.std.proofs.lemmas.Bool.{cases_eq}
 use Rattle.std.proofs.lemmas.List.{get_or_default, length-map, set-set}
 use Rattle.st_core.specs.declared.types.Pid.{Pid}

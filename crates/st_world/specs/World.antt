@@ -1,7 +1,6 @@
 -- What the public calls of a world return.
-use Rattle.std.specs.Prelude.{◌≡◌, ℕ, ◌<◌, ◌≤◌, true, ◌⊎◌, List, Option, Some, None}
-use Rattle.std.specs.Prelude.{Result, Err, IsSome, IfSome, IfOk, IfErr, OnErr, All, option_and_then}
-use Rattle.std.specs.Prelude.{position}
+use Rattle.std.specs.Prelude.{◌≡◌, ℕ, ◌<◌, ◌≤◌, true, ◌⊎◌, List, Option, Some, None, Result, Err, IsSome, IfSome, IfOk}
+use Rattle.std.specs.Prelude.{IfErr, OnErr, All, option_and_then, position}
 use Rattle.std.specs.Option.{ForSome}
 use Rattle.st_core.specs.declared.types.Pid.{Pid}
 use Rattle.st_core.specs.declared.types.Token.{Token}

@@ -1,14 +1,12 @@
 -- What a cutter knows of the bytes that it took, however they were cut into pieces.
-use Rattle.std.specs.Prelude.{◌≡◌, ℕ, ◌<◌, Bool, true, false, List, [], ◌∷◌, ◌++◌, length, map}
-use Rattle.std.specs.Prelude.{Option, Some, None, ◌⊎◌}
+use Rattle.std.specs.Prelude.{◌≡◌, ℕ, ◌<◌, Bool, true, false, List, [], ◌∷◌, ◌++◌, length, map, Option, Some, None, ◌⊎◌}
 use Rattle.st_text.specs.declared.line.Line.{Line}
 use Rattle.st_text.specs.declared.fault.ReadFault.{ReadFault}
 use Rattle.st_text.specs.declared.builder.BundleBuilder.{BundleBuilder}
 use Rattle.st_text.specs.declared.cutter.Cutter.{Cutter}
 use Rattle.st_text.specs.declared.limits.Limits.{Limits}
 use Rattle.st_text.specs.Fault.{cut, sayings, first_fault}
-use Rattle.st_text.specs.Parts.Cutter.{IsStateAfter}
-use Rattle.st_text.specs.Parts.Cutter.{IsTail}
+use Rattle.st_text.specs.Parts.Cutter.{IsStateAfter, IsTail}
 use Rattle.st_text.specs.Growth.{EndsKept, EndsWithin}
 
 -- each line so far is good

@@ -1,6 +1,5 @@
 -- The lemmas say it.
-use Rattle.st_closed_world.proofs.Renumbering.{late_as_before, late_at_place}
-use Rattle.st_closed_world.proofs.Renumbering.{rootless_as_before, rootless_at_place}
+use Rattle.st_closed_world.proofs.Renumbering.{late_as_before, late_at_place, rootless_as_before, rootless_at_place}
 use Rattle.st_closed_world.proofs.SamePairing.{refusal_same}
 use Rattle.st_closed_world.proofs.SameSupply.{supply_same}
 use Rattle.st_closed_world.proofs.laws.renumbering_keeps_reasons.Goals as goal

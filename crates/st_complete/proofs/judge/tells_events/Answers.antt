@@ -8,8 +8,7 @@ use Rattle.st_pair.proofs.ForCallers.{at_get_or, blank}
 use Rattle.st_needs.specs.Completions.{marked_with}
 use Rattle.st_needs.proofs.ForCallers.{told_end, told_more, untold_more}
 use Rattle.st_complete.proofs.judge.tells_events.Goals as goal
-use Rattle.st_complete.proofs.judge.tells_events.Goals.{then-is_marked+in-Some+else-not-is_same_event}
-use Rattle.st_complete.proofs.judge.tells_events.Goals.{else-is_marked}
+use Rattle.st_complete.proofs.judge.tells_events.Goals.{then-is_marked+in-Some+else-not-is_same_event, else-is_marked}
 
 pub loop-i-preserved : goal.loop-i-preserved
 loop-i-preserved c =

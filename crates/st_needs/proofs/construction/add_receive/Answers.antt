@@ -1,13 +1,11 @@
 -- No send is there, or its receive is put.
-use Rattle.std.proofs.Common.{◌≡◌, ◌++◌, length, take, drop, map, ◌∙◌, ap, subst, arith}
+use Rattle.std.proofs.Common.{◌≡◌, ◌++◌, length, take, drop, map, ◌∙◌, ap, subst, arith, find, []}
 use Rattle.st_plan.specs.Marks.{all_streams}
-use Rattle.st_closed_world.specs.Completion.{put, Supply, with_receive_of}
+use Rattle.st_closed_world.specs.Completion.{put, Supply, with_receive_of, count_of, place_of_need}
 use Rattle.st_needs.proofs.Constructed.{receive_lacks, receive_put, written_back}
 use Rattle.st_needs.proofs.Supplied.{has}
 use Rattle.st_needs.proofs.construction.add_receive.Goals as goal
 use Rattle.st_core.specs.Streams.{events_of}
-use Rattle.std.proofs.Common.{find, []}
-use Rattle.st_closed_world.specs.Completion.{count_of, place_of_need}
 
 pub returns-in_default : goal.returns-in_default
 returns-in_default c =

@@ -1,13 +1,11 @@
 -- The send is there, or it is put.
-use Rattle.std.proofs.Common.{◌≡◌, ◌++◌, length, take, drop, map, sym, ◌∙◌, ap, subst, arith}
+use Rattle.std.proofs.Common.{◌≡◌, ◌++◌, length, take, drop, map, sym, ◌∙◌, ap, subst, arith, find}
 use Rattle.st_plan.specs.Marks.{all_streams}
-use Rattle.st_closed_world.specs.Completion.{put, Supply, send_among, with_send_of}
+use Rattle.st_closed_world.specs.Completion.{put, Supply, send_among, with_send_of, count_of, place_below}
 use Rattle.st_needs.proofs.Constructed.{send_put, send_there, written_back}
 use Rattle.st_needs.proofs.Supplied.{has}
 use Rattle.st_needs.proofs.construction.add_send.Goals as goal
 use Rattle.st_core.specs.Streams.{events_of}
-use Rattle.std.proofs.Common.{find}
-use Rattle.st_closed_world.specs.Completion.{count_of, place_below}
 
 pub returns-then-is_some : goal.returns-then-is_some
 returns-then-is_some c =

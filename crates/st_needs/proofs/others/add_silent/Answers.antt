@@ -7,8 +7,7 @@ use Rattle.st_plan.specs.Marks.{Whole}
 use Rattle.st_needs.specs.Others.{AreSilent}
 use Rattle.st_needs.proofs.OthersAdded.{silent_more}
 use Rattle.st_needs.proofs.others.add_silent.Goals as goal
-use Rattle.st_needs.proofs.others.add_silent.Goals.{then-is_further+in_ok-insert_silent+in_ok-insert}
-use Rattle.st_needs.proofs.others.add_silent.Goals.{else-is_further}
+use Rattle.st_needs.proofs.others.add_silent.Goals.{then-is_further+in_ok-insert_silent+in_ok-insert, else-is_further}
 
 pub loop-back-init : goal.loop-back-init
 loop-back-init c =

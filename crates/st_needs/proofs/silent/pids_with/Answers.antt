@@ -1,14 +1,11 @@
 -- One pid more, listed or not, behind all that came.
-use Rattle.std.proofs.Common.{◌+◌, ◌++◌, [], ◌∷◌, length, get_or, slice_get}
-use Rattle.std.proofs.Common.{sym, ◌∙◌, ap, subst, arith}
+use Rattle.std.proofs.Common.{◌+◌, ◌++◌, [], ◌∷◌, length, get_or, slice_get, sym, ◌∙◌, ap, subst, arith}
 use Rattle.st_core.specs.declared.types.Pid.{Pid}
 use Rattle.st_core.specs.Run.{pids_of}
 use Rattle.st_pair.proofs.ForCallers.{at_get_or, is_at}
-use Rattle.st_needs.proofs.Merging.{all_merged, taken_within, ArePidsMerging}
-use Rattle.st_needs.proofs.Merging.{listed_pid_more, other_pid_more}
+use Rattle.st_needs.proofs.Merging.{all_merged, taken_within, ArePidsMerging, listed_pid_more, other_pid_more}
 use Rattle.st_needs.proofs.silent.pids_with.Goals as goal
-use Rattle.st_needs.proofs.silent.pids_with.Goals.{then-is_other_next+in_ok-push}
-use Rattle.st_needs.proofs.silent.pids_with.Goals.{else-is_other_next+in_ok-push-2}
+use Rattle.st_needs.proofs.silent.pids_with.Goals.{then-is_other_next+in_ok-push, else-is_other_next+in_ok-push-2}
 
 abbrev none : Pid
 none = record { node = 0; number = 0 }

@@ -1,7 +1,6 @@
 -- One process more, listed or not, behind all that came.
-use Rattle.std.proofs.Common.{◌≡◌, ◌+◌, ◌++◌, ℕ, List, length, get_or, slice_get, Some}
-use Rattle.std.proofs.Common.{refl, sym}
-use Rattle.std.proofs.Common.{◌∙◌, ap, subst, arith}
+use Rattle.std.proofs.Common.{◌≡◌, ◌+◌, ◌++◌, ℕ, List, length, get_or, slice_get, Some, refl, sym, ◌∙◌, ap, subst}
+use Rattle.std.proofs.Common.{arith}
 use Rattle.st_core.specs.declared.types.Pid.{Pid}
 use Rattle.st_core.specs.Run.{Stream}
 use Rattle.st_core.specs.Streams.{unlisted}
@@ -9,8 +8,7 @@ use Rattle.st_open_world.proofs.ForCallers.{silent_sound}
 use Rattle.st_needs.specs.Merged.{merged}
 use Rattle.st_needs.proofs.Counted.{stream_here}
 use Rattle.st_needs.proofs.Ranking.{own_events}
-use Rattle.st_needs.proofs.Merging.{all_merged, IsMerging, listed_last, listed_more, other_last}
-use Rattle.st_needs.proofs.Merging.{other_more}
+use Rattle.st_needs.proofs.Merging.{all_merged, IsMerging, listed_last, listed_more, other_last, other_more}
 use Rattle.st_needs.proofs.Merging.{taken_within}
 use Rattle.st_needs.proofs.silent.with_silent.Goals as goal
 use Rattle.st_needs.proofs.silent.with_silent.Goals.{then-is_other_next+in_ok-open_last}

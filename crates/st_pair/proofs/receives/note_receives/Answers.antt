@@ -7,8 +7,7 @@ use Rattle.st_pair.specs.declared.receives.Receives.{Receives}
 use Rattle.st_pair.specs.Tables.{here, key_in, place_for, receive_rule}
 use Rattle.std.proofs.lemmas.Grind.{common_steps}
 use Rattle.st_pair.proofs.Firsts.{at_get_or, first_from-end, first_from-given, first_from-passed}
-use Rattle.st_pair.proofs.Received.{first_fault, noted_more, own_place, repeated_at, stamp_unrepeated}
-use Rattle.st_pair.proofs.Received.{unnoted_passed}
+use Rattle.st_pair.proofs.Received.{first_fault, noted_more, own_place, repeated_at, stamp_unrepeated, unnoted_passed}
 use Rattle.st_pair.proofs.Stamps.{blank, receive_unstamped}
 use Rattle.st_pair.proofs.receives.note_receives.Goals.{in-Send, in-Receive+in-Ok+in_default-repetition_at}
 use Rattle.st_pair.proofs.receives.note_receives.Goals as goal

@@ -11,8 +11,7 @@ use Rattle.st_tool.specs.Complete.{Adds, Completes, HasFewProcesses, HasProcesse
 use Rattle.st_tool.specs.Complete.{added_text, long, text_of_status}
 use Rattle.st_tool.specs.Parts.{CompletesTo, Finds}
 use Rattle.st_tool.proofs.complete.tell_completion.Goals as goal
-use Rattle.st_tool.proofs.complete.tell_completion.Goals.{else-ne-via-else-ne}
-use Rattle.st_tool.proofs.complete.tell_completion.Goals.{else-ne-via-then-ne+else-is_long}
+use Rattle.st_tool.proofs.complete.tell_completion.Goals.{else-ne-via-else-ne, else-ne-via-then-ne+else-is_long}
 
 few_if : (n : ℕ) (long : Bool) → (greater.processes < n → IsTrue long) → long ≡ false
     → n ≤ greater.processes

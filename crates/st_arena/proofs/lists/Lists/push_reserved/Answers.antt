@@ -1,7 +1,6 @@
 -- What the chain of one list became, said of all lists.
 use Rattle.std.proofs.Common.{ap, arith}
-use Rattle.st_arena.proofs.ListLemmas.{last_there, push_sound, push_lists, push_chained}
-use Rattle.st_arena.proofs.ListLemmas.{push_ladder, push_ladders}
+use Rattle.st_arena.proofs.ListLemmas.{last_there, push_sound, push_lists, push_chained, push_ladder, push_ladders}
 use Rattle.st_arena.proofs.lists.Lists.push_reserved.Goals as goal
 
 pub append-ends-requires-clause-last : goal.append-ends-requires-clause-last

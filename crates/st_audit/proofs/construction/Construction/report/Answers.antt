@@ -8,8 +8,7 @@ use Rattle.st_pair.specs.Places.{is_stamp}
 use Rattle.st_order.specs.declared.item.Item.TheVariants as item
 use Rattle.st_plan.specs.Moves.{move_by}
 use Rattle.st_audit.specs.declared.construction.Halt.TheVariants as halt
-use Rattle.st_audit.specs.Progress.{if_told, is_below, report_turn, Meets, SaysNothing, TellsOne}
-use Rattle.st_audit.specs.Progress.{WentThrough}
+use Rattle.st_audit.specs.Progress.{if_told, is_below, report_turn, Meets, SaysNothing, TellsOne, WentThrough}
 use Rattle.st_audit.proofs.ToldCounts.{not_missing, place_below, tells_one}
 use Rattle.st_audit.proofs.MoveOutcomes.{err_meets, high_meets, late_meets, on_err, other_meets, through_meets}
 use Rattle.st_audit.proofs.construction.Construction.report.Goals as goal

@@ -2,8 +2,7 @@
 use Rattle.std.proofs.Common.{◌≡◌, ◌+◌, cond, None, Some, [], ◌∷◌, ◌++◌, Err, refl, sym, ◌∙◌, ap, subst}
 use Rattle.st_plan.specs.Build.{ready}
 use Rattle.st_audit.specs.Progress.{acts_turn, is_too_wide, stamp_turn, Meets, SaysNothing, TellsLast, TriesAct}
-use Rattle.st_audit.proofs.Attempts.{attempt_acts, done_by, from_same, halts_before, one_more, tries_in}
-use Rattle.st_audit.proofs.Attempts.{Performed}
+use Rattle.st_audit.proofs.Attempts.{attempt_acts, done_by, from_same, halts_before, one_more, tries_in, Performed}
 use Rattle.st_audit.proofs.MoveOutcomes.{on_err, stamp_skip_is, stamp_turn_is, within_bounds, within_count}
 use Rattle.st_audit.proofs.NextItem.{on_ok}
 use Rattle.st_audit.proofs.construction.Construction.stamp.Goals as goal

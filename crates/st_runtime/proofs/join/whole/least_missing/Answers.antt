@@ -1,6 +1,5 @@
 -- The first log with an entry that isn't whole has the least place, since the logs before it are whole.
-use Rattle.std.proofs.Common.{arith, ◌∙◌, ◌<◌, List, length, take, get_or, sym, ap, subst, Some}
-use Rattle.std.proofs.Common.{None}
+use Rattle.std.proofs.Common.{arith, ◌∙◌, ◌<◌, List, length, take, get_or, sym, ap, subst, Some, None}
 use Rattle.std.specs.Prelude.{All, slice_index_or}
 use Rattle.std.proofs.lemmas.List.Elements.{All-more}
 use Rattle.std.proofs.lemmas.Option.{slice_get-get_or}
