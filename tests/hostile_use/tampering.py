@@ -70,7 +70,7 @@ def texts():
 
 
 def answered(program, words, part, parts):
-    """What comes of each changed text; if `audit` says fits, what it wrote has to be a yes of `check`."""
+    """What the programs say of each changed text; if `audit` says fits, what it wrote has to be a yes of `check`."""
     for what, text in list(texts())[part::parts]:
         called = f"tampering: {' '.join(words)}: {what}"
         got = program.run(words, text)

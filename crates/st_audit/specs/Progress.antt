@@ -116,7 +116,7 @@ move_skip s m = if is_taking m then 0 else stamp_skip s m.who m.event
 abbrev pub is_below : State → Pid → Event → Bool
 is_below s p e = option_map_or (λ r. nat_lt r.local.clock e.serial.this) (process s p) true
 
--- WHAT COMES OF AN ITEM, BY THE STATE
+-- THE OUTCOME OF AN ITEM, BY THE STATE
 
 -- the outcome of acts of which no reason holds
 abbrev pub acts_turn : ℕ → State → List Act → Turn

@@ -32,7 +32,7 @@ stands : (p : Pid) (i : ℕ) (e : Event) (rest : List Event)
     → part_from p i (e ∷ rest) (key_of p e) ≡ i ∷ part_from p (i + 1) rest (key_of p e)
 stands p i e rest = rw (pid_eq-same p, eq-eqb e.label.0 e.label.0 refl) refl
 
--- under its own key it stands
+-- it is in the part of its own key
 pub part_same : (p : Pid) (i k : ℕ) (es : List Event) (e : Event) → slice_get es k ≡ Some e
     → part_from p i (drop k es) (key_of p e) ≡ i ∷ part_from p (i + 1) (drop (k + 1) es) (key_of p e)
 part_same p i k es e at =

@@ -1,5 +1,5 @@
--- Why the hidden sends of a process do at their earliest places. All stamps stand by rising count
--- then, so none is late if no reported one is. And a hidden send is right behind a stamp, or at the
+-- Why the hidden sends of a process do at their earliest places. All stamps are in the order of their
+-- counts then, so none is late if no reported one is. And a hidden send is right behind a stamp, or at the
 -- start: so what is right before a stamp with prev 0 is a stamp of a lower count or, if the stamp
 -- is reported, a receive. If neither a receive nor a stamp with another prev is before one with
 -- prev 0, 0 is left there, or nothing is before it.
@@ -324,7 +324,7 @@ module _ (Stamps : Event → Type 0) where
             absurd (false≢true (sym (not-true (e.serial.prev == prev_after before) other.0) ∙ same))
       ] refl
 
-  -- before a stamp with prev 0 all stamps have prev 0, and before a reported one no receive stands
+  -- before a stamp with prev 0 all stamps have prev 0, and before a reported one there is no receive
   record AreRooted (es : List Event) : Type 0 where
     stamps : (d e : Event) → Stamps d → Stamps e → d.serial.this < e.serial.this → e.serial.prev ≡ 0
         → d.serial.prev ≡ 0

@@ -1,5 +1,5 @@
 -- A process has as many untold receives of a count as needs of it: between a need and the told
--- event before it stands one, and so they are different ones.
+-- event before it there is one, and so they are different ones.
 use Rattle.std.proofs.Common.{◌≡◌, ℕ, zero, suc, ◌+◌, ◌<◌, ◌≤◌, ◌==◌, ◌&&◌, ◌||◌, Bool, true, false, not, cond, List}
 use Rattle.std.proofs.Common.{[], ◌∷◌, ◌++◌, take, drop, length, Some, inl, inr, slice_get, append-nil, refl, sym, ◌∙◌}
 use Rattle.std.proofs.Common.{ap, subst, arith, length-append}

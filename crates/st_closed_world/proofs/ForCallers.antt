@@ -24,7 +24,7 @@ pub use Rattle.st_closed_world.proofs.CompletionsOfCompletions.{completed_again}
 pub use Rattle.st_closed_world.proofs.FreeSenders.{sum_low}
 -- ---- lists of counts that rise
 pub use Rattle.st_closed_world.proofs.Ranks.{AllAbove, Climbs, IsIn, above_in, above_lower, insert_climbs}
--- ---- hidden sends, and needs of 0 that stay wherever they stand
+-- ---- hidden sends, and needs of 0 that stay wherever they are
 pub use Rattle.st_closed_world.proofs.UntoldEvents.{count_at, HasCount, hidden_all, hidden_is, RisesFrom}
 pub use Rattle.st_closed_world.proofs.Zeros.{zeros_final}
 -- ---- the earliest places

@@ -1,5 +1,5 @@
 -- The counts of streams are in a rising list that begins with 0. The rank of one of them is its
--- place there, and what stands at that place is the count again; and a later place has a greater
+-- place there, and what is at that place is the count again; and a later place has a greater
 -- count. So streams are their renumbered streams with the counts put back, in order.
 use Rattle.std.proofs.Common.{◌≡◌, ℕ, ◌+◌, zero, suc, ◌<◌, ◌≤◌, ◌⊎◌, inl, inr, nat_lt, true, false, cond, List, [], ◌∷◌}
 use Rattle.std.proofs.Common.{map, refl, sym, ◌∙◌, ap, subst, arith}

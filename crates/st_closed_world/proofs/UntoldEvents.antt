@@ -282,7 +282,7 @@ module _ (streams : List Stream) (q : Pid) where
 
 -- THE UNTOLD EVENTS
 
--- an untold event, where it stands
+-- an untold event, at its place
 pub record IsUntoldAt (ms : List Marked) (e : Event) : Type 0 where
   pub index : ℕ
   pub at : slice_get ms index ≡ Some (record { event = e; told = false })

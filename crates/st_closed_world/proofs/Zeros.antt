@@ -1,6 +1,6 @@
 -- Once there is a stamp with another prev, or a receive, what is left isn't 0; so the next stamp
--- with prev 0 is a need of it. Stamps stand by rising counts at each placing, and reported events
--- in turn, so a stamp with prev 0 behind such a one stays behind it wherever hidden sends are.
+-- with prev 0 is a need of it. Stamps are in the order of their counts at each placing, and reported
+-- events in turn, so a stamp with prev 0 behind such a one stays behind it wherever hidden sends are.
 use Rattle.std.proofs.Common.{◌≡◌, ◌⊎◌, inl, inr, ℕ, zero, suc, ◌+◌, ◌<◌, ◌==◌, ◌&&◌, nat_lt, Bool, true, false, not}
 use Rattle.std.proofs.Common.{if◌then◌else◌, List, [], ◌∷◌, ◌++◌, take, Some, slice_get, refl, sym, ◌∙◌, ap, subst}
 use Rattle.std.proofs.Common.{arith}

@@ -278,7 +278,7 @@ module _ (top : ℕ) (streams : List Stream) (acts : List Act) (os : List Outcom
 
 -- THE TWO STATEMENTS
 
--- if any reason stands
+-- if any reason holds
 pub refused_never_shown : (streams : List Stream) (f : PairFault) → refusal streams ≡ Some f
     → NeverShownInOneTrace streams
 refused_never_shown streams f h top acts none shows =

@@ -211,7 +211,7 @@ reaches_as : (top : ℕ) (streams : List Stream) (marks : Marks) (earlier : List
 reaches_as top streams marks earlier s m a y who st z =
     ap (λ t. reached a (Some t) z) (stamped_as top streams marks earlier s m y who) ∙ st.reaches z
 
--- the other processes stand as the moves then say
+-- the other processes are as the moves then say
 others_after : (top : ℕ) (streams : List Stream) (marks : Marks) (earlier : List Move) (s : State)
     (m : Move) (a : Act) (y : StandsReady top streams marks earlier s m) → y.before.pid ≡ m.who
     → CanStamp top streams marks earlier s m → IsStampOf streams marks m a

@@ -102,7 +102,7 @@ pub no_fault : (n : ℕ) (stands out foreign many : Bool) → stands ≡ true �
 unfolding fault_by
 no_fault n stands out foreign many e f g h = rw (e, f, g, h) refl
 
--- ---- which lines may stand
+-- ---- which lines may come
 
 pub begun_out : (a x : Bool) → a ≡ true → (not a && x) ≡ false
 begun_out a x e = rw e refl

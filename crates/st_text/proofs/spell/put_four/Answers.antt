@@ -1,4 +1,4 @@
--- A number's hundredth part stands before its last two digits.
+-- A number's hundredth part is before its last two digits.
 use Rattle.std.proofs.Common.{arith, append_assoc}
 use Rattle.st_text.proofs.Decimals.{last_two}
 use Rattle.st_text.proofs.spell.put_four.Goals as goal
