@@ -217,7 +217,7 @@ chart(_) ->
 %% A trace with one label needs no --label.
 chart_only_label(Name, Options) ->
     with_trace(Name, wish(Options, [processes, from, to]), fun(#{legend := Legend, streams := Streams} = Trace) ->
-        case lists:usort([Label || {_, Events} <- Streams, #{label := Label} <- Events]) of
+        case seqaudit_bundle:labels(Streams) of
             [Label] -> chart_label(Label, binary_to_list(Label), Trace, Options);
             [] -> {?UNFIT, "the trace has no events"};
             Labels -> {usage, seqaudit_legend:which_label(Labels, Legend)}

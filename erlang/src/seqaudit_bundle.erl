@@ -6,7 +6,7 @@
 -module(seqaudit_bundle).
 
 -export([read/1, parse/1, text/1, event_text/1, events/1, actor/1]).
--export([complete/2, copies/1, without/2, in_order/1, name/3, find/3, format_error/1]).
+-export([complete/2, copies/1, without/2, in_order/1, labels/1, by_number/1, name/3, find/3, format_error/1]).
 -export_type([streams/0, event/0, pid_text/0, at/0, place/0]).
 
 -import(seqaudit_errors, [text/2]).
@@ -46,6 +46,16 @@ in_order(Pids) ->
 
 numbers(Pid) ->
     [binary_to_integer(Number) || Number <- binary:split(Pid, [<<"<">>, <<".">>, <<">">>], [global, trim_all])].
+
+%% @doc The labels of the events, by rising number.
+-spec labels(streams()) -> [Label :: binary()].
+labels(Streams) ->
+    by_number([Label || {_, Events} <- Streams, #{label := Label} <- Events]).
+
+%% @doc Decimal numbers each once, by rising number: the shorter one is the lower.
+-spec by_number([binary()]) -> [binary()].
+by_number(Numbers) ->
+    [Number || {_, Number} <- lists:usort([{byte_size(Number), Number} || Number <- Numbers])].
 
 %% @doc The streams of a text, or the number of the first line that no bundle has there.
 -spec parse(binary()) -> {ok, streams()} | {error, pos_integer()}.

@@ -182,8 +182,8 @@ is_spawned(Number, Legend) ->
 find_label(Text, Legend) ->
     Spelled = [seqaudit_shown:escaped(utf8(Spelling))
                || Spelling <- [Text | [seqaudit_terms:text(Term) || Term <- parse(Text)]]],
-    Numbers = lists:usort([Number || {{label, Number}, Term} <- maps:to_list(Legend),
-                                     lists:member(Term, Spelled)]),
+    Numbers = seqaudit_bundle:by_number([Number || {{label, Number}, Term} <- maps:to_list(Legend),
+                                                   lists:member(Term, Spelled)]),
     case Numbers of
         [Number] -> {ok, Number};
         [_ | _] -> {error, {labels_alike, Text, Numbers}};

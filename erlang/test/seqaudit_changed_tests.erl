@@ -129,7 +129,7 @@ no_terms_test_() ->
         has(Said(["chart"], "no_terms"), ["label 1000000\n", "{4,5} value 5", "(status 0)"]),
         ok = write("labels", twice(order(), other(order()))),
         has(Said(["chart"], "labels"),
-            ["the trace has 2 labels; choose one by --label: {order,7}, 17\n", "(status 3)"])
+            ["the trace has 2 labels; choose one by --label: 17, {order,7}\n", "(status 3)"])
     end).
 
 wrong_name_test_() ->

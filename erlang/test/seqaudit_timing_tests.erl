@@ -2,7 +2,7 @@
 -module(seqaudit_timing_tests).
 
 -export([statistics_test/0, kinds_test/0, clock_test/0, spans_test/0, alike_test/0, json_test/0, commands_test_/0]).
--export([processes_are_drawn_in_the_order_of_the_bundle_test/0]).
+-export([processes_are_drawn_in_the_order_of_the_bundle_test/0, labels_are_named_by_rising_number_test/0]).
 
 statistics_test() ->
     Streams = [{<<"<0.1.0>">>, []},
@@ -73,6 +73,11 @@ took(Sent, Received) ->
 processes_are_drawn_in_the_order_of_the_bundle_test() ->
     Pids = [<<"<0.9.0>">>, <<"<0.79.0>">>, <<"<0.101.0>">>, <<"<3.1.0>">>, <<"<10.0.0>">>],
     Pids = seqaudit_bundle:in_order(lists:sort(Pids ++ Pids)).
+
+labels_are_named_by_rising_number_test() ->
+    Labels = [<<"2">>, <<"17">>, <<"900000">>, <<"17000000">>],
+    Streams = [{<<"<0.1.0>">>, [#{label => Label}]} || Label <- lists:sort(Labels ++ Labels)],
+    Labels = seqaudit_bundle:labels(Streams).
 
 json_test() ->
     <<"{\"a\":[1,1.500,null,true,\"k\\u00e4se\\u0022\\u000a\"],\"b\":{}}">> =
