@@ -322,7 +322,8 @@ names(Streams, Legend) ->
 %% @doc A reason of this module in words, with what to do about it.
 -spec format_error(term()) -> string().
 format_error({file, File, enoent}) ->
-    text("there is no ~ts; `seqaudit-node collect' writes one, and so does `convert' of a file of events", [File]);
+    text("there is no ~ts; `seqaudit-node collect' writes one, and so does `convert' of a file of events; a trace of "
+         "another name can be copied to it", [File]);
 format_error({file, File, Reason}) ->
     text("~ts: ~ts", [File, file:format_error(Reason)]);
 format_error({not_a_bundle, File, Line}) ->

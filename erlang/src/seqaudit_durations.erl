@@ -5,7 +5,7 @@
 %% differ.
 -module(seqaudit_durations).
 
--export([messages/3, labels/3, path/3, kind/1]).
+-export([messages/3, median/1, labels/3, path/3, kind/1]).
 -export_type([statistics/0, step/0]).
 
 -type nanoseconds() :: integer().
@@ -34,15 +34,17 @@ ordered(Statistics) ->
     [One || {_, One} <- lists:sort([{-Greatest, One} || {_, #{greatest := Greatest}} = One <- Statistics])].
 
 summed_up(Sorted) ->
-    Count = length(Sorted),
     {Greatest, Slowest} = lists:last(Sorted),
-    #{count => Count, median => at_rank(50, Count, Sorted), most => at_rank(99, Count, Sorted), greatest => Greatest,
+    Times = [Time || {Time, _} <- Sorted],
+    #{count => length(Times), median => median(Times), most => at_rank(99, Times), greatest => Greatest,
       slowest => Slowest}.
 
+%% @doc The median of sorted times; of two, the lower.
+-spec median([nanoseconds(), ...]) -> nanoseconds().
+median(Sorted) -> at_rank(50, Sorted).
+
 %% The least time that so many percent of them don't exceed.
-at_rank(Percent, Count, Sorted) ->
-    {Time, _} = lists:nth((Percent * Count + 99) div 100, Sorted),
-    Time.
+at_rank(Percent, Sorted) -> lists:nth((Percent * length(Sorted) + 99) div 100, Sorted).
 
 %% @doc How long each label took, from its first event with a time to the last; the slowest come first.
 -spec labels(seqaudit_bundle:streams(), seqaudit_times:times(), seqaudit_legend:legend()) ->

@@ -243,7 +243,17 @@ cause_unknown([#{id := {Pid, At}} | _] = Open, Outcome, Legend) ->
     ["The cause isn't known of ", listed(fun(#{id := Id}) -> name(Id, Legend) end, Open,
                                          fun(More) -> ["and ", number(More), " more"] end),
      "; this says what it may be: seqaudit-node why ", quoted(maps:get(name, Outcome, "NAME")), $\s,
-     quoted(unicode:characters_to_list(seqaudit_bundle:name(Pid, At, Legend))), $\n].
+     quoted(unicode:characters_to_list(seqaudit_bundle:name(Pid, At, Legend))), $\n,
+     [[name(Id, Legend), " would follow ", name(Later, Legend), ", which comes after it, if the two are in the wrong "
+       "order.\n"] || [{Id, Later} | _] <- [overtaken(Open, Outcome)]]].
+
+%% The events that have the serial of a message which their process received only after them.
+overtaken(Open, #{streams := Streams}) ->
+    [{Id, {Pid, Later}}
+     || #{id := {Pid, At} = Id, event := #{prev := Prev, label := Label}} <- Open, is_integer(At),
+        {One, Events} <- Streams, One =:= Pid,
+        #{kind := 'receive', this := This, label := Of, at := Later} <- Events,
+        This =:= Prev, Of =:= Label, is_integer(Later), Later > At].
 
 %% A word as a shell takes it.
 quoted(Word) ->
@@ -381,10 +391,15 @@ sentence(send, From, To, Term) -> [From, " sends ", Term, " to ", To];
 sentence('receive', From, To, Term) -> [To, " receives ", Term, " from ", From];
 sentence(print, From, _, Term) -> [From, " prints ", Term].
 
-%% @doc What is gone, by the facts of the conversion.
+%% @doc What is gone, by the facts of the conversion. If only nothing came, nothing need be gone.
 -spec losses([binary()]) -> unicode:chardata().
-losses([]) -> "";
-losses(Losses) -> ["The trace isn't whole:\n", [["  ", Loss, $\n] || Loss <- Losses]].
+losses(Losses) ->
+    Nothing = unicode:characters_to_binary(seqaudit_notes:nothing()),
+    case Losses of
+        [] -> "";
+        [Nothing] -> [string:titlecase(Nothing), ".\n"];
+        _ -> ["The trace isn't whole:\n", [["  ", Loss, $\n] || Loss <- Losses]]
+    end.
 
 %% @doc Where the resets between the parts are, and the outcome of each part.
 -spec parts([{seqaudit_bundle:streams(), seqaudit_outcome:outcome()}], seqaudit_legend:legend()) -> unicode:chardata().
@@ -403,12 +418,14 @@ reset_places(Parts, Legend) ->
             ["A reset would explain it, as two runs in one trace would", if_lacking(Parts, Legend), ": ",
              reset_at(Places, Legend), ".\n"];
         {[Places], false} ->
-            ["A reset alone wouldn't explain it. Cut ", reset_at(Places, Legend), ", not all parts fit:\n"];
+            ["Cut ", reset_at(Places, Legend), ", as a reset there would, not all parts fit. A reset elsewhere may still "
+             "explain it:\n"];
         {Several, true} ->
             ["Resets would explain it, as several runs in one trace would", if_lacking(Parts, Legend), ":\n",
              numbered(Several, Legend)];
         {Several, false} ->
-            ["Resets alone wouldn't explain it. Cut at these places, not all parts fit:\n", numbered(Several, Legend)]
+            ["Cut at these places, as resets there would, not all parts fit. Resets elsewhere may still explain it:\n",
+             numbered(Several, Legend)]
     end.
 
 %% A message whose ends differ fits if it's taken for two, of which each lacks an end.
@@ -422,10 +439,15 @@ if_lacking(Parts, Legend) ->
 numbered(Several, Legend) ->
     [format("  ~b. ~ts~n", [Which, reset_at(Places, Legend)]) || {Which, Places} <- lists:enumerate(Several)].
 
+%% If no process has events on both sides, each side is told by its processes.
 reset_at(Places, Legend) ->
     case [Place || {_, Last, First} = Place <- Places, Last =/= none, First =/= none] of
-        [] -> "between events of different processes";
-        Known -> of_processes([reset_place(Place, Legend) || Place <- Known])
+        [] ->
+            Of = fun(Pids) -> of_processes([process(Pid, Legend) || Pid <- Pids]) end,
+            ["behind all events of ", Of([Pid || {Pid, Last, none} <- Places, Last =/= none]), ", and before all of ",
+             Of([Pid || {Pid, none, First} <- Places, First =/= none])];
+        Known ->
+            of_processes([reset_place(Place, Legend) || Place <- Known])
     end.
 
 reset_place({Pid, Last, First}, Legend) ->

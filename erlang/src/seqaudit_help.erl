@@ -42,7 +42,7 @@ of_command(Command) ->
 
 statuses() ->
     "\nStatus: 0 all is done, or the trace fits\n"
-    "        1 the trace doesn't fit, or nobody knows, or it has no events; or what you ask for isn't in it\n"
+    "        1 the trace doesn't fit, or it can't be decided, or it has no events; or what you ask for isn't in it\n"
     "        2 a file can't be understood, or is too large\n"
     "        3 the command line can't be understood\n"
     "        4 a file, a node or a program is missing or fails\n".

@@ -72,12 +72,14 @@ explain(<<"mismatch">>) ->
          end ++ went_back(Streams)
      end};
 explain(<<"late">>) ->
-    {"the process had received a message with this count or a higher one before, and its counter is at least as high "
-     "as what it received, until it goes back; or the two are in the wrong order.",
+    {"the process had received a message with this count or a higher one before, and a process counts on from the "
+     "highest count that it has received: so its counter went back between the two, or they are in the wrong order, or "
+     "the file was changed.",
      fun(Found, Streams) ->
-         case follows_earlier(Found, Streams) of
-             true -> [?OTHER_ORDER, ?PUT_BACK, ?TWO_RUNS, ?RESET];
-             false -> [?RESET, ?TWO_RUNS, ?OTHER_ORDER, ?PUT_BACK]
+         case {follows_earlier(Found, Streams), went_back_of(Streams)} of
+             {true, _} -> [?OTHER_ORDER, ?PUT_BACK, ?TWO_RUNS, ?RESET, ?CHANGED];
+             {false, []} -> [?CHANGED, ?RESET, ?TWO_RUNS, ?OTHER_ORDER, ?PUT_BACK];
+             {false, _} -> [?RESET, ?TWO_RUNS, ?OTHER_ORDER, ?PUT_BACK, ?CHANGED]
          end
      end};
 %% A reset sets a counter to 0, and this event's count is above those before.

@@ -205,8 +205,8 @@ summary(#{start := Start, events := Events, messages := Messages}) ->
     text("~ts from the first event to the last", [span(Last)])
         ++ case Took of
                [] -> "";
-               _ -> text("; a message took ~ts in the median, the slowest ~ts (~ts)",
-                         [span(lists:nth(length(Took) div 2 + 1, Took)), span(lists:last(Took)),
+               _ -> text("; the median message took ~ts, the slowest ~ts (~ts)",
+                         [span(seqaudit_durations:median(Took)), span(lists:last(Took)),
                           seqaudit_explain:count(length(Took), "message")])
            end
         ++ case clock(Start) of

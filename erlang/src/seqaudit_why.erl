@@ -15,7 +15,7 @@ chain(Place, Rows, Legend, Times) ->
      [line(because(Cause, Legend), One, Legend, Times)
       || {#{cause := Cause}, One} <- lists:zip(lists:droplast(Chain), Before)],
      ending(lists:last(Chain), Legend),
-     [premises(Legend) || lists:any(fun is_of_counts/1, Chain)]].
+     premises(Chain, Legend)].
 
 line({Begin, Behind}, #{id := Id} = Row, Legend, Times) ->
     [Begin, name(Id, Legend), Behind, ": ", seqaudit_explain:sentence(Row, Legend), time(Id, Times), $\n].
@@ -81,12 +81,24 @@ effects(Place, Rows, Legend, Times) ->
                ", ", cause(Cause, Legend), $\n]
               || #{id := Id, cause := Cause} = Row <- lists:sublist(Effects, ?LISTED)],
              [io_lib:format("  and ~b more~n", [length(Effects) - ?LISTED]) || length(Effects) > ?LISTED],
-             [premises(Legend) || lists:any(fun is_of_counts/1, Effects)]]
+             premises(Effects, Legend)]
     end.
 
-premises(Legend) ->
-    ["This holds if each receive of a token ", seqaudit_legend:present(Legend), ", and if no process set a token with "
-     "a label that had been in use, except where it's said above.\n"].
+%% What the rows rest on. Those that name an unreported receive as the other explanation don't need all receives.
+premises(Rows, Legend) ->
+    case [Cause || #{cause := Cause} = Row <- Rows, is_of_counts(Row)] of
+        [] ->
+            "";
+        Causes ->
+            case lists:all(fun seqaudit_causes:is_doubtful/1, Causes) of
+                true ->
+                    "This holds if no process set a token with a label that had been in use.\n";
+                false ->
+                    ["Except where it's said above, this holds if each receive of a token ",
+                     seqaudit_legend:present(Legend), ", and if no process set a token with a label that had been in "
+                     "use.\n"]
+            end
+    end.
 
 %% @doc What a row is called.
 -spec name(seqaudit_causes:id(), seqaudit_legend:legend()) -> unicode:chardata().

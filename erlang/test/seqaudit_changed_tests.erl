@@ -56,16 +56,25 @@ value_test_() ->
         has(Said(["audit"], "value"), ["(mismatch)", "What to look at: sends to aliases and names,"])
     end).
 
-%% Two events of a process the wrong way round. No reset explains that, so none is said to.
+%% Two events of a process the wrong way round. A reset is tried where a counter goes back and explains nothing there, but
+%% one between the two would: so nothing is said of all resets.
 order_test_() ->
     with_tool(fun(Said) ->
         ok = write("order", swapped(line(13), line(14))),
         Late = Said(["audit"], "order"),
-        has(Late, ["because of shop#2 (late)", "or the two are in the wrong order.\n"
+        has(Late, ["because of shop#2 (late)", "or they are in the wrong order, or the file was changed.\n"
                    "What to look at: events of one process that are in another order than they happened in; a token",
-                   "A reset alone wouldn't explain it. Cut between client#0 and client#1, between shop#0 and shop#1, "
-                   "not all parts fit:\npart 1: fits", "\npart 2: doesn't fit"]),
-        has_not(Late, ["A reset would"])
+                   "Cut between client#0 and client#1, between shop#0 and shop#1, as a reset there would, not all parts "
+                   "fit. A reset elsewhere may still explain it:\npart 1: fits", "\npart 2: doesn't fit"]),
+        has_not(Late, ["A reset would explain", "alone"]),
+        %% A receive behind the send that follows it: the trace fits, and what the send follows comes below it.
+        ok = write("order", swapped(line(6), line(7))),
+        has(Said(["audit"], "order"),
+            ["fits: 11 events", "the cause of 1 event isn't known",
+             "\nstock#0 would follow stock#1, which comes after it, if the two are in the wrong order.\n"]),
+        Why = Said(["why", "stock#0"], "order"),
+        has(Why, ["began this chain with this event, or this event follows a message whose receive wasn't reported.\n"
+                  "This holds if no process set a token with a label that had been in use.\n"])
     end).
 
 %% After a reset the counters of several processes go back, and that comes first; if that of one alone does, a token
@@ -185,7 +194,7 @@ no_events_test_() ->
         {0, Done} = seqaudit_test_shell:run([Command, " convert ", Name, ".events ", Name, ".txt -o ", Name]),
         has(Done, ["0 events of 0 processes", "no events came"]),
         has(Said(["audit"], "no_events"),
-            ["nothing to audit: the trace has no events\n", "no events came", "(status 1)"]),
+            ["nothing to audit: the trace has no events\nNo events came; set a token", "(status 1)"]),
         has(Said(["audit", "--json"], "no_events"), ["\"fits\":false", "\"said\":\"empty\"", "(status 1)"]),
         %% Of a file that is cut it isn't known whether any came.
         {ok, Cut} = seqaudit_events:open(Name),

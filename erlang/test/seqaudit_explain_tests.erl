@@ -215,7 +215,8 @@ many_test() ->
         ["between <0.101.0>#0 and <0.101.0>#1, ", ", and so of 30 more processes.\n"]),
     [One, Other] = [[{<<"<0.30.0>">>, []}, {<<"<0.31.0>">>, []}] || _ <- [1, 2]],
     [{_, [Event]} | _] = Many(1),
-    <<"A reset would explain it, as two runs in one trace would: between events of different processes.\n">> =
+    <<"A reset would explain it, as two runs in one trace would: behind all events of alice, "
+      "and before all of bob & <co>.\n">> =
         unicode:characters_to_binary(seqaudit_explain:reset_places(
             [Fit(lists:keyreplace(<<"<0.30.0>">>, 1, One, {<<"<0.30.0>">>, [Event]})),
              Fit(lists:keyreplace(<<"<0.31.0>">>, 1, Other, {<<"<0.31.0>">>, [Event]}))], legend())).

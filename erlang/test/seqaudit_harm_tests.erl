@@ -146,7 +146,7 @@ trigger_test_() ->
         true = map_size(Times) >= 4 andalso map_size(Messages) >= 2,
         [] = [Took || {_, Took} <- maps:values(Messages), Took < 0 orelse Took > 4_000_000_000],
         {match, _} = re:run(seqaudit_times:summary(Read),
-                            "from the first event to the last; a message took [0-9]+ [a-z]+ in the median"),
+                            "from the first event to the last; the median message took [0-9]+ [a-z]+"),
         seqaudit_audits:fits(Name),
         %% Afterwards nothing is traced, and no token is left.
         {[], false} = traced(There),
