@@ -239,21 +239,23 @@ details(Outcome, Legend) ->
 is_cut(Outcome) -> maps:get(cut, Outcome, false).
 
 %% The command for the first of them says how to ask for the others.
-cause_unknown([#{id := {Pid, At}} | _] = Open, Outcome, Legend) ->
+cause_unknown([#{id := {Pid, At}} = First | _] = Open, Outcome, Legend) ->
     ["The cause isn't known of ", listed(fun(#{id := Id}) -> name(Id, Legend) end, Open,
                                          fun(More) -> ["and ", number(More), " more"] end),
      "; this says what it may be: seqaudit-node why ", quoted(maps:get(name, Outcome, "NAME")), $\s,
      quoted(unicode:characters_to_list(seqaudit_bundle:name(Pid, At, Legend))), $\n,
      [[name(Id, Legend), " would follow ", name(Later, Legend), ", which comes after it, if the two are in the wrong "
-       "order.\n"] || [{Id, Later} | _] <- [overtaken(Open, Outcome)]]].
+       "order.\n"] || {Id, Later} <- overtaken(First, Outcome)]].
 
-%% The events that have the serial of a message which their process received only after them.
-overtaken(Open, #{streams := Streams}) ->
-    [{Id, {Pid, Later}}
-     || #{id := {Pid, At} = Id, event := #{prev := Prev, label := Label}} <- Open, is_integer(At),
-        {One, Events} <- Streams, One =:= Pid,
-        #{kind := 'receive', this := This, label := Of, at := Later} <- Events,
-        This =:= Prev, Of =:= Label, is_integer(Later), Later > At].
+%% The event with the receive that it would follow, if its process reported that receive only after it. Of the first one
+%% alone: there may be as many as the trace has events.
+overtaken(#{id := {Pid, At} = Id, event := #{prev := Prev, label := Label}}, #{streams := Streams})
+  when is_integer(At) ->
+    {_, Events} = lists:keyfind(Pid, 1, Streams),
+    lists:sublist([{Id, {Pid, Later}} || #{kind := 'receive', this := This, label := Of, at := Later} <- Events,
+                                         This =:= Prev, Of =:= Label, is_integer(Later), Later > At], 1);
+overtaken(_Row, _Outcome) ->
+    [].
 
 %% A word as a shell takes it.
 quoted(Word) ->
