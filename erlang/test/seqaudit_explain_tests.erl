@@ -2,7 +2,7 @@
 -module(seqaudit_explain_tests).
 
 -export([whole_test/0, acts_test/0, reported_acts_test_/0, fits_test/0, probably_test/0, cause_command_test/0,
-         many_test/0, unreceived_test/0,
+         many_test/0, many_open_test/0, unreceived_test/0,
          completed_test/0, labels_test/0, places_test/0, reasons_test/0, no_tool_test/0, faults_test/0,
          losses_test/0, chart_test/0, drawing_test/0, dashed_test/0, drawing_is_safe_test/0, large_drawing_test_/0,
          too_large_drawing_test/0, brief_test/0, legend_test/0]).
@@ -220,6 +220,20 @@ many_test() ->
         unicode:characters_to_binary(seqaudit_explain:reset_places(
             [Fit(lists:keyreplace(<<"<0.30.0>">>, 1, One, {<<"<0.30.0>">>, [Event]})),
              Fit(lists:keyreplace(<<"<0.31.0>">>, 1, Other, {<<"<0.31.0>">>, [Event]}))], legend())).
+
+%% The work grows as the events do, also if the cause of none of them is known.
+many_open_test() ->
+    Work = fun(Count) ->
+        Prints = [io_lib:format("{seq_trace,17,{print,{5,~b},<0.30.0>,[],7}}~n", [5 + This])
+                  || This <- lists:seq(1, Count)],
+        Outcome = outcome(fits, streams(["seqtrace 1\nprocess <0.30.0>\n", Prints])),
+        {reductions, Before} = process_info(self(), reductions),
+        has(said(Outcome), ["isn't known"]),
+        {reductions, After} = process_info(self(), reductions),
+        After - Before
+    end,
+    Once = Work(2_000),
+    true = Work(4_000) < 3 * Once.
 
 %% A receive that nobody reported is told with its message, as what is received in it is known.
 unreceived_test() ->
