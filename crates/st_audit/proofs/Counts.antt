@@ -18,7 +18,7 @@ use Rattle.st_core.specs.Pid.{pid_eq, node_eq}
 use Rattle.st_core.specs.State.{LocalState, Process, State, process}
 use Rattle.st_core.specs.Stamp.{stamp_any, stamped_token}
 use Rattle.st_core.specs.Local.{default_token, started}
-use Rattle.st_core.specs.Report.{flag_of, report}
+use Rattle.st_core.specs.Report.{flag_of, report, token_event}
 use Rattle.st_core.specs.Step.{Acted, Outcome, acted, actor, reached, changed, prints, step}
 use Rattle.st_core.specs.Run.{run_from}
 use Rattle.st_core.proofs.ForCallers.{mapped, process_after, process_pid, run_parts, step_parts, pid_eq-refl}
@@ -155,7 +155,7 @@ pub record IsTold (l m : LocalState) (e : Event) : Type 0 where
 pub told_serial : (b : Bool) (k : Kind) (t : Token) (to : Option Pid) (v : ℕ) (e : Event)
     → report b k (Some t) to v ≡ Some e → e.serial ≡ t.serial
 told_serial b k t to v e h =
-    let made : Event = record { label = t.label; kind = k; serial = t.serial; from = t.from; to = to; value = v } in
+    let made = token_event k t to v in
     elim (b && flag_of k t.flags) as (λ c. cond c (Some made) None ≡ Some e → e.serial ≡ t.serial) [
       | true ↦ λ h. ap (λ (x : Event). x.serial) (sym (same_Some made e h))
       | false ↦ λ h. absurd (none-some e h)

@@ -11,14 +11,15 @@ use Rattle.std.proofs.lemmas.Option.{none-some, same_Some}
 use Rattle.st_core.specs.declared.types.Pid.{Pid}
 use Rattle.st_core.specs.declared.types.Event.{Event}
 use Rattle.st_core.specs.declared.types.Flags.{Flags}
-use Rattle.st_core.specs.declared.types.Kind.{Kind}
 use Rattle.st_core.specs.declared.types.Kind.TheVariants as kind
 use Rattle.st_core.specs.declared.types.Act.{Act}
 use Rattle.st_core.specs.Pid.{pid_eq}
+use Rattle.st_core.specs.Event.{event_eq}
 use Rattle.st_core.specs.State.{Process, State, process}
 use Rattle.st_core.specs.Step.{Outcome}
 use Rattle.st_core.specs.Run.{Stream}
-use Rattle.st_core.proofs.ForCallers.{both_of, mapped, pid_eq-refl, pid_same}
+use Rattle.st_core.proofs.ForCallers.{mapped}
+use Rattle.st_core.proofs.ForCallers.{event_eq-true, event_eq-same}
 use Rattle.st_mail.specs.declared.outcome.Outcome.{Outcome as Told}
 use Rattle.st_pair.specs.Places.{is_stamp}
 use Rattle.st_order.specs.declared.item.Item.{Item}
@@ -34,7 +35,7 @@ use Rattle.st_plan.proofs.ForCallers.{moves_by}
 use Rattle.st_audit.specs.declared.construction.Construction.{Construction}
 use Rattle.st_audit.specs.declared.construction.Halt.{Halt}
 use Rattle.st_audit.specs.declared.construction.Halt.TheVariants as halt
-use Rattle.st_audit.specs.Construction.{acts_from, attempt, compared_turn, event_eq, is_shown, kind_eq, last_report}
+use Rattle.st_audit.specs.Construction.{acts_from, attempt, compared_turn, is_shown, last_report}
 use Rattle.st_audit.specs.Construction.{turn, Turn, Through, Stopped, Refused}
 use Rattle.st_audit.specs.Progress.{if_told, is_below, is_high, is_marked, is_too_wide, is_uncaused, item_turn}
 use Rattle.st_audit.specs.Progress.{marked_turn, missing_count, move_turn, report_turn, stamp_skip, stamp_turn, test_at}
@@ -82,71 +83,6 @@ stamp_skip_is s p e start is =
     let parts = mapped (λ (r : Process). start_of r.local) (process s p) start is in
     ap (λ o. option_map_or (λ (r : Process). missing_count (start_of r.local) e.serial) o 0) parts.1
     ∙ ap (λ (x : Start). missing_count x e.serial) parts.2
-
--- ONE EVENT
-
-kind_eq-true : (k l : Kind) → kind_eq k l ≡ true → k ≡ l
-kind_eq-true kind.Send kind.Send h = refl
-kind_eq-true kind.Receive kind.Receive h = refl
-kind_eq-true kind.Print kind.Print h = refl
-kind_eq-true kind.Send kind.Receive h = absurd (cc)
-kind_eq-true kind.Send kind.Print h = absurd (cc)
-kind_eq-true kind.Receive kind.Send h = absurd (cc)
-kind_eq-true kind.Receive kind.Print h = absurd (cc)
-kind_eq-true kind.Print kind.Send h = absurd (cc)
-kind_eq-true kind.Print kind.Receive h = absurd (cc)
-
-kind_eq-same : (k : Kind) → kind_eq k k ≡ true
-kind_eq-same kind.Send = refl
-kind_eq-same kind.Receive = refl
-kind_eq-same kind.Print = refl
-
-to_eq-true : (p q : Option Pid) → option_eq pid_eq p q ≡ true → p ≡ q
-to_eq-true None None h = refl
-to_eq-true None (Some q) h = absurd (cc)
-to_eq-true (Some p) None h = absurd (cc)
-to_eq-true (Some p) (Some q) h = ap (λ (x : Pid). Some x) (pid_same p q h)
-
-to_eq-same : (p : Option Pid) → option_eq pid_eq p p ≡ true
-to_eq-same None = refl
-to_eq-same (Some p) = pid_eq-refl p
-
-event_eq-true : (d e : Event) → event_eq d e ≡ true → d ≡ e
-event_eq-true d e h =
-    let one = both_of _ _ h in
-    let two = both_of _ _ one.1 in
-    let three = both_of _ _ two.1 in
-    let four = both_of _ _ three.1 in
-    let five = both_of _ _ four.1 in
-    let six = both_of _ _ five.1 in
-    let label = eqb-true d.label.0 e.label.0 one.0 in
-    let kind = kind_eq-true d.kind e.kind two.0 in
-    let prev = eqb-true d.serial.prev e.serial.prev three.0 in
-    let this = eqb-true d.serial.this e.serial.this four.0 in
-    let from = pid_same d.from e.from five.0 in
-    let to = to_eq-true d.to e.to six.0 in
-    let value = eqb-true d.value e.value six.1 in
-    λ i.
-    record {
-      label = record { 0 = label i };
-      kind = kind i;
-      serial = record { prev = prev i; this = this i };
-      from = from i;
-      to = to i;
-      value = value i;
-    }
-
-pub event_eq-same : (e : Event) → event_eq e e ≡ true
-event_eq-same e =
-    rw (
-      eq-eqb e.label.0 e.label.0 refl,
-      kind_eq-same e.kind,
-      eq-eqb e.serial.prev e.serial.prev refl,
-      eq-eqb e.serial.this e.serial.this refl,
-      pid_eq-refl e.from,
-      to_eq-same e.to,
-      eq-eqb e.value e.value refl,
-    ) refl
 
 -- A REPORT
 

@@ -1,15 +1,13 @@
 -- The whole construction as a function of the streams: for each item of the order its acts, or why
 -- it stops there; the acts up to that place; and what is found by them (own profile).
-use Rattle.std.specs.Prelude.{◌≡◌, ℕ, ◌==◌, ◌&&◌, Bool, true, false, List, [], ◌∷◌, ◌++◌, Option}
+use Rattle.std.specs.Prelude.{◌≡◌, ℕ, Bool, true, false, List, [], ◌∷◌, ◌++◌, Option}
 use Rattle.std.specs.Prelude.{Some, None, if◌then◌else◌, option_map, option_and_then, unwrap_or}
-use Rattle.std.specs.Option.{option_eq, option_map_or}
+use Rattle.std.specs.Option.{option_map_or}
 use Rattle.std.specs.List.{last_or}
 use Rattle.st_core.specs.declared.types.Pid.{Pid}
 use Rattle.st_core.specs.declared.types.Event.{Event}
-use Rattle.st_core.specs.declared.types.Kind.{Kind}
-use Rattle.st_core.specs.declared.types.Kind.TheVariants as kind
 use Rattle.st_core.specs.declared.types.Act.{Act}
-use Rattle.st_core.specs.Pid.{pid_eq}
+use Rattle.st_core.specs.Event.{event_eq}
 use Rattle.st_core.specs.State.{State, process, zero_state}
 use Rattle.st_core.specs.Step.{Outcome, step}
 use Rattle.st_core.specs.Run.{Stream, pids_of, run_from}
@@ -33,18 +31,6 @@ use Rattle.st_audit.specs.declared.finding.Finding.TheVariants as finding
 use Rattle.st_audit.specs.Findings.{unfit_by, IsNo}
 
 -- ONE ITEM
-
-abbrev pub kind_eq : Kind → Kind → Bool
-kind_eq kind.Send kind.Send = true
-kind_eq kind.Receive kind.Receive = true
-kind_eq kind.Print kind.Print = true
-kind_eq k l = false
-
--- d and e are one event
-abbrev pub event_eq : Event → Event → Bool
-event_eq d e = d.label.0 == e.label.0 && (kind_eq d.kind e.kind && (d.serial.prev == e.serial.prev
-    && (d.serial.this == e.serial.this && (pid_eq d.from e.from && (option_eq pid_eq d.to e.to
-    && d.value == e.value)))))
 
 -- the acts up to the first that has no step, and that one
 abbrev pub tried_acts : ℕ → State → List Act → List Act

@@ -16,6 +16,7 @@ use Rattle.st_core.specs.State.{LocalState, Process, State, process}
 use Rattle.st_core.specs.Step.{Outcome}
 use Rattle.st_core.specs.Run.{Stream, pids_of, run_from}
 use Rattle.st_core.specs.Streams.{IsStreams}
+use Rattle.st_core.specs.Event.{event_eq}
 use Rattle.st_mail.specs.declared.outcome.Outcome.{Outcome as Told}
 use Rattle.st_world.specs.World.{place_in}
 use Rattle.st_pair.specs.Places.{is_stamp}
@@ -33,7 +34,7 @@ use Rattle.st_audit.specs.declared.construction.Construction.{Construction}
 use Rattle.st_audit.specs.declared.construction.Halt.{Halt}
 use Rattle.st_audit.specs.declared.construction.Halt.TheVariants as halt
 use Rattle.st_audit.specs.declared.finding.Reason.TheVariants as reason
-use Rattle.st_audit.specs.Construction.{acts_from, attempt, event_eq, last_report, turn_by}
+use Rattle.st_audit.specs.Construction.{acts_from, attempt, last_report, turn_by}
 use Rattle.st_audit.specs.Construction.{Turn, Through, Stopped, Refused}
 
 -- WHAT IT GOES BY

@@ -10,7 +10,7 @@ pub use Rattle.st_closed_world.proofs.Supplies.{greatest_among, highest}
 pub use Rattle.st_closed_world.proofs.AcceptedStreams.{accepted_if, FitTogether}
 pub use Rattle.st_closed_world.proofs.ReasonlessStreams.{fit_together}
 pub use Rattle.st_closed_world.proofs.Suppliers.{named, own_at, received_to}
-pub use Rattle.st_closed_world.proofs.StampsTold.{stamper, told}
+pub use Rattle.st_closed_world.proofs.StampsTold.{stamper, told, told_behind}
 -- ---- whole streams, and what is told of them
 pub use Rattle.st_closed_world.proofs.Needs.{events_all, events_told}
 pub use Rattle.st_closed_world.proofs.Choices.{mark_at, told_somewhere}

@@ -1,11 +1,11 @@
 -- The receive of an unpaired send, put right before a need of its count: the streams stay good,
 -- with one need less, and what else is told of messages stays.
 use Rattle.std.proofs.Common.{◌≡◌, ℕ, zero, suc, ◌+◌, ◌≤◌, ◌==◌, ◌&&◌, Bool, true, false, cond, List, [], ◌∷◌, ◌++◌}
-use Rattle.std.proofs.Common.{take, drop, length, Option, Some, None, is_none, is_some, slice_get, refl, sym, ◌∙◌, ap}
+use Rattle.std.proofs.Common.{take, drop, length, Option, Some, None, is_none, is_some, refl, sym, ◌∙◌, ap}
 use Rattle.std.proofs.Common.{subst, arith}
 use Rattle.std.specs.Option.{option_map_or}
 use Rattle.std.proofs.lemmas.Bool.{eq-eqb, false≢true, and_parts, and_from}
-use Rattle.std.proofs.lemmas.Option.{none-some, same_Some, slice_get_within}
+use Rattle.std.proofs.lemmas.Option.{slice_get_within}
 use Rattle.st_core.specs.declared.types.Pid.{Pid}
 use Rattle.st_core.specs.declared.types.Kind.{Kind}
 use Rattle.st_core.specs.declared.types.Kind.TheVariants as kind
@@ -14,12 +14,12 @@ use Rattle.st_core.specs.Pid.{pid_eq}
 use Rattle.st_core.specs.Laws.{IsReportAmong}
 use Rattle.st_core.specs.Run.{Stream, pids_of}
 use Rattle.st_core.specs.Streams.{events_of, is_of, lists}
-use Rattle.st_core.proofs.ForCallers.{pid_eq-refl, pid_same, names_among_listed}
+use Rattle.st_core.proofs.ForCallers.{pid_eq-refl, pid_same, names_among_listed, to_eq-true}
 use Rattle.st_pair.specs.Places.{event_at, is_stamp}
-use Rattle.st_pair.specs.Pairing.{agrees, is_send, receive_of, stamp_of, to_eq}
+use Rattle.st_pair.specs.Pairing.{agrees, is_send, receive_of, stamp_of}
 use Rattle.st_closed_world.specs.Completion.{receive_for}
 use Rattle.st_closed_world.specs.Supply.{is_own_supply, needs, needs_from}
-use Rattle.st_closed_world.proofs.Lookups.{events_with, HasStamp, none_taken, one_stamp, passes_with, stamp_if}
+use Rattle.st_closed_world.proofs.Lookups.{events_with, HasStamp, nowhere_taken, one_stamp, passes_with, stamp_if}
 use Rattle.st_closed_world.proofs.Lookups.{stamp_passes, taken_with}
 use Rattle.st_closed_world.specs.Placed.{AreTimely}
 use Rattle.st_closed_world.proofs.GoodStreams.{IsGood, IsLack, sends_to, sent_with, within_with}
@@ -27,6 +27,8 @@ use Rattle.st_closed_world.proofs.MetNeeds.{met, timely_met}
 use Rattle.st_closed_world.proofs.InsertedEvents.{fit_with, FitsAt, listed_at, more, take_drop}
 use Rattle.st_closed_world.proofs.LongerStreams.{sound_with}
 use Rattle.st_closed_world.proofs.Suppliers.{named, own_at}
+use Rattle.st_pair.proofs.ForCallers.{agrees_if, drop_next}
+use Rattle.st_core.specs.Event.{to_eq}
 
 -- the send that serves a need of v at p
 pub record IsSupply (streams : List Stream) (v : ℕ) (p q : Pid) : Type 0 where
@@ -34,10 +36,6 @@ pub record IsSupply (streams : List Stream) (v : ℕ) (p q : Pid) : Type 0 where
   pub untaken : is_none (receive_of streams q v) ≡ true
   pub sends : is_send stamp.event ≡ true
   pub to : stamp.event.to ≡ Some p
-
-to_same : (to : Option Pid) (p : Pid) → to_eq to (Some p) ≡ true → to ≡ Some p
-to_same None p h = absurd (false≢true h)
-to_same (Some q) p h = ap (λ (x : Pid). Some x) (pid_same q p h)
 
 pub supply_of : (streams : List Stream) (v : ℕ) (p q : Pid) → is_own_supply streams v p q ≡ true
     → IsSupply streams v p q
@@ -55,7 +53,7 @@ supply_of streams v p q own =
             stamp = s.0;
             untaken = parts.0;
             sends = ap is_send (sym s.1) ∙ tests.0;
-            to = ap (λ (x : Event). x.to) (sym s.1) ∙ to_same f.1.to p tests.1;
+            to = ap (λ (x : Event). x.to) (sym s.1) ∙ to_eq-true f.1.to (Some p) tests.1;
           }
     ] refl parts.1
 
@@ -67,16 +65,6 @@ sent_from kind.Send from to p sends own = pid_same from p
     (and_parts (pid_eq from p) (is_some to) own).0
 sent_from kind.Receive from to p sends own = absurd (false≢true sends)
 sent_from kind.Print from to p sends own = absurd (false≢true sends)
-
-pub to_refl : (to : Option Pid) → to_eq to to ≡ true
-to_refl None = refl
-to_refl (Some p) = pid_eq-refl p
-
-pub drop_is : (es : List Event) (i : ℕ) (e : Event) → slice_get es i ≡ Some e
-    → drop i es ≡ e ∷ drop (suc i) es
-drop_is [] i e at = absurd (none-some e at)
-drop_is (d ∷ es) zero e at = ap (λ x. x ∷ es) (same_Some d e at)
-drop_is (d ∷ es) (suc i) e at = drop_is es i e at
 
 module _ (top : ℕ) (streams : List Stream) (good : IsGood top streams) (p : Pid) (e : Event)
     (lack : IsLack streams p e) (q : Pid) (supply : IsSupply streams e.serial.prev p q) where
@@ -106,29 +94,12 @@ module _ (top : ℕ) (streams : List Stream) (good : IsGood top streams) (p : Pi
       (own_at streams q supply.stamp.index f good.sound.draft.own supply.stamp.at)
 
   agree : agrees f r ≡ true
-  agree =
-      and_from (is_send f) (f.label.0 == f.label.0 && (f.serial.prev == f.serial.prev
-      && (to_eq f.to f.to && f.value == f.value))) supply.sends
-      (and_from (f.label.0 == f.label.0) (f.serial.prev == f.serial.prev
-      && (to_eq f.to f.to && f.value == f.value))
-      (eq-eqb f.label.0 f.label.0 refl)
-      (and_from (f.serial.prev == f.serial.prev) (to_eq f.to f.to && f.value == f.value)
-      (eq-eqb f.serial.prev f.serial.prev refl)
-      (and_from (to_eq f.to f.to) (f.value == f.value) (to_refl f.to)
-      (eq-eqb f.value f.value refl))))
+  agree = agrees_if f r (record { sends = supply.sends; label = refl; prev = refl; to = refl; value = refl })
 
   not_taken : (x : Pid) (j : ℕ) (d : Event) → event_at streams x j ≡ Some d → is_stamp d ≡ false
       → d.from ≡ q
       → d.serial.this ≡ v → ⊥
-  not_taken x j d at receives sender count = none_taken streams q v supply.untaken (record {
-    pid = x;
-    index = j;
-    event = d;
-    at = at;
-    receives = receives;
-    from = sender;
-    count = count;
-  })
+  not_taken = nowhere_taken streams q v supply.untaken
 
   fits : FitsAt streams p i r
   fits = record {
@@ -167,7 +138,7 @@ module _ (top : ℕ) (streams : List Stream) (good : IsGood top streams) (p : Pi
 
   before_is : front ++ e ∷ rest ≡ events_of streams p
   before_is =
-      ap (λ xs. front ++ xs) (sym (drop_is (events_of streams p) i e lack.at))
+      ap (λ xs. front ++ xs) (sym (drop_next (events_of streams p) i e lack.at))
       ∙ take_drop i (events_of streams p)
 
   after_is : events_of fed p ≡ front ++ r ∷ e ∷ rest
@@ -175,7 +146,7 @@ module _ (top : ℕ) (streams : List Stream) (good : IsGood top streams) (p : Pi
       events_with p i r streams there inside p
       ∙ ap (λ b. cond b (front ++ r ∷ drop i (events_of streams p)) (events_of streams p))
       (pid_eq-refl p)
-      ∙ ap (λ xs. front ++ r ∷ xs) (drop_is (events_of streams p) i e lack.at)
+      ∙ ap (λ xs. front ++ r ∷ xs) (drop_next (events_of streams p) i e lack.at)
 
   others_are : (x : Pid) → pid_eq x p ≡ false → events_of fed x ≡ events_of streams x
   others_are x other =

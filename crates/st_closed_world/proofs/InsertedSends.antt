@@ -16,8 +16,9 @@ use Rattle.st_pair.specs.Pairing.{receive_of, stamp_of}
 use Rattle.st_closed_world.specs.Completion.{count_of, send_for, Supply}
 use Rattle.st_closed_world.specs.Supply.{is_free, is_own_supply, needs, needs_from}
 use Rattle.st_closed_world.proofs.AcceptedStreams.{FitTogether}
-use Rattle.st_closed_world.proofs.Lookups.{events_with, HasStamp, none_stamped, none_taken}
+use Rattle.st_closed_world.proofs.Lookups.{events_with, HasStamp, none_stamped}
 use Rattle.st_closed_world.proofs.Lookups.{passes_with, stamp_is, stamp_passes, taken_with}
+use Rattle.st_closed_world.proofs.Lookups.{nowhere_taken}
 use Rattle.st_closed_world.proofs.FedNeeds.{events}
 use Rattle.st_closed_world.specs.Placed.{AreTimely}
 use Rattle.st_closed_world.proofs.GoodStreams.{any_event, free_is, IsGood, sends_to, sent_with, within_with}
@@ -94,15 +95,7 @@ module _ (top : ℕ) (streams : List Stream) (good : IsGood top streams) (s : Su
   not_taken : (y : Pid) (j : ℕ) (d : Event) → event_at streams y j ≡ Some d → is_stamp d ≡ false
       → d.from ≡ q
       → d.serial.this ≡ v → ⊥
-  not_taken y j d at receives sender count = none_taken streams q v untaken (record {
-    pid = y;
-    index = j;
-    event = d;
-    at = at;
-    receives = receives;
-    from = sender;
-    count = count;
-  })
+  not_taken = nowhere_taken streams q v untaken
 
   fits : FitsAt streams q k x
   fits = record {

@@ -2,10 +2,10 @@
 -- reported or a hidden send. Stamps that aren't late rise. A receive occurs once, since only
 -- reported events are receives. Its send is reported or a hidden send; then it is in its
 -- process's placing, as do all hidden sends of the process.
-use Rattle.std.proofs.Common.{◌≡◌, ◌⊎◌, inl, inr, ℕ, zero, suc, ◌+◌, ◌<◌, ◌≤◌, ◌==◌, ◌&&◌, true, false, cond, List, []}
+use Rattle.std.proofs.Common.{◌≡◌, ◌⊎◌, inl, inr, ℕ, zero, suc, ◌+◌, ◌<◌, ◌≤◌, ◌&&◌, true, false, cond, List, []}
 use Rattle.std.proofs.Common.{◌∷◌, ◌++◌, map, take, find, Option, Some, None, is_none, is_some, option_map}
 use Rattle.std.proofs.Common.{option_and_then, slice_get, append-nil, append_assoc, refl, sym, ◌∙◌, ap, subst, arith}
-use Rattle.std.proofs.lemmas.Bool.{and_from, and_parts, cases_lt, eq-eqb, false≢true, ltb-true}
+use Rattle.std.proofs.lemmas.Bool.{and_from, and_parts, cases_lt, false≢true, ltb-true}
 use Rattle.std.proofs.lemmas.Option.{none-some, same_Some}
 use Rattle.st_core.specs.declared.types.Pid.{Pid}
 use Rattle.st_core.specs.declared.types.Event.{Event}
@@ -15,8 +15,8 @@ use Rattle.st_core.specs.Run.{Stream, pids_of}
 use Rattle.st_core.specs.Streams.{events_of, IsStreams, lists, stream_of, names_among}
 use Rattle.st_core.proofs.ForCallers.{pid_eq-refl, pid_same, AreReports, names_among_listed}
 use Rattle.st_pair.specs.Places.{event_at, is_stamp}
-use Rattle.st_pair.specs.Pairing.{agrees, is_send, receive_of, refusal, stamp_of, to_eq}
-use Rattle.st_pair.proofs.ForCallers.{once_place, paired}
+use Rattle.st_pair.specs.Pairing.{agrees, is_send, receive_of, refusal, stamp_of}
+use Rattle.st_pair.proofs.ForCallers.{once_place, paired, agrees_if}
 use Rattle.st_order.specs.Items.{is_hidden}
 use Rattle.st_order.proofs.ForCallers.{all_found, AreFound}
 use Rattle.st_plan.specs.Marks.{all_streams, Marked, told_events, told_streams, Whole}
@@ -37,7 +37,6 @@ use Rattle.st_closed_world.proofs.ReasonlessStreams.{fit_together}
 use Rattle.st_closed_world.proofs.Supplies.{greatest_among, highest}
 use Rattle.st_closed_world.proofs.Suppliers.{named, own_at, received_to}
 use Rattle.st_closed_world.proofs.UntoldEvents.{above_if, count_at, first_of, hidden_is, IsHiddenSend, untold_at}
-use Rattle.st_closed_world.proofs.InsertedReceives.{to_refl}
 
 -- MARKED EVENTS
 
@@ -138,13 +137,7 @@ timely_rises es timely j i d e less at_d at_e stamps =
 
 send_agrees : (e : Event) → agrees (send_of e) e ≡ true
 send_agrees e =
-    let value = eq-eqb e.value e.value refl in
-    let to = and_from (to_eq e.to e.to) (e.value == e.value) (to_refl e.to) value in
-    let prev = and_from (e.serial.prev == e.serial.prev) (to_eq e.to e.to && e.value == e.value)
-    (eq-eqb e.serial.prev e.serial.prev refl) to in
-    and_from (e.label.0 == e.label.0)
-    (e.serial.prev == e.serial.prev && (to_eq e.to e.to && e.value == e.value))
-    (eq-eqb e.label.0 e.label.0 refl) prev
+    agrees_if (send_of e) e (record { sends = refl; label = refl; prev = refl; to = refl; value = refl })
 
 some_if : {X : Type 0} (o : Option X) → (is_none o ≡ true → ⊥) → is_some o ≡ true
 some_if None some = absurd (some refl)

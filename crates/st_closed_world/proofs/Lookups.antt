@@ -37,23 +37,30 @@ given_there true b x fails passes h = false≢true (sym fails)
 given_there false true x fails passes h = none-some x (sym h)
 given_there false false x fails passes h = false≢true passes
 
-pub taken_if : (streams : List Stream) (q : Pid) (v : ℕ) (x : Pid × ℕ) → IsRising (pids_of streams)
-    → receive_of streams q v ≡ Some x → IsTaken streams q v
-taken_if streams q v x rising is =
+-- the message whose receive is at this place
+pub taken_there : (streams : List Stream) (q : Pid) (v : ℕ) (x : Pid × ℕ) → IsRising (pids_of streams)
+    → receive_of streams q v ≡ Some x → (t : IsTaken streams q v) × (event_at streams x.0 x.1 ≡ Some t.event)
+taken_there streams q v x rising is =
     let g = given_at (got_rule q v) streams x rising is in
     let e = g.event in
     let says = given_unless (is_stamp e) (pid_eq e.from q && e.serial.this == v) (g.pid, g.index) x
     g.gives in
-    let parts = and_parts (pid_eq e.from q) (e.serial.this == v) says.1 in
-    record {
-      pid = g.pid;
-      index = g.index;
-      event = e;
-      at = g.at;
-      receives = says.0;
-      from = pid_same e.from q parts.0;
-      count = eqb-true e.serial.this v parts.1;
-    }
+    let parts = and_parts (pid_eq e.from q) (e.serial.this == v) says.1 in (
+      record {
+        pid = g.pid;
+        index = g.index;
+        event = e;
+        at = g.at;
+        receives = says.0;
+        from = pid_same e.from q parts.0;
+        count = eqb-true e.serial.this v parts.1;
+      },
+      ap (λ (y : Pid × ℕ). event_at streams y.0 y.1) (sym says.2) ∙ g.at,
+    )
+
+pub taken_if : (streams : List Stream) (q : Pid) (v : ℕ) (x : Pid × ℕ) → IsRising (pids_of streams)
+    → receive_of streams q v ≡ Some x → IsTaken streams q v
+taken_if streams q v x rising is = (taken_there streams q v x rising is).0
 
 pub none_taken : (streams : List Stream) (q : Pid) (v : ℕ) → is_none (receive_of streams q v) ≡ true
     → IsTaken streams q v → ⊥
@@ -69,7 +76,20 @@ none_taken streams q v none t =
     (eq-eqb e.serial.this v t.count))
     (event_none (got_rule q v) streams is t.pid t.index e t.at)
 
--- what is taken is the same where each taking is one of both
+pub nowhere_taken : (streams : List Stream) (q : Pid) (v : ℕ) → is_none (receive_of streams q v) ≡ true
+    → (p : Pid) (i : ℕ) (e : Event) → event_at streams p i ≡ Some e → is_stamp e ≡ false → e.from ≡ q
+    → e.serial.this ≡ v → ⊥
+nowhere_taken streams q v none p i e at receives from count = none_taken streams q v none (record {
+  pid = p;
+  index = i;
+  event = e;
+  at = at;
+  receives = receives;
+  from = from;
+  count = count;
+})
+
+-- what is taken is the same if each taking is one of both
 pub taken_alike : (xs ys : List Stream) (q : Pid) (v : ℕ) → IsRising (pids_of xs)
     → IsRising (pids_of ys)
     → (IsTaken xs q v → IsTaken ys q v) → (IsTaken ys q v → IsTaken xs q v)

@@ -25,7 +25,7 @@ use Rattle.st_core.specs.State.{LocalState, Process}
 use Rattle.st_core.specs.Stamp.{stamp, stamp_any, stamped_token}
 use Rattle.st_core.specs.Local.{received, has_label}
 use Rattle.st_core.specs.Pick.{matches, pick, pick_from}
-use Rattle.st_core.specs.Report.{flag_of, report}
+use Rattle.st_core.specs.Report.{flag_of, report, token_event}
 use Rattle.st_core.specs.Step.{Acted, acted, actor, answers, changed, prints, reached, receiver, receives, sends}
 use Rattle.st_core.specs.Laws.{is_reset, moves_token}
 use Rattle.st_core.proofs.ForCallers.{mapped}
@@ -85,20 +85,8 @@ any_some top p l m h had =
       | Some t ↦ λ h had. stamped_some top p l m h
     ] h had
 
--- the event of a token
-abbrev pub event_of : Kind → Token → Option Pid → ℕ → Event
-event_of k t to v = record {
-  label = t.label;
-  kind = k;
-  serial = t.serial;
-  from = t.from;
-  to =
-      to;
-  value = v;
-}
-
 report_says : (k : Kind) (t : Token) (to : Option Pid) (v : ℕ)
-    → report true k (Some (loud_token t)) to v ≡ Some (event_of k t to v)
+    → report true k (Some (loud_token t)) to v ≡ Some (token_event k t to v)
 report_says kind.Send t to v = refl
 report_says kind.Receive t to v = refl
 report_says kind.Print t to v = refl
@@ -110,7 +98,7 @@ report_loud : (traced : Bool) (k : Kind) (token : Option Token) (to : Option Pid
 report_loud traced k None to v e h = absurd (none-some e h)
 report_loud traced k (Some t) to v e h =
     report_says k t to v
-    ∙ ap (λ (x : Event). Some x) (cond_some (traced && flag_of k t.flags) (event_of k t to v) e h).1
+    ∙ ap (λ (x : Event). Some x) (cond_some (traced && flag_of k t.flags) (token_event k t to v) e h).1
 
 report_some : (k : Kind) (token : Option Token) (to : Option Pid) (v : ℕ) → is_some token ≡ true
     → IsSome (report true k (option_map loud_token token) to v)

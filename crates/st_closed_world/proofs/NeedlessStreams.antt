@@ -1,7 +1,7 @@
 -- Streams without a need are settled: if each stamp is above the events of its process before it,
 -- the order keeps these in turn, so that the counts at each move are those of the events before it.
-use Rattle.std.proofs.Common.{◌≡◌, ◌↔◌, ℕ, ◌<◌, ◌⊎◌, ◌==◌, inl, inr, ◌&&◌, nat_lt, Bool, true, false, not, cond, List}
-use Rattle.std.proofs.Common.{[], ◌∷◌, ◌++◌, take, drop, map, reverse, filter, refl, sym, ◌∙◌, ap, subst, arith}
+use Rattle.std.proofs.Common.{◌≡◌, ◌↔◌, ℕ, ◌<◌, ◌⊎◌, ◌==◌, inl, inr, ◌&&◌, nat_lt, Bool, true, false, not, List}
+use Rattle.std.proofs.Common.{[], ◌∷◌, ◌++◌, take, map, reverse, refl, sym, ◌∙◌, ap, subst, arith}
 use Rattle.std.proofs.lemmas.Bool.{eq-eqb, false≢true, ltb-true}
 use Rattle.std.proofs.lemmas.Bool.Decides.{nat_tests}
 use Rattle.st_core.specs.declared.types.Pid.{Pid}
@@ -10,7 +10,7 @@ use Rattle.st_core.specs.Pid.{IsRising}
 use Rattle.st_core.specs.Run.{Stream, pids_of}
 use Rattle.st_core.specs.Streams.{events_of, IsStreams}
 use Rattle.st_core.specs.Laws.{greatest_count, prev_after}
-use Rattle.st_core.proofs.ForCallers.{and_false, pid_eq-refl}
+use Rattle.st_core.proofs.ForCallers.{and_false}
 use Rattle.st_pair.specs.Places.{is_stamp}
 use Rattle.st_order.specs.declared.item.Item.{Item}
 use Rattle.st_order.specs.Order.{IsOrder}
@@ -24,8 +24,7 @@ use Rattle.st_plan.specs.Full.{IsFull}
 use Rattle.st_closed_world.specs.Local.{IsNeedless}
 use Rattle.st_closed_world.specs.Needs.{HoldsOfNone, is_late, is_need}
 use Rattle.st_closed_world.proofs.Equivalences.{settled_shown, shown_full}
-use Rattle.st_plan.proofs.ForCallers.{greatest_has, After, after, event_move, event_move_there, is_move_of, own_step}
-use Rattle.st_plan.proofs.ForCallers.{turned}
+use Rattle.st_plan.proofs.ForCallers.{After, at_each, event_move, greatest_has, next_event}
 
 -- a stamp that isn't late is above the greatest count
 pub above_if : (stamp less : Bool) → stamp ≡ true → (stamp && not less) ≡ false → less ≡ true
@@ -59,12 +58,9 @@ at_move streams p i e earlier later needless before =
     let c = clock p earlier in
     let l = last p earlier in
     let prev = e.serial.prev in
-    let ms = filter (is_move_of p) later in
-    let front : event_move p i e ∷ ms ≡ turned p n (drop n events) =
-    ap (λ (b : Bool). cond b (event_move p i e ∷ ms) ms) (sym (pid_eq-refl p)) ∙ before.left in
-    let own = own_step events p n c l i e later before.clocked front in
+    let own = next_event events p i e earlier later before in
     record {
-      turn = ap not (eq-eqb n i (sym own.0));
+      turn = own.0;
       caused = double (is_stamp e) (not (prev == l) && nat_lt prev c)
           (ap (λ k. is_stamp e && (not (prev == k) && nat_lt prev c)) before.counted
           ∙ ap (λ k. is_stamp e && (not (prev == prev_after (take n events)) && nat_lt prev k))
@@ -79,13 +75,8 @@ module _ (top : ℕ) (streams : List Stream) (rising : IsRising (pids_of streams
       → moves streams xs ≡ reverse earlier ++ m ∷ later
       → IsSettledNext earlier m
   along earlier m later split =
-      let lead = leads streams is.timely in
-      let own = event_move_there streams rising is.reported lead xs order earlier m later split in
-      let p = m.who in
-      let before = after streams rising is.reported lead xs order p earlier (m ∷ later) split in
-      subst (IsSettledNext earlier) (sym own.1) (at_move streams p own.0 m.event earlier later
-      is.caused
-      (subst (λ x. After (events_of streams p) p earlier (x ∷ later)) own.1 before))
+      at_each streams rising is.reported (leads streams is.timely) xs order IsSettledNext
+      (λ p i e before after. at_move streams p i e before after is.caused) earlier m later split
 
 pub needless_settled : (top : ℕ) (streams : List Stream) → IsRising (pids_of streams)
     → IsNeedless top streams

@@ -1,7 +1,7 @@
 -- If all sends were reported, no need has a sender that is free: its message was received, so it
 -- was sent, and that is told. So each need has a reported send of its count to its process, another
 -- for each.
-use Rattle.std.proofs.Common.{◌≡◌, ℕ, ◌≤◌, ◌==◌, ◌&&◌, ◌||◌, true, false, List, [], ◌∷◌, length, slice_get, Option}
+use Rattle.std.proofs.Common.{◌≡◌, ℕ, ◌≤◌, ◌||◌, true, false, List, [], ◌∷◌, length, slice_get, Option}
 use Rattle.std.proofs.Common.{Some, None, is_none, sym, ◌∙◌, ap, subst, arith, refl}
 use Rattle.std.specs.List.{count_by}
 use Rattle.std.specs.Set.{is_member}
@@ -14,13 +14,13 @@ use Rattle.st_core.specs.Pid.{pid_eq, IsRising}
 use Rattle.st_core.specs.Run.{Shows, Stream, pids_of}
 use Rattle.st_core.specs.Streams.{IsStreams}
 use Rattle.st_core.proofs.ForCallers.{pid_eq-refl}
-use Rattle.st_pair.specs.Pairing.{is_send, receive_of, stamp_of, to_eq}
-use Rattle.st_pair.specs.Places.{event_at, is_stamp}
-use Rattle.st_pair.proofs.ForCallers.{paired}
+use Rattle.st_pair.specs.Pairing.{is_send, receive_of, stamp_of}
+use Rattle.st_pair.specs.Places.{is_stamp}
+use Rattle.st_pair.proofs.ForCallers.{paired, agreed}
 use Rattle.st_plan.specs.Marks.{all_streams, told_streams, Whole}
 use Rattle.st_plan.specs.Full.{IsFull}
 use Rattle.st_closed_world.specs.Needs.{marked_of}
-use Rattle.st_closed_world.specs.Supply.{excess, is_free, is_own_supply, needs}
+use Rattle.st_closed_world.specs.Supply.{is_free, is_own_supply, needs}
 use Rattle.st_closed_world.specs.Wholes.{AreSendsTold, wholes_of}
 use Rattle.st_closed_world.proofs.Choices.{mark_at, told_somewhere}
 use Rattle.st_closed_world.proofs.Feeders.{feeders}
@@ -56,10 +56,9 @@ module _ (top : ℕ) (wholes : List Whole) (sound : IsStreams (all_streams whole
       let agree = (fit_together all (paired all full.accepted)).agree p one.index s.index e f
       u.there u.receives s.at
       s.stamps s.count in
-      let is = and_parts (is_send f) (f.label.0 == e.label.0
-      && (f.serial.prev == e.serial.prev && (to_eq f.to e.to && f.value == e.value))) agree in
+      let is = agreed f e agree in
       let r = told_somewhere (marked_of wholes e.from) s.index m.mark m.at
-      (sends e.from s.index m.mark m.at (ap is_send m.is ∙ is.0)) in
+      (sends e.from s.index m.mark m.at (ap is_send m.is ∙ is.sends)) in
       let free = and_parts (is_none (receive_of told q v)) (is_none (stamp_of told q v))
       one.passes in
       none_stamped told e.from e.serial.this

@@ -9,13 +9,14 @@ use Rattle.st_core.specs.declared.types.Event.{Event}
 use Rattle.st_core.specs.Pid.{pid_eq}
 use Rattle.st_core.specs.Run.{Stream}
 use Rattle.st_core.specs.Streams.{events_of}
+use Rattle.st_core.specs.Event.{to_eq}
 use Rattle.st_pair.specs.declared.answer.PairFault.{PairFault}
 use Rattle.st_pair.specs.declared.answer.PairFault.TheVariants as fault
 use Rattle.st_pair.specs.declared.answer.Source.{Source}
 use Rattle.st_pair.specs.declared.answer.Source.TheVariants as source
 use Rattle.st_pair.specs.Places.{first, first_from, is_stamp}
 use Rattle.st_pair.specs.Pairing.{agrees, first_rule, is_send, mismatch, not_rising, prev_not_before, receive_of}
-use Rattle.st_pair.specs.Pairing.{refusal, repeated, stamp_before, stamp_of, to_eq}
+use Rattle.st_pair.specs.Pairing.{refusal, repeated, stamp_before, stamp_of}
 use Rattle.st_pair.proofs.ForCallers.{Rule}
 use Rattle.st_order.specs.Items.{is_hidden}
 use Rattle.st_closed_world.specs.Renumbering.{event_with, KeepsOrder, with_counts}

@@ -9,7 +9,8 @@ use Rattle.st_core.specs.declared.types.Pid.{Pid}
 use Rattle.st_core.specs.declared.types.Event.{Event}
 use Rattle.st_core.specs.Run.{Stream, pids_of}
 use Rattle.st_core.specs.Streams.{events_of}
-use Rattle.st_pair.specs.Pairing.{is_send, receive_of, stamp_of, to_eq}
+use Rattle.st_core.specs.Event.{to_eq}
+use Rattle.st_pair.specs.Pairing.{is_send, receive_of, stamp_of}
 use Rattle.st_closed_world.specs.Needs.{is_need}
 use Rattle.st_closed_world.specs.Renumbering.{event_with, KeepsOrder, with_counts}
 use Rattle.st_closed_world.specs.Supply.{excess, is_free, is_own_supply, IsSupplied, needs, needs_from}

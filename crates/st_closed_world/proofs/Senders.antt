@@ -12,8 +12,9 @@ use Rattle.st_core.specs.declared.types.Event.{Event}
 use Rattle.st_core.specs.Pid.{pid_eq, IsBelow, IsRising}
 use Rattle.st_core.specs.Run.{Stream, pids_of}
 use Rattle.st_core.specs.Streams.{events_of, lists, is_among}
+use Rattle.st_core.specs.Event.{to_eq}
 use Rattle.st_core.proofs.ForCallers.{and_false, IsBelow-apart, pid_eq-swap, pid_same}
-use Rattle.st_pair.specs.Pairing.{is_send, receive_of, stamp_of, to_eq}
+use Rattle.st_pair.specs.Pairing.{is_send, receive_of, stamp_of}
 use Rattle.st_closed_world.specs.Completion.{count_of, needs_of, own, supplied_by, supplies_of, Supply}
 use Rattle.st_closed_world.specs.Needs.{is_need}
 use Rattle.st_closed_world.specs.Supply.{excess, is_free, is_own_supply, needs, needs_from}

@@ -1,9 +1,9 @@
 -- Each event tells of a stamp of the process that it is from, with its prev and its count: a send
 -- or print is this stamp, and the send of a receive is reported and agrees with it, or is hidden.
 -- So two events tell that a process has a stamp with prev 0 behind one with another prev.
-use Rattle.std.proofs.Common.{◌≡◌, inl, inr, ℕ, ◌==◌, ◌&&◌, Bool, true, false, cond, List, Option, Some, None, is_none}
+use Rattle.std.proofs.Common.{◌≡◌, inl, inr, ℕ, Bool, true, false, cond, List, Option, Some, None, is_none}
 use Rattle.std.proofs.Common.{is_some, option_map, option_and_then, refl, sym, ◌∙◌, ap, subst, arith}
-use Rattle.std.proofs.lemmas.Bool.{and_parts, eqb-true, false≢true}
+use Rattle.std.proofs.lemmas.Bool.{and_parts, false≢true}
 use Rattle.std.proofs.lemmas.Option.{same_Some}
 use Rattle.st_core.specs.declared.types.Act.{Act}
 use Rattle.st_core.specs.declared.types.Pid.{Pid}
@@ -16,9 +16,9 @@ use Rattle.st_core.specs.Run.{Shows, Stream}
 use Rattle.st_core.specs.Streams.{is_of, IsStreams}
 use Rattle.st_core.proofs.ForCallers.{pid_same}
 use Rattle.st_pair.specs.Places.{event_at, is_stamp}
-use Rattle.st_pair.specs.Pairing.{agrees, is_send, receive_of, refusal, stamp_of, to_eq}
-use Rattle.st_pair.proofs.ForCallers.{paired}
-use Rattle.st_closed_world.specs.FinalReasons.{IsStampOf, IsZeroBehind}
+use Rattle.st_pair.specs.Pairing.{agrees, receive_of, refusal, stamp_of}
+use Rattle.st_pair.proofs.ForCallers.{paired, agreed}
+use Rattle.st_closed_world.specs.FinalReasons.{IsStampOf, IsZeroBehind, HasZeroBehindStamp}
 use Rattle.st_closed_world.specs.HiddenSends.{hidden_send, send_of}
 use Rattle.st_closed_world.proofs.AcceptedStreams.{FitTogether}
 use Rattle.st_closed_world.proofs.Lookups.{IsTaken, none_taken, stamp_if}
@@ -37,17 +37,6 @@ stamper kind.Send from to p stamps own = pid_same from p
 stamper kind.Receive from to p stamps own = absurd (false≢true stamps)
 stamper kind.Print from to p stamps own = pid_same from p
     (and_parts (pid_eq from p) (is_none to) own).0
-
--- a send that agrees with a receive has its prev
-same_prev : (f e : Event) → agrees f e ≡ true → f.serial.prev ≡ e.serial.prev
-same_prev f e agree =
-    let a = and_parts (is_send f) (f.label.0 == e.label.0
-    && (f.serial.prev == e.serial.prev && (to_eq f.to e.to && f.value == e.value))) agree in
-    let b = and_parts (f.label.0 == e.label.0)
-    (f.serial.prev == e.serial.prev && (to_eq f.to e.to && f.value == e.value)) a.1 in
-    let c = and_parts (f.serial.prev == e.serial.prev) (to_eq f.to e.to && f.value == e.value)
-    b.1 in
-    eqb-true f.serial.prev e.serial.prev c.0
 
 -- a stamp of the process that the event is from
 pub record TellsOf (streams : List Stream) (e : Event) : Type 0 where
@@ -126,8 +115,8 @@ module _ (streams : List Stream) (sound : IsStreams streams) (fit : FitTogether 
             record {
               stamp = s.event;
               of_it = inl (record { index = s.index; at = s.at; stamps = s.stamps });
-              prev = same_prev s.event e (fit.agree p i s.index e s.event at receives s.at s.stamps
-                  s.count);
+              prev = (agreed s.event e (fit.agree p i s.index e s.event at receives s.at s.stamps
+                  s.count)).prev;
               count = s.count;
             }
       ] refl
@@ -138,11 +127,10 @@ module _ (streams : List Stream) (sound : IsStreams streams) (fit : FitTogether 
     | false ↦ sent_told
   ] refl
 
-pub told_zeros_final : (top : ℕ) (streams : List Stream) → IsStreams streams
-    → refusal streams ≡ None
-    → (p : Pid) (i : ℕ) → IsZeroBehind streams p i → (acts : List Act) → NoReset acts
-    → ¬ Shows top streams acts
-told_zeros_final top streams sound accepted p i z =
+-- two events that tell of a stamp with prev 0 behind one with another prev tell it of their process
+pub told_behind : (streams : List Stream) → IsStreams streams → refusal streams ≡ None → (p : Pid) (i : ℕ)
+    → (z : IsZeroBehind streams p i) → HasZeroBehindStamp streams z.event.from
+told_behind streams sound accepted p i z =
     let fit = fit_together streams (paired streams accepted) in
     let first = told streams sound fit z.pid z.index z.first z.first_at in
     let later = told streams sound fit p i z.event z.at in
@@ -151,7 +139,7 @@ told_zeros_final top streams sound accepted p i z =
     let first_count = first.count in
     let first_prev = first.prev in
     let later_count = later.count in
-    zeros_final top streams sound.draft.rising z.event.from (inl (record {
+    record {
       first = first.stamp;
       later = later.stamp;
       first_of = subst (λ q. IsStampOf streams q first.stamp) z.same first.of_it;
@@ -159,4 +147,11 @@ told_zeros_final top streams sound accepted p i z =
       counts = omega arith;
       some = omega arith;
       is_zero = later.prev ∙ z.is_zero;
-    }))
+    }
+
+pub told_zeros_final : (top : ℕ) (streams : List Stream) → IsStreams streams
+    → refusal streams ≡ None
+    → (p : Pid) (i : ℕ) → IsZeroBehind streams p i → (acts : List Act) → NoReset acts
+    → ¬ Shows top streams acts
+told_zeros_final top streams sound accepted p i z =
+    zeros_final top streams sound.draft.rising z.event.from (inl (told_behind streams sound accepted p i z))

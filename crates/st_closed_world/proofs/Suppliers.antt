@@ -20,13 +20,14 @@ use Rattle.st_core.specs.Pid.{pid_eq, IsBelow, IsRising}
 use Rattle.st_core.specs.Laws.{AreAllListed, IsLeastUnlisted}
 use Rattle.st_core.specs.Run.{Stream, pids_of}
 use Rattle.st_core.specs.Streams.{events_of, is_own, is_of, lists, stream_of, AreOwn, IsStreams, is_among}
+use Rattle.st_core.specs.Event.{to_eq}
 use Rattle.st_core.proofs.ForCallers.{all_at, IsBelow-apart, pid_eq-refl, pid_eq-swap, pid_same}
 use Rattle.st_core.proofs.ForCallers.{unlisted_is_least, lists_among}
 use Rattle.st_pair.specs.declared.answer.PairFault.TheVariants as fault
 use Rattle.st_pair.specs.Places.{event_at, is_stamp}
-use Rattle.st_pair.specs.Pairing.{agrees, is_send, mismatch, receive_of, stamp_of, to_eq}
+use Rattle.st_pair.specs.Pairing.{agrees, is_send, mismatch, receive_of, stamp_of}
 use Rattle.st_pair.proofs.ForCallers.{cond_none, event_none, events_in, given_at, given_from, got_rule, IsPaired}
-use Rattle.st_pair.proofs.ForCallers.{once_place, own_rule, paired, stamp_once}
+use Rattle.st_pair.proofs.ForCallers.{once_place, own_rule, paired, stamp_once, agreed}
 use Rattle.st_order.proofs.ForCallers.{drop_front}
 use Rattle.st_plan.specs.Marks.{all_streams, Marked, told_streams, Whole}
 use Rattle.st_plan.specs.Full.{IsFull}
@@ -271,18 +272,13 @@ module _ (top : ℕ) (wholes : List Whole) (sound : IsStreams (all_streams whole
       (Some (fault.Mismatch p i e.from h.0)))) (sym stamp)
       ∙ event_none (mismatch all) all ok.matched p i e u.there) in
       let agree : agrees g e ≡ true = ap (λ b. b || agrees g e) (sym u.receives) ∙ agreeing in
-      let send = and_parts (is_send g) (g.label.0 == e.label.0 && (g.serial.prev == e.serial.prev
-      && (to_eq g.to e.to && g.value == e.value))) agree in
-      let label = and_parts (g.label.0 == e.label.0) (g.serial.prev == e.serial.prev
-      && (to_eq g.to e.to && g.value == e.value)) send.1 in
-      let prev = and_parts (g.serial.prev == e.serial.prev) (to_eq g.to e.to && g.value == e.value)
-      label.1 in
-      let to = and_parts (to_eq g.to e.to) (g.value == e.value) prev.1 in
+      let is = agreed g e agree in
       let mine : e.to ≡ Some p =
       received_to e.kind e.from e.to p u.receives (own_at all p i e sound.draft.own u.there) in
       let same : f.1 ≡ g = ap (λ (x : ℕ × Event). x.1) (sym says.1) in
       ap (λ (x : Event). is_send x && to_eq x.to (Some p)) same
-      ∙ and_from (is_send g) (to_eq g.to (Some p)) send.0 (ap (to_eq g.to) (sym mine) ∙ to.0)
+      ∙ and_from (is_send g) (to_eq g.to (Some p)) is.sends
+      (ap (λ (o : Option Pid). to_eq o (Some p)) (is.to ∙ mine) ∙ pid_eq-refl p)
 
   own_if : (p q : Pid) (i : ℕ) → IsUntold p q i → not (is_free told v q) ≡ true
       → is_own_supply told v p q ≡ true

@@ -1,42 +1,36 @@
 -- In a choice the untold events of a process are its hidden sends: each is the send of a receive in
 -- the streams, of whose count they report no stamp, and each such send is there.
-use Rattle.std.proofs.Common.{◌≡◌, inl, inr, ℕ, zero, suc, ◌+◌, ◌<◌, ◌≤◌, ◌==◌, ◌&&◌, Bool, true, false, not, cond}
+use Rattle.std.proofs.Common.{◌≡◌, inl, inr, ℕ, zero, suc, ◌+◌, ◌<◌, ◌≤◌, ◌&&◌, Bool, true, false, not, cond}
 use Rattle.std.proofs.Common.{List, [], ◌∷◌, Option, Some, None, is_none, is_some, option_map, option_and_then}
 use Rattle.std.proofs.Common.{slice_get, refl, sym, ◌∙◌, ap, subst, arith}
-use Rattle.std.proofs.lemmas.Bool.{and_parts, cases_lt, eqb-true, false≢true}
+use Rattle.std.proofs.lemmas.Bool.{and_parts, cases_lt, false≢true}
 use Rattle.std.proofs.lemmas.Option.{none-some, same_Some}
 use Rattle.st_core.specs.declared.types.Pid.{Pid}
 use Rattle.st_core.specs.declared.types.Kind.{Kind}
 use Rattle.st_core.specs.declared.types.Kind.TheVariants as kind
 use Rattle.st_core.specs.declared.types.Event.{Event}
 use Rattle.st_core.specs.Laws.{greatest_count}
-use Rattle.st_core.specs.Pid.{pid_eq, IsRising}
+use Rattle.st_core.specs.Pid.{IsRising}
 use Rattle.st_core.specs.Run.{Stream, pids_of}
-use Rattle.st_core.proofs.ForCallers.{pid_same}
 use Rattle.st_pair.specs.Places.{event_at, is_stamp}
-use Rattle.st_pair.specs.Pairing.{agrees, is_send, receive_of, stamp_of, to_eq}
-use Rattle.st_pair.proofs.ForCallers.{given_at, got_rule, paired}
+use Rattle.st_pair.specs.Pairing.{agrees, is_send, receive_of, stamp_of}
+use Rattle.st_pair.proofs.ForCallers.{paired, agreed}
 use Rattle.st_plan.specs.Marks.{all_streams, Marked, told_events, told_streams, Whole}
 use Rattle.st_closed_world.specs.Choice.{IsChoice, is_taken}
 use Rattle.st_closed_world.specs.HiddenSends.{hidden_from, hidden_send, send_of}
 use Rattle.st_closed_world.specs.Needs.{marked_of}
 use Rattle.st_closed_world.specs.Placed.{untold_events}
 use Rattle.st_closed_world.proofs.AcceptedStreams.{FitTogether}
-use Rattle.st_closed_world.proofs.Lookups.{HasStamp, IsTaken, none_stamped, stamp_if}
+use Rattle.st_closed_world.proofs.Lookups.{HasStamp, IsTaken, none_stamped, stamp_if, taken_there}
 use Rattle.st_closed_world.proofs.Choices.{mark_at, told_somewhere}
 use Rattle.st_closed_world.proofs.FedNeeds.{told_at}
 use Rattle.st_closed_world.proofs.Needs.{at_mark, events_all, events_told}
 use Rattle.st_closed_world.proofs.InsertedReceives.{sent_from}
 use Rattle.st_closed_world.proofs.ReasonlessStreams.{fit_together, sent_if}
-use Rattle.st_closed_world.proofs.Suppliers.{given_unless, own_at}
+use Rattle.st_closed_world.proofs.Suppliers.{own_at}
+use Rattle.st_core.specs.declared.types.Label.{Label}
 
 -- THE HIDDEN SEND OF A COUNT
-
-to_is : (p q : Option Pid) → to_eq p q ≡ true → p ≡ q
-to_is None None h = refl
-to_is None (Some q) h = absurd (false≢true h)
-to_is (Some p) None h = absurd (false≢true h)
-to_is (Some p) (Some q) h = ap (λ (x : Pid). Some x) (pid_same p q h)
 
 kind_is : (k : Kind)
     → (let b : Bool = elim k [ kind.Send ↦ true | kind.Receive ↦ false | kind.Print ↦ false ] in b)
@@ -50,18 +44,12 @@ kind_is kind.Print h = absurd (false≢true h)
 send_is : (f e : Event) → agrees f e ≡ true → f.serial.this ≡ e.serial.this → f.from ≡ e.from
     → send_of e ≡ f
 send_is f e agree this from =
-    let a = and_parts (is_send f) (f.label.0 == e.label.0
-    && (f.serial.prev == e.serial.prev && (to_eq f.to e.to && f.value == e.value))) agree in
-    let b = and_parts (f.label.0 == e.label.0)
-    (f.serial.prev == e.serial.prev && (to_eq f.to e.to && f.value == e.value)) a.1 in
-    let c = and_parts (f.serial.prev == e.serial.prev) (to_eq f.to e.to && f.value == e.value)
-    b.1 in
-    let d = and_parts (to_eq f.to e.to) (f.value == e.value) c.1 in
-    let label = sym (eqb-true f.label.0 e.label.0 b.0) in
-    let prev = sym (eqb-true f.serial.prev e.serial.prev c.0) in
-    let to = sym (to_is f.to e.to d.0) in
-    let value = sym (eqb-true f.value e.value d.1) in
-    let sends = kind_is f.kind a.0 in
+    let is = agreed f e agree in
+    let label = ap (λ (l : Label). l.0) (sym is.label) in
+    let prev = sym is.prev in
+    let to = sym is.to in
+    let value = sym is.value in
+    let sends = kind_is f.kind is.sends in
     ap (λ n. let x : Event = record (send_of e) { label = record { 0 = n } } in x) label
     ∙ ap (λ k. let x : Event = record e { label = record { 0 = f.label.0 }; kind = k } in x) sends
     ∙ ap (λ n. let x : Event = record e {
@@ -122,23 +110,8 @@ got_if streams q v rising some =
     → IsGot streams q v) [
       | None ↦ λ _ h. absurd (false≢true h)
       | Some x ↦ λ is _.
-          let g = given_at (got_rule q v) streams x rising is in
-          let e = g.event in
-          let says = given_unless (is_stamp e) (pid_eq e.from q && e.serial.this == v)
-          (g.pid, g.index) x g.gives in
-          let parts = and_parts (pid_eq e.from q) (e.serial.this == v) says.1 in
-          record {
-            taken = record {
-              pid = g.pid;
-              index = g.index;
-              event = e;
-              at = g.at;
-              receives = says.0;
-              from = pid_same e.from q parts.0;
-              count = eqb-true e.serial.this v parts.1;
-            };
-            sends = ap find is ∙ ap (λ (y : Pid × ℕ). event_at streams y.0 y.1) (sym says.2) ∙ g.at;
-          }
+          let t = taken_there streams q v x rising is in
+          record { taken = t.0; sends = ap find is ∙ t.1 }
     ] refl some
 
 -- what a hidden send is

@@ -7,7 +7,8 @@ use Rattle.st_core.specs.declared.types.Pid.{Pid}
 use Rattle.st_core.specs.declared.types.Event.{Event}
 use Rattle.st_core.specs.Run.{Stream, pids_of}
 use Rattle.st_core.specs.Streams.{events_of}
-use Rattle.st_pair.specs.Pairing.{is_send, receive_of, stamp_of, to_eq}
+use Rattle.st_core.specs.Event.{to_eq}
+use Rattle.st_pair.specs.Pairing.{is_send, receive_of, stamp_of}
 use Rattle.st_closed_world.specs.Needs.{is_need}
 
 -- how many of these events, after those before, are needs of v

@@ -1,9 +1,9 @@
 -- Nothing is needed in streams whose events are all fit: a send names one receive, and each receive
 -- a send that names it, so no two receives have the same send.
-use Rattle.std.proofs.Common.{◌≡◌, ℕ, ◌+◌, ◌<◌, ◌≤◌, zero, suc, ◌==◌, ◌&&◌, nat_lt, not, Bool, true}
+use Rattle.std.proofs.Common.{◌≡◌, ℕ, ◌+◌, ◌<◌, ◌≤◌, zero, suc, ◌&&◌, nat_lt, not, Bool, true}
 use Rattle.std.proofs.Common.{false, cond, inl, inr, List, [], ◌∷◌, length, take}
 use Rattle.std.proofs.Common.{slice_get, Option, Some, None, refl, sym, ◌∙◌, ap, subst, arith}
-use Rattle.std.proofs.lemmas.Bool.{cases_lt, eq-eqb, false≢true, and_from}
+use Rattle.std.proofs.lemmas.Bool.{cases_lt, false≢true}
 use Rattle.std.proofs.lemmas.Bool.Decides.{nat_tests}
 use Rattle.std.proofs.lemmas.Option.{none-some, same_Some}
 use Rattle.st_core.specs.declared.types.Pid.{Pid}
@@ -14,11 +14,11 @@ use Rattle.st_core.specs.Pid.{pid_eq, IsRising}
 use Rattle.st_core.specs.Run.{Stream, pids_of}
 use Rattle.st_core.specs.Streams.{events_of, stream_of, IsStreams}
 use Rattle.st_core.proofs.ForCallers.{above_apart, pid_eq-refl, pid_same, place_within}
-use Rattle.st_pair.specs.Pairing.{agrees, is_send, refusal, source_of, stamp_of, to_eq}
+use Rattle.st_pair.specs.Pairing.{agrees, is_send, refusal, source_of, stamp_of}
 use Rattle.st_pair.specs.Places.{event_at, is_stamp}
 use Rattle.st_pair.specs.declared.answer.Source.{Source}
 use Rattle.st_pair.specs.declared.answer.Source.TheVariants as source
-use Rattle.st_pair.proofs.ForCallers.{events_in, paired, stamp_once}
+use Rattle.st_pair.proofs.ForCallers.{agrees_if, events_in, paired, source_from, stamp_once}
 use Rattle.st_order.specs.Items.{is_hidden}
 use Rattle.st_closed_world.specs.Local.{IsNeedless}
 use Rattle.st_closed_world.proofs.ForCallers.{accepted_if, own_at, received_to, FitTogether}
@@ -72,17 +72,9 @@ same_place (q ∷ ps) (suc k) (suc l) p rising at there =
 
 -- A SEND AND ITS RECEIVE
 
-to_itself : (to : Option Pid) → to_eq to to ≡ true
-to_itself None = refl
-to_itself (Some p) = pid_eq-refl p
-
 agrees_received : (f : Event) → is_send f ≡ true → agrees f (receipt_of f) ≡ true
 agrees_received f sends =
-    and_from (is_send f) _ sends
-    (and_from (f.label.0 == f.label.0) _ (eq-eqb f.label.0 f.label.0 refl)
-    (and_from (f.serial.prev == f.serial.prev) _ (eq-eqb f.serial.prev f.serial.prev refl)
-    (and_from (to_eq f.to f.to) (f.value == f.value) (to_itself f.to)
-    (eq-eqb f.value f.value refl))))
+    agrees_if f (receipt_of f) (record { sends = sends; label = refl; prev = refl; to = refl; value = refl })
 
 pub send_stamps : (f : Event) → is_send f ≡ true → is_stamp f ≡ true
 send_stamps f h = elim f.kind as
@@ -94,10 +86,6 @@ send_stamps f h = elim f.kind as
       | kind.Receive ↦ λ is. is
       | kind.Print ↦ λ is. refl
     ] h
-
--- the source by the stamp with the receive's count
-abbrev source_from : Pid → Option (ℕ × Event) → Source
-source_from q o = elim o [ None ↦ source.Hidden | Some f ↦ source.Event q f.0 ]
 
 abbrev hides_by : Source → Bool
 hides_by from = elim from [ source.Hidden ↦ true | source.Event q j ↦ false ]

@@ -10,7 +10,6 @@ use Rattle.std.proofs.lemmas.Bool.{and_from, and_parts, cases_lt, eq-eqb, eqb-tr
 use Rattle.std.proofs.lemmas.Option.{none-some, same_Some}
 use Rattle.st_core.specs.declared.types.Pid.{Pid}
 use Rattle.st_core.specs.declared.types.Event.{Event}
-use Rattle.st_core.specs.declared.types.Label.{Label}
 use Rattle.st_core.specs.Laws.{greatest_count}
 use Rattle.st_core.specs.Pid.{pid_cmp, pid_eq, IsRising}
 use Rattle.st_core.specs.Run.{Stream, pids_of}
@@ -21,10 +20,11 @@ use Rattle.st_pair.specs.declared.answer.PairFault.TheVariants as fault
 use Rattle.st_pair.specs.declared.answer.Source.{Source}
 use Rattle.st_pair.specs.declared.answer.Source.TheVariants as source
 use Rattle.st_pair.specs.Laws.{IsEarlier, IsLeast}
-use Rattle.st_pair.specs.Pairing.{agrees, first_rule, is_send, mismatch, not_rising, prev_not_before, receive_of}
-use Rattle.st_pair.specs.Pairing.{refusal, repeated, stamp_before, stamp_of, to_eq}
+use Rattle.st_pair.specs.Pairing.{agrees, first_rule, mismatch, not_rising, prev_not_before, receive_of}
+use Rattle.st_pair.specs.Pairing.{refusal, repeated, stamp_before, stamp_of}
 use Rattle.st_pair.specs.Places.{event_at, first, is_stamp}
-use Rattle.st_pair.proofs.ForCallers.{cond_none, event_none, first_least, got_rule, paired, pid_total, Rule}
+use Rattle.st_pair.proofs.ForCallers.{agreed, agrees_if, cond_none, event_none, first_least, got_rule, paired}
+use Rattle.st_pair.proofs.ForCallers.{pid_total, Rule, source_from}
 use Rattle.st_order.specs.Items.{is_hidden}
 use Rattle.st_closed_world.specs.Needs.{HoldsOfNone, is_late}
 use Rattle.st_closed_world.specs.Reasons.{is_too_high}
@@ -207,55 +207,26 @@ got q this p i e receives from count =
 
 -- AN EVENT AND ITS SEND
 
-to_same : (p q : Option Pid) → to_eq p q ≡ true → p ≡ q
-to_same None None h = refl
-to_same None (Some q) h = absurd (false≢true h)
-to_same (Some p) None h = absurd (false≢true h)
-to_same (Some p) (Some q) h = ap (λ (x : Pid). Some x) (pid_same p q h)
-
-to_itself : (p : Option Pid) → to_eq p p ≡ true
-to_itself None = refl
-to_itself (Some p) = pid_eq-refl p
-
 send_of : (f e : Event) → agrees f e ≡ true → IsSendOf f e
-send_of f e h =
-    let one = and_parts (is_send f) _ h in
-    let two = and_parts (f.label.0 == e.label.0) _ one.1 in
-    let three = and_parts (f.serial.prev == e.serial.prev) _ two.1 in
-    let four = and_parts (to_eq f.to e.to) (f.value == e.value) three.1 in
-    let label = eqb-true f.label.0 e.label.0 two.0 in (
-      one.0,
-      (λ k. record { 0 = label k }),
-      eqb-true f.serial.prev e.serial.prev three.0,
-      to_same f.to e.to four.0,
-      eqb-true f.value e.value four.1,
-    )
+send_of f e h = let is = agreed f e h in (is.sends, is.label, is.prev, is.to, is.value)
 
-agrees_if : (f e : Event) → IsSendOf f e → agrees f e ≡ true
-agrees_if f e h =
-    and_from (is_send f) _ h.0
-    (and_from (f.label.0 == e.label.0) _ (eq-eqb f.label.0 e.label.0 (ap (λ (l : Label). l.0) h.1))
-    (and_from (f.serial.prev == e.serial.prev) _ (eq-eqb f.serial.prev e.serial.prev h.2)
-    (and_from (to_eq f.to e.to) (f.value == e.value) (ap (to_eq f.to) (sym h.3) ∙ to_itself f.to)
-    (eq-eqb f.value e.value h.4))))
+sends_it : (f e : Event) → IsSendOf f e → agrees f e ≡ true
+sends_it f e is = agrees_if f e (record { sends = is.0; label = is.1; prev = is.2; to = is.3; value = is.4 })
 
 -- WHAT EVENTS LEAVE UNSAID
-
-abbrev source_in : Pid → Option (ℕ × Event) → Source
-source_in q o = elim o [ None ↦ source.Hidden | Some f ↦ source.Event q f.0 ]
 
 abbrev hides : Source → Bool
 hides s = elim s [ source.Hidden ↦ true | source.Event q j ↦ false ]
 
 -- a stamp, or the receive of a send that isn't there
 hidden_as : (stamp : Bool) (q : Pid) (o : Option (ℕ × Event))
-    → (stamp || cond stamp false (hides (source_in q o))) ≡ (stamp || is_none o)
+    → (stamp || cond stamp false (hides (source_from q o))) ≡ (stamp || is_none o)
 hidden_as true q o = refl
 hidden_as false q None = refl
 hidden_as false q (Some f) = refl
 
 some_as : (stamp : Bool) (q : Pid) (o : Option (ℕ × Event))
-    → cond stamp false (hides (source_in q o)) ≡ false
+    → cond stamp false (hides (source_from q o)) ≡ false
     → (stamp || is_some o) ≡ true
 some_as true q o h = refl
 some_as false q None h = absurd (false≢true (sym h))
@@ -565,7 +536,7 @@ module _ (top : ℕ) (streams : List Stream) (sound : IsStreams streams) where
             (fault.Mismatch l.pid l.index e.from f.0) x gives in
             let tests = neither (is_stamp e) (agrees f.1 e) parts.0 in
             subst IsMeant parts.1 (reason_if l.pid l.index e (never.Mismatch e.from f.0) l.at
-            (tests.0, refl, f.1, is, λ send. false≢true (sym tests.1 ∙ agrees_if f.1 e send))
+            (tests.0, refl, f.1, is, λ send. false≢true (sym tests.1 ∙ sends_it f.1 e send))
             (λ n less. quiet_before 3 n (omega arith) none less) l.least)
       ] refl l.gives
 

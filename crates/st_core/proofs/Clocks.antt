@@ -24,7 +24,7 @@ use Rattle.st_core.specs.State.{LocalState, Process, State, process, zero_state}
 use Rattle.st_core.specs.Stamp.{stamp, stamp_any, stamped_token}
 use Rattle.st_core.specs.Local.{received, default_token, has_label}
 use Rattle.st_core.specs.Pick.{pick}
-use Rattle.st_core.specs.Report.{flag_of, report}
+use Rattle.st_core.specs.Report.{flag_of, report, token_event}
 use Rattle.st_core.specs.Step.{Acted, Outcome, acted, actor, answers, sends, prints, receives, reached, changed, step}
 use Rattle.st_core.specs.Run.{run, run_from}
 use Rattle.st_core.specs.Pairs.{IsFollowing}
@@ -71,10 +71,6 @@ any_grows : (top : ℕ) (p : Pid) (l m : LocalState) → stamp_any top p l ≡ S
 any_grows top p l m h = any_at top p l m l.token refl h
 
 -- THE ACTOR'S PART
-
--- the event of a token
-abbrev event_of : Kind → Token → Option Pid → ℕ → Event
-event_of k t to v = record { label = t.label; kind = k; serial = t.serial; from = t.from; to = to; value = v }
 
 -- an actor's part leaves its clock no lower
 abbrev IsNoLower : LocalState → Acted → Type 0
@@ -322,7 +318,7 @@ told_reported a l traced k (Some t) to v e stamped is h = record {
   token = t;
   stamped = stamped t refl;
   has = is;
-  serial = ap (λ (x : Event). x.serial) (cond_some (traced && flag_of k t.flags) (event_of k t to v) e h).1;
+  serial = ap (λ (x : Event). x.serial) (cond_some (traced && flag_of k t.flags) (token_event k t to v) e h).1;
 }
 
 printed_reported : (a : Act) (r : Process) (v : ℕ) (stamped : Option LocalState) (done : Acted) (e : Event)
@@ -408,7 +404,7 @@ pub record Sends (s : State) (p q : Pid) (v : ℕ) (o : Outcome) (token : Token)
   pub had : (r : Process) → process s p ≡ Some r → is_some r.local.token ≡ true
   pub from : token.from ≡ p
   pub lifts : Lifts s o p token.serial.this
-  pub report : (e : Event) → o.report ≡ Some e → e ≡ event_of kind.Send token (Some q) v
+  pub report : (e : Event) → o.report ≡ Some e → e ≡ token_event kind.Send token (Some q) v
 
 had_token : (top : ℕ) (p : Pid) (l m : LocalState) (t : Token) (token : Option Token) → l.token ≡ token
     → cond (is_some token) (stamp top p l) (Some l) ≡ Some m → m.token ≡ Some t → is_some token ≡ true
@@ -440,7 +436,7 @@ sent top s p q v o r token h is has =
       report = λ e reported.
           let told : report x.local.traced kind.Send m.token (Some q) v ≡ Some e =
           ap (λ (d : Acted). d.report) parts.2 ∙ ap (λ (y : Outcome). y.report) t.is_outcome ∙ reported in
-          let event = event_of kind.Send token (Some q) v in
+          let event = token_event kind.Send token (Some q) v in
           sym (cond_some (x.local.traced && token.flags.send) event e
           (ap (λ k. report x.local.traced kind.Send k (Some q) v) (sym token_is) ∙ told)).1;
     }

@@ -16,7 +16,8 @@ pub use Rattle.st_core.proofs.RisingPids.{rising_at}
 pub use Rattle.st_core.proofs.Collections.{above_apart, is_among-found, is_among-missing, place_within, own_push}
 pub use Rattle.st_core.proofs.Collections.{with_event_pid, all_apart, position-none}
 pub use Rattle.st_core.proofs.Leastness.{unlisted_is_least}
-pub use Rattle.st_core.proofs.Verdicts.{to_eq-true}
+-- ---- events
+pub use Rattle.st_core.proofs.Events.{to_eq-true, to_eq-same, event_eq-true, event_eq-same}
 -- ---- a step and a run, in parts
 pub use Rattle.st_core.proofs.Others.{process_pid, process-map, mapped, Stepped, step_parts, run_parts, process_after}
 pub use Rattle.st_core.proofs.Others.{leaves_others}

@@ -23,7 +23,7 @@ use Rattle.st_core.specs.State.{LocalState, Process, State, process, zero_local,
 use Rattle.st_core.specs.Stamp.{stamp, stamp_any, stamped_token}
 use Rattle.st_core.specs.Local.{received, default_token, has_label}
 use Rattle.st_core.specs.Pick.{pick}
-use Rattle.st_core.specs.Report.{flag_of, report}
+use Rattle.st_core.specs.Report.{flag_of, report, token_event}
 use Rattle.st_core.specs.Step.{Acted, Outcome, acted, actor, answers, sends, prints, receives, changed, step}
 use Rattle.st_core.specs.Run.{run, run_from, stream}
 use Rattle.st_core.specs.Pairs.{IsFollowing}
@@ -36,10 +36,6 @@ use Rattle.st_core.proofs.Clocks.{SameCounts, changed_counts, sent}
 use Rattle.st_core.proofs.Reports.{told, front}
 
 -- THE ACTOR'S PART
-
--- the event of a token
-abbrev event_of : Kind → Token → Option Pid → ℕ → Event
-event_of k t to v = record { label = t.label; kind = k; serial = t.serial; from = t.from; to = to; value = v }
 
 -- the counts are still, or last came to the clock
 record IsStill (l m : LocalState) : Type 0 where
@@ -71,7 +67,7 @@ Moves l m (Some e) = IsStamp l m e ⊎ IsTake l m e
 module _ (l : LocalState) (k : Kind) (stamps : k ≢ kind.Receive) (traced : Bool) (to : Option Pid) (v : ℕ) where
   made_moves : (p : Pid) (t : Token) (b : Bool) → (let made : LocalState =
       record l { token = Some (stamped_token p l t); clock = l.clock + 1 } in
-      let told : Option Event = cond b (Some (event_of k (stamped_token p l t) to v)) None in
+      let told : Option Event = cond b (Some (token_event k (stamped_token p l t) to v)) None in
       IsSome told → Moves l made told)
   made_moves p t true is = inl (record { kind = stamps; prev = refl; count = refl; clock = refl; last = refl })
   made_moves p t false is = absurd (false≢true is)
@@ -122,7 +118,7 @@ take_moves : (r : Process) (place : ℕ) (from : Pid) (v : ℕ) (token : Option 
 take_moves r place from v None is = unmoved r.local None
 take_moves r place from v (Some t) is =
     elim (r.local.traced && t.flags.receive) as (λ b.
-    (let told : Option Event = cond b (Some (event_of kind.Receive t (Some r.pid) v)) None in
+    (let told : Option Event = cond b (Some (token_event kind.Receive t (Some r.pid) v)) None in
     IsSome told → Moves r.local (received r.local (Some t)) told)) [
       | true ↦ λ is. inr (record { kind = refl; clock = refl; last = refl })
       | false ↦ λ is. absurd (false≢true is)

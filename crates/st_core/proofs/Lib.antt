@@ -1,5 +1,6 @@
 -- The lemmas; what upper crates may cite is in `ForCallers`, and in `Samples` for worked cases.
 pub mod Bools
+pub mod Events
 pub mod Verdicts
 pub mod Runs
 pub mod Steps

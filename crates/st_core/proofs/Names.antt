@@ -12,7 +12,6 @@ use Rattle.st_core.specs.declared.types.Token.{Token}
 use Rattle.st_core.specs.declared.types.Message.{Message}
 use Rattle.st_core.specs.declared.types.Kind.{Kind}
 use Rattle.st_core.specs.declared.types.Kind.TheVariants as kind
-use Rattle.st_core.specs.declared.types.Event.{Event}
 use Rattle.st_core.specs.declared.types.Want.{Want}
 use Rattle.st_core.specs.declared.types.Act.{Act}
 use Rattle.st_core.specs.declared.types.Act.TheVariants as act
@@ -22,7 +21,7 @@ use Rattle.st_core.specs.State.{LocalState, Process, State, process, zero_local,
 use Rattle.st_core.specs.Stamp.{stamp, stamp_any}
 use Rattle.st_core.specs.Local.{has_label}
 use Rattle.st_core.specs.Pick.{pick}
-use Rattle.st_core.specs.Report.{flag_of, report}
+use Rattle.st_core.specs.Report.{flag_of, report, token_event}
 use Rattle.st_core.specs.Step.{Acted, Outcome, acted, actor, receiver, answers, sends, prints, untraced, changed, step}
 use Rattle.st_core.specs.Run.{run, run_from}
 use Rattle.st_core.specs.Streams.{is_of, is_among}
@@ -56,9 +55,7 @@ event_among : (pids : List Pid) (p : Pid) (traced : Bool) (k : Kind) (token : Op
     → ForSome (report traced k token to value) (IsReportAmong pids p)
 event_among pids p traced k None to value own from named e is = absurd (none-some e is)
 event_among pids p traced k (Some t) to value own from named e is =
-    let event : Event =
-    record { label = t.label; kind = k; serial = t.serial; from = t.from; to = to; value = value } in
-    let parts = cond_some (traced && flag_of k t.flags) event e is in
+    let parts = cond_some (traced && flag_of k t.flags) (token_event k t to value) e is in
     subst (IsReportAmong pids p) parts.1
     (record {
       own = own t refl;

@@ -20,7 +20,7 @@ use Rattle.st_core.specs.State.{LocalState, Process, State}
 use Rattle.st_core.specs.Stamp.{stamp, stamp_any}
 use Rattle.st_core.specs.Local.{has_label}
 use Rattle.st_core.specs.Pick.{pick}
-use Rattle.st_core.specs.Report.{flag_of, report}
+use Rattle.st_core.specs.Report.{flag_of, report, token_event}
 use Rattle.st_core.specs.Step.{Acted, Outcome, acted, answers, sends, prints, step}
 use Rattle.st_core.specs.Run.{run}
 use Rattle.st_core.specs.Pairs.{Tags, tags_after, pair_at, pairs_from, pairs, IsPaired, AllPaired}
@@ -38,9 +38,7 @@ pub report_kind : (traced : Bool) (k : Kind) (token : Option Token) (to : Option
     → report traced k token to v ≡ Some e → e.kind ≡ k
 report_kind traced k None to v e h = absurd (none-some e h)
 report_kind traced k (Some t) to v e h =
-    let made : Event =
-    record { label = t.label; kind = k; serial = t.serial; from = t.from; to = to; value = v } in
-    sym (ap (λ (x : Event). x.kind) (cond_some (traced && flag_of k t.flags) made e h).1)
+    sym (ap (λ (x : Event). x.kind) (cond_some (traced && flag_of k t.flags) (token_event k t to v) e h).1)
 
 -- the act is a receive
 abbrev IsReceive : Act → Type 0

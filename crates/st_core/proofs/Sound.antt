@@ -26,7 +26,7 @@ use Rattle.st_core.specs.State.{LocalState, Process, State, process, zero_local,
 use Rattle.st_core.specs.Stamp.{stamp, stamp_any, stamped_token}
 use Rattle.st_core.specs.Local.{received, with_set, default_token, wiped, has_label}
 use Rattle.st_core.specs.Pick.{matches, pick, pick_from}
-use Rattle.st_core.specs.Report.{flag_of, report}
+use Rattle.st_core.specs.Report.{flag_of, report, token_event}
 use Rattle.st_core.specs.Step.{Acted, Outcome, acted, actor, answers, sends, prints, receives, untraced, reached}
 use Rattle.st_core.specs.Step.{changed, step}
 use Rattle.st_core.specs.Run.{run, run_from}
@@ -122,9 +122,7 @@ report_rises : (top : ℕ) (p : Pid) (traced : Bool) (k : Kind) (token : Option 
     → ForSome token (IsStamped top p) → ForSome (report traced k token to value) Rises
 report_rises top p traced k None to value stamped e h = absurd (none-some e h)
 report_rises top p traced k (Some t) to value stamped e h =
-    let parts =
-    cond_some (traced && flag_of k t.flags)
-    (record { label = t.label; kind = k; serial = t.serial; from = t.from; to = to; value = value }) e h in
+    let parts = cond_some (traced && flag_of k t.flags) (token_event k t to value) e h in
     subst Rises parts.1 ((stamped t refl).rises)
 
 answered : (top : ℕ) (a : Act) (r : Process) (l : LocalState) (y : Reply) → IsSound top r → l.last ≤ l.clock

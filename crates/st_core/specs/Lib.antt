@@ -6,6 +6,7 @@ pub mod State
 pub mod Stamp
 pub mod Local
 pub mod Pick
+pub mod Event
 pub mod Report
 pub mod Step
 pub mod Run

@@ -1,32 +1,28 @@
 -- What a hop claims is true. Of a receive, since its count names the send that it took, whether
 -- that was reported or not. Of a stamp, since what its process's events tell of its origin is true,
 -- and the receive directly before its row is the last one.
-use Rattle.std.proofs.Common.{◌≡◌, ◌≢◌, ℕ, ◌+◌, ◌==◌, ◌&&◌, ◌||◌, ◌⊎◌, Bool, true, false, cond, List, [], ◌∷◌, length}
-use Rattle.std.proofs.Common.{take, Option, Some, None, option_and_then, All, inl, inr, refl, sym, ◌∙◌, ap, subst}
-use Rattle.std.specs.List.{slice_get, Contains}
-use Rattle.std.specs.Option.{option_map_or}
+use Rattle.std.proofs.Common.{◌≡◌, ◌≢◌, ℕ, ◌+◌, ◌==◌, ◌&&◌, ◌⊎◌, Bool, true, false, cond, List, [], length}
+use Rattle.std.proofs.Common.{take, Option, Some, None, option_and_then, inl, inr, refl, sym, ◌∙◌, ap, subst}
+use Rattle.std.specs.List.{slice_get}
 use Rattle.std.proofs.lemmas.Bool.{and_from, and_parts, eq-eqb, eqb-true, false≢true}
-use Rattle.std.proofs.lemmas.List.Elements.{All-head, All-tail, All-from_recursion}
-use Rattle.std.proofs.lemmas.Option.{same_Some, none-some, option_and_then_some, slice_get-get_or, cond_some}
+use Rattle.std.proofs.lemmas.Option.{same_Some, none-some, cond_some}
 use Rattle.st_core.specs.declared.types.Pid.{Pid}
 use Rattle.st_core.specs.declared.types.Label.{Label}
 use Rattle.st_core.specs.declared.types.Kind.TheVariants as kind
 use Rattle.st_core.specs.declared.types.Event.{Event}
 use Rattle.st_core.specs.declared.types.Act.{Act}
 use Rattle.st_core.specs.declared.types.Act.TheVariants as act
-use Rattle.st_core.specs.Pid.{pid_eq}
 use Rattle.st_core.specs.Step.{Outcome}
 use Rattle.st_core.specs.Run.{Shows, Stream, pids_of, run, stream}
-use Rattle.st_core.specs.Streams.{stream_of, events_of, is_among}
-use Rattle.st_core.specs.Pairs.{IsFollowing, pairs}
-use Rattle.st_core.specs.Laws.{NoReset, Reports, ReportsAmong, ReportsEvent}
-use Rattle.st_core.proofs.ForCallers.{AllZip_at, All_at, event_reported, pid_eq-true, receives_are_paired}
-use Rattle.st_core.proofs.ForCallers.{receives_follow, report_told, reported_sends_agree, run_named}
-use Rattle.st_pair.specs.declared.answer.Source.{Source}
+use Rattle.st_core.specs.Streams.{events_of}
+use Rattle.st_core.specs.Laws.{NoReset, Reports, ReportsEvent}
+use Rattle.st_core.proofs.ForCallers.{event_reported}
+use Rattle.st_core.proofs.ForCallers.{report_told, reported_sends_agree}
 use Rattle.st_pair.specs.declared.answer.Source.TheVariants as source
 use Rattle.st_pair.specs.Places.{event_at, is_stamp}
 use Rattle.st_pair.specs.Pairing.{source_of, stamp_of}
-use Rattle.st_pair.proofs.ForCallers.{events_in, from_none, given_from, own_rule, stamp_at, stamp_not_received}
+use Rattle.st_pair.proofs.ForCallers.{from_listed, from_none, given_from, IsTaken, listed_if, own_rule, shown_events}
+use Rattle.st_pair.proofs.ForCallers.{source_from, stamp_at, stamp_not_received, taken}
 use Rattle.st_origin.specs.declared.evidence.Evidence.{Evidence}
 use Rattle.st_origin.specs.declared.evidence.Evidence.TheVariants as what
 use Rattle.st_origin.specs.Events.{has_above, receive_before, row_start, origin_evidence, origin_evidence_by}
@@ -42,57 +38,7 @@ use Rattle.st_hops.specs.Claims.{Claims, Hold, IsTrueHop}
 
 -- WHAT IS SHOWN
 
-abbrev AreShown : List Stream → List Act → List Outcome → Type 0
-AreShown streams acts os = All (λ (x : Stream). stream acts os x.pid ≡ x.events) streams
-
--- a process with an event is listed
-listed : (streams : List Stream) (p : Pid) (i : ℕ) (e : Event) → event_at streams p i ≡ Some e
-    → is_among (pids_of streams) p ≡ true
-listed [] p i e at = absurd (none-some e at)
-listed (x ∷ streams) p i e at = elim (pid_eq x.pid p) as (λ b.
-    slice_get (events_in (cond b (Some x) (stream_of streams p))) i ≡ Some e
-    → (b || is_among (pids_of streams) p) ≡ true) [
-      | true ↦ λ _. refl
-      | false ↦ λ at. listed streams p i e at
-    ] at
-
--- the events of a listed process are its reports
-shown_events : (streams : List Stream) (acts : List Act) (os : List Outcome) (p : Pid)
-    → AreShown streams acts os
-    → is_among (pids_of streams) p ≡ true → events_of streams p ≡ stream acts os p
-shown_events [] acts os p shown h = absurd (false≢true h)
-shown_events (x ∷ streams) acts os p shown h =
-    let whole = λ (y : Stream). stream acts os y.pid ≡ y.events in
-    elim (pid_eq x.pid p) as (λ b. pid_eq x.pid p ≡ b → (b || is_among (pids_of streams) p) ≡ true
-    → events_in (cond b (Some x) (stream_of streams p)) ≡ stream acts os p) [
-      | true ↦ λ same _. sym (All-head whole x streams shown)
-          ∙ ap (stream acts os) (pid_eq-true x.pid p same)
-      | false ↦ λ _ h. shown_events streams acts os p (All-tail whole x streams shown) h
-    ] refl h
-
 -- RECEIVES
-
-receive_kind : (e : Event) → is_stamp e ≡ false → e.kind ≡ kind.Receive
-receive_kind e receives = elim e.kind as (λ k.
-    (let b : Bool = elim k [ kind.Send ↦ true | kind.Receive ↦ false | kind.Print ↦ true ] in b)
-    ≡ false
-    → k ≡ kind.Receive) [
-      | kind.Send ↦ λ h. absurd (false≢true (sym h))
-      | kind.Receive ↦ λ h. refl
-      | kind.Print ↦ λ h. absurd (false≢true (sym h))
-    ] receives
-
-contained : {A : Type 0} (xs : List A) (x : A) (c : Contains xs x) → slice_get xs c.0 ≡ Some x
-contained xs x c = slice_get-get_or xs c.0 x c.1 ∙ ap (λ y. Some y) c.2
-
-abbrev source_from : Pid → Option (ℕ × Event) → Source
-source_from q o = elim o [ None ↦ source.Hidden | Some f ↦ source.Event q f.0 ]
-
--- act n, which reports e, took the message of this send
-record IsTaken (acts : List Act) (os : List Outcome) (n : ℕ) (e : Event) : Type 0 where
-  send : ℕ
-  follows : IsFollowing acts os n send
-  event : follows.event ≡ e
 
 module _ (top : ℕ) (streams : List Stream) (acts : List Act) (shows : Shows top streams acts)
     (none : NoReset acts)
@@ -103,38 +49,8 @@ module _ (top : ℕ) (streams : List Stream) (acts : List Act) (shows : Shows to
     abbrev os : List Outcome
     os = shows.0
 
-    taken : (p : Pid) (i : ℕ) (e : Event) (n : ℕ) → ReportsEvent acts os p i e n
-        → is_stamp e ≡ false
-        → IsTaken acts os n e
-    taken p i e n r receives =
-        let reported = r.reports.report in
-        let pair = receives_are_paired top pids acts os shows.1 n e reported
-        (receive_kind e receives) in
-        let s = pair.0 in
-        let each = All-from_recursion (λ (x : ℕ × ℕ). IsFollowing acts os x.0 x.1) (pairs acts os)
-        (receives_follow top pids acts os shows.1).each in
-        let follows : IsFollowing acts os n s =
-        All_at (λ (x : ℕ × ℕ). IsFollowing acts os x.0 x.1) (pairs acts os) pair.1.0 (n, s)
-        (contained (pairs acts os) (n, s) pair.1) each in
-        record {
-          send = s;
-          follows = follows;
-          event = same_Some follows.event e
-              (sym follows.reports ∙ reported);
-        }
-
-    -- whom a reported event is from is listed
-    from_listed : (p : Pid) (n : ℕ) (e : Event) → Reports acts os p n e
-        → is_among pids e.from ≡ true
-    from_listed p n e r =
-        option_and_then_some (λ (o : Outcome). o.report) (slice_get os n) e r.report (λ o out is.
-        let each = run_named top pids acts os shows.1 in
-        let named = AllZip_at (ReportsAmong pids) acts os n r.act o each r.at out in
-        (and_parts (is_among pids e.from) (option_map_or (is_among pids) e.to true)
-        (named e is).names).0)
-
     module _ (p : Pid) (i : ℕ) (e : Event) (n : ℕ) (r : ReportsEvent acts os p i e n)
-        (a : IsTaken acts os n e) where
+        (a : IsTaken top streams acts shows.0 shows.1 shows.2 none n e) where
       -- the send or print that has the count is the send
       found_send : (g : ℕ × Event) → stamp_of streams e.from e.serial.this ≡ Some g
           → ReportsEvent acts os e.from g.0 g.1 a.send
@@ -151,7 +67,7 @@ module _ (top : ℕ) (streams : List Stream) (acts : List Act) (shows : Shows to
           let count : g.1.serial.this ≡ e.serial.this =
           ap (λ (x : Event). x.serial.this) (sym same) ∙ eqb-true d.serial.this e.serial.this
           tests.1 in
-          let events = shown_events streams acts os q shows.2 (listed streams q g.0 g.1 there) in
+          let events = shown_events streams acts os q shows.2 (listed_if streams q g.0 g.1 there) in
           let m = event_reported acts os q g.0 g.1 (ap (λ es. slice_get es g.0) (sym events)
           ∙ there) in
           let here : ReportsEvent acts os a.follows.event.from g.0 g.1 m.0 =
@@ -181,7 +97,7 @@ module _ (top : ℕ) (streams : List Stream) (acts : List Act) (shows : Shows to
             report = told;
           } in
           let j = length (stream (take s acts) (take s os) q) in
-          let events = shown_events streams acts os q shows.2 (from_listed p n e r.reports) in
+          let events = shown_events streams acts os q shows.2 (from_listed top streams acts shows p n e r.reports) in
           let there : event_at streams q j ≡ Some f =
           ap (λ es. slice_get es j) events ∙ report_told acts os q s f reports in
           let count : f.serial.this ≡ e.serial.this = ap (λ (y : Event). y.serial.this) same in
@@ -348,7 +264,7 @@ hop_true streams p i e at top acts shows none n r =
     let pids = pids_of streams in
     let os = shows.0 in
     let es = events_of streams p in
-    let events = shown_events streams acts os p shows.2 (listed streams p i e at) in
+    let events = shown_events streams acts os p shows.2 (listed_if streams p i e at) in
     elim (is_stamp e) as (λ b. is_stamp e ≡ b
     → Hold pids acts os p (premises_of (cond b (hop_by es e.label
     (origin_evidence e.serial.prev es i))
@@ -364,7 +280,7 @@ hop_true streams p i e at top acts shows none n r =
           (origin_evidence e.serial.prev (stream acts os p) i) refl)
       | false ↦ λ receives _.
           receive_claims top streams acts shows none p i e n r
-          (taken top streams acts shows none p i e n r receives)
+          (taken top streams acts shows.0 shows.1 shows.2 none p i e n r receives)
     ] refl
 
 pub true_of : (streams : List Stream) (p : Pid) (i : ℕ) (e : Event) (back : Hop)

@@ -12,7 +12,7 @@ use Rattle.st_core.specs.Pid.{pid_eq, IsRising}
 use Rattle.st_core.specs.Run.{Stream, pids_of}
 use Rattle.st_core.specs.Streams.{IsStreams, events_of, stream_of}
 use Rattle.st_core.proofs.ForCallers.{above_apart, pid_eq-true, pid_eq-refl}
-use Rattle.st_pair.proofs.ForCallers.{at_get_or, events_in, is_at}
+use Rattle.st_pair.proofs.ForCallers.{at_get_or, events_in, is_at, drop_next}
 use Rattle.st_lines.specs.Lines.{line_behind, line_from, line_number_of}
 use Rattle.st_lines.specs.Kept.{AreFirsts, first_line, firsts_from}
 
@@ -228,12 +228,6 @@ pids_long : (streams : List Stream) → length (pids_of streams) ≡ length stre
 pids_long [] = refl
 pids_long (s ∷ streams) = ap suc (pids_long streams)
 
-drop_at : (streams : List Stream) (k : ℕ) (s : Stream) → slice_get streams k ≡ Some s
-    → drop k streams ≡ s ∷ drop (suc k) streams
-drop_at [] k s at = absurd (none-some s at)
-drop_at (x ∷ streams) zero s at = ap (λ y. y ∷ streams) (same_Some x s at)
-drop_at (x ∷ streams) (suc k) s at = drop_at streams k s at
-
 -- the firsts so far with those that are left come to all, and so does the last line
 pub record AreSoFar (streams : List Stream) (firsts : List ℕ) (first k : ℕ) : Type 0 where
   pub kept : firsts ++ firsts_from first (drop k streams) ≡ firsts_from 3 streams
@@ -256,7 +250,7 @@ so_far_more streams pids k d firsts after first next count rising are within cou
     let events : length s.stream.events ≡ count =
     ap length (sym (ap events_in s.found)) ∙ sym counts in
     let on : first + length s.stream.events + 1 ≡ next = omega arith in
-    let here = drop_at streams k s.stream s.at in
+    let here = drop_next streams k s.stream s.at in
     record {
       kept =
           ap (λ n. after ++ firsts_from next (drop n streams)) number

@@ -1,37 +1,17 @@
 -- Why the rows that are found are those of the definition: the rows of a process come behind those
 -- of the processes before it, and what is left has the rest.
-use Rattle.std.proofs.Common.{◌≡◌, ℕ, ◌+◌, zero, suc, ◌<◌, List, [], ◌∷◌, ◌++◌, length, drop}
-use Rattle.std.proofs.Common.{get_or, slice_get, Some, sym, ◌∙◌, ap, subst, arith}
+use Rattle.std.proofs.Common.{◌≡◌, ℕ, ◌+◌, zero, suc, ◌<◌, List, [], ◌++◌, length, drop}
+use Rattle.std.proofs.Common.{get_or, sym, ◌∙◌, ap, arith}
 use Rattle.std.proofs.lemmas.List.{append_assoc}
-use Rattle.std.proofs.lemmas.Option.{same_Some}
 use Rattle.st_core.specs.declared.types.Pid.{Pid}
 use Rattle.st_core.specs.declared.types.Event.{Event}
 use Rattle.st_core.specs.Pid.{IsRising}
 use Rattle.st_core.specs.Run.{Stream, pids_of}
 use Rattle.st_core.specs.Streams.{events_of}
-use Rattle.st_pair.proofs.ForCallers.{at_get_or, events_in, is_at}
+use Rattle.st_pair.proofs.ForCallers.{drop_next, stream_here}
 use Rattle.st_list.specs.declared.filter.Filter.{Filter}
 use Rattle.st_list.specs.declared.rows.Row.{Row}
 use Rattle.st_list.specs.Rows.{listed_at, listed_from}
-
-drop_stream : (streams : List Stream) (k : ℕ) (x : Stream) → slice_get streams k ≡ Some x
-    → drop k streams ≡ x ∷ drop (suc k) streams
-drop_stream [] k x at = absurd (cc)
-drop_stream (y ∷ streams) zero x at = ap (λ z. z ∷ streams) (same_Some y x at)
-drop_stream (y ∷ streams) (suc k) x at = drop_stream streams k x at
-
--- the stream of a process, by its place
-stream_here : (streams : List Stream) (pids : List Pid) (k : ℕ) (d : Pid) (es : List Event)
-    → IsRising (pids_of streams) → pids ≡ pids_of streams → k < length pids
-    → es ≡ events_of streams (get_or pids k d)
-    → slice_get streams k ≡ Some (record { pid = get_or pids k d; events = es })
-stream_here streams pids k d es rising are within is =
-    let p = get_or pids k d in
-    let at = subst (λ (ps : List Pid). slice_get ps k ≡ Some p) are (at_get_or pids k d within) in
-    let s = is_at streams k p rising at in
-    let same : s.stream.events ≡ es = sym (ap events_in s.found) ∙ sym is in
-    s.at ∙ ap (λ q. Some (record { pid = q; events = s.stream.events })) s.pid
-    ∙ ap (λ fs. Some (record { pid = p; events = fs })) same
 
 -- one process more, whose line is n, and whose first event is on the line after it
 pub process_listed : (f : Filter) (all now more : List Row) (streams : List Stream)
@@ -54,5 +34,5 @@ process_listed f all now more streams pids k n first next d es rising are within
     ∙ append_assoc now (here first) (rest first (k + 1))
     ∙ ap (λ m. now ++ (here m ++ rest m (k + 1))) line
     ∙ ap (λ j. now ++ (here (n + 1) ++ rest (n + 1) j)) (sym on)
-    ∙ sym (ap (λ xs. now ++ listed_from f n xs) (drop_stream streams k _ at))
+    ∙ sym (ap (λ xs. now ++ listed_from f n xs) (drop_next streams k _ at))
     ∙ so_far

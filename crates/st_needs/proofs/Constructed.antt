@@ -10,7 +10,7 @@ use Rattle.std.proofs.lemmas.List.{drop_all, drop_more, take_all, take_more}
 use Rattle.std.proofs.lemmas.Option.{same_Some, slice_get-map}
 use Rattle.st_core.specs.declared.types.Pid.{Pid}
 use Rattle.st_core.specs.declared.types.Event.{Event}
-use Rattle.st_core.specs.Pid.{pid_eq, IsBelow, IsRising}
+use Rattle.st_core.specs.Pid.{pid_eq, IsRising}
 use Rattle.st_core.specs.Run.{Stream, pids_of}
 use Rattle.st_core.specs.Streams.{added, AreOwn, ComesLast, events_of, is_own, lists, stream_of}
 use Rattle.st_core.proofs.ForCallers.{all_at}
@@ -21,7 +21,7 @@ use Rattle.st_closed_world.specs.Completion.{count_of, place_below, place_of_nee
 use Rattle.st_closed_world.specs.Completion.{send_among, Supply, with_receive_of, with_send_of}
 use Rattle.st_closed_world.specs.Needs.{is_need}
 use Rattle.st_needs.specs.Completions.{marked_with, wholes_with, IsCompletionOf}
-use Rattle.st_needs.proofs.Ranking.{added_last}
+use Rattle.st_needs.proofs.Ranking.{added_last, last_of}
 use Rattle.st_needs.proofs.Supplied.{has, stamp_found}
 
 -- THE EVENTS OF A PROCESS
@@ -259,20 +259,6 @@ receive_put s wholes next es fs found e i received are is there own place receiv
 
 abbrev stream_in : Whole → Stream
 stream_in w = record { pid = w.pid; events = map event_in w.marked }
-
-last_of : (streams : List Stream) (k : ℕ) (x : Stream) → IsRising (pids_of streams)
-    → slice_get streams k ≡ Some x
-    → ComesLast (take k streams) x.pid
-last_of [] k x rising at = absurd (cc)
-last_of (y ∷ streams) zero x rising at = tt
-last_of (y ∷ streams) (suc k) x rising at =
-    let there : slice_get (pids_of streams) k ≡ Some x.pid =
-    slice_get-map (λ (s : Stream). s.pid) streams k
-    ∙ ap (λ o. option_map (λ (s : Stream). s.pid) o) at in (
-      all_at (IsBelow y.pid) (pids_of streams) k x.pid rising.0 there,
-      last_of streams k x rising.1
-          at,
-    )
 
 take_all_streams : (ws : List Whole) (k : ℕ) → all_streams (take k ws) ≡ take k (all_streams ws)
 take_all_streams ws zero = refl

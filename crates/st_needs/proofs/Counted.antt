@@ -14,31 +14,12 @@ use Rattle.st_core.specs.Pid.{pid_eq, IsRising}
 use Rattle.st_core.specs.Run.{Stream, pids_of}
 use Rattle.st_core.specs.Streams.{events_of, stream_of}
 use Rattle.st_pair.specs.Places.{event_at}
-use Rattle.st_pair.proofs.ForCallers.{at_get_or, events_in, is_at}
+use Rattle.st_pair.proofs.ForCallers.{events_in, drop_next, stream_here}
 use Rattle.st_closed_world.specs.Renumbering.{counts_of, insert_count, insert_counts}
 use Rattle.st_closed_world.proofs.ForCallers.{AllAbove, Climbs, IsIn, above_in, insert_climbs}
 use Rattle.st_needs.specs.Counts.{all_counts, counts_in}
 
 -- NOTING THE COUNTS
-
-pub drop_stream : (streams : List Stream) (k : ℕ) (x : Stream) → slice_get streams k ≡ Some x
-    → drop k streams ≡ x ∷ drop (suc k) streams
-drop_stream [] k x at = absurd (cc)
-drop_stream (y ∷ streams) zero x at = ap (λ z. z ∷ streams) (same_Some y x at)
-drop_stream (y ∷ streams) (suc k) x at = drop_stream streams k x at
-
--- the stream of a process, by its place
-pub stream_here : (streams : List Stream) (pids : List Pid) (k : ℕ) (d : Pid) (es : List Event)
-    → IsRising (pids_of streams) → pids ≡ pids_of streams → k < length pids
-    → es ≡ events_of streams (get_or pids k d)
-    → slice_get streams k ≡ Some (record { pid = get_or pids k d; events = es })
-stream_here streams pids k d es rising are within is =
-    let p = get_or pids k d in
-    let at = subst (λ (ps : List Pid). slice_get ps k ≡ Some p) are (at_get_or pids k d within) in
-    let s = is_at streams k p rising at in
-    let same : s.stream.events ≡ es = sym (ap events_in s.found) ∙ sym is in
-    s.at ∙ ap (λ q. Some (record { pid = q; events = s.stream.events })) s.pid
-    ∙ ap (λ fs. Some (record { pid = p; events = fs })) same
 
 -- one process more
 pub process_noted : (old now more : List ℕ) (streams : List Stream) (pids : List Pid) (k : ℕ)
@@ -52,7 +33,7 @@ process_noted old now more streams pids k d es rising are within is noted so_far
     ap (λ cs. cs ++ all_counts (drop (k + 1) streams)) noted
     ∙ append_assoc now (counts_in es) (all_counts (drop (k + 1) streams))
     ∙ ap (λ n. now ++ (counts_in es ++ all_counts (drop n streams))) (sym next)
-    ∙ sym (ap (λ xs. now ++ all_counts xs) (drop_stream streams k _ at))
+    ∙ sym (ap (λ xs. now ++ all_counts xs) (drop_next streams k _ at))
     ∙ so_far
 
 -- LISTS THAT RISE

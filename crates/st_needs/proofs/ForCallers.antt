@@ -4,5 +4,4 @@
 pub use Rattle.st_needs.proofs.Flawed.{left_more}
 pub use Rattle.st_needs.proofs.Kept.{all_kept, mark_read}
 pub use Rattle.st_needs.proofs.ToldEvents.{all_told, pids_length, told_end, told_more, untold_more, IsToldAt}
-pub use Rattle.st_needs.proofs.Counted.{drop_stream, stream_here}
 pub use Rattle.st_needs.proofs.Constructed.{item_at}

@@ -21,13 +21,12 @@ use Rattle.st_pair.specs.declared.answer.Source.{Source}
 use Rattle.st_pair.specs.declared.answer.Source.TheVariants as source
 use Rattle.st_pair.specs.Pairing.{receive_of, refusal, stamp_of}
 use Rattle.st_pair.specs.Places.{event_at, is_stamp}
-use Rattle.st_pair.proofs.ForCallers.{blank, events_in, paired}
+use Rattle.st_pair.proofs.ForCallers.{blank, events_in, paired, drop_next, stream_here}
 use Rattle.st_order.specs.Items.{is_hidden}
 use Rattle.st_order.proofs.ForCallers.{all_found, AreFound, only_receive}
 use Rattle.st_closed_world.specs.HiddenSends.{hidden_send, hidden_sends, send_of}
 use Rattle.st_closed_world.proofs.ForCallers.{count_at, greatest_among, HasCount, hidden_all}
 use Rattle.st_closed_world.proofs.ForCallers.{hidden_is, highest, RisesFrom}
-use Rattle.st_needs.proofs.Counted.{drop_stream, stream_here}
 use Rattle.st_needs.specs.Hidden.{hidden_among, hidden_in, rising_from}
 
 -- ONE EVENT OR PROCESS MORE
@@ -52,7 +51,7 @@ process_hidden q old now more streams pids k d es rising are within is noted so_
     ∙ append_assoc now (hidden_in streams q es) (hidden_among streams q (drop (k + 1) streams))
     ∙ ap (λ n. now ++ (hidden_in streams q es ++ hidden_among streams q (drop n streams)))
     (sym next)
-    ∙ sym (ap (λ xs. now ++ hidden_among streams q xs) (drop_stream streams k _ at))
+    ∙ sym (ap (λ xs. now ++ hidden_among streams q xs) (drop_next streams k _ at))
     ∙ so_far
 
 -- LISTS

@@ -14,8 +14,8 @@ use Rattle.st_core.specs.Streams.{lists, ComesLast, IsStreams}
 use Rattle.st_core.proofs.ForCallers.{IsBelow-trans, is_lt-true, not_below_itself}
 use Rattle.st_open_world.specs.Silent.{inserted, silent, with_silent}
 use Rattle.st_open_world.proofs.ForCallers.{above_first, listed_rest, silent_sound, unlisted_with}
-use Rattle.st_needs.proofs.Counted.{drop_stream}
 use Rattle.st_needs.specs.Merged.{is_other_next, merged}
+use Rattle.st_pair.proofs.ForCallers.{drop_next}
 
 -- A PROCESS BELOW ALL OTHERS IS PUT IN
 
@@ -210,7 +210,7 @@ pub listed_more : (streams : List Stream) (others ps : List Pid) (k : ℕ) (draf
 listed_more streams others ps k draft next taken added x are is at put before =
     let come : suc taken ≡ taken + 1 = omega arith in
     let rest : drop taken streams ≡ x ∷ drop (taken + 1) streams =
-    drop_stream streams taken x at ∙ ap (λ n. x ∷ drop n streams) come in
+    drop_next streams taken x at ∙ ap (λ n. x ∷ drop n streams) come in
     let came = before.came in
     let within = slice_get_within streams taken x at in
     let long = length-map streams (λ (y : Stream). y.pid) in

@@ -13,10 +13,9 @@ use Rattle.st_core.specs.Pid.{pid_eq, IsBelow, IsRising}
 use Rattle.st_core.specs.Run.{Stream, pids_of}
 use Rattle.st_core.specs.Streams.{added, AreOwn, ComesLast, events_of, is_own, lists, stream_of}
 use Rattle.st_core.proofs.ForCallers.{all_at, IsBelow-apart, pid_eq-refl}
-use Rattle.st_pair.proofs.ForCallers.{blank, take_map}
+use Rattle.st_pair.proofs.ForCallers.{blank, take_map, stream_here}
 use Rattle.st_closed_world.specs.Renumbering.{event_with, rank, with_counts}
 use Rattle.st_needs.specs.Counts.{ranked_stream}
-use Rattle.st_needs.proofs.Counted.{stream_here}
 
 -- RANKS
 
@@ -81,20 +80,25 @@ ranked_more counts old now next p es i last within is step =
 
 -- THE STREAMS SO FAR
 
+-- a process comes behind those before it
+pub last_of : (streams : List Stream) (k : ℕ) (x : Stream) → IsRising (pids_of streams)
+    → slice_get streams k ≡ Some x
+    → ComesLast (take k streams) x.pid
+last_of [] k x rising at = absurd (cc)
+last_of (y ∷ streams) zero x rising at = tt
+last_of (y ∷ streams) (suc k) x rising at =
+    let there : slice_get (pids_of streams) k ≡ Some x.pid =
+    slice_get-map (λ (s : Stream). s.pid) streams k
+    ∙ ap (λ o. option_map (λ (s : Stream). s.pid) o) at in (
+      all_at (IsBelow y.pid) (pids_of streams) k x.pid rising.0 there,
+      last_of streams k x rising.1
+          at,
+    )
+
 module _ (f : ℕ → ℕ) where
-  last_of : (streams : List Stream) (k : ℕ) (x : Stream) → IsRising (pids_of streams)
-      → slice_get streams k ≡ Some x
-      → ComesLast (with_counts f (take k streams)) x.pid
-  last_of [] k x rising at = absurd (cc)
-  last_of (y ∷ streams) zero x rising at = tt
-  last_of (y ∷ streams) (suc k) x rising at =
-      let there : slice_get (pids_of streams) k ≡ Some x.pid =
-      slice_get-map (λ (s : Stream). s.pid) streams k
-      ∙ ap (λ o. option_map (λ (s : Stream). s.pid) o) at in (
-        all_at (IsBelow y.pid) (pids_of streams) k x.pid rising.0 there,
-        last_of streams k x rising.1
-            at,
-      )
+  still_last : (streams : List Stream) (p : Pid) → ComesLast streams p → ComesLast (with_counts f streams) p
+  still_last [] p last = tt
+  still_last (x ∷ streams) p last = (last.0, still_last streams p last.1)
 
   -- the next process comes last
   pub comes_last : (streams : List Stream) (pids : List Pid) (k : ℕ) (d : Pid) (now : List Stream)
@@ -103,7 +107,7 @@ module _ (f : ℕ → ℕ) where
   comes_last streams pids k d now rising are within is =
       let at = stream_here streams pids k d (events_of streams (get_or pids k d)) rising are within
       refl in
-      subst (λ xs. ComesLast xs (get_or pids k d)) (sym is) (last_of streams k _ rising at)
+      subst (λ xs. ComesLast xs (get_or pids k d)) (sym is) (still_last (take k streams) _ (last_of streams k _ rising at))
 
 -- THE EVENTS OF A PROCESS
 

@@ -13,13 +13,13 @@ use Rattle.st_core.specs.declared.types.Event.{Event}
 use Rattle.st_core.specs.Pid.{pid_eq, IsRising}
 use Rattle.st_core.specs.Run.{Stream, pids_of}
 use Rattle.st_core.specs.Streams.{events_of}
-use Rattle.st_pair.specs.Pairing.{is_send, receive_of, stamp_of, to_eq}
+use Rattle.st_core.specs.Event.{to_eq}
+use Rattle.st_pair.specs.Pairing.{is_send, receive_of, stamp_of}
 use Rattle.st_pair.specs.Places.{first, first_from, is_stamp}
-use Rattle.st_pair.proofs.ForCallers.{blank}
+use Rattle.st_pair.proofs.ForCallers.{blank, drop_next, stream_here}
 use Rattle.st_closed_world.specs.Supply.{is_free, is_own_supply}
 use Rattle.st_needs.specs.declared.told_facts.ToldFacts.{ToldFacts}
 use Rattle.st_needs.specs.Told.{is_untaken, is_unused, senders, senders_in, told_of}
-use Rattle.st_needs.proofs.Counted.{drop_stream, stream_here}
 
 -- WHOSE MESSAGES ARE RECEIVED
 
@@ -35,7 +35,7 @@ process_sent v old now more streams pids k d es rising are within is noted so_fa
     ap (λ ps. ps ++ senders v (drop (k + 1) streams)) noted
     ∙ append_assoc now (senders_in v es) (senders v (drop (k + 1) streams))
     ∙ ap (λ n. now ++ (senders_in v es ++ senders v (drop n streams))) (sym next)
-    ∙ sym (ap (λ xs. now ++ senders v xs) (drop_stream streams k _ at))
+    ∙ sym (ap (λ xs. now ++ senders v xs) (drop_next streams k _ at))
     ∙ so_far
 
 abbrev receives : ℕ → Pid → Pid → ℕ → Event → Option (Pid × ℕ)

@@ -5,7 +5,8 @@ use Rattle.std.specs.Option.{option_map_or}
 use Rattle.st_core.specs.declared.types.Pid.{Pid}
 use Rattle.st_core.specs.declared.types.Event.{Event}
 use Rattle.st_core.specs.Run.{Stream}
-use Rattle.st_pair.specs.Pairing.{is_send, receive_of, stamp_of, to_eq}
+use Rattle.st_core.specs.Event.{to_eq}
+use Rattle.st_pair.specs.Pairing.{is_send, receive_of, stamp_of}
 use Rattle.st_pair.specs.Places.{is_stamp}
 use Rattle.st_needs.specs.declared.told_facts.ToldFacts.{ToldFacts}
 

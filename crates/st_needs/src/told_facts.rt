@@ -3,8 +3,9 @@
 ghost use Rattle.std.specs.Prelude.{◌≡◌, ◌==◌, ◌&&◌, ◌++◌, find, map, IfOk, OnOk, Some};
 ghost use Rattle.std.specs.List.{list_any};
 ghost use Rattle.st_core.specs.Pid.{pid_eq};
+ghost use Rattle.st_core.specs.Event.{to_eq};
 ghost use Rattle.st_core.specs.Run.{pids_of};
-ghost use Rattle.st_pair.specs.Pairing.{is_send, to_eq};
+ghost use Rattle.st_pair.specs.Pairing.{is_send};
 ghost use Rattle.st_pair.specs.Places.{is_stamp};
 ghost use Rattle.st_needs.specs.Told.{is_untaken, is_unused, senders, senders_in, told_of};
 

@@ -2,7 +2,6 @@
 pub mod SilentStreams
 pub mod SameReasons
 pub mod EnoughSilent
-pub mod Founded
 pub mod Unfounded
 pub mod ChosenWith
 pub mod EarliestWholes

@@ -12,9 +12,8 @@ use Rattle.st_pair.specs.Pairing.{refusal, stamp_of}
 use Rattle.st_pair.specs.Places.{event_at, is_stamp}
 use Rattle.st_order.specs.Items.{is_hidden}
 use Rattle.st_closed_world.specs.FinalReasons.{HasZeroBehindReceive, HasZeroBehindStamp, IsStampOf}
-use Rattle.st_closed_world.proofs.ForCallers.{hidden_is, own_at, stamper}
+use Rattle.st_closed_world.proofs.ForCallers.{hidden_is, own_at, stamper, told_behind}
 use Rattle.st_open_world.specs.OpenReasons.{IsUnfounded}
-use Rattle.st_open_world.proofs.Founded.{told_behind}
 
 -- FROM A PLACE TO THE STAMP
 

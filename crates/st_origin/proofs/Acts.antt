@@ -23,22 +23,11 @@ use Rattle.st_core.specs.State.{LocalState, Process}
 use Rattle.st_core.specs.Stamp.{stamp, stamp_any, stamped_token}
 use Rattle.st_core.specs.Local.{default_token, has_label, with_component}
 use Rattle.st_core.specs.Pick.{pick}
-use Rattle.st_core.specs.Report.{flag_of, report}
+use Rattle.st_core.specs.Report.{flag_of, report, token_event}
 use Rattle.st_core.specs.Step.{Acted, acted, actor, answers, sends, prints, receives, reached, changed}
 use Rattle.st_core.specs.Laws.{is_reset, IsSound, IsStamped}
 use Rattle.st_core.proofs.ForCallers.{All_at, pick_found}
 use Rattle.st_origin.specs.Origin.{Origin, Follows, Begins, given_by}
-
--- the event of a token
-abbrev pub event_of : Kind → Token → Option Pid → ℕ → Event
-event_of k t to v = record {
-  label = t.label;
-  kind = k;
-  serial = t.serial;
-  from = t.from;
-  to = to;
-  value = v;
-}
 
 -- the act left last as it was, and what it reports is a stamp, which the clock now counts
 pub record KeepsLast (l m : LocalState) (told : Option Event) : Type 0 where
@@ -73,11 +62,11 @@ Changes n l m told (Some (Begins k)) = BringsLast n k l m told
 module _ (l : LocalState) (k : Kind) (other : k ≢ kind.Receive) (traced : Bool) (to : Option Pid)
     (v : ℕ) where
   made_stamp : (p : Pid) (t : Token) (b : Bool) (e : Event)
-      → (let made : Event = event_of k (stamped_token p l t) to v in cond b (Some made) None
+      → (let made : Event = token_event k (stamped_token p l t) to v in cond b (Some made) None
       ≡ Some e
       → (e.kind ≢ kind.Receive) × (e.serial.prev ≡ l.last) × (e.serial.this ≤ l.clock + 1))
   made_stamp p t b e h =
-      let made = event_of k (stamped_token p l t) to v in
+      let made = token_event k (stamped_token p l t) to v in
       subst (λ (x : Event). (x.kind ≢ kind.Receive) × (x.serial.prev ≡ l.last)
       × (x.serial.this ≤ l.clock + 1))
       (cond_some b made e h).1 (other, refl, omega arith)
@@ -150,7 +139,7 @@ taken n r place from v None rises =
     record { last = refl; least = omega arith; stamp = λ e is. absurd (none-some e is) }
 taken n r place from v (Some t) rises =
     let above = rises t refl in
-    let made = event_of kind.Receive t (Some r.pid) v in
+    let made = token_event kind.Receive t (Some r.pid) v in
     record {
       number = refl;
       least = omega arith;

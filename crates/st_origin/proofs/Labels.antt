@@ -26,14 +26,13 @@ use Rattle.st_core.specs.State.{LocalState, Process, State, process, zero_state}
 use Rattle.st_core.specs.Stamp.{stamp, stamp_any, stamped_token}
 use Rattle.st_core.specs.Local.{default_token, has_label, with_component}
 use Rattle.st_core.specs.Pick.{pick}
-use Rattle.st_core.specs.Report.{flag_of, report}
+use Rattle.st_core.specs.Report.{flag_of, report, token_event}
 use Rattle.st_core.specs.Run.{run}
 use Rattle.st_core.specs.Step.{Acted, Outcome, acted, actor, answers, prints, receives, sends}
 use Rattle.st_core.specs.Laws.{NoReset, Reports}
 use Rattle.st_core.proofs.ForCallers.{pid_eq-refl, pid_same, step_parts}
 use Rattle.st_origin.specs.Origin.{Origin, Follows, Begins, given, given_by, given_to, origin, state_before}
 use Rattle.st_origin.specs.Labels.{SetsLabelBetween, label_set}
-use Rattle.st_origin.proofs.Acts.{event_of}
 use Rattle.st_origin.proofs.Accounts.{actor_same, earlier_there, here, local_found, local_in, other_same, plain}
 use Rattle.st_origin.proofs.Truths.{number_given}
 
@@ -83,7 +82,7 @@ told_label traced k (Some t) to v e h = (
   t,
   refl,
   ap (λ (x : Event). x.label) (sym (cond_some (traced && flag_of k t.flags)
-      (event_of k t to v) e h).1),
+      (token_event k t to v) e h).1),
 )
 
 told_kind : (traced : Bool) (k : Kind) (token : Option Token) (to : Option Pid) (v : ℕ) (e : Event)
@@ -91,7 +90,7 @@ told_kind : (traced : Bool) (k : Kind) (token : Option Token) (to : Option Pid) 
 told_kind traced k None to v e h = absurd (none-some e h)
 told_kind traced k (Some t) to v e h =
     ap (λ (x : Event). x.kind) (sym (cond_some (traced && flag_of k t.flags)
-    (event_of k t to v) e h).1)
+    (token_event k t to v) e h).1)
 
 -- THE ACTOR'S PART
 

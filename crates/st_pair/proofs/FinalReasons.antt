@@ -1,7 +1,7 @@
 -- No run shows what a reason says of two events: a report's serial rises, and without a reset a process stamps no count
 -- twice, since each stamp lifts its clock to a count above all that the clock was before.
 use Rattle.std.proofs.Common.{◌≡◌, ◌≢◌, ℕ, ◌+◌, ◌<◌, ◌==◌, Bool, true, false, cond, List, [], ◌∷◌, length, take, get_or}
-use Rattle.std.proofs.Common.{Option, Some, None, option_and_then, All, AllPairs, inl, inr, refl, sym, ◌∙◌, ap, Result}
+use Rattle.std.proofs.Common.{Some, option_and_then, All, AllPairs, inl, inr, refl, sym, ◌∙◌, ap, Result}
 use Rattle.std.proofs.Common.{Ok, Err, IfErr, subst, arith}
 use Rattle.std.specs.List.{slice_get, Contains}
 use Rattle.std.proofs.lemmas.Bool.{eq-eqb, and_from, false≢true, cases_order}
@@ -24,9 +24,10 @@ use Rattle.st_core.proofs.ForCallers.{followed_sends_lift, lifted_once, lifted_l
 use Rattle.st_pair.specs.declared.answer.PairFault.{PairFault}
 use Rattle.st_pair.specs.declared.answer.PairFault.TheVariants as fault
 use Rattle.st_pair.specs.Places.{event_at, is_stamp, first}
-use Rattle.st_pair.specs.Pairing.{to_eq, agrees, prev_not_before, not_rising, repeated, mismatch, refusal, IsPairFault}
+use Rattle.st_pair.specs.Pairing.{agrees, prev_not_before, not_rising, repeated, mismatch, refusal, IsPairFault}
 use Rattle.st_pair.specs.Final.{NeverShown, NeverShownInOneTrace, RulesOut}
 use Rattle.st_pair.proofs.AcceptedEvents.{Rule, got_rule}
+use Rattle.st_pair.proofs.Agreement.{agrees_if}
 use Rattle.st_pair.proofs.Converse.{first_in, given_from, own_says, got_says}
 use Rattle.st_pair.proofs.Firsts.{events_in}
 use Rattle.st_pair.proofs.OwnStamps.{own_rule}
@@ -38,7 +39,7 @@ use Rattle.st_pair.proofs.Reasons as reasons
 pub stamp_not_received : (e : Event) → is_stamp e ≡ true → e.kind ≢ kind.Receive
 stamp_not_received e stamps is = false≢true (sym (receive_unstamped e is) ∙ stamps)
 
-receive_kind : (e : Event) → is_stamp e ≡ false → e.kind ≡ kind.Receive
+pub receive_kind : (e : Event) → is_stamp e ≡ false → e.kind ≡ kind.Receive
 receive_kind e receives = elim e.kind as (λ k.
     (let b : Bool = elim k [ kind.Send ↦ true | kind.Receive ↦ false | kind.Print ↦ true ] in b) ≡ false
     → k ≡ kind.Receive) [
@@ -47,19 +48,11 @@ receive_kind e receives = elim e.kind as (λ k.
       | kind.Print ↦ λ h. absurd (false≢true (sym h))
     ] receives
 
-to_same : (to : Option Pid) → to_eq to to ≡ true
-to_same None = refl
-to_same (Some p) = pid_eq-same p
-
 -- a send agrees with a receive that is its event but for the kind
 send_agrees : (e : Event) → (let f : Event = record e { kind = kind.Send } in agrees f e) ≡ true
 send_agrees e =
-    rw (
-      eq-eqb e.label.0 e.label.0 refl,
-      eq-eqb e.serial.prev e.serial.prev refl,
-      to_same e.to,
-      eq-eqb e.value e.value refl,
-    ) refl
+    agrees_if (record e { kind = kind.Send }) e
+    (record { sends = refl; label = refl; prev = refl; to = refl; value = refl })
 
 -- EVENTS OF A RUN
 

@@ -5,13 +5,15 @@
 -- ---- what `refusal streams ≡ None` says of each event
 pub use Rattle.st_pair.proofs.AcceptedEvents.{Rule, IsPaired, paired, event_none, serial_rises, once_place}
 pub use Rattle.st_pair.proofs.AcceptedEvents.{from_none, got_rule, cond_none}
-pub use Rattle.st_pair.proofs.Converse.{stamp_counts_rise, stamp_once, source_from_receiver, receiver_from_source}
+pub use Rattle.st_pair.proofs.Converse.{stamp_counts_rise, stamp_once, source_by, source_from, source_from_receiver, receiver_from_source}
 pub use Rattle.st_pair.proofs.Stamps.{stamp_at, receive_unstamped}
-pub use Rattle.st_pair.proofs.FinalReasons.{stamp_not_received}
+pub use Rattle.st_pair.proofs.FinalReasons.{receive_kind, stamp_not_received}
 pub use Rattle.st_pair.proofs.OwnStamps.{own_rule}
+-- ---- a send and its receive
+pub use Rattle.st_pair.proofs.Agreement.{IsAgreed, agreed, agrees_if}
 -- ---- what `refusal streams ≡ Some f` says of all acts, and acts that show streams of pairing
-pub use Rattle.st_pair.proofs.FinalReasons.{refusal_rules_out, refused_never_shown}
-pub use Rattle.st_pair.proofs.FullyShown.{shown_accepted, send_shown}
+pub use Rattle.st_pair.proofs.FinalReasons.{AreShown, IsTaken, taken, refusal_rules_out, refused_never_shown}
+pub use Rattle.st_pair.proofs.FullyShown.{shown_accepted, listed_if, shown_events, from_listed, send_shown}
 -- ---- what a rule gives first, in one stream and in all
 pub use Rattle.st_pair.proofs.Firsts.{or_none, or_assoc, first_from-at, first_from-end, first-at, first-end, first-loop}
 pub use Rattle.st_pair.proofs.Converse.{IsGiven, given_from, given_at}
@@ -20,6 +22,6 @@ pub use Rattle.st_pair.proofs.Leasts.{first_least}
 pub use Rattle.st_pair.proofs.Firsts.{IsAt, is_at, at_get_or, events_in}
 pub use Rattle.st_pair.proofs.Stamps.{blank}
 pub use Rattle.st_pair.proofs.Linkage.{take_map}
-pub use Rattle.st_pair.proofs.StreamTables.{process_passed, process_read, missing_events}
+pub use Rattle.st_pair.proofs.StreamTables.{process_passed, process_read, missing_events, stream_here, drop_next}
 -- ---- the order of pids
 pub use Rattle.st_pair.proofs.PidOrder.{pid_total}

@@ -6,7 +6,7 @@ use Rattle.std.specs.List.{slice_get}
 use Rattle.std.specs.Option.{option_map_or}
 use Rattle.std.proofs.lemmas.Bool.{false≢true, and_parts}
 use Rattle.std.proofs.lemmas.List.Elements.{All-head, All-tail}
-use Rattle.std.proofs.lemmas.Option.{option_and_then_some}
+use Rattle.std.proofs.lemmas.Option.{none-some, option_and_then_some}
 use Rattle.st_core.specs.declared.types.Pid.{Pid}
 use Rattle.st_core.specs.declared.types.Kind.TheVariants as kind
 use Rattle.st_core.specs.declared.types.Event.{Event}
@@ -37,8 +37,19 @@ shown_accepted top streams acts shows none =
       | Some f ↦ λ is. absurd (refused_never_shown streams f is top acts none shows)
     ] refl
 
+-- a process with an event is listed
+pub listed_if : (streams : List Stream) (p : Pid) (i : ℕ) (e : Event) → event_at streams p i ≡ Some e
+    → is_among (pids_of streams) p ≡ true
+listed_if [] p i e at = absurd (none-some e at)
+listed_if (x ∷ streams) p i e at = elim (pid_eq x.pid p) as (λ b.
+    slice_get (events_in (cond b (Some x) (stream_of streams p))) i ≡ Some e
+    → (b || is_among (pids_of streams) p) ≡ true) [
+      | true ↦ λ _. refl
+      | false ↦ λ at. listed_if streams p i e at
+    ] at
+
 -- the events of a listed process are its reports
-shown_events : (streams : List Stream) (acts : List Act) (os : List Outcome) (p : Pid) → AreShown streams acts os
+pub shown_events : (streams : List Stream) (acts : List Act) (os : List Outcome) (p : Pid) → AreShown streams acts os
     → is_among (pids_of streams) p ≡ true → events_of streams p ≡ stream acts os p
 shown_events [] acts os p shown h = absurd (false≢true h)
 shown_events (x ∷ streams) acts os p shown h =
@@ -49,21 +60,22 @@ shown_events (x ∷ streams) acts os p shown h =
       | false ↦ λ _ h. shown_events streams acts os p (All-tail whole x streams shown) h
     ] refl h
 
+-- whom a reported event is from is listed
+pub from_listed : (top : ℕ) (streams : List Stream) (acts : List Act) (shows : Shows top streams acts) (p : Pid) (n : ℕ)
+    (e : Event) → Reports acts shows.0 p n e → is_among (pids_of streams) e.from ≡ true
+from_listed top streams acts shows p n e r =
+    let pids = pids_of streams in
+    option_and_then_some (λ (o : Outcome). o.report) (slice_get shows.0 n) e r.report (λ o out is.
+    let each = run_named top pids acts shows.0 shows.1 in
+    let named = AllZip_at (ReportsAmong pids) acts shows.0 n r.act o each r.at out in
+    (and_parts (is_among pids e.from) (option_map_or (is_among pids) e.to true) (named e is).names).0)
+
 there_is : {X : Type 0} (o : Option X) → IsSome o → (x : X) × (o ≡ Some x)
 there_is None h = absurd (false≢true h)
 there_is (Some x) h = (x, refl)
 
 module _ (top : ℕ) (streams : List Stream) (acts : List Act) (shows : Shows top streams acts) (none : NoReset acts)
     (all : ReportsEverything (zero_state (pids_of streams)) acts shows.0) where
-  -- whom a reported event is from is listed
-  from_listed : (p : Pid) (n : ℕ) (e : Event) → Reports acts shows.0 p n e → is_among (pids_of streams) e.from ≡ true
-  from_listed p n e r =
-      let pids = pids_of streams in
-      option_and_then_some (λ (o : Outcome). o.report) (slice_get shows.0 n) e r.report (λ o out is.
-      let each = run_named top pids acts shows.0 shows.1 in
-      let named = AllZip_at (ReportsAmong pids) acts shows.0 n r.act o each r.at out in
-      (and_parts (is_among pids e.from) (option_map_or (is_among pids) e.to true) (named e is).names).0)
-
   pub send_shown : (p : Pid) (i : ℕ) (e : Event) → event_at streams p i ≡ Some e → is_stamp e ≡ false
       → (j : ℕ) × (source_at streams p i ≡ Some (source.Event e.from j))
   send_shown p i e at receives =
@@ -82,7 +94,7 @@ module _ (top : ℕ) (streams : List Stream) (acts : List Act) (shows : Shows to
       let reports : Reports acts os q s f =
       record { act = act.Send x.from a.follows.to x.value; at = a.follows.sends; own = own; report = told.1 } in
       let j = length (stream (take s acts) (take s os) q) in
-      let events = shown_events streams acts os q shows.2 (from_listed p r.0 e r.1.reports) in
+      let events = shown_events streams acts os q shows.2 (from_listed top streams acts shows p r.0 e r.1.reports) in
       let there : event_at streams q j ≡ Some f =
       ap (λ es. slice_get es j) events ∙ report_told acts os q s f reports in
       let stamp = stamp_once streams (paired streams (shown_accepted top streams acts shows none)) q j f there

@@ -5,6 +5,7 @@ pub mod OwnStamps
 pub mod Stamps
 pub mod Linkage
 pub mod StreamTables
+pub mod Agreement
 pub mod AcceptedEvents
 pub mod Converse
 pub mod Received

@@ -1,6 +1,6 @@
 -- A list of what is kept of each process, in the order of the streams: one process more, and what is read at a
 -- process's place.
-use Rattle.std.proofs.Common.{◌≡◌, ℕ, ◌+◌, ◌<◌, zero, suc, List, [], ◌∷◌, ◌++◌, length, map, take, get_or, Bool, false}
+use Rattle.std.proofs.Common.{◌≡◌, ℕ, ◌+◌, ◌<◌, zero, suc, List, [], ◌∷◌, ◌++◌, length, map, take, drop, get_or, Bool, false}
 use Rattle.std.proofs.Common.{cond, Some, slice_get, refl, sym, ◌∙◌, ap, subst, arith}
 use Rattle.std.specs.List.{AllByRecursion}
 use Rattle.std.proofs.lemmas.Option.{same_Some}
@@ -42,6 +42,26 @@ process_read {A} f streams p k kept read rising are at is =
     is ∙ ap (λ (l : List A). get_or l k read) are
     ∙ get_or_map (λ (t : Stream). f t.events) streams k s.stream read s.at
     ∙ ap f (sym (ap events_in s.found))
+
+-- the stream of a process, by its place
+pub stream_here : (streams : List Stream) (pids : List Pid) (k : ℕ) (d : Pid) (es : List Event)
+    → IsRising (pids_of streams) → pids ≡ pids_of streams → k < length pids
+    → es ≡ events_of streams (get_or pids k d)
+    → slice_get streams k ≡ Some (record { pid = get_or pids k d; events = es })
+stream_here streams pids k d es rising are within is =
+    let p = get_or pids k d in
+    let at = subst (λ (ps : List Pid). slice_get ps k ≡ Some p) are (at_get_or pids k d within) in
+    let s = is_at streams k p rising at in
+    let same : s.stream.events ≡ es = sym (ap events_in s.found) ∙ sym is in
+    s.at ∙ ap (λ q. Some (record { pid = q; events = s.stream.events })) s.pid
+    ∙ ap (λ fs. Some (record { pid = p; events = fs })) same
+
+-- what is left before an element is it and what is left behind it
+pub drop_next : {A : Type 0} (xs : List A) (k : ℕ) (x : A) → slice_get xs k ≡ Some x
+    → drop k xs ≡ x ∷ drop (suc k) xs
+drop_next [] k x at = absurd (cc)
+drop_next (y ∷ xs) zero x at = ap (λ z. z ∷ xs) (same_Some y x at)
+drop_next (y ∷ xs) (suc k) x at = drop_next xs k x at
 
 -- a process that isn't listed has no events
 pub missing_events : (streams : List Stream) (p : Pid)

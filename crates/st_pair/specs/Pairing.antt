@@ -6,6 +6,7 @@ use Rattle.st_core.specs.declared.types.Pid.{Pid}
 use Rattle.st_core.specs.declared.types.Kind.TheVariants as kind
 use Rattle.st_core.specs.declared.types.Event.{Event}
 use Rattle.st_core.specs.Pid.{pid_eq}
+use Rattle.st_core.specs.Event.{to_eq}
 use Rattle.st_core.specs.Run.{Stream}
 use Rattle.st_core.specs.Streams.{events_of}
 use Rattle.st_pair.specs.declared.answer.PairFault.{PairFault}
@@ -33,12 +34,6 @@ abbrev pub receive_of : List Stream → Pid → ℕ → Option (Pid × ℕ)
 receive_of streams q this = first (λ p i e.
     if is_stamp e then None else if pid_eq e.from q
     && e.serial.this == this then Some (p, i) else None) streams
-
--- p and q are one process, or neither is there
-abbrev pub to_eq : Option Pid → Option Pid → Bool
-to_eq None None = true
-to_eq (Some p) (Some q) = pid_eq p q
-to_eq _ _ = false
 
 -- the event is a send
 abbrev pub is_send : Event → Bool

@@ -2,10 +2,10 @@
 
 ghost use Rattle.std.specs.Prelude.{◌≡◌, ◌==◌, ◌&&◌};
 ghost use Rattle.st_core.specs.Pid.{pid_eq};
+ghost use Rattle.st_core.specs.Event.{to_eq};
 ghost use Rattle.st_core.specs.Streams.{events_of};
 ghost use Rattle.st_pair.specs.Links.{link_of};
 ghost use Rattle.st_pair.specs.Pairing.{agrees, mismatch, not_rising, prev_not_before};
-ghost use Rattle.st_pair.specs.Pairing.{to_eq};
 ghost use Rattle.st_pair.specs.Places.{first, first_from};
 ghost use Rattle.st_pair.specs.Rules.{count_before, fault_at, repeated_by};
 

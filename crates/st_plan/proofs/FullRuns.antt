@@ -1,45 +1,35 @@
 -- What a full run says of its streams: pairing accepts them, each stamp goes on from the events
 -- before it, no send is hidden, and each count is one that a clock has had.
-use Rattle.std.proofs.Common.{◌≡◌, ℕ, ◌+◌, ◌≤◌, ◌==◌, ◌&&◌, Bool, true, false, cond, if◌then◌else◌, List, [], ◌∷◌, take}
-use Rattle.std.proofs.Common.{Option, Some, None, slice_get, option_and_then, refl, sym, ◌∙◌, ap, subst, arith}
+use Rattle.std.proofs.Common.{◌≡◌, ℕ, ◌+◌, ◌≤◌, ◌==◌, ◌&&◌, Bool, true, false, cond, List, [], take}
+use Rattle.std.proofs.Common.{Some, None, slice_get, option_and_then, refl, sym, ◌∙◌, ap, subst, arith}
 use Rattle.std.specs.List.{All}
 use Rattle.std.proofs.lemmas.Bool.{eqb-true, false≢true, and_parts}
-use Rattle.std.proofs.lemmas.List.Elements.{All-head, All-tail}
 use Rattle.std.proofs.lemmas.Option.{none-some, same_Some}
 use Rattle.st_core.specs.declared.types.Pid.{Pid}
 use Rattle.st_core.specs.declared.types.Event.{Event}
 use Rattle.st_core.specs.declared.types.Act.{Act}
-use Rattle.st_core.specs.Pid.{pid_eq}
 use Rattle.st_core.specs.State.{State, process, zero_state}
 use Rattle.st_core.specs.Step.{Outcome}
 use Rattle.st_core.specs.Run.{Stream, Shows, pids_of, stream}
-use Rattle.st_core.specs.Streams.{events_of, stream_of}
+use Rattle.st_core.specs.Streams.{events_of}
 use Rattle.st_core.specs.Laws.{clock_in, GoesOnFrom, IsSound, KeepsSound, NoReset, ReportsEverything}
-use Rattle.st_core.proofs.ForCallers.{All_at, event_reported, pid_eq-true, process_holds}
+use Rattle.st_core.proofs.ForCallers.{All_at, event_reported, process_holds}
 use Rattle.st_core.proofs.ForCallers.{reported_stamps_lift, run_sound, tell_counts}
 use Rattle.st_pair.specs.declared.answer.Source.{Source}
 use Rattle.st_pair.specs.declared.answer.Source.TheVariants as source
 use Rattle.st_pair.specs.Places.{event_at, is_stamp}
 use Rattle.st_pair.specs.Pairing.{source_of, stamp_of}
-use Rattle.st_pair.proofs.ForCallers.{events_in, given_from, own_rule, send_shown, shown_accepted, stamp_not_received}
+use Rattle.st_pair.proofs.ForCallers.{AreShown, given_from, listed_if, own_rule, send_shown, shown_accepted}
+use Rattle.st_pair.proofs.ForCallers.{shown_events, source_by, source_from, stamp_not_received}
 use Rattle.st_order.specs.Items.{is_hidden}
 use Rattle.st_plan.specs.Full.{IsFull}
 
 -- a process that has an event is listed, and its events are its reports
 events_shown : (streams : List Stream) (acts : List Act) (os : List Outcome) (p : Pid) (i : ℕ)
     (e : Event)
-    → All (λ (x : Stream). stream acts os x.pid ≡ x.events) streams → event_at streams p i ≡ Some e
+    → AreShown streams acts os → event_at streams p i ≡ Some e
     → stream acts os p ≡ events_of streams p
-events_shown [] acts os p i e shown at = absurd (none-some e at)
-events_shown (x ∷ streams) acts os p i e shown at =
-    let whole = λ (y : Stream). stream acts os y.pid ≡ y.events in
-    elim (pid_eq x.pid p) as (λ b. pid_eq x.pid p ≡ b
-    → slice_get (events_in (cond b (Some x) (stream_of streams p))) i ≡ Some e
-    → stream acts os p ≡ events_in (cond b (Some x) (stream_of streams p))) [
-      | true ↦ λ same at. ap (stream acts os) (sym (pid_eq-true x.pid p same))
-          ∙ All-head whole x streams shown
-      | false ↦ λ other at. events_shown streams acts os p i e (All-tail whole x streams shown) at
-    ] refl at
+events_shown streams acts os p i e shown at = sym (shown_events streams acts os p shown (listed_if streams p i e at))
 
 clock_within : (top : ℕ) (s : State) (p : Pid) → All (IsSound top) s → clock_in s p ≤ top
 clock_within top s p all = elim (process s p) as (λ o. process s p ≡ o
@@ -51,12 +41,6 @@ clock_within top s p all = elim (process s p) as (λ o. process s p ≡ o
 -- what a source says of the send
 abbrev hidden_by : Source → Bool
 hidden_by s = elim s [ source.Hidden ↦ true | source.Event q j ↦ false ]
-
-abbrev source_from : Pid → Option (ℕ × Event) → Source
-source_from q o = elim o [ None ↦ source.Hidden | Some f ↦ source.Event q f.0 ]
-
-abbrev source_by : List Stream → Event → Option Source
-source_by streams e = if is_stamp e then None else Some (source_of streams e)
 
 own_send : (b : Bool) (g f : ℕ × Event) → cond b (Some g) None ≡ Some f → b ≡ true
 own_send true g f h = refl

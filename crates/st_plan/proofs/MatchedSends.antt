@@ -9,11 +9,11 @@ use Rattle.st_core.specs.declared.types.Pid.{Pid}
 use Rattle.st_core.specs.declared.types.Event.{Event}
 use Rattle.st_core.specs.Pid.{pid_eq}
 use Rattle.st_core.specs.Run.{Stream}
-use Rattle.st_core.proofs.ForCallers.{pid_same, not_true, to_eq-true}
+use Rattle.st_core.proofs.ForCallers.{pid_same, not_true}
 use Rattle.st_pair.specs.declared.answer.PairFault.TheVariants as fault
 use Rattle.st_pair.specs.Places.{event_at, is_stamp}
-use Rattle.st_pair.specs.Pairing.{stamp_of, receive_of, to_eq, is_send, agrees, mismatch}
-use Rattle.st_pair.proofs.ForCallers.{cond_none, event_none, once_place, stamp_once, IsPaired}
+use Rattle.st_pair.specs.Pairing.{stamp_of, receive_of, agrees, mismatch}
+use Rattle.st_pair.proofs.ForCallers.{agreed, cond_none, event_none, IsAgreed, IsPaired, once_place, stamp_once}
 use Rattle.st_order.specs.declared.item.Item.{Item}
 use Rattle.st_order.specs.declared.item.Item.TheVariants as item
 use Rattle.st_order.specs.Order.{key_by}
@@ -92,31 +92,6 @@ untaken streams ok p i e (y ∷ earlier) at receive came below who = (
 )
 
 -- EACH SEND WITH ITS FROM AND COUNT GIVES ITS EVENT
-
--- what agreement says
-pub record IsAgreed (f e : Event) : Type 0 where
-  pub sends : is_send f ≡ true
-  pub label : f.label ≡ e.label
-  pub prev : f.serial.prev ≡ e.serial.prev
-  pub to : f.to ≡ e.to
-  pub value : f.value ≡ e.value
-
-agreed : (f e : Event) → agrees f e ≡ true → IsAgreed f e
-agreed f e h =
-    let to_value = to_eq f.to e.to && f.value == e.value in
-    let prev_on = f.serial.prev == e.serial.prev && to_value in
-    let one = and_parts (is_send f) (f.label.0 == e.label.0 && prev_on) h in
-    let two = and_parts (f.label.0 == e.label.0) prev_on one.1 in
-    let three = and_parts (f.serial.prev == e.serial.prev) to_value two.1 in
-    let four = and_parts (to_eq f.to e.to) (f.value == e.value) three.1 in
-    let number = eqb-true f.label.0 e.label.0 two.0 in
-    record {
-      sends = one.0;
-      label = λ i. record { 0 = number i };
-      prev = eqb-true f.serial.prev e.serial.prev three.0;
-      to = to_eq-true f.to e.to four.0;
-      value = eqb-true f.value e.value four.1;
-    }
 
 -- the sender's stamp with a receive's count is the receive's send
 pub matched_send : (streams : List Stream) → IsPaired streams

@@ -1,8 +1,8 @@
 -- Full streams are plain: each stamp counts one more than its process's clock, so nothing is
 -- missing, and its prev is the last count or the clock.
 use Rattle.std.proofs.Common.{◌≡◌, ℕ, zero, suc, ◌+◌, ◌-◌, ◌<◌, ◌≤◌, ◌==◌, ◌&&◌, ◌||◌, nat_lt, Bool}
-use Rattle.std.proofs.Common.{true, false, not, cond, List, [], ◌∷◌, ◌++◌, take, drop, reverse}
-use Rattle.std.proofs.Common.{filter, Some, inl, inr, slice_get, refl, sym, ◌∙◌, ap, subst, arith}
+use Rattle.std.proofs.Common.{true, false, not, cond, List, [], ◌∷◌, ◌++◌, take, reverse}
+use Rattle.std.proofs.Common.{Some, inl, inr, slice_get, refl, sym, ◌∙◌, ap, arith}
 use Rattle.std.proofs.lemmas.Bool.{eq-eqb, false≢true}
 use Rattle.std.proofs.lemmas.Bool.Decides.{nat_tests}
 use Rattle.std.proofs.lemmas.Option.{none-some, same_Some}
@@ -14,7 +14,7 @@ use Rattle.st_core.specs.State.{zero_state}
 use Rattle.st_core.specs.Run.{Stream, Shows, pids_of}
 use Rattle.st_core.specs.Streams.{events_of}
 use Rattle.st_core.specs.Laws.{GoesOnFrom, greatest_count, NoReset, ReportsEverything}
-use Rattle.st_core.proofs.ForCallers.{pid_eq-refl, and_false}
+use Rattle.st_core.proofs.ForCallers.{and_false}
 use Rattle.st_pair.specs.Places.{event_at, is_stamp}
 use Rattle.st_order.specs.declared.item.Item.{Item}
 use Rattle.st_order.specs.Order.{IsOrder}
@@ -24,7 +24,7 @@ use Rattle.st_plan.specs.Reasons.{most_skipped, most_skipped_in_all, too_wide, u
 use Rattle.st_plan.specs.Plain.{IsPlain, out_of_turn, event_count}
 use Rattle.st_plan.specs.Full.{IsFull}
 use Rattle.st_plan.proofs.FullRuns.{run_full}
-use Rattle.st_plan.proofs.Turns.{After, after, event_move, event_move_there, is_move_of, move_back, own_step, turned}
+use Rattle.st_plan.proofs.Turns.{After, at_each, event_move, move_back, next_event}
 
 -- HEIGHTS
 
@@ -63,31 +63,28 @@ at_move : (streams : List Stream) (p : Pid) (i : ℕ) (e : Event) (earlier later
     → After (events_of streams p) p earlier (event_move p i e ∷ later)
     → IsNext earlier (event_move p i e)
 at_move streams p i e earlier later goes_on before =
-    let events = events_of streams p in
-    let n = event_count p earlier in
     let c = clock p earlier in
     let l = last p earlier in
     let prev = e.serial.prev in
-    let ms = filter (is_move_of p) later in
-    let clocked = before.clocked in
-    let front : event_move p i e ∷ ms ≡ turned p n (drop n events) =
-    ap (λ (b : Bool). cond b (event_move p i e ∷ ms) ms) (sym (pid_eq-refl p)) ∙ before.left in
-    let own = own_step events p n c l i e later clocked front in
+    let own = next_event (events_of streams p) p i e earlier later before in
     record {
-      turn = ap not (eq-eqb n i (sym own.0));
+      turn = own.0;
       caused = elim (is_stamp e) as (λ b. is_stamp e ≡ b
           → (not (not b) && (not (prev == l) && nat_lt prev c)) ≡ false) [
-            | true ↦ λ stamp. elim (goes_on n e own.1 stamp).prev [
+            | true ↦ λ stamp. elim (goes_on (event_count p earlier) e own.1 stamp).prev [
               | inl same ↦ ap (λ b. not b && nat_lt prev c)
                   (eq-eqb prev l (same ∙ sym before.counted))
               | inr same ↦ and_false (not (prev == l)) (nat_lt prev c)
-                  (not_below prev c (same ∙ sym clocked))
+                  (not_below prev c (same ∙ sym before.clocked))
             ]
             | false ↦ λ receive. refl
           ] refl;
       skipped = elim (is_stamp e) as (λ b. is_stamp e ≡ b
           → cond (not b) 0 (e.serial.this - 1 - c) ≡ 0) [
-            | true ↦ λ stamp. let count = (goes_on n e own.1 stamp).count in omega arith
+            | true ↦ λ stamp.
+                let count = (goes_on (event_count p earlier) e own.1 stamp).count in
+                let clocked = before.clocked in
+                omega arith
             | false ↦ λ receive. refl
           ] refl;
     }
@@ -108,13 +105,8 @@ module _ (top : ℕ) (streams : List Stream) (rising : IsRising (pids_of streams
       → moves streams xs ≡ reverse earlier ++ m ∷ later
       → IsNext earlier m
   along earlier m later split =
-      let lead = stamps_lead top streams full in
-      let own = event_move_there streams rising full.reported lead xs order earlier m later split in
-      let p = m.who in
-      let before = after streams rising full.reported lead xs order p earlier (m ∷ later) split in
-      subst (IsNext earlier) (sym own.1) (at_move streams p own.0 m.event earlier later
-      (full.goes_on p)
-      (subst (λ x. After (events_of streams p) p earlier (x ∷ later)) own.1 before))
+      at_each streams rising full.reported (stamps_lead top streams full) xs order IsNext
+      (λ p i e before after. at_move streams p i e before after (full.goes_on p)) earlier m later split
 
   no_skips : (earlier later : List Move) → moves streams xs ≡ reverse earlier ++ later
       → skips earlier ≡ 0

@@ -17,7 +17,7 @@ use Rattle.st_core.specs.State.{Process, State, process}
 use Rattle.st_core.specs.declared.types.Want.TheVariants as want
 use Rattle.st_core.specs.Local.{received}
 use Rattle.st_core.specs.Pick.{pick, pick_from}
-use Rattle.st_core.specs.Report.{report}
+use Rattle.st_core.specs.Report.{report, token_event}
 use Rattle.st_core.specs.Step.{acted, receives, changed, outcome_of, step}
 use Rattle.st_core.specs.Run.{Stream}
 use Rattle.st_core.specs.Streams.{lists}
@@ -55,14 +55,7 @@ pick_at k queue x at =
 
 -- the event of p's receive of a message with this value and token
 abbrev pub got_of : Pid → ℕ → Token → Event
-got_of p v t = record {
-  label = t.label;
-  kind = kind.Receive;
-  serial = t.serial;
-  from = t.from;
-  to = Some p;
-  value = v;
-}
+got_of p v t = token_event kind.Receive t (Some p) v
 
 -- the message that a receive takes is in its queue, gives its event, and is seen where that is told
 pub record IsWaiting (streams : List Stream) (marks : Marks) (earlier : List Move)

@@ -5,7 +5,7 @@ use Rattle.std.proofs.Common.{◌≡◌, ℕ, suc, ◌+◌, max, Bool, true, fal
 use Rattle.std.proofs.Common.{◌++◌, take, drop, length, filter, reverse, Some, None}
 use Rattle.std.proofs.Common.{slice_get, append_assoc, refl, sym, ◌∙◌, ap, subst, arith}
 use Rattle.std.specs.List.{AllByRecursion}
-use Rattle.std.proofs.lemmas.Bool.{false≢true}
+use Rattle.std.proofs.lemmas.Bool.{eq-eqb, false≢true}
 use Rattle.std.proofs.lemmas.List.{reverse-append}
 use Rattle.std.proofs.lemmas.Option.{none-some, same_Some}
 use Rattle.st_core.specs.declared.types.Pid.{Pid}
@@ -15,7 +15,7 @@ use Rattle.st_core.specs.Pid.{pid_eq, IsRising}
 use Rattle.st_core.specs.Run.{Stream, pids_of}
 use Rattle.st_core.specs.Streams.{events_of}
 use Rattle.st_core.specs.Laws.{greatest_count, prev_after}
-use Rattle.st_core.proofs.ForCallers.{greatest_push, pid_same, prev_push}
+use Rattle.st_core.proofs.ForCallers.{greatest_push, pid_eq-refl, pid_same, prev_push}
 use Rattle.st_pair.specs.Places.{event_at, is_stamp}
 use Rattle.st_order.specs.declared.item.Item.{Item}
 use Rattle.st_order.specs.declared.item.Item.TheVariants as item
@@ -24,7 +24,7 @@ use Rattle.st_order.specs.Order.{IsOrder}
 use Rattle.st_order.specs.Turn.{in_turn, is_event_of, StampsLead}
 use Rattle.st_order.proofs.ForCallers.{all_right, drop_front, index_of, keeps_turn}
 use Rattle.st_plan.specs.Moves.{Move, clock, last, move_by, moves}
-use Rattle.st_plan.specs.Plain.{event_count}
+use Rattle.st_plan.specs.Plain.{event_count, out_of_turn}
 use Rattle.st_plan.proofs.EarlierMoves.{take_more, IsThere, moves_by, one_move, order_there}
 use Rattle.st_plan.proofs.OrderedMoves.{item_is}
 
@@ -170,6 +170,18 @@ abbrev pub After : List Event → Pid → List Move → List Move → Type 0
 After events p earlier later =
     IsAfter events p (event_count p earlier) (clock p earlier) (last p earlier) later
 
+-- p's next move is in turn, and of its next event
+pub next_event : (events : List Event) (p : Pid) (i : ℕ) (e : Event) (earlier later : List Move)
+    → After events p earlier (event_move p i e ∷ later)
+    → (out_of_turn earlier (event_move p i e) ≡ false) × (slice_get events (event_count p earlier) ≡ Some e)
+next_event events p i e earlier later before =
+    let n = event_count p earlier in
+    let ms = filter (is_move_of p) later in
+    let left : event_move p i e ∷ ms ≡ turned p n (drop n events) =
+    ap (λ (b : Bool). cond b (event_move p i e ∷ ms) ms) (sym (pid_eq-refl p)) ∙ before.left in
+    let own = own_step events p n (clock p earlier) (last p earlier) i e later before.clocked left in
+    (ap not (eq-eqb n i (sym own.0)), own.1)
+
 step : (events : List Event) (p q : Pid) (j : ℕ) (e : Event) (earlier later : List Move)
     → After events p earlier (event_move q j e ∷ later)
     → After events p (event_move q j e ∷ earlier) later
@@ -231,3 +243,16 @@ module _ (streams : List Stream) (rising : IsRising (pids_of streams)) (shown : 
       subst (λ x. After events p (x ∷ earlier) later) (sym own.1)
       (step events p m.who own.0 m.event earlier later
       (subst (λ x. After events p earlier (x ∷ later)) own.1 (after p earlier (m ∷ later) before)))
+
+  -- what holds of each event that comes next holds of each move of the order
+  pub at_each : (P : List Move → Move → Type 0)
+      → ((p : Pid) (i : ℕ) (e : Event) (earlier later : List Move)
+      → After (events_of streams p) p earlier (event_move p i e ∷ later) → P earlier (event_move p i e))
+      → (earlier : List Move) (m : Move) (later : List Move)
+      → moves streams xs ≡ reverse earlier ++ m ∷ later → P earlier m
+  at_each P each earlier m later split =
+      let own = event_move_there earlier m later split in
+      let p = m.who in
+      let before = after p earlier (m ∷ later) split in
+      subst (P earlier) (sym own.1) (each p own.0 m.event earlier later
+      (subst (λ x. After (events_of streams p) p earlier (x ∷ later)) own.1 before))

@@ -6,13 +6,13 @@ use Rattle.st_core.specs.Run.{Stream}
 use Rattle.st_core.specs.Streams.{unlisted}
 use Rattle.st_open_world.proofs.ForCallers.{silent_sound}
 use Rattle.st_needs.specs.Merged.{merged}
-use Rattle.st_needs.proofs.Counted.{stream_here}
 use Rattle.st_needs.proofs.Ranking.{own_events}
 use Rattle.st_needs.proofs.Merging.{all_merged, IsMerging, listed_last, listed_more, other_last, other_more}
 use Rattle.st_needs.proofs.Merging.{taken_within}
 use Rattle.st_needs.proofs.silent.with_silent.Goals as goal
 use Rattle.st_needs.proofs.silent.with_silent.Goals.{then-is_other_next+in_ok-open_last}
 use Rattle.st_needs.proofs.silent.with_silent.Goals.{else-is_other_next+in_ok-add_process}
+use Rattle.st_pair.proofs.ForCallers.{stream_here}
 
 abbrev none : Pid
 none = record { node = 0; number = 0 }

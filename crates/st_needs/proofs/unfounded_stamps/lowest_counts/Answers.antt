@@ -4,9 +4,9 @@ use Rattle.std.proofs.lemmas.List.{length-map, take_all}
 use Rattle.st_core.specs.declared.types.Pid.{Pid}
 use Rattle.st_core.specs.Run.{pids_of, Stream}
 use Rattle.st_needs.specs.Unfounded.{lowest_from, IsNoted}
-use Rattle.st_needs.proofs.Counted.{stream_here}
 use Rattle.st_needs.proofs.Noted.{lowest_next}
 use Rattle.st_needs.proofs.unfounded_stamps.lowest_counts.Goals as goal
+use Rattle.st_pair.proofs.ForCallers.{stream_here}
 
 pub loop-pid-init : goal.loop-pid-init
 loop-pid-init c = c.in_ok-lows.ensures
