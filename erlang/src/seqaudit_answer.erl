@@ -137,9 +137,15 @@ named(Outcomes, #{legend := Legend} = Trace) ->
 %% The outcome, which knows what the trace is called, whether the trace was cut and whether anything was lost.
 ask(Streams, #{name := Name, cut := Note, losses := Losses}) ->
     case seqaudit_outcome:ask(Streams) of
-        {ok, Outcome} -> {ok, Outcome#{name => Name, cut => Note =/= "", lost => Losses =/= []}};
+        {ok, Outcome} -> {ok, with_mistakes(Outcome#{name => Name, cut => Note =/= "", lost => Losses =/= []})};
         {error, Reason} -> {error, Reason}
     end.
+
+%% What a cut leaves isn't in the file.
+with_mistakes(#{said := fault, cut := false, name := Name} = Outcome) ->
+    Outcome#{mistakes => seqaudit_outcome:mistakes(Name ++ ".seqtrace")};
+with_mistakes(Outcome) ->
+    Outcome.
 
 %% @doc Says whether a run has the trace and what it lacks, and keeps what shows it.
 -spec audit(options()) -> result().

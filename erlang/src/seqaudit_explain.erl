@@ -9,6 +9,8 @@
 
 %% So many unreported events are listed; the rest are counted.
 -define(LISTED, 20).
+%% So many lines of what `seqtool lint' says: three mistakes, each with its line and a remark.
+-define(MISTAKE_LINES, 12).
 %% Characters of a term in a sentence.
 -define(CHARACTERS, 80).
 %% What explains an event as well as a message whose receive wasn't reported does.
@@ -226,6 +228,9 @@ details(#{said := Said} = Outcome, Legend) when Said =:= fits; Said =:= complete
      renumbered(Outcome)];
 details(#{said := fault, fault := <<"fault too ", _/binary>>, tool := not_there}, _Legend) ->
     ["seqtool takes larger traces, but ", no_tool()];
+details(#{said := fault, mistakes := Mistakes}, _Legend) ->
+    [[["  ", Line, $\n] || Line <- lists:sublist(Mistakes, ?MISTAKE_LINES)],
+     ["  ..\n" || length(Mistakes) > ?MISTAKE_LINES]];
 details(#{said := fault}, _Legend) ->
     "";
 details(Outcome, Legend) ->

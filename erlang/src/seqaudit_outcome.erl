@@ -11,7 +11,7 @@
 %% ({@link seqaudit_exchange}): the prevs alone if that is enough, else all of them.
 -module(seqaudit_outcome).
 
--export([ask/1, rows/1]).
+-export([ask/1, mistakes/1, rows/1]).
 -export_type([outcome/0, finding/0]).
 
 -type finding() :: {Reason :: binary(), [{seqaudit_bundle:place(), seqaudit_bundle:event()}]}.
@@ -26,6 +26,7 @@
           finding => finding(),
           twice => [{Copy :: seqaudit_bundle:place(), Of :: seqaudit_bundle:place()}, ...],
           fault => binary(),
+          mistakes => [binary()],
           exchanged := none | prevs | counts,
           asked => seqaudit_bundle:streams(),
           unlisted := [seqaudit_bundle:pid_text()],
@@ -43,7 +44,8 @@
 %% <dt>`unexplained'</dt><dd>`seqaudit' found no run, and there is no `seqtool' to ask</dd>
 %% <dt>`fault'</dt><dd>a program didn't take the bundle</dd>
 %% </dl>
-%% `answer' is otherwise what the program said. `twice' has the events that are copies of others, if a run has the
+%% `answer' is otherwise what the program said, and `mistakes' what `seqtool lint' says of a file that `seqaudit' didn't
+%% take. `twice' has the events that are copies of others, if a run has the
 %% streams without them. `renumbered' says whether counts were replaced, `tool' whether `seqtool' was there and did
 %% what it was asked, `name' what the trace is called, `cut' whether the streams are what a cut left of others, and
 %% `lost' whether the collectors lost events. `exchanged' says which counts were exchanged for those that the machine
@@ -53,6 +55,8 @@
 
 -define(FITS, 0).
 -define(UNFIT, 1).
+%% Of `seqtool lint': there are mistakes.
+-define(REFUSED, 2).
 
 %% @doc Asks the programs. If streams don't fit, they are asked again with each event once.
 -spec ask(seqaudit_bundle:streams()) -> {ok, outcome()} | {error, term()}.
@@ -207,6 +211,14 @@ ask(Streams, Text, File) ->
 
 fault(Answer, Outcome) ->
     Outcome#{said => fault, fault => line(Answer), answer => Answer}.
+
+%% @doc What `seqtool lint' says of a file that `seqaudit' doesn't take, line by line; nothing if it isn't there to be asked.
+-spec mistakes(file:filename()) -> [binary()].
+mistakes(File) ->
+    case seqaudit_program:ask_if_known("seqtool", ["lint"], File) of
+        {ok, {?REFUSED, Said}} -> binary:split(string:trim(Said, trailing), <<"\n">>, [global]);
+        _ -> []
+    end.
 
 line(Answer) ->
     hd(binary:split(Answer, <<"\n">>)).

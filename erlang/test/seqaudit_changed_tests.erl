@@ -164,7 +164,8 @@ no_bundle_test_() ->
         [begin
              ok = write("no_bundle", Text),
              has(Said(["audit"], "no_bundle"),
-                 [[name("no_bundle"), ".seqtrace, line 1, isn't the text of a trace (docs/FORMATS.md); ", Lint],
+                 [[name("no_bundle"), ".seqtrace, line 1, isn't the text of a trace (docs/FORMATS.md); ", Lint,
+                   "  line 1, column 1: expected the header seqtrace 1 or seqtrace 2\n"],
                   "(status 2)"])
          end || Text <- ["", "junk\n"]],
         %% An event below another process.
