@@ -15,7 +15,7 @@
 //! | `push_back` | as `push_reserved`, unless the arena grows | takes some if nothing is spare |
 //! | `push_reserved`, `take_at` | as many steps as the list's length has bits, on average | some for a ladder |
 //! | `get` | the same if the list has a ladder, else as many as the place is from the nearer end | none |
-//! | `len`, `list_count` | constant | none |
+//! | `len` | constant | none |
 //! | `find_any` | as many steps as the place is from the nearer end, and at most 512 more | none |
 //! | `find_first`, `change_all` | as many steps as the list has items | none |
 //! | `walk` | constant, as is each of its steps | none |

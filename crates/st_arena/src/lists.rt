@@ -118,13 +118,6 @@ impl<T> Lists<T> {
         follow_push(&mut self.ladders, list, self.alloc, &self.nodes, ends);
     }
 
-    /// How many lists there are: each call takes a list's number below this.
-    pub fn list_count(&self) -> usize
-        ensures { result ≡ length self.now.lists }
-    {
-        self.ends.len()
-    }
-
     /// How many items a list has.
     pub fn len(&self, list: usize) -> u64
         requires { list < length self.now.lists }

@@ -1,5 +1,5 @@
 -- What is found for one event more, and one process more.
-use Rattle.std.proofs.Common.{◌≡◌, ℕ, ◌+◌, ◌<◌, zero, suc, List, [], ◌∷◌, ◌++◌, length, map, drop, get_or, Option, None}
+use Rattle.std.proofs.Common.{◌≡◌, ℕ, ◌+◌, zero, suc, List, [], ◌∷◌, ◌++◌, map, drop, get_or, Option, None}
 use Rattle.std.proofs.Common.{Some, slice_get, option_and_then, sym, ◌∙◌, ap, arith, append_assoc, Bool, true, cond}
 use Rattle.std.proofs.lemmas.Option.{same_Some}
 use Rattle.st_core.specs.declared.types.Pid.{Pid}
@@ -55,9 +55,3 @@ back_read streams p k i backs read e rising kept at is there stamps =
     (read_from (events_of streams p) 0 i (events_of streams p) e there)
     ∙ ap (λ (m : ℕ). back_of (events_of streams p) m e) n
     ∙ ap (λ (b : Bool). cond b (received_before (events_of streams p) e.serial.prev i) None) stamps
-
-pub backs_long : (streams : List Stream) (k : ℕ) (p : Pid) → slice_get (pids_of streams) k ≡ Some p
-    → k < length (all_backs streams)
-backs_long [] k p at = absurd (cc)
-backs_long (x ∷ streams) zero p at = omega arith
-backs_long (x ∷ streams) (suc k) p at = let rest = backs_long streams k p at in omega arith

@@ -47,12 +47,6 @@ its_key p e key own is =
     let labels = eqb-true e.label.0 key.label.0 is in
     sym (λ i. record { pid = pids i; label = record { 0 = labels i } })
 
-no_part : (p : Pid) (i : ℕ) (key : ChainKey) → part_from p i [] key ≡ []
-no_part p i key = elim (pid_eq p key.pid) as (λ b. cond {A = List ℕ} b [] [] ≡ []) [
-  | true ↦ refl
-  | false ↦ refl
-]
-
 passed_over : (p : Pid) (i : ℕ) (e : Event) (rest : List Event) (key : ChainKey) → key ≢ key_of p e
     → part_from p i (e ∷ rest) key ≡ part_from p (i + 1) rest key
 passed_over p i e rest key other = elim (pid_eq p key.pid)
@@ -75,14 +69,6 @@ part_other p i k es e key at other =
     let next : suc k ≡ k + 1 = omega arith in
     front p i k es e key at ∙ passed_over p i e (drop (suc k) es) key other
     ∙ ap (λ (n : ℕ). part_from p (i + 1) (drop n es) key) next
-
--- past the last event nothing is left
-pub part_end : (p : Pid) (i k : ℕ) (es : List Event) (key : ChainKey) → length es ≡ k
-    → part_from p i (drop k es) key ≡ []
-part_end p i zero [] key len = no_part p i key
-part_end p i (suc k) [] key len = no_part p i key
-part_end p i zero (f ∷ es) key len = absurd (omega arith)
-part_end p i (suc k) (f ∷ es) key len = part_end p i k es key (omega arith)
 
 -- ONE PROCESS MORE
 

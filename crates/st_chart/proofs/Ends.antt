@@ -1,10 +1,8 @@
 -- A process is a lane exactly if it is an end of an item that has the label: it doesn't matter whether the items are
 -- gone through, or those that have the label.
-use Rattle.std.proofs.Common.{◌≡◌, ℕ, ◌+◌, ◌<◌, Bool, true, false, ◌||◌, List, [], ◌∷◌, length, take, get_or}
+use Rattle.std.proofs.Common.{◌≡◌, Bool, true, false, ◌||◌, List, [], ◌∷◌}
 use Rattle.std.proofs.Common.{refl, sym, ap, ◌∙◌, filter, cond, Option, Some, None}
 use Rattle.std.specs.List.{list_any, cons_option}
-use Rattle.std.proofs.lemmas.List.{take_more}
-use Rattle.std.proofs.lemmas.List.Folds.{list_any-append}
 use Rattle.st_core.specs.declared.types.Pid.{Pid}
 use Rattle.st_core.specs.declared.types.Label.{Label}
 use Rattle.st_core.specs.Run.{Stream, pids_of}
@@ -16,13 +14,6 @@ use Rattle.st_chart.specs.Parts.{is_end_in}
 pub or_false : (b : Bool) → b ≡ (b || false)
 or_false true = refl
 or_false false = refl
-
--- one more item
-pub any_more : {A : Type 0} (f : A → Bool) (xs : List A) (i : ℕ) (d : A) → i < length xs
-    → list_any f (take (i + 1) xs) ≡ (list_any f (take i xs) || f (get_or xs i d))
-any_more f xs i d lt =
-    ap (list_any f) (take_more xs i d lt) ∙ list_any-append f (take i xs) (get_or xs i d ∷ [])
-    ∙ ap (λ (b : Bool). list_any f (take i xs) || b) (sym (or_false (f (get_or xs i d))))
 
 module _ (streams : List Stream) (label : Label) where
   abbrev end_by : Pid → Option ChartedItem → Bool

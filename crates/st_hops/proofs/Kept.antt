@@ -15,7 +15,7 @@ use Rattle.st_core.specs.Streams.{events_of}
 use Rattle.st_core.specs.Laws.{greatest_count}
 use Rattle.st_pair.proofs.ForCallers.{missing_events}
 use Rattle.st_origin.specs.Events.{has_above}
-use Rattle.st_hops.specs.Kept.{all_greatest, greatest_from}
+use Rattle.st_hops.specs.Kept.{greatest_from}
 
 greatest_at : (most k : ℕ) (es : List Event) (e : Event) → slice_get es k ≡ Some e
     → greatest_from most (drop k es) ≡ max most e.serial.this
@@ -43,13 +43,6 @@ pub greater_is : (a b : ℕ) → ord_max nat_cmp a b ≡ max a b
 greater_is a b = grind (arith, nat_tests)
 
 -- WHAT IS READ
-
-pub greatest_long : (streams : List Stream) (k : ℕ) (p : Pid)
-    → slice_get (pids_of streams) k ≡ Some p
-    → k < length (all_greatest streams)
-greatest_long [] k p at = absurd (cc)
-greatest_long (x ∷ streams) zero p at = omega arith
-greatest_long (x ∷ streams) (suc k) p at = let rest = greatest_long streams k p at in omega arith
 
 -- the greatest so far at an index
 greatest_is : (most : ℕ) (es : List Event) (k x : ℕ) → slice_get (greatest_from most es) k ≡ Some x

@@ -41,10 +41,6 @@ start_behind es k d e before false at is row =
     ap (λ b. cond b (row_start e.serial.prev es k) (suc k)) (sym row)
     ∙ sym (start_at e.serial.prev es k d at)
 
-pub first_start : (es : List Event) (index : ℕ) (e : Event) → index ≡ 0
-    → 0 ≡ row_start e.serial.prev es index
-first_start es index e is = ap (row_start e.serial.prev es) (sym is)
-
 -- the same, as the code finds it
 pub next_start : (es : List Event) (index : ℕ) (d e x : Event) (before : ℕ) (b : Bool) → index ≢ 0
     → slice_get es (index - 1) ≡ Some d → before ≡ row_start d.serial.prev es (index - 1)

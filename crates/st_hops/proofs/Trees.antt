@@ -3,10 +3,10 @@
 -- tree with one more level is longer by one than those of its children, so the loop ends.
 use Rattle.std.proofs.Common.{◌≡◌, ℕ, ◌+◌, ◌-◌, ◌<◌, ◌≤◌, ◌==◌, ◌||◌, suc, Bool, true, false, cond}
 use Rattle.std.proofs.Common.{List, [], ◌∷◌, ◌++◌, length, map, drop, drop-cons, get_or, reverse}
-use Rattle.std.proofs.Common.{refl, sym, ◌∙◌, ap, arith, append_assoc, append-nil}
+use Rattle.std.proofs.Common.{refl, sym, ◌∙◌, ap, arith, append_assoc}
 use Rattle.std.specs.List.{flat_map}
 use Rattle.std.proofs.lemmas.Grind.{flat_map-append}
-use Rattle.std.proofs.lemmas.List.{drop_all, length-append, map-append, reverse-append, reverse-reverse}
+use Rattle.std.proofs.lemmas.List.{map-append, reverse-append, reverse-reverse}
 use Rattle.st_core.specs.declared.types.Pid.{Pid}
 use Rattle.st_core.specs.declared.types.Label.{Label}
 use Rattle.st_core.specs.declared.types.Event.{Event}
@@ -106,36 +106,12 @@ module _ (streams : List Stream) (across : Bool) (most : ℕ) where
         ∙ ap (λ xs. length (xs ++ rest)) (weight_is w less) in
         omega arith
 
-    pub passed_smaller : length (flat_map weight (reverse before))
-        < length (flat_map weight (reverse waiting))
-    passed_smaller =
-        let rest = flat_map weight (reverse before) in
-        let lower = flat_map (λ y. tree streams across (most - w.depth) (w.depth + 1) y)
-        (children streams across w.place) in
-        let both = length-append lower rest in
-        let was : length (flat_map weight (reverse waiting)) ≡ suc (length (lower ++ rest)) =
-        ap length (popped weight waiting before w is) in
-        omega arith
-
-  pub none_waits : (nodes total waiting : List Node) → waiting ≡ []
-      → nodes ++ flat_map below (reverse waiting) ≡ total → nodes ≡ total
-  none_waits nodes total waiting none far =
-      sym (append-nil nodes) ∙ ap (λ xs. nodes ++ flat_map below (reverse xs)) (sym none) ∙ far
-
 -- ROWS
 
 module _ (all : Bool) (p : Pid) (label : Label) (first depth : ℕ) where
   -- the places from an index on, as nodes, the last one first
   abbrev pub behind : ℕ → List Event → List Node
   behind k row = reverse (map (λ x. node depth x) (places_of all p label (first + k) (drop k row)))
-
-  pub behind_all : (row : List Event) (k : ℕ) (before : List Node) → k ≡ length row
-      → before ≡ before ++ behind k row
-  behind_all row k before is =
-      sym (append-nil before)
-      ∙ ap (λ es. before ++ reverse (map (λ x. node depth x)
-      (places_of all p label (first + k) es)))
-      (sym (drop_all k row (omega arith)))
 
   -- those from an index on are those behind it, and its own if it is wanted
   one_before : (row : List Event) (k : ℕ) (d : Event) → k < length row → (b : Bool)
@@ -167,12 +143,3 @@ module _ (all : Bool) (p : Pid) (label : Label) (first depth : ℕ) where
       (far ∙ ap (λ n. initial ++ behind n row) number)
       ∙ append_assoc initial (behind (suc k) row) (node depth (p, first + k) ∷ [])
       ∙ ap (λ xs. initial ++ xs) (sym (one_before row k d (omega arith) true wanted))
-
-  pub row_skipped : (row : List Event) (left k : ℕ) (d : Event) (initial waiting : List Node)
-      → left ≡ suc k
-      → left ≤ length row → (let e : Event = get_or row k d in all || e.label.0 == label.0) ≡ false
-      → waiting ≡ initial ++ behind left row → waiting ≡ initial ++ behind k row
-  row_skipped row left k d initial waiting number within unwanted far =
-      far ∙ ap (λ n. initial ++ behind n row) number
-      ∙ ap (λ xs. initial ++ xs) (sym (append-nil (behind (suc k) row)))
-      ∙ ap (λ xs. initial ++ xs) (sym (one_before row k d (omega arith) false unwanted))

@@ -4,7 +4,7 @@ use Rattle.std.proofs.Common.{◌≡◌, ◌≢◌, ℕ, ◌+◌, ◌-◌, ◌<�
 use Rattle.std.proofs.Common.{◌++◌, length, drop, get_or, Option, Some, None, option_and_then, slice_get, refl, sym}
 use Rattle.std.proofs.Common.{◌∙◌, ap, subst, arith, append_assoc, append-nil, inl, inr}
 use Rattle.std.specs.List.{AllByRecursion}
-use Rattle.std.proofs.lemmas.Bool.{cases_lt, false≢true, le-ltb, lt-ltb, ltb-true}
+use Rattle.std.proofs.lemmas.Bool.{cases_lt, false≢true, lt-ltb, ltb-true}
 use Rattle.std.proofs.lemmas.List.{drop_all}
 use Rattle.std.proofs.lemmas.Option.{same_Some, none-some, cond_some}
 use Rattle.st_core.specs.declared.types.Pid.{Pid}
@@ -50,12 +50,6 @@ pub line_some : (streams : List Stream) (p : Pid) (i f : ℕ) → first_line 3 s
 line_some streams p i f is less =
     sym (line_by streams p i (Some f) (sym is))
     ∙ ap (λ b. cond b (Some (f + i)) None) (lt-ltb i (length (events_of streams p)) less)
-
-pub line_past : (streams : List Stream) (p : Pid) (i f : ℕ) → first_line 3 streams p ≡ Some f
-    → length (events_of streams p) ≤ i → line_number_of streams p i ≡ None
-line_past streams p i f is past =
-    sym (line_by streams p i (Some f) (sym is))
-    ∙ ap (λ b. cond b (Some (f + i)) None) (le-ltb i (length (events_of streams p)) past)
 
 -- an event on a line
 pub line_says : (streams : List Stream) (p : Pid) (i f n : ℕ) → first_line 3 streams p ≡ Some f

@@ -1,11 +1,10 @@
 -- Each token in a queue can still be met after a change of the queue, since no change puts one in that can't.
-use Rattle.std.proofs.Common.{◌≡◌, ℕ, suc, List, [], ◌∷◌, ◌++◌, map, take, drop, Option, Some, None, All}
-use Rattle.std.proofs.lemmas.List.Elements.{All-append, All-drop, All-map, All-push, All-take}
+use Rattle.std.proofs.Common.{◌≡◌, ℕ, suc, List, [], ◌∷◌, ◌++◌, take, drop, Option, Some, None, All}
+use Rattle.std.proofs.lemmas.List.Elements.{All-append, All-drop, All-push, All-take}
 use Rattle.st_core.specs.declared.types.Message.{Message}
 use Rattle.st_core.specs.declared.types.Want.{Want}
 use Rattle.st_core.specs.Local.{IsMeetable}
 use Rattle.st_core.specs.Pick.{pick}
-use Rattle.st_core.specs.Step.{untraced}
 use Rattle.st_core.proofs.ForCallers.{All_at, pick_found}
 use Rattle.st_mail.specs.Actor.{QueueFits}
 use Rattle.st_mail.specs.Mail.{queue_without}
@@ -31,7 +30,3 @@ module _ (top : ℕ) where
   pub push_fits : (ms : List Message) (m : Message)
       → QueueFits top ms → IsMeetable top m.token → QueueFits top (ms ++ m ∷ [])
   push_fits ms m fit here = All-push Fits ms m fit here
-
-  -- without tokens
-  pub untraced_fits : (ms : List Message) → QueueFits top (map untraced ms)
-  untraced_fits ms = All-map Fits untraced ms (λ k m within. tt)

@@ -1,6 +1,6 @@
 -- Why the whole streams that are built are those of the definition: each step changes what the
 -- definition changes, and a loop over processes, events or supplies takes one after the other.
-use Rattle.std.proofs.Common.{◌≡◌, ℕ, ◌+◌, zero, suc, ◌<◌, ◌≤◌, ◌==◌, ◌&&◌, nat_lt, Bool, true, false, cond, List, []}
+use Rattle.std.proofs.Common.{◌≡◌, ℕ, ◌+◌, zero, suc, ◌<◌, ◌≤◌, nat_lt, Bool, true, false, cond, List, []}
 use Rattle.std.proofs.Common.{◌∷◌, ◌++◌, map, find, length, drop, take, get_or, set, slice_get, Option, Some, None}
 use Rattle.std.proofs.Common.{is_some, append-nil, option_map, refl, sym, ◌∙◌, ap, subst, arith}
 use Rattle.std.specs.List.{AllByRecursion}
@@ -19,7 +19,6 @@ use Rattle.st_pair.proofs.ForCallers.{at_get_or, blank, events_in, take_map}
 use Rattle.st_plan.specs.Marks.{all_streams, told_streams, Marked, Whole}
 use Rattle.st_closed_world.specs.Completion.{count_of, place_below, place_of_need, put, receive_for}
 use Rattle.st_closed_world.specs.Completion.{send_among, Supply, with_receive_of, with_send_of}
-use Rattle.st_closed_world.specs.Needs.{is_need}
 use Rattle.st_needs.specs.Completions.{marked_with, wholes_with, IsCompletionOf}
 use Rattle.st_needs.proofs.Ranking.{added_last, last_of}
 use Rattle.st_needs.proofs.Supplied.{has, stamp_found}
@@ -126,21 +125,6 @@ place_bound v (e ∷ es) =
       | true ↦ omega (arith, rest)
       | false ↦ omega arith
     ]
-
-pub need_at : (v : ℕ) (es : List Event) (i : ℕ) (b : Bool) → i < length es
-    → (is_need (take i es) (get_or es i blank) && (get_or es i blank).serial.prev == v) ≡ b
-    → place_of_need v (take i es) (drop i es) ≡ cond b 0
-    (1 + place_of_need v (take (i + 1) es) (drop (i + 1) es))
-need_at v es i b within is =
-    let e = get_or es i blank in
-    ap (place_of_need v (take i es)) (drop_more es i blank within)
-    ∙ ap (λ c. cond c 0 (1 + place_of_need v (take i es ++ e ∷ []) (drop (i + 1) es))) is
-    ∙ sym (ap (λ before. cond b 0 (1 + place_of_need v before (drop (i + 1) es)))
-    (take_more es i blank within))
-
-pub need_end : (v : ℕ) (es : List Event) (i : ℕ) → length es ≤ i
-    → place_of_need v (take i es) (drop i es) ≡ 0
-need_end v es i past = ap (place_of_need v (take i es)) (drop_all i es past)
 
 -- SENDS AND RECEIVES
 

@@ -1,20 +1,18 @@
 -- Why the counts that are found are 0 and those of the streams. All counts are noted, sorted, and
 -- each is kept once. Two lists that rise and have the same members are one list.
 use Rattle.std.proofs.Common.{◌≡◌, ℕ, ◌+◌, zero, suc, ◌<◌, ◌⊎◌, inl, inr, nat_lt, true, false, cond, List, [], ◌∷◌}
-use Rattle.std.proofs.Common.{◌++◌, length, drop, get_or, slice_get, Some, refl, sym, ◌∙◌, ap, subst, arith}
+use Rattle.std.proofs.Common.{◌++◌, length, drop, get_or, refl, sym, ◌∙◌, ap, subst, arith}
 use Rattle.std.specs.List.{AllPairs, Contains}
 use Rattle.std.specs.List.Sorted.{IsStrictlyIncreasing}
 use Rattle.std.proofs.lemmas.Bool.{ltb-false}
 use Rattle.std.proofs.lemmas.List.{append_assoc}
 use Rattle.std.proofs.lemmas.List.Kept.{AllPairs-from_increasing}
-use Rattle.std.proofs.lemmas.Option.{none-some, same_Some}
 use Rattle.st_core.specs.declared.types.Pid.{Pid}
 use Rattle.st_core.specs.declared.types.Event.{Event}
-use Rattle.st_core.specs.Pid.{pid_eq, IsRising}
+use Rattle.st_core.specs.Pid.{IsRising}
 use Rattle.st_core.specs.Run.{Stream, pids_of}
-use Rattle.st_core.specs.Streams.{events_of, stream_of}
-use Rattle.st_pair.specs.Places.{event_at}
-use Rattle.st_pair.proofs.ForCallers.{events_in, drop_next, stream_here}
+use Rattle.st_core.specs.Streams.{events_of}
+use Rattle.st_pair.proofs.ForCallers.{drop_next, stream_here}
 use Rattle.st_closed_world.specs.Renumbering.{counts_of, insert_count, insert_counts}
 use Rattle.st_closed_world.proofs.ForCallers.{AllAbove, Climbs, IsIn, above_in, insert_climbs}
 use Rattle.st_needs.specs.Counts.{all_counts, counts_in}
@@ -250,28 +248,3 @@ counts_are streams noted counts is rises keeps adds_none =
     (λ c here. let at = keeps c (in_contains noted c
     (subst (IsIn c) (sym is) (has_counts streams c here))) in
     contains_in counts c at.0 at.1 at.2)
-
--- the prev of an event is one of the counts
-prev_in : (es : List Event) (i : ℕ) (e : Event) → slice_get es i ≡ Some e
-    → IsIn e.serial.prev (counts_in es)
-prev_in [] i e at = absurd (none-some e at)
-prev_in (d ∷ es) zero e at = inl (ap (λ (x : Event). x.serial.prev) (sym (same_Some d e at)))
-prev_in (d ∷ es) (suc i) e at = inr (inr (prev_in es i e at))
-
-prev_among : (streams : List Stream) (p : Pid) (i : ℕ) (e : Event) → event_at streams p i ≡ Some e
-    → IsIn e.serial.prev (all_counts streams)
-prev_among [] p i e at = absurd (none-some e at)
-prev_among (x ∷ rest) p i e at =
-    elim (pid_eq x.pid p) as (λ b. slice_get (events_in (cond b (Some x) (stream_of rest p))) i
-    ≡ Some e
-    → IsIn e.serial.prev (counts_in x.events ++ all_counts rest)) [
-      | true ↦ λ here. either_in e.serial.prev (counts_in x.events) (all_counts rest)
-          (inl (prev_in x.events i e here))
-      | false ↦ λ later. either_in e.serial.prev (counts_in x.events) (all_counts rest)
-          (inr (prev_among rest p i e later))
-    ] at
-
-pub prev_counted : (streams : List Stream) (p : Pid) (i : ℕ) (e : Event)
-    → event_at streams p i ≡ Some e
-    → IsIn e.serial.prev (counts_of streams)
-prev_counted streams p i e at = counts_has streams e.serial.prev (inr (prev_among streams p i e at))

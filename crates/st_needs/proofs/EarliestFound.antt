@@ -69,19 +69,6 @@ send_added now next es hs i h all at first added so_far =
     ∙ ap (λ ks. now ++ earliest es ks) (sym (drop_from hs i h at))
     ∙ so_far
 
-pub later_here : (es hs : List Event) (i : ℕ) (h : Event) → slice_get hs i ≡ Some h
-    → comes_first h.serial.this es ≡ false → ComesLater es (drop i hs)
-later_here es hs i h at later = subst (ComesLater es) (sym (drop_from hs i h at)) later
-
-pub later_end : (es hs : List Event) (i : ℕ) → length hs ≤ i → ComesLater es (drop i hs)
-later_end es hs i past = subst (ComesLater es) (sym (drop_all i hs past)) tt
-
-pub same_end : (now : List Marked) (es hs : List Event) (i : ℕ) → length hs ≤ i
-    → now ++ earliest es (drop (length hs) hs) ≡ now ++ earliest es (drop i hs)
-same_end now es hs i past =
-    ap (λ ks. now ++ earliest es ks) (drop_all (length hs) hs (omega arith)
-    ∙ sym (drop_all i hs past))
-
 -- REPORTED EVENTS
 
 event_next : (e : Event) (es hs : List Event) → ComesLater (e ∷ es) hs

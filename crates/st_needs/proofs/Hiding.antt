@@ -8,7 +8,6 @@ use Rattle.std.proofs.Common.{option_map, option_and_then, refl, sym, ◌∙◌,
 use Rattle.std.specs.List.{Contains}
 use Rattle.std.specs.List.Sorted.{IsPermutation}
 use Rattle.std.proofs.lemmas.Bool.{and_from, and_parts, cases_lt, false≢true, ltb-false, ltb-true}
-use Rattle.std.proofs.lemmas.List.{drop_more}
 use Rattle.std.proofs.lemmas.List.Sorted.{Contains-permutation, IsPermutation-sym}
 use Rattle.std.proofs.lemmas.Option.{none-some, same_Some}
 use Rattle.st_core.specs.declared.types.Pid.{Pid}
@@ -21,7 +20,7 @@ use Rattle.st_pair.specs.declared.answer.Source.{Source}
 use Rattle.st_pair.specs.declared.answer.Source.TheVariants as source
 use Rattle.st_pair.specs.Pairing.{receive_of, refusal, stamp_of}
 use Rattle.st_pair.specs.Places.{event_at, is_stamp}
-use Rattle.st_pair.proofs.ForCallers.{blank, events_in, paired, drop_next, stream_here}
+use Rattle.st_pair.proofs.ForCallers.{events_in, paired, drop_next, stream_here}
 use Rattle.st_order.specs.Items.{is_hidden}
 use Rattle.st_order.proofs.ForCallers.{all_found, AreFound, only_receive}
 use Rattle.st_closed_world.specs.HiddenSends.{hidden_send, hidden_sends, send_of}
@@ -30,13 +29,6 @@ use Rattle.st_closed_world.proofs.ForCallers.{hidden_is, highest, RisesFrom}
 use Rattle.st_needs.specs.Hidden.{hidden_among, hidden_in, rising_from}
 
 -- ONE EVENT OR PROCESS MORE
-
-pub hidden_more : (streams : List Stream) (q : Pid) (es : List Event) (i : ℕ) → i < length es
-    → (let e = get_or es i blank in hidden_in streams q (drop i es)
-    ≡ cond (is_hidden streams e && pid_eq e.from q)
-    (send_of e ∷ hidden_in streams q (drop (i + 1) es))
-    (hidden_in streams q (drop (i + 1) es)))
-hidden_more streams q es i within = ap (hidden_in streams q) (drop_more es i blank within)
 
 pub process_hidden : (q : Pid) (old now more : List Event) (streams : List Stream) (pids : List Pid)
     (k : ℕ) (d : Pid)
@@ -197,13 +189,6 @@ rising_has n (e ∷ es) falls f a high =
             ]
           ] a.at
     ] refl
-
--- one event more
-pub rising_more : (n : ℕ) (es : List Event) (i : ℕ) → i < length es
-    → (let e = get_or es i blank in rising_from n (drop i es)
-    ≡ cond (nat_lt e.serial.this n) (rising_from n (drop (i + 1) es))
-    (e ∷ rising_from (suc e.serial.this) (drop (i + 1) es)))
-rising_more n es i within = ap (rising_from n) (drop_more es i blank within)
 
 -- WHAT HIDDEN SENDS ARE
 

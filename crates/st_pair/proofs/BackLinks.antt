@@ -12,8 +12,8 @@ use Rattle.st_core.specs.Streams.{events_of}
 use Rattle.st_pair.specs.declared.pairing.Link.{Link}
 use Rattle.st_pair.specs.declared.pairing.Link.TheVariants as link
 use Rattle.st_pair.specs.declared.receives.Key.{Key}
-use Rattle.st_pair.specs.Links.{link_of, received_link, sent_link}
-use Rattle.st_pair.specs.Pairing.{not_rising, receive_of, repeated, stamp_of}
+use Rattle.st_pair.specs.Links.{received_link}
+use Rattle.st_pair.specs.Pairing.{not_rising, repeated, stamp_of}
 use Rattle.st_pair.specs.Places.{event_at, first, first_from, is_stamp, or_else}
 use Rattle.st_pair.specs.Tables.{hidden_key, key_in, keys_in, hidden_keys, link_back, receive_rule, sent_in}
 use Rattle.st_pair.specs.Tables.{stamp_index, key_eq, AreDistinctKeys, AreHiddenOnce, IsShown}
@@ -31,23 +31,6 @@ module _ (all : List Stream) where
   keys-at k [] e at = absurd (none-some e at)
   keys-at zero (d ∷ es) e at = ap (λ (x : Event). hidden_key all x ++ keys_in all es) (same_Some d e at)
   keys-at (suc k) (d ∷ es) e at = keys-at k es e at
-
-  -- in a loop over the events
-  pub keys_more : (before after : List Key) (i : ℕ) (es : List Event) (e : Event) (whole : List Key)
-      → slice_get es i ≡ Some e → after ≡ before ++ hidden_key all e → before ++ keys_in all (drop i es) ≡ whole
-      → after ++ keys_in all (drop (i + 1) es) ≡ whole
-  keys_more before after i es e whole at is far =
-      let next : suc i ≡ i + 1 = omega arith in
-      ap (λ (ks : List Key). ks ++ keys_in all (drop (i + 1) es)) is
-      ∙ append_assoc before (hidden_key all e) (keys_in all (drop (i + 1) es))
-      ∙ ap (λ (n : ℕ). before ++ (hidden_key all e ++ keys_in all (drop n es))) (sym next)
-      ∙ ap (λ (ks : List Key). before ++ ks) (sym (keys-at i es e at)) ∙ far
-
-  pub keys-end : (k : ℕ) (es : List Event) → length es ≡ k → keys_in all (drop k es) ≡ []
-  keys-end zero [] len = refl
-  keys-end (suc k) [] len = refl
-  keys-end zero (e ∷ es) len = absurd (omega arith)
-  keys-end (suc k) (e ∷ es) len = keys-end k es (omega arith)
 
   hidden_keys-at : (k : ℕ) (streams : List Stream) (s : Stream) → slice_get streams k ≡ Some s
       → hidden_keys all (drop k streams) ≡ keys_in all s.events ++ hidden_keys all (drop (suc k) streams)
@@ -71,13 +54,6 @@ module _ (all : List Stream) where
       ∙ append_assoc before (keys_in all s.stream.events) (hidden_keys all (drop (k + 1) streams))
       ∙ ap (λ (n : ℕ). before ++ (keys_in all s.stream.events ++ hidden_keys all (drop n streams))) (sym next)
       ∙ ap (λ (ks : List Key). before ++ ks) (sym (hidden_keys-at k streams s.stream s.at)) ∙ far
-
-  pub hidden_keys-end : (k : ℕ) (streams : List Stream) → length (pids_of streams) ≡ k
-      → hidden_keys all (drop k streams) ≡ []
-  hidden_keys-end zero [] len = refl
-  hidden_keys-end (suc k) [] len = refl
-  hidden_keys-end zero (s ∷ streams) len = absurd (omega arith)
-  hidden_keys-end (suc k) (s ∷ streams) len = hidden_keys-end k streams (omega arith)
 
 -- ONE MORE IS EXCHANGED
 
@@ -105,15 +81,6 @@ module _ {A B : Type 0} (f g : A → B) where
     here [] k at = absurd (none-some x at)
     here (z ∷ xs) zero at = ap (λ y. Some (g y)) (same_Some z x at)
     here (z ∷ xs) (suc k) at = here xs k at
-
-  pub all_exchanged : (xs : List A) (k : ℕ) (before : List B) → length xs ≡ k
-      → before ≡ map f (take k xs) ++ map g (drop k xs) → before ≡ map f xs
-  all_exchanged xs k before len far = far ∙ whole xs k len where
-    whole : (xs : List A) (k : ℕ) → length xs ≡ k → map f (take k xs) ++ map g (drop k xs) ≡ map f xs
-    whole [] zero len = refl
-    whole [] (suc k) len = refl
-    whole (x ∷ xs) zero len = absurd (omega arith)
-    whole (x ∷ xs) (suc k) len = ap (λ bs. f x ∷ bs) (whole xs k (omega arith))
 
 -- WHAT A LINK SAYS
 
@@ -181,25 +148,6 @@ unreceived streams k p i e shown none =
             | false ↦ λ other. refl
           ] refl
     ] refl
-
--- a send's link is the first receive of it
-pub linked_other : (streams : List Stream) (p : Pid) (e : Event) (l : Link) → (e.kind ≡ kind.Send → ⊥)
-    → l ≡ link_back streams e → l ≡ link_of streams p e
-linked_other streams p e l other is = is ∙ elim e.kind as (λ k. (k ≡ kind.Send → ⊥)
-    → (let back : Link = elim k [
-      | kind.Send ↦ link.Unpaired
-      | kind.Receive ↦ received_link e.from (stamp_of streams e.from e.serial.this)
-      | kind.Print ↦ link.Printed
-    ] in back)
-    ≡ (let whole : Link = elim k [
-      | kind.Send ↦ sent_link (receive_of streams p e.serial.this)
-      | kind.Receive ↦ received_link e.from (stamp_of streams e.from e.serial.this)
-      | kind.Print ↦ link.Printed
-    ] in whole)) [
-      | kind.Send ↦ λ h. absurd (h refl)
-      | kind.Receive ↦ λ h. refl
-      | kind.Print ↦ λ h. refl
-    ] other
 
 -- a send's or print's own key is found at its index
 pub own_index : (streams : List Stream) (p : Pid) (i : ℕ) (e : Event) → first (not_rising streams) streams ≡ None

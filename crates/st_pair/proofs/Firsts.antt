@@ -63,12 +63,6 @@ module _ {X : Type 0} (rule : Pid → ℕ → Event → Option X) where
       ap (λ (x : Stream). or_else (first_from rule x.pid 0 x.events) (first rule streams)) (same_Some x s at)
   first-drop (suc k) (x ∷ streams) s at = first-drop k streams s at
 
-  pub first-end : (k : ℕ) (streams : List Stream) → length (pids_of streams) ≡ k → first rule (drop k streams) ≡ None
-  first-end zero [] len = refl
-  first-end (suc k) [] len = refl
-  first-end zero (x ∷ streams) len = absurd (omega arith)
-  first-end (suc k) (x ∷ streams) len = first-end k streams (omega arith)
-
 -- the stream at a place
 pub record IsAt (streams : List Stream) (k : ℕ) (p : Pid) : Type 0 where
   pub stream : Stream

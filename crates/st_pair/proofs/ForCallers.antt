@@ -15,7 +15,7 @@ pub use Rattle.st_pair.proofs.Agreement.{IsAgreed, agreed, agrees_if}
 pub use Rattle.st_pair.proofs.FinalReasons.{AreShown, IsTaken, taken, refusal_rules_out, refused_never_shown}
 pub use Rattle.st_pair.proofs.FullyShown.{shown_accepted, listed_if, shown_events, from_listed, send_shown}
 -- ---- what a rule gives first, in one stream and in all
-pub use Rattle.st_pair.proofs.Firsts.{or_none, or_assoc, first_from-at, first_from-end, first-at, first-end, first-loop}
+pub use Rattle.st_pair.proofs.Firsts.{or_none, or_assoc, first_from-at, first_from-end, first-at, first-loop}
 pub use Rattle.st_pair.proofs.Converse.{IsGiven, given_from, given_at}
 pub use Rattle.st_pair.proofs.Leasts.{first_least}
 -- ---- streams and their pids

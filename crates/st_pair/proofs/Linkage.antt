@@ -58,10 +58,6 @@ rows_linked all [] = refl
 rows_linked all (s ∷ streams) = ap (λ (xs : List ProcessLinks). record { pid = s.pid; links = links_in all s } ∷ xs)
     (rows_linked all streams)
 
-pub links_even : (all streams : List Stream) → length (map (links_in all) streams) ≡ length (pids_of streams)
-links_even all [] = refl
-links_even all (s ∷ streams) = let rest = links_even all streams in omega arith
-
 -- ONE PROCESS MORE
 
 pub take_map : {A B : Type 0} (f : A → B) (xs : List A) (k : ℕ) (x : A) → slice_get xs k ≡ Some x

@@ -87,12 +87,6 @@ rows-step i es e at b is =
     rows-at i i es e at ∙ (λ j. cond (is j) (record { count = e.serial.this; index = i }
     ∷ stamp_rows (i + 1) (drop (next j) es)) (stamp_rows (i + 1) (drop (next j) es)))
 
-pub rows-end : (i k : ℕ) (es : List Event) → length es ≡ k → stamp_rows i (drop k es) ≡ []
-rows-end i zero [] len = refl
-rows-end i (suc k) [] len = refl
-rows-end i zero (e ∷ es) len = absurd (omega arith)
-rows-end i (suc k) (e ∷ es) len = rows-end i k es (omega arith)
-
 module _ (rows : List Row) (i : ℕ) (es : List Event) (e : Event) (at : slice_get es i ≡ Some e)
     (all : rows ++ stamp_rows i (drop i es) ≡ stamp_rows 0 es) where
   pub row_passed : is_stamp e ≡ false → rows ++ stamp_rows (i + 1) (drop (i + 1) es) ≡ stamp_rows 0 es

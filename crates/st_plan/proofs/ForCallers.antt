@@ -14,7 +14,7 @@ pub use Rattle.st_plan.proofs.KeptState.{IsKept, IsSo}
 pub use Rattle.st_plan.proofs.Tracers.{opens, IsOpened}
 pub use Rattle.st_plan.proofs.BuiltActs.{stream_append}
 -- ---- what holds at each move of settled streams
-pub use Rattle.st_plan.proofs.SettledStreams.{goes_on, in_turn_at, caused_at, clock_at, within_at, tells_told_events}
+pub use Rattle.st_plan.proofs.SettledStreams.{goes_on, in_turn_at, caused_at, clock_at, tells_told_events}
 pub use Rattle.st_plan.proofs.SettledStreams.{told_pids, tells_only, settled_is_shown}
 pub use Rattle.st_plan.proofs.PlainStreams.{only_whole, plain_is_shown, told_whole}
 pub use Rattle.st_plan.proofs.Wholes.{told_of_whole, completion_is_shown}

@@ -1,6 +1,6 @@
 -- Of settled streams each move of the order goes on, whichever events are told, and the moves tell
 -- those of each process: so the construction goes through, and its acts show the told events.
-use Rattle.std.proofs.Common.{◌≡◌, ℕ, zero, suc, ◌<◌, ◌≤◌, false, List, [], ◌∷◌, ◌++◌, reverse}
+use Rattle.std.proofs.Common.{◌≡◌, ℕ, zero, suc, ◌<◌, false, List, [], ◌∷◌, ◌++◌, reverse}
 use Rattle.std.proofs.Common.{Some, All, get_or, refl, slice_get, ◌∙◌, ap, subst}
 use Rattle.std.proofs.lemmas.Option.{none-some, same_Some, slice_get-get_or}
 use Rattle.std.specs.List.{AllByRecursion}
@@ -25,7 +25,7 @@ use Rattle.st_plan.proofs.EarlierMoves.{one_move, order_there, there_event}
 use Rattle.st_plan.proofs.KeptState.{IsKept}
 use Rattle.st_plan.proofs.FreeMoves.{along_at, settled_free, AllAlong, IsFree, IsInTurn}
 use Rattle.st_plan.proofs.BuiltActs.{construction_shows, Serves}
-use Rattle.st_plan.proofs.Clocks.{at_event, IsNext}
+use Rattle.st_plan.proofs.Clocks.{IsNext}
 use Rattle.st_plan.proofs.OrderedMoves.{item_is, next_along, orderly, AreInTurn, AreThere, IsClockBelow, IsOrderly}
 use Rattle.st_plan.proofs.NextMoves.{serves_along}
 use Rattle.st_plan.proofs.ProperEvents.{are_proper}
@@ -108,13 +108,6 @@ module _ (top : ℕ) (streams : List Stream) (marks : Marks) (sound : IsStreams 
     -- at a stamp its process's clock is below its count
     pub clock_at : is_taking m ≡ false → clock m.who earlier < m.event.serial.this
     clock_at = along_at IsClockBelow (moves streams xs) earlier later m known.clocks split
-
-    -- a clock can have the count of a move
-    pub within_at : m.event.serial.this ≤ top
-    within_at =
-        let here = along_at (IsNext streams) (moves streams xs) earlier later m next split in
-        let event = at_event streams m.item m.event here.at in
-        settled.within event.0 event.1 m.event event.2
 
 -- WHAT IS SHOWN
 

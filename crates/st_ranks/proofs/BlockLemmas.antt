@@ -3,7 +3,7 @@
 use Rattle.std.proofs.Common.{◌≡◌, ◌≢◌, ℕ, zero, suc, ◌+◌, ◌-◌, ◌*◌, ◌<◌, ◌≤◌, List, [], ◌∷◌, ◌++◌, length, take, drop}
 use Rattle.std.proofs.Common.{set, get_or, inl, inr, refl, sym, ap, ◌∙◌, arith}
 use Rattle.std.proofs.lemmas.Bool.{cases_lt, cases_eq}
-use Rattle.std.proofs.lemmas.List.{get_or-drop, get_or-take, get_or_past, get_or-set_same, get_or-set_other, length-set}
+use Rattle.std.proofs.lemmas.List.{get_or-drop, get_or-set_same, get_or-set_other, length-set}
 use Rattle.std.proofs.lemmas.List.{take_all, take-take, drop-take, length-append, length-replicate}
 use Rattle.std.proofs.lemmas.List.Sums.{sum_by-cons, sum_by-take-drop, sum_by-take-le}
 use Rattle.std.specs.List.{sum}
@@ -53,22 +53,6 @@ pub front-short : (xs : List ℕ) (count : ℕ) → length (take count xs) ≤ c
 front-short xs zero = omega arith
 front-short [] (suc count) = omega arith
 front-short (x ∷ xs) (suc count) = let rest = front-short xs count in omega (arith, rest)
-
--- what is cut out of marks are marks
-pub marks-part : (marks : List ℕ) (from count : ℕ) → AreMarks marks → AreMarks (take count (drop from marks))
-marks-part marks from count bits slot =
-    elim (cases_lt slot count) [
-      | inl inside ↦
-          let same : get_or (take count (drop from marks)) slot 0 ≡ get_or marks (from + slot) 0 =
-          get_or-take count (drop from marks) slot 0 inside ∙ get_or-drop from marks slot 0 in
-          let most = bits (from + slot) in
-          omega (arith, same, most)
-      | inr past ↦
-          let none : get_or (take count (drop from marks)) slot 0 ≡ 0 =
-          get_or_past (take count (drop from marks)) slot 0
-          (omega (arith, front-short (drop from marks) count, past)) in
-          omega (arith, none)
-    ]
 
 -- marks after one was written
 pub marks-set : (marks : List ℕ) (slot mark : ℕ) → AreMarks marks → slot < length marks → mark ≤ 1

@@ -2,16 +2,14 @@
 -- hold by the definitions alone; nothing here speaks of the tree.
 
 -- ---- ranks in one list of marks: they grow with the slot, and by one behind each live slot
-pub use Rattle.st_ranks.proofs.RankLemmas.{rank-le, rank-live, rank-less, rank-earlier, rank-apart, rank_below_all}
-pub use Rattle.st_ranks.proofs.RankLemmas.{rank_past_live}
+pub use Rattle.st_ranks.proofs.RankLemmas.{rank-le, rank-live}
 -- ---- after one mark is written
-pub use Rattle.st_ranks.proofs.RankLemmas.{rank_before_mark, rank_behind_mark, live_with_mark}
+pub use Rattle.st_ranks.proofs.RankLemmas.{rank_before_mark, rank_behind_mark}
 -- ---- in new slots, the first of which are live
 pub use Rattle.st_ranks.proofs.RankLemmas.{new_live, new_mark_live, new_mark_dead, new_rank}
 -- ---- a queue in slots
-pub use Rattle.st_ranks.proofs.QueueLemmas.{kept-get, kept-take, kept-put, kept-map_Some, kept-slot, before-less}
-pub use Rattle.st_ranks.proofs.QueueLemmas.{kept-least}
+pub use Rattle.st_ranks.proofs.QueueLemmas.{kept-get, kept-take, kept-put, kept-map_Some}
 -- ---- slots, and the ranks kept beside them
-pub use Rattle.st_ranks.proofs.QueueLemmas.{ranks_room, rank-before, live-kept, marked_live, marked_dead, live_item}
+pub use Rattle.st_ranks.proofs.QueueLemmas.{ranks_room, rank-before, live-kept, marked_dead, live_item}
 pub use Rattle.st_ranks.proofs.QueueLemmas.{ranks-take, ranks-put, ranks-new}
 pub use Rattle.st_ranks.proofs.QueueLemmas.{selected_inside, selected_item, selected_take}

@@ -40,45 +40,6 @@ module _ {T : Type 0} where
   kept-map_Some [] = refl
   kept-map_Some (x ∷ xs) = ap (λ t. x ∷ t) (kept-map_Some xs)
 
-  -- each place of the queue is the rank of a live slot
-  pub kept-slot : (slots : List (Option T)) (place : ℕ) (item : T) → slice_get (kept slots) place ≡ Some item
-      → (slot : ℕ) × (slice_get slots slot ≡ Some (Some item)) × (before slots slot ≡ place)
-  kept-slot [] place item is = absurd cc
-  kept-slot (None ∷ slots) place item is =
-      let found = kept-slot slots place item is in
-      (suc found.0, found.1, found.2)
-  kept-slot (Some first ∷ slots) zero item is = (zero, cc, refl)
-  kept-slot (Some first ∷ slots) (suc place) item is =
-      let found = kept-slot slots place item is in
-      (suc found.0, found.1, ap suc found.2)
-
-  -- of two live slots the lesser has the lesser rank
-  pub before-less : (slots : List (Option T)) (slot later : ℕ) (item : T) → slice_get slots slot ≡ Some (Some item)
-      → slot < later → before slots slot < before slots later
-  before-less [] slot later item is less = absurd cc
-  before-less (o ∷ slots) slot zero item is less = absurd (omega (arith, less))
-  before-less (None ∷ slots) zero (suc later) item is less = absurd cc
-  before-less (None ∷ slots) (suc slot) (suc later) item is less =
-      before-less slots slot later item is (omega (arith, less))
-  before-less (Some first ∷ slots) zero (suc later) item is less = omega arith
-  before-less (Some first ∷ slots) (suc slot) (suc later) item is less =
-      let rest = before-less slots slot later item is (omega (arith, less)) in omega (arith, rest)
-
-  -- so what no earlier slot holds, no earlier place of the queue holds: the least slot of some kind is the least place
-  pub kept-least : (P : T → Type 0) (slots : List (Option T)) (slot : ℕ)
-      → ((earlier : ℕ) (item : T) → earlier < slot → slice_get slots earlier ≡ Some (Some item) → P item)
-      → (place : ℕ) (item : T) → place < before slots slot → slice_get (kept slots) place ≡ Some item → P item
-  kept-least P [] slot earlier place item less is = absurd cc
-  kept-least P (o ∷ slots) zero earlier place item less is = absurd (omega (arith, less))
-  kept-least P (None ∷ slots) (suc slot) earlier place item less is =
-      kept-least P slots slot (λ at x at_less there. earlier (suc at) x (omega (arith, at_less))
-      there) place item less is
-  kept-least P (Some first ∷ slots) (suc slot) earlier zero item less is =
-      earlier zero item (omega arith) (ap (λ o. Some o) is)
-  kept-least P (Some first ∷ slots) (suc slot) earlier (suc place) item less is =
-      kept-least P slots slot (λ at x at_less there. earlier (suc at) x (omega (arith, at_less)) there) place item
-      (omega (arith, less)) is
-
   -- ---- slots and ranks
   pub length-marks : (slots : List (Option T)) → length (marks slots) ≡ length slots
   length-marks [] = refl
@@ -170,10 +131,6 @@ module _ {T : Type 0} (ranks : List ℕ) (slots : List (Option T)) (of : AreRank
   -- what `live` returns is the length of the queue
   pub live-kept : sum ranks ≡ length (kept slots)
   live-kept = ap sum of.are ∙ live_in slots of.spare
-
-  -- a slot that holds an item is marked live
-  pub marked_live : (slot : ℕ) (item : T) → slice_get slots slot ≡ Some (Some item) → get_or ranks slot 0 ≡ 1
-  marked_live slot item is = ap (λ l. get_or l slot 0) of.are ∙ mark_in slots of.spare slot item is
 
   -- each slot that isn't there yet is marked dead
   pub marked_dead : (slot : ℕ) → length slots ≤ slot → get_or ranks slot 0 ≡ 0

@@ -1,8 +1,7 @@
 -- Ranks in a list of marks: a rank is a sum of the marks before a slot, so it grows by one behind each live slot and
 -- stays behind each dead one.
 use Rattle.std.proofs.Common.{◌≡◌, ◌+◌, ◌<◌, ◌≤◌, ℕ, zero, suc, List, [], ◌∷◌, ◌++◌, length, take, set, get_or}
-use Rattle.std.proofs.Common.{inl, inr, refl, ap, arith}
-use Rattle.std.proofs.lemmas.Bool.{cases_lt}
+use Rattle.std.proofs.Common.{refl, ap, arith}
 use Rattle.std.proofs.lemmas.List.{take-set-le}
 use Rattle.std.proofs.lemmas.List.Sums.{sum_by-cons}
 use Rattle.std.specs.List.{sum}
@@ -35,66 +34,6 @@ rank-live (x ∷ xs) (suc slot) live =
     let there = sum_by-cons (λ n. n) x (take (suc slot) xs) in
     omega (arith, rest, here, there)
 
--- a live slot has a lesser rank than each later one
-pub rank-less : (marks : List ℕ) (slot later : ℕ) → get_or marks slot 0 ≡ 1 → slot < later
-    → sum (take slot marks) < sum (take later marks)
-rank-less marks slot later live less =
-    let next = rank-live marks slot live in
-    let most = rank-le marks (suc slot) later (omega (arith, less)) in
-    omega (arith, next, most)
-
--- a slot of a lesser rank is an earlier one
-pub rank-earlier : (marks : List ℕ) (slot other : ℕ) → sum (take slot marks) < sum (take other marks) → slot < other
-rank-earlier marks slot other less =
-    elim (cases_lt slot other) [
-      | inl earlier ↦ earlier
-      | inr later ↦ let most = rank-le marks other slot later in absurd (omega (arith, less, most))
-    ]
-
--- no two live slots have one rank
-pub rank-apart : (marks : List ℕ) (slot other : ℕ) → get_or marks slot 0 ≡ 1 → get_or marks other 0 ≡ 1
-    → sum (take slot marks) ≡ sum (take other marks) → slot ≡ other
-rank-apart marks slot other live other_live same =
-    elim (cases_lt slot other) [
-      | inl less ↦ let grows = rank-less marks slot other live less in absurd (omega (arith, same, grows))
-      | inr most ↦ elim (cases_lt other slot) [
-        | inl less ↦ let grows = rank-less marks other slot other_live less in absurd (omega (arith, same, grows))
-        | inr least ↦ omega (arith, most, least)
-      ]
-    ]
-
--- the rank of a live slot is below the number of live slots
-pub rank_below_all : (marks : List ℕ) (slot : ℕ) → get_or marks slot 0 ≡ 1 → sum (take slot marks) < sum marks
-rank_below_all [] slot live = absurd (omega (arith, live))
-rank_below_all (x ∷ xs) zero live =
-    let all = sum_by-cons (λ n. n) x xs in
-    let none : sum (take 0 (x ∷ xs)) ≡ 0 = refl in
-    let one : x ≡ 1 = live in
-    omega (arith, all, none, one)
-rank_below_all (x ∷ xs) (suc slot) live =
-    let rest = rank_below_all xs slot live in
-    let here = sum_by-cons (λ n. n) x (take slot xs) in
-    let all = sum_by-cons (λ n. n) x xs in
-    omega (arith, rest, here, all)
-
--- where all slots from one on are dead, all live ones are before it
-pub rank_past_live : (marks : List ℕ) (slot : ℕ) → ((other : ℕ) → slot ≤ other → get_or marks other 0 ≡ 0)
-    → sum (take slot marks) ≡ sum marks
-rank_past_live [] zero dead = refl
-rank_past_live [] (suc slot) dead = refl
-rank_past_live (x ∷ xs) zero dead =
-    let rest = rank_past_live xs zero (λ other past. dead (suc other) (omega arith)) in
-    let none : sum (take 0 xs) ≡ 0 = refl in
-    let whole : sum (take 0 (x ∷ xs)) ≡ 0 = refl in
-    let first : x ≡ 0 = dead zero (omega arith) in
-    let all = sum_by-cons (λ n. n) x xs in
-    omega (arith, rest, none, whole, first, all)
-rank_past_live (x ∷ xs) (suc slot) dead =
-    let rest = rank_past_live xs slot (λ other past. dead (suc other) (omega (arith, past))) in
-    let here = sum_by-cons (λ n. n) x (take slot xs) in
-    let all = sum_by-cons (λ n. n) x xs in
-    omega (arith, rest, here, all)
-
 -- ---- after one mark is written
 -- up to the slot, ranks stay
 pub rank_before_mark : (marks : List ℕ) (slot mark at : ℕ) → at ≤ slot
@@ -114,20 +53,6 @@ rank_behind_mark (x ∷ xs) (suc slot) mark (suc at) behind inside =
     let rest = rank_behind_mark xs slot mark at (omega (arith, behind)) (omega (arith, inside)) in
     let old = sum_by-cons (λ n. n) x (take at xs) in
     let new = sum_by-cons (λ n. n) x (take at (set xs slot mark)) in
-    omega (arith, rest, old, new)
-
--- and so does the number of live slots
-pub live_with_mark : (marks : List ℕ) (slot mark : ℕ) → slot < length marks
-    → get_or marks slot 0 + sum (set marks slot mark) ≡ mark + sum marks
-live_with_mark [] slot mark inside = absurd (omega (arith, inside))
-live_with_mark (x ∷ xs) zero mark inside =
-    let old = sum_by-cons (λ n. n) x xs in
-    let new = sum_by-cons (λ n. n) mark xs in
-    omega (arith, old, new)
-live_with_mark (x ∷ xs) (suc slot) mark inside =
-    let rest = live_with_mark xs slot mark (omega (arith, inside)) in
-    let old = sum_by-cons (λ n. n) x xs in
-    let new = sum_by-cons (λ n. n) x (set xs slot mark) in
     omega (arith, rest, old, new)
 
 -- ---- in new slots, the first of which are live

@@ -10,7 +10,7 @@
 //! | `new` | as many steps as slots | takes some: 1 to 3 bytes a slot |
 //! | `rank`, `select` | as many steps as the number of slots has bits, and at most 64 | none |
 //! | `mark_live`, `mark_dead` | as many steps as the number of slots has bits | none |
-//! | `len`, `live`, `is_live` | constant | none |
+//! | `len`, `live` | constant | none |
 //!
 //! The number of slots never changes. A queue that has used them all makes new ones, of which as
 //! many are live as it has items; so the dead ones go. If it makes twice as many as it has items,

@@ -76,15 +76,6 @@ impl Ranks {
         count_live(&self.counts, self.height)
     }
 
-    /// Whether a slot is live.
-    pub fn is_live(&self, slot: usize) -> bool
-        requires { slot < length self.now }
-        ensures live { result ≡ true → slice_index_or self.now slot 0 ≡ 1 }
-        ensures dead { result ≡ false → slice_index_or self.now slot 0 ≡ 0 }
-    {
-        self.marks[slot] == 1
-    }
-
     /// How many live slots are before this one.
     pub fn rank(&self, slot: usize) -> u64
         requires { slot < length self.now }

@@ -1,6 +1,6 @@
 -- What a call on lent processes found for its result excludes what it finds for the others: so each refusal comes
 -- exactly if its reason holds.
-use Rattle.std.proofs.Common.{◌≡◌, ◌≢◌, ℕ, ◌+◌, ◌≤◌, true, false, max, List, [], ◌∷◌, Option, Some, None, option_map}
+use Rattle.std.proofs.Common.{◌≡◌, ℕ, ◌+◌, ◌≤◌, true, false, max, List, [], ◌∷◌, Option, Some, option_map}
 use Rattle.std.proofs.Common.{refl, sym, ◌∙◌, ap, subst, arith}
 use Rattle.std.specs.Prelude.{◌↔◌, IfOk, IfErr, OnErr, IsSome, Result, Ok, Err}
 use Rattle.st_core.specs.declared.types.Act.{Act}
@@ -57,17 +57,6 @@ lent_rank top ranks a xs ys (Err fault.Memory) is = (λ same. cc, λ finds. absu
 
 -- ---- how a call comes to its result
 
--- there was a step, and room was refused
-pub lent_refused : (top ranks : ℕ) (a : Act) (xs ys : List Control) (last : ℕ) (got : Result ℕ PcbFault) (f : PcbFault)
-    → IsSome (step top (lent_state xs) a) → greatest_rank xs ≡ last
-    → got ≡ Err f → got ≢ Err fault.ClockFull → (got ≡ Err fault.RankFull) ↔ (last ≡ ranks)
-    → AreSame xs ys → IsLentStep top ranks a xs ys (Err f)
-lent_refused top ranks a xs ys last got fault.ClockFull steps greatest is clock rank same = absurd (clock is)
-lent_refused top ranks a xs ys last got fault.RankFull steps greatest is clock rank same =
-    (record { steps = steps; full = greatest ∙ rank.0 is }, same)
-lent_refused top ranks a xs ys last got fault.Memory steps greatest is clock rank same =
-    (record { steps = steps; rank = λ full. let other = rank.1 (sym greatest ∙ full) in absurd (cc) }, same)
-
 -- there is a step, and the next rank is within the greatest
 pub finds_step : (top ranks : ℕ) (a : Act) (xs : List Control) (last n : ℕ)
     → IsSome (step top (lent_state xs) a) → greatest_rank xs ≡ last → n ≡ last + 1 → n ≤ ranks
@@ -86,11 +75,6 @@ map_some f o x is = rw is refl
 -- the greatest rank is that of the one log
 pub alone_rank : (x : Control) → greatest_rank (x ∷ []) ≡ last_rank 0 x.log
 alone_rank x = omega arith
-
-pub alone_none : (top : ℕ) (a : Act) (x : Control) → is_alone a ≡ true → actor a ≡ x.process.pid
-    → acted top x.process a ≡ None → FindsClockFull top a (x ∷ [])
-alone_none top a x alone mine none =
-    step_alone top x.process a alone mine ∙ ap (option_map (outcome_of (x.process ∷ []) a)) none
 
 pub alone_steps : (top : ℕ) (a : Act) (x : Control) (done : Acted) → is_alone a ≡ true → actor a ≡ x.process.pid
     → acted top x.process a ≡ Some done → IsSome (step top (lent_state (x ∷ [])) a)
@@ -124,13 +108,6 @@ inner_alone (act.Tracer p b) inner = absurd (cc)
 
 pub between_rank : (x y : Control) → greatest_rank (x ∷ y ∷ []) ≡ max (last_rank 0 x.log) (last_rank 0 y.log)
 between_rank x y = omega arith
-
-pub between_none : (top : ℕ) (x y : Control) (v : ℕ) → pid_eq x.process.pid y.process.pid ≡ false
-    → acted top x.process (act.Send x.process.pid y.process.pid v) ≡ None
-    → FindsClockFull top (act.Send x.process.pid y.process.pid v) (x ∷ y ∷ [])
-between_none top x y v apart none =
-    step_between top x.process y.process v apart
-    ∙ ap (option_map (outcome_of (x.process ∷ y.process ∷ []) (act.Send x.process.pid y.process.pid v))) none
 
 pub between_steps : (top : ℕ) (x y : Control) (v : ℕ) (done : Acted) → pid_eq x.process.pid y.process.pid ≡ false
     → acted top x.process (act.Send x.process.pid y.process.pid v) ≡ Some done

@@ -3,14 +3,13 @@
 use Rattle.std.proofs.Common.{◌≡◌, ◌≢◌, ℕ, ◌+◌, ◌<◌, Bool, true, false, List, [], ◌∷◌, ◌++◌, length, get_or, take, cond}
 use Rattle.std.proofs.Common.{refl, sym, ◌∙◌, ap, subst, arith, ⊎_elim, ◌⊎◌}
 use Rattle.std.proofs.lemmas.Bool.{cases_lt, cases_order, eqb-true}
-use Rattle.std.proofs.lemmas.List.{append-nil}
 use Rattle.std.proofs.lemmas.List.Elements.{at_read, filter_more}
-use Rattle.std.specs.Prelude.{eqb, filter, All}
+use Rattle.std.specs.Prelude.{eqb}
 use Rattle.std.specs.List.{HoldsAt}
 use Rattle.st_core.specs.declared.types.Pid.{Pid}
 use Rattle.st_core.specs.declared.types.Act.{Act}
 use Rattle.st_core.specs.declared.types.Act.TheVariants as act
-use Rattle.st_core.specs.Pid.{node_of, node_eq, IsRising}
+use Rattle.st_core.specs.Pid.{node_of}
 use Rattle.st_core.specs.Step.{actor, touches}
 use Rattle.st_core.specs.Streams.{is_among}
 use Rattle.st_log.specs.declared.entry.Entry.{Entry}
@@ -19,7 +18,7 @@ use Rattle.st_runtime.specs.Joining.{wide_of, IsAlike, IsFirstOf, IsOnNode, IsOn
 use Rattle.st_runtime.specs.Joining.{IsSettledAt, IsSharedUnlessWide, IsWholeIfOwn}
 use Rattle.st_runtime.specs.Pcb.{Control}
 use Rattle.st_runtime.specs.Pieces.{pids_in, AreWhole, HasIfTouched, IsWholeEntry}
-use Rattle.st_runtime.proofs.Members.{In, In-All, All-In, In-Contains, Contains-In, In-filter, In-to_filter}
+use Rattle.st_runtime.proofs.Members.{In, In-All, All-In, In-Contains, In-filter, In-to_filter}
 use Rattle.st_runtime.proofs.Wholeness.{all_whole, wide_receiver, whole_actor}
 
 -- ---- the first process of a node
@@ -48,43 +47,7 @@ none_more xs node k x within is away before i below =
     subst (λ (n : ℕ). HoldsAt Away xs n) same (at_read xs Away k x within is away))
     (cases_lt i k)
 
--- this one is the first
-pub first_found : (xs : List Control) (node k : ℕ) (x : Control) → k < length xs → x ≡ get_or xs k x
-    → node_of x.process.pid ≡ node
-    → ((i : ℕ) → i < k → HoldsAt (λ (y : Control). node_of y.process.pid ≢ node) xs i) → IsFirstOf xs node k
-first_found xs node k x within is here before = record {
-  within = within;
-  here = at_read xs (λ (y : Control). node_of y.process.pid ≡ node) k x within is here;
-  before = before;
-}
-
 -- ---- processes that are alike
-
--- the first process of a node, whose actors are there
-pub alike_first : (xs : List Control) (k node : ℕ) (x : Control) → k < length xs → x ≡ get_or xs k x
-    → node ≡ node_of x.process.pid → IsFirstOf xs node k
-    → All (λ (e : Entry). IsOnNodeIfWide xs x.process.pid e.act) x.log → HoldsAt (IsAlike xs k) xs k
-alike_first xs k node x within is same first on =
-    let alike : IsAlike xs k x = record {
-      first = k;
-      is_first = subst (λ (n : ℕ). IsFirstOf xs n k) same first;
-      same = at_read xs (λ (y : Control). wide_of x.log ≡ wide_of y.log) k x within is refl;
-      there = λ here. on;
-    } in
-    at_read xs (IsAlike xs k) k x within is alike
-
--- a later one, which has the same entries
-pub alike_later : (xs : List Control) (k j node : ℕ) (x y : Control) → k < length xs → x ≡ get_or xs k x
-    → y ≡ get_or xs j y → node ≡ node_of x.process.pid → IsFirstOf xs node j → j ≢ k
-    → wide_of x.log ≡ wide_of y.log → HoldsAt (IsAlike xs k) xs k
-alike_later xs k j node x y within is also same first apart wides =
-    let alike : IsAlike xs k x = record {
-      first = j;
-      is_first = subst (λ (n : ℕ). IsFirstOf xs n j) same first;
-      same = at_read xs (λ (z : Control). wide_of x.log ≡ wide_of z.log) j y first.within also wides;
-      there = λ here. absurd (apart here);
-    } in
-    at_read xs (IsAlike xs k) k x within is alike
 
 wide_touches : (a : Act) (p : Pid) → is_wide a ≡ true → touches a p ≡ true → node_of p ≡ node_of (actor a)
 wide_touches (act.Reset q) p wide touched = nat_same _ _ touched
@@ -149,18 +112,3 @@ further : (es : List Entry) (i : ℕ) (e d : Entry) → i < length es → e ≡ 
 further es i e d within is =
     filter_more (λ (f : Entry). is_wide f.act) es i d within
     ∙ ap (λ (f : Entry). wide_of (take i es) ++ cond (is_wide f.act) (f ∷ []) []) (sym is)
-
--- past an entry of another act
-pub wide_past : (es : List Entry) (i : ℕ) (e d : Entry) → i < length es → e ≡ get_or es i d → is_wide e.act ≡ false
-    → wide_of (take (i + 1) es) ≡ wide_of (take i es)
-wide_past es i e d within is narrow =
-    further es i e d within is
-    ∙ ap (λ (b : Bool). wide_of (take i es) ++ cond b (e ∷ []) []) narrow ∙ append-nil (wide_of (take i es))
-
--- past the same entry in both
-pub wide_both : (es fs : List Entry) (i j : ℕ) (e d : Entry) → i < length es → j < length fs
-    → e ≡ get_or es i d → e ≡ get_or fs j d → wide_of (take i es) ≡ wide_of (take j fs)
-    → wide_of (take (i + 1) es) ≡ wide_of (take (j + 1) fs)
-wide_both es fs i j e d here there is also so_far =
-    further es i e d here is ∙ ap (λ (ws : List Entry). ws ++ cond (is_wide e.act) (e ∷ []) []) so_far
-    ∙ sym (further fs j e d there also)

@@ -31,11 +31,6 @@ leads_first : (top : ℕ) (r : Process) (e : Entry) (xs : List Entry) (f : Proce
 leads_first top r e xs f true is l = l
 leads_first top r e xs f false is l = cc
 
-leads_past : (top : ℕ) (r : Process) (e : Entry) (xs : List Entry) (f : Process) (b : Bool) → b ≡ false
-    → LeadTo top r (cond b (e ∷ xs) xs) f → LeadTo top r xs f
-leads_past top r e xs f true is l = cc
-leads_past top r e xs f false is l = l
-
 -- each process is led on by what is left of its log
 abbrev AreLed : ℕ → State → List Entry → Type 0
 AreLed top s es = (p : Pid) (r : Process) → process s p ≡ Some r

@@ -1,26 +1,25 @@
 -- A pid is seated by what a walk over the seats and over its log finds: what is past is told apart, and what is left
 -- decides. A pid without a log and without a seat is seated.
-use Rattle.std.proofs.Common.{◌≡◌, ◌||◌, ℕ, ◌+◌, ◌-◌, ◌≤◌, nat_eq, ◌<◌, Bool, true, false, cond, List, [], ◌∷◌, ◌++◌}
+use Rattle.std.proofs.Common.{◌≡◌, ◌||◌, ℕ, ◌+◌, ◌-◌, ◌≤◌, nat_eq, ◌<◌, Bool, true, false, cond, List, [], ◌∷◌}
 use Rattle.std.proofs.Common.{length, map, take, drop, get_or}
 use Rattle.std.proofs.Common.{Option, Some, None, IsTrue, ◌↔◌, refl, sym, ◌∙◌, ap, subst, arith, inl, inr, ⊎_elim, ◌⊎◌}
 use Rattle.std.specs.Prelude.{filter, IfSome, MatchOption}
 use Rattle.std.specs.declared.cmp.Ordering.{Ordering}
 use Rattle.std.specs.declared.cmp.Ordering.TheVariants.{Less, Equal, Greater}
 use Rattle.std.specs.Ordering.{is_lt}
-use Rattle.std.proofs.lemmas.List.{drop_more, drop_all, length-drop}
+use Rattle.std.proofs.lemmas.List.{drop_all, length-drop}
 use Rattle.std.proofs.lemmas.Bool.Decides.{nat_tests}
 use Rattle.std.proofs.lemmas.List.Elements.{All-more}
 use Rattle.st_core.specs.declared.types.Pid.{Pid}
 use Rattle.st_core.specs.declared.types.Act.{Act}
 use Rattle.st_core.specs.declared.types.Reply.{Reply}
 use Rattle.st_core.specs.Pid.{pid_cmp, pid_eq, IsBelow, IsRising}
-use Rattle.st_core.specs.Step.{actor}
 use Rattle.st_core.specs.Streams.{is_among}
 use Rattle.st_core.proofs.ForCallers.{pid_eq-true, pid_eq-same, IsBelow-apart, IsBelow-trans, not_below_itself}
 use Rattle.st_log.specs.declared.entry.Entry.{Entry}
 use Rattle.st_runtime.specs.Joining.{IsLeastUnseated, lesser}
 use Rattle.st_runtime.specs.Pcb.{Control}
-use Rattle.st_runtime.specs.Pieces.{Parts, pids_in, calls_of, seat_of, seats_at, seats_told, IsSeated, IsFirstUnseated}
+use Rattle.st_runtime.specs.Pieces.{Parts, pids_in, calls_of, seat_of, seats_told, IsSeated, IsFirstUnseated}
 use Rattle.st_runtime.specs.Seat.{Calls}
 use Rattle.st_runtime.proofs.Members.{In, All-In, In-All}
 use Rattle.st_runtime.proofs.Sorting.{Ascends, Ascends-from_rising}
@@ -32,30 +31,7 @@ abbrev pub rest_of : {X : Type 0} → List X → List X
 rest_of [] = []
 rest_of (x ∷ xs) = xs
 
--- two lists that begin alike are one exactly if their rests are
-pub same_rests : {X : Type 0} (x y : X) (xs ys : List X) → x ≡ y → (x ∷ xs ≡ y ∷ ys) ↔ (xs ≡ ys)
-same_rests x y xs ys same = (λ both. ap rest_of both, λ rests i. same i ∷ rests i)
-
 -- ---- seats
-
--- the seats of p from here on, if this one is another's
-pub seats_past : (seats : List Calls) (i : ℕ) (s : Calls) (p : Pid) → i < length seats → s ≡ get_or seats i s
-    → pid_eq s.pid p ≡ false → seats_at (drop i seats) p ≡ seats_at (drop (i + 1) seats) p
-seats_past seats i s p within is away =
-    let left = drop_more seats i s within in
-    let apart : pid_eq (get_or seats i s).pid p ≡ false = ap (λ (x : Calls). pid_eq x.pid p) (sym is) ∙ away in
-    ap (λ ss. seats_at ss p) left
-    ∙ ap (λ b. cond b (get_or seats i s ∷ seats_at (drop (i + 1) seats) p) (seats_at (drop (i + 1) seats) p)) apart
-
--- the same, if it is p's
-pub seats_here : (seats : List Calls) (i : ℕ) (s : Calls) (p : Pid) → i < length seats → s ≡ get_or seats i s
-    → pid_eq s.pid p ≡ true → seats_at (drop i seats) p ≡ s ∷ seats_at (drop (i + 1) seats) p
-seats_here seats i s p within is mine =
-    let left = drop_more seats i s within in
-    let here : pid_eq (get_or seats i s).pid p ≡ true = ap (λ (x : Calls). pid_eq x.pid p) (sym is) ∙ mine in
-    ap (λ ss. seats_at ss p) left
-    ∙ ap (λ b. cond b (get_or seats i s ∷ seats_at (drop (i + 1) seats) p) (seats_at (drop (i + 1) seats) p)) here
-    ∙ ap (λ x. x ∷ seats_at (drop (i + 1) seats) p) (sym is)
 
 abbrev first_or : {X : Type 0} → X → List X → X
 first_or d [] = d
@@ -64,41 +40,7 @@ first_or d (x ∷ xs) = x
 first_same : {X : Type 0} (x y : X) (xs ys : List X) → x ∷ xs ≡ y ∷ ys → x ≡ y
 first_same x y xs ys both = ap (first_or x) both
 
--- the first seat of p is the one told of, and it is the last
-pub only_seat : (seats : List Calls) (i : ℕ) (s : Calls) (p : Pid) (mine : List (Act × Reply)) (a b : Bool)
-    → i < length seats → s ≡ get_or seats i s → pid_eq s.pid p ≡ true → seats_at seats p ≡ seats_at (drop i seats) p
-    → IsTrue a ↔ (s.mine ≡ mine) → IsTrue b ↔ (seats_at (drop (i + 1) seats) p ≡ [])
-    → (IsTrue a × IsTrue b) ↔ (seats_at seats p ≡ record { pid = p; mine = mine } ∷ [])
-only_seat seats i s p mine a b within is here past held rest =
-    let told : Calls = record { pid = p; mine = mine } in
-    let all : seats_at seats p ≡ s ∷ seats_at (drop (i + 1) seats) p = past ∙ seats_here seats i s p within is here in
-    let owner : s.pid ≡ p = pid_eq-true s.pid p here in (
-      λ both. all ∙ (λ j. record { pid = owner j; mine = held.0 both.0 j } ∷ rest.0 both.1 j),
-      λ one. (
-        held.1 (let heads : s ∷ seats_at (drop (i + 1) seats) p ≡ told ∷ [] = sym all ∙ one in
-            ap (λ (x : Calls). x.mine) (first_same s told _ _ heads)),
-        rest.1 (ap rest_of (sym all ∙ one)),
-      ),
-    )
-
 -- ---- calls
-
-pub calls_past : (p : Pid) (log : List Entry) (i : ℕ) (e : Entry) → i < length log → e ≡ get_or log i e
-    → pid_eq (actor e.act) p ≡ false → calls_of p (drop i log) ≡ calls_of p (drop (i + 1) log)
-calls_past p log i e within is away =
-    let x = get_or log i e in
-    let left = drop_more log i e within in
-    let apart : pid_eq (actor x.act) p ≡ false = ap (λ (y : Entry). pid_eq (actor y.act) p) (sym is) ∙ away in
-    ap (calls_of p) left ∙ ap (λ b. cond b ((x.act, x.reply) ∷ []) [] ++ calls_of p (drop (i + 1) log)) apart
-
-pub calls_here : (p : Pid) (log : List Entry) (i : ℕ) (e : Entry) → i < length log → e ≡ get_or log i e
-    → pid_eq (actor e.act) p ≡ true → calls_of p (drop i log) ≡ (e.act, e.reply) ∷ calls_of p (drop (i + 1) log)
-calls_here p log i e within is mine =
-    let x = get_or log i e in
-    let left = drop_more log i e within in
-    let here : pid_eq (actor x.act) p ≡ true = ap (λ (y : Entry). pid_eq (actor y.act) p) (sym is) ∙ mine in
-    ap (calls_of p) left ∙ ap (λ b. cond b ((x.act, x.reply) ∷ []) [] ++ calls_of p (drop (i + 1) log)) here
-    ∙ ap (λ (y : Entry). (y.act, y.reply) ∷ calls_of p (drop (i + 1) log)) (sym is)
 
 -- at the log's end the calls are all told if none is left
 pub calls_end : (mine : List (Act × Reply)) (k : ℕ) (p : Pid) (log : List Entry) (i : ℕ)

@@ -1,7 +1,6 @@
 -- The machine's step on the lent processes alone is their parts side by side, since the act's processes are all there.
 use Rattle.std.proofs.Common.{◌≡◌, ◌≢◌, ℕ, ◌+◌, true, false, cond, max, [], ◌∷◌, ◌++◌, Option, Some}
-use Rattle.std.proofs.Common.{option_map, refl, sym, ◌∙◌, ap, subst, arith}
-use Rattle.std.specs.Prelude.{IfOk, Result, Ok, Err}
+use Rattle.std.proofs.Common.{option_map, refl, sym, ◌∙◌, ap, arith}
 use Rattle.st_core.specs.declared.types.Pid.{Pid}
 use Rattle.st_core.specs.declared.types.Token.{Token}
 use Rattle.st_core.specs.declared.types.Act.{Act}
@@ -12,7 +11,6 @@ use Rattle.st_core.specs.State.{Process, State, process}
 use Rattle.st_core.specs.Step.{acted, actor, receiver, reached, changed, outcome_of, step}
 use Rattle.st_core.proofs.ForCallers.{pid_eq-true, pid_eq-same, pid_eq-swap}
 use Rattle.st_log.specs.declared.entry.Entry.{Entry}
-use Rattle.st_runtime.specs.declared.fault.PcbFault.{PcbFault}
 use Rattle.st_runtime.specs.Inside.{IsAppended}
 use Rattle.st_log.specs.Entries.{last_rank}
 use Rattle.st_runtime.specs.Logs.{carried_by, IsOwnPart, IsOtherPart}
@@ -131,10 +129,3 @@ stepped_between top v x y z w e apart is own other logged =
     }
 
 -- THE ANSWER ON ONE PROCESS
-
-pub ok_alone : (top : ℕ) (a b : Act) (x z : Control) (y : Result Reply PcbFault)
-    → is_alone a ≡ true → actor a ≡ x.process.pid → a ≡ b
-    → IfOk y (λ w. IsAppended top b w x z) → IfOk y (λ w. IsStepped top a w (x ∷ []) (z ∷ []))
-ok_alone top a b x z (Ok w) alone mine same is =
-    stepped_alone top a w x z alone mine (subst (λ d. IsAppended top d w x z) (sym same) is)
-ok_alone top a b x z (Err f) alone mine same is = tt

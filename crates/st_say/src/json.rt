@@ -46,13 +46,6 @@ impl<'a, W: ByteSink> TextWriter<'a, W> {
         self.say_number(number);
     }
 
-    /// Writes the next fields, numbers.
-    pub fn say_fields(&mut self, fields: &[(&str, u64)]) {
-        for (name, number) in fields {
-            self.say_field(name, *number);
-        }
-    }
-
     /// Writes the next field, a word.
     pub fn say_word_field(&mut self, name: &str, word: &str) {
         self.say_name(name);

@@ -74,13 +74,6 @@ impl<'a, W: ByteSink> TextWriter<'a, W> {
         self.say_number(number);
     }
 
-    /// Writes words and a number, of each of these.
-    pub fn say_parts(&mut self, parts: &[(&str, u64)]) {
-        for (words, number) in parts {
-            self.say_part(words, *number);
-        }
-    }
-
     /// Writes words and a number on a line.
     pub fn say_count(&mut self, words: &str, count: u64) {
         self.say_part(words, count);
