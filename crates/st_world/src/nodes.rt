@@ -2,18 +2,16 @@
 //! since the node's last reset. A reset changes no other process, so it costs no more than the acts
 //! since the one before, and a tracer change costs the same on each node.
 
-ghost use Rattle.std.specs.Prelude.{◌≡◌, ◌≢◌, ℕ, ◌<◌, List, length, map, false, None};
+ghost use Rattle.std.specs.Prelude.{◌≡◌, ◌≢◌, ℕ, ◌<◌, length, false};
 ghost use Rattle.std.specs.Prelude.{slice_index_or, IfOk};
-ghost use Rattle.st_core.specs.declared.types.Pid.{Pid};
 ghost use Rattle.st_core.specs.Pid.{IsRising};
-ghost use Rattle.st_core.specs.Step.{reached};
 ghost use Rattle.st_world.specs.Nodes.{tracers, traced_at, node_at, process_in, AreByNode};
-ghost use Rattle.st_world.specs.Nodes.{IsClean, IsCleanOrListed, IsListed};
-ghost use Rattle.st_world.specs.Rows.{state_of};
+ghost use Rattle.st_world.specs.Nodes.{IsListed};
+ghost use Rattle.st_world.specs.Rows.{AreWiped};
 
 use crate::node::Node;
 use crate::rows::node_range;
-use st_core::{Act, Local, Pid};
+use st_core::{Local, Pid};
 use st_mail::Mailboxes;
 use std::alloc::{AllocError, Global};
 use std::marker::Model;
@@ -163,19 +161,8 @@ impl Nodes {
         requires locals_len { length locals.old ≡ length self.now.places }
         requires queues_len { length queues.old.boxes ≡ length self.now.places }
         ensures queues_len { length queues.new.boxes ≡ length self.now.places }
-        ensures state { (pids : List Pid) (me : Pid)
-            → AreByNode pids self.now.places
-            → me ≡ slice_index_or pids number me
-            → ((i : ℕ) → i < length pids
-            → IsCleanOrListed self.now locals.old queues.old.boxes i)
-            → state_of pids locals.new queues.new.boxes
-            ≡ map (reached (Act.Reset me) None) (state_of pids locals.old queues.old.boxes) }
-        ensures wiped { (i : ℕ) → i < length self.now.places
-            → slice_index_or self.now.places i 0 ≡ slice_index_or self.now.places number 0
-            → IsCleanOrListed self.now locals.old queues.old.boxes i
-            → IsClean locals.new queues.new.boxes i }
-        ensures others { (i : ℕ) → IsClean locals.old queues.old.boxes i
-            → IsClean locals.new queues.new.boxes i }
+        ensures rows { AreWiped self.now number locals.old queues.old.boxes
+            locals.new queues.new.boxes }
     {
         let node = self.nodes[self.places[number]];
         for slot in node.start..node.listed {

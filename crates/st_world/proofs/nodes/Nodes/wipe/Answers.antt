@@ -71,21 +71,23 @@ loop-slot-preserved g c =
           ∙ now.state pids me by_node own;
     })
 
-pub returns-clause-state : goal.returns-clause-state
-returns-clause-state g c pids me by_node own all =
+pub returns-clause-rows : goal.returns-clause-rows
+returns-clause-rows g c =
     let now = c.loop-slot.invariant in
     let ls : List LocalState = c.loop-slot.locals in
     let bs : List (List Message) = c.loop-slot.queues.boxes in
-    let clean : (i : ℕ) → i < length pids → (get_or pids i me).node ≡ me.node → IsClean ls bs i =
-    λ i below on.
-    let same = by_node.same i c.args.number me below (omega (arith, c.requires.number, by_node.len))
-    (on ∙ ap (λ (p : Pid). p.node) own) in
-    none_left c.args.self.now.slots c.index-2.result.now c.loop-slot.slot i ls bs c.loop-slot-test.false
-    (now.left i (omega (arith, below, by_node.len)) same (all i below)) in
-    sym (clean_node pids ls bs (now.locals_len ∙ by_node.len) (now.queues_len ∙ by_node.len) me clean)
-    ∙ now.state pids me by_node own
-
-pub returns-clause-wiped : goal.returns-clause-wiped
-returns-clause-wiped g c i below same old =
-    none_left c.args.self.now.slots c.index-2.result.now c.loop-slot.slot i c.loop-slot.locals
-    c.loop-slot.queues.boxes c.loop-slot-test.false (c.loop-slot.invariant.left i below same old)
+    record {
+      state = λ pids me by_node own all.
+          let clean : (i : ℕ) → i < length pids → (get_or pids i me).node ≡ me.node → IsClean ls bs i =
+          λ i below on.
+          let same = by_node.same i c.args.number me below (omega (arith, c.requires.number, by_node.len))
+          (on ∙ ap (λ (p : Pid). p.node) own) in
+          none_left c.args.self.now.slots c.index-2.result.now c.loop-slot.slot i ls bs c.loop-slot-test.false
+          (now.left i (omega (arith, below, by_node.len)) same (all i below)) in
+          sym (clean_node pids ls bs (now.locals_len ∙ by_node.len) (now.queues_len ∙ by_node.len) me clean)
+          ∙ now.state pids me by_node own;
+      node = λ i below same old.
+          none_left c.args.self.now.slots c.index-2.result.now c.loop-slot.slot i ls bs c.loop-slot-test.false
+          (now.left i below same old);
+      others = now.others;
+    }

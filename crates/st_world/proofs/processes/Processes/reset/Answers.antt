@@ -32,7 +32,7 @@ invariant_of-self g c =
     let own = rw c.deref_mut.ensures.value at c.wipe.ensures in
     let pid = own_pid g.row.TOP ps c.self.inside.nodes raw bs c.self.invariant c.args.me i at c.clear.new.self
     c.clear.ensures.places in
-    let state = own.state ps c.args.me c.self.invariant.by_node pid c.self.invariant.listed in
+    let state = own.rows.state ps c.args.me c.self.invariant.by_node pid c.self.invariant.listed in
     let items : (with_items c.self.inside.locals c.wipe.new.locals).items ≡ c.wipe.new.locals =
     with_items_is c.self.inside.locals c.wipe.new.locals (c.wipe.auto.locals ∙ c.deref_mut.ensures.len) in
     let locals_len = c.wipe.auto.locals ∙ ap length c.deref_mut.ensures.value in
@@ -41,7 +41,7 @@ invariant_of-self g c =
     (reset_kept g.row.TOP ps c.self.inside.nodes raw bs c.self.invariant c.args.me i at c.clear.new.self
     c.clear.ensures.places c.clear.ensures.tracers ls2 bs2 locals_len queues_len state
     (reset_listed g.row.TOP ps c.self.inside.nodes raw bs c.self.invariant c.args.me i at c.clear.new.self
-    c.clear.ensures.places ls2 bs2 own.wiped own.others c.clear.ensures.others))
+    c.clear.ensures.places ls2 bs2 own.rows.node own.rows.others c.clear.ensures.others))
 
 pub returns : goal.returns
 returns g c =
@@ -56,7 +56,7 @@ returns g c =
     let own = rw c.deref_mut.ensures.value at c.wipe.ensures in
     let pid = own_pid g.row.TOP ps c.self.inside.nodes raw bs c.self.invariant c.args.me i at c.clear.new.self
     c.clear.ensures.places in
-    let state = own.state ps c.args.me c.self.invariant.by_node pid c.self.invariant.listed in
+    let state = own.rows.state ps c.args.me c.self.invariant.by_node pid c.self.invariant.listed in
     let items : (with_items c.self.inside.locals c.wipe.new.locals).items ≡ c.wipe.new.locals =
     with_items_is c.self.inside.locals c.wipe.new.locals (c.wipe.auto.locals ∙ c.deref_mut.ensures.len) in
     let locals_len = c.wipe.auto.locals ∙ ap length c.deref_mut.ensures.value in
