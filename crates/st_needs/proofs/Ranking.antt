@@ -107,7 +107,8 @@ module _ (f : ℕ → ℕ) where
   comes_last streams pids k d now rising are within is =
       let at = stream_here streams pids k d (events_of streams (get_or pids k d)) rising are within
       refl in
-      subst (λ xs. ComesLast xs (get_or pids k d)) (sym is) (still_last (take k streams) _ (last_of streams k _ rising at))
+      let last = last_of streams k _ rising at in
+      subst (λ xs. ComesLast xs (get_or pids k d)) (sym is) (still_last (take k streams) _ last)
 
 -- THE EVENTS OF A PROCESS
 

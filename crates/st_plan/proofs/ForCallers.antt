@@ -24,5 +24,5 @@ pub use Rattle.st_plan.proofs.OneTrace.{acts_none, append_none, no_reset, tracer
 pub use Rattle.st_plan.proofs.Readiness.{is_alone, is_ready, IsQuiet, QuietRun, Reaches}
 -- ---- runs that report everything, and full streams
 pub use Rattle.st_plan.proofs.FullRuns.{run_full}
-pub use Rattle.st_plan.proofs.Turns.{After, after, at_each, event_move, event_move_there, is_move_of, leaves, next_event}
+pub use Rattle.st_plan.proofs.Turns.{After, after, at_each, event_move, leaves, next_event}
 pub use Rattle.st_plan.proofs.Plainness.{full_plain, full_streams_plain, greatest_has}
