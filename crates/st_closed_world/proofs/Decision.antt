@@ -1,16 +1,13 @@
 -- The reasons decide if each receive has its send: without one streams have a needless completion,
 -- which acts show; and no reason holds of streams that acts without a reset show, since it would
 -- hold of each completion.
-use Rattle.std.proofs.Common.{◌≡◌, ◌↔◌, ◌⊎◌, inl, inr, ℕ, ◌≤◌, true, List, Some, slice_get, sym, ◌∙◌, ap, subst, arith}
+use Rattle.std.proofs.Common.{◌↔◌, ◌⊎◌, inl, inr, ℕ, true, List, slice_get, sym, ◌∙◌, ap, subst, arith}
 use Rattle.std.proofs.lemmas.Bool.{false≢true, ltb-true}
 use Rattle.st_core.specs.declared.types.Act.{Act}
-use Rattle.st_core.specs.declared.types.Pid.{Pid}
-use Rattle.st_core.specs.declared.types.Event.{Event}
 use Rattle.st_core.specs.Laws.{NoReset}
 use Rattle.st_core.specs.Pid.{IsRising}
 use Rattle.st_core.specs.Run.{Shows, Stream, pids_of}
 use Rattle.st_core.specs.Streams.{IsStreams}
-use Rattle.st_pair.specs.Places.{event_at}
 use Rattle.st_plan.specs.Marks.{all_streams, told_streams, Whole}
 use Rattle.st_closed_world.specs.Completed.{IsShownInOneTrace}
 use Rattle.st_plan.specs.Full.{IsFull}
@@ -24,10 +21,7 @@ use Rattle.st_closed_world.proofs.FedNeeds.{told_at}
 use Rattle.st_closed_world.proofs.NeedlessStreams.{needless_shown}
 use Rattle.st_closed_world.proofs.ReasonSearch.{none_or_some}
 use Rattle.st_closed_world.proofs.Needs.{at_mark, events_told}
-
-AreWithin : ℕ → List Stream → Type 0
-AreWithin top streams = (p : Pid) (i : ℕ) (e : Event) → event_at streams p i ≡ Some e
-    → e.serial.this ≤ top
+use Rattle.st_plan.proofs.ForCallers.{AreWithin}
 
 -- each told event is one of all
 within_told : (top : ℕ) (wholes : List Whole) → IsFull top (all_streams wholes)

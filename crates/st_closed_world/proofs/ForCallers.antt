@@ -9,7 +9,7 @@ pub use Rattle.st_closed_world.proofs.SameNames.{streams_with}
 pub use Rattle.st_closed_world.proofs.Supplies.{greatest_among, highest}
 pub use Rattle.st_closed_world.proofs.AcceptedStreams.{accepted_if, FitTogether}
 pub use Rattle.st_closed_world.proofs.ReasonlessStreams.{fit_together}
-pub use Rattle.st_closed_world.proofs.Suppliers.{named, own_at, received_to}
+pub use Rattle.st_closed_world.proofs.Suppliers.{own_at, received_to, told_pids}
 pub use Rattle.st_closed_world.proofs.StampsTold.{stamper, told, told_behind}
 -- ---- whole streams, and what is told of them
 pub use Rattle.st_closed_world.proofs.Needs.{events_all, events_told}
@@ -19,7 +19,7 @@ pub use Rattle.st_closed_world.proofs.UntoldEvents.{untold_mark}
 pub use Rattle.st_closed_world.proofs.Decision.{no_reason}
 pub use Rattle.st_closed_world.proofs.ReasonSearch.{IsSomewhere, seek_all, within_if}
 pub use Rattle.st_closed_world.proofs.NeedlessCompletions.{decided}
-pub use Rattle.st_closed_world.proofs.NeedlessStreams.{needless_shown}
+pub use Rattle.st_closed_world.proofs.NeedlessStreams.{above_if, needless_shown}
 pub use Rattle.st_closed_world.proofs.CompletionsOfCompletions.{completed_again}
 pub use Rattle.st_closed_world.proofs.FreeSenders.{sum_low}
 -- ---- lists of counts that rise

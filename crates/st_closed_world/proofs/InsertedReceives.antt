@@ -26,9 +26,10 @@ use Rattle.st_closed_world.proofs.GoodStreams.{IsGood, IsLack, sends_to, sent_wi
 use Rattle.st_closed_world.proofs.MetNeeds.{met, timely_met}
 use Rattle.st_closed_world.proofs.InsertedEvents.{fit_with, FitsAt, listed_at, more, take_drop}
 use Rattle.st_closed_world.proofs.LongerStreams.{sound_with}
-use Rattle.st_closed_world.proofs.Suppliers.{named, own_at}
+use Rattle.st_closed_world.proofs.Suppliers.{own_at}
 use Rattle.st_pair.proofs.ForCallers.{agrees_if, drop_next}
 use Rattle.st_core.specs.Event.{to_eq}
+use Rattle.st_plan.proofs.ForCallers.{named}
 
 -- the send that serves a need of v at p
 pub record IsSupply (streams : List Stream) (v : ℕ) (p q : Pid) : Type 0 where

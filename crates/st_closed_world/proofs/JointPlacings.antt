@@ -35,8 +35,9 @@ use Rattle.st_closed_world.proofs.InsertedEvents.{listed_at}
 use Rattle.st_closed_world.proofs.LongerStreams.{all_from, sound_of}
 use Rattle.st_closed_world.proofs.ReasonlessStreams.{fit_together}
 use Rattle.st_closed_world.proofs.Supplies.{greatest_among, highest}
-use Rattle.st_closed_world.proofs.Suppliers.{named, own_at, received_to}
+use Rattle.st_closed_world.proofs.Suppliers.{own_at, received_to}
 use Rattle.st_closed_world.proofs.UntoldEvents.{above_if, count_at, first_of, hidden_is, IsHiddenSend, untold_at}
+use Rattle.st_plan.proofs.ForCallers.{named}
 
 -- MARKED EVENTS
 

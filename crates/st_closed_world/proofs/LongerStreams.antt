@@ -13,7 +13,8 @@ use Rattle.st_core.proofs.ForCallers.{pid_same, are_own, AreReports, names_among
 use Rattle.st_pair.specs.Places.{event_at}
 use Rattle.st_order.proofs.ForCallers.{all_found, AreFound}
 use Rattle.st_closed_world.proofs.InsertedEvents.{more, with_pids}
-use Rattle.st_closed_world.proofs.Suppliers.{named, own_at}
+use Rattle.st_closed_world.proofs.Suppliers.{own_at}
+use Rattle.st_plan.proofs.ForCallers.{named}
 
 pub all_from : {X : Type 0} (P : X → Type 0) (xs : List X)
     → ((k : ℕ) (x : X) → slice_get xs k ≡ Some x → P x)

@@ -6,7 +6,7 @@ use Rattle.std.proofs.Common.{[], ◌∷◌, ◌++◌, drop, filter, length, Opt
 use Rattle.std.proofs.Common.{sum_by, refl, sym, ◌∙◌, ap, subst, arith, length-append, option_and_then}
 use Rattle.std.specs.Cmp.{IsEquivalence}
 use Rattle.std.specs.List.{AllByRecursion, IsDistinct, count_by}
-use Rattle.std.specs.Option.{MatchOption, option_map_or}
+use Rattle.std.specs.Option.{option_map_or}
 use Rattle.std.specs.Set.{is_member}
 use Rattle.std.proofs.lemmas.Bool.{eqb-true, false≢true, and_parts, and_from, not-true}
 use Rattle.std.proofs.lemmas.List.Sums.{length-filter, sum_by-cons}
@@ -17,12 +17,11 @@ use Rattle.st_core.specs.declared.types.Kind.{Kind}
 use Rattle.st_core.specs.declared.types.Kind.TheVariants as kind
 use Rattle.st_core.specs.declared.types.Event.{Event}
 use Rattle.st_core.specs.Pid.{pid_eq, IsBelow, IsRising}
-use Rattle.st_core.specs.Laws.{AreAllListed, IsLeastUnlisted}
 use Rattle.st_core.specs.Run.{Stream, pids_of}
 use Rattle.st_core.specs.Streams.{events_of, is_own, is_of, lists, stream_of, AreOwn, IsStreams, is_among}
 use Rattle.st_core.specs.Event.{to_eq}
 use Rattle.st_core.proofs.ForCallers.{all_at, IsBelow-apart, pid_eq-refl, pid_eq-swap, pid_same}
-use Rattle.st_core.proofs.ForCallers.{unlisted_is_least, lists_among}
+use Rattle.st_core.proofs.ForCallers.{lists_among}
 use Rattle.st_pair.specs.declared.answer.PairFault.TheVariants as fault
 use Rattle.st_pair.specs.Places.{event_at, is_stamp}
 use Rattle.st_pair.specs.Pairing.{agrees, is_send, mismatch, receive_of, stamp_of}
@@ -36,6 +35,7 @@ use Rattle.st_closed_world.specs.Supply.{excess, is_free, is_own_supply, IsSuppl
 use Rattle.st_closed_world.proofs.FedNeeds.{need_fed, told_at}
 use Rattle.st_closed_world.proofs.Feeders.{any, feeder_at, feeders, feeders_split, feeds, needs_within}
 use Rattle.st_closed_world.proofs.Needs.{at_mark, events_told, go_on}
+use Rattle.st_plan.proofs.ForCallers.{named}
 
 -- LISTS OF PIDS
 
@@ -137,13 +137,7 @@ own_at (x ∷ streams) p i e own at =
       | false ↦ λ other at. own_at streams p i e own.1 at
     ] refl at
 
-pub named : (streams : List Stream) → IsStreams streams → AreAllListed streams
-named streams s =
-    subst (λ (o : Option (Pid × ℕ)). MatchOption o (AreAllListed streams)
-    (λ x. IsLeastUnlisted streams x.0 x.1))
-    s.listed (unlisted_is_least streams s.draft.rising)
-
-told_pids : (wholes : List Whole) → pids_of (told_streams wholes) ≡ pids_of (all_streams wholes)
+pub told_pids : (wholes : List Whole) → pids_of (told_streams wholes) ≡ pids_of (all_streams wholes)
 told_pids [] = refl
 told_pids (w ∷ wholes) = ap (λ ps. w.pid ∷ ps) (told_pids wholes)
 

@@ -19,6 +19,7 @@ use Rattle.st_pair.specs.Places.{event_at, is_stamp}
 use Rattle.st_pair.specs.declared.answer.Source.{Source}
 use Rattle.st_pair.specs.declared.answer.Source.TheVariants as source
 use Rattle.st_pair.proofs.ForCallers.{agrees_if, events_in, paired, source_from, stamp_once}
+use Rattle.st_pair.proofs.ForCallers.{send_stamps}
 use Rattle.st_order.specs.Items.{is_hidden}
 use Rattle.st_closed_world.specs.Local.{IsNeedless}
 use Rattle.st_closed_world.proofs.ForCallers.{accepted_if, own_at, received_to, FitTogether}
@@ -75,17 +76,6 @@ same_place (q ∷ ps) (suc k) (suc l) p rising at there =
 agrees_received : (f : Event) → is_send f ≡ true → agrees f (receipt_of f) ≡ true
 agrees_received f sends =
     agrees_if f (receipt_of f) (record { sends = sends; label = refl; prev = refl; to = refl; value = refl })
-
-pub send_stamps : (f : Event) → is_send f ≡ true → is_stamp f ≡ true
-send_stamps f h = elim f.kind as
-    (λ k. (let b : Bool = elim k [ kind.Send ↦ true | kind.Receive ↦ false | kind.Print ↦ false ] in
-    b) ≡ true
-    → (let b : Bool = elim k [ kind.Send ↦ true | kind.Receive ↦ false | kind.Print ↦ true ] in b)
-    ≡ true) [
-      | kind.Send ↦ λ is. refl
-      | kind.Receive ↦ λ is. is
-      | kind.Print ↦ λ is. refl
-    ] h
 
 abbrev hides_by : Source → Bool
 hides_by from = elim from [ source.Hidden ↦ true | source.Event q j ↦ false ]

@@ -14,7 +14,7 @@ use Rattle.st_core.specs.Laws.{greatest_count}
 use Rattle.st_core.specs.Pid.{pid_cmp, pid_eq, IsRising}
 use Rattle.st_core.specs.Run.{Stream, pids_of}
 use Rattle.st_core.specs.Streams.{events_of, IsStreams}
-use Rattle.st_core.proofs.ForCallers.{pid_cmp-Equal, pid_eq-refl, pid_same, some_if, false_if, both_of}
+use Rattle.st_core.proofs.ForCallers.{pid_cmp-Equal, pid_eq-refl, pid_same, false_if, both_of}
 use Rattle.st_pair.specs.declared.answer.PairFault.{PairFault}
 use Rattle.st_pair.specs.declared.answer.PairFault.TheVariants as fault
 use Rattle.st_pair.specs.declared.answer.Source.{Source}
@@ -25,10 +25,11 @@ use Rattle.st_pair.specs.Pairing.{refusal, repeated, stamp_before, stamp_of}
 use Rattle.st_pair.specs.Places.{event_at, first, is_stamp}
 use Rattle.st_pair.proofs.ForCallers.{agreed, agrees_if, cond_none, event_none, first_least, got_rule, paired}
 use Rattle.st_pair.proofs.ForCallers.{pid_total, Rule, source_from}
+use Rattle.st_pair.proofs.ForCallers.{got_says, some_unless}
 use Rattle.st_order.specs.Items.{is_hidden}
 use Rattle.st_closed_world.specs.Needs.{HoldsOfNone, is_late}
 use Rattle.st_closed_world.specs.Reasons.{is_too_high}
-use Rattle.st_closed_world.proofs.ForCallers.{count_at}
+use Rattle.st_closed_world.proofs.ForCallers.{count_at, above_if}
 use Rattle.st_open_world.specs.OpenReasons.{HasNoOpenReason, IsUnfounded}
 use Rattle.st_complete.specs.declared.answer.Never.{Never}
 use Rattle.st_complete.specs.declared.answer.Never.TheVariants as never
@@ -36,16 +37,6 @@ use Rattle.st_complete.specs.Answers.{reason_rank, IsAgainst, IsLast, IsFirstRea
 use Rattle.st_complete.specs.Found.{IsFoundReason}
 
 -- TESTS
-
-some_unless : {X : Type 0} (b : Bool) (x y : X) → cond b None (Some x) ≡ Some y → (b ≡ false)
-    × (x ≡ y)
-some_unless true x y h = absurd (none-some y h)
-some_unless false x y h = (refl, same_Some x y h)
-
-under_unless : {X : Type 0} (b : Bool) (o : Option X) (y : X) → cond b None o ≡ Some y → (b ≡ false)
-    × (o ≡ Some y)
-under_unless true o y h = absurd (none-some y h)
-under_unless false o y h = (refl, h)
 
 neither : (a b : Bool) → (a || b) ≡ false → (a ≡ false) × (b ≡ false)
 neither true b h = absurd (false≢true (sym h))
@@ -171,30 +162,6 @@ module _ (streams : List Stream) (p : Pid) where
             ] refl none
       ] refl none
 
--- the receive of a message, as the search for it says
-record Receives (q : Pid) (this : ℕ) (p : Pid) (i : ℕ) (e : Event) (x : Pid × ℕ) : Type 0 where
-  receives : is_stamp e ≡ false
-  from : e.from ≡ q
-  count : e.serial.this ≡ this
-  pid : p ≡ x.0
-  index : i ≡ x.1
-
-got_says : (q : Pid) (this : ℕ) (p : Pid) (i : ℕ) (e : Event) (x : Pid × ℕ)
-    → got_rule q this p i e ≡ Some x
-    → Receives q this p i e x
-got_says q this p i e x h =
-    let rest = under_unless (is_stamp e) (cond (pid_eq e.from q && e.serial.this == this)
-    (Some (p, i)) None) x h in
-    let parts = some_if (pid_eq e.from q && e.serial.this == this) (p, i) x rest.1 in
-    let tests = and_parts (pid_eq e.from q) (e.serial.this == this) parts.0 in
-    record {
-      receives = rest.0;
-      from = pid_same e.from q tests.0;
-      count = eqb-true e.serial.this this tests.1;
-      pid = ap (λ (y : Pid × ℕ). y.0) parts.1;
-      index = ap (λ (y : Pid × ℕ). y.1) parts.1;
-    }
-
 got : (q : Pid) (this : ℕ) (p : Pid) (i : ℕ) (e : Event) → is_stamp e ≡ false → e.from ≡ q
     → e.serial.this ≡ this
     → got_rule q this p i e ≡ Some (p, i)
@@ -242,11 +209,6 @@ taken_at es zero k f at less = absurd (omega (arith, less))
 taken_at [] (suc i) k f at less = at
 taken_at (e ∷ es) (suc i) zero f at less = at
 taken_at (e ∷ es) (suc i) (suc k) f at less = taken_at es i k f at (omega (arith, less))
-
-high_if : (stamp less : Bool) → stamp ≡ true → (stamp && not less) ≡ false → less ≡ true
-high_if true true is h = refl
-high_if true false is h = absurd (false≢true (sym h))
-high_if false less is h = absurd (false≢true is)
 
 module _ (top : ℕ) (streams : List Stream) (sound : IsStreams streams) where
   pids_rise : IsRising (pids_of streams)
@@ -354,7 +316,7 @@ module _ (top : ℕ) (streams : List Stream) (sound : IsStreams streams) where
       let l = against.1 in
       let es = events_of streams p in
       let less = ltb-true (greatest_count (take i es)) e.serial.this
-      (high_if (is_stamp e) (nat_lt (greatest_count (take i es)) e.serial.this) stamps quiet) in
+      (above_if (is_stamp e) (nat_lt (greatest_count (take i es)) e.serial.this) stamps quiet) in
       let low = count_at (take i es) j l.event (taken_at es i j l.event l.at l.before) in
       let high = l.is.1 in
       omega (arith, less, low, high)

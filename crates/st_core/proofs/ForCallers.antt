@@ -41,6 +41,7 @@ pub use Rattle.st_core.proofs.Clocks.{reported_stamps_lift, followed_sends_lift,
 pub use Rattle.st_core.proofs.Once.{step_once, zero_once}
 -- ---- what every run that reports all stamps and all receives of tokens keeps
 pub use Rattle.st_core.proofs.FullReports.{tell_counts, have_sends, greatest_push, prev_push, zero_found}
+pub use Rattle.st_core.proofs.FullReports.{local_found, local_in}
 -- ---- the numbers of the sends in the queues
 pub use Rattle.st_core.proofs.Tags.{no_tags}
 pub use Rattle.st_core.proofs.Queues.{IsTag, AreTags, no_tags_are, receive_none, receive_some, tags_step}

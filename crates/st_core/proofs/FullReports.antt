@@ -236,10 +236,10 @@ stamp_goes_on es l m e (inr take) other told = absurd (other take.kind)
 
 -- A STEP
 
-abbrev local_found : Option Process → LocalState
+abbrev pub local_found : Option Process → LocalState
 local_found o = elim o [ None ↦ zero_local | Some r ↦ r.local ]
 
-abbrev local_in : State → Pid → LocalState
+abbrev pub local_in : State → Pid → LocalState
 local_in s p = local_found (process s p)
 
 -- the act is reported if it moves a token

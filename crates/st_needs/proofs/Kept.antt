@@ -15,6 +15,7 @@ use Rattle.st_pair.proofs.ForCallers.{events_in}
 use Rattle.st_plan.specs.Marks.{all_streams, marks_of, Marked, Whole}
 use Rattle.st_closed_world.specs.Needs.{marked_of}
 use Rattle.st_needs.specs.Completions.{marked_with, wholes_with}
+use Rattle.st_plan.proofs.ForCallers.{mark_in}
 
 all_events : (es : List Event) (ms : List Bool) → map (λ (m : Marked). m.event) (marked_with es ms)
     ≡ es
@@ -105,17 +106,10 @@ past_end [] i past = refl
 past_end (e ∷ es) zero past = absurd (omega arith)
 past_end (e ∷ es) (suc i) past = past_end es i (omega arith)
 
-abbrev mark_by : Option Whole → ℕ → Bool
-mark_by o i = elim o [
-  | None ↦ false
-  | Some w ↦ option_map_or (λ (m : Marked). m.told)
-      (slice_get w.marked i) false
-]
-
 -- the marks by place
 pub mark_of : (wholes : List Whole) (p : Pid) (i : ℕ)
     → marks_of wholes p i ≡ option_map_or (λ (m : Marked). m.told)
     (slice_get (marked_of wholes p) i) false
 mark_of wholes p i = elim (find (λ (w : Whole). pid_eq w.pid p) wholes)
-    as (λ o. mark_by o i ≡ option_map_or (λ (m : Marked). m.told) (slice_get (marked_in o) i) false)
+    as (λ o. mark_in o i ≡ option_map_or (λ (m : Marked). m.told) (slice_get (marked_in o) i) false)
     [ None ↦ refl | Some w ↦ refl ]

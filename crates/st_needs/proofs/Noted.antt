@@ -12,6 +12,7 @@ use Rattle.st_core.specs.declared.types.Event.{Event}
 use Rattle.st_core.specs.Pid.{pid_eq, IsBelow, IsRising}
 use Rattle.st_core.specs.Run.{Stream}
 use Rattle.st_core.proofs.ForCallers.{all_at, and_false, not_below_itself, pid_eq-refl, pid_eq-swap, pid_same}
+use Rattle.st_core.proofs.ForCallers.{or_false}
 use Rattle.st_pair.specs.Places.{is_stamp}
 use Rattle.st_plan.proofs.ForCallers.{take_more}
 use Rattle.st_needs.specs.Unfounded.{has_receive, lower_count, lowest_from, lowest_in, lowest_with, IsNoted}
@@ -22,13 +23,9 @@ or_assoc : (a b c : Bool) → (a || (b || c)) ≡ ((a || b) || c)
 or_assoc true b c = refl
 or_assoc false b c = refl
 
-or_none : (a : Bool) → (a || false) ≡ a
-or_none true = refl
-or_none false = refl
-
 receive_push : (es : List Event) (e : Event) → has_receive (es ++ e ∷ [])
     ≡ (has_receive es || not (is_stamp e))
-receive_push [] e = or_none (not (is_stamp e))
+receive_push [] e = or_false (not (is_stamp e))
 receive_push (d ∷ es) e =
     ap (λ b. not (is_stamp d) || b) (receive_push es e)
     ∙ or_assoc (not (is_stamp d)) (has_receive es) (not (is_stamp e))

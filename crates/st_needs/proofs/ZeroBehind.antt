@@ -12,7 +12,7 @@ use Rattle.st_core.specs.declared.types.Event.{Event}
 use Rattle.st_core.specs.Pid.{pid_eq, IsRising}
 use Rattle.st_core.specs.Run.{Stream, pids_of}
 use Rattle.st_core.specs.Streams.{events_of}
-use Rattle.st_core.proofs.ForCallers.{pid_eq-refl, pid_same, or_true}
+use Rattle.st_core.proofs.ForCallers.{pid_eq-refl, pid_same, or_true, or_false}
 use Rattle.st_pair.specs.Places.{event_at, first, first_from, is_stamp, or_else}
 use Rattle.st_pair.proofs.ForCallers.{event_none, given_at}
 use Rattle.st_order.specs.Items.{is_hidden}
@@ -58,10 +58,6 @@ or_given (Some x) later = refl
 some_if : (b : Bool) (x : Pid × ℕ) → is_some (cond b (Some x) None) ≡ b
 some_if true x = refl
 some_if false x = refl
-
-or_false : (a : Bool) → (a || false) ≡ a
-or_false true = refl
-or_false false = refl
 
 -- one event more
 below_step : (tells less : Bool) (low : Option ℕ) (m n : ℕ) → less ≡ nat_lt m n

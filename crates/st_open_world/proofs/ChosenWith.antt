@@ -18,7 +18,7 @@ use Rattle.st_closed_world.specs.Needs.{is_late, is_rootless}
 use Rattle.st_closed_world.specs.Reasons.{HasEachSend, HasNoReason}
 use Rattle.st_closed_world.specs.Supply.{excess, is_free, is_own_supply, IsSupplied, needs, needs_from}
 use Rattle.st_core.proofs.ForCallers.{lists_among}
-use Rattle.st_closed_world.proofs.ForCallers.{completed_again, decided, needless_shown}
+use Rattle.st_closed_world.proofs.ForCallers.{completed_again, decided, needless_shown, told_pids}
 use Rattle.st_closed_world.proofs.ForCallers.{same_pids, sum_low, unlisted_events}
 use Rattle.st_open_world.specs.OpenReasons.{asked, HasPlaces, offered}
 use Rattle.st_open_world.specs.Silent.{inserted, silent, with_silent, IsShownWithSoMany}
@@ -126,10 +126,6 @@ sum_same f streams (q ∷ qs) sound none =
           (sym (silent_lists streams sound qs q) ∙ is)) in
           omega arith
     ] refl
-
-pub told_pids : (wholes : List Whole) → pids_of (told_streams wholes) ≡ pids_of (all_streams wholes)
-told_pids [] = refl
-told_pids (w ∷ wholes) = ap (λ ps. w.pid ∷ ps) (told_pids wholes)
 
 -- THE CHOICE WITH THEM
 

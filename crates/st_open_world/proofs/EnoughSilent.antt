@@ -16,8 +16,9 @@ use Rattle.st_pair.proofs.ForCallers.{own_rule}
 use Rattle.st_order.specs.Items.{greatest}
 use Rattle.st_closed_world.specs.Needs.{is_need}
 use Rattle.st_closed_world.specs.Supply.{is_free, needs_from}
-use Rattle.st_closed_world.proofs.ForCallers.{named, taken_if, unlisted_events}
+use Rattle.st_closed_world.proofs.ForCallers.{taken_if, unlisted_events}
 use Rattle.st_open_world.specs.Silent.{with_silent}
+use Rattle.st_plan.proofs.ForCallers.{named}
 
 -- AN UNLISTED PROCESS
 

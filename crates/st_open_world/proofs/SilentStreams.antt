@@ -20,8 +20,9 @@ use Rattle.st_core.proofs.ForCallers.{pid_same, IsBelow-trans, or_right}
 use Rattle.st_pair.specs.Places.{first, first_from}
 use Rattle.st_pair.proofs.ForCallers.{events_in, pid_total}
 use Rattle.st_order.proofs.ForCallers.{all_found, AreFound}
-use Rattle.st_closed_world.proofs.ForCallers.{named, unlisted_events}
+use Rattle.st_closed_world.proofs.ForCallers.{unlisted_events}
 use Rattle.st_open_world.specs.Silent.{inserted, silent, with_silent}
+use Rattle.st_plan.proofs.ForCallers.{named}
 
 -- ONE PROCESS MORE
 

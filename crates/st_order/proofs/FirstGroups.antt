@@ -1,5 +1,5 @@
 -- The first group of a list ends before the first item that has another label, by induction on what follows.
-use Rattle.std.proofs.Common.{◌≡◌, ℕ, ◌+◌, ◌==◌, ◌++◌, suc, Bool, true, false, cond, List, [], ◌∷◌, map, take}
+use Rattle.std.proofs.Common.{◌≡◌, ℕ, ◌+◌, ◌==◌, ◌++◌, suc, Bool, true, false, cond, List, [], ◌∷◌, take}
 use Rattle.std.proofs.Common.{drop, Some, slice_get, append_assoc, refl, sym, ◌∙◌, ap, arith}
 use Rattle.std.proofs.lemmas.Bool.{eqb-true, eq-eqb}
 use Rattle.std.proofs.lemmas.Option.{same_Some}
@@ -7,9 +7,7 @@ use Rattle.st_core.specs.declared.types.Label.{Label}
 use Rattle.st_order.specs.declared.item.Item.{Item}
 use Rattle.st_order.specs.declared.labels.LabelledItem.{LabelledItem}
 use Rattle.st_order.specs.Groups.{leading_with, put_before, groups_of}
-
-abbrev items_in : List LabelledItem → List Item
-items_in = map (λ (x : LabelledItem). x.item)
+use Rattle.st_order.proofs.Groups.{items_in}
 
 abbrev Group : Type 0
 Group = Label × List Item

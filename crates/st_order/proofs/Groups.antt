@@ -23,7 +23,7 @@ Group = Label × List Item
 abbrev pub number_of : LabelledItem → ℕ
 number_of x = x.label.0
 
-abbrev items_in : List LabelledItem → List Item
+abbrev pub items_in : List LabelledItem → List Item
 items_in = map (λ (x : LabelledItem). x.item)
 
 abbrev is_with : Label → LabelledItem → Bool

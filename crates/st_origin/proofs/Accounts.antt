@@ -11,13 +11,14 @@ use Rattle.st_core.specs.declared.types.Kind.TheVariants as kind
 use Rattle.st_core.specs.declared.types.Event.{Event}
 use Rattle.st_core.specs.declared.types.Act.{Act}
 use Rattle.st_core.specs.Pid.{pid_eq}
-use Rattle.st_core.specs.State.{LocalState, Process, State, process, zero_local, zero_state}
+use Rattle.st_core.specs.State.{LocalState, State, process, zero_state}
 use Rattle.st_core.specs.Step.{Outcome, actor, changed, step}
 use Rattle.st_core.specs.Run.{run, run_from, stream}
 use Rattle.st_core.specs.Laws.{greatest_count, is_reset, IsSound, KeepsSound, NoReset, ReportsEvent}
 use Rattle.st_core.proofs.ForCallers.{All_at, all_at, greatest_push, pid_same, pid_eq-swap}
 use Rattle.st_core.proofs.ForCallers.{process_after, process_holds, process_pid, run_parts}
 use Rattle.st_core.proofs.ForCallers.{run_sound, step_parts, Stepped, zero_sound, zero_found}
+use Rattle.st_core.proofs.ForCallers.{local_found, local_in}
 use Rattle.st_origin.specs.Origin.{Origin, Follows, Begins, given, given_by, given_to, origin, state_before}
 use Rattle.st_origin.proofs.Acts.{acted_changes, changed_same, Changes, SameButTraced, KeepsLast}
 use Rattle.st_origin.proofs.Rows.{AreInRow, stamp_in_row}
@@ -33,12 +34,6 @@ front acts os p n = stream (take n acts) (take n os) p
 -- what act n reports
 abbrev pub reported : List Outcome → ℕ → Option Event
 reported os n = option_and_then (λ o. o.report) (slice_get os n)
-
-abbrev pub local_found : Option Process → LocalState
-local_found o = elim o [ None ↦ zero_local | Some r ↦ r.local ]
-
-abbrev pub local_in : State → Pid → LocalState
-local_in s p = local_found (process s p)
 
 -- THE ACCOUNT
 

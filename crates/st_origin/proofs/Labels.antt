@@ -30,10 +30,10 @@ use Rattle.st_core.specs.Report.{flag_of, report, token_event}
 use Rattle.st_core.specs.Run.{run}
 use Rattle.st_core.specs.Step.{Acted, Outcome, acted, actor, answers, prints, receives, sends}
 use Rattle.st_core.specs.Laws.{NoReset, Reports}
-use Rattle.st_core.proofs.ForCallers.{pid_eq-refl, pid_same, step_parts}
+use Rattle.st_core.proofs.ForCallers.{pid_eq-refl, pid_same, step_parts, local_found, local_in}
 use Rattle.st_origin.specs.Origin.{Origin, Follows, Begins, given, given_by, given_to, origin, state_before}
 use Rattle.st_origin.specs.Labels.{SetsLabelBetween, label_set}
-use Rattle.st_origin.proofs.Accounts.{actor_same, earlier_there, here, local_found, local_in, other_same, plain}
+use Rattle.st_origin.proofs.Accounts.{actor_same, earlier_there, here, other_same, plain}
 use Rattle.st_origin.proofs.Truths.{number_given}
 
 -- TOKENS

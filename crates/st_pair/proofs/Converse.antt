@@ -262,7 +262,7 @@ source_from q o = elim o [ None ↦ source.Hidden | Some f ↦ source.Event q f.
 abbrev receiver_by : List Stream → Pid → Event → Option (Pid × ℕ)
 receiver_by streams q f = if is_send f then receive_of streams q f.serial.this else None
 
-send_stamps : (f : Event) → is_send f ≡ true → is_stamp f ≡ true
+pub send_stamps : (f : Event) → is_send f ≡ true → is_stamp f ≡ true
 send_stamps f h = elim f.kind as
     (λ k. (let b : Bool = elim k [ kind.Send ↦ true | kind.Receive ↦ false | kind.Print ↦ false ] in b) ≡ true
     → (let b : Bool = elim k [ kind.Send ↦ true | kind.Receive ↦ false | kind.Print ↦ true ] in b) ≡ true) [

@@ -6,7 +6,7 @@
 pub use Rattle.st_pair.proofs.AcceptedEvents.{Rule, IsPaired, paired, event_none, serial_rises, once_place}
 pub use Rattle.st_pair.proofs.AcceptedEvents.{from_none, got_rule, cond_none}
 pub use Rattle.st_pair.proofs.Converse.{stamp_counts_rise, stamp_once, source_by, source_from, source_from_receiver}
-pub use Rattle.st_pair.proofs.Converse.{receiver_from_source}
+pub use Rattle.st_pair.proofs.Converse.{got_says, receiver_from_source, SaysReceive, send_stamps, some_unless}
 pub use Rattle.st_pair.proofs.Stamps.{stamp_at, receive_unstamped}
 pub use Rattle.st_pair.proofs.FinalReasons.{receive_kind, stamp_not_received}
 pub use Rattle.st_pair.proofs.OwnStamps.{own_rule}

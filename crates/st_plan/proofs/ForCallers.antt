@@ -26,3 +26,7 @@ pub use Rattle.st_plan.proofs.Readiness.{is_alone, is_ready, IsQuiet, QuietRun, 
 pub use Rattle.st_plan.proofs.FullRuns.{run_full}
 pub use Rattle.st_plan.proofs.Turns.{After, after, at_each, event_move, leaves, next_event}
 pub use Rattle.st_plan.proofs.Plainness.{full_plain, full_streams_plain, greatest_has}
+-- ---- listed processes and their events
+pub use Rattle.st_plan.proofs.ProperEvents.{named}
+pub use Rattle.st_plan.proofs.NextMoves.{AreWithin}
+pub use Rattle.st_plan.proofs.Wholes.{mark_in}

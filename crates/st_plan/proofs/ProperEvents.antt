@@ -51,7 +51,7 @@ listed_at streams p i e at =
     ≡ Some e → is_some o ≡ true) [ None ↦ λ at. absurd (none-some e at) | Some y ↦ λ at. refl ] at
 
 -- of streams no place is unlisted
-named : (streams : List Stream) → IsStreams streams → AreAllListed streams
+pub named : (streams : List Stream) → IsStreams streams → AreAllListed streams
 named streams s =
     subst (λ (o : Option (Pid × ℕ)). MatchOption o (AreAllListed streams)
     (λ x. IsLeastUnlisted streams x.0 x.1))

@@ -42,7 +42,7 @@ AreMarked all some = AllByRecursion (λ (w : Whole). (k : ℕ) (m : Marked)
     → slice_get w.marked k ≡ Some m
     → marks_of all w.pid k ≡ m.told) some
 
-abbrev mark_in : Option Whole → ℕ → Bool
+abbrev pub mark_in : Option Whole → ℕ → Bool
 mark_in o i = elim o [
   | None ↦ false
   | Some w ↦ option_map_or (λ (m : Marked). m.told)

@@ -3,8 +3,8 @@ use Rattle.std.specs.Option.{option_map_or}
 use Rattle.std.proofs.Common.{true}
 use Rattle.std.proofs.lemmas.Bool.{and_parts}
 use Rattle.st_core.specs.Streams.{lists}
-use Rattle.st_closed_world.proofs.ForCallers.{named}
 use Rattle.st_needs.proofs.unfounded_stamps.is_unfounded.Goals as goal
+use Rattle.st_plan.proofs.ForCallers.{named}
 
 pub is_behind_stamp-requires-clause-listed : goal.is_behind_stamp-requires-clause-listed
 is_behind_stamp-requires-clause-listed c =
