@@ -26,7 +26,6 @@ use Rattle.st_plan.proofs.ForCallers.{AreWithin}
 -- each told event is one of all
 within_told : (top : ℕ) (wholes : List Whole) → IsFull top (all_streams wholes)
     → AreWithin top (told_streams wholes)
-unfolding AreWithin
 within_told top wholes full p i e at =
     let place = told_at (marked_of wholes p) i e (ap (λ es. slice_get es i)
     (sym (events_told wholes p)) ∙ at) in
@@ -36,7 +35,6 @@ within_told top wholes full p i e at =
 pub no_reason : (top : ℕ) (streams : List Stream) → IsRising (pids_of streams)
     → IsShownInOneTrace top streams
     → HasNoReason top streams
-unfolding AreWithin
 no_reason top streams rising shown =
     let nothing = shown_nothing top streams shown.acts shown.shows shown.one_trace rising in
     let full = shown_full top streams rising shown in
