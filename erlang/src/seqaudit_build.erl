@@ -223,7 +223,7 @@ take(Bytes, Part) ->
         other ->
             stray(Bytes, Part);
         damaged ->
-            count(strays, Part)
+            count(damaged, Part)
     end.
 
 event({_, _, {Prev, This}, _, _, _, _}, _Part) when Prev > ?GREATEST; This > ?GREATEST ->

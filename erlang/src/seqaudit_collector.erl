@@ -499,7 +499,8 @@ take_off(State) ->
 
 take_off(Behind, #state{by = By, former = Former} = State) ->
     ok = release_trigger(State),
-    State#state{tracer = case {is_own(Behind, State), By} of
+    State#state{trigger = none,
+                tracer = case {is_own(Behind, State), By} of
                              {true, _} -> put_back(Former);
                              {false, {port, Port}} ->
                                  case {seq_trace:get_system_tracer(), erlang:port_info(Port, id)} of

@@ -51,7 +51,7 @@
                    processes => [{seqaudit_external:encoded(), about()}],
                    lost | ended | split | where => seqaudit_external:encoded(),
                    dropped | own | strays | written | bytes | kept | kept_bytes | dropped_here | came
-                   | cut => non_neg_integer(),
+                   | cut | unread => non_neg_integer(),
                    since => calendar:datetime(), tracer => put_back | taken | gone,
                    pauses => seqaudit_watch:pauses(), by => port | process,
                    clock => {integer(), pos_integer()}}.
@@ -192,13 +192,13 @@ fold_folder(Folder, Do, Acc) ->
         {ok, []} ->
             {error, {no_spool, Folder}};
         {ok, Files} ->
-            {ok, lists:foldl(fun({File, _}, Sum) -> fold_part(File, Do, Sum) end,
+            {ok, lists:foldl(fun({File, Size}, Sum) -> fold_part(File, Size, Do, Sum) end,
                              Do(collection, Acc), Files)};
         {error, Reason} ->
             {error, Reason}
     end.
 
-fold_part(File, Do, Acc) ->
+fold_part(File, Size, Do, Acc) ->
     case file:open(File, [read, raw, binary]) of
         {ok, Device} ->
             try fold_entries(File, Device, 0, Do, Acc) of
@@ -208,7 +208,7 @@ fold_part(File, Do, Acc) ->
                 file:close(Device)
             end;
         {error, _} ->
-            Acc
+            Do({facts, #{unread => Size}}, Acc)
     end.
 
 %% One term: the list of events, or what version 1.0 wrote.
@@ -357,6 +357,7 @@ read_fact(Key, Value) ->
         {<<"dropped_here">>, N} when is_integer(N), N >= 0 -> [{dropped_here, N}];
         {<<"came">>, N} when is_integer(N), N >= 0 -> [{came, N}];
         {<<"cut">>, N} when is_integer(N), N >= 0 -> [{cut, N}];
+        {<<"unread">>, N} when is_integer(N), N >= 0 -> [{unread, N}];
         {<<"clock">>, {Offset, Second}} when is_integer(Offset), is_integer(Second), Second > 0 ->
             [{clock, {Offset, Second}}];
         {<<"pauses">>, {Times, Lasted, First}}

@@ -23,7 +23,8 @@
 
 -define(HEADER, <<"seqaudit facts 1">>).
 %% What is gone if there is a fact of this kind.
--define(LOSSES, [nothing, lost, ended, dropped, left, no_events, pauses, written_over, taken, nameless]).
+-define(LOSSES, [nothing, lost, unread, ended, dropped, left, damaged, no_events, pauses, written_over, taken,
+                 nameless]).
 
 -type fact() :: {Kind :: atom(), Sentence :: string()}.
 
@@ -33,7 +34,7 @@
 %% bytes are known: they are taken to be as large as the kept ones.
 -spec dropped([seqaudit_build:collected()], #{atom() => non_neg_integer()}) -> non_neg_integer().
 dropped(Collections, Counts) ->
-    count(nameless, Counts) + count(strays, Counts) + count(no_events, Counts)
+    count(nameless, Counts) + count(strays, Counts) + count(damaged, Counts) + count(no_events, Counts)
         + lists:sum([known(Kind, Collection) || Collection <- Collections,
                                                 Kind <- [dropped, own, strays]])
         + lists:sum([Events || Collection <- Collections, {_, Events} <- [over(Collection)]]).
@@ -105,7 +106,8 @@ is_nothing(_Known, _Sizes) -> false.
 collected(#{facts := Facts} = Collection) ->
     Node = seqaudit_terms:plain(maps:get(node, Facts, <<"a node">>)),
     Tracer = maps:get(tracer, Facts, put_back),
-    of_kind(lost, lost(Node, Facts)) ++ of_kind(ended, ended(Node, Facts)) ++ of_kind(split, split(Node, Facts))
+    of_kind(lost, lost(Node, Facts)) ++ of_kind(unread, unread(Node, Facts)) ++ of_kind(ended, ended(Node, Facts))
+        ++ of_kind(split, split(Node, Facts))
         ++ [{Kind, text(Format, [Node, seqaudit_explain:count(known(Kind, Collection), Thing)])}
             || {Kind, Thing, Format} <-
                    [{dropped, "event", "~ts: the collector dropped ~ts beyond the limit; raise the limit "
@@ -152,6 +154,18 @@ lost(Node, #{lost := Reason} = Facts) ->
                #{} -> ", and all of its events are lost"
            end])];
 lost(_Node, _Facts) ->
+    [].
+
+%% Of a folder that is converted itself nobody says where it is.
+unread(Node, #{unread := Bytes} = Facts) ->
+    [text("~ts: ~ts of what was collected couldn't be read~ts",
+          [Node, seqaudit_explain:count(Bytes, "byte"),
+           case Facts of
+               #{where := Where} -> text("; they are in ~ts there, and `seqaudit-node convert' takes that folder",
+                                         [reason(Where)]);
+               #{} -> ""
+           end])];
+unread(_Node, _Facts) ->
     [].
 
 ended(Node, #{ended := Ended}) ->
@@ -260,11 +274,12 @@ converted(Counts, Samples) ->
              {unresolved, "~ts to an alias or a name that nothing resolves; it is shown as a process of "
               "its own"},
              {strays, "convert left out ~ts that seq_trace doesn't write"},
+             {damaged, "convert left out ~ts that can't be read, since it is damaged"},
              {no_events, "convert left out ~ts of seq_trace whose form it doesn't know"},
              {nameless, "convert left out ~ts, as it takes 65,536 nodes and as many processes of each"}],
         count(Kind, Counts) > 0].
 
-thing(Kind) when Kind =:= strays; Kind =:= no_events -> "entry";
+thing(Kind) when Kind =:= strays; Kind =:= damaged; Kind =:= no_events -> "entry";
 thing(nameless) -> "event";
 thing(_) -> "send".
 

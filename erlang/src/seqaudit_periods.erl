@@ -87,6 +87,9 @@ audited(#state{name = Name, number = Number, rest = Rest, again = Again}) ->
     _ = [Again(Node) || {Node, {again, _}} <- Rotated],
     Files = Rest ++ [File || {_, Written} <- Rotated, File <- file(Written)],
     case joined(Files, Period) of
+        %% No node was reached.
+        {ok, []} ->
+            outcome(Period, 0, ["" | lists:map(fun became/1, Rotated)], []);
         {ok, Joined} ->
             {Own, Later, How} = cut(Joined, Period, lists:any(fun({_, Written}) -> has_ended(Written) end, Rotated)),
             case seqaudit_convert:from_files(Own, Period) of

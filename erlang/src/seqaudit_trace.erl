@@ -506,9 +506,9 @@ fetched(#node{folder = none}, _File, _State) ->
 fetched(Node, File, #state{limit = Limit}) ->
     case seqaudit_events:open(File) of
         {ok, Device} ->
-            _ = [fetch(One, Limit, Device) || One <- each_folder(Node)],
+            Fetched = [{One, fetch(One, Limit, Device)} || One <- each_folder(Node)],
             ok = seqaudit_events:close(Device),
-            ok = remove(Node),
+            _ = [remove(One) || {One, fetched} <- Fetched],
             {ok, File ++ ".events"};
         {error, Reason} ->
             {error, Reason}
@@ -647,8 +647,13 @@ fetch(#node{node = Node, folder = Folder, is = {gone, Reason}, split = Split} = 
                     Copied = lists:foldl(fun(File, Sum) -> copy(File, Read, Limit, Device, Sum) end,
                                          #{kept => 0, kept_bytes => 0, dropped_here => 0, came => 0},
                                          Files),
-                    ok = seqaudit_events:append(Device, seqaudit_spool:entry(Copied)),
-                    fetched;
+                    %% What couldn't be read is still there, and nothing else has it.
+                    Facts = case Copied of
+                                #{unread := _} -> Copied#{where => Folder};
+                                #{} -> Copied
+                            end,
+                    ok = seqaudit_events:append(Device, seqaudit_spool:entry(Facts)),
+                    case Copied of #{unread := _} -> lost; #{} -> fetched end;
                 {error, Fault} ->
                     ok = seqaudit_events:append(Device, seqaudit_spool:entry(#{lost => Fault})),
                     lost
@@ -669,6 +674,13 @@ files(there, Node, Folder) ->
     catch _:_ -> {error, noconnection}
     end.
 
+%% A connection may be busy for a moment.
+read_again(Read, File, Offset) ->
+    case Read(File, Offset, ?PIECE) of
+        {error, _} -> Read(File, Offset, ?PIECE);
+        Piece -> Piece
+    end.
+
 %% Copies the whole entries of a file, events up to the limit.
 copy({File, Size}, Read, Limit, Device, Sum) ->
     copy(File, 0, Size, <<>>, Read, Limit, Device, Sum).
@@ -676,7 +688,9 @@ copy({File, Size}, Read, Limit, Device, Sum) ->
 copy(_File, Offset, Size, Begun, _Read, _Limit, _Device, Sum) when Offset >= Size ->
     Sum#{cut => maps:get(cut, Sum, 0) + byte_size(Begun)};
 copy(File, Offset, Size, Begun, Read, Limit, Device, Sum) ->
-    case Read(File, Offset, ?PIECE) of
+    case read_again(Read, File, Offset) of
+        {error, _} ->
+            Sum#{unread => maps:get(unread, Sum, 0) + Size - Offset + byte_size(Begun)};
         {ok, Piece} ->
             Bytes = <<Begun/binary, Piece/binary>>,
             {Whole, Rest, More} = seqaudit_events:whole_entries(Bytes, Limit, Sum),

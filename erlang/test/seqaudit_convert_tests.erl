@@ -6,7 +6,8 @@
          repeated_names_test/0,
          counts_test/0, limits_test/0, too_many_test_/0,
          lost_test/0, hostile_test_/0, hostile_trace_test_/0, hostile_process_test_/0,
-         text_test/0, text_faults_test/0, external_test/0, trace_file_test/0]).
+         text_test/0, text_faults_test/0, external_test/0, trace_file_test/0,
+         damaged_event_test/0]).
 
 %% What the auditor says of traces of real programs that were captured on a node.
 captures_test_() ->
@@ -299,3 +300,14 @@ has(Text, Part) ->
 pid(Node, Number, Serial) ->
     <<131, Atom/binary>> = term_to_binary(Node),
     binary_to_term(<<131, 88, Atom/binary, Number:32, Serial:32, 0:32>>).
+
+%% An event that can't be read is one that the trace lacks.
+damaged_event_test() ->
+    Name = seqaudit_audits:file("damaged_event"),
+    Entry = fun(Kind, Bytes) -> [<<Kind, (byte_size(Bytes)):32>>, Bytes] end,
+    Event = fun(Number) -> term_to_binary({seq_trace, 1, {print, {Number - 1, Number}, self(), [], "hello hello"}}) end,
+    ok = file:write_file(Name ++ ".events",
+                         ["seqaudit events 2\n", Entry(2, term_to_binary(#{node => node(), dropped => 0})),
+                          Entry(0, Event(1)), Entry(0, binary:part(Event(2), 0, byte_size(Event(2)) - 3))]),
+    {ok, #{events := 1}} = seqaudit_convert:from_files([Name ++ ".events"], Name),
+    [<<"convert left out 1 entry that can't be read, since it is damaged">>] = seqaudit_answer:losses(Name).

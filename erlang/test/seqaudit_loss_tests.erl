@@ -5,7 +5,8 @@
          killed_leader_test_/0, lost_owner_test_/0, stray_calls_test_/0, other_disk_test_/0,
          late_events_test/0, written_over_test/0, broken_port_test/0, broken_disk_test_/0, stray_tokens_test_/0,
          own_events_test/0, late_names_test_/0,
-         refused_options_test/0]).
+         refused_options_test/0,
+         unread_test_/0]).
 
 %% Runs a test of this name on a second node.
 on_two(What, Test) ->
@@ -88,6 +89,32 @@ out_of_reach_test_() ->
         {ok, #{events := 1}} = seqaudit_convert:from_files([Left], File),
         [ok = seqaudit_spool:remove(Each) || Each <- Folders, filelib:is_dir(Each)]
     end).
+
+%% What can't be fetched, as while a connection is away, stays where it is, and the notes say where.
+unread_test_() ->
+    on_two("unread", fun(There) ->
+        {File, [_, Folder] = Folders} = begin_on(There, "unread", #{}),
+        ok = print(There, kept),
+        on_disk(Folder, 1),
+        {module, _} = erpc:call(There, code, load_binary, [seqaudit_spool, "unreadable", unreadable()]),
+        {ok, #{events := 0, notes := Notes}} = apart(fun seqaudit_trace:stop/0),
+        ok = one_note("of what was collected couldn't be read; they are in ", Notes),
+        [Left] = [Each || Each <- Folders, filelib:is_dir(Each)],
+        {ok, #{events := 1}} = seqaudit_convert:from_files([Left], File),
+        ok = seqaudit_spool:remove(Left)
+    end).
+
+%% The module that reads there, with a function that doesn't.
+unreadable() ->
+    {ok, {_, [{abstract_code, {_, Forms}}]}} = beam_lib:chunks(code:which(seqaudit_spool), [abstract_code]),
+    {ok, _, Module} = compile:forms([case Form of
+                                         {function, At, read, 3, _} ->
+                                             Any = [{var, At, '_'} || _ <- [file, offset, size]],
+                                             Exit = {call, At, {atom, At, exit}, [{atom, At, away}]},
+                                             {function, At, read, 3, [{clause, At, Any, [], [Exit]}]};
+                                         _ -> Form
+                                     end || Form <- Forms], [return_errors]),
+    Module.
 
 %% As if the nodes had no disk in common.
 apart(Do) ->
