@@ -11,6 +11,8 @@
 -define(INPUT, 2).
 -define(USAGE, 3).
 -define(SYSTEM, 4).
+%% Of more parts than these nobody is told: each is audited by itself.
+-define(PARTS, 100).
 
 -type options() :: #{string() => [string()]}.
 %% The words after each option, the last one first; the words without one are under "".
@@ -23,7 +25,7 @@
 with_trace(Name, Wish, Do) ->
     with_file(seqaudit_bundle:read(Name ++ ".seqtrace"), fun(Reason) -> unread(Reason, Name) end, fun(Streams) ->
         with_file(legend(Name ++ ".terms", Streams), fun seqaudit_legend:format_error/1, fun(Legend) ->
-            with_file(times(Name), fun seqaudit_times:format_error/1, fun(Times) ->
+            with_file(times(Name, Streams), fun seqaudit_times:format_error/1, fun(Times) ->
                 with_cut(#{name => Name, legend => Legend, times => maps:get(events, Times), timed => Times,
                            losses => losses(Name), whole => Streams}, Wish, Do)
             end)
@@ -42,6 +44,8 @@ unread({file, _, enoent} = Reason, Name) ->
         _ ->
             seqaudit_bundle:format_error(Reason)
     end;
+unread({not_a_bundle, File, _Line} = Reason, _Name) ->
+    [seqaudit_bundle:format_error(Reason) | [["\n  ", Line] || Line <- seqaudit_outcome:mistakes(File)]];
 unread(Reason, _Name) ->
     seqaudit_bundle:format_error(Reason).
 
@@ -77,11 +81,22 @@ losses(Name) ->
         {{error, _}, false} -> []
     end.
 
-%% A trace without timestamps has no such file.
-times(Name) ->
-    case seqaudit_times:read(Name ++ ".times") of
-        {error, {file, _, enoent}} -> {ok, seqaudit_times:none()};
-        Read -> Read
+%% A trace without timestamps has no such file, and that of one that was changed afterwards doesn't fit it.
+times(Name, Streams) ->
+    File = Name ++ ".times",
+    case seqaudit_times:read(File) of
+        {error, {file, _, enoent}} ->
+            {ok, seqaudit_times:none()};
+        {ok, Times} ->
+            case seqaudit_times:is_of(Times, Streams) of
+                true -> {ok, Times};
+                false ->
+                    io:format(standard_error, "seqaudit-node: ~ts is of another trace than ~ts.seqtrace, so no times "
+                                              "are shown~n", [File, Name]),
+                    {ok, seqaudit_times:none()}
+            end;
+        Error ->
+            Error
     end.
 
 %% @doc What the options cut the trace to.
@@ -115,11 +130,18 @@ parts(#{twice := _}, Streams) ->
     [Streams];
 parts(#{said := never, finding := {Reason, _}}, Streams) ->
     case seqaudit_reasons:allows_reset(Reason) of
-        true -> seqaudit_parts:split(Streams);
+        true -> few(seqaudit_parts:split(Streams), Streams);
         false -> [Streams]
     end;
 parts(_, Streams) ->
     [Streams].
+
+%% A counter that goes back again and again is hardly one that was reset so often.
+few(Parts, Streams) ->
+    case length(Parts) > ?PARTS of
+        true -> [Streams];
+        false -> Parts
+    end.
 
 with_parts([], Outcomes, Trace, Do) ->
     Do(named([Outcome || {_, Outcome} <- Outcomes], Trace#{parts => lists:reverse(Outcomes)}));

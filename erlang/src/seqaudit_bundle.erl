@@ -262,14 +262,17 @@ matches(Needs, Sends) ->
 match(Wanting, Sends) ->
     Known = maps:from_keys([From || #{from := From} <- Sends], known),
     Own = [Need || {_, #{from := From}} = Need <- Wanting, is_map_key(From, Known)],
-    {Alike, Others} = lists:foldl(fun({Label, #{at := At}} = Need, {Matched, {Left, Open}}) ->
-                                          case lists:partition(fun(#{label := One}) -> One =:= Label end, Left) of
-                                              {[Send | More], Rest} -> {[{At, Send} | Matched], {More ++ Rest, Open}};
-                                              {[], _} -> {Matched, {Left, [Need | Open]}}
-                                          end
-                                  end, {[], {Sends, []}}, Own),
-    {Left, Open} = Others,
-    Alike ++ lists:zip([At || {_, #{at := At}} <- lists:reverse(Open)], lists:sublist(Left, length(Open))).
+    Numbered = lists:enumerate(Sends),
+    ByLabel = maps:groups_from_list(fun({_, #{label := Label}}) -> Label end, Numbered),
+    {Alike, {Left, Open}} = lists:foldl(
+        fun({Label, #{at := At}} = Need, {Matched, {ByOwn, Others}}) ->
+                case ByOwn of
+                    #{Label := [{_, Send} | More]} -> {[{At, Send} | Matched], {ByOwn#{Label := More}, Others}};
+                    #{} -> {Matched, {ByOwn, [Need | Others]}}
+                end
+        end, {[], {ByLabel, []}}, Own),
+    Rest = [Send || {_, Send} <- lists:sort(lists:append(maps:values(Left)))],
+    Alike ++ lists:zip([At || {_, #{at := At}} <- lists:reverse(Open)], lists:sublist(Rest, length(Open))).
 
 match_labels(Events, Matches) ->
     [case Event of
@@ -331,6 +334,8 @@ format_error({not_a_bundle, File, Line}) ->
 format_error({no_event_name, Name}) ->
     text("~ts isn't the name of an event; write its process and its number there, as shop#24",
          [Name]);
+format_error({no_process, Name, []}) ->
+    text("there is no process ~ts, as the trace has none", [Name]);
 format_error({no_process, Name, Names}) ->
     text("there is no process ~ts; the trace has ~ts",
          [Name, lists:join(", ", lists:sublist(Names, 20))]);

@@ -85,7 +85,8 @@ at_time(Word, Compare, Times) ->
 
 nanoseconds(Word) ->
     case {string:to_float(Word), string:to_integer(Word)} of
-        {{Seconds, ""}, _} when is_float(Seconds) -> round(Seconds * 1_000_000_000);
+        %% More would be no number of nanoseconds.
+        {{Seconds, ""}, _} when is_float(Seconds), abs(Seconds) < 1.0e15 -> round(Seconds * 1_000_000_000);
         {_, {Seconds, ""}} when is_integer(Seconds) -> Seconds * 1_000_000_000;
         _ -> none
     end.

@@ -24,7 +24,14 @@ main(Words) ->
                                   [Command | _] when Command =:= "collect"; Command =:= "watch" -> stop;
                                   _ -> halt
                               end),
-    Status = run(Words),
+    Status = try run(Words)
+             catch
+                 Class:Reason:Stack ->
+                     %% A status of 1 would say that a trace doesn't fit.
+                     io:format(standard_error, "seqaudit-node: an error of its own: ~0tp:~0tp~n~0tp~n",
+                               [Class, Reason, Stack]),
+                     ?SYSTEM
+             end,
     ok = seqaudit_output:flush(),
     halt(Status).
 
@@ -241,7 +248,8 @@ trigger(#{"--trigger" := Functions, "--label" := [Label | _]} = Options) ->
 trigger(Options) when is_map_key("--trigger", Options); is_map_key("--label", Options) ->
     throw("--trigger and --label go together");
 trigger(#{"--times" := _}) ->
-    throw("--times goes with --trigger; a program that sets tokens gives them the flag for timestamps itself");
+    throw("--times goes with --trigger; a program that sets tokens gives them the flag itself, as "
+          "seqaudit_trace:with_trace(Label, [send, 'receive', print, timestamp], Fun) does");
 trigger(#{"--calls" := _}) ->
     throw("--calls goes with --trigger");
 trigger(_) ->

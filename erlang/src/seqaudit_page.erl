@@ -95,7 +95,7 @@ data(#{name := Name, legend := Legend} = Audited, Label, Limit) ->
                             {"most", case Most of infinity -> <<"null">>; _ -> integer_to_binary(Most) end},
                             {"limit", integer_to_binary(Limit)},
                             {"terms", array(Terms)}
-                            | rows(Rows, lanes(maps:get(streams, hd(Shown)), Rows), Values, Label, Audited)])};
+                            | rows(Rows, lanes(Shown, Rows), Values, Label, Audited)])};
         {error, Reason} ->
             {error, {messages, Reason}}
     end.
@@ -151,10 +151,12 @@ rows(Rows, Pids, Values, Label, #{legend := Legend, times := Times}) ->
 sums([], _Sum) -> [];
 sums([Count | Counts], Sum) -> [Sum + Count | sums(Counts, Sum + Count)].
 
-lanes(Streams, Rows) ->
+%% A part may have processes that the trace doesn't list.
+lanes(Shown, Rows) ->
     Named = maps:from_keys(lists:append([[From, To] || {_, #{event := #{from := From, to := To}}} <- Rows]),
                            named),
-    [Pid || {Pid, _} <- Streams, is_map_key(Pid, Named)].
+    [Pid || Pid <- seqaudit_bundle:in_order([Pid || #{streams := Streams} <- Shown, {Pid, _} <- Streams]),
+            is_map_key(Pid, Named)].
 
 resets([], _Legend) -> "";
 resets(Parts, Legend) -> seqaudit_explain:reset_places(Parts, Legend).

@@ -39,20 +39,23 @@ split_rest(Rest) ->
           [[{seqaudit_bundle:pid_text(), Before :: seqaudit_bundle:at() | none,
              After :: seqaudit_bundle:at() | none}]].
 places(Parts) ->
-    [places(lists:sublist(Parts, Which), lists:nthtail(Which, Parts))
-     || Which <- lists:seq(1, length(Parts) - 1)].
+    Ends = [maps:from_list([{Pid, {first_at(Events), last_at(Events)}} || {Pid, [_ | _] = Events} <- Part])
+            || Part <- Parts],
+    %% The last event of each process up to each reset, and its first one behind it.
+    Lasts = sums(fun(Own, Before) -> maps:merge(Before, maps:map(fun(_, {_, Last}) -> Last end, Own)) end, Ends),
+    Firsts = lists:reverse(sums(fun(Own, After) -> maps:merge(After, maps:map(fun(_, {First, _}) -> First end, Own)) end,
+                                lists:reverse(Ends))),
+    Pids = [Pid || {Pid, _} <- hd(Parts)],
+    [[{Pid, maps:get(Pid, Before, none), maps:get(Pid, After, none)}
+      || Pid <- Pids, is_map_key(Pid, Before) orelse is_map_key(Pid, After)]
+     || {Before, After} <- lists:zip(lists:droplast(Lasts), tl(Firsts))].
 
-places(Before, After) ->
-    [{Pid, last_at(events_of(Pid, Before)), first_at(events_of(Pid, After))}
-     || {Pid, _} <- hd(Before), events_of(Pid, Before ++ After) =/= []].
+sums(Add, Parts) ->
+    {Sums, _} = lists:mapfoldl(fun(Part, Sum) -> More = Add(Part, Sum), {More, More} end, #{}, Parts),
+    Sums.
 
-events_of(Pid, Parts) ->
-    lists:append([Events || Part <- Parts, {One, Events} <- Part, One =:= Pid]).
-
-last_at([]) -> none;
 last_at(Events) -> maps:get(at, lists:last(Events)).
 
-first_at([]) -> none;
 first_at([#{at := At} | _]) -> At.
 
 %% The first part, what is left, and how many events were taken.

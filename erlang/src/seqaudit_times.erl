@@ -12,7 +12,8 @@
 
 -include("seqaudit_packed.hrl").
 
--export([none/0, write/4, read/1, at/2, took/2, clock/1, span/1, spans/1, summary/1, summary/2, format_error/1]).
+-export([none/0, write/4, read/1, is_of/2, at/2, took/2, clock/1, span/1, spans/1, summary/1, summary/2]).
+-export([format_error/1]).
 -export_type([times/0]).
 
 -import(seqaudit_errors, [text/2]).
@@ -30,6 +31,24 @@
 -spec none() -> times().
 none() ->
     #{start => 0, events => #{}, messages => #{}}.
+
+%% @doc Whether the times may be of this trace: it has each of their events, and of each message its two ends. A trace of
+%% which a line is gone, or is elsewhere, has other events at these places.
+-spec is_of(times(), seqaudit_bundle:streams()) -> boolean().
+is_of(#{events := Events}, _Streams) when map_size(Events) =:= 0 ->
+    true;
+is_of(#{events := Events, messages := Messages}, Streams) ->
+    Index = maps:from_list([{{Pid, At}, {Kind, {From, Prev, This, Label, Value}}}
+                            || {Pid, Own} <- Streams,
+                               #{kind := Kind, at := At, from := From, prev := Prev, this := This, label := Label,
+                                 value := Value} <- Own]),
+    lists:all(fun(Event) -> is_map_key(Event, Index) end, maps:keys(Events))
+        andalso lists:all(fun({Receive, {Send, _}}) ->
+                                  case Index of
+                                      #{Receive := {'receive', Message}, Send := {send, Message}} -> true;
+                                      #{} -> false
+                                  end
+                          end, maps:to_list(Messages)).
 
 %% @doc Hands the text of the file on, piece by piece.
 -spec write([{seqaudit_processes:pid_number(), term()}], #{binary() => binary()},
