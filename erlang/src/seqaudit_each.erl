@@ -21,14 +21,21 @@ audit(#{"" := [_]} = Options) when is_map_key("--whole", Options); is_map_key("-
 audit(#{"" := [Name]} = Options) ->
     Wish = seqaudit_answer:wish(Options, [labels, processes, from, to]),
     seqaudit_answer:with_trace(Name, Wish, fun(#{streams := Streams, cut := Cut} = Trace) ->
-        is_map_key("--json", Options) orelse io:put_chars(Cut),
-        Labels = by_label(Streams),
-        Makes = [fun() -> {Label, Own, seqaudit_outcome:ask(Own)} end || {Label, Own} <- Labels],
-        told(seqaudit_workers:fold(Makes, fun(Asked, Counts) -> tell(Asked, Trace, Options, Counts) end, #{}),
-             length(Labels), Trace, Options)
+        case seqaudit_outcome:mistakes(Name ++ ".seqtrace") of
+            [] ->
+                is_map_key("--json", Options) orelse io:put_chars(Cut),
+                audit(by_label(Streams), Trace, Options);
+            Mistakes ->
+                {?INPUT, [seqaudit_errors:no_trace(Name ++ ".seqtrace", "") | [["\n  ", Line] || Line <- Mistakes]]}
+        end
     end);
 audit(_) ->
     {usage, "audit needs the NAME of one trace"}.
+
+audit(Labels, Trace, Options) ->
+    Makes = [fun() -> {Label, Own, seqaudit_outcome:ask(Own)} end || {Label, Own} <- Labels],
+    told(seqaudit_workers:fold(Makes, fun(Asked, Counts) -> tell(Asked, Trace, Options, Counts) end, #{}),
+         length(Labels), Trace, Options).
 
 %% @doc The streams of each label, with the processes that its events name.
 -spec by_label(seqaudit_bundle:streams()) -> [{Label :: binary(), seqaudit_bundle:streams()}].
@@ -97,5 +104,7 @@ told(Counts, Labels, #{losses := Losses}, Options) ->
         #{failed := _} -> ?SYSTEM;
         #{fault := _} -> ?INPUT;
         #{} when map_size(Others) > 0 -> ?UNFIT;
+        %% A script doesn't take a trace without events for one that fits.
+        #{} when Labels =:= 0 -> ?UNFIT;
         #{} -> ?FITS
     end.

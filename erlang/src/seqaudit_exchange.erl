@@ -6,7 +6,7 @@
 %% been used already. What is exchanged is known from the causes ({@link seqaudit_causes}).
 -module(seqaudit_exchange).
 
--export([put_back/1, may_be_put_back/1, prevs/1, founded/1, without_invented/3, own/3, counts/1]).
+-export([put_back/1, may_be_put_back/1, prevs/1, founded/1, without_invented/3, own/3, counts/1, pairs_others/2]).
 
 -type causes() :: #{seqaudit_causes:id() => seqaudit_causes:cause()}.
 
@@ -24,7 +24,7 @@
 -record(run, {processes :: #{seqaudit_bundle:pid_text() => #process{}},
               causes :: causes(),
               sends :: #{tuple() => reported},
-              sent = #{} :: #{tuple() => [{non_neg_integer(), non_neg_integer()}]},
+              sent = #{} :: #{tuple() => queue:queue({non_neg_integer(), non_neg_integer()})},
               waiting = #{} :: #{tuple() => [seqaudit_bundle:pid_text()]}}).
 
 %% @doc The first event behind each token that was put back.
@@ -65,6 +65,19 @@ exchanged(Streams, Prevs) ->
                 {_, #{{Pid, Event} := Prev}} -> Event#{prev := Prev};
                 {_, _} -> Event
             end || Event <- Events]} || {Pid, Events} <- Streams].
+
+%% @doc Whether a receive has become that of a send that has another serial by the node's own counts. A message keeps its
+%% serial, so no token that was put back explains that.
+-spec pairs_others(seqaudit_bundle:streams(), seqaudit_bundle:streams()) -> boolean().
+pairs_others(Streams, Exchanged) ->
+    Both = [{message(Own), Event} || {{_, Owns}, {_, Events}} <- lists:zip(Streams, Exchanged),
+                                     {Own, Event} <- lists:zip(Owns, Events)],
+    Sends = maps:from_keys(lists:append([[{message(Event), Own}, message(Event)]
+                                         || {Own, #{kind := send} = Event} <- Both]), sent),
+    lists:any(fun({Own, #{kind := Kind} = Event}) ->
+                      Kind =:= 'receive' andalso is_map_key(message(Event), Sends)
+                          andalso not is_map_key({message(Event), Own}, Sends)
+              end, Both).
 
 %% @doc Other prevs for stamps with prev 0 that have it as a token was put back, if they have it for no other reason: a
 %% process that has received something, or stamped something behind that, stamps no 0 any more.
@@ -180,7 +193,10 @@ message(#{from := From, to := To, prev := Prev, this := This, label := Label, va
 %% process received last, or its prev isn't below its count. A counter that only goes back does so by a reset too.
 -spec may_be_put_back([seqaudit_causes:row()]) -> boolean().
 may_be_put_back(Rows) ->
-    {Found, _} = lists:foldl(fun(Row, {Found, Last}) -> may_be_put_back(Row, Found, Last) end, {false, #{}}, Rows),
+    %% Each process's rows in the order of its stream: in the one order of all a stamp with a count below what its
+    %% process received last comes before that receive.
+    {Found, _} = lists:foldl(fun(Row, {Found, Last}) -> may_be_put_back(Row, Found, Last) end, {false, #{}},
+                             lists:sort(fun(#{id := One}, #{id := Other}) -> One =< Other end, Rows)),
     Found.
 
 may_be_put_back(#{event := #{prev := Prev, this := This}}, _Found, Last) when This =< Prev ->
@@ -235,14 +251,14 @@ run([Pid | Pids], #run{processes = Processes, causes = Causes} = Run) ->
 receives(#{prev := Prev, this := This} = Event, Pid, Process, Pids,
          #run{sends = Sends, sent = Sent, waiting = Waiting} = Run) ->
     Message = message(Event),
-    case Sent of
-        #{Message := [Counts | Others]} ->
+    case queue:out(maps:get(Message, Sent, queue:new())) of
+        {{value, Counts}, Others} ->
             Left = Run#run{sent = Sent#{Message := Others}},
             run([Pid | Pids], with(Pid, received(Event, Counts, Pid, Process), Left));
-        #{} when is_map_key(Message, Sends) ->
+        {empty, _} when is_map_key(Message, Sends) ->
             Waits = maps:update_with(Message, fun(Waits) -> [Pid | Waits] end, [Pid], Waiting),
             run(Pids, Run#run{waiting = Waits});
-        #{} ->
+        {empty, _} ->
             run([Pid | Pids], with(Pid, received(Event, {Prev, This}, Pid, Process), Run))
     end.
 
@@ -265,7 +281,7 @@ sent(#{kind := send} = Event, Counts, #run{sent = Sent, waiting = Waiting} = Run
     Message = message(Event),
     {maps:get(Message, Waiting, []),
      Run#run{waiting = maps:remove(Message, Waiting),
-             sent = maps:update_with(Message, fun(Others) -> Others ++ [Counts] end, [Counts], Sent)}};
+             sent = Sent#{Message => queue:in(Counts, maps:get(Message, Sent, queue:new()))}}};
 sent(_Print, _Counts, Run) ->
     {[], Run}.
 

@@ -9,8 +9,6 @@
 
 %% So many unreported events are listed; the rest are counted.
 -define(LISTED, 20).
-%% So many lines of what `seqtool lint' says: three mistakes, each with its line and a remark.
--define(MISTAKE_LINES, 12).
 %% Characters of a term in a sentence.
 -define(CHARACTERS, 80).
 %% What explains an event as well as a message whose receive wasn't reported does.
@@ -229,8 +227,7 @@ details(#{said := Said} = Outcome, Legend) when Said =:= fits; Said =:= complete
 details(#{said := fault, fault := <<"fault too ", _/binary>>, tool := not_there}, _Legend) ->
     ["seqtool takes larger traces, but ", no_tool()];
 details(#{said := fault, mistakes := Mistakes}, _Legend) ->
-    [[["  ", Line, $\n] || Line <- lists:sublist(Mistakes, ?MISTAKE_LINES)],
-     ["  ..\n" || length(Mistakes) > ?MISTAKE_LINES]];
+    [["  ", Line, $\n] || Line <- Mistakes];
 details(#{said := fault}, _Legend) ->
     "";
 details(Outcome, Legend) ->
@@ -304,7 +301,7 @@ put_back([], #{exchanged := How}, _Legend) when How =/= none ->
 put_back([], _Outcome, _Legend) ->
     "";
 put_back(Rows, Outcome, Legend) ->
-    ["A token was put back here (seq_trace:set_token/1), or its serial was set by hand: ",
+    ["A token was put back here (seq_trace:set_token/1), or its serial was set by hand, or the file was changed: ",
      listed(fun(#{id := Id, cause := {_, Origin}}) ->
                     ["before ", seqaudit_why:name(Id, Legend), ", which is after ", seqaudit_why:name(Origin, Legend)]
             end, Rows, fun(More) -> ["and ", number(More), " more"] end),

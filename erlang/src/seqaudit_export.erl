@@ -65,7 +65,10 @@ arrow(#{id := Id, event := #{from := From, to := To}} = Row, Lanes, Received, Le
     case is_map_key(Id, Received) of
         true -> ["%% ", plain(name(Row, Legend)), " is sent\n"];
         false -> [maps:get(From, Lanes), "--x", maps:get(To, Lanes), ": ", message(Row, Legend),
-                  " (no reported receive)\n"]
+                  case seqaudit_legend:is_of_cut(Legend) of
+                      true -> " (no receive here)\n";
+                      false -> " (no reported receive)\n"
+                  end]
     end.
 
 message(#{invented := true}, _Legend) -> "(an unknown message)";
@@ -184,8 +187,15 @@ attributes(#{event := #{from := From, to := To}} = Row, Receive, Legend) ->
         ++ [attribute("erlang.message", value(Row, Legend)), attribute("erlang.label", label(Row, Legend)),
             attribute("seqaudit.event", utf8(name(Row, Legend))),
             attribute("seqaudit.cause", utf8(seqaudit_why:cause(maps:get(cause, Row), Legend)))]
-        ++ [attribute("seqaudit.send_reported", is_reported(Row)) || To =/= none]
-        ++ [attribute("seqaudit.receive_reported", Receive =/= none andalso is_reported(Receive)) || To =/= none].
+        ++ reported(Row, Receive, Legend).
+
+%% Of a cut it isn't known what was reported.
+reported(#{event := #{to := To}} = Row, Receive, Legend) ->
+    case To =:= none orelse seqaudit_legend:is_of_cut(Legend) of
+        true -> [];
+        false -> [attribute("seqaudit.send_reported", is_reported(Row)),
+                  attribute("seqaudit.receive_reported", Receive =/= none andalso is_reported(Receive))]
+    end.
 
 attribute(Key, Value) when is_boolean(Value) -> #{key => list_to_binary(Key), value => #{boolValue => Value}};
 attribute(Key, Value) -> #{key => list_to_binary(Key), value => #{stringValue => Value}}.

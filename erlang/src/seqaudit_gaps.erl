@@ -32,8 +32,9 @@ find(Rows, Streams, Legend) ->
     Received = maps:from_keys([Send || #{cause := {How, Send}} <- Rows, lists:member(How, [sent, alike, unreported])],
                               received),
     Hidden = [Row || #{hidden := true} = Row <- Rows],
+    %% Nobody knows whether a process passed a count for the sake of a send that was invented.
     Counts = maps:groups_from_list(fun(#{actor := Actor}) -> Actor end, fun(#{event := #{this := This}}) -> This end,
-                                   Hidden),
+                                   Hidden ++ [Row || #{invented := true, event := #{kind := send}} = Row <- Rows]),
     Counted = [{Pid, counters(Pid, Events, gb_sets:from_list(maps:get(Pid, Counts, [])), Index, Legend)}
                || {Pid, Events} <- Streams],
     #{hidden => Hidden,
@@ -59,11 +60,13 @@ counted(What, Counted) ->
     [{Pid, Count} || {Pid, #{What := Count}} <- Counted, Count > 0].
 
 %% `received' are the counts and messages received since the last stamp, of which one may be a spawn's answer; `hidden'
-%% are the counts of sends that only their receives tell of.
+%% are the counts of sends that only their receives tell of, and of those that were invented.
 counters(Pid, Events, Hidden, Index, Legend) ->
-    lists:foldl(fun(#{at := At} = Event, Known) ->
-                        #{cause := Cause} = maps:get({Pid, At}, Index),
-                        counter(Event, Cause, Known, Legend)
+    lists:foldl(fun(#{kind := Kind, at := At} = Event, Known) ->
+                        case maps:get({Pid, At}, Index) of
+                            #{invented := true} when Kind =:= send -> Known;
+                            #{cause := Cause} -> counter(Event, Cause, Known, Legend)
+                        end
                 end, #{clock => 0, stamped => false, received => [], hidden => Hidden,
                        before => 0, behind => 0, spawns => 0, silent => 0, jumps => 0}, Events).
 
@@ -85,12 +88,22 @@ gap(Stood, Clock, _Prev, _Spawned, Known) when Stood =< Clock ->
     Known;
 gap(_Stood, _Clock, _Prev, true, #{spawns := Spawns} = Known) ->
     Known#{spawns := Spawns + 1};
-gap(Stood, Clock, _Prev, false, #{stamped := false} = Known) ->
-    Known#{before := Stood, behind := case Clock of 0 -> 0; _ -> Stood end};
+gap(Stood, Clock, Prev, false, #{stamped := false, hidden := Hidden} = Known) ->
+    case gb_sets:next(gb_sets:iterator_from(Clock + 1, Hidden)) of
+        {First, _} when First =< Stood ->
+            Begun = before(First - 1, Clock, Known),
+            gap(Stood, First, Prev, false, Begun#{stamped := true});
+        _ ->
+            before(Stood, Clock, Known)
+    end;
 gap(Stood, Clock, Prev, false, #{jumps := Jumps} = Known) when Prev > Clock ->
     silent(Prev, Stood, Known#{jumps := Jumps + 1});
 gap(Stood, Clock, _Prev, false, Known) ->
     silent(Clock, Stood, Known).
+
+before(Stood, Clock, Known) when Stood =< Clock -> Known;
+before(Stood, 0, Known) -> Known#{before := Stood};
+before(Stood, _Clock, Known) -> Known#{before := Stood, behind := Stood}.
 
 %% The counts behind one up to another that nobody reported: those of hidden sends are known.
 silent(Clock, Stood, #{silent := Silent, hidden := Hidden} = Known) ->

@@ -57,6 +57,8 @@
 -define(UNFIT, 1).
 %% Of `seqtool lint': there are mistakes.
 -define(REFUSED, 2).
+%% So many lines of what it says are shown: three mistakes, each with its line and a remark.
+-define(MISTAKE_LINES, 12).
 
 %% @doc Asks the programs. If streams don't fit, they are asked again with each event once.
 -spec ask(seqaudit_bundle:streams()) -> {ok, outcome()} | {error, term()}.
@@ -111,7 +113,7 @@ ask_in_doubt(Hows, PutBack, Streams) ->
 
 ask_founded(Streams, AsItIs) ->
     Founded = seqaudit_exchange:founded(Streams),
-    case ask_as_it_is(Founded) of
+    case ask_if_paired(Founded, Streams) of
         {ok, #{said := Said} = Outcome} when Said =:= fits; Said =:= completed ->
             case with_own(Outcome, Streams, Founded) of
                 {ok, Own} -> or_else(AsItIs, ask_with_fewer_invented(Streams, Founded, Outcome, Own));
@@ -138,7 +140,7 @@ ask_with_fewer_invented(Streams, Asked, #{streams := Completed}, Best) ->
     end.
 
 ask_if_better(Streams, Exchanged, Best) ->
-    case ask_as_it_is(Exchanged) of
+    case ask_if_paired(Exchanged, Streams) of
         {ok, #{said := Said} = Outcome} when Said =:= fits; Said =:= completed ->
             case with_own(Outcome, Streams, Exchanged) of
                 {ok, Own} ->
@@ -162,12 +164,19 @@ ask_exchanged([How | Others], Streams, AsTheyAre) ->
     case exchange(How, Streams) of
         unknown -> ask_exchanged(Others, Streams, AsTheyAre);
         {ok, Exchanged} ->
-            case ask_as_it_is(Exchanged) of
+            case ask_if_paired(Exchanged, Streams) of
                 {ok, #{said := fits} = Outcome} ->
                     {ok, Outcome#{streams := Streams, exchanged := How, asked => Exchanged}};
                 {ok, _} -> ask_exchanged(Others, Streams, AsTheyAre);
                 {error, Reason} -> {error, Reason}
             end
+    end.
+
+%% What is said of streams with other counts, if each receive is still that of its own message.
+ask_if_paired(Exchanged, Streams) ->
+    case seqaudit_exchange:pairs_others(Streams, Exchanged) of
+        true -> {ok, #{said => pairs_others}};
+        false -> ask_as_it_is(Exchanged)
     end.
 
 %% The outcome of exchanged streams with the node's own counts, in what nobody reported too.
@@ -212,12 +221,16 @@ ask(Streams, Text, File) ->
 fault(Answer, Outcome) ->
     Outcome#{said => fault, fault => line(Answer), answer => Answer}.
 
-%% @doc What `seqtool lint' says of a file that `seqaudit' doesn't take, line by line; nothing if it isn't there to be asked.
+%% @doc The first lines of what `seqtool lint' says of a file that `seqaudit' doesn't take; none if it isn't there to be
+%% asked.
 -spec mistakes(file:filename()) -> [binary()].
 mistakes(File) ->
     case seqaudit_program:ask_if_known("seqtool", ["lint"], File) of
-        {ok, {?REFUSED, Said}} -> binary:split(string:trim(Said, trailing), <<"\n">>, [global]);
-        _ -> []
+        {ok, {?REFUSED, Said}} ->
+            Lines = binary:split(string:trim(Said, trailing), <<"\n">>, [global]),
+            lists:sublist(Lines, ?MISTAKE_LINES) ++ [<<"..">> || length(Lines) > ?MISTAKE_LINES];
+        _ ->
+            []
     end.
 
 line(Answer) ->
@@ -291,9 +304,9 @@ completed(AddedText, AllText, Ranks, #{streams := Streams} = Outcome) ->
                  {?FITS, Shown} -> Shown;
                  _ -> AddedText
              end,
-    Listed = [Pid || {Pid, _} <- Streams],
+    Listed = maps:from_list(Streams),
     {ok, Outcome#{said => completed, streams := Completed, answer := Answer,
-                  unlisted := [Pid || {Pid, _} <- Completed, not lists:member(Pid, Listed)]}}.
+                  unlisted := [Pid || {Pid, _} <- Completed, not is_map_key(Pid, Listed)]}}.
 
 added(Text) ->
     [begin

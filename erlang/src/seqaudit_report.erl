@@ -43,7 +43,8 @@ missing(Streams, Legend) ->
       waiting => [#{event => name(Id, Legend), to => seqaudit_legend:process(To, Legend)}
                   || #{id := Id, event := #{to := To}} <- Waiting],
       silent_stamps => counts(Silent, Legend), jumps => counts(Jumps, Legend),
-      counter_before => counts(Behind, Legend)}.
+      counter_before => counts(Behind, Legend),
+      put_back => [utf8(seqaudit_why:name(Id, Legend)) || #{id := Id} <- seqaudit_exchange:put_back(Rows)]}.
 
 is_added({_, {_, _}}) -> true;
 is_added(_) -> false.

@@ -21,7 +21,8 @@ times(#{"" := [Name]} = Options) ->
         case {maps:size(maps:get(events, Times)), labels(Options, Legend)} of
             {0, _} ->
                 {?UNFIT, ["no event of ", Name, " has a time; trace with the flag for timestamps "
-                          "(collect --trigger .. --times)"]};
+                          "(collect --trigger .. --times; or with_trace(Label, [send, 'receive', print, timestamp], "
+                          "Fun))"]};
             {_, {error, Reason}} ->
                 {?UNFIT, seqaudit_legend:format_error(Reason)};
             {_, []} ->
@@ -119,14 +120,15 @@ since(#{after_cause := unknown}) -> "?";
 since(#{after_cause := Time}) -> seqaudit_times:span(Time).
 
 does(#{row := #{id := Id, event := Event} = Row, is := Is}, Legend) ->
-    [case Row of
-         #{cause := {How, _}} when Is =/= first, How =:= perhaps orelse How =:= unreported orelse How =:= alike ->
-             "perhaps ";
-         #{} -> ""
-     end,
+    [["perhaps " || Is =/= first, seqaudit_causes:is_perhaps(maps:get(cause, Row))],
      case Is of under_way -> "under way to "; waited -> "until "; first -> "from " end,
-     seqaudit_why:name(Id, Legend), ": ",
+     seqaudit_why:name(Id, Legend), unreported(Id, Legend), ": ",
      seqaudit_terms:short(unicode:characters_to_list(sentence(Row, Event, Legend)), ?CHARACTERS)].
+
+%% An event that was added, or a send that only its receive tells of.
+unreported({sent_to, _}, Legend) -> [", which ", seqaudit_legend:absent(Legend)];
+unreported({_, {_, _}}, Legend) -> [", which ", seqaudit_legend:absent(Legend)];
+unreported(_, _Legend) -> "".
 
 sentence(#{invented := true}, _Event, _Legend) -> "an unknown message";
 sentence(_Row, #{kind := Kind, from := From, to := To, value := Value}, Legend) ->

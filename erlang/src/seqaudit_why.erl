@@ -14,7 +14,7 @@ chain(Place, Rows, Legend, Times) ->
     [line({"", ""}, Row, Legend, Times),
      [line(because(Cause, Legend), One, Legend, Times)
       || {#{cause := Cause}, One} <- lists:zip(lists:droplast(Chain), Before)],
-     ending(lists:last(Chain), Legend),
+     ending(lists:last(Chain), Rows, Legend),
      premises(Chain, Legend)].
 
 line({Begin, Behind}, #{id := Id} = Row, Legend, Times) ->
@@ -44,25 +44,34 @@ is_of_counts(_) -> true.
 
 is_perhaps(#{cause := Cause}) -> seqaudit_causes:is_perhaps(Cause).
 
-ending(#{cause := {_, _}}, _Legend) ->
+ending(#{cause := {_, _}}, _Rows, _Legend) ->
     "There the chain runs into itself: these events don't fit.\n";
-ending(#{cause := unseen}, Legend) ->
+ending(#{cause := unseen}, _Rows, Legend) ->
     ["That send ", seqaudit_legend:absent(Legend), ", so its cause isn't known.\n"];
-ending(#{cause := Cause, event := #{from := From}}, Legend) ->
-    [seqaudit_legend:process(From, Legend), $\s, began(Cause, Legend), ".\n"].
+ending(#{cause := Cause, event := #{from := From} = Event}, Rows, Legend) ->
+    [seqaudit_legend:process(From, Legend), $\s,
+     began(Cause, [[", or with one before it that ", seqaudit_legend:absent(Legend)]
+                   || not is_first(Event, Rows)], Legend), ".\n"].
 
-%% What the process did at the last event of a chain.
-began(start, _Legend) -> "began this chain with this event";
-began(open, Legend) -> [began(start, Legend), or_follows(Legend)];
-began({relabelled, Label, none}, Legend) -> [began_label(Label, Legend), " token that it had"];
-began({relabelled, Label, open}, Legend) ->
-    [began_label(Label, Legend), " token that was put back", or_follows(Legend)];
-began({relabelled, Label, {Id, Other}}, Legend) ->
-    [began({relabelled, Label, none}, Legend), "; it had last received ", name(Id, Legend), " of label ",
+%% Whether none of the same chain can be missing before this event: it would have the same prev, and a count between that
+%% and this one's. The count right before is nobody else's if an event of the process has it.
+is_first(#{prev := Prev, this := This}, _Rows) when This =:= Prev + 1 ->
+    true;
+is_first(#{from := From, this := This}, Rows) ->
+    lists:any(fun(#{actor := Actor, event := #{this := Count}}) -> Actor =:= From andalso Count =:= This - 1 end, Rows).
+
+%% What the process did at the last event of a chain, or at one before it that may be missing.
+began(start, Missing, _Legend) -> ["began this chain with this event", Missing];
+began(open, Missing, Legend) -> [began(start, Missing, Legend), or_follows(Legend)];
+began({relabelled, Label, none}, Missing, Legend) -> [began_label(Label, Missing, Legend), " token that it had"];
+began({relabelled, Label, open}, Missing, Legend) ->
+    [began_label(Label, Missing, Legend), " token that was put back", or_follows(Legend)];
+began({relabelled, Label, {Id, Other}}, Missing, Legend) ->
+    [began({relabelled, Label, none}, Missing, Legend), "; it had last received ", name(Id, Legend), " of label ",
      seqaudit_legend:label(Other, Legend)].
 
-began_label(Label, Legend) ->
-    ["began label ", seqaudit_legend:label(Label, Legend), " with this event, or set it on a"].
+began_label(Label, Missing, Legend) ->
+    ["began label ", seqaudit_legend:label(Label, Legend), " with this event", Missing, ", or set it on a"].
 
 or_follows(Legend) -> [", or this event follows a message whose receive ", seqaudit_legend:absent(Legend)].
 
@@ -72,7 +81,7 @@ or_follows(Legend) -> [", or this event follows a message whose receive ", seqau
 effects(Place, Rows, Legend, Times) ->
     case seqaudit_causes:effects(Place, Rows) of
         [] ->
-            [name(Place, Legend), " caused nothing that ", seqaudit_legend:present(Legend), ".\n"];
+            ["No event here is known to follow ", name(Place, Legend), ".\n"];
         Effects ->
             [io_lib:format("~ts caused~ts ~ts, here in an order in which they may have happened:~n",
                            [name(Place, Legend), [", or perhaps caused," || lists:any(fun is_perhaps/1, Effects)],

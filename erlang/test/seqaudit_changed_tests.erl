@@ -3,7 +3,7 @@
 -module(seqaudit_changed_tests).
 
 -export([copies_test_/0, value_test_/0, order_test_/0, reset_first_test_/0, silent_test_/0, no_terms_test_/0,
-         wrong_name_test_/0, no_bundle_test_/0, no_events_test_/0]).
+         wrong_name_test_/0, no_bundle_test_/0, no_events_test_/0, prev_test_/0, times_test_/0, counts_test_/0]).
 
 %% One line twice: it isn't said that a counter went back, and no reset is offered.
 copies_test_() ->
@@ -207,6 +207,55 @@ no_events_test_() ->
         has_not(Left, ["no events came"]),
         has(Said(["audit"], "no_events"),
             ["nothing to audit: the trace has no events\nThe trace isn't whole:\n", "left out 6 bytes", "(status 1)"])
+    end).
+
+%% A prev that was changed to what the process received before looks like that of a token that was put back. But a message
+%% keeps its serial, so its send and its receive don't fit; of a print nobody else knows the serial.
+prev_test_() ->
+    with_tool(fun(Said) ->
+        [begin
+             ok = write("prev", text([case Line of One -> binary:replace(Line, Serial, Changed); _ -> Line end
+                                      || Line <- lines()])),
+             has(Said(["audit"], "prev"), ["doesn't fit: no run without a reset reports this trace, because of ", Receive,
+                                           " (mismatch)\n", "or the file was changed: before ", "(status 1)"])
+         end || {One, Serial, Changed, Receive} <- [{line(16), <<"{3,5}">>, <<"{2,5}">>, "client#1"},
+                                                    {line(7), <<"{2,3}">>, <<"{1,3}">>, "shop#2"}]],
+        ok = write("prev", changed(<<"{4,5}">>, <<"{3,5}">>)),
+        has(Said(["audit"], "prev"), ["or its serial was set by hand, or the file was changed: before post#1", "(status 0)"]),
+        has(Said(["audit", "--json"], "prev"), ["\"put_back\":[\"post#1\"]"])
+    end).
+
+%% Times of events that the trace hasn't, or of a message with other ends, are those of another trace.
+times_test_() ->
+    with_tool(fun(Said) ->
+        ok = write("times", order()),
+        Times = fun(Lines) -> ok = file:write_file(name("times") ++ ".times", ["seqaudit times 1\nbegin 1\n" | Lines]) end,
+        Another = ["changed_times.times is of another trace than "],
+        Times("event <0.81.0> 0 0\nevent <0.85.0> 0 7\nmessage <0.81.0> 0 <0.85.0> 0 7\n"),
+        Chart = Said(["chart", "--label", "{order,7}"], "times"),
+        has_not(Chart, Another),
+        has(Chart, ["under way for "]),
+        [begin
+             Times(Lines),
+             Other = Said(["chart", "--label", "{order,7}"], "times"),
+             has(Other, Another),
+             has_not(Other, ["under way for "])
+         end || Lines <- ["event <0.81.0> 2 0\n",
+                          "event <0.81.0> 0 0\nevent <0.85.0> 2 7\nmessage <0.81.0> 0 <0.85.0> 2 7\n"]],
+        ok = file:delete(name("times") ++ ".times")
+    end).
+
+%% What nobody reported explains a counter, if it is known; a send that was invented shows no counts that were passed.
+counts_test_() ->
+    with_tool(fun(Said) ->
+        ok = write("counts", changed(<<"{'receive',{3,5},<0.85.0>,<0.81.0>">>, <<"{'receive',{4,6},<0.85.0>,<0.81.0>">>)),
+        Invented = Said(["audit"], "counts"),
+        has(Invented, ["client sends an unknown message to shop", "(status 0)"]),
+        has_not(Invented, ["Counts that no event here has", "Counters go on"]),
+        ok = write("counts", without(["{send,{1,2},<0.85.0>"])),
+        Known = Said(["audit"], "counts"),
+        has(Known, ["with 1 send that nobody reported", "(status 0)"]),
+        has_not(Known, ["Counters go on"])
     end).
 
 %% Helpers

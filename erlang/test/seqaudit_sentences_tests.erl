@@ -112,7 +112,8 @@ token_put_back_test_() ->
     end, fun(Command) ->
         Audit = Command(["audit"]),
         has(Audit, ["fits: 9 events of 2 processes; nothing is known to be missing\n",
-                    "A token was put back here (seq_trace:set_token/1), or its serial was set by hand: before "
+                    "A token was put back here (seq_trace:set_token/1), or its serial was set by hand, or the file was "
+                    "changed: before "
                     "worker#1, which is after worker#0. ",
                     "audited were the prevs that the machine would have given these events"]),
         has_none(Audit, ["nobody reported", "unknown message"]),
@@ -326,7 +327,8 @@ kept_tokens_test_() ->
     end, fun(Command) ->
         Audit = Command(["audit"]),
         has(Audit, [" of 5 processes; nothing is known to be missing\n",
-                    "A token was put back here (seq_trace:set_token/1), or its serial was set by hand: before "
+                    "A token was put back here (seq_trace:set_token/1), or its serial was set by hand, or the file was "
+                    "changed: before "
                     "keeper#3, which is after keeper#0",
                     "audited were the counts that the machine would have given all events", "(status 0)"]),
         has(Command(["why", "--event", "client2#20"]),
