@@ -3,7 +3,8 @@
 -module(seqaudit_changed_tests).
 
 -export([copies_test_/0, value_test_/0, order_test_/0, reset_first_test_/0, silent_test_/0, no_terms_test_/0,
-         wrong_name_test_/0, no_bundle_test_/0, no_events_test_/0, prev_test_/0, times_test_/0, counts_test_/0]).
+         wrong_name_test_/0, no_bundle_test_/0, no_events_test_/0, prev_test_/0, times_test_/0, counts_test_/0,
+         each_label_test_/0, odd_words_test_/0, unlisted_test_/0]).
 
 %% One line twice: it isn't said that a counter went back, and no reset is offered.
 copies_test_() ->
@@ -256,6 +257,41 @@ counts_test_() ->
         Known = Said(["audit"], "counts"),
         has(Known, ["with 1 send that nobody reported", "(status 0)"]),
         has_not(Known, ["Counters go on"])
+    end).
+
+%% Label by label a text is refused as it is as a whole, and no label isn't one that fits.
+each_label_test_() ->
+    with_tool(fun(Said) ->
+        ok = write("each", text(lists:sublist(lines(), 9))),
+        has(Said(["audit", "--each-label"], "each"),
+            ["isn't the text of a trace", "<0.85.0> has none\n", "(status 2)"]),
+        ok = write("each", "seqtrace 1\n"),
+        has(Said(["audit", "--each-label"], "each"), ["0 labels", "(status 1)"])
+    end).
+
+%% A number of seconds that no number of nanoseconds is.
+odd_words_test_() ->
+    with_tool(fun(Said) ->
+        ok = write("odd", order()),
+        ok = file:write_file(name("odd") ++ ".times", "seqaudit times 1\nbegin 1000\nevent <0.81.0> 0 0\n"),
+        has(Said(["audit", "--from", "1.5e300"], "odd"), ["1.5e300 isn't a time", "(status 1)"])
+    end).
+
+%% A part behind a reset needs a process that the trace doesn't list, and the page has it.
+unlisted_test_() ->
+    with_tool(fun(Said) ->
+        Event = fun(Format, Values) -> io_lib:format("{seq_trace,17,{" ++ Format ++ "}}\n", Values) end,
+        [A, B] = ["<0.30.0>", "<0.31.0>"],
+        ok = write("unlisted",
+                   ["seqtrace 1\nprocess ", A, $\n, Event("print,{0,9},~ts,[],1", [A]), Event("send,{0,1},~ts,~ts,5", [A, B]),
+                    Event("print,{0,2},~ts,[],6", [A]), Event("'receive',{1,2},~ts,~ts,7", [B, A]),
+                    "process ", B, $\n, Event("print,{0,9},~ts,[],1", [B]), Event("print,{1,3},~ts,[],8", [B]),
+                    Event("print,{2,4},~ts,[],9", [B])]),
+        ok = file:delete(name("unlisted") ++ ".terms"),
+        Page = name("unlisted") ++ ".html",
+        has(Said(["chart", "--html", Page], "unlisted"), ["A reset would explain it"]),
+        {ok, Html} = file:read_file(Page),
+        has(Html, ["0.65535.0"])
     end).
 
 %% Helpers
