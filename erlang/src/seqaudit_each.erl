@@ -21,16 +21,21 @@ audit(#{"" := [_]} = Options) when is_map_key("--whole", Options); is_map_key("-
 audit(#{"" := [Name]} = Options) ->
     Wish = seqaudit_answer:wish(Options, [labels, processes, from, to]),
     seqaudit_answer:with_trace(Name, Wish, fun(#{streams := Streams, cut := Cut} = Trace) ->
-        case seqaudit_outcome:mistakes(Name ++ ".seqtrace") of
-            [] ->
+        Mistakes = seqaudit_outcome:mistakes(Name ++ ".seqtrace"),
+        case Mistakes =:= [] orelse is_of_size(hd(Mistakes)) of
+            true ->
                 is_map_key("--json", Options) orelse io:put_chars(Cut),
                 audit(by_label(Streams), Trace, Options);
-            Mistakes ->
+            false ->
                 {?INPUT, [seqaudit_errors:no_trace(Name ++ ".seqtrace", "") | [["\n  ", Line] || Line <- Mistakes]]}
         end
     end);
 audit(_) ->
     {usage, "audit needs the NAME of one trace"}.
+
+%% A text that is only too large may have labels that aren't.
+is_of_size(Mistake) ->
+    re:run(Mistake, ": expected no [a-z]+ more than ", [{capture, none}]) =:= match.
 
 audit(Labels, Trace, Options) ->
     Makes = [fun() -> {Label, Own, seqaudit_outcome:ask(Own)} end || {Label, Own} <- Labels],

@@ -226,6 +226,9 @@ fault(Answer, Outcome) ->
 -spec mistakes(file:filename()) -> [binary()].
 mistakes(File) ->
     case seqaudit_program:ask_if_known("seqtool", ["lint"], File) of
+        %% Of a text with too many bytes it says so on standard error alone.
+        {ok, {?REFUSED, <<"fault\n">>}} ->
+            [];
         {ok, {?REFUSED, Said}} ->
             Lines = binary:split(string:trim(Said, trailing), <<"\n">>, [global]),
             lists:sublist(Lines, ?MISTAKE_LINES) ++ [<<"..">> || length(Lines) > ?MISTAKE_LINES];

@@ -266,7 +266,12 @@ each_label_test_() ->
         has(Said(["audit", "--each-label"], "each"),
             ["isn't the text of a trace", "<0.85.0> has none\n", "(status 2)"]),
         ok = write("each", "seqtrace 1\n"),
-        has(Said(["audit", "--each-label"], "each"), ["0 labels", "(status 1)"])
+        has(Said(["audit", "--each-label"], "each"), ["0 labels", "(status 1)"]),
+        %% More processes than the programs take.
+        ok = write("each", ["seqtrace 2\nprocess <0.0.0>\n{seq_trace,17,{print,{0,1},<0.0.0>,[],1}}\n",
+                            [io_lib:format("process <~b.~b.0>\n", [N div 65536, N rem 65536]) || N <- lists:seq(1, 1_000_001)]]),
+        has(Said(["audit", "--each-label"], "each"), ["1 label: 1 fit", "(status 0)"]),
+        ok = file:delete(name("each") ++ ".seqtrace")
     end).
 
 %% A number of seconds that no number of nanoseconds is.
