@@ -157,11 +157,23 @@ named(Outcomes, #{legend := Legend} = Trace) ->
     Trace#{legend := seqaudit_legend:unlisted(Unlisted, Legend)}.
 
 %% The outcome, which knows what the trace is called, whether the trace was cut and whether anything was lost.
-ask(Streams, #{name := Name, cut := Note, losses := Losses}) ->
+ask(Streams, #{name := Name, cut := Note, losses := Losses, times := Times}) ->
     case seqaudit_outcome:ask(Streams) of
-        {ok, Outcome} -> {ok, with_mistakes(Outcome#{name => Name, cut => Note =/= "", lost => Losses =/= []})};
-        {error, Reason} -> {error, Reason}
+        {ok, Outcome} ->
+            Told = told_apart(Outcome, Times),
+            {ok, with_mistakes(Told#{name => Name, cut => Note =/= "", lost => Losses =/= []})};
+        {error, Reason} ->
+            {error, Reason}
     end.
+
+%% Events to which the node gave different times are no copies.
+told_apart(#{twice := Copies} = Outcome, Times) ->
+    case [Copy || {Copy, Of} <- Copies, #{Copy := Time, Of := Other} <- [Times], Time =/= Other] of
+        [] -> Outcome;
+        [_ | _] -> maps:remove(twice, Outcome)
+    end;
+told_apart(Outcome, _Times) ->
+    Outcome.
 
 %% What a cut leaves isn't in the file.
 with_mistakes(#{said := fault, cut := false, name := Name} = Outcome) ->

@@ -2,7 +2,7 @@
 %% there. The trace is examples/order, of which some lines are gone, twice, changed or in another order.
 -module(seqaudit_changed_tests).
 
--export([copies_test_/0, value_test_/0, order_test_/0, reset_first_test_/0, silent_test_/0, no_terms_test_/0,
+-export([copies_test_/0, copies_at_times_test_/0, value_test_/0, order_test_/0, reset_first_test_/0, silent_test_/0, no_terms_test_/0,
          wrong_name_test_/0, no_bundle_test_/0, no_events_test_/0, prev_test_/0, times_test_/0, counts_test_/0,
          each_label_test_/0, odd_words_test_/0, unlisted_test_/0]).
 
@@ -39,6 +39,22 @@ copies_test_() ->
                                              <<"{'receive',{2,3},<0.83.0>,<0.85.0>,5}">>), line(13))),
         has(Said(["audit"], "copies"),
             ["doesn't fit: no run without a reset reports this trace, because of shop#2 (notrising)"])
+    end).
+
+%% Two events that only their times tell apart are no copies, as if a token was put back between them.
+copies_at_times_test_() ->
+    with_tool(fun(Said) ->
+        ok = write("apart", doubled(line(13))),
+        Audit = fun(Second) ->
+            ok = file:write_file(name("apart") ++ ".times", ["seqaudit times 1\nbegin 1\nevent <0.85.0> 1 5\n", Second]),
+            Said(["audit"], "apart")
+        end,
+        Copies = "doesn't fit: the same event is in the trace twice",
+        has(Audit("event <0.85.0> 2 5\n"), [Copies]),
+        has(Audit(""), [Copies]),
+        Apart = Audit("event <0.85.0> 2 9\n"),
+        has(Apart, ["doesn't fit: no run without a reset reports this trace", "shop#2: shop sends call"]),
+        has_not(Apart, [Copies, "nothing tells the two events apart"])
     end).
 
 %% A changed message: the file may be what is wrong, and as no counter went back in it that comes first.
