@@ -5,10 +5,10 @@ from collections import namedtuple
 
 from slow_seqaudit import pair, show
 
-PREMISES = ("in a run without a reset; (1) if each receive of a token was reported; (2) if no process cleared its token "
-            "and began again under the same label; on a standard node (2) wherever (1)")
+PREMISES = ("in a run without a reset; (1) if each receive of a token was reported; (2) if no process cleared or lost its "
+            "token and began again under the same label; on a standard node (2) wherever (1)")
 PREMISES_OBJECT = {"premise_1": "each receive of a token was reported",
-                   "premise_2": "no process cleared its token and began again under the same label",
+                   "premise_2": "no process cleared or lost its token and began again under the same label",
                    "standard_node": "2 wherever 1"}
 BEGINS = "begins here"
 BEGINS_OR_UNREPORTED = "begins here, or follows a message whose receive wasn't reported"

@@ -54,7 +54,7 @@ pub(crate) const WHY_EXAMPLE: &str = "Example:
   <0.32.0> 1, line 12  send     {3,4} 4 after <0.32.0> 0, line 11 (1, 2)
   <0.32.0> 0, line 11  receive  {2,3} 3 its send wasn't reported
   in a run without a reset; (1) if each receive of a token was reported; (2) if
-  no process cleared its token and began again under the same label; ..
+  no process cleared or lost its token and began again under the same label; ..
 The numbers behind a line are the premises that it rests on. `here` is the event
 or an earlier one of the same prev directly before it.
 Status 1: there is no such event, or the trace can't be paired.";

@@ -64,8 +64,8 @@ module _ (pids : List Pid) (acts : List Act) (os : List Outcome) (p : Pid) where
   Claims i e n hop.BeginsOrUnreported =
       IsBeginning (origin pids acts os p n) ⊎ FollowsUnreported os (origin pids acts os p n)
 
-  -- The premises. (1): p reports each receive of a token. (2): p never clears its token and begins
-  -- again under the label of an event that it reported before.
+  -- The premises. (1): p reports each receive of a token. (2): p never clears or loses its token and
+  -- begins again under the label of an event that it reported before.
   abbrev pub Hold : Premises → Type 0
   Hold premises.Neither = Unit {0}
   Hold premises.First = ReportsReceives pids acts os p

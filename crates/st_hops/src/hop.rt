@@ -34,8 +34,8 @@ pub enum Premises {
     Neither,
     /// That its process reported each receive of a token.
     First,
-    /// That, and that its process never cleared its token and began again under the label of an
-    /// earlier event.
+    /// That, and that its process never began again under the label of an earlier event, once its
+    /// token was cleared or a message without one had taken it away.
     Both,
 }
 

@@ -61,8 +61,9 @@ last_receive es (suc i) = elim (slice_get es i) [
   | Some e ↦ if is_receive e then Some i else last_receive es i
 ]
 
--- p never clears its token and begins again under the label of an event that it reported before:
--- if a stamp's origin is a beginning, no event of p before that beginning has the stamp's label
+-- p never begins again under the label of an event that it reported before, once its token was
+-- cleared, or a message without one took it away: if a stamp's origin is a beginning, no event of p
+-- before that beginning has the stamp's label
 abbrev pub NeverBeginsAgain : List Pid → List Act → List Outcome → Pid → Type 0
 NeverBeginsAgain pids acts os p = (i j m n : ℕ) (d e : Event) → ReportsEvent acts os p i e n
     → origin pids acts os p n ≡ Some (Begins m) → slice_get (stream acts os p) j ≡ Some d

@@ -37,14 +37,14 @@ impl TextLine for LastLine {
             Style::Text => put_bytes(
                 buffer,
                 b"in a run without a reset; (1) if each receive of a token was reported; \
-                    (2) if no process cleared its token and began again under the same label; \
-                    on a standard node (2) wherever (1)",
+                    (2) if no process cleared or lost its token and began again under the same \
+                    label; on a standard node (2) wherever (1)",
             ),
             Style::Json => put_bytes(
                 buffer,
                 b"{\"premise_1\":\"each receive of a token was reported\",\
-                    \"premise_2\":\"no process cleared its token and began again under the same \
-                    label\",\"standard_node\":\"2 wherever 1\"}",
+                    \"premise_2\":\"no process cleared or lost its token and began again under \
+                    the same label\",\"standard_node\":\"2 wherever 1\"}",
             ),
         }
     }
