@@ -88,7 +88,7 @@ def telemetry(program, folder):
     sys.path.insert(0, str(folder))
     from opentelemetry.proto_json.trace.v1.trace import TracesData
     for trace in pairable():
-        got = spans.export(program, trace, spans.text_of(spans.times_of(trace, 1)))
+        got = spans.export(program, trace, spans.text_of(spans.times_of(trace, 1), trace.source))
         yield judged(f"OpenTelemetry reads the spans of {trace.name}", judge_read, TracesData, got.output)
 
 

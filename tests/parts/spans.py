@@ -10,6 +10,7 @@ import tempfile
 from pathlib import Path
 
 import drawn
+import slow_why
 from drawn import judged, model
 from hostile_use.program import Answer, Check, expect
 
@@ -93,18 +94,13 @@ def times_of(trace, share):
     return found
 
 
-def text_of(times):
+def text_of(times, sources):
+    """A file of these times, with the messages whose ends have some."""
     lines = ["seqaudit times 1", f"begin {BEGIN}"]
     lines += [f"event {model.show(pid)} {index} {time}" for (pid, index), time in times.items()]
+    lines += [f"message {model.show(sent[0])} {sent[1]} {model.show(got[0])} {got[1]} {times[got] - times[sent]}"
+              for got, sent in sources.items() if sent in times and got in times]
     return "".join(f"{line}\n" for line in lines)
-
-
-def last_received(trace, place):
-    """The last receive before a send or print whose count is its prev; none if there is none."""
-    pid, index = place
-    prev = trace.event(place).prev
-    return max(((pid, i) for i, it in enumerate(trace.streams[pid][:index]) if it.kind == "receive" and it.this == prev),
-               default=None)
 
 
 def wanted_spans(trace, times):
@@ -153,7 +149,8 @@ def judge_spans(trace, times, output):
 
 
 def judge_parent(trace, place, it, span, told, id_of):
-    receive = None if it["is_hidden"] else last_received(trace, place)
+    # What a send or print follows is what `seqtool why` names.
+    receive = None if it["is_hidden"] else slow_why.hop_of_stamp(trace.streams, *place).place
     parent = receive and (trace.source[receive] or receive)
     if parent not in told:
         assert "parentSpanId" not in span and "links" not in span
@@ -173,13 +170,30 @@ def export(program, trace, times, **how):
         return Answer(got.status, got.output, complaint)
 
 
-# What is wrong with a file of times, with what is said of it.
+def no_line(number):
+    return f"error: TIMES, line {number}: not a line of NAME.times as seqaudit-node writes it\n".encode()
+
+
+def no_event(number):
+    return f"error: TIMES, line {number}: the trace has no such event or message\n".encode()
+
+
+BEGUN = "seqaudit times 1\nbegin 5\n"
+# What is wrong with a file of times of examples/request.txt, with what is said of it.
 FAULTS = (
-    ("", b"error: TIMES, line 1: not a line of NAME.times as seqaudit-node writes it\n"),
-    ("seqtrace 1\n", b"error: TIMES, line 1: not a line of NAME.times as seqaudit-node writes it\n"),
-    ("seqaudit times 1\nbegin 5\nevent <0.30.0> x 1\n",
-     b"error: TIMES, line 3: not a line of NAME.times as seqaudit-node writes it\n"),
-    ("seqaudit times 1\nbegin 5\nevent <0.30.0> 9 1\n", b"error: TIMES, line 3: the trace has no such event\n"),
+    ("", no_line(1)),
+    ("seqtrace 1\n", no_line(1)),
+    ("seqaudit times 1\n", no_line(2)),
+    ("seqaudit times 1\nevent <0.30.0> 0 1\n", no_line(2)),
+    (f"{BEGUN}begin 6\n", no_line(3)),
+    (f"{BEGUN}event <0.30.0> x 1\n", no_line(3)),
+    (f"{BEGUN}event <0.30.0> 0 1\nevent <0.30.0> 0 2\n", no_line(4)),
+    # The end may be cut off within the number.
+    (f"{BEGUN}event <0.30.0> 0 1", no_line(3)),
+    (f"{BEGUN}event <0.30.0> 9 1\n", no_event(3)),
+    (f"{BEGUN}message <0.30.0> 0 <0.31.0>\n", no_line(3)),
+    # Events, but not the two ends of one message.
+    (f"{BEGUN}message <0.30.0> 0 <0.30.0> 1 1\n", no_event(3)),
     ("seqaudit times 1\nbegin -576460751\nevent <0.30.0> 0 0\n",
      b"error: TIMES: collected without the clock of the node, which spans need\n"),
     ("seqaudit times 1\nbegin 5\n", b"error: TIMES: no event has a time\n"),
@@ -192,7 +206,7 @@ def spans(program):
             if not trace.text or trace.source is None or not trace.order:
                 continue
             times = times_of(trace, share)
-            got = export(program, trace, text_of(times))
+            got = export(program, trace, text_of(times, trace.source))
             name = f"export --as otlp of {trace.name}, {share:.0%} of its events with times"
             yield judged(name, judge_spans, trace, times, got.output)
             yield Check(f"{name}: its status", None if (got.status, got.complaint) == (0, b"") else str(got))

@@ -2,12 +2,15 @@
 //! of its node.
 
 use crate::numbering::Numbering;
-use st_core::{ByteSource, Pid, Streams};
+use st_core::{ByteSource, Kind, Pid, Streams};
 use st_text::{Limits, ReadFault};
 use std::alloc::{AllocError, Global};
 
 /// The first line.
 const HEADER: &str = "seqaudit times 1";
+
+/// A process, and the index of an event there.
+type Place = (Pid, u64);
 
 /// Why there are no times.
 #[derive(Clone, Copy)]
@@ -16,7 +19,7 @@ pub enum TimesFault {
     Read(ReadFault),
     /// This line, counted from 1, is no line of such a file.
     Line(u64),
-    /// This line tells of an event that the trace doesn't have.
+    /// This line tells of an event or a message that the trace doesn't have.
     Unknown(u64),
     /// The events were collected without the clock of their node.
     NoClock,
@@ -40,17 +43,22 @@ pub(crate) struct Measurements<'a> {
     times: Vec<Option<u64>>,
 }
 
-/// What a line says.
+/// What the second line says.
 #[derive(Clone, Copy)]
-enum Entry {
-    /// When the first event happened.
-    Begin(u64),
+enum Begin {
+    /// When the first event happened, in nanoseconds since 1970.
+    At(u64),
     /// The first event has no time by the clock of its node.
     NoClock,
+}
+
+/// What a line below it says.
+#[derive(Clone, Copy)]
+enum Entry {
     /// How much later the event at this place happened.
     Event(Pid, u64, u64),
-    /// How long a message took, which the times of its ends tell too.
-    Message,
+    /// The ends of a message. How long it took follows, which their times tell too.
+    Message(Place, Place),
 }
 
 /// All bytes of a source.
@@ -85,32 +93,42 @@ fn pid_of(word: &str) -> Option<Pid> {
 }
 
 /// What the words behind `begin` say.
-fn begin_of(words: &str) -> Option<Entry> {
+fn begin_of(words: &str) -> Option<Begin> {
     if let Some(below) = words.strip_prefix("-") {
         let _ = below.parse::<u64>().ok()?;
-        return Some(Entry::NoClock);
+        return Some(Begin::NoClock);
     }
-    Some(Entry::Begin(words.parse::<u64>().ok()?))
+    Some(Begin::At(words.parse::<u64>().ok()?))
+}
+
+/// The place that the first two words spell, and what is behind them.
+fn place_of(words: &str) -> Option<(Place, &str)> {
+    let (pid, rest) = words.split_once(" ")?;
+    let (index, rest) = rest.split_once(" ")?;
+    Some(((pid_of(pid)?, index.parse::<u64>().ok()?), rest))
 }
 
 /// What the words behind `event` say.
 fn event_of(words: &str) -> Option<Entry> {
-    let (pid, rest) = words.split_once(" ")?;
-    let (index, time) = rest.split_once(" ")?;
-    Some(Entry::Event(
-        pid_of(pid)?,
-        index.parse::<u64>().ok()?,
-        time.parse::<u64>().ok()?,
-    ))
+    let ((pid, index), time) = place_of(words)?;
+    Some(Entry::Event(pid, index, time.parse::<u64>().ok()?))
 }
 
-/// What a line says.
+/// What the words behind `message` say. By the clocks of two nodes it may seem to take less than no time.
+fn message_of(words: &str) -> Option<Entry> {
+    let (sent, rest) = place_of(words)?;
+    let (got, time) = place_of(rest)?;
+    let digits = time.strip_prefix("-").unwrap_or(time);
+    let _ = digits.parse::<u64>().ok()?;
+    Some(Entry::Message(sent, got))
+}
+
+/// What a line below the second one says.
 fn entry_of(line: &str) -> Option<Entry> {
     let (word, rest) = line.split_once(" ")?;
     match word {
-        "begin" => begin_of(rest),
         "event" => event_of(rest),
-        "message" => Some(Entry::Message),
+        "message" => message_of(rest),
         _ => None,
     }
 }
@@ -140,31 +158,56 @@ impl<'a> Measurements<'a> {
         later?.checked_add(self.begin)
     }
 
-    /// Notes how much later the event at this place happened, and says whether it is there.
-    fn note(&mut self, pid: Pid, index: u64, later: u64) -> bool {
+    /// Notes how much later the event at this place happened, which no line before this one told.
+    fn note(&mut self, line: u64, pid: Pid, index: u64, later: u64) -> Result<(), TimesFault> {
         let Some(number) = self.number(pid, index) else {
-            return false;
+            return Err(TimesFault::Unknown(line));
         };
         match self.times.get_mut(number) {
             Some(time) => {
+                if time.is_some() {
+                    return Err(TimesFault::Line(line));
+                }
                 *time = Some(later);
-                true
+                Ok(())
             }
-            None => false,
+            None => Err(TimesFault::Unknown(line)),
+        }
+    }
+
+    /// Whether the events at these places are the two ends of one message.
+    fn are_ends(&self, sent: Place, got: Place) -> bool {
+        let streams = self.numbering.streams;
+        let Some(send) = streams.event(sent.0, sent.1) else {
+            return false;
+        };
+        let mut expected = send;
+        expected.kind = Kind::Receive;
+        send.kind == Kind::Send && streams.event(got.0, got.1) == Some(expected)
+    }
+
+    /// Takes the second line.
+    fn take_begin(&mut self, line: &str) -> Result<(), TimesFault> {
+        let found = match line.strip_prefix("begin ") {
+            Some(words) => begin_of(words),
+            None => None,
+        };
+        match found {
+            Some(Begin::At(begin)) => {
+                self.begin = begin;
+                Ok(())
+            }
+            Some(Begin::NoClock) => Err(TimesFault::NoClock),
+            None => Err(TimesFault::Line(2)),
         }
     }
 
     /// Takes what a line of this number says.
     fn take(&mut self, number: u64, line: &str) -> Result<(), TimesFault> {
         match entry_of(line) {
-            Some(Entry::Begin(begin)) => {
-                self.begin = begin;
-                Ok(())
-            }
-            Some(Entry::NoClock) => Err(TimesFault::NoClock),
-            Some(Entry::Message) => Ok(()),
-            Some(Entry::Event(pid, index, later)) => {
-                if self.note(pid, index, later) {
+            Some(Entry::Event(pid, index, later)) => self.note(number, pid, index, later),
+            Some(Entry::Message(sent, got)) => {
+                if self.are_ends(sent, got) {
                     Ok(())
                 } else {
                     Err(TimesFault::Unknown(number))
@@ -174,21 +217,29 @@ impl<'a> Measurements<'a> {
         }
     }
 
-    /// Takes all lines of a text.
-    fn take_text(&mut self, text: &str) -> Result<(), TimesFault> {
+    /// Takes all lines of a text. A last line that isn't ended may have been cut off.
+    fn take_text(&mut self, text: &str, is_ended: bool) -> Result<(), TimesFault> {
         let mut number: u64 = 0;
         for line in text.lines() {
             number = number.saturating_add(1);
-            if number > 1 {
-                self.take(number, line)?;
-            } else if line != HEADER {
-                return Err(TimesFault::Line(1));
+            match number {
+                1 => {
+                    if line != HEADER {
+                        return Err(TimesFault::Line(1));
+                    }
+                }
+                2 => self.take_begin(line)?,
+                _ => self.take(number, line)?,
             }
         }
-        if number == 0 {
-            return Err(TimesFault::Line(1));
+        if number < 2 {
+            return Err(TimesFault::Line(number.saturating_add(1)));
         }
-        Ok(())
+        if is_ended {
+            Ok(())
+        } else {
+            Err(TimesFault::Line(number))
+        }
     }
 
     /// Reads the times of the events of streams.
@@ -202,8 +253,9 @@ impl<'a> Measurements<'a> {
             Err(fault) => return Err(TimesFault::Read(fault)),
         };
         let mut measurements = Measurements::new(alloc, streams)?;
+        let is_ended = matches!(bytes.as_slice().last(), Some(b'\n'));
         match str::from_utf8(bytes.as_slice()) {
-            Ok(text) => measurements.take_text(text)?,
+            Ok(text) => measurements.take_text(text, is_ended)?,
             Err(_) => return Err(TimesFault::Line(1)),
         }
         if measurements.times.iter().all(|time| time.is_none()) {

@@ -1,7 +1,7 @@
 //! Spans for OpenTelemetry, as a line of OTLP in its JSON form, which a collector's file receiver takes.
 //!
-//! A message is a span, from its send to its receive, below the span of the message that its sender had
-//! received last; a print is a span that takes no time. A label is a trace. Nothing is made up: a message
+//! A message is a span, from its send to its receive, below the span of the message that its send
+//! follows, as `seqtool why` has it; a print is a span that takes no time. A label is a trace. Nothing is made up: a message
 //! of which one end has no time takes none, and says which end was reported; what has no time has no span.
 
 ghost use Rattle.st_pair.specs.Links.{IsPairing};
@@ -9,9 +9,9 @@ ghost use Rattle.st_pair.specs.Links.{IsPairing};
 use crate::measurements::{Measurements, TimesFault};
 use sha2::{Digest, Sha256};
 use st_audit::unfit_by;
-use st_chain::{Cause, Causes};
 use st_commands::{status_of, tell_finding};
 use st_core::{ByteSink, ByteSource, Event, Label, Pid, Streams};
+use st_hops::{Hop, Origins};
 use st_list::{Partner, partner_at};
 use st_pair::{Pairing, pair};
 use st_say::TextWriter;
@@ -61,7 +61,7 @@ struct Span {
 struct Spans<'a> {
     streams: &'a Streams,
     pairing: &'a Pairing,
-    causes: &'a Causes<'a>,
+    origins: &'a Origins<'a>,
     measurements: &'a Measurements<'a>,
 }
 
@@ -207,14 +207,17 @@ impl<'a> Spans<'a> {
         Some(span)
     }
 
-    /// The span of the message that the sender of a span, or who printed it, received last.
+    /// The span of the message that the send or print of a span follows.
     fn parent(&self, span: &Span) -> Option<Span> {
         let Origin::Event(pid, index) = span.origin else {
             return None;
         };
-        match self.causes.cause(pid, index)? {
-            Cause::Event(at, place) => self.span_of_receive(at, place),
-            Cause::Hidden | Cause::Start => None,
+        let event = self.origins.event(pid, index)?;
+        match self.origins.hop(pid, index, &event) {
+            Hop::After(at) | Hop::AfterOneLabel(at) | Hop::OtherLabel(at, _) => {
+                self.span_of_receive(pid, at)
+            }
+            Hop::Sent(..) | Hop::Unsent | Hop::Begins | Hop::BeginsOrUnreported => None,
         }
     }
 
@@ -349,11 +352,11 @@ fn export_paired<W: ByteSink>(
 ) -> Result<u8, AllocError>
     requires { IsPairing streams.now pairing.now }
 {
-    let causes = Causes::new(alloc, streams, pairing)?;
+    let origins = Origins::new(alloc, streams, pairing)?;
     let spans = Spans {
         streams,
         pairing,
-        causes: &causes,
+        origins: &origins,
         measurements,
     };
     Ok(status_of(spans.send(writer), 0))

@@ -22,7 +22,7 @@ fn tell_times<H>(screen: &Screen<'_, H>, name: &str, fault: TimesFault) {
             "error: {name}, line {line}: not a line of NAME.times as seqaudit-node writes it"
         ),
         TimesFault::Unknown(line) => {
-            eprintln!(rt; "error: {name}, line {line}: the trace has no such event")
+            eprintln!(rt; "error: {name}, line {line}: the trace has no such event or message")
         }
         TimesFault::NoClock => eprintln!(rt;
             "error: {name}: collected without the clock of the node, which spans need"
