@@ -23,12 +23,13 @@ BELOW_ITS_OWN = "an event stands below the process that reports it: a receive be
 BELOW_ITS_LINE = "an event stands below the line of its process"
 RISING = "list the processes by rising pid, each once"
 PID_PARTS = "a pid is <NODE.NUMBER.0> with numbers up to 65535: number the processes anew"
-LIST = "add a process line for it, even if it reported nothing"
+LIST = "add its process line; or, if the text breaks off above that, get the whole of it"
 LIST_OR_WHOLE = "the text may break off before its process line: get the whole of it, or add that line"
 RETURN = "a carriage return: end lines with a newline alone"
 VALUES = "a value, a number up to 18446744073709551615"
 QUOTES = "the word 'receive' stands in straight single quotes"
 EMPTY = "the line is empty: leave it out"
+NUMBERS = "a number is digits alone: seqaudit-node convert gives each term one"
 LABELS = "labels are numbers: seqaudit-node convert gives each term one"
 VERSION = "this version isn't known, 1 and 2 are: see what wrote the text"
 NEWLINE = "a newline at the end"
@@ -38,7 +39,8 @@ MAY_BREAK = "the text may break off here: see whether the line is whole, and end
 SHELLS = "a pid is written <0.30.0>, without #Pid before it"
 LOG = "a log of events, and no bundle: seqaudit-node convert makes one of it"
 HEADER_1 = "the first line is seqtrace 1"
-RISES = "no run reports this event: the second count of a serial is above its first"
+RISES = ("no run of the machine reports it, since its second count isn't above its first; on a standard node a token that was "
+         "put back, or set by hand, may give such a serial")
 NO_TIME = "an event ends there: leave out a time stamp, or what else stands there"
 RECEIVE = "{seq_trace,17,{'receive',{0,1},<0.31.0>,<0.30.0>,7}}"
 TWO = "process <0.31.0>\n"
@@ -117,8 +119,14 @@ BY_HAND = (
     ("an object of JSON", '{"label":17}\n', 1, 1, HEADER, "JSON: a bundle is lines of text"),
     ("an event of another tracer", f"{HEAD}{{trace,<0.30.0>,send,7,<0.31.0>}}\n", 3, 2, BELOW_A_PROCESS,
      "an event of another tracer: only those of seq_trace have a line, so leave it out"),
+    ("a port", HEAD + "{seq_trace,17,{send,{0,1},<0.30.0>,#Port<0.5>,7}}\n", 3, 36, "<",
+     "a bundle has messages between processes alone, and this is no pid, but a port perhaps"),
+    ("a reference for a value", HEAD + PRINT.replace("7}}", "#Ref<0.1.2.3>}}") + "\n", 3, 40, VALUES, NUMBERS),
+    ("a binary, which is no pid of another node", HEAD + PRINT.replace("7}}", "<<1,2>>}}") + "\n", 3, 40, VALUES, NUMBERS),
+    ("a pid of another node in a comment", f"seqtrace 1\n% by <1.5.0>\nprocess <0.30.0>\n", 2, 1, BELOW_THE_HEADER,
+     "a bundle has no comments: leave the line out"),
     ("zeros between", "seqtrace 1\n\0p\n", 2, 1, BELOW_THE_HEADER,
-     "a byte of 0, as in a file that wasn't written to its end: leave it out"),
+     "a byte of 0, as in a file that wasn't written to its end: get the whole of it, since what stood there is lost"),
     ("a line of something else", f"{HEAD}\thello\n", 3, 1, BELOW_A_PROCESS,
      "this is nothing that a bundle has: leave the line out"),
     ("an accent", HEAD + PRINT.replace("17", "1é7") + "\n", 3, 13, ",", "a byte that isn't ASCII: leave it out"),
@@ -139,7 +147,7 @@ BY_HAND = (
      "of the three words 'receive' alone stands in quotes"),
     ("a line that breaks off at the end", HEAD + PRINT[:20], 3, 21, OF_EVENT, None),
     ("a second header", f"{HEAD}seqtrace 1\n", 3, 1, BELOW_A_PROCESS,
-     "a text is one bundle, with one header: leave this one out"),
+     "a text is one bundle: take two that were joined apart here, or leave this header out"),
     ("a process twice", "seqtrace 1\nprocess <0.30.0>\nprocess <0.30.0>\n", 3, 14, "a pid above <0.30.0>", RISING),
 )
 
@@ -198,6 +206,8 @@ SEVERAL = (
       (5, 12, "a label up to 4294967295", LABELS)), 1),
     ("carriage returns", GOOD.replace("\n", "\r\n"),
      ((1, 11, END, RETURN), (2, 17, END, RETURN), (3, 43, END, RETURN)), 3),
+    ("a carriage return in place of the header's newline", GOOD.replace("1\n", "1\r", 1),
+     ((1, 11, END, RETURN), (2, 1, BELOW_THE_HEADER, BELOW_ITS_LINE)), 1),
     ("a pid without a line is named once, and so is each other",
      HEAD + "".join(f"{{seq_trace,17,{{send,{{0,{n}}},<0.30.0>,<0.{pid}.0>,7}}}}\n" for n, pid in enumerate((98, 99, 98), 1)),
      ((3, 39, "a pid with a process line, <0.98.0> has none", LIST),
@@ -379,10 +389,10 @@ MENDED = (
      "lines with blanks 1", diagnosis(f"{HEAD}acts\nprint <0.30.0> 7".encode(), 4, 17, NEWLINE, OF_NUMBER), 2),
     ("a line that breaks off gets no newline", HEAD + PRINT[:20], HEAD + PRINT[:20], "nothing",
      diagnosis((HEAD + PRINT[:20]).encode(), 3, 21, OF_EVENT, BREAKS_OFF), 2),
-    ("a text in quotes is kept", HEAD + PRINT.replace("7}}", '"a b"}}') + " \n", HEAD + PRINT.replace("7}}", '"a b"}}') + "\n",
-     "lines with blanks 1",
-     diagnosis((HEAD + PRINT.replace("7}}", '"a b"}}') + "\n").encode(), 3, 40,
-               VALUES, "a number is digits alone: seqaudit-node convert gives each term one"), 2),
+    *((f"a term in quotes is kept: {term}", HEAD + PRINT.replace("7}}", f"{term} }}}}") + "\n",
+       HEAD + PRINT.replace("7}}", f"{term}}}}}") + "\n", "lines with blanks 1",
+       diagnosis((HEAD + PRINT.replace("7}}", f"{term}}}}}") + "\n").encode(), 3, 40, VALUES, NUMBERS), 2)
+      for term in ('"a b"', "'a  b'", r'"a\"  b"', r"'a\'  b'", '"it\'s  it"')),
     ("a comment is kept", f"% my  trace\n{HEAD}{PRINT}", f"% my  trace\n{GOOD}", "newline at the end 1",
      diagnosis(f"% my  trace\n{GOOD}".encode(), 1, 1, HEADER, "a bundle has no comments: leave the line out"), 2),
     ("counts that don't rise are left", HEAD + PRINT.replace("{0,1}", "{1, 1}"), HEAD + PRINT.replace("{0,1}", "{1,1}") + "\n",

@@ -178,12 +178,14 @@ impl<'a> Judge<'a> {
         let column = column_below(Above::Nothing, false, line.bytes);
         let is_mended = self.is_mended(line, Above::Nothing);
         let remote = self.survey.is_remote;
+        // What is behind a carriage return is mended as a line of its own.
+        let is_returned = matches!(line.bytes.get(column), Some(b'\r'));
         let (remedy, cure) = match kind {
             Kind::Comment | Kind::Other => (
                 remedy_of(line.bytes, column, Above::Nothing, expected),
                 cure_of(is_mended),
             ),
-            Kind::Header if is_mended => {
+            Kind::Header if is_mended || is_returned => {
                 (remedy_of_front(line.bytes, column, remote), Cure::ByFix)
             }
             Kind::Header => (remedy_of_version(line.behind_mark(), remote), Cure::ByHand),
@@ -373,7 +375,7 @@ impl<'a> Judge<'a> {
                 let remedy = if self.survey.is_cut {
                     LISTED_FURTHER_DOWN
                 } else {
-                    "add a process line for it, even if it reported nothing"
+                    "add its process line; or, if the text breaks off above that, get the whole of it"
                 };
                 self.add(mistake_at(line, column, Wanted::Listed(pid), remedy));
             }
@@ -439,7 +441,8 @@ fn foreign<'a>(line: &Line<'a>, place: Place, pid: &'a str, current: &'a str) ->
 
 /// The mistake of an event whose serial doesn't rise: the reader takes it, and no run reports it.
 fn unrising<'a>(line: &Line<'a>, counts: Counts) -> Mistake<'a> {
-    let remedy = "no run reports this event: the second count of a serial is above its first";
+    let remedy = "no run of the machine reports it, since its second count isn't above its first; \
+        on a standard node a token that was put back, or set by hand, may give such a serial";
     Mistake {
         is_read: true,
         ..mistake_at(line, counts.start, Wanted::Greater(counts.prev), remedy)

@@ -2,7 +2,6 @@
 
 use crate::kind::{Kind, kind_of};
 use crate::scan::Scan;
-use memchr::memchr;
 use st_column::Above;
 use std::alloc::{AllocError, Global};
 
@@ -62,15 +61,22 @@ fn receive_bytes(bytes: &[u8]) -> Option<usize> {
     }
 }
 
-/// How many bytes at the front are a text in double quotes.
+/// How many bytes at the front are a text or an atom in quotes. One that doesn't end takes all.
 fn quoted_bytes(bytes: &[u8]) -> usize {
-    match bytes.split_first() {
-        Some((b'"', tail)) => match memchr(b'"', tail) {
-            Some(end) => end.saturating_add(2).min(bytes.len()),
-            None => bytes.len(),
-        },
-        _ => 0,
+    let Some((quote, tail)) = bytes.split_first() else {
+        return 0;
+    };
+    if !matches!(quote, b'"' | b'\'') {
+        return 0;
     }
+    let mut is_escaped = false;
+    for (at, byte) in tail.iter().enumerate() {
+        if !is_escaped && *byte == *quote {
+            return at.saturating_add(2).min(bytes.len());
+        }
+        is_escaped = !is_escaped && *byte == b'\\';
+    }
+    bytes.len()
 }
 
 /// Whether a byte is part of a word, or of a number.

@@ -43,7 +43,9 @@ fn remedy_of_kind(kind: Kind, above: Above) -> Option<&'static str> {
             "an event of another tracer: only those of seq_trace have a line, so leave it out",
         ),
         (_, Above::Nothing) => None,
-        (Kind::Header, _) => Some("a text is one bundle, with one header: leave this one out"),
+        (Kind::Header, _) => Some(
+            "a text is one bundle: take two that were joined apart here, or leave this header out",
+        ),
         (Kind::Event, Above::Header) => Some("an event stands below the line of its process"),
         (Kind::Act, Above::Header | Above::Process) => Some("acts stand below a line acts"),
         (Kind::Acts, Above::Acts) => Some("the word acts stands once"),
@@ -101,6 +103,11 @@ fn is_within_number(front: &[u8], rest: &[u8]) -> bool {
         && matches!(behind, [b'0'..=b'9', ..])
 }
 
+/// Whether `#Pid` comes next, as the shells write it in front of a pid.
+fn begins_with_pid_word(rest: &[u8]) -> bool {
+    rest.starts_with(b"#Pid".as_slice()) || rest.starts_with(b"#PID".as_slice())
+}
+
 /// What to do about what is at the column, if its first byte tells that.
 fn remedy_of_byte(
     front: &[u8],
@@ -120,8 +127,18 @@ fn remedy_of_byte(
         }
         b'\t' if !matches!(kind, Kind::Event) => Some("one space separates words, and no tab"),
         b' ' | b'\t' if !ends => Some("a blank too many: leave it out"),
-        b'#' => Some("a pid is written <0.30.0>, without #Pid before it"),
-        0 => Some("a byte of 0, as in a file that wasn't written to its end: leave it out"),
+        b'#' if begins_with_pid_word(rest) => {
+            Some("a pid is written <0.30.0>, without #Pid before it")
+        }
+        b'#' if !matches!(expected, Expected::Number(..)) => {
+            Some(
+                "a bundle has messages between processes alone, and this is no pid, but a port perhaps",
+            )
+        }
+        0 => Some(
+            "a byte of 0, as in a file that wasn't written to its end: get the whole of it, \
+                since what stood there is lost",
+        ),
         128.. => Some(remedy_of_bytes(rest)),
         _ => None,
     }

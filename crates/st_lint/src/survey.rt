@@ -4,7 +4,7 @@
 //! A process line counts if it begins as one, even if something else in it is wrong: its own
 //! mistake is enough.
 
-use crate::kind::behind_mark;
+use crate::kind::{Kind, behind_mark, kind_of};
 use crate::scan::{Scan, common};
 use crate::text::Text;
 use memchr::memchr;
@@ -33,11 +33,30 @@ pub(crate) fn process_pid(line: &[u8]) -> Option<&str> {
     str::from_utf8(open.split_at(count.min(open.len())).0).ok()
 }
 
-/// Whether a line names a pid of a node other than 0, which begins with `<` and another number.
+/// Whether a number, a point and a digit come first, as behind the `<` of a pid. A binary has no
+/// point there, but for a fraction.
+fn begins_as_pid(bytes: &[u8]) -> bool {
+    for (at, byte) in bytes.iter().enumerate() {
+        match byte {
+            b'0'..=b'9' => {}
+            b'.' => return matches!(bytes.get(at.saturating_add(1)), Some(b'0'..=b'9')),
+            _ => return false,
+        }
+    }
+    false
+}
+
+/// Whether a line names a pid of a node other than 0. A comment is no part of a bundle.
 fn names_remote(line: &[u8]) -> bool {
-    for pair in line.windows(2) {
+    if matches!(kind_of(line), Kind::Comment) {
+        return false;
+    }
+    for (at, pair) in line.windows(2).enumerate() {
         if matches!(pair, [b'<', b'1'..=b'9']) {
-            return true;
+            let behind = line.get(at.saturating_add(1)..).unwrap_or(&[]);
+            if begins_as_pid(behind) {
+                return true;
+            }
         }
     }
     false

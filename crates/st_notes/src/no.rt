@@ -38,7 +38,7 @@ const MEANINGS: [Meaning; 9] = [
         word: "prevnotbefore",
         front: "its prev isn't below its this",
         back: "",
-        conclusion: "; no run reports it",
+        conclusion: "; no run of the machine reports it, but a standard node may if a token was put back",
     },
     Meaning {
         word: "notrising",

@@ -78,6 +78,8 @@ const COMMAND_WORDS: &str = "name a command: seqtool --help has them";
 
 const PAIR_WORDS: &str = "both inputs are standard input: one of them has to be a file";
 
+const ONCE_WORDS: &str = "standard input is read once: name it once";
+
 const FIX_WORDS: &str = "the mended text is that of one file: name one alone, or leave out --fix";
 
 const SPAN_WORDS: &str =
@@ -289,6 +291,17 @@ fn inputs_of<'a>(alloc: Global, paths: Option<&[&'a str]>) -> Result<Vec<Input<'
     Ok(inputs)
 }
 
+/// How many of the texts come from standard input.
+fn count_standard(inputs: &[Input]) -> u64 {
+    let mut count: u64 = 0;
+    for input in inputs {
+        if matches!(input, Input::Standard) {
+            count = count.saturating_add(1);
+        }
+    }
+    count
+}
+
 /// The word of the command of this name that has its files. With `--line` the first word of `why` is
 /// the file.
 fn files_word(name: &str, found: &ArgMatches) -> &'static str {
@@ -308,6 +321,9 @@ fn each_of<'a>(
     let inputs = inputs_of(alloc, paths)?;
     if matches!(task, Task::Fix) && inputs.len() > 1 {
         return Ok(Err(FIX_WORDS));
+    }
+    if count_standard(inputs.as_slice()) > 1 {
+        return Ok(Err(ONCE_WORDS));
     }
     Ok(Ok(Wanted::Each(task, inputs)))
 }
