@@ -76,11 +76,11 @@ uninstall: ## removes from PREFIX what install copied there (at once)
 PARTS_AT_ONCE = $(shell test $$(nproc) -ge 4 && nproc || echo 1)
 
 test: layout layers clauses plan docs ## the merge gate: all proofs from nothing, the wrong bodies of must-fail/, the tests (about 90 minutes on four processors)
-	rt ci
+	.ci/gate
 	@if command -v erl >/dev/null; then $(MAKE) --no-print-directory -C erlang compiled; fi
 	@$(MAKE) --no-print-directory -j$(PARTS_AT_ONCE) --output-sync=target test-program test-erlang test-conformance test-rust
 
-# The gate tries the wrong bodies that tell most, since each takes a check of its own.
+# The gate tries the wrong bodies that tell most.
 wrong-bodies: ## tries all wrong bodies, many in one check (an hour or more, after program)
 	@.ci/wrong-bodies
 
