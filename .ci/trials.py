@@ -106,15 +106,17 @@ def verdict_on(function, said):
 def refusal(rt, edit, said, others):
     """By what the check refused the function; None if it didn't, or if that may be for another edit that it tried."""
     name, line = verdict_on(edit.function, said)
+    errors = re.findall(r"(?m)^(?:\./)?(\S+:\d+:\d+: error: .*)$", said)
+    if any(rt.unread(it, ()) for it in errors):
+        return None
     if "did not prove" in line or line.startswith("no proof") and not others:
         return line
-    errors = re.findall(r"(?m)^(?:\./)?(\S+:\d+:\d+: error: .*)$", said)
-    if line != "not proved" or any(rt.unread(it, ()) for it in errors):
+    if not line.startswith("not proved"):
         return None
     telling = [it for it in errors if not FOLLOWS.search(it)]
-    # Beside others, an error in another function's files tells nothing of this one.
+    # Beside others, only an error in the function's own proof is about this edit.
     folder = "/".join(["proofs", *name.split("::")[1:]])
-    own = [it for it in telling if it.startswith((folder + "/", "src/"))]
+    own = [it for it in telling if it.startswith(folder + "/")]
     return next(iter(own if others else own or telling), None)
 
 
