@@ -4,8 +4,8 @@
 use crate::entries::Entries;
 use crate::hidden_sends::HiddenSend;
 use crate::links::short;
+use st_completion::{Left, is_stamp};
 use st_core::{Event, Kind, Label, Pid, Serial, Streams};
-use st_needs::{Left, is_stamp};
 use std::alloc::{AllocError, Global};
 use std::cmp::Ordering;
 

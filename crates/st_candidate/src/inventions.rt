@@ -5,8 +5,8 @@ use crate::entries::Entries;
 use crate::hidden_sends::HiddenSend;
 use crate::senders::Turn;
 use crate::sorting::Places;
+use st_completion::{Left, is_stamp};
 use st_core::{Event, Kind, Label, Pid, Serial, Streams};
-use st_needs::{Left, is_stamp};
 use std::alloc::{AllocError, Global};
 
 /// The send of an invented message. It is before the first event of its sender that doesn't

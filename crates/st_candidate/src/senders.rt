@@ -10,8 +10,8 @@ use crate::hidden_sends::HiddenSend;
 use crate::links::short;
 use crate::sorting::Places;
 use crate::unlisted_pids::UnlistedPids;
+use st_completion::is_stamp;
 use st_core::{Event, Pid, Streams};
-use st_needs::is_stamp;
 use std::alloc::{AllocError, Global};
 
 /// A count that a process stamps.

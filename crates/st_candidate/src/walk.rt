@@ -16,8 +16,8 @@ use crate::candidate::items_between;
 use crate::hidden_sends::HiddenSend;
 use crate::links::short;
 use crate::stretch::{Ground, Stretch};
+use st_completion::is_stamp;
 use st_core::{Event, Label, Streams};
-use st_needs::is_stamp;
 use std::alloc::{AllocError, Global};
 
 /// A hidden send of the stretch that is walked.

@@ -26,7 +26,7 @@ use Rattle.st_open_world.specs.OpenReasons.{HasNoOpenReason, Late, OpenReason, R
 use Rattle.st_open_world.specs.OpenReasons.{StandsAgainstOpen, TooHigh, Unfounded}
 use Rattle.st_open_world.specs.Silent.{with_silent}
 use Rattle.st_open_world.proofs.ForCallers.{silent_sound}
-use Rattle.st_needs.specs.Completions.{Completed}
+use Rattle.st_completion.specs.Completions.{Completed}
 use Rattle.st_complete.specs.declared.answer.Never.{Never}
 use Rattle.st_complete.specs.declared.answer.Never.TheVariants as never
 use Rattle.st_complete.specs.declared.answer.Answer.{Answer}

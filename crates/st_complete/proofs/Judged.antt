@@ -10,8 +10,8 @@ use Rattle.st_core.specs.Run.{Stream, pids_of}
 use Rattle.st_core.specs.Streams.{events_of}
 use Rattle.st_pair.proofs.ForCallers.{events_in, is_at}
 use Rattle.st_plan.specs.Marks.{told_events}
-use Rattle.st_needs.specs.Completions.{marked_with}
-use Rattle.st_needs.proofs.ForCallers.{IsToldAt}
+use Rattle.st_completion.specs.Completions.{marked_with}
+use Rattle.st_completion.proofs.ForCallers.{IsToldAt}
 
 below_or : (k n : ℕ) → k < suc n → (k < n) ⊎ (k ≡ n)
 below_or zero zero less = inr refl

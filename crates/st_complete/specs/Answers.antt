@@ -15,7 +15,7 @@ use Rattle.st_plan.specs.Marks.{all_streams}
 use Rattle.st_closed_world.specs.Completed.{IsShownInOneTrace}
 use Rattle.st_closed_world.specs.Needs.{is_need}
 use Rattle.st_open_world.specs.Silent.{with_silent}
-use Rattle.st_needs.specs.Completions.{Completed, Completes}
+use Rattle.st_completion.specs.Completions.{Completed, Completes}
 use Rattle.st_complete.specs.declared.answer.Never.{Never}
 use Rattle.st_complete.specs.declared.answer.Never.TheVariants as never
 use Rattle.st_complete.specs.declared.answer.Certificate.{Certificate}

@@ -10,7 +10,7 @@ use Rattle.st_pair.specs.Places.{event_at, is_stamp}
 use Rattle.st_closed_world.specs.Needs.{HoldsOfNone, is_late}
 use Rattle.st_closed_world.specs.Reasons.{HoldsAt, is_too_high}
 use Rattle.st_open_world.specs.OpenReasons.{IsLeastPlace, IsUnfounded}
-use Rattle.st_needs.specs.Completions.{Completes}
+use Rattle.st_completion.specs.Completions.{Completes}
 use Rattle.st_complete.specs.declared.answer.Never.{Never}
 use Rattle.st_complete.specs.declared.answer.Never.TheVariants as never
 use Rattle.st_complete.specs.declared.answer.Answer.{Answer}

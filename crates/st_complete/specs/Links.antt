@@ -6,7 +6,7 @@ use Rattle.st_core.specs.declared.types.Kind.TheVariants as kind
 use Rattle.st_core.specs.Run.{Stream, pids_of}
 use Rattle.st_pair.specs.Pairing.{is_send}
 use Rattle.st_pair.specs.Places.{event_at, is_stamp}
-use Rattle.st_needs.specs.Flaws.{GoesOnWithin}
+use Rattle.st_completion.specs.Flaws.{GoesOnWithin}
 
 -- the receive of a send
 abbrev pub receipt_of : Event → Event

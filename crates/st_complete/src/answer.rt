@@ -1,7 +1,7 @@
 //! What is found out about streams, and the acts of it.
 
+use st_completion::Completion;
 use st_core::{Act, Pid, Sequence};
-use st_needs::Completion;
 use thiserror::Error;
 
 /// Why no acts without a reset show streams, whatever other processes there are, for the event at

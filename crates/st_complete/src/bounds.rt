@@ -2,11 +2,11 @@
 
 ghost use Rattle.std.specs.Prelude.{◌≡◌, ◌+◌, [], List};
 ghost use Rattle.st_core.specs.declared.types.Event.{Event as EventValue};
-ghost use Rattle.st_needs.specs.Flaws.{left_by};
+ghost use Rattle.st_completion.specs.Flaws.{left_by};
 ghost use Rattle.st_complete.specs.Bounds.{act_bound, acts_after, saturated, skipped};
 
+use st_completion::Left;
 use st_core::{Event, Kind, Streams};
-use st_needs::Left;
 
 /// A stamp takes at most so many: before its own act the token gets its label and flags, and if it
 /// begins a trace, or counts are skipped, three more prepare for that.

@@ -9,9 +9,9 @@ use crate::answer::{Certificate, CertificateFault};
 use crate::bounds::act_bound;
 use st_audit::told_acts;
 use st_check::{Verdict, check};
+use st_completion::Completion;
 use st_core::{Act, Sequence, Streams};
 use st_lean::{LeanFault, lean_acts};
-use st_needs::Completion;
 use std::alloc::{AllocError, Global};
 use std::thread::Threads;
 

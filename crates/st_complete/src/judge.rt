@@ -11,12 +11,13 @@ ghost use Rattle.st_pair.specs.Pairing.{is_send};
 ghost use Rattle.st_pair.specs.Places.{is_stamp};
 ghost use Rattle.st_closed_world.specs.Local.{IsNeedless};
 ghost use Rattle.st_plan.specs.Marks.{told_events, told_streams};
-ghost use Rattle.st_needs.specs.Completions.{marked_with, wholes_with, Completes};
+ghost use Rattle.st_completion.specs.Completions.{marked_with, wholes_with, Completes};
 ghost use Rattle.st_complete.specs.Links.{other_end, receipt_of, AreEventsFit, IsLinked};
 
 use st_candidate::Candidate;
+use st_completion::{Completion, Left, completion_of, is_marked, marks_at};
 use st_core::{Event, Kind, Pid, Sequence, Streams, is_rising};
-use st_needs::{Completion, Left, completion_of, is_marked, is_unlisted, marks_at, pids_with};
+use st_needs::{is_unlisted, pids_with};
 use std::alloc::{AllocError, Global};
 
 /// Whether these are one event.

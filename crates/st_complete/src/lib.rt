@@ -14,4 +14,5 @@ mod judge;
 pub use answer::{Answer, Certificate, CertificateFault, CompleteFault, Never};
 pub use certificates::{certificate, certificate_by_construction};
 pub use decision::complete;
-pub use st_needs::{Completion, is_marked, renumbered, with_silent};
+pub use st_completion::{Completion, is_marked};
+pub use st_needs::{renumbered, with_silent};

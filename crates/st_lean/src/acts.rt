@@ -4,8 +4,8 @@ use crate::climbs::with_shared_climbs;
 use crate::homes::with_near_homes;
 use crate::lean::{LeanFault, acts_of};
 use crate::marked_streams::MarkedStreams;
+use st_completion::Completion;
 use st_core::{Act, Sequence};
-use st_needs::Completion;
 use std::alloc::Global;
 use std::thread::Threads;
 

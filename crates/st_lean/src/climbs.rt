@@ -14,8 +14,8 @@
 use crate::insertion::{Insertion, with_insertions_by_count};
 use crate::lean::missing_before;
 use crate::marked_streams::{LongerStreams, MarkedStreams, pid_at};
+use st_completion::{Left, is_stamp};
 use st_core::{Event, Kind, Label, Pid, Serial, Streams};
-use st_needs::{Left, is_stamp};
 use st_pair::{PairFault, Pairing, pair};
 use std::alloc::{AllocError, Global};
 use std::collections::{BTreeMap, BinaryHeap};

@@ -8,8 +8,8 @@ use crate::climbs::{Gap, Offer, Offers, gaps_of, offer_of};
 use crate::insertion::{Insertion, Insertions, with_insertions};
 use crate::lean::missing_before;
 use crate::marked_streams::{LongerStreams, MarkedStreams, pid_at};
+use st_completion::Left;
 use st_core::{Draft, Event, Kind, Label, Pid, Sequence, Serial, Streams};
-use st_needs::Left;
 use st_pair::{PairFault, Pairing, pair};
 use std::alloc::{AllocError, Global};
 

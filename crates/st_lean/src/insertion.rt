@@ -1,8 +1,8 @@
 //! Whole streams with further untold events at given places, for acts that a person would write.
 
 use crate::marked_streams::{LongerStreams, MarkedStreams};
+use st_completion::{is_marked, marks_at};
 use st_core::{Draft, Event, Pid, Sequence, Streams};
-use st_needs::{is_marked, marks_at};
 use std::alloc::{AllocError, Global};
 
 /// An untold event and its place.

@@ -6,10 +6,10 @@
 //! so a mistake here costs time and no more.
 
 use crate::marked_streams::MarkedStreams;
+use st_completion::{Left, is_marked, marks_at};
 use st_core::{
     Act, Component, Event, Flags, Kind, Label, Pid, Sequence, Serial, Streams, Token, Want,
 };
-use st_needs::{Left, is_marked, marks_at};
 use st_order::{Item, order};
 use st_pair::{PairFault, Pairing, pair};
 use st_world::{StepFault, World};

@@ -1,7 +1,7 @@
 //! Whole streams with their marks, borrowed and owned.
 
+use st_completion::{is_marked, marks_at};
 use st_core::{Pid, Sequence, Streams};
-use st_needs::{is_marked, marks_at};
 
 /// All events of each process, and which are told.
 #[derive(Clone, Copy)]

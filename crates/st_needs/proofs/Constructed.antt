@@ -19,7 +19,7 @@ use Rattle.st_pair.proofs.ForCallers.{at_get_or, blank, events_in, take_map}
 use Rattle.st_plan.specs.Marks.{all_streams, told_streams, Marked, Whole}
 use Rattle.st_closed_world.specs.Completion.{count_of, place_below, place_of_need, put, receive_for}
 use Rattle.st_closed_world.specs.Completion.{send_among, Supply, with_receive_of, with_send_of}
-use Rattle.st_needs.specs.Completions.{marked_with, wholes_with, IsCompletionOf}
+use Rattle.st_completion.specs.Completions.{marked_with, wholes_with, IsCompletionOf}
 use Rattle.st_needs.proofs.Ranking.{added_last, last_of}
 use Rattle.st_needs.proofs.Supplied.{has, stamp_found}
 

@@ -1,44 +1,25 @@
 -- Where a test holds first, at a loop's index and in what is left.
-use Rattle.std.proofs.Common.{◌≡◌, ℕ, ◌+◌, ◌<◌, suc, Bool, true, false, cond, List, [], ◌∷◌, ◌++◌, length, get_or, max}
+use Rattle.std.proofs.Common.{◌≡◌, ℕ, ◌+◌, ◌<◌, suc, Bool, true, false, cond, List, [], ◌∷◌, length, get_or}
 use Rattle.std.proofs.Common.{take, drop, slice_get, Option, None, Some, option_and_then, refl, sym, ◌∙◌, ap, subst}
-use Rattle.std.proofs.Common.{arith, add-one, if◌then◌else◌}
+use Rattle.std.proofs.Common.{arith, if◌then◌else◌}
 use Rattle.std.proofs.lemmas.Bool.{false≢true}
 use Rattle.std.proofs.lemmas.Option.{same_Some}
 use Rattle.st_core.specs.declared.types.Pid.{Pid}
 use Rattle.st_core.specs.declared.types.Event.{Event}
-use Rattle.st_core.specs.Laws.{greatest_count, prev_after}
 use Rattle.st_core.specs.Pid.{IsRising}
 use Rattle.st_core.specs.Run.{Stream, pids_of}
 use Rattle.st_core.specs.Streams.{events_of}
-use Rattle.st_core.proofs.ForCallers.{greatest_push, prev_push}
 use Rattle.st_pair.specs.declared.answer.Source.{Source}
 use Rattle.st_pair.specs.declared.answer.Source.TheVariants as source
 use Rattle.st_pair.specs.Pairing.{source_at, source_of}
 use Rattle.st_pair.specs.Places.{event_at, first, first_from, is_stamp, or_else}
 use Rattle.st_pair.proofs.ForCallers.{event_none, first_from-at, first_least, first-loop}
 use Rattle.st_closed_world.specs.Needs.{HoldsOfNone}
-use Rattle.st_needs.specs.declared.flaws.Left.{Left}
 use Rattle.st_closed_world.specs.Reasons.{HoldsAt}
 use Rattle.st_open_world.specs.OpenReasons.{IsLeastPlace}
 use Rattle.st_needs.specs.Places.{flaw_place, place_where}
-use Rattle.st_needs.specs.Flaws.{is_hidden_in, left_by}
-use Rattle.st_plan.proofs.ForCallers.{take_more}
+use Rattle.st_needs.specs.Hidden.{is_hidden_in}
 use Rattle.st_order.specs.Items.{is_hidden}
-
--- what events leave with one more
-pub left_more : (es : List Event) (i : ℕ) (e : Event) → slice_get es i ≡ Some e
-    → left_by (take i es ++ e ∷ []) ≡ left_by (take (i + 1) es)
-left_more es i e at = ap left_by (sym (rw add-one (take_more es i e at)))
-
-pub left_push : (es : List Event) (e : Event) (greatest prev : ℕ)
-    → greatest ≡ max (greatest_count es) e.serial.this
-    → prev ≡ prev_after (e ∷ [])
-    → (let left : Left = record { greatest = greatest; prev = prev } in left)
-    ≡ left_by (es ++ e ∷ [])
-left_push es e greatest prev is leaves =
-    let high = is ∙ sym (greatest_push es e) in
-    let last = leaves ∙ sym (prev_push es e) in
-    λ k. record { greatest = high k; prev = last k }
 
 module _ (rule : Pid → ℕ → Event → Option (Pid × ℕ)) (p : Pid) (es : List Event) (i : ℕ) (e : Event)
     (at : slice_get es i ≡ Some e) where

@@ -1,7 +1,3 @@
--- The lemmas that proofs of the crates above may cite: on what events leave, and on the told events
--- of whole streams.
+-- The lemmas that proofs of the crates above may cite.
 
-pub use Rattle.st_needs.proofs.Flawed.{left_more}
-pub use Rattle.st_needs.proofs.Kept.{all_kept, mark_read}
-pub use Rattle.st_needs.proofs.ToldEvents.{all_told, pids_length, told_end, told_more, untold_more, IsToldAt}
 pub use Rattle.st_needs.proofs.Constructed.{item_at}

@@ -13,7 +13,7 @@ use Rattle.st_closed_world.specs.Completion.{completion, count_of, place_below, 
 use Rattle.st_closed_world.specs.Completion.{send_among, supplies, Supply, told_wholes, with_receive_of, with_receives}
 use Rattle.st_closed_world.specs.Completion.{with_send_of, with_sends}
 use Rattle.st_closed_world.specs.Local.{IsNeedless}
-use Rattle.st_needs.specs.Completions.{IsCompletionOf}
+use Rattle.st_completion.specs.Completions.{IsCompletionOf}
 use Rattle.st_needs.specs.Filled.{filled}
 
 -- AN EVENT IS PUT IN

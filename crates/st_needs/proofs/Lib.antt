@@ -1,7 +1,5 @@
 -- The lemmas; what upper crates may cite is in `ForCallers`.
-pub mod Kept
 pub mod Flawed
-pub mod ToldEvents
 pub mod Counted
 pub mod Ranking
 pub mod Supplied

@@ -1,12 +1,20 @@
 -- For the parts alone: the sends of a process whose messages were received and which nobody
 -- reported, as their receives are, and those whose counts rise.
-use Rattle.std.specs.Prelude.{ℕ, suc, ◌&&◌, nat_lt, List, [], ◌∷◌, ◌++◌, Option, Some, None, if◌then◌else◌}
+use Rattle.std.specs.Prelude.{ℕ, suc, Bool, true, false, ◌&&◌, nat_lt, List, [], ◌∷◌, ◌++◌, Option, Some, None, if◌then◌else◌}
 use Rattle.st_core.specs.declared.types.Pid.{Pid}
 use Rattle.st_core.specs.declared.types.Event.{Event}
 use Rattle.st_core.specs.Pid.{pid_eq}
 use Rattle.st_core.specs.Run.{Stream}
+use Rattle.st_pair.specs.declared.answer.Source.{Source}
+use Rattle.st_pair.specs.declared.answer.Source.TheVariants as source
 use Rattle.st_order.specs.Items.{is_hidden}
 use Rattle.st_closed_world.specs.HiddenSends.{send_of}
+
+-- the source of a receive is a hidden send
+abbrev pub is_hidden_in : Option Source → Bool
+is_hidden_in None = false
+is_hidden_in (Some source.Hidden) = true
+is_hidden_in (Some (source.Event q j)) = false
 
 -- the hidden sends of q whose messages these events receive
 abbrev pub hidden_in : List Stream → Pid → List Event → List Event

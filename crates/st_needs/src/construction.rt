@@ -13,16 +13,15 @@ ghost use Rattle.st_closed_world.specs.Completion.{with_receive_of, with_receive
 ghost use Rattle.st_closed_world.specs.Completion.{with_send_of, with_sends};
 ghost use Rattle.st_closed_world.specs.Reasons.{HasEachSend, HasNoReason};
 ghost use Rattle.st_open_world.specs.Silent.{with_silent};
-ghost use Rattle.st_needs.specs.Completions.{IsCompletionOf};
-ghost use Rattle.st_needs.specs.Flaws.{left_by};
+ghost use Rattle.st_completion.specs.Completions.{IsCompletionOf};
+ghost use Rattle.st_completion.specs.Flaws.{left_by};
 ghost use Rattle.st_needs.specs.Filled.{filled};
 
-use crate::completion::{Completion, completion_of};
-use crate::flaws::Left;
 use crate::ranks::{add_own, close_draft, open_last};
 use crate::supplies::{Supply, supplies};
 use crate::told_facts::stamp_in;
 use st_closed_world::laws::streams_without_a_reason_are_completed;
+use st_completion::{Completion, Left, completion_of};
 use st_core::{Draft, Event, Kind, Pid, Sequence, Serial, Streams};
 use std::alloc::{AllocError, Global};
 use std::marker::Model;

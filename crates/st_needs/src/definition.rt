@@ -4,12 +4,12 @@
 ghost use Rattle.std.specs.Prelude.{IfOk};
 ghost use Rattle.st_open_world.specs.OpenReasons.{HasNoOpenReason};
 ghost use Rattle.st_pair.specs.Links.{IsPairing};
-ghost use Rattle.st_needs.specs.Completions.{Completes};
+ghost use Rattle.st_completion.specs.Completions.{Completes};
 
-use crate::completion::Completion;
 use crate::construction::construct;
 use crate::earliest::earliest_wholes;
 use crate::others::{add_silent, event_count};
+use st_completion::Completion;
 use st_core::Streams;
 use st_pair::Pairing;
 use std::alloc::{AllocError, Global};

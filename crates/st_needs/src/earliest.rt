@@ -7,8 +7,8 @@ ghost use Rattle.st_closed_world.specs.Placed.{comes_first, earliest, earliest_w
 ghost use Rattle.st_needs.specs.Earliest.{ComesLater};
 
 use crate::construction::{Marked, Whole};
-use crate::flaws::is_stamp;
 use crate::hidden_sends::hidden_sends_of;
+use st_completion::is_stamp;
 use st_core::{Event, Streams};
 use st_pair::Pairing;
 use std::alloc::{AllocError, Global};

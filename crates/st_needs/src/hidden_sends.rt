@@ -10,11 +10,10 @@ ghost use Rattle.st_pair.specs.Places.{event_at};
 ghost use Rattle.st_core.specs.Pid.{pid_eq};
 ghost use Rattle.st_order.specs.Items.{is_hidden};
 ghost use Rattle.st_closed_world.specs.HiddenSends.{hidden_sends, send_of};
-ghost use Rattle.st_needs.specs.Hidden.{hidden_among, hidden_in, next_count, rising_from};
+ghost use Rattle.st_needs.specs.Hidden.{hidden_among, hidden_in, is_hidden_in, next_count, rising_from};
 
-use crate::flaws::is_hidden_source;
 use st_core::{Event, Kind, Pid, Streams};
-use st_pair::Pairing;
+use st_pair::{Pairing, Source};
 use std::alloc::{AllocError, Global};
 
 /// The send of a receive.
@@ -24,6 +23,16 @@ fn send_of(event: &Event) -> Event
     Event {
         kind: Kind::Send,
         ..*event
+    }
+}
+
+/// Whether the source is a hidden send, as pairing found it.
+pub(crate) fn is_hidden_source(source: Option<Source>) -> bool
+    ensures { result ≡ is_hidden_in source }
+{
+    match source {
+        None | Some(Source::Event(..)) => false,
+        Some(Source::Hidden) => true,
     }
 }
 

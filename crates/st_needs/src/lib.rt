@@ -1,15 +1,14 @@
 //! What streams need, and what would supply it.
 //!
 //! A send or print is a need if its prev is a count that the events before it don't leave, so that a
-//! receive is missing. Here are the tests of single events, the counts of the messages that
-//! may feed needs, and completions by their definition.
+//! receive is missing. Here are the first event with a flaw, the counts of the messages that may feed
+//! needs, and completions by their definition.
 #![tactic(auto)]
 
-mod completion;
 mod construction;
 mod definition;
 mod earliest;
-mod flaws;
+mod first_flaws;
 mod hidden_sends;
 mod others;
 mod ranks;
@@ -18,9 +17,8 @@ mod supplies;
 mod told_facts;
 mod unfounded_stamps;
 
-pub use completion::{Completion, completion_of, is_marked, marks_at};
 pub use definition::complete_by_definition;
-pub use flaws::{Flaw, Left, find_flaw, is_hidden_source, is_stamp, prev_left};
+pub use first_flaws::find_flaw;
 pub use ranks::{counts_of, renumbered};
 pub use silent::{is_unlisted, pids_with, with_silent};
 pub use unfounded_stamps::find_unfounded;

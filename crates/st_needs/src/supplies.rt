@@ -8,9 +8,9 @@ ghost use Rattle.st_closed_world.specs.Completion.{supplies_of};
 ghost use Rattle.st_closed_world.specs.Supply.{is_free};
 ghost use Rattle.st_needs.specs.Told.{told_of};
 
-use crate::flaws::Left;
 use crate::ranks::counts_of;
 use crate::told_facts::{ToldFacts, is_untaken, is_unused, told_of_each};
+use st_completion::Left;
 use st_core::{Event, Pid, Streams};
 use std::alloc::{AllocError, Global};
 use std::marker::Model;

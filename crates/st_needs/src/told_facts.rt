@@ -9,7 +9,7 @@ ghost use Rattle.st_pair.specs.Pairing.{is_send};
 ghost use Rattle.st_pair.specs.Places.{is_stamp};
 ghost use Rattle.st_needs.specs.Told.{is_untaken, is_unused, senders, senders_in, told_of};
 
-use crate::flaws::is_stamp;
+use st_completion::is_stamp;
 use st_core::{Event, Kind, Pid, Streams};
 use std::alloc::{AllocError, Global};
 

@@ -16,7 +16,8 @@ ghost use Rattle.st_needs.specs.Unfounded.{has_receive, is_known_below, is_unfou
 ghost use Rattle.st_needs.specs.Unfounded.{lowest_count, lowest_in, lowest_with, IsNoted};
 ghost use Rattle.st_open_world.specs.OpenReasons.{IsLeastPlace, IsUnfounded};
 
-use crate::flaws::{is_hidden_source, is_stamp};
+use crate::hidden_sends::is_hidden_source;
+use st_completion::is_stamp;
 use st_core::{Event, Pid, Streams};
 use st_pair::Pairing;
 use std::alloc::{AllocError, Global};

@@ -18,8 +18,8 @@ use Rattle.st_closed_world.proofs.ForCallers.{events_all}
 use Rattle.st_complete.specs.declared.answer.Never.{Never}
 use Rattle.st_complete.specs.declared.answer.Never.TheVariants as never
 use Rattle.st_open_world.specs.Silent.{with_silent}
-use Rattle.st_needs.specs.Completions.{added_in, marked_with, Completed}
-use Rattle.st_needs.proofs.ForCallers.{mark_read}
+use Rattle.st_completion.specs.Completions.{added_in, marked_with, Completed}
+use Rattle.st_completion.proofs.ForCallers.{mark_read}
 use Rattle.st_text.specs.Writing.{Goes, WritesOn, WritesPart, WritesText}
 use Rattle.st_text.proofs.ForCallers.{finishes, front_some, line_some}
 use Rattle.st_chart.specs.Words.{place_words}

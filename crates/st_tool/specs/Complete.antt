@@ -24,7 +24,7 @@ use Rattle.st_complete.specs.declared.answer.Answer.{Answer}
 use Rattle.st_complete.specs.declared.answer.Answer.TheVariants as answer
 use Rattle.st_complete.specs.Answers.{IsAnswer, IsFirstReason, IsWhole, LacksNothing}
 use Rattle.st_complete.specs.Bounds.{act_bound}
-use Rattle.st_needs.specs.Completions.{added_in, Completed}
+use Rattle.st_completion.specs.Completions.{added_in, Completed}
 use Rattle.st_text.specs.Spelling as spelled
 use Rattle.st_chart.specs.Words.{place_words}
 use Rattle.st_chart.specs.Report.{place_line}

@@ -10,7 +10,7 @@ use Rattle.st_core.specs.Streams.{events_of}
 use Rattle.st_pair.specs.Places.{event_at}
 use Rattle.st_plan.specs.Marks.{all_streams, Whole}
 use Rattle.st_closed_world.specs.Needs.{marked_of}
-use Rattle.st_needs.specs.Completions.{added_in, marked_with, Completed}
+use Rattle.st_completion.specs.Completions.{added_in, marked_with, Completed}
 use Rattle.st_complete.specs.declared.answer.Never.{Never}
 use Rattle.st_complete.specs.declared.answer.Never.TheVariants as never
 use Rattle.st_chart.specs.Room.{place_room}

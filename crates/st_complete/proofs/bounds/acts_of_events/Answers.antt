@@ -2,7 +2,7 @@
 use Rattle.std.proofs.Common.{◌+◌, drop, get_or, take, ◌∙◌, ap, arith}
 use Rattle.std.proofs.lemmas.List.{drop_all}
 use Rattle.st_pair.proofs.ForCallers.{at_get_or, blank}
-use Rattle.st_needs.proofs.ForCallers.{left_more}
+use Rattle.st_completion.proofs.ForCallers.{left_more}
 use Rattle.st_complete.specs.Bounds.{acts_after, skipped}
 use Rattle.st_complete.proofs.Bounded.{acts_next, sums_on}
 use Rattle.st_complete.proofs.bounds.acts_of_events.Goals as goal

@@ -1,6 +1,6 @@
 -- What was counted and what is left come to all, or to more than the greatest number.
 use Rattle.std.proofs.Common.{◌≡◌, ◌+◌, ◌-◌, ◌^◌, ◌≤◌, [], drop, take}
-use Rattle.st_needs.specs.Flaws.{left_by}
+use Rattle.st_completion.specs.Flaws.{left_by}
 use Rattle.st_complete.specs.Bounds.{acts_after, saturated}
 use Rattle.st_complete.proofs.bounds.acts_of_events.Given as goal
 

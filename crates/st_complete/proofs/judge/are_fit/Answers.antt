@@ -2,7 +2,7 @@
 use Rattle.std.proofs.Common.{get_or, take, ◌∙◌, arith}
 use Rattle.st_pair.proofs.ForCallers.{at_get_or, blank}
 use Rattle.st_core.proofs.ForCallers.{place_within}
-use Rattle.st_needs.proofs.ForCallers.{left_more}
+use Rattle.st_completion.proofs.ForCallers.{left_more}
 use Rattle.st_complete.proofs.Linked.{fit_more}
 use Rattle.st_complete.proofs.judge.are_fit.Goals as goal
 

@@ -1,7 +1,7 @@
 -- The events that were taken are fit.
 use Rattle.std.proofs.Common.{◌≡◌, ℕ, ◌<◌, slice_get, take, Some}
 use Rattle.st_core.specs.declared.types.Event.{Event}
-use Rattle.st_needs.specs.Flaws.{left_by}
+use Rattle.st_completion.specs.Flaws.{left_by}
 use Rattle.st_complete.specs.Links.{IsEventFit}
 use Rattle.st_complete.proofs.judge.are_fit.Given as goal
 

@@ -9,8 +9,8 @@ use Rattle.st_core.specs.Streams.{IsStreams, lists}
 use Rattle.st_closed_world.specs.Local.{IsNeedless}
 use Rattle.st_open_world.specs.Silent.{with_silent}
 use Rattle.st_plan.specs.Marks.{told_streams}
-use Rattle.st_needs.specs.Completions.{wholes_with, Completed, IsCompletionOf}
-use Rattle.st_needs.proofs.ForCallers.{all_kept}
+use Rattle.st_completion.specs.Completions.{wholes_with, Completed, IsCompletionOf}
+use Rattle.st_completion.proofs.ForCallers.{all_kept}
 use Rattle.st_complete.proofs.judge.judge.Goals as goal
 
 pub tells_with-requires-clause-apart : goal.tells_with-requires-clause-apart

@@ -5,8 +5,8 @@ use Rattle.std.proofs.lemmas.Bool.Decides.{nat_tests}
 use Rattle.st_core.specs.declared.types.Event.{Event}
 use Rattle.st_plan.specs.Marks.{told_events}
 use Rattle.st_pair.proofs.ForCallers.{at_get_or, blank}
-use Rattle.st_needs.specs.Completions.{marked_with}
-use Rattle.st_needs.proofs.ForCallers.{told_end, told_more, untold_more}
+use Rattle.st_completion.specs.Completions.{marked_with}
+use Rattle.st_completion.proofs.ForCallers.{told_end, told_more, untold_more}
 use Rattle.st_complete.proofs.judge.tells_events.Goals as goal
 use Rattle.st_complete.proofs.judge.tells_events.Goals.{then-is_marked+in-Some+else-not-is_same_event, else-is_marked}
 

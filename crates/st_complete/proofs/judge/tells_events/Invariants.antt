@@ -1,7 +1,7 @@
 -- The events that were taken are told where they are marked.
 use Rattle.std.proofs.Common.{◌≡◌, drop}
 use Rattle.st_plan.specs.Marks.{told_events}
-use Rattle.st_needs.specs.Completions.{marked_with}
+use Rattle.st_completion.specs.Completions.{marked_with}
 use Rattle.st_complete.proofs.judge.tells_events.Given as goal
 
 -- if the told ones of what is left are these, the told ones of all are the events

@@ -4,7 +4,7 @@ use Rattle.st_core.specs.declared.types.Pid.{Pid}
 use Rattle.st_pair.proofs.ForCallers.{at_get_or}
 use Rattle.st_open_world.specs.Silent.{with_silent}
 use Rattle.st_open_world.proofs.ForCallers.{silent_events, silent_sound}
-use Rattle.st_needs.proofs.ForCallers.{all_told, pids_length}
+use Rattle.st_completion.proofs.ForCallers.{all_told, pids_length}
 use Rattle.st_complete.proofs.Judged.{told_here, told_next}
 use Rattle.st_complete.proofs.judge.tells_streams.Goals as goal
 

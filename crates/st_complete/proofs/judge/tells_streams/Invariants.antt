@@ -1,7 +1,7 @@
 -- The processes that were taken tell their streams.
 use Rattle.std.proofs.Common.{ℕ, ◌<◌}
 use Rattle.st_open_world.specs.Silent.{with_silent}
-use Rattle.st_needs.proofs.ForCallers.{IsToldAt}
+use Rattle.st_completion.proofs.ForCallers.{IsToldAt}
 use Rattle.st_complete.proofs.judge.tells_streams.Given as goal
 
 -- at each place so far

@@ -4,7 +4,7 @@ use Rattle.std.proofs.Common.{◌≡◌, sym, ◌∙◌, ap, subst}
 use Rattle.st_core.specs.Streams.{IsStreams}
 use Rattle.st_open_world.specs.Silent.{with_silent}
 use Rattle.st_plan.specs.Marks.{all_streams, told_streams}
-use Rattle.st_needs.specs.Completions.{IsCompletionOf}
+use Rattle.st_completion.specs.Completions.{IsCompletionOf}
 use Rattle.st_needs.specs.Filled.{filled}
 use Rattle.st_needs.proofs.Constructed.{completes_back, marks_of, tells_back}
 use Rattle.st_needs.proofs.KeptTold.{told_completed}

@@ -1,6 +1,6 @@
 -- What the events that were taken leave.
 use Rattle.std.proofs.Common.{◌≡◌, take}
-use Rattle.st_needs.specs.Flaws.{left_by}
+use Rattle.st_completion.specs.Flaws.{left_by}
 use Rattle.st_needs.proofs.construction.left_before.Given as goal
 
 abbrev pub invariant-loop-i : goal.invariant-loop-i

@@ -1,7 +1,7 @@
 -- None of the events that were taken needs the count.
 use Rattle.std.proofs.Common.{◌≡◌, ◌+◌, [], drop, take}
 use Rattle.st_closed_world.specs.Completion.{place_of_need}
-use Rattle.st_needs.specs.Flaws.{left_by}
+use Rattle.st_completion.specs.Flaws.{left_by}
 use Rattle.st_needs.proofs.construction.place_of_need.Given as goal
 
 abbrev pub invariant-loop-i : goal.invariant-loop-i

@@ -5,7 +5,7 @@ use Rattle.std.proofs.lemmas.List.{take_all}
 use Rattle.st_core.specs.Streams.{unlisted}
 use Rattle.st_closed_world.specs.Renumbering.{rank, with_counts}
 use Rattle.st_closed_world.proofs.ForCallers.{streams_with}
-use Rattle.st_needs.proofs.ToldEvents.{pids_length}
+use Rattle.st_completion.proofs.ForCallers.{pids_length}
 use Rattle.st_needs.proofs.Ranking.{comes_last, own_events, streams_more}
 use Rattle.st_needs.proofs.ranks.renumbered.Goals as goal
 

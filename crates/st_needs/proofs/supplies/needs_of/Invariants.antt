@@ -1,7 +1,7 @@
 -- The needs among the events that were taken are noted.
 use Rattle.std.proofs.Common.{◌≡◌, ◌++◌, [], drop, take}
 use Rattle.st_closed_world.specs.Completion.{needs_of}
-use Rattle.st_needs.specs.Flaws.{left_by}
+use Rattle.st_completion.specs.Flaws.{left_by}
 use Rattle.st_needs.proofs.supplies.needs_of.Given as goal
 
 -- with those of what is left they come to all

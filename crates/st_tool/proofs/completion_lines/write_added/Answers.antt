@@ -3,7 +3,7 @@ use Rattle.std.proofs.Common.{◌++◌}
 use Rattle.std.specs.List.{flat_map}
 use Rattle.st_core.specs.Run.{pids_of}
 use Rattle.st_plan.specs.Marks.{all_streams}
-use Rattle.st_needs.specs.Completions.{added_in}
+use Rattle.st_completion.specs.Completions.{added_in}
 use Rattle.st_tool.specs.Lines.{added_of, count_line, unlisted_line}
 use Rattle.st_text.proofs.ForCallers.{part_longer, goes_then, then_on, on_err, part_then}
 use Rattle.st_tool.proofs.completion_lines.write_added.Goals as goal
