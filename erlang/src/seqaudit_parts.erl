@@ -75,7 +75,7 @@ take(Streams) ->
 %% How many events of each process stay in the part. What a process does next may follow a receive
 %% that was taken last; a reset makes a process forget what it received, so that receive belongs to
 %% the next part, with all behind it, the send of each such receive, and the receive of each such
-%% send.
+%% send. So does a send whose message is received behind the part.
 kept(Longest, Next) ->
     Tuples = maps:from_list([{Pid, list_to_tuple(Events)} || {Pid, Events} <- Longest]),
     Ends = lists:foldl(fun learn_ends/2, #{},
@@ -84,7 +84,27 @@ kept(Longest, Next) ->
     Sizes = maps:map(fun(_, Tuple) -> tuple_size(Tuple) end, Tuples),
     Firsts = [{Pid, caused_from(Size, first_stamp(maps:get(Pid, Next)), maps:get(Pid, Tuples))}
               || {Pid, Size} <- maps:to_list(Sizes)],
-    give_back(Firsts, Sizes, Tuples, Ends).
+    give_back(Firsts ++ received_behind(Longest, Next, Ends), Sizes, Tuples, Ends).
+
+%% The places of the sends whose messages are received behind the part, if no send there is theirs.
+received_behind(Longest, Next, Ends) ->
+    Wanted = lists:foldl(fun(#{kind := 'receive'} = Event, Counts) -> count(message(Event), 1, Counts);
+                            (#{kind := send} = Event, Counts) -> count(message(Event), -1, Counts);
+                            (_Print, Counts) -> Counts
+                         end, #{}, lists:append(maps:values(Next))),
+    {Places, _} = lists:foldl(fun({Pid, Events}, Found) ->
+                                      lists:foldr(fun(Numbered, Known) -> last_send(Pid, Numbered, Ends, Known) end,
+                                                  Found, lists:enumerate(0, Events))
+                              end, {[], Wanted}, Longest),
+    Places.
+
+last_send(Pid, {Place, #{kind := send, this := This} = Event}, Ends, {Places, Wanted}) ->
+    case maps:get(message(Event), Wanted, 0) > 0 andalso not is_map_key({received, Pid, This}, Ends) of
+        true -> {[{Pid, Place} | Places], count(message(Event), -1, Wanted)};
+        false -> {Places, Wanted}
+    end;
+last_send(_Pid, _Numbered, _Ends, Found) ->
+    Found.
 
 learn_ends({Pid, Place, #{kind := 'receive', from := From, this := This}}, Ends) ->
     Ends#{{received, From, This} => {Pid, Place}};

@@ -4,7 +4,7 @@
 
 -export([as_the_charts_test_/0, spawned_test/0, unreported_test/0, supposed_test/0,
          beginnings_test/0, labels_test/0, put_back_test/0,
-         alike_test/0, many_alike_test/0, resets_test/0, no_tokens_test_/0, hidden_reset_test/0, no_reset_test/0,
+         alike_test/0, many_alike_test_/0, resets_test/0, no_tokens_test_/0, hidden_reset_test/0, begun_behind_test/0, no_reset_test/0,
          completed_test_/0]).
 
 streams(Text) ->
@@ -188,20 +188,22 @@ resets_test() ->
 
 %% A server has 100,000 requests with one label and one count, prints something for each, and sends something of which
 %% only its receive would tell: what each follows is found without a look at all requests.
-many_alike_test() ->
-    [Server, Client] = [<<"<0.1.0>">>, <<"<0.2.0>">>],
-    Event = fun(Kind, Prev, This, At) ->
-                #{kind => Kind, label => <<"1">>, prev => Prev, this => This, value => <<"0">>, at => At,
-                  from => case Kind of 'receive' -> Client; _ -> Server end,
-                  to => case Kind of 'receive' -> Server; send -> Client; print -> none end}
-            end,
-    Events = lists:append([[Event('receive', 0, 1, 2 * N), Event(send, 1, 2 * N + 2, {2 * N + 1, 1}),
-                            Event(print, 1, 2 * N + 3, 2 * N + 1)] || N <- lists:seq(0, 99_999)]),
-    Causes = [{Kind, At, Cause} || #{hidden := false, id := {_, At}, event := #{kind := Kind}, cause := Cause}
-                                       <- seqaudit_causes:rows([{Server, Events}, {Client, []}])],
-    300_000 = length(Causes),
-    [] = [One || {print, At, Cause} = One <- Causes, Cause =/= {received, {Server, At - 1}}],
-    [] = [One || {send, {Before, 1}, Cause} = One <- Causes, Cause =/= {perhaps, {Server, Before - 1}}].
+many_alike_test_() ->
+    {timeout, 120, fun() ->
+        [Server, Client] = [<<"<0.1.0>">>, <<"<0.2.0>">>],
+        Event = fun(Kind, Prev, This, At) ->
+                    #{kind => Kind, label => <<"1">>, prev => Prev, this => This, value => <<"0">>, at => At,
+                      from => case Kind of 'receive' -> Client; _ -> Server end,
+                      to => case Kind of 'receive' -> Server; send -> Client; print -> none end}
+                end,
+        Events = lists:append([[Event('receive', 0, 1, 2 * N), Event(send, 1, 2 * N + 2, {2 * N + 1, 1}),
+                                Event(print, 1, 2 * N + 3, 2 * N + 1)] || N <- lists:seq(0, 99_999)]),
+        Causes = [{Kind, At, Cause} || #{hidden := false, id := {_, At}, event := #{kind := Kind}, cause := Cause}
+                                           <- seqaudit_causes:rows([{Server, Events}, {Client, []}])],
+        300_000 = length(Causes),
+        [] = [One || {print, At, Cause} = One <- Causes, Cause =/= {received, {Server, At - 1}}],
+        [] = [One || {send, {Before, 1}, Cause} = One <- Causes, Cause =/= {perhaps, {Server, Before - 1}}]
+    end}.
 
 %% A reset never passes for a token that was put back.
 no_tokens_test_() ->
@@ -235,6 +237,17 @@ hidden_reset_test() ->
                                          "{seq_trace,1,{print,{1,2},<0.1.0>,[],1}}\nprocess <0.2.0>\n")),
     [[{_, [_, _]}, _], [{_, [_, _]}, _]] = Parts,
     [[{<<"<0.1.0>">>, 1, 2}]] = seqaudit_parts:places(Parts).
+
+%% The requests of processes that begin behind a reset go with their receives, all of them and not only the first.
+begun_behind_test() ->
+    Requests = [["process <0.", Pid, ".0>\n{seq_trace,1,{send,{0,1},<0.", Pid, ".0>,<0.1.0>,1}}\n"] || Pid <- ["2", "3", "4"]],
+    Parts = seqaudit_parts:split(streams(["seqtrace 1\nprocess <0.1.0>\n",
+                                          [["{seq_trace,1,{'receive',{0,1},<0.", Pid, ".0>,<0.1.0>,1}}\n"
+                                            "{seq_trace,1,{print,{1,2},<0.1.0>,[],1}}\n"] || Pid <- ["2", "3"]],
+                                          "{seq_trace,1,{'receive',{0,1},<0.4.0>,<0.1.0>,1}}\n", Requests])),
+    [[{_, [_, _]}, {_, [_]}, {_, []}, {_, []}], [{_, [_, _, _]}, {_, []}, {_, [_]}, {_, [_]}]] = Parts,
+    [[{<<"<0.1.0>">>, 1, 2}]] = [[Place || {_, Before, After} = Place <- Places, Before =/= none, After =/= none]
+                                 || Places <- seqaudit_parts:places(Parts)].
 
 no_reset_test() ->
     _ = rand:seed(exsss, {4, 5, 6}),

@@ -5,11 +5,12 @@ from collections import namedtuple
 
 from slow_seqaudit import pair, show
 
-PREMISES = ("in a run without a reset; (1) if each receive of a token was reported; (2) if no process cleared or lost its "
-            "token and began again under the same label; on a standard node (2) wherever (1)")
+PREMISES = ("in a run without a reset, if any; (1) if each receive of a token was reported; (2) if no process cleared or lost "
+            "its token, began again and reported an earlier label again; on a standard node (2) wherever (1), except behind a "
+            "spawn or a token put back")
 PREMISES_OBJECT = {"premise_1": "each receive of a token was reported",
-                   "premise_2": "no process cleared or lost its token and began again under the same label",
-                   "standard_node": "2 wherever 1"}
+                   "premise_2": "no process cleared or lost its token, began again and reported an earlier label again",
+                   "standard_node": "2 wherever 1, except behind a spawn or a token put back"}
 BEGINS = "begins here"
 BEGINS_OR_UNREPORTED = "begins here, or follows a message whose receive wasn't reported"
 UNSENT = "its send wasn't reported"

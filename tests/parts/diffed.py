@@ -240,7 +240,18 @@ def row_words(it):
             f"{{{it['prev']},{it['this']}}} value {it['value']}{other}")
 
 
-def lines_of(output):
+def difference_of(told, it):
+    """What a line says behind an event that both traces have, if its place doesn't say what differs."""
+    (one, i), (other, j) = ((pid_of(at["pid"]), at["index"]) for at in (it, it["now"]))
+    if it["change"] == "counts":
+        before, now = (f"{{{ranks[at['prev']]},{ranks[at['this']]}}}" for ranks, at in zip(told.ranks(), (it, it["now"])))
+        return f"; the ranks of its counts were {before} and are {now}"
+    if told.matches.get(one) == other and i == j and told.items(0, one)[i] != told.items(1, other)[j]:
+        return "; the place is the same, but the processes at its other end aren't matched"
+    return ""
+
+
+def lines_of(output, told):
     """The lines that tell what the objects tell, but for those of processes that are matched."""
     head, *rest = map(json.loads, output.decode().splitlines())
     if head == {"result": "same"}:
@@ -248,7 +259,7 @@ def lines_of(output):
         return
     yield (f"different: events gone {head['gone']}, new {head['new']}, elsewhere {head['elsewhere']}; processes gone "
            f"{head['gone_processes']}, new {head['new_processes']}, matched by a guess {head['guesses']}"
-           + (f"; counts {head['counts']}" if head['counts'] else ""))
+           + (f"; counts of another rank {head['counts']}" if head['counts'] else ""))
     for it in rest:
         if "process" in it:
             continue
@@ -258,7 +269,9 @@ def lines_of(output):
         now = it.get("now")
         other = now and {"send": f" to {now.get('to')}", "receive": f" from {now['from']}", "print": ""}[now["kind"]]
         serial = now and f" {{{now['prev']},{now['this']}}}" if it["change"] == "counts" else ""
-        yield f"{it['change']} {row_words(it)}" + (f", now {now['line']}: {now['pid']} {now['index']}{serial}{other}" if now else "")
+        yield f"{it['change']} {row_words(it)}" + (f", now {now['line']}: {now['pid']} {now['index']}{serial}{other}{difference_of(told, it)}" if now else "")
+    if head["guesses"]:
+        yield "seqtool diff --json has all matches, and which of them are guesses"
 
 
 def judged(program, name, first, second):
@@ -270,7 +283,7 @@ def judged(program, name, first, second):
         assert (told.head["result"] == "same") == told.is_renaming() or told.head["result"] == "different"
         assert got.status == lines.status == (told.head["result"] != "same") and not got.complaint and not lines.complaint
         said = [line for line in lines.output.decode().splitlines() if not line.startswith("process ")]
-        assert said == [*lines_of(got.output)], "the lines say something else"
+        assert said == [*lines_of(got.output, told)], "the lines say something else"
     except Exception as wrong:  # A strict reader may stop anywhere.
         yield Check(name, f"{type(wrong).__name__}: {wrong}\n{first}\n{second}\n{got.output.decode(errors='replace')[:4_000]}"), None
         return
@@ -371,8 +384,9 @@ BEFORE, AFTER = ((TOP / f"examples/{name}.txt").read_text() for name in ("before
 TOLD = (TOP / "examples/after.diff.answer").read_text()
 # The counts of the print and of the send behind it are exchanged.
 COUNTS = BEFORE.replace("{1,2}", "{1,9}")
-TOLD_OF_COUNTS = """different: events gone 0, new 0, elsewhere 0; processes gone 0, new 0, matched by a guess 0; counts 3
-counts 4: <0.30.0> 1  receive  label 17 {1,3} value 2 from <0.31.0>, now 4: <0.30.0> 1 {1,3} from <0.31.0>
+TOLD_OF_COUNTS = """different: events gone 0, new 0, elsewhere 0; processes gone 0, new 0, matched by a guess 0; counts of another rank 3
+counts 4: <0.30.0> 1  receive  label 17 {1,3} value 2 from <0.31.0>, now 4: <0.30.0> 1 {1,3} from <0.31.0>; the ranks of its \
+counts were {1,3} and are {1,2}
 """
 
 
@@ -476,7 +490,7 @@ def large(program):
     other = loops(1).replace("seq_trace,17", "seq_trace,18")
     got = differ(program, loops(0), other, seconds=SECONDS)
     wanted = f"different: events gone {LOOPS}, new {2 * LOOPS}, elsewhere 0; ".encode()
-    is_right = got.status == 1 and got.output.startswith(wanted) and got.output.count(b"\n") == 3 * LOOPS + 3
+    is_right = got.status == 1 and got.output.startswith(wanted) and got.output.count(b"\n") == 3 * LOOPS + 4
     yield Check("diff: two traces that have nothing in common", None if is_right else str(got)[:500])
 
 

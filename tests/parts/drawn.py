@@ -37,7 +37,8 @@ process <7.31.0>
 """
 EMPTY = "seqtrace 1\nprocess <0.30.0>\n"
 NO_EVENTS = b"no: standard input: there is no event to be drawn\n"
-NO_LABEL = b"no: standard input, label 9: no event has it; seqtool stats has the labels\n"
+LATE_ROWS = b"note: an event is late, so the rows aren't in the order of each process; seqtool complete names it\n"
+NO_LABEL = b"no: standard input, label 9: no event has it; seqtool lint has the labels\n"
 
 
 def late_of(streams):
@@ -134,11 +135,12 @@ def judged(name, judge, *given):
 def tables(program, trace):
     """The tables of all labels are those that `seqaudit chart` writes, with an empty line between."""
     charts = {label: "".join(f"{line}\n" for line in model.chart(trace.streams, label)) for label in trace.labels()}
+    said = LATE_ROWS if trace.late else b""
     got = program.run(("chart",), trace.text.encode())
-    yield expect(f"chart of {trace.name}", Answer(0, "\n".join(charts.values()).encode()), got, trace.text.encode())
+    yield expect(f"chart of {trace.name}", Answer(0, "\n".join(charts.values()).encode(), said), got, trace.text.encode())
     for label, chart in list(charts.items())[:2]:
         got = program.run(("chart", "--label", str(label)), trace.text.encode())
-        yield expect(f"chart of label {label} of {trace.name}", Answer(0, chart.encode()), got, trace.text.encode())
+        yield expect(f"chart of label {label} of {trace.name}", Answer(0, chart.encode(), said), got, trace.text.encode())
 
 
 # ---- sequence diagrams

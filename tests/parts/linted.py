@@ -57,10 +57,10 @@ BY_HAND = (
      "a bundle has no comments: leave the line out"),
     ("an atom for a label", HEAD + PRINT.replace("17", "foo") + "\n", 3, 12, "a label up to 4294967295", LABELS),
     ("a pid that ends in 1", "seqtrace 1\nprocess <0.30.1>\n", 2, 15, "0, the third part of a pid",
-     "the third part of a pid is 0"),
+     "the third part of a pid is 0 here: number the processes anew"),
     ("a pid's number above 65535", "seqtrace 1\nprocess <0.70000.0>\n", 2, 16, "a pid's number up to 65535", PID_PARTS),
     ("that end under header 2", "seqtrace 2\nprocess <3.30.1>\n", 2, 15, "0, the third part of a pid",
-     "the third part of a pid is 0"),
+     "the third part of a pid is 0 here: number the processes anew"),
     ("an empty text", "", 1, 1, HEADER, "the text is empty"),
     ("a text of blanks", "  \n\t\r\n", 1, 1, HEADER, "the text is empty"),
     ("a mark of UTF-8 alone", "\ufeff", 1, 1, HEADER, "the text is empty"),
@@ -96,7 +96,7 @@ BY_HAND = (
      "no label is greater: number the labels anew"),
     ("an atom for a value", HEAD + PRINT.replace("7}}", "ok}}") + "\n", 3, 40,
      VALUES, "a number is digits alone: seqaudit-node convert gives each term one"),
-    ("a full stop at the end", f"{HEAD}{PRINT}.\n", 3, 43, END, "nothing stands behind that: leave the rest out"),
+    ("a full stop at the end", f"{HEAD}{PRINT}.\n", 3, 43, END, "nothing stands behind that on its line: end the line there, or leave the rest out"),
     ("an event with a time stamp", HEAD + PRINT[:-1] + ",{1,2,3}}\n", 3, 42, "}", NO_TIME),
     ("the report of a no", "unfit <0.30.0> 2 uncaused\n", 1, 1, HEADER,
      "this is what a command found, and no bundle: see what the command before said"),
@@ -128,7 +128,7 @@ BY_HAND = (
     ("zeros between", "seqtrace 1\n\0p\n", 2, 1, BELOW_THE_HEADER,
      "a byte of 0, as in a file that wasn't written to its end: get the whole of it, since what stood there is lost"),
     ("a line of something else", f"{HEAD}\thello\n", 3, 1, BELOW_A_PROCESS,
-     "this is nothing that a bundle has: leave the line out"),
+     "this is nothing that a bundle has: mend the line if it is an event or a process, else leave it out"),
     ("an accent", HEAD + PRINT.replace("17", "1é7") + "\n", 3, 13, ",", "a byte that isn't ASCII: leave it out"),
     ("an event above the first process", f"seqtrace 1\n{PRINT}\n", 2, 1, BELOW_THE_HEADER, BELOW_ITS_LINE),
     ("an act above acts", f"{HEAD}look <0.30.0>\n", 3, 1, BELOW_A_PROCESS, "acts stand below a line acts"),
@@ -234,7 +234,7 @@ SEVERAL = (
       (5, 2, "an act", "acts are send, receive, print, printat, set, clear, look, reset, restore and tracer")), 0),
     ("a process line that can't be read doesn't spoil its events",
      f"seqtrace 1\nprocess <0.30.1>\n{PRINT}\n{FOO}\n",
-     ((2, 15, "0, the third part of a pid", "the third part of a pid is 0"),
+     ((2, 15, "0, the third part of a pid", "the third part of a pid is 0 here: number the processes anew"),
       (4, 12, "a label up to 4294967295", LABELS)), 0),
     ("a process that comes again further down",
      "seqtrace 1\nprocess <0.30.0>\nprocess <0.32.0>\nprocess <0.31.0>\nprocess <0.32.0>\n",
@@ -243,7 +243,7 @@ SEVERAL = (
      ((3, 32, "an event of <0.30.0>, this is one of <0.31.0>", BELOW_ITS_OWN), (3, 25, "a number above 3", RISES)), 0),
     ("a node under header 1 in a pid that can't be read", "seqtrace 1\nprocess <3.30.1>\n",
      ((2, 10, "node 0 under seqtrace 1", "a bundle that names a pid of another node begins with seqtrace 2"),
-      (2, 15, "0, the third part of a pid", "the third part of a pid is 0")), 1),
+      (2, 15, "0, the third part of a pid", "the third part of a pid is 0 here: number the processes anew")), 1),
 )
 
 
@@ -297,7 +297,8 @@ def lints(program):
         yield expect(f"lint: {name}", wanted, program.run(("lint",), given), given)
     long_line = PRINT.replace("7}}", "7" * 400 + "}}")
     given = f"{HEAD}{long_line}\n".encode()
-    wanted = diagnosis(given, 3, PRINT.index("7}}") + 20, VALUES, "no number is greater")
+    wanted = diagnosis(given, 3, PRINT.index("7}}") + 20, VALUES,
+                       "no value is greater, or below 0: seqaudit-node convert gives such a term a number")
     yield expect("lint: a long line is shown around the column", Answer(2, wanted), program.run(("lint",), given), given)
     yield from named(program)
     yield from unfit(program)

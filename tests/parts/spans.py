@@ -171,7 +171,7 @@ def export(program, trace, times, **how):
 
 
 def no_line(number):
-    return f"error: TIMES, line {number}: not a line of NAME.times as seqaudit-node writes it\n".encode()
+    return f"error: TIMES, line {number}: not a line of NAME.times as seqaudit-node writes it, each whole and each event once\n".encode()
 
 
 def no_event(number):

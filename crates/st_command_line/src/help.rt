@@ -34,7 +34,8 @@ pub(crate) const COMPLETE_EXAMPLE: &str = "Example:
 Status 1: `never PID I WORD`, no run without a reset has these streams, for the
 reason WORD at event I of PID (docs/FORMATS.md), whatever unlisted processes it
 may have.
-`added 0` means that no event is missing that the others need; a message whose
+`added 0` means that each event has what it follows. Events that counts alone show
+aren't added (seqtool stats has how many counts are skipped), and a message whose
 receive isn't reported may still wait.
 Status 5, with --as acts or streams: `long`, there is one, too long to be read.";
 
@@ -46,15 +47,17 @@ pub(crate) const RENUMBER_EXAMPLE: &str =
 
 If what it writes has a run without a reset, so has the given trace.";
 
-pub(crate) const WHY: &str = "Shows what an event follows, and so on back, or all that follows it";
+pub(crate) const WHY: &str =
+    "Shows what an event follows, and so on back, or what is reported to follow it";
 
 pub(crate) const WHY_EXAMPLE: &str = "Example:
   seqtool why 0.31.0 1 trace.txt
   <0.31.0> 1, line 8  receive  {3,4} 4 after <0.32.0> 1, line 12
   <0.32.0> 1, line 12  send     {3,4} 4 after <0.32.0> 0, line 11 (1, 2)
   <0.32.0> 0, line 11  receive  {2,3} 3 its send wasn't reported
-  in a run without a reset; (1) if each receive of a token was reported; (2) if
-  no process cleared or lost its token and began again under the same label; ..
+  in a run without a reset, if any; (1) if each receive of a token was reported;
+  (2) if no process cleared or lost its token, began again and reported an
+  earlier label again; ..
 The numbers behind a line are the premises that it rests on. `here` is the event
 or an earlier one of the same prev directly before it.
 Status 1: there is no such event, or the trace can't be paired.";
@@ -148,6 +151,7 @@ pub(crate) const DIFF_EXAMPLE: &str = "Example, for a trace before and one after
   process <0.31.0> is <0.131.0>, a guess: they are at the other ends of messages
   that are alike
   new 5: <0.131.0> 1  print   label 17 {1,2} value 9
+  seqtool diff --json has all matches, and which of them are guesses
 
 `same` with status 0 is exact: one renaming of pids and one of counts, which
 keeps their order, makes the one trace the other. Else status 1 and what is gone

@@ -224,7 +224,7 @@ const WHY_EFFECTS: OptionRow = OptionRow {
     long: Some("effects"),
     short: None,
     takes: Takes::Nothing,
-    help: "Show all that follows the event, as a tree",
+    help: "Show what follows the event, by reported receives, as a tree",
 };
 
 const WHY_LABEL: OptionRow = OptionRow {

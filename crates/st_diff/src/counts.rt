@@ -66,10 +66,14 @@ fn moved_of(
     let mut found: Option<Moved> = None;
     let (ones, others) = (first.0.events(pair.first), second.0.events(pair.second));
     for (index, (one, other)) in ones.iter().zip(others.iter()).enumerate() {
-        if first.1.of_serial(one.serial) != second.1.of_serial(other.serial) {
+        let ranks_before = first.1.of_serial(one.serial);
+        let ranks_now = second.1.of_serial(other.serial);
+        if ranks_before != ranks_now {
             let moved = found.unwrap_or(Moved {
                 pair,
                 index,
+                ranks_before,
+                ranks_now,
                 count: 0,
             });
             found = Some(moved.and_more(1));
@@ -83,6 +87,10 @@ fn moved_of(
 pub(crate) struct Moved {
     pub(crate) pair: Pair,
     pub(crate) index: usize,
+    /// How many counts of the first trace are below its own.
+    pub(crate) ranks_before: (usize, usize),
+    /// The same in the second trace.
+    pub(crate) ranks_now: (usize, usize),
     pub(crate) count: u64,
 }
 

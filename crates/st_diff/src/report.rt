@@ -3,11 +3,12 @@
 
 use crate::changes::{Change, Changes};
 use crate::counts::Moved;
-use crate::items::Which;
+use crate::items::{Item, Which};
 use crate::pairs::{Pair, Pairs};
 use crate::trace::Trace;
 use crate::words::{
-    Match, Sums, say_alone, say_change, say_match, say_match_object, say_same, say_sums,
+    Differs, Match, Now, Sums, say_alone, say_change, say_guesses, say_match, say_match_object,
+    say_same, say_sums,
 };
 use st_core::ByteSink;
 use st_events::Style;
@@ -100,10 +101,36 @@ impl<'a> Report<'a> {
         })
     }
 
+    /// Whether two changes are of one place, by the match of its process and the index there.
+    fn is_at_one_place(&self, change: &Change, other: &Change) -> bool {
+        match self.pairs.of(Which::First, change.process) {
+            Some(pair) => pair.second == other.process && change.index == other.index,
+            None => false,
+        }
+    }
+
+    /// What differs in an event that is a change of both traces.
+    fn differs(&self, change: &Change, other: &Change) -> Differs {
+        let one = self.first.events(change.process).get(change.index);
+        let two = self.second.events(other.process).get(other.index);
+        let (Some(one), Some(two)) = (one, two) else {
+            return Differs::Place;
+        };
+        let one = Item::whole(self.first, self.pairs, Which::First, one);
+        let two = Item::whole(self.second, self.pairs, Which::Second, two);
+        if self.is_at_one_place(change, other) && one != two {
+            return Differs::OtherEnd;
+        }
+        Differs::Place
+    }
+
     /// The event of the second trace that is the same as that of a change of the first.
-    fn now(&self, change: &Change) -> Option<Row> {
+    fn now(&self, change: &Change) -> Option<Now> {
         let other = self.changes.second.get(change.elsewhere?)?;
-        self.second.row(other.process, other.index)
+        Some(Now {
+            row: self.second.row(other.process, other.index)?,
+            differs: self.differs(change, other),
+        })
     }
 
     /// Writes a change of the first trace.
@@ -220,8 +247,12 @@ impl<'a> Report<'a> {
     fn say_moved<W: ByteSink>(&self, out: &mut TextWriter<'_, W>, moved: Moved) {
         let row = self.first.row(moved.pair.first, moved.index);
         let now = self.second.row(moved.pair.second, moved.index);
-        if let Some(row) = row {
-            say_change(out, "counts", &row, now.as_ref(), self.style);
+        if let (Some(row), Some(now)) = (row, now) {
+            let now = Now {
+                row: now,
+                differs: Differs::Ranks(moved),
+            };
+            say_change(out, "counts", &row, Some(&now), self.style);
         }
     }
 
@@ -243,6 +274,9 @@ impl<'a> Report<'a> {
         self.say_all(&mut out);
         if let Some(moved) = moved {
             self.say_moved(&mut out, moved);
+        }
+        if !is_same {
+            say_guesses(&mut out, sums, self.style);
         }
         out.flush()?;
         Ok(if is_same { 0 } else { 1 })

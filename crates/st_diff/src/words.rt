@@ -1,5 +1,6 @@
 //! The lines and the objects that tell of two traces.
 
+use crate::counts::Moved;
 use crate::pairs::Ground;
 use st_core::{ByteSink, Pid};
 use st_events::{Style, say_counts, say_row, say_row_fields};
@@ -33,10 +34,13 @@ impl Sums {
 /// The word for why two processes are matched, and a sentence.
 fn ground_words(ground: Ground) -> (&'static str, &'static str) {
     match ground {
-        Ground::Events => ("events", "all their events are alike"),
+        Ground::Events => (
+            "events",
+            "the kinds, labels and values of all their events are alike",
+        ),
         Ground::Several => (
             "several",
-            "all their events are alike, as those of others are",
+            "the kinds, labels and values of all their events are alike, as those of others are",
         ),
         Ground::Message => (
             "message",
@@ -65,11 +69,19 @@ pub(crate) fn say_sums<W: ByteSink>(out: &mut TextWriter<'_, W>, sums: &Sums, st
         ("gone_processes", "; processes gone ", sums.gone_processes),
         ("new_processes", ", new ", sums.new_processes),
         ("guesses", ", matched by a guess ", sums.guesses),
-        ("counts", "; counts ", sums.counts),
+        ("counts", "; counts of another rank ", sums.counts),
     ];
     let is_without_counts = sums.counts == 0 && matches!(style, Style::Text);
     let len = if is_without_counts { 6 } else { 7 };
     say_counts(out, style, all.get(..len).unwrap_or(&[]));
+}
+
+/// Writes where to read which processes are matched by a guess, since a line tells it only of those
+/// that differ.
+pub(crate) fn say_guesses<W: ByteSink>(out: &mut TextWriter<'_, W>, sums: &Sums, style: Style) {
+    if sums.guesses > 0 && matches!(style, Style::Text) {
+        out.say("seqtool diff --json has all matches, and which of them are guesses\n");
+    }
 }
 
 /// Writes that two traces are the same.
@@ -164,14 +176,51 @@ fn say_front<W: ByteSink>(out: &mut TextWriter<'_, W>, what: &str, row: &Row, st
     }
 }
 
-/// Writes where an event of the first trace is in the second one, and its serial there if that is
-/// what differs.
-fn say_now<W: ByteSink>(
-    out: &mut TextWriter<'_, W>,
-    row: &Row,
-    has_other_counts: bool,
-    style: Style,
-) {
+/// What differs in an event that both traces have.
+#[derive(Clone, Copy)]
+pub(crate) enum Differs {
+    /// Its place.
+    Place,
+    /// The process at its other end alone, which isn't the one that is matched with that of the
+    /// first trace.
+    OtherEnd,
+    /// The ranks of its counts.
+    Ranks(Moved),
+}
+
+/// An event of the second trace that the first one has too.
+#[derive(Clone, Copy)]
+pub(crate) struct Now {
+    pub(crate) row: Row,
+    pub(crate) differs: Differs,
+}
+
+/// Writes two ranks as a serial has two counts.
+fn say_ranks<W: ByteSink>(out: &mut TextWriter<'_, W>, ranks: (usize, usize)) {
+    out.say_part("{", ranks.0 as u64);
+    out.say_part(",", ranks.1 as u64);
+    out.say("}");
+}
+
+/// Writes what differs in an event, if its place doesn't say that.
+fn say_difference<W: ByteSink>(out: &mut TextWriter<'_, W>, differs: Differs) {
+    match differs {
+        Differs::Place => {}
+        Differs::OtherEnd => {
+            out.say("; the place is the same, but the processes at its other end aren't matched");
+        }
+        Differs::Ranks(moved) => {
+            out.say("; the ranks of its counts were ");
+            say_ranks(out, moved.ranks_before);
+            out.say(" and are ");
+            say_ranks(out, moved.ranks_now);
+        }
+    }
+}
+
+/// Writes where an event of the first trace is in the second one, and what differs.
+fn say_now<W: ByteSink>(out: &mut TextWriter<'_, W>, now: &Now, style: Style) {
+    let row = &now.row;
     if let Style::Json = style {
         out.say(",\"now\":{");
         say_row_fields(out, row);
@@ -182,11 +231,12 @@ fn say_now<W: ByteSink>(
     out.say(": ");
     out.say_pid(row.pid);
     out.say_part(" ", row.index);
-    if has_other_counts {
+    if matches!(now.differs, Differs::Ranks(_)) {
         out.say(" ");
         out.say_serial(row.event.serial);
     }
     out.say_other(&row.event);
+    say_difference(out, now.differs);
 }
 
 /// Writes an event of one trace, with its place in the other one if it has one there.
@@ -194,12 +244,12 @@ pub(crate) fn say_change<W: ByteSink>(
     out: &mut TextWriter<'_, W>,
     what: &str,
     row: &Row,
-    now: Option<&Row>,
+    now: Option<&Now>,
     style: Style,
 ) {
     say_front(out, what, row, style);
     if let Some(now) = now {
-        say_now(out, now, what == "counts", style);
+        say_now(out, now, style);
     }
     out.say(style.end());
 }

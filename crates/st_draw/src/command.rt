@@ -17,10 +17,15 @@ use st_core::{ByteSink, ByteSource, Label, Streams};
 use st_events::{find_late, send_late};
 use st_order::{Item, order};
 use st_pair::{Pairing, pair};
+use st_say::send_words;
 use st_text::{Limits, ReadFault, read_within};
 use st_tool::send_never;
 use std::alloc::{AllocError, Global};
 use std::thread::Threads;
+
+/// What is noted of tables if an event is late.
+const LATE: &str =
+    "note: an event is late, so the rows aren't in the order of each process; seqtool complete names it\n";
 
 /// How a drawing is written.
 #[derive(Clone, Copy)]
@@ -91,17 +96,22 @@ fn draw_paired<H: Threads + Sync, W: ByteSink, N: ByteSink>(
     }
     let items = order(rt, alloc, streams, pairing)?;
     match drawing.notation {
-        Notation::Table => tell_tables(
-            rt,
-            alloc,
-            streams,
-            &scene,
-            pairing,
-            items.as_slice(),
-            drawing.label,
-            writer,
-            notes,
-        ),
+        Notation::Table => {
+            if find_late(streams).is_some() {
+                let _ = send_words(notes, LATE);
+            }
+            tell_tables(
+                rt,
+                alloc,
+                streams,
+                &scene,
+                pairing,
+                items.as_slice(),
+                drawing.label,
+                writer,
+                notes,
+            )
+        }
         Notation::Mermaid => draw_mermaid(alloc, &scene, items.as_slice(), writer),
         Notation::Dot => draw_dot(alloc, &scene, writer),
     }

@@ -16,7 +16,7 @@ pub enum Hop {
     /// before that.
     After(u64),
     /// A send or print: its process's receive at this index, which has its label; else the process
-    /// began again under this label.
+    /// began again, and set this label then or later.
     AfterOneLabel(u64),
     /// A send or print: its process's receive at this index has this other label.
     OtherLabel(u64, Label),
@@ -34,8 +34,8 @@ pub enum Premises {
     Neither,
     /// That its process reported each receive of a token.
     First,
-    /// That, and that its process never began again under the label of an earlier event, once its
-    /// token was cleared or a message without one had taken it away.
+    /// That, and that its process sent or printed under no label that it had reported before, once its
+    /// token was cleared, or a message without one took it away, and it began again.
     Both,
 }
 

@@ -4,9 +4,20 @@ use crate::kind::{Kind, behind_mark, kind_of};
 use crate::mend::blank_bytes;
 use crate::text::Text;
 
-/// The words that a report of a command begins with.
-const REPORTS: [&str; 8] = [
-    "unfit ", "never ", "no ", "yes", "added ", "fault ", "long", "error: ",
+/// What a report of a command begins with, and other texts hardly ever do.
+const REPORTS: [&str; 12] = [
+    "unfit <",
+    "never <",
+    "no stuck ",
+    "no differs ",
+    "no left <",
+    "no event ",
+    "no label ",
+    "yes\n",
+    "added ",
+    "fault ",
+    "long\n",
+    "error: ",
 ];
 
 /// What the files of `seqaudit-node` begin with, each with what to do about it.

@@ -152,6 +152,9 @@ fn remedy_of_number(noun: &str, byte: Option<u8>) -> &'static str {
         ("a pid's node" | "a pid's number", _) => {
             "a pid is <NODE.NUMBER.0> with numbers up to 65535: number the processes anew"
         }
+        ("a value, a number", Some(b'0'..=b'9' | b'-')) => {
+            "no value is greater, or below 0: seqaudit-node convert gives such a term a number"
+        }
         (_, Some(b'0'..=b'9')) => "no number is greater",
         (_, Some(b'-')) => "no number is below 0",
         _ => "a number is digits alone: seqaudit-node convert gives each term one",
@@ -172,11 +175,17 @@ fn remedy_of_place(line: &[u8], rest: &[u8], expected: Expected) -> Option<&'sta
     match expected {
         Expected::Number(noun, _) => Some(remedy_of_number(noun, byte)),
         Expected::NoLeadingZero => Some("write the number without its leading 0"),
-        Expected::Thing("0, the third part of a pid") => Some("the third part of a pid is 0"),
+        Expected::Thing("0, the third part of a pid") => Some(
+            "the third part of a pid is 0 here: number the processes anew",
+        ),
         Expected::Thing("true or false") => Some("a flag is true or false"),
         Expected::Thing("send, 'receive' or print") => Some(remedy_of_word(line)),
         Expected::EventEnd => Some(remedy_of_end(byte)),
-        Expected::End => Some("nothing stands behind that: leave the rest out"),
+        Expected::End => {
+            Some(
+                "nothing stands behind that on its line: end the line there, or leave the rest out",
+            )
+        }
         Expected::Text(_) | Expected::Thing(_) => None,
     }
 }
@@ -194,8 +203,12 @@ fn remedy_of_line(line: &[u8], kind: Kind, above: Above) -> &'static str {
                 "acts are send, receive, print, printat, set, clear, look, reset, restore and tracer",
             ),
             Above::Nothing => "a bundle begins with its header",
-            Above::Header => "below the header stands a process line, or acts: leave the line out",
-            Above::Process => "this is nothing that a bundle has: leave the line out",
+            Above::Header => {
+                "below the header stands a process line, or acts: mend the line if it is one, else leave it out"
+            }
+            Above::Process => {
+                "this is nothing that a bundle has: mend the line if it is an event or a process, else leave it out"
+            }
         },
     }
 }

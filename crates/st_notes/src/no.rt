@@ -21,14 +21,19 @@ struct Meaning {
     conclusion: &'static str,
 }
 
-/// No run without a reset reports the trace.
-const NEVER: &str = "; no run without a reset reports it";
+/// No run without a reset reports the trace. A token that is put back may set a clock of a standard
+/// node back, so that a count is there twice.
+const NEVER: &str =
+    "; no run without a reset reports it, but a standard node may if a token was put back";
+
+/// The same of a count that no clock has, also on a standard node.
+const NEVER_COUNTED: &str = "; no run without a reset reports it";
 
 const MAYBE: &str = "; seqtool complete says whether a run without a reset reports it";
 
 /// The same as `NEVER`, and what else may be why.
 const NEVER_OR_CHANGED: &str =
-    "; no run without a reset reports it; the file may have been changed after it was collected";
+    "; no run without a reset reports it, but a standard node may if a token was put back; the file may also have been changed after it was collected";
 
 /// What is said behind that if both events are the same.
 const TWICE: &str = "; both lines are the same, so this may be one event that was written twice";
@@ -95,7 +100,7 @@ const TOO_HIGH: Meaning = Meaning {
     word: "toohigh",
     front: "it counts higher than a clock can",
     back: "",
-    conclusion: NEVER,
+    conclusion: NEVER_COUNTED,
 };
 
 /// What this word of a reason means.
@@ -153,12 +158,12 @@ const LONG_CLOCKS: &str =
 /// What is said of an act that is refused.
 const NO_STEP: &str = "it has no step";
 
-const OTHER_EVENT: &str = "it reports something else than the next event of its process";
+const OTHER_EVENT: &str = "what it reports isn't the next event of its process";
 
 /// What is said of a line without an event, and of a label without one.
 const NO_EVENT_ON_LINE: &str = ": there is no event; seqtool list has the line of each";
 
-const NO_EVENT_OF_LABEL: &str = ": no event has it; seqtool stats has the labels";
+const NO_EVENT_OF_LABEL: &str = ": no event has it; seqtool lint has the labels";
 
 /// What is written before the name of the text and behind it. What is too long is no `no`.
 fn marks_of(no: No<'_>) -> (&'static str, &'static str) {

@@ -20,8 +20,9 @@ pub fn tell_found<H: Eprint>(rt: &H, name: &str) {
 pub fn tell_nothing_added<H: Eprint>(rt: &H, name: &str, line: &[u8]) {
     if line == NOTHING.as_slice() || line.starts_with(NOTHING_AS_JSON.as_slice()) {
         let _ = eprintln!(rt;
-            "note: {name}: nothing is added, since no event is missing that the others need; \
-            a message whose receive isn't reported may still wait"
+            "note: {name}: nothing is added, since each event has what it follows; events that counts \
+            alone show aren't added (seqtool stats has how many counts are skipped), and a message \
+            whose receive isn't reported may still wait"
         );
     }
 }

@@ -64,7 +64,7 @@ const EVENT_WORDS: &str =
     PID is 0.31.0 or '<0.31.0>', with numbers up to 65535";
 
 const INDEX_WORDS: &str =
-    "the number of the event is missing: why takes PID and I, the event's number in the stream \
+    "the number of the event is missing or too great: why takes PID and I, the event's number in the stream \
     of PID, counted from 0, as in seqtool why 0.31.0 1 trace.txt";
 
 const LINE_WORDS: &str =

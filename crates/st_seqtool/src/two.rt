@@ -19,7 +19,7 @@ fn tell_times<H>(screen: &Screen<'_, H>, name: &str, fault: TimesFault) {
         // The commands' own words tell of these.
         TimesFault::Read(_) => Ok(()),
         TimesFault::Line(line) => eprintln!(rt;
-            "error: {name}, line {line}: not a line of NAME.times as seqaudit-node writes it"
+            "error: {name}, line {line}: not a line of NAME.times as seqaudit-node writes it, each whole and each event once"
         ),
         TimesFault::Unknown(line) => {
             eprintln!(rt; "error: {name}, line {line}: the trace has no such event or message")

@@ -68,7 +68,7 @@ premise_fields premises.Both = codes ",\"certain\":false,\"premises\":[1,2]}"
 -- the last object: the premises in words
 abbrev pub premises_object : List ℕ
 premises_object = codes
-    "{\"premise_1\":\"each receive of a token was reported\",\"premise_2\":\"no process cleared or lost its token and began again under the same label\",\"standard_node\":\"2 wherever 1\"}"
+    "{\"premise_1\":\"each receive of a token was reported\",\"premise_2\":\"no process cleared or lost its token, began again and reported an earlier label again\",\"standard_node\":\"2 wherever 1, except behind a spawn or a token put back\"}"
 
 -- the object of event i of p, so far from the first one
 abbrev pub hop_object : List Stream → ℕ → Pid → ℕ → Event → List ℕ

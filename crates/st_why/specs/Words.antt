@@ -90,4 +90,4 @@ hop_line streams way depth p i e = head_words streams way depth p i e
 
 abbrev pub premises_text : List ℕ
 premises_text = codes
-    "in a run without a reset; (1) if each receive of a token was reported; (2) if no process cleared or lost its token and began again under the same label; on a standard node (2) wherever (1)"
+    "in a run without a reset, if any; (1) if each receive of a token was reported; (2) if no process cleared or lost its token, began again and reported an earlier label again; on a standard node (2) wherever (1), except behind a spawn or a token put back"

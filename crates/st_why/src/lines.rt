@@ -36,15 +36,17 @@ impl TextLine for LastLine {
         match self.0 {
             Style::Text => put_bytes(
                 buffer,
-                b"in a run without a reset; (1) if each receive of a token was reported; \
-                    (2) if no process cleared or lost its token and began again under the same \
-                    label; on a standard node (2) wherever (1)",
+                b"in a run without a reset, if any; (1) if each receive of a token was reported; \
+                    (2) if no process cleared or lost its token, began again and reported an \
+                    earlier label again; on a standard node (2) wherever (1), except behind a \
+                    spawn or a token put back",
             ),
             Style::Json => put_bytes(
                 buffer,
                 b"{\"premise_1\":\"each receive of a token was reported\",\
-                    \"premise_2\":\"no process cleared or lost its token and began again under \
-                    the same label\",\"standard_node\":\"2 wherever 1\"}",
+                    \"premise_2\":\"no process cleared or lost its token, began again and \
+                    reported an earlier label again\",\
+                    \"standard_node\":\"2 wherever 1, except behind a spawn or a token put back\"}",
             ),
         }
     }
