@@ -177,15 +177,22 @@ and_listed(Several) -> [lists:join(", ", lists:droplast(Several)), " and ", list
 strangers([_]) -> "a process that the trace doesn't list";
 strangers(Several) -> [number(length(Several)), " processes that the trace doesn't list"].
 
-%% A port reports no receive.
+%% A port reports no receive, a node drops a reply whose caller waits no longer, and a message to another node may get
+%% there without its token.
 not_received(Waiting, Outcome, Legend) ->
+    Ways = [{", or went to a port", fun(#{to := To}) -> seqaudit_legend:is_port(To, Legend) end},
+            {", or was a reply that came too late",
+             fun(#{value := Value}) -> seqaudit_legend:is_reply_to_alias(Value, Legend) end},
+            {", or reached another node without its token",
+             fun(#{from := From, to := To}) -> node_of(From) =/= node_of(To) end}],
     [count(length(Waiting), "message"), case Waiting of [_] -> " has"; _ -> " have" end,
      case Outcome of
          #{cut := true} -> " no receive here";
          #{} -> " no reported receive, and may still wait"
      end,
-     [", or went to a port" || lists:any(fun(#{event := #{to := To}}) -> seqaudit_legend:is_port(To, Legend) end,
-                                         Waiting)]].
+     [Way || {Way, Is} <- Ways, lists:any(fun(#{event := Event}) -> Is(Event) end, Waiting)]].
+
+node_of(Pid) -> hd(binary:split(Pid, <<".">>)).
 
 %% @doc How many of a thing there are, in words.
 -spec count(non_neg_integer(), string()) -> string().

@@ -8,7 +8,7 @@
 -export([text/4, read/1, numbers/1, unlisted/2, is_unlisted/2, process/2, about/2, is_port/2, label/2, value/2,
          brief/2]).
 -export([of_cut/1, is_of_cut/1, absent/1, present/1]).
--export([is_spawned/2, find_label/2, which_label/2, format_error/1]).
+-export([is_spawned/2, is_reply_to_alias/2, find_label/2, which_label/2, format_error/1]).
 -export_type([legend/0]).
 
 -import(seqaudit_errors, [text/2]).
@@ -21,6 +21,7 @@
 %% by which OTP spawns a process. What is captured replaces its number.
 -define(TAG, "(?:\\[alias\\|#Ref<[0-9.]*>\\]|#Ref<[0-9.]*>)").
 -define(SPAWNED, "^\\{spawn_reply,#Ref<[0-9.]*>,ok,(.*)\\}$").
+-define(TO_ALIAS, "^\\{\\[alias\\|#Ref<[0-9.]*>\\],").
 -define(BRIEF, [{"^\\{'\\$gen_call',\\{[^,]*," ?TAG "\\},(.*)\\}$", ["call ", 1]},
                 {"^\\{'\\$gen_cast',(.*)\\}$", ["cast ", 1]},
                 {"^\\{spawn_request,#Ref<[0-9.]*>,[^,]*,[^,]*,\\{([^,{}]*),([^,{}]*),([0-9]+)\\},"
@@ -175,6 +176,11 @@ brief_text(Text, [{Pattern, Parts} | Patterns], Legend) ->
 -spec is_spawned(binary(), legend()) -> boolean().
 is_spawned(Number, Legend) ->
     re:run(erlang_value(Number, Legend), ?SPAWNED, [{capture, none}]) =:= match.
+
+%% @doc Whether a value is a reply to an alias, which a caller that has timed out no longer has.
+-spec is_reply_to_alias(binary(), legend()) -> boolean().
+is_reply_to_alias(Number, Legend) ->
+    re:run(erlang_value(Number, Legend), ?TO_ALIAS, [{capture, none}]) =:= match.
 
 %% @doc The number of the label that is printed so, or is the term that this text spells, or has
 %% this number.

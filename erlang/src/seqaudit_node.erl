@@ -3,6 +3,8 @@
 
 -export([main/1, run/1]).
 
+-import(seqaudit_errors, [text/2]).
+
 %% Exit statuses, as those of `seqaudit'.
 -define(FITS, 0).
 -define(UNFIT, 1).
@@ -279,8 +281,17 @@ collect(ok, Start, {Wait, Unload}) ->
         [io:format("  ~ts writes its events to ~ts~n", [Node, Folder])
          || {Node, Folder} <- seqaudit_trace:folders()],
         _ = seqaudit_signals:wait(Asked, Wait),
-        written(seqaudit_trace:stop(), fun seqaudit_trace:format_error/1)
+        Folders = seqaudit_trace:folders(),
+        written(seqaudit_trace:stop(), fun(Reason) -> not_written(Reason, Folders) end)
     end).
+
+%% Nobody can call stop once more when this node has ended, so it is said where the events are.
+not_written({Which, File, Reason}, Folders) when Which =:= file; Which =:= unwritten ->
+    text("~ts; what was collected stays in ~ts: `seqaudit-node convert FOLDER -o NAME' there makes a trace of it",
+         [seqaudit_errors:unwritten(File, Reason),
+          lists:join(" and ", [text("~ts of ~ts", [Folder, Node]) || {Node, Folder} <- Folders])]);
+not_written(Reason, _Folders) ->
+    seqaudit_trace:format_error(Reason).
 
 unload(Options) -> is_map_key("--unload", Options).
 

@@ -66,16 +66,17 @@ period(#state{asked = Asked} = State, Began) ->
             ok = seqaudit_trace:cancel(),
             {?SYSTEM, text("period ~b couldn't be looked at (~0tP)", [State#state.number, Reason, 20])};
         Asked ->
-            demonitor(Monitor, [flush]),
             exit(Worker, kill),
-            ended(State)
+            receive {'DOWN', Monitor, process, Worker, _} -> ended(State) end
     end.
 
 %% The period that runs isn't audited: that could take long.
 ended(#state{name = Name, number = Number, unfit = Unfit, open = Open, say = Say} = State) ->
     ok = seqaudit_trace:cancel(),
     ok = lists:foreach(fun(File) -> file:delete(File) end, State#state.rest),
-    ok = lists:foreach(fun(One) -> remove(name(Name, One)) end, [Number | [Open || Open =/= none]]),
+    ok = lists:foreach(fun(One) -> remove(name(Name, One)) end, [Open || Open =/= none]),
+    %% What a look at this period may have left for the next one goes too.
+    ok = remove(name(Name, Number), fun(_) -> true end),
     ok = Say(text("~ts audited, ~b kept; period ~b, which was running, isn't audited~n",
                   [seqaudit_explain:count(Number - 1, "period"), length(State#state.kept), Number])),
     case Unfit of 0 -> ?FITS; _ -> ?UNFIT end.
@@ -256,8 +257,10 @@ name(Name, Number) -> text("~ts.~b", [Name, Number]).
 
 %% Not what is left for the next period.
 remove(Period) ->
+    remove(Period, fun(Name) -> not lists:suffix(".rest.events", Name) end).
+
+remove(Period, Is) ->
     Folder = filename:dirname(Period),
     {ok, Names} = file:list_dir(Folder),
     lists:foreach(fun(Name) -> file:delete(filename:join(Folder, Name)) end,
-                  [Name || Name <- Names, lists:prefix(filename:basename(Period) ++ ".", Name),
-                           not lists:suffix(".rest.events", Name)]).
+                  [Name || Name <- Names, lists:prefix(filename:basename(Period) ++ ".", Name), Is(Name)]).

@@ -339,7 +339,8 @@ watched(There, Name, Says, End) ->
     Around = lists:sort([Number || One <- filelib:wildcard(Name ++ ".*.seqtrace"),
                                    ["w", Number, "seqtrace"] <- [string:split(filename:basename(One), ".", all)]]),
     [_ | _] = Says("cut at a quiet moment"),
-    [[_]] = Says("[0-9]+ periods audited, 3 kept; period [0-9]+, which was running, isn't audited\n").
+    [[_]] = Says("[0-9]+ periods audited, 3 kept; period [0-9]+, which was running, isn't audited\n"),
+    [] = filelib:wildcard(Name ++ ".*.rest.events").
 
 %% A collector that ended by itself is begun again: the line says since when what is lost, and the next periods are
 %% whole.

@@ -4,7 +4,8 @@
 -export([long_wait_ends_when_asked_test/0, long_name_is_no_function_test/0, wrong_option_is_usage_test_/0,
          cookie_with_a_letter_test/0, failed_start_leaves_no_file_test/0, unwritable_promises_nothing_test/0,
          unwritten_file_is_said_to_be_so_test/0, label_is_spelled_as_it_is_taken_test/0,
-         cut_says_not_here_test/0, port_may_have_got_it_test/0, version_tells_what_is_proved_test/0,
+         cut_says_not_here_test/0, port_may_have_got_it_test/0, late_reply_may_be_dropped_test/0,
+         message_to_another_node_may_lose_its_token_test/0, version_tells_what_is_proved_test/0,
          proved_comes_first_test_/0, lacking_option_is_named_test_/0, version_test/0]).
 
 has(Text, Part) -> {_, _} = binary:match(unicode:characters_to_binary(Text), unicode:characters_to_binary(Part)).
@@ -108,6 +109,22 @@ port_may_have_got_it_test() ->
     {ok, Legend} = seqaudit_legend:read(File),
     has(said(Streams, #{}, Legend), "1 message has no reported receive, and may still wait, or went to a port\n"),
     nomatch = string:find(said(Streams, #{}, seqaudit_legend:numbers(Streams)), "to a port").
+
+late_reply_may_be_dropped_test() ->
+    Client = <<"<0.9.0>">>,
+    Streams = [{<<"<0.1.0>">>, [event(0, send, Client, 0, 1)]}, {Client, []}],
+    #{value := Value} = event(0, send, Client, 0, 1),
+    File = seqaudit_audits:file("reply.terms"),
+    ok = file:write_file(File, ["seqaudit terms 1\nvalue\t", Value, "\t{[alias|#Ref<0.1.2.3>],late}\n"]),
+    {ok, Legend} = seqaudit_legend:read(File),
+    has(said(Streams, #{}, Legend), "and may still wait, or was a reply that came too late\n"),
+    nomatch = string:find(said(Streams, #{}, seqaudit_legend:numbers(Streams)), "too late").
+
+message_to_another_node_may_lose_its_token_test() ->
+    Other = <<"<1.9.0>">>,
+    Streams = [{<<"<0.1.0>">>, [event(0, send, Other, 0, 1)]}, {Other, []}],
+    has(said(Streams, #{}, seqaudit_legend:numbers(Streams)),
+        "and may still wait, or reached another node without its token\n").
 
 %% A copy in another folder is as unproved as where it was built.
 version_tells_what_is_proved_test() ->
