@@ -34,9 +34,9 @@ pub(crate) const COMPLETE_EXAMPLE: &str = "Example:
 Status 1: `never PID I WORD`, no run without a reset has these streams, for the
 reason WORD at event I of PID (docs/FORMATS.md), whatever unlisted processes it
 may have.
-`added 0` means that each event has what it follows. Events that counts alone show
-aren't added (seqtool stats has how many counts are skipped), and a message whose
-receive isn't reported may still wait.
+`added 0` means that each event has what it follows. Events that counts alone
+show aren't added (seqtool stats has how many counts are skipped), and a message
+whose receive isn't reported may still wait.
 Status 5, with --as acts or streams: `long`, there is one, too long to be read.";
 
 pub(crate) const RENUMBER: &str = "Replaces each count by its rank, if counts begin high";
