@@ -181,16 +181,16 @@ strangers(Several) -> [number(length(Several)), " processes that the trace doesn
 %% there without its token.
 not_received(Waiting, Outcome, Legend) ->
     Ways = [{", or went to a port", fun(#{to := To}) -> seqaudit_legend:is_port(To, Legend) end},
-            {", or was a reply that came too late",
+            {", or came too late, as a reply may",
              fun(#{value := Value}) -> seqaudit_legend:is_reply_to_alias(Value, Legend) end},
-            {", or reached another node without its token",
+            {", or reached another node without a token",
              fun(#{from := From, to := To}) -> node_of(From) =/= node_of(To) end}],
     [count(length(Waiting), "message"), case Waiting of [_] -> " has"; _ -> " have" end,
      case Outcome of
          #{cut := true} -> " no receive here";
-         #{} -> " no reported receive, and may still wait"
-     end,
-     [Way || {Way, Is} <- Ways, lists:any(fun(#{event := Event}) -> Is(Event) end, Waiting)]].
+         #{} -> [" no reported receive, and may still wait",
+                 [Way || {Way, Is} <- Ways, lists:any(fun(#{event := Event}) -> Is(Event) end, Waiting)]]
+     end].
 
 node_of(Pid) -> hd(binary:split(Pid, <<".">>)).
 

@@ -117,14 +117,14 @@ late_reply_may_be_dropped_test() ->
     File = seqaudit_audits:file("reply.terms"),
     ok = file:write_file(File, ["seqaudit terms 1\nvalue\t", Value, "\t{[alias|#Ref<0.1.2.3>],late}\n"]),
     {ok, Legend} = seqaudit_legend:read(File),
-    has(said(Streams, #{}, Legend), "and may still wait, or was a reply that came too late\n"),
+    has(said(Streams, #{}, Legend), "and may still wait, or came too late, as a reply may\n"),
     nomatch = string:find(said(Streams, #{}, seqaudit_legend:numbers(Streams)), "too late").
 
 message_to_another_node_may_lose_its_token_test() ->
     Other = <<"<1.9.0>">>,
     Streams = [{<<"<0.1.0>">>, [event(0, send, Other, 0, 1)]}, {Other, []}],
     has(said(Streams, #{}, seqaudit_legend:numbers(Streams)),
-        "and may still wait, or reached another node without its token\n").
+        "and may still wait, or reached another node without a token\n").
 
 %% A copy in another folder is as unproved as where it was built.
 version_tells_what_is_proved_test() ->
