@@ -41,7 +41,7 @@ try: bin/quick/seqaudit ## runs the unproved seqaudit: COMMAND=.. FILE=.. (at on
 # it are proved from nothing.
 PROVE = .ci/prove $(if $(KEEP),--keep)
 
-program: ## proves both programs and all below them, and builds them in bin/ (about 40 minutes; KEEP=1 takes more disk and makes it short after an edit)
+program: ## proves both programs and all below them, and builds them in bin/ (about 35 minutes; KEEP=1 takes more disk and makes it short after an edit)
 	@$(PROVE) $(PROGRAMS)
 
 bin/%: $(SOURCES)
