@@ -23,11 +23,11 @@ help:
 # A build takes one processor, and up to 2 GB.
 QUICK_AT_ONCE = $(shell awk '/^MemAvailable/ { print ($$2 < 5000000 ? 1 : 2) }' /proc/meminfo)
 
-quick: ## builds both programs without their proofs, in bin/quick/ (2 to 3 minutes)
+quick: ## builds both programs without their proofs, in bin/quick/ (3 to 4 minutes)
 	@$(MAKE) --no-print-directory -j$(QUICK_AT_ONCE) $(PROGRAMS:%=bin/quick/%)
 
 bin/quick/%: $(CODE)
-	@echo "$* is built without its proofs, in 2 to 3 minutes." >&2
+	@echo "$* is built without its proofs, in 3 to 4 minutes." >&2
 	@.ci/quick $* $@
 
 # What isn't the program's output goes to standard error. If the program fails, make says `Error` and the program's exit

@@ -128,7 +128,7 @@ FALSEHOODS = [
     ("crates/st_check/CALLING.md", "ensures verdict { IfOk result", "ensures verdict { OnOk result"),
     ("crates/st_lines/CALLING.md", "Some(line) => line,", "Some(line) => line + 1,"),
     (README, " crates, one layer each", "0 crates, one layer each"),
-    (README, "| 2 to 3 minutes |", "| 4 to 5 minutes |"),
+    (README, "| 3 to 4 minutes |", "| 4 to 5 minutes |"),
     (README, "pub runs : run top (pids_of streams) acts", "pub runs : run (pids_of streams) acts"),
     ("docs/COMPLETIONS.md", "added <0.65535.0> 0", "added <0.65534.0> 0"),
 ]
