@@ -14,7 +14,7 @@ CODE := crates.txt .ci/quick .ci/quick-clang $(filter %.rt,$(SOURCES))
 # The tests' judges assert: Python must not leave assertions out.
 unexport PYTHONOPTIMIZE
 
-.PHONY: help quick try program demo install uninstall test wrong-bodies layout layers clauses plan docs test-program test-erlang test-conformance test-rust rust dist bench hostile clean distclean
+.PHONY: help quick try program demo install uninstall test gate wrong-bodies layout layers clauses plan docs tables test-kit test-program test-erlang test-conformance test-rust rust dist bench hostile clean distclean
 .DELETE_ON_ERROR:
 
 help:
@@ -75,17 +75,22 @@ uninstall: ## removes from PREFIX what install copied there (at once)
 # The parts that come after the proofs run side by side if there are processors enough.
 PARTS_AT_ONCE = $(shell test $$(nproc) -ge 4 && nproc || echo 1)
 
-test: layout layers clauses plan docs ## the merge gate: all proofs from nothing, the wrong bodies of must-fail/, the tests (about 90 minutes on four processors)
-	.ci/gate
+# Repeats at the end what was skipped, and why.
+test: SHELL := /bin/bash
+test: ## the merge gate: all proofs from nothing, the wrong bodies of must-fail/, the tests (about 90 minutes on four processors)
+	@mkdir -p bin; set -o pipefail; $(MAKE) --no-print-directory gate 2>&1 | tee bin/test.log; status=$$?; \
+	echo; grep -E '\bskipped\b' bin/test.log | sort -u || echo 'Nothing was skipped.'; exit $$status
+
+gate: layout layers clauses plan tables
+	rt ci
 	@if command -v erl >/dev/null; then $(MAKE) --no-print-directory -C erlang compiled; fi
-	@$(MAKE) --no-print-directory -j$(PARTS_AT_ONCE) --output-sync=target test-program test-erlang test-conformance test-rust
+	@$(MAKE) --no-print-directory -j$(PARTS_AT_ONCE) --output-sync=target test-kit test-program test-erlang test-conformance test-rust
 
 # The gate tries the wrong bodies that tell most.
-wrong-bodies: ## tries all wrong bodies, many in one check (an hour or more, after program)
+wrong-bodies: ## tries all wrong bodies (an hour or more, after program)
 	@.ci/wrong-bodies
 
-# The gate requires the layout of `rt fmt` too, but only after the proofs below a crate.
-layout: ## names the sources that rt fmt would lay out otherwise, and holds page.js to its modules (3 seconds)
+layout: ## names the sources that rt fmt would lay out otherwise (20 seconds)
 	@.ci/layout
 
 # A crate cites of another crate's proofs its lemmas for callers alone, and none of its definitions for the parts alone.
@@ -94,14 +99,21 @@ layers: ## looks what each crate cites of the others, and for names that two hav
 	@.ci/layers
 	@.ci/names
 
-clauses: ## looks for functions without a clause in crates that have definitions (1 second)
+clauses: ## looks for functions without a clause (1 second)
 	@.ci/clauses
 
 plan: ## plans builds of made-up crates, as make program plans the real one (1 second)
 	@.ci/prove --self-test
 
-docs: ## holds the docs to the sources, and plants falsehoods, which must be refused (8 seconds)
-	@.ci/docs --self-test
+docs: ## writes into the pages what the sources decide: limits, crates, counts, the functions of CALLING.md (1 second)
+	@.ci/tables
+
+tables:
+	@.ci/tables --check
+
+# Proves a small crate by a copy of the toolchain's command in which the private names are others.
+test-kit: ## make program on another kit, whose inside is another (1 minute; needs rt)
+	@if command -v rt >/dev/null; then tests/other-kit; else echo "There is no rt here: the test of another kit is skipped."; fi
 
 # The program that the gate, or else `make program`, built last. The paths are relative, since a blank in that of the
 # checkout would divide them.
