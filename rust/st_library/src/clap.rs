@@ -51,11 +51,11 @@ impl Error {
         self.inner.as_ref().map_or(true, ::clap::Error::use_stderr)
     }
 
-    /// Prints the text to standard output or standard error. As theirs.
+    /// Prints the text to standard output or standard error. As theirs; if nobody reads it, the program ends.
     pub fn print<R: Eprint>(&self, _: &R) -> io::Result<()> {
         match &self.inner {
             None => Ok(()),
-            Some(error) => error.print(),
+            Some(error) => io::or_end(error.print()),
         }
     }
 }

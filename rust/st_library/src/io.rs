@@ -2,29 +2,64 @@
 
 pub use std::io::{Error, ErrorKind, Read, Result, Write};
 
-/// Fails if the file of this number was closed when the program began. Rust's runtime opens `/dev/null` in its place, to
-/// read and to write, as no shell does, so that nobody would see that nothing is read or that all that is written is lost.
+/// What was closed when the program began. Rust's runtime opens `/dev/null` in its place before `main`, so that nobody would
+/// see that nothing is read or that all that is written is lost. So it's asked for before that.
 #[cfg(target_os = "linux")]
-fn was_open(number: u8) -> Result<()> {
-    const CLOSED: i32 = 9; // EBADF
-    let is_null = std::fs::read_link(format!("/proc/self/fd/{number}")).is_ok_and(|file| file == *"/dev/null");
-    if is_null && access_of(number) == Some(2) {
-        return Err(Error::from_raw_os_error(CLOSED));
+mod closed {
+    use std::ffi::c_int;
+    use std::sync::atomic::{AtomicBool, Ordering};
+
+    const F_GETFD: c_int = 1;
+
+    extern "C" {
+        fn fcntl(file: c_int, command: c_int, ...) -> c_int;
+    }
+
+    /// Standard input, output and error: whether each was closed.
+    static WAS_CLOSED: [AtomicBool; 3] = [const { AtomicBool::new(false) }; 3];
+
+    /// The loader calls it before the runtime begins.
+    #[used]
+    #[link_section = ".init_array"]
+    static LOOK: extern "C" fn() = look;
+
+    extern "C" fn look() {
+        for (number, was_closed) in (0..).zip(&WAS_CLOSED) {
+            // SAFETY: F_GETFD changes nothing and takes any number: of a closed file it returns an error.
+            let flags = unsafe { fcntl(number, F_GETFD) };
+            was_closed.store(flags < 0, Ordering::Relaxed);
+        }
+    }
+
+    /// Whether the file of this number was closed.
+    pub(super) fn was_closed(number: usize) -> bool {
+        WAS_CLOSED[number].load(Ordering::Relaxed)
+    }
+}
+
+/// Fails if the standard file of this number was closed when the program began.
+#[cfg(target_os = "linux")]
+fn was_open(number: usize) -> Result<()> {
+    const EBADF: i32 = 9;
+    if closed::was_closed(number) {
+        return Err(Error::from_raw_os_error(EBADF));
     }
     Ok(())
 }
 
-/// How this file was opened: 0 to read, 1 to write, 2 for both.
-#[cfg(target_os = "linux")]
-fn access_of(number: u8) -> Option<u32> {
-    let told = std::fs::read_to_string(format!("/proc/self/fdinfo/{number}")).ok()?;
-    let flags = told.lines().find_map(|line| line.strip_prefix("flags:"))?;
-    Some(u32::from_str_radix(flags.trim(), 8).ok()? & 3)
+#[cfg(not(target_os = "linux"))]
+fn was_open(_: usize) -> Result<()> {
+    Ok(())
 }
 
-#[cfg(not(target_os = "linux"))]
-fn was_open(_: u8) -> Result<()> {
-    Ok(())
+/// Ends the program if nobody reads its output any more, as `head` doesn't once it has its lines: silently, and with the
+/// status that shells report of a program that the signal SIGPIPE ended.
+pub(crate) fn or_end<T>(written: Result<T>) -> Result<T> {
+    const ENDED_BY_SIGPIPE: i32 = 141;
+    if written.as_ref().is_err_and(|error| error.kind() == ErrorKind::BrokenPipe) {
+        std::process::exit(ENDED_BY_SIGPIPE);
+    }
+    written
 }
 
 /// Standard input. Theirs reads the file as it is; here Rust's buffer is between, which a large piece passes by.
@@ -40,7 +75,7 @@ impl Read for Stdin {
     }
 }
 
-/// Standard output. As theirs, it writes each piece at once.
+/// Standard output. As theirs, it writes each piece at once; if nobody reads it, the program ends (`or_end`).
 #[derive(Debug)]
 pub struct Stdout;
 
@@ -63,14 +98,14 @@ fn output() -> Result<&'static std::fs::File> {
 impl Write for Stdout {
     #[cfg(unix)]
     fn write(&mut self, piece: &[u8]) -> Result<usize> {
-        output()?.write(piece)
+        or_end(output()?.write(piece))
     }
 
     #[cfg(not(unix))]
     fn write(&mut self, piece: &[u8]) -> Result<usize> {
         let mut out = std::io::stdout().lock();
-        let taken = out.write(piece)?;
-        out.flush()?;
+        let taken = or_end(out.write(piece))?;
+        or_end(out.flush())?;
         Ok(taken)
     }
 

@@ -6,11 +6,22 @@ pub mod prelude {
     use crate::thread::Threads;
     use ::rayon::iter::{IndexedParallelIterator, IntoParallelIterator, ParallelIterator};
     use ::rayon::slice::ParallelSliceMut;
+    use ::rayon::{ThreadPool, ThreadPoolBuilder};
     use std::ops::Range;
+    use std::sync::OnceLock;
+
+    /// The threads that share the work; none if they can't be started. Rayon's own pool would end the program then.
+    fn pool() -> Option<&'static ThreadPool> {
+        static POOL: OnceLock<Option<ThreadPool>> = OnceLock::new();
+        POOL.get_or_init(|| ThreadPoolBuilder::new().build().ok()).as_ref()
+    }
 
     /// Sorts, equal items in their order. As theirs, but if memory runs out this ends the program.
     pub fn par_sort<R: Threads, T: Ord + Send>(_: &R, _: Global, items: &mut [T]) -> Result<(), AllocError> {
-        items.par_sort();
+        match pool() {
+            Some(pool) => pool.install(|| items.par_sort()),
+            None => items.sort(),
+        }
         Ok(())
     }
 
@@ -22,7 +33,10 @@ pub mod prelude {
         K: Ord,
         F: Fn(&T) -> K + Sync,
     {
-        items.par_sort_by_key(key);
+        match pool() {
+            Some(pool) => pool.install(|| items.par_sort_by_key(&key)),
+            None => items.sort_by_key(key),
+        }
         Ok(())
     }
 
@@ -53,7 +67,11 @@ pub mod prelude {
 
         /// Whether it holds for each number. As theirs, which takes the runtime too.
         pub fn all<R: Threads, F: Fn(usize) -> bool + Sync + Send>(self, _: &R, holds: F) -> bool {
-            IntoParallelIterator::into_par_iter(self.range).with_min_len(self.least).all(holds)
+            let ParRange { mut range, least } = self;
+            match pool() {
+                Some(pool) => pool.install(|| IntoParallelIterator::into_par_iter(range).with_min_len(least).all(holds)),
+                None => range.all(holds),
+            }
         }
     }
 }

@@ -8,6 +8,7 @@ use crate::rt::HostRuntime;
 use crate::sync::Wait;
 use crate::time::{Clock, Duration};
 use crate::vec::Vec;
+use std::sync::{Mutex, PoisonError};
 
 /// The right to start threads.
 pub trait Threads {}
@@ -127,8 +128,7 @@ pub fn join_promised<R: Wait, T>(
     Ok(results)
 }
 
-/// Runs both, the second in a thread of its own. Theirs runs it in this one if no thread can be started; here that ends the
-/// program.
+/// Runs both, the second in a thread of its own, or in this one if no thread can be started. As theirs.
 pub fn join<R, A, B, F, G>(_: &R, first: F, second: G) -> (A, B)
 where
     R: Threads,
@@ -137,12 +137,18 @@ where
     A: Send,
     B: Send,
 {
+    let second = Mutex::new(Some(second));
+    let run_second = || second.lock().unwrap_or_else(PoisonError::into_inner).take().map(|run| run());
     std::thread::scope(|scope| {
-        let other = scope.spawn(second);
+        let other = std::thread::Builder::new().spawn_scoped(scope, run_second);
         let one = first();
-        match other.join() {
-            Ok(two) => (one, two),
-            Err(panic) => std::panic::resume_unwind(panic),
+        let two = match other {
+            Ok(thread) => thread.join().unwrap_or_else(|panic| std::panic::resume_unwind(panic)),
+            Err(_) => run_second(),
+        };
+        match two {
+            Some(two) => (one, two),
+            None => unreachable!("only one of the two threads runs it"),
         }
     })
 }
