@@ -12,7 +12,7 @@ use crate::words::{
 };
 use st_core::ByteSink;
 use st_events::Style;
-use st_list::Row;
+use st_pair::Row;
 use st_say::TextWriter;
 use st_text::Device;
 

@@ -1,7 +1,7 @@
 //! A trace as it is compared: its processes by their places, and its events with their lines.
 
 use st_core::{Event, Kind, Pid, Streams};
-use st_list::Row;
+use st_pair::Row;
 use std::alloc::{AllocError, Global};
 
 /// The line of the first process; above it is the header.

@@ -4,7 +4,7 @@ use crate::counts::Moved;
 use crate::pairs::Ground;
 use st_core::{ByteSink, Pid};
 use st_events::{Style, say_counts, say_row, say_row_fields};
-use st_list::Row;
+use st_pair::Row;
 use st_say::TextWriter;
 
 /// How many of each there are.

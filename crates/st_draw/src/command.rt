@@ -10,16 +10,16 @@ use crate::scene::Scene;
 use crate::sends::overtaken;
 use crate::table::tell_tables;
 use crate::words::send_nothing;
+use lack_decide::{Answer, CompleteFault, Completion, complete};
+use seqtool_commands::send_never;
 use st_audit::unfit_by;
 use st_commands::{TOP, status_of, tell_fault, tell_finding};
-use st_complete::{Answer, CompleteFault, Completion, complete};
 use st_core::{ByteSink, ByteSource, Label, Streams};
 use st_events::{find_late, send_late};
 use st_order::{Item, order};
 use st_pair::{Pairing, pair};
 use st_say::send_words;
 use st_text::{Limits, ReadFault, read_within};
-use st_tool::send_never;
 use std::alloc::{AllocError, Global};
 use std::thread::Threads;
 

@@ -5,7 +5,7 @@ use crate::lanes::Lanes;
 use crate::scene::Scene;
 use crate::words::say_content;
 use st_core::{ByteSink, Event, Pid};
-use st_list::Partner;
+use st_pair::Partner;
 use st_say::{TextWriter, kind_word};
 use st_text::Device;
 

@@ -12,8 +12,8 @@ use crate::scene::Scene;
 use crate::sends::Sends;
 use crate::words::{say_bare_pid, say_content};
 use st_core::{ByteSink, Event, Pid};
-use st_list::Partner;
 use st_order::Item;
+use st_pair::Partner;
 use st_say::TextWriter;
 use st_text::Device;
 

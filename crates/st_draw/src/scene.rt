@@ -1,10 +1,9 @@
 //! The events that are drawn, and what each pairs with.
 
-use st_complete::Completion;
+use lack_decide::Completion;
 use st_core::{Event, Kind, Label, Pid, Streams};
-use st_list::{Partner, partner_at};
 use st_order::Item;
-use st_pair::Pairing;
+use st_pair::{Pairing, Partner, partner_at};
 
 /// The events of paired streams that have a label, or all of them.
 #[derive(Drop)]

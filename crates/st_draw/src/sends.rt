@@ -5,8 +5,8 @@
 
 use crate::scene::Scene;
 use st_core::Pid;
-use st_list::Partner;
 use st_order::Item;
+use st_pair::Partner;
 use std::alloc::{AllocError, Global};
 use std::collections::BTreeSet;
 

@@ -1,4 +1,4 @@
-//! The commands `list`, `cut` and `stats`: `st_list` and `st_events` on the streams whose text the
+//! The commands `list`, `cut` and `stats`: `st_pair` and `st_events` on the streams whose text the
 //! input is. The acts in the input are ignored.
 
 use st_audit::unfit_by;
@@ -8,8 +8,7 @@ use st_events::{
     Open, Style, count, count_open, cut, find_late, send_late, send_open, send_rows, send_stats,
     send_unpaired,
 };
-use st_list::{Filter, Row, list};
-use st_pair::{PairFault, Pairing, pair};
+use st_pair::{Filter, PairFault, Pairing, Row, list, pair};
 use st_text::{Limits, ReadFault, read_within, write_parts};
 use std::alloc::Global;
 

@@ -1,7 +1,7 @@
 //! Nothing is proved of what these commands write but that it is safe and returns: they list, cut and
 //! count a trace's events.
 //!
-//! Which events are listed is proved in `st_list`.
+//! Which events are listed is proved in `st_pair`.
 #![tactic(auto)]
 
 mod commands;

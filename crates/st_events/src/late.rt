@@ -54,7 +54,7 @@ fn late_of(pid: Pid, events: &[Event]) -> Option<Late> {
 }
 
 /// The late event at the least place, by pid and then index, of streams that can be paired:
-/// `complete` of `st_complete` names the same.
+/// `complete` of `lack_decide` names the same.
 pub fn find_late(streams: &Streams) -> Option<Late> {
     for &pid in streams.pids() {
         if let Some(late) = late_of(pid, streams.events(pid)) {

@@ -1,7 +1,7 @@
 //! Nothing is proved of what this crate writes, counts and cuts but that it is safe and returns: lists
 //! as text or JSON, a smaller bundle, and counts of a trace.
 //!
-//! `st_list` proves which events are listed, on which lines they are and what they pair with.
+//! `st_pair` proves which events are listed, on which lines they are and what they pair with.
 #![tactic(auto)]
 
 mod late;

@@ -1,8 +1,7 @@
 //! A smaller bundle: the events that are asked for, and what is open at its edges.
 
 use st_core::{ByteSink, Draft, Pid, Streams};
-use st_list::{Partner, Row, partner_at};
-use st_pair::Pairing;
+use st_pair::{Pairing, Partner, Row, partner_at};
 use st_say::TextWriter;
 use st_text::Device;
 use std::alloc::{AllocError, Global};

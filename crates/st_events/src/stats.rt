@@ -2,8 +2,7 @@
 
 use crate::sweep::{Shape, Tallies, sweep};
 use st_core::{Event, Kind, Pid, Streams};
-use st_list::{Partner, partner_at};
-use st_pair::Pairing;
+use st_pair::{Pairing, Partner, partner_at};
 use std::alloc::{AllocError, Global};
 use std::collections::BTreeMap;
 

@@ -5,8 +5,7 @@
 //! sends and prints before receives. It keeps each process's own order if no event is late.
 
 use st_core::{Event, Kind, Pid, Streams};
-use st_list::partner_at;
-use st_pair::Pairing;
+use st_pair::{Pairing, partner_at};
 use std::alloc::{AllocError, Global};
 use std::collections::BTreeMap;
 

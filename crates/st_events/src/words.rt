@@ -1,8 +1,7 @@
 //! A list as text or as JSON, a line for each event.
 
 use st_core::{ByteSink, Kind};
-use st_list::{Partner, Row, partner_at};
-use st_pair::Pairing;
+use st_pair::{Pairing, Partner, Row, partner_at};
 use st_say::{TextWriter, kind_word, send_words};
 use st_text::Device;
 

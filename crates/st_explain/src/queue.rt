@@ -1,7 +1,7 @@
 //! The queue of one process along a run, by what was sent to it.
 
-use st_core::{Act, Pid, Token};
 use st_arena::Ranks;
+use st_core::{Act, Pid, Token};
 use std::alloc::{AllocError, Global};
 
 /// A message that was sent to the process.

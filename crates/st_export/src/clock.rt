@@ -1,8 +1,7 @@
 //! Vector clocks: of each process how many of its events come before an event or are it.
 
 use st_core::{Kind, Pid, Streams};
-use st_list::{Partner, partner_at};
-use st_pair::Pairing;
+use st_pair::{Pairing, Partner, partner_at};
 use std::alloc::{AllocError, Global};
 use std::collections::BTreeMap;
 

@@ -7,13 +7,12 @@
 ghost use Rattle.st_pair.specs.Links.{IsPairing};
 
 use crate::measurements::{Measurements, TimesFault};
+use node_why::{Hop, Origins};
 use sha2::{Digest, Sha256};
 use st_audit::unfit_by;
 use st_commands::{status_of, tell_finding};
 use st_core::{ByteSink, ByteSource, Event, Label, Pid, Streams};
-use st_hops::{Hop, Origins};
-use st_list::{Partner, partner_at};
-use st_pair::{Pairing, pair};
+use st_pair::{Pairing, Partner, pair, partner_at};
 use st_say::TextWriter;
 use st_text::{Device, Limits, ReadFault, read_within};
 use std::alloc::{AllocError, Global};

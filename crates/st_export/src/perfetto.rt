@@ -3,8 +3,7 @@
 
 use crate::times::Times;
 use st_core::{ByteSink, Event, Pid, Streams};
-use st_list::{Partner, partner_at};
-use st_pair::Pairing;
+use st_pair::{Pairing, Partner, partner_at};
 use st_say::{TextWriter, kind_word};
 use st_text::Device;
 

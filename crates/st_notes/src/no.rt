@@ -4,8 +4,8 @@
 //! the lines, if it was kept.
 
 use crate::kind::{No, no_of};
+use seqtool_commands::LineNumbers;
 use st_core::{Act, ByteSink, Event, MemorySource, Pid};
-use st_lines::LineNumbers;
 use st_say::TextWriter;
 use st_text::{Bundle, Device, Limits, read_within};
 use std::alloc::Global;

@@ -2,11 +2,11 @@
 
 use crate::words::{Wanted, both, input_or_standard, label_option};
 use clap::ArgMatches;
+use seqtool_commands::Form;
 use st_draw::{Drawing, Notation};
 use st_export::Target;
 use st_pair_tasks::PairTask;
 use st_tasks::Task;
-use st_tool::Form;
 
 /// What is said if both of two options are given, of which only one may be.
 const DRAWING_WORDS: &str = "a chart is a sequence diagram or a graph: give --mermaid or --dot";

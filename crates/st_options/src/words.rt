@@ -3,17 +3,16 @@
 use crate::export_words::{chart_of, complete_of, is_of_spans, spans_of, target_of};
 use crate::lint_words::lint_of;
 use clap::{ArgMatches, Error};
+use node_why::Reach;
+use seqtool_commands::{Direction, Form, Question, Subject};
 use st_command_line::{read_matches, wrong_word};
 use st_core::{Label, Pid};
 use st_events::Style;
-use st_hops::Reach;
 use st_lint::NAMED;
-use st_list::{Filter, Span};
 use st_notes::pid_of;
+use st_pair::{Filter, Span};
 use st_pair_tasks::PairTask;
 use st_tasks::{Task, task_named};
-use st_tool::Form;
-use st_why::{Direction, Question, Subject};
 use std::alloc::{AllocError, Global};
 use std::convert::AsStr;
 
@@ -204,9 +203,9 @@ fn question_of(found: &ArgMatches) -> Result<Question, &'static str> {
         Direction::Back
     };
     let style = if found.get_flag("json") {
-        st_why::Style::Json
+        seqtool_commands::Style::Json
     } else {
-        st_why::Style::Text
+        seqtool_commands::Style::Text
     };
     let reach = Reach { most, across };
     Ok(Question {

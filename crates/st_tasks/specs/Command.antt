@@ -7,11 +7,11 @@ use Rattle.st_commands.specs.Meaning.{MeansYes, MeansNo, MeansFits, MeansUnfit, 
 use Rattle.st_text.specs.Limits.{greater}
 use Rattle.st_tasks.specs.declared.task.Task.{Task}
 use Rattle.st_tasks.specs.declared.task.Task.TheVariants as task
-use Rattle.st_tool.specs.declared.complete.Form.{Form}
-use Rattle.st_tool.specs.Complete.{IsOutputOfComplete, MeansCompleted, MeansLong, MeansNever}
-use Rattle.st_tool.specs.Renumber.{IsRenumbered, MeansRefused, MeansRenumbered}
-use Rattle.st_why.specs.Why.{IsWhy}
-use Rattle.st_why.specs.Meaning.{MeansTold, MeansUntold}
+use Rattle.seqtool_commands.specs.declared.complete.Form.{Form}
+use Rattle.seqtool_commands.specs.Complete.{IsOutputOfComplete, MeansCompleted, MeansLong, MeansNever}
+use Rattle.seqtool_commands.specs.Renumber.{IsRenumbered, MeansRefused, MeansRenumbered}
+use Rattle.seqtool_commands.specs.Why.{IsWhy}
+use Rattle.seqtool_commands.specs.WhyMeaning.{MeansTold, MeansUntold}
 
 module _ {R W : Type 0} (reader : ReaderCall R) (writer : WriterCall W) where
   -- `complete` has a third answer beside yes and no: too long, which is status 5

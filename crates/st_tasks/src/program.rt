@@ -4,6 +4,7 @@ ghost use Rattle.st_commands.specs.Command.{call};
 ghost use Rattle.st_tasks.specs.Command.{Does};
 
 use crate::task::Task;
+use seqtool_commands::{run_complete, run_renumber, run_why};
 use st_commands::{run_audit, run_check};
 use st_core::{ByteSink, ByteSource};
 use st_draw::run_draw;
@@ -12,9 +13,7 @@ use st_explain::run_explain;
 use st_export::run_export;
 use st_lint::{run_fix, run_lint};
 use st_text::Limits;
-use st_tool::{run_complete, run_renumber};
 use st_verdicts::{run_audit_json, run_check_json, run_complete_json, run_lint_json};
-use st_why::run_why;
 use std::thread::Threads;
 
 /// Does what the task asks for, and returns the exit status. What isn't output goes to the notes.

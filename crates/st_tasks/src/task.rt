@@ -3,12 +3,11 @@
 ghost use Rattle.std.specs.Prelude.{◌≡◌};
 ghost use Rattle.st_tasks.specs.Names.{task_named};
 
+use seqtool_commands::{Form, Question};
 use st_draw::Drawing;
 use st_events::Style;
 use st_export::Target;
-use st_list::Filter;
-use st_tool::Form;
-use st_why::Question;
+use st_pair::Filter;
 
 /// A command of the program.
 #[derive(Clone, Copy)]

@@ -1,8 +1,8 @@
 //! What `complete` finds out, as JSON.
 
 use crate::json::{say_placed, say_refused_event};
+use lack_decide::{Answer, CompleteFault, Completion, Never, complete};
 use st_commands::{TOP, status_of, tell_fault};
-use st_complete::{Answer, CompleteFault, Completion, Never, complete};
 use st_core::{ByteSink, ByteSource, Pid, Streams};
 use st_say::TextWriter;
 use st_text::{Device, Limits, ReadFault, read_within};
@@ -117,7 +117,7 @@ fn complete_streams<W: ByteSink>(alloc: Global, streams: &Streams, writer: &mut 
     }
 }
 
-/// Reads a bundle and writes which events its streams lack as `run_complete` of `st_tool` does, but
+/// Reads a bundle and writes which events its streams lack as `run_complete` of `seqtool_commands` does, but
 /// as JSON, with the same status.
 pub fn run_complete_json<R: ByteSource, W: ByteSink>(
     alloc: Global,

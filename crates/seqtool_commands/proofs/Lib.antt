@@ -1,0 +1,14 @@
+-- The lemmas.
+pub mod LineFirsts
+pub mod LineTexts
+-- The lemmas.
+pub mod WhyAnswers
+pub mod WhyDeliveries
+pub mod WhyMeanings
+pub mod Pieces
+-- The lemmas.
+pub mod Deliveries
+pub mod Rooms
+pub mod Completions
+pub mod Meanings
+pub mod RenumberMeanings

@@ -1,0 +1,12 @@
+-- There is no such event.
+use Rattle.seqtool_commands.specs.Why.{no_event}
+use Rattle.seqtool_commands.specs.WhyParts.{OfNoEvent}
+use Rattle.seqtool_commands.proofs.why.answer.Goals as goal
+
+pub returns-in-None : goal.returns-in-None
+returns-in-None g c =
+    record {
+      output = no_event c.args.question.subject;
+      owed = OfNoEvent c.requires c.in-None.ensures.missing;
+      delivered = c.tell_line.ensures;
+    }
