@@ -15,27 +15,24 @@ use Rattle.st_text.proofs.ForCallers.{line_some}
 use Rattle.st_commands.specs.Audited.{report_output}
 use Rattle.node_why.specs.declared.node.Node.{Node}
 use Rattle.seqtool_commands.specs.declared.question.Question.{Question}
-use Rattle.seqtool_commands.specs.declared.question.Style.{Style}
 use Rattle.seqtool_commands.specs.WhyParts.{AnswersOf, OfReason}
-use Rattle.seqtool_commands.specs.Why.{answer_line, last_line, last_words, node_line}
+use Rattle.seqtool_commands.specs.Why.{last_line, node_line}
+use Rattle.seqtool_commands.specs.WhyWords.{hop_line, premises_text}
 
 module _ (streams : List Stream) (q : Question) (x : Node) where
   abbrev line_by : Option Event → List ℕ
-  line_by o = elim o [ None ↦ [] | Some e ↦ answer_line streams q x.depth x.place.0 x.place.1 e ]
+  line_by o = elim o [ None ↦ [] | Some e ↦ hop_line streams q.direction x.depth x.place.0 x.place.1 e ]
 
   pub line_of : (o : Option Event) → event_at streams x.place.0 x.place.1 ≡ o
       → node_line streams q x ≡ line_by o
   line_of o is = ap line_by is
 
-last_some : (s : Style) → 0 < length (last_line s)
-last_some s = line_some (last_words s)
-
 -- what is written isn't empty
 pub answer_some : (streams : List Stream) (q : Question) (nodes : List Node)
-    → 0 < length (flat_map (node_line streams q) nodes ++ last_line q.style)
+    → 0 < length (flat_map (node_line streams q) nodes ++ last_line)
 answer_some streams q nodes =
-    let last = last_some q.style in
-    let both = length-append (flat_map (node_line streams q) nodes) (last_line q.style) in
+    let last = line_some premises_text in
+    let both = length-append (flat_map (node_line streams q) nodes) last_line in
     omega arith
 
 -- a reason, unless it is that memory ran out, is written as a finding

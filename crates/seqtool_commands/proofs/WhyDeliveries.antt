@@ -19,10 +19,10 @@ module _ {R : Type 0} (reader : ReaderCall R) (c : Contents) (h : WasRead greate
   paired ok = record { given = c.acts; spelled = h.spelled; accepted = ok }
 
   pub owes_why : (out : Output) → AnswersOf c.streams q out → Owes greater reader (IsWhy q) out
-  owes_why out (OfFound x ok at) =
-      OfBytes h.bytes (found c.streams q x) h.all (Found h.bytes c.streams x (paired ok) at)
+  owes_why out (OfFound ok at) =
+      OfBytes h.bytes (found c.streams q) h.all (Found h.bytes c.streams (paired ok) at)
   owes_why out (OfNoEvent ok none) =
-      OfBytes h.bytes (no_event q.subject) h.all (Lacking h.bytes c.streams (paired ok) none)
+      OfBytes h.bytes (no_event q) h.all (Lacking h.bytes c.streams (paired ok) none)
   owes_why out (OfReason f reason is by) =
       OfBytes h.bytes (report_output c.streams reason) h.all
       (Unpaired h.bytes c.streams reason

@@ -23,14 +23,13 @@ HopsAreTrue = (streams : List Stream) (p : Pid) (i : ℕ) (e : Event) → event_
 pub told_means : HopsAreTrue → (q : Question) (bytes : List ℕ) (out : Output) → IsWhy q bytes out
     → out.status ≡ 0
     → MeansTold q bytes out
-told_means law q bytes out (why.Found b streams x h subject) e =
+told_means law q bytes out (why.Found b streams h there) e =
     record {
       streams = streams;
       given = h.given;
-      place = x;
       spelled = h.spelled;
       accepted = h.accepted;
-      subject = subject;
+      there = there;
       claims = law streams;
       text = refl;
     }
@@ -43,7 +42,7 @@ told_means law q bytes out (why.Faulty b f is) e =
 pub untold_means : (q : Question) (bytes : List ℕ) (out : Output) → IsWhy q bytes out
     → out.status ≡ 1
     → MeansUntold q bytes out
-untold_means q bytes out (why.Found b streams x h subject) e = absurd (omega (arith, e))
+untold_means q bytes out (why.Found b streams h there) e = absurd (omega (arith, e))
 untold_means q bytes out (why.Lacking b streams h none) e =
     NoEvent (record {
       streams = streams;

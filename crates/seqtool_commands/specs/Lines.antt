@@ -18,6 +18,8 @@ use Rattle.st_text.specs.Spelling as spelled
 use Rattle.st_text.specs.Spelling.{ended_line}
 use Rattle.st_chart.specs.Report.{event_line, place_line}
 use Rattle.st_chart.specs.Words.{place_words}
+use Rattle.seqtool_commands.specs.Words.{tool_usage_words, tool_version_words}
+use Rattle.seqtool_commands.specs.WhyWords.{premises_text}
 use Rattle.seqtool_commands.specs.declared.lines.OutputLine.{OutputLine}
 use Rattle.seqtool_commands.specs.declared.lines.OutputLine.TheVariants as lines
 
@@ -34,10 +36,13 @@ never_words p never.TooHigh = codes "toohigh"
 abbrev pub words_of : OutputLine → List ℕ
 words_of lines.Long = codes "long"
 words_of lines.Uncertified = codes "fault certificate"
-words_of lines.ForSeqtool = codes "note: seqaudit doesn't read so much; seqtool check does"
 words_of (lines.Added n) = codes "added " ++ decimal n
 words_of (lines.Never p i r) = codes "never " ++ place_words p i ++ codes " " ++ never_words p r
 words_of (lines.Unlisted p) = codes "unlisted " ++ spelled.pid p
+words_of (lines.NoEvent p i) = codes "no event " ++ place_words p i
+words_of lines.Premises = premises_text
+words_of lines.Usage = tool_usage_words
+words_of lines.Version = tool_version_words
 
 -- how many bytes the words of a line take at most, each number given the room of the longest
 abbrev pub words_room : ℕ

@@ -1,9 +1,6 @@
--- The outputs of streams that were read, and which bundles `seqaudit` reads, for the contracts of the
--- functions that a command is made of.
-use Rattle.std.specs.Prelude.{ℕ, ◌≤◌, List, length}
-use Rattle.st_core.specs.Run.{Stream, pids_of}
-use Rattle.st_core.specs.Streams.{total_of}
-use Rattle.st_text.specs.Limits.{standard}
+-- The outputs of streams that were read, for the contracts of the functions that a command is made of.
+use Rattle.std.specs.Prelude.{List}
+use Rattle.st_core.specs.Run.{Stream}
 use Rattle.lack_laws.specs.Renumbering.{renumbered_streams}
 use Rattle.st_commands.specs.Output.{Output, no_memory}
 use Rattle.seqtool_commands.specs.Renumber.{streams_output}
@@ -23,9 +20,3 @@ pub data CompletesTo (f : Form) (streams : List Stream) : Output → Type 0 wher
 pub data RenumbersTo (streams : List Stream) : Output → Type 0 where
   Ranks : RenumbersTo streams (streams_output (renumbered_streams streams))
   NoRoomToRenumber : RenumbersTo streams no_memory
-
--- `seqaudit` reads streams and so many acts
-abbrev pub IsStandard : List Stream → ℕ → Type 0
-IsStandard streams acts = (length (pids_of streams) ≤ standard.processes)
-    × (total_of streams ≤ standard.events)
-    × (acts ≤ standard.acts)

@@ -1,9 +1,8 @@
 -- What `why` makes of bytes: the way back from an event of the streams that they spell, or the tree
 -- of what follows it, a line for each event, or why there is none. The acts in the input are
 -- ignored.
-use Rattle.std.specs.Prelude.{◌≡◌, ◌≢◌, ℕ, List, [], ◌++◌, Option, Some, None, IsSome, codes, decimal}
+use Rattle.std.specs.Prelude.{◌≡◌, ℕ, List, [], ◌++◌, Option, Some, None, IsSome, codes}
 use Rattle.std.specs.List.{flat_map}
-use Rattle.st_core.specs.declared.types.Pid.{Pid}
 use Rattle.st_core.specs.declared.types.Act.{Act}
 use Rattle.st_core.specs.declared.types.Event.{Event}
 use Rattle.st_core.specs.Run.{Stream}
@@ -20,73 +19,48 @@ use Rattle.st_chart.specs.Words.{place_words}
 use Rattle.st_commands.specs.Output.{Output, refused}
 use Rattle.st_commands.specs.Checked.{Spells}
 use Rattle.st_commands.specs.Audited.{report_output}
-use Rattle.seqtool_commands.specs.LineNumbers.{line_number_of}
 use Rattle.node_why.specs.declared.node.Node.{Node}
 use Rattle.node_why.specs.Way.{way}
 use Rattle.node_why.specs.Tree.{tree}
 use Rattle.seqtool_commands.specs.declared.question.Question.{Question}
-use Rattle.seqtool_commands.specs.declared.question.Subject.{Subject}
-use Rattle.seqtool_commands.specs.declared.question.Subject.TheVariants as subject
 use Rattle.seqtool_commands.specs.declared.question.Direction.TheVariants as direction
-use Rattle.seqtool_commands.specs.declared.question.Style.{Style}
-use Rattle.seqtool_commands.specs.declared.question.Style.TheVariants as style
 use Rattle.seqtool_commands.specs.WhyWords.{hop_line, premises_text}
-use Rattle.seqtool_commands.specs.Json.{hop_object, premises_object}
 
--- this is the event that is asked about
-abbrev pub IsSubject : List Stream → Subject → Pid × ℕ → Type 0
-IsSubject streams (subject.Place p i) x = (x ≡ (p, i)) × IsSome (event_at streams p i)
-IsSubject streams (subject.Line n) x = line_number_of streams x.0 x.1 ≡ Some n
-
--- there is no such event
-abbrev pub HasNoSubject : List Stream → Subject → Type 0
-HasNoSubject streams (subject.Place p i) = event_at streams p i ≡ None
-HasNoSubject streams (subject.Line n) = (p : Pid) (i : ℕ) → line_number_of streams p i ≢ Some n
+-- the event that is asked about, if there is one
+abbrev pub event_asked : List Stream → Question → Option Event
+event_asked streams q = event_at streams q.place.0 q.place.1
 
 -- what is found from there
-abbrev pub nodes_from : List Stream → Question → Pid × ℕ → List Node
-nodes_from streams q x = elim q.direction [
-  | direction.Back ↦ way streams q.reach.across q.reach.most 0 (Some x)
-  | direction.Forth ↦ tree streams q.reach.across q.reach.most 0 x
-]
-
--- the line of an event
-abbrev pub answer_line : List Stream → Question → ℕ → Pid → ℕ → Event → List ℕ
-answer_line streams q depth p i e = elim q.style [
-  | style.Text ↦ hop_line streams q.direction depth p i e
-  | style.Json ↦ hop_object streams depth p i e
+abbrev pub nodes_from : List Stream → Question → List Node
+nodes_from streams q = elim q.direction [
+  | direction.Back ↦ way streams q.reach.across q.reach.most 0 (Some q.place)
+  | direction.Forth ↦ tree streams q.reach.across q.reach.most 0 q.place
 ]
 
 -- the line of the event at a place, if there is one
 abbrev pub node_line : List Stream → Question → Node → List ℕ
 node_line streams q x = elim (event_at streams x.place.0 x.place.1) [
   | None ↦ []
-  | Some e ↦ answer_line streams q x.depth x.place.0 x.place.1 e
+  | Some e ↦ hop_line streams q.direction x.depth x.place.0 x.place.1 e
 ]
 
--- what the sentences rest on
-abbrev pub last_words : Style → List ℕ
-last_words style.Text = premises_text
-last_words style.Json = premises_object
-
--- the last line
-abbrev pub last_line : Style → List ℕ
-last_line x = ended_line (last_words x)
+-- what the sentences rest on, which is the last line
+abbrev pub last_line : List ℕ
+last_line = ended_line premises_text
 
 -- all that is written of an event that is there
-abbrev pub found : List Stream → Question → Pid × ℕ → Output
-found streams q x = record {
-  text = flat_map (node_line streams q) (nodes_from streams q x) ++ last_line q.style;
+abbrev pub found : List Stream → Question → Output
+found streams q = record {
+  text = flat_map (node_line streams q) (nodes_from streams q) ++ last_line;
   status = 0;
 }
 
-abbrev pub subject_words : Subject → List ℕ
-subject_words (subject.Place p i) = place_words p i
-subject_words (subject.Line n) = codes "on line " ++ decimal n
-
 -- there is no such event
-abbrev pub no_event : Subject → Output
-no_event s = record { text = ended_line (codes "no event " ++ subject_words s); status = 1 }
+abbrev pub no_event : Question → Output
+no_event q = record {
+  text = ended_line (codes "no event " ++ place_words q.place.0 q.place.1);
+  status = 1;
+}
 
 -- the bytes spell streams that pairing accepts
 pub record ArePaired (bytes : List ℕ) (streams : List Stream) : Type 0 where
@@ -103,12 +77,12 @@ pub record AreRefused (bytes : List ℕ) (streams : List Stream) (reason : Findi
   pub found_by : unfit_by fault ≡ Some reason
 
 pub data IsWhy (q : Question) : List ℕ → Output → Type 0 where
-  Found : (bytes : List ℕ) (streams : List Stream) (x : Pid × ℕ) → ArePaired bytes streams
-      → IsSubject streams q.subject x
-      → IsWhy q bytes (found streams q x)
+  Found : (bytes : List ℕ) (streams : List Stream) → ArePaired bytes streams
+      → IsSome (event_asked streams q)
+      → IsWhy q bytes (found streams q)
   Lacking : (bytes : List ℕ) (streams : List Stream) → ArePaired bytes streams
-      → HasNoSubject streams q.subject
-      → IsWhy q bytes (no_event q.subject)
+      → event_asked streams q ≡ None
+      → IsWhy q bytes (no_event q)
   Unpaired : (bytes : List ℕ) (streams : List Stream) (reason : Finding)
       → AreRefused bytes streams reason
       → IsWhy q bytes (report_output streams reason)

@@ -4,8 +4,6 @@
 ghost use Rattle.std.specs.Prelude.{◌≡◌, ◌<◌, ◌↔◌, IsTrue, length};
 ghost use Rattle.st_core.specs.Run.{pids_of};
 ghost use Rattle.st_text.specs.Limits.{greater};
-ghost use Rattle.st_text.specs.Spelling.{ended_line};
-ghost use Rattle.st_text.specs.Writing.{WritesText};
 ghost use Rattle.st_plan.specs.Marks.{all_streams};
 ghost use Rattle.st_commands.specs.Command.{Tells, call};
 ghost use Rattle.st_commands.specs.Meaning.{Performs, Says};
@@ -13,9 +11,7 @@ ghost use Rattle.lack_decide.specs.Answers.{IsAnswer, IsWhole};
 ghost use Rattle.lack_laws.specs.Silent.{with_silent};
 ghost use Rattle.seqtool_commands.specs.Complete.{HasFewProcesses, IsOutputOfComplete};
 ghost use Rattle.seqtool_commands.specs.Complete.{MeansCompleted, MeansLong, MeansNever};
-ghost use Rattle.seqtool_commands.specs.declared.lines.OutputLine.TheVariants as lines;
-ghost use Rattle.seqtool_commands.specs.Lines.{words_of};
-ghost use Rattle.seqtool_commands.specs.Parts.{CompletesTo, IsStandard};
+ghost use Rattle.seqtool_commands.specs.Parts.{CompletesTo};
 
 use crate::answer::tell_streams;
 use crate::completion_lines::{send_added, send_never};
@@ -25,7 +21,7 @@ use lack_decide::{
 };
 use st_commands::{TOP, status_of, tell_bundle, tell_fault, tell_line};
 use st_core::{ByteSink, ByteSource, Streams};
-use st_text::{Device, Limits, ReadFault, read_within, send_line};
+use st_text::{Limits, ReadFault, read_within};
 use std::alloc::Global;
 use std::thread::Threads;
 
@@ -45,38 +41,14 @@ pub enum Form {
     Added,
 }
 
-/// Whether `seqaudit` reads a bundle of these streams and so many acts.
-fn is_standard(streams: &Streams, acts: usize) -> bool
-    ensures { IsTrue result ↔ IsStandard streams.now acts }
-{
-    let limits = Limits::STANDARD;
-    streams.pids().len() <= limits.processes as usize
-        && streams.total() <= limits.events as u64
-        && acts <= limits.acts as usize
-}
-
-/// Notes that `seqtool check` reads a bundle of these streams and so many acts, if `seqaudit`
-/// doesn't.
-fn note_reader<N: ByteSink>(notes: &mut N, streams: &Streams, acts: usize) -> Result<(), Device>
-    ensures standard { IsStandard streams.now acts → notes.new ≡ notes.old }
-    ensures greater { ¬ IsStandard streams.now acts → WritesText N.puts N.failed
-        (ended_line (words_of lines.ForSeqtool)) notes.old notes.new result }
-{
-    if is_standard(streams, acts) {
-        return Ok(());
-    }
-    send_line(notes, OutputLine::ForSeqtool)
-}
-
 /// Writes the streams with their unlisted processes, which are these, and acts that show them.
-fn tell_shown<H: Threads + Sync, W: ByteSink, N: ByteSink>(
+fn tell_shown<H: Threads + Sync, W: ByteSink>(
     rt: &H,
     alloc: Global,
     streams: &Streams,
     more: &Streams,
     completion: &Completion,
     writer: &mut W,
-    notes: &mut N,
 ) -> u8
     requires whole { IsWhole TOP streams.now completion.now }
     requires few { HasFewProcesses completion.now }
@@ -86,10 +58,7 @@ fn tell_shown<H: Threads + Sync, W: ByteSink, N: ByteSink>(
 {
     let _streams = streams;
     match certificate::<TOP>(rt, alloc, more, completion, MOST_ACTS) {
-        Ok(found) => {
-            let _ = note_reader(notes, more, found.acts.len());
-            tell_bundle(writer, more, found.acts.as_slice())
-        }
+        Ok(found) => tell_bundle(writer, more, found.acts.as_slice()),
         Err(CertificateFault::TooManyActs) => tell_line(writer, OutputLine::Long, 5),
         Err(CertificateFault::Uncertified) => tell_line(writer, OutputLine::Uncertified, 4),
         Err(CertificateFault::Memory) => tell_fault(writer, ReadFault::Memory),
@@ -97,13 +66,12 @@ fn tell_shown<H: Threads + Sync, W: ByteSink, N: ByteSink>(
 }
 
 /// Writes streams with acts that show them, which come from their completion.
-fn tell_acts<H: Threads + Sync, W: ByteSink, N: ByteSink>(
+fn tell_acts<H: Threads + Sync, W: ByteSink>(
     rt: &H,
     alloc: Global,
     streams: &Streams,
     completion: &Completion,
     writer: &mut W,
-    notes: &mut N,
 ) -> u8
     requires whole { IsWhole TOP streams.now completion.now }
     requires few { HasFewProcesses completion.now }
@@ -112,10 +80,10 @@ fn tell_acts<H: Threads + Sync, W: ByteSink, N: ByteSink>(
 {
     let unlisted = completion.unlisted();
     if unlisted.len() == 0 {
-        return tell_shown(rt, alloc, streams, streams, completion, writer, notes);
+        return tell_shown(rt, alloc, streams, streams, completion, writer);
     }
     match with_silent(alloc, streams, unlisted) {
-        Ok(more) => tell_shown(rt, alloc, streams, &more, completion, writer, notes),
+        Ok(more) => tell_shown(rt, alloc, streams, &more, completion, writer),
         Err(_) => tell_fault(writer, ReadFault::Memory),
     }
 }
@@ -128,14 +96,13 @@ fn is_long(completion: &Completion) -> bool
 }
 
 /// Writes a completion in this form.
-fn tell_completion<H: Threads + Sync, W: ByteSink, N: ByteSink>(
+fn tell_completion<H: Threads + Sync, W: ByteSink>(
     rt: &H,
     alloc: Global,
     streams: &Streams,
     completion: &Completion,
     form: Form,
     writer: &mut W,
-    notes: &mut N,
 ) -> u8
     requires { IsWhole TOP streams.now completion.now }
     ensures { Tells (call W.ByteSink writer.old writer.new) (CompletesTo form streams.now) result }
@@ -144,10 +111,9 @@ fn tell_completion<H: Threads + Sync, W: ByteSink, N: ByteSink>(
         return tell_line(writer, OutputLine::Long, 5);
     }
     match form {
-        Form::Acts => tell_acts(rt, alloc, streams, completion, writer, notes),
+        Form::Acts => tell_acts(rt, alloc, streams, completion, writer),
         Form::Streams => {
             let whole = completion.streams();
-            let _ = note_reader(notes, whole, 0);
             tell_streams(writer, whole)
         }
         Form::Added => {
@@ -158,22 +124,19 @@ fn tell_completion<H: Threads + Sync, W: ByteSink, N: ByteSink>(
 }
 
 /// Writes what was found out about streams.
-fn tell_answer<H: Threads + Sync, W: ByteSink, N: ByteSink>(
+fn tell_answer<H: Threads + Sync, W: ByteSink>(
     rt: &H,
     alloc: Global,
     streams: &Streams,
     answer: &Answer,
     form: Form,
     writer: &mut W,
-    notes: &mut N,
 ) -> u8
     requires { IsAnswer TOP streams.now answer.now }
     ensures { Tells (call W.ByteSink writer.old writer.new) (CompletesTo form streams.now) result }
 {
     match answer {
-        Answer::Whole(completion) => tell_completion(
-            rt, alloc, streams, completion, form, writer, notes,
-        ),
+        Answer::Whole(completion) => tell_completion(rt, alloc, streams, completion, form, writer),
         Answer::Never(pid, index, never) => {
             let sent = send_never(writer, streams, *pid, *index, *never);
             status_of(sent, 1)
@@ -182,18 +145,17 @@ fn tell_answer<H: Threads + Sync, W: ByteSink, N: ByteSink>(
 }
 
 /// Writes what streams lack.
-fn complete_streams<H: Threads + Sync, W: ByteSink, N: ByteSink>(
+fn complete_streams<H: Threads + Sync, W: ByteSink>(
     rt: &H,
     alloc: Global,
     streams: &Streams,
     form: Form,
     writer: &mut W,
-    notes: &mut N,
 ) -> u8
     ensures { Tells (call W.ByteSink writer.old writer.new) (CompletesTo form streams.now) result }
 {
     match complete::<TOP>(alloc, streams) {
-        Ok(answer) => tell_answer(rt, alloc, streams, &answer, form, writer, notes),
+        Ok(answer) => tell_answer(rt, alloc, streams, &answer, form, writer),
         Err(CompleteFault::Memory) => tell_fault(writer, ReadFault::Memory),
     }
 }
@@ -203,17 +165,15 @@ fn complete_streams<H: Threads + Sync, W: ByteSink, N: ByteSink>(
 /// status 1. If a bundle is asked for, and its processes are more than the reader of the greater
 /// limits takes, or the acts that were tried don't serve, and the number of acts that surely
 /// suffices (six for each event, one for each count that a process passes unreported, and one for
-/// each process) is more than it takes, it writes `long` with status 5; fewer acts may suffice. If
-/// a bundle is only more than `seqaudit` reads, a line in `notes` says who reads it, if it can be
-/// written. Faulty input is 2; running out of memory, and a reader or a writer that fails, are 4,
+/// each process) is more than it takes, it writes `long` with status 5; fewer acts may suffice.
+/// Faulty input is 2; running out of memory, and a reader or a writer that fails, are 4,
 /// and so is a completion whose acts the checker doesn't accept, which no test has seen. It sorts
 /// on several threads.
-pub fn run_complete<H: Threads + Sync, R: ByteSource, W: ByteSink, N: ByteSink>(
+pub fn run_complete<H: Threads + Sync, R: ByteSource, W: ByteSink>(
     rt: &H,
     alloc: Global,
     reader: &mut R,
     writer: &mut W,
-    notes: &mut N,
     form: Form,
 ) -> u8
     ensures performed { Performs greater (call R.ByteSource reader.old reader.new)
@@ -225,7 +185,7 @@ pub fn run_complete<H: Threads + Sync, R: ByteSource, W: ByteSink, N: ByteSink>(
         (call W.ByteSink writer.old writer.new) (MeansLong form) }
 {
     match read_within(alloc, reader, Limits::GREATER) {
-        Ok(bundle) => complete_streams(rt, alloc, &bundle.streams, form, writer, notes),
+        Ok(bundle) => complete_streams(rt, alloc, &bundle.streams, form, writer),
         Err(fault) => tell_fault(writer, fault),
     }
 }

@@ -100,7 +100,7 @@ fn write_added<W: ByteSink>(
 
 /// Sends how many events were added, the processes that the streams don't list, and a line for each
 /// event.
-pub(crate) fn send_added<W: ByteSink>(writer: &mut W, completion: &Completion) -> Result<(), Device>
+pub fn send_added<W: ByteSink>(writer: &mut W, completion: &Completion) -> Result<(), Device>
     ensures { WritesText W.puts W.failed (added_text completion.now) writer.old writer.new result }
 {
     let mut buffer = Buffer::new();

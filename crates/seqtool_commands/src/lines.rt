@@ -13,6 +13,9 @@ use st_chart::put_place_after;
 use st_core::Pid;
 use st_text::{Buffer, TextLine, put_bytes, put_numbered, put_pid};
 
+/// What the version's line says. A build that isn't proved adds that.
+const VERSION: &str = "seqtool 1.0.0";
+
 /// A line that is written alone.
 #[derive(Clone, Copy, Debug)]
 pub(crate) enum OutputLine {
@@ -20,14 +23,20 @@ pub(crate) enum OutputLine {
     Long,
     /// The checker doesn't accept the acts that were built.
     Uncertified,
-    /// `seqaudit` doesn't read so much.
-    ForSeqtool,
     /// So many events were added.
     Added(u64),
     /// Why the event at this place rules out a run without a reset.
     Never(Pid, u64, Never),
     /// This process takes part in the completion, and the streams don't list it.
     Unlisted(Pid),
+    /// There is no event at this place.
+    NoEvent(Pid, u64),
+    /// What the lines of `why` rest on.
+    Premises,
+    /// How the program is called.
+    Usage,
+    /// Which version this is.
+    Version,
 }
 
 /// Appends the words of a reason against an event of this process.
@@ -78,15 +87,23 @@ impl TextLine for OutputLine {
         match self {
             OutputLine::Long => put_bytes(buffer, b"long"),
             OutputLine::Uncertified => put_bytes(buffer, b"fault certificate"),
-            OutputLine::ForSeqtool => {
-                put_bytes(
-                    buffer,
-                    b"note: seqaudit doesn't read so much; seqtool check does",
-                )
-            }
             OutputLine::Added(count) => put_numbered(buffer, b"added ", count),
             OutputLine::Never(pid, index, never) => put_never(buffer, pid, index, never),
             OutputLine::Unlisted(pid) => put_unlisted(buffer, pid),
+            OutputLine::NoEvent(pid, index) => put_place_after(buffer, b"no event ", pid, index),
+            OutputLine::Premises => put_bytes(
+                buffer,
+                b"in a run without a reset, if any; (1) if each receive of a token was reported; \
+                    (2) if no process cleared or lost its token, began again and reported an \
+                    earlier label again; on a standard node (2) wherever (1), except behind a \
+                    spawn or a token put back",
+            ),
+            OutputLine::Usage => put_bytes(
+                buffer,
+                b"usage: seqtool check|audit|renumber [FILE], or complete [--as added|streams|acts] \
+                    [FILE], or why PID INDEX [--effects] [FILE]",
+            ),
+            OutputLine::Version => put_bytes(buffer, VERSION.as_bytes()),
         }
     }
 }

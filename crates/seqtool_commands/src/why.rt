@@ -1,7 +1,7 @@
 //! The command `why`: what caused an event of the streams whose text the input is, or what it
 //! caused. The acts in the input are ignored.
 
-ghost use Rattle.std.specs.Prelude.{◌≡◌, IfNone, IfSome, None};
+ghost use Rattle.std.specs.Prelude.{◌≡◌, IsSome, None};
 ghost use Rattle.st_commands.specs.Command.{Owes, Tells, call};
 ghost use Rattle.st_commands.specs.Meaning.{Says};
 ghost use Rattle.st_pair.specs.Links.{IsPairing};
@@ -9,16 +9,16 @@ ghost use Rattle.st_pair.specs.Pairing.{IsPairFault, refusal};
 ghost use Rattle.st_text.specs.Limits.{greater};
 ghost use Rattle.seqtool_commands.specs.WhyMeaning.{MeansTold, MeansUntold};
 ghost use Rattle.seqtool_commands.specs.WhyParts.{AnswersOf};
-ghost use Rattle.seqtool_commands.specs.Why.{HasNoSubject, IsSubject, IsWhy};
+ghost use Rattle.seqtool_commands.specs.Why.{IsWhy, event_asked};
 
-use crate::question::{Question, Subject};
+use crate::lines::OutputLine;
+use crate::question::Question;
 use crate::trace::NumberedOrigins;
 use crate::why_answer::{nodes_from, send_answer};
-use crate::why_lines::NoEvent;
 use node_why::laws::hops_are_true;
 use st_audit::unfit_by;
 use st_commands::{status_of, tell_fault, tell_finding, tell_line};
-use st_core::{ByteSink, ByteSource, Pid, Streams};
+use st_core::{ByteSink, ByteSource, Streams};
 use st_pair::{PairFault, Pairing, pair};
 use st_text::{Limits, ReadFault, read_within};
 use std::alloc::Global;
@@ -40,34 +40,19 @@ fn tell_unpaired<W: ByteSink>(
     }
 }
 
-/// The place of the event that is asked about; none if there is no such event.
-fn place_of(trace: &NumberedOrigins<'_>, subject: Subject) -> Option<(Pid, u64)>
-    ensures found { IfSome result (IsSubject trace.now subject) }
-    ensures missing { IfNone result (HasNoSubject trace.now subject) }
-{
-    match subject {
-        Subject::Line(line) => trace.numbers().place(line),
-        Subject::Place(pid, index) => match trace.event(pid, index) {
-            None => None,
-            Some(_) => Some((pid, index)),
-        },
-    }
-}
-
 /// Writes what is found from an event that is there.
 fn tell_found<W: ByteSink>(
     alloc: Global,
     trace: &NumberedOrigins<'_>,
     question: Question,
-    place: (Pid, u64),
     writer: &mut W,
 ) -> u8
     requires accepted { refusal trace.now ≡ None }
-    requires subject { IsSubject trace.now question.subject place }
+    requires there { IsSome (event_asked trace.now question) }
     ensures { Tells (call W.ByteSink writer.old writer.new)
         (AnswersOf trace.now question) result }
 {
-    match nodes_from(alloc, trace, question, place) {
+    match nodes_from(alloc, trace, question) {
         Ok(nodes) => {
             let sent = send_answer(writer, trace, question, nodes.as_slice());
             status_of(sent, 0)
@@ -87,9 +72,10 @@ fn answer<W: ByteSink>(
     ensures { Tells (call W.ByteSink writer.old writer.new)
         (AnswersOf trace.now question) result }
 {
-    match place_of(trace, question.subject) {
-        Some(place) => tell_found(alloc, trace, question, place, writer),
-        None => tell_line(writer, NoEvent(question.subject), 1),
+    let (pid, index) = question.place;
+    match trace.event(pid, index) {
+        Some(_) => tell_found(alloc, trace, question, writer),
+        None => tell_line(writer, OutputLine::NoEvent(pid, index), 1),
     }
 }
 

@@ -8,10 +8,10 @@ use Rattle.seqtool_commands.proofs.why.tell_found.Goals as goal
 
 pub returns-in-Ok : goal.returns-in-Ok
 returns-in-Ok g c =
-    let out = found c.args.trace.now c.args.question c.args.place in
+    let out = found c.args.trace.now c.args.question in
     record {
       output = out;
-      owed = OfFound c.args.place c.requires.accepted c.requires.subject;
+      owed = OfFound c.requires.accepted c.requires.there;
       delivered = delivers (call g.W.ByteSink _ _) out c.send_answer-sent.result _
           (rw (c.as_slice.ensures.value, c.in-Ok.ensures) at c.send_answer-sent.ensures)
           c.status_of.ensures;

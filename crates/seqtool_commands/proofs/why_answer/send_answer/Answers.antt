@@ -10,7 +10,7 @@ pub returns : goal.returns
 returns g c =
     let q = c.args.question in
     finishes g.W.ByteSink.puts g.W.ByteSink.failed
-    (flat_map (node_line c.args.trace.now q) c.args.nodes.now ++ last_line q.style) _ _
+    (flat_map (node_line c.args.trace.now q) c.args.nodes.now ++ last_line) _ _
     c.flush.result (answer_some c.args.trace.now q c.args.nodes.now)
     (rw c.new-buffer.ensures at c.in_ok-write_answer.ensures) c.flush.ensures.goes
     c.flush.ensures.empty

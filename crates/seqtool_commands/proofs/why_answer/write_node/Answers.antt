@@ -13,4 +13,4 @@ returns-in-None g c =
 pub returns-in-Some : goal.returns-in-Some
 returns-in-Some g c =
     rw (line_of c.args.trace.now c.args.question c.args.node (Some c.in-Some.event)
-    (sym c.event.ensures ∙ c.in-Some.is)) c.write_event.ensures
+    (sym c.event.ensures ∙ c.in-Some.is)) c.write_text.ensures
