@@ -123,7 +123,7 @@ test-conformance: ## compares 200 random scripts with a real node (1 minute; nee
 	else echo "There is no erl or no python3 here: the comparison with a real node is skipped."; fi
 
 # What `make rust` builds, beside the programs that were built last.
-test-rust: ## plain Rust: its own tests, and each output beside the programs' (3 to 4 minutes; needs cargo and Python)
+test-rust: ## plain Rust: its own tests, make install and make dist, and each output beside the programs' (3 to 4 minutes; needs cargo and Python)
 	@if command -v python3 >/dev/null; then rust/test $(BUILT) $(BUILT_TOOL); \
 	else echo "There is no python3 here: the plain Rust is skipped."; fi
 
