@@ -12,7 +12,7 @@ CODE := crates.txt .ci/quick .ci/quick-clang $(filter %.rt,$(SOURCES))
 # The tests' judges assert: Python must not leave assertions out.
 unexport PYTHONOPTIMIZE
 
-.PHONY: help quick try program demo install uninstall test wrong-bodies layout layers clauses plan docs test-program test-erlang test-conformance test-rust rust dist bench hostile clean distclean
+.PHONY: help quick try program demo install uninstall test wrong-bodies layout layers clauses plan docs test-program test-erlang test-conformance test-rust test-readme rust dist bench hostile clean distclean
 .DELETE_ON_ERROR:
 
 help:
@@ -126,6 +126,11 @@ test-conformance: ## compares 200 random scripts with a real node (1 minute; nee
 test-rust: ## plain Rust: its own tests, make install and make dist, and each output beside the programs' (3 to 4 minutes; needs cargo and Python)
 	@if command -v python3 >/dev/null; then rust/test $(BUILT) $(BUILT_TOOL); \
 	else echo "There is no python3 here: the plain Rust is skipped."; fi
+
+# As a stranger's machine runs them.
+test-readme: ## the README's commands on a fresh Debian 13, and the archive of make dist there (5 to 10 minutes; needs debootstrap, and root)
+	@if command -v python3 >/dev/null; then tests/readme; \
+	else echo "There is no python3 here: the README's commands are skipped."; fi
 
 bench: bin/seqaudit ## times the commands on bundles of 600,000 events, beside plain Rust (11 minutes, after program; needs rustc)
 	bench/run
