@@ -4,8 +4,6 @@
 PROGRAMS = seqaudit seqtool
 
 PREFIX ?= /usr/local
-COMMAND ?= audit
-FILE ?= examples/collected.txt
 
 # What a program is made of, and what of it runs.
 SOURCES := crates.txt $(shell find crates -path '*/out' -prune -o -type f -print)
@@ -14,7 +12,7 @@ CODE := crates.txt .ci/quick .ci/quick-clang $(filter %.rt,$(SOURCES))
 # The tests' judges assert: Python must not leave assertions out.
 unexport PYTHONOPTIMIZE
 
-.PHONY: help quick try program demo install uninstall test gate wrong-bodies layout layers clauses plan docs tables test-kit test-program test-erlang test-conformance test-rust rust dist bench hostile clean distclean
+.PHONY: help quick try program demo install uninstall test gate wrong-bodies layout layers clauses plan docs tables test-kit test-program test-erlang test-conformance test-rust test-readme rust dist bench hostile clean distclean
 .DELETE_ON_ERROR:
 
 help:
@@ -30,12 +28,8 @@ bin/quick/%: $(CODE)
 	@echo "$* is built without its proofs, in 3 to 4 minutes." >&2
 	@.ci/quick $* $@
 
-# What isn't the program's output goes to standard error. If the program fails, make says `Error` and the program's exit
-# status, and ends with 2 itself, as it always does; the command that is printed ends with the program's.
-try: bin/quick/seqaudit ## runs the unproved seqaudit: COMMAND=.. FILE=.. (at once; 2 minutes the first time)
-	@echo 'bin/quick/seqaudit $(COMMAND) < $(FILE)' >&2
-	@echo 'An unproved run: "make program" proves seqaudit.' >&2
-	@bin/quick/seqaudit $(COMMAND) < $(FILE)
+try: ## builds what this machine builds quickest, and audits, explains and draws a trace of a small shop (INSTALL=1 installs what is missing, by apt)
+	@tests/try $(if $(INSTALL),--install)
 
 # Without KEEP=1 no checked module is kept. That takes a fraction of the disk, but after an edit the edited crate and all above
 # it are proved from nothing.
@@ -52,25 +46,18 @@ demo: bin/seqaudit bin/seqtool ## runs the proved programs on examples/ and comp
 	@tests/demo-seqtool bin/seqtool
 
 # The sources without their contracts, as cargo builds them: rust/README.md.
-rust: ## writes both programs as plain Rust, not proved, and builds them in bin/rust/ (1 to 2 minutes; needs cargo and Python)
+rust: ## writes the programs as plain Rust, not proved, and builds them in bin/rust/ (2 to 3 minutes; needs cargo and Python)
 	@rust/build bin/rust
 
-dist: ## packs the same with docs, man pages and erlang/ as bin/gemshowal-VERSION.tar.gz (at once)
+dist: ## packs the same with docs, man pages and erlang/ as bin/gemshowal-VERSION.tar.gz (at once; needs cargo)
 	@rust/dist
 
-BIN = $(DESTDIR)$(PREFIX)/bin
-MAN = $(DESTDIR)$(PREFIX)/share/man/man1
-BASH_COMPLETIONS = $(DESTDIR)$(PREFIX)/share/bash-completion/completions
-ZSH_COMPLETIONS = $(DESTDIR)$(PREFIX)/share/zsh/site-functions
-
-install: $(PROGRAMS:%=bin/%) ## copies the proved programs, man pages and completions to PREFIX (at once, after program)
-	install -D -t $(BIN) $^
-	install -D -m 644 -t $(MAN) $(PROGRAMS:%=man/%.1)
-	for program in $(PROGRAMS); do install -D -m 644 completions/seqtool.bash $(BASH_COMPLETIONS)/$$program || exit; done
-	install -D -m 644 -t $(ZSH_COMPLETIONS) completions/_seqtool
+install: ## copies the programs that were built, the proved ones first, man pages and completions to PREFIX (at once)
+	@if command -v erlc >/dev/null; then $(MAKE) --no-print-directory -j4 -C erlang all; fi
+	@./install.sh '$(DESTDIR)$(PREFIX)'
 
 uninstall: ## removes from PREFIX what install copied there (at once)
-	rm -f $(PROGRAMS:%=$(BIN)/%) $(PROGRAMS:%=$(MAN)/%.1) $(PROGRAMS:%=$(BASH_COMPLETIONS)/%) $(ZSH_COMPLETIONS)/_seqtool
+	@./install.sh --remove '$(DESTDIR)$(PREFIX)'
 
 # The parts that come after the proofs run side by side if there are processors enough.
 PARTS_AT_ONCE = $(shell test $$(nproc) -ge 4 && nproc || echo 1)
@@ -148,9 +135,14 @@ test-conformance: ## compares 200 random scripts with a real node (1 minute; nee
 	else echo "There is no erl or no python3 here: the comparison with a real node is skipped."; fi
 
 # What `make rust` builds, beside the programs that were built last.
-test-rust: ## plain Rust: its own tests, and each output beside the programs' (3 to 4 minutes; needs cargo and Python)
+test-rust: ## plain Rust: its own tests, make install and make dist, and each output beside the programs' (3 to 4 minutes; needs cargo and Python)
 	@if command -v python3 >/dev/null; then rust/test $(BUILT) $(BUILT_TOOL); \
 	else echo "There is no python3 here: the plain Rust is skipped."; fi
+
+# As a stranger's machine runs them.
+test-readme: ## the README's commands on a fresh Debian 13, and the archive of make dist there (5 to 10 minutes; needs debootstrap, and root)
+	@if command -v python3 >/dev/null; then tests/readme; \
+	else echo "There is no python3 here: the README's commands are skipped."; fi
 
 bench: bin/seqaudit ## times the commands on bundles of 600,000 events, beside plain Rust (11 minutes, after program; needs rustc)
 	bench/run

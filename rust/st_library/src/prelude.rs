@@ -6,6 +6,8 @@ pub use crate::process::Expect;
 pub use crate::rt::{AllocGlobal, Eprint, HostRuntime};
 pub use crate::slice::{ArraySlice, SliceSort};
 pub use crate::vec::Vec;
+// Before Rust 1.87 `from_utf8` is the module's alone.
+pub use std::str;
 
 /// In Rattle a bound that a value may be let go. In Rust each value may.
 pub trait Drop {}
