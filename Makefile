@@ -71,7 +71,7 @@ test: ## the merge gate: all proofs from nothing, the wrong bodies of must-fail/
 gate: layout layers clauses plan tables
 	rt ci
 	@if command -v erl >/dev/null; then $(MAKE) --no-print-directory -C erlang compiled; fi
-	@$(MAKE) --no-print-directory -j$(PARTS_AT_ONCE) --output-sync=target test-kit test-program test-erlang test-conformance test-rust
+	@$(MAKE) --no-print-directory -j$(PARTS_AT_ONCE) --output-sync=target test-kit test-program test-erlang test-conformance test-rust test-readme
 
 # The gate tries the wrong bodies that tell most.
 wrong-bodies: ## tries all wrong bodies (an hour or more, after program)
