@@ -3,7 +3,7 @@
 use crate::args::Audit;
 use crate::input::Input;
 use crate::output::{Notes, Output};
-use crate::why::{Refused, Unfit};
+use crate::reason::{Refused, Unfit};
 use crate::{Failure, Status};
 use serde::Serialize;
 use gemshowal::{Act, Finding, Pid, Reason, Text, Trace, Verdict};

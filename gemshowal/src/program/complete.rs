@@ -4,7 +4,7 @@ use crate::args::{Complete, Form};
 use crate::input::Input;
 use crate::object::Placed;
 use crate::output::{Notes, Output};
-use crate::why::Unfit;
+use crate::reason::Unfit;
 use crate::{Failure, Status};
 use serde::Serialize;
 use std::io::Write;

@@ -13,7 +13,7 @@ mod object;
 mod output;
 mod progress;
 mod stats;
-mod why;
+mod reason;
 
 use crate::args::{Args, Command};
 use crate::input::Input;

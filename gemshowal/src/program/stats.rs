@@ -4,7 +4,7 @@ use crate::args::Stats;
 use crate::input::Input;
 use crate::late::first_late;
 use crate::output::{Notes, Output};
-use crate::why::Unfit;
+use crate::reason::Unfit;
 use crate::{Failure, Status};
 use serde::Serialize;
 use std::collections::{BTreeMap, HashMap};
