@@ -1,11 +1,13 @@
 //! An input: standard input or a file.
 
 use crate::lint;
+use crate::names::{self, Names};
+use crate::output::Notes;
 use crate::progress::{Counter, Progress};
 use crate::Failure;
 use std::fs::File;
 use std::io::{self, IsTerminal, Read, Seek, StdinLock};
-use std::path::Path;
+use std::path::{Path, PathBuf};
 use gemshowal::{ReadError, Trace};
 
 /// So much of standard input is kept, so that a fault in it can be explained. A file is read once more.
@@ -31,23 +33,26 @@ impl Read for Place {
 #[derive(Debug)]
 pub(crate) struct Input {
     name: String,
+    /// The file, or `-`.
+    path: PathBuf,
     place: Place,
     counter: Counter,
 }
 
 impl Input {
-    /// Opens the file of this path, or standard input if that is `-`.
+    /// Opens the file of this path, that of the trace of this name, or standard input if that is `-`.
     pub(crate) fn open(path: &Path) -> Result<Input, Failure> {
+        let path = names::trace_file(path);
         let (name, place) = if path == Path::new("-") {
             ("standard input".into(), Place::Standard(io::stdin().lock()))
         } else {
             let name = path.display().to_string();
-            match File::open(path) {
+            match File::open(&path) {
                 Ok(file) => (name, Place::File(file)),
                 Err(reason) => return Err(Failure::Unopened(on_one_line(&name).into(), reason)),
             }
         };
-        Ok(Input { name, place, counter: Counter::default() })
+        Ok(Input { name, path, place, counter: Counter::default() })
     }
 
     /// What messages call it, whole: also with a line break in it.
@@ -58,6 +63,11 @@ impl Input {
     /// The name on one line: one with a line break would look like another file's.
     pub(crate) fn line_name(&self) -> &str {
         on_one_line(&self.name)
+    }
+
+    /// What the files beside it say of its trace.
+    pub(crate) fn names(&self, trace: &Trace, notes: &mut Notes) -> Result<Names, Failure> {
+        Ok(Names::beside(&self.path, trace, notes)?)
     }
 
     /// Says on a terminal how much was read, if that takes long.

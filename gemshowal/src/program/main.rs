@@ -9,6 +9,7 @@ mod input;
 mod late;
 mod lint;
 mod list;
+mod names;
 mod object;
 mod output;
 mod progress;
@@ -53,6 +54,8 @@ enum Failure {
     Faulty(String, String),
     #[error("the acts that were built don't show the streams of {0}")]
     Uncertified(String),
+    #[error(transparent)]
+    Beside(#[from] names::Fault),
     #[error("standard output can't be written: {0}")]
     Unwritten(#[from] io::Error),
 }
@@ -60,7 +63,9 @@ enum Failure {
 impl Failure {
     fn status(&self) -> u8 {
         match self {
-            Failure::TooLarge(_) | Failure::Faulty(..) => Status::Faulty as u8,
+            Failure::TooLarge(_) | Failure::Faulty(..) | Failure::Beside(names::Fault::Wrong { .. }) => {
+                Status::Faulty as u8
+            }
             _ => 4,
         }
     }
