@@ -12,13 +12,13 @@ pub(crate) enum Fault {
     #[error("{} can't be read: {reason}", .file.display())]
     Unread { file: PathBuf, reason: io::Error },
     /// One of its lines is none of such a file.
-    #[error("{}, line {line}, isn't {expected}; seqaudit-node convert writes it anew", .file.display())]
-    Wrong { file: PathBuf, line: usize, expected: &'static str },
+    #[error("{}, line {line}, isn't {wanted}; seqaudit-node convert writes it anew", .file.display())]
+    Wrong { file: PathBuf, line: usize, wanted: &'static str },
 }
 
 impl Fault {
-    pub(super) fn at(file: &Path, line: usize, expected: &'static str) -> Fault {
-        Fault::Wrong { file: file.into(), line, expected }
+    pub(super) fn at(file: &Path, line: usize, wanted: &'static str) -> Fault {
+        Fault::Wrong { file: file.into(), line, wanted }
     }
 }
 

@@ -28,10 +28,10 @@ use terms::Terms;
 const TRACE: &str = "seqtrace";
 
 /// The file that a word of the command line names: `NAME.seqtrace` if there is one, else the file
-/// of the word itself.
+/// of the word itself. `-` is standard input, whatever files there are.
 pub(crate) fn trace_file(word: &Path) -> PathBuf {
     let named = with_extension(word, TRACE);
-    if named.is_file() {
+    if word != Path::new("-") && named.is_file() {
         named
     } else {
         word.into()
