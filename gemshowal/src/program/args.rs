@@ -22,6 +22,9 @@ pub(crate) enum Command {
     /// Finds acts that explain the trace, or names an event and a reason
     #[command(after_help = AUDIT)]
     Audit(Audit),
+    /// Prints the messages of a trace with what each event follows, or draws them
+    #[command(after_help = CHART)]
+    Chart(Chart),
     /// Adds unreported events until each event has what it follows, or says why not
     #[command(after_help = COMPLETE)]
     Complete(Complete),
@@ -141,6 +144,22 @@ pub(crate) struct Stats {
     pub(crate) json: bool,
 }
 
+#[derive(clap::Args)]
+pub(crate) struct Chart {
+    /// The trace: NAME (of NAME.seqtrace), a file, or - for standard input
+    #[arg(value_name = "NAME", default_value = "-", hide_default_value = true)]
+    file: PathBuf,
+    /// The label, as it is shown or by its number; else all labels
+    #[arg(long)]
+    pub(crate) label: Option<String>,
+    /// Draw it as well, into this file
+    #[arg(long, value_name = "FILE")]
+    pub(crate) svg: Option<PathBuf>,
+    /// A JSON object, for programs
+    #[arg(long)]
+    pub(crate) json: bool,
+}
+
 /// Which event is asked about, and how far.
 #[derive(clap::Args)]
 pub(crate) struct Why {
@@ -184,7 +203,7 @@ impl Command {
             | Command::Lint(Lint { files, .. })
             | Command::List(List { files, .. })
             | Command::Stats(Stats { files, .. }) => &files.files,
-            Command::Complete(Complete { file, .. }) | Command::Why(Why { file, .. }) => std::slice::from_ref(file),
+            Command::Complete(Complete { file, .. }) | Command::Why(Why { file, .. }) | Command::Chart(Chart { file, .. }) => std::slice::from_ref(file),
         }
     }
 
@@ -195,7 +214,8 @@ impl Command {
             | Command::Lint(Lint { json, .. })
             | Command::List(List { json, .. })
             | Command::Stats(Stats { json, .. })
-            | Command::Why(Why { json, .. }) => *json,
+            | Command::Why(Why { json, .. })
+            | Command::Chart(Chart { json, .. }) => *json,
         }
     }
 
@@ -204,7 +224,7 @@ impl Command {
             Command::Audit(Audit { quiet, .. })
             | Command::Complete(Complete { quiet, .. })
             | Command::Lint(Lint { quiet, .. }) => *quiet,
-            Command::List(_) | Command::Stats(_) | Command::Why(_) => false,
+            Command::List(_) | Command::Stats(_) | Command::Why(_) | Command::Chart(_) => false,
         }
     }
 
@@ -309,3 +329,16 @@ Example:
 The numbers behind a line are the premises on which the because in front of it
 rests. An event with ~ in its name wasn't reported: gemshowal complete adds it.
 Status 1: there is no such event, or the trace can't be paired.";
+
+const CHART: &str = "\
+Example:
+  gemshowal chart examples/order --svg order.svg
+  label {order,7}
+  lane 1 client
+  ..
+     S   |   |   .  client#0  send    {0,1} call {order,apple,3}  begins here
+     .   |   |   R  shop#0    receive {0,1} call {order,apple,3}  after client#0
+S is a send, R a receive, P a print, and a dot the other end. Small letters are
+events that nobody reported, and that gemshowal complete adds; their names have
+a ~, and in the drawing they are dashed. No row is above what it follows.
+Status 1: the trace can't be paired, or has no such label.";

@@ -5,8 +5,10 @@
 mod args;
 mod audit;
 mod causes;
+mod chart;
 mod complete;
 mod input;
+mod keep;
 mod late;
 mod lint;
 mod list;
@@ -17,6 +19,7 @@ mod output;
 mod progress;
 mod reason;
 mod stats;
+mod svg;
 mod why;
 mod words;
 
@@ -62,6 +65,10 @@ enum Failure {
     Beside(#[from] names::Fault),
     #[error(transparent)]
     NotFound(#[from] names::NotFound),
+    #[error("the chart has {0} rows, and a drawing takes {1}: make a page (gemshowal page), or cut the trace")]
+    TooManyRows(usize, usize),
+    #[error("{0} can't be written: {1}")]
+    Unkept(String, #[source] io::Error),
     #[error("standard output can't be written: {0}")]
     Unwritten(#[from] io::Error),
 }
@@ -74,6 +81,7 @@ impl Failure {
             }
             Failure::NotFound(names::NotFound::Memory(_)) => 4,
             Failure::NotFound(_) => Status::No as u8,
+            Failure::TooManyRows(..) => Status::Long as u8,
             _ => 4,
         }
     }
@@ -90,6 +98,7 @@ impl From<serde_json::Error> for Failure {
 fn run_on(command: &Command, input: &mut Input, out: &mut Output, notes: &mut Notes) -> Result<Status, Failure> {
     let status = match command {
         Command::Audit(args) => audit::run(args, input, out, notes),
+        Command::Chart(args) => chart::run(args, input, out, notes),
         Command::Complete(args) => complete::run(args, input, out, notes),
         Command::Lint(args) => lint::run(args, input, out, notes),
         Command::List(args) => list::run(args, input, out, notes),
