@@ -24,6 +24,9 @@ pub(crate) enum Command {
     /// Says whether the acts in a text are a run that reports exactly its events
     #[command(after_help = CHECK)]
     Check(Check),
+    /// Prints the messages of a trace with what each event follows, or draws them
+    #[command(after_help = CHART)]
+    Chart(Chart),
     /// Adds unreported events until each event has what it follows, or says why not
     #[command(after_help = COMPLETE)]
     Complete(Complete),
@@ -42,6 +45,9 @@ pub(crate) enum Command {
     /// Counts events and messages by process, pair and label
     #[command(after_help = STATS)]
     Stats(Stats),
+    /// Says what an event follows, and so on back, or what follows it
+    #[command(after_help = WHY)]
+    Why(Why),
     /// Traces running nodes: a command of the Erlang application
     #[command(disable_help_flag = true)]
     Collect(Handed),
@@ -195,6 +201,52 @@ pub(crate) struct Conditions {
     counts: Option<Span>,
 }
 
+#[derive(clap::Args)]
+pub(crate) struct Chart {
+    /// The trace: NAME (of NAME.seqtrace), a file, or - for standard input
+    #[arg(value_name = "NAME", default_value = "-", hide_default_value = true)]
+    file: PathBuf,
+    /// The label, as it is shown or by its number; else all labels
+    #[arg(long)]
+    pub(crate) label: Option<String>,
+    /// Draw it as well, into this file
+    #[arg(long, value_name = "FILE")]
+    pub(crate) svg: Option<PathBuf>,
+    /// A JSON object, for programs
+    #[arg(long)]
+    pub(crate) json: bool,
+}
+
+/// Which event is asked about, and how far.
+#[derive(clap::Args)]
+pub(crate) struct Why {
+    /// The trace: NAME (of NAME.seqtrace), a file, or - for standard input
+    #[arg(value_name = "NAME")]
+    file: PathBuf,
+    /// The event: shop#2, '<0.81.0> 2', or the number of its line
+    #[arg(required = true, num_args = 1..=2)]
+    pub(crate) event: Vec<String>,
+    /// Say what follows the event, as a tree
+    #[arg(long)]
+    pub(crate) effects: bool,
+    /// Go on over a change of label
+    #[arg(long)]
+    pub(crate) across: bool,
+    /// At most so many events back, or levels of the tree
+    #[arg(long, value_name = "N")]
+    depth: Option<u64>,
+    /// A JSON object, for programs
+    #[arg(long)]
+    pub(crate) json: bool,
+}
+
+impl Why {
+    /// The most events back, or levels of the tree.
+    pub(crate) fn most(&self) -> u64 {
+        self.depth.unwrap_or(u64::MAX)
+    }
+}
+
 impl Conditions {
     /// The conditions on the events of a trace with these names.
     pub(crate) fn filter(&self, trace: &Trace, names: &Names) -> Result<Filter, NotFound> {
@@ -239,10 +291,12 @@ impl Command {
             Command::Collect(_) => "collect",
             Command::Watch(_) => "watch",
             Command::Convert(_) => "convert",
+            Command::Why(_) => "why",
+            Command::Chart(_) => "chart",
         }
     }
 
-    /// Its inputs; none of a command that is handed over.
+    /// Its inputs; none of a command that takes one trace, or is handed over.
     fn inputs(&self) -> Option<&Inputs> {
         Some(match self {
             Command::Audit(args) => &args.inputs,
@@ -253,6 +307,7 @@ impl Command {
             Command::Lint(args) => &args.inputs,
             Command::List(args) => &args.inputs,
             Command::Stats(args) => &args.inputs,
+            Command::Chart(_) | Command::Why(_) => return None,
             Command::Collect(_) | Command::Watch(_) | Command::Convert(_) => return None,
         })
     }
@@ -266,7 +321,12 @@ impl Command {
     }
 
     pub(crate) fn files(&self) -> &[PathBuf] {
-        self.inputs().map_or(&[], |inputs| &inputs.names)
+        match self {
+            Command::Chart(Chart { file, .. }) | Command::Why(Why { file, .. }) => {
+                std::slice::from_ref(file)
+            }
+            _ => self.inputs().map_or(&[], |inputs| &inputs.names),
+        }
     }
 
     pub(crate) fn is_quiet(&self) -> bool {
@@ -282,6 +342,7 @@ impl Command {
             | Command::Lint(Lint { json, .. })
             | Command::List(List { json, .. })
             | Command::Stats(Stats { json, .. }) => json.json,
+            Command::Why(Why { json, .. }) | Command::Chart(Chart { json, .. }) => *json,
             Command::Cut(_) | Command::Collect(_) | Command::Watch(_) | Command::Convert(_) => {
                 false
             }
@@ -399,3 +460,33 @@ Depth is the number of messages on the longest way of a label, each sent behind 
 receive of the one before (as gemshowal why tells it); width is the most messages at
 one depth.
 Status 1: the trace can't be paired (gemshowal audit).";
+
+const WHY: &str = "\
+Example:
+  gemshowal why examples/order stock#0
+  stock#0 received call {take,apple,3} from shop, label {order,7}
+  because shop#1 sent call {take,apple,3} to stock
+  because shop#0 received call {order,apple,3} from client (1, 2)
+  because client#0 sent call {order,apple,3} to shop
+  client#0 begins this chain
+  this holds in each run without a reset that reports the trace
+  (1) if each receive of a token was reported
+  (2) if no process cleared or lost its token, began again and reported an
+  earlier label again
+  ..
+The numbers behind a line are the premises on which the because in front of it
+rests. An event with ~ in its name wasn't reported: gemshowal complete adds it.
+Status 1: there is no such event, or the trace can't be paired.";
+
+const CHART: &str = "\
+Example:
+  gemshowal chart examples/order --svg order.svg
+  label {order,7}
+  lane 1 client
+  ..
+     S   |   |   .  client#0  send    {0,1} call {order,apple,3}  begins here
+     .   |   |   R  shop#0    receive {0,1} call {order,apple,3}  after client#0
+S is a send, R a receive, P a print, and a dot the other end. Small letters are
+events that nobody reported, and that gemshowal complete adds; their names have
+a ~, and in the drawing they are dashed. No row is above what it follows.
+Status 1: the trace can't be paired, or has no such label.";
