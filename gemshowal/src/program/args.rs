@@ -25,6 +25,9 @@ pub(crate) enum Command {
     /// Adds unreported events until each event has what it follows, or says why not
     #[command(after_help = COMPLETE)]
     Complete(Complete),
+    /// Compares two traces of one program: what is new, gone or elsewhere in the second
+    #[command(after_help = DIFF)]
+    Diff(Diff),
     /// Names the mistakes of a text, or mends them
     #[command(after_help = LINT)]
     Lint(Lint),
@@ -81,6 +84,22 @@ pub(crate) enum Form {
     Streams,
     #[value(help = "the trace's events, and acts that show them")]
     Acts,
+}
+
+#[derive(clap::Args)]
+pub(crate) struct Diff {
+    /// The trace before a change; - is standard input
+    #[arg(value_name = "A")]
+    first: PathBuf,
+    /// The trace after it; - is standard input
+    #[arg(value_name = "B")]
+    pub(crate) second: PathBuf,
+    /// A JSON object, for programs (docs/FORMATS.md)
+    #[arg(long)]
+    pub(crate) json: bool,
+    /// Write no result and no note: the status tells
+    #[arg(short, long)]
+    quiet: bool,
 }
 
 #[derive(clap::Args)]
@@ -151,7 +170,8 @@ impl Command {
             | Command::Lint(Lint { files, .. })
             | Command::List(List { files, .. })
             | Command::Stats(Stats { files, .. }) => &files.files,
-            Command::Complete(Complete { file, .. }) => std::slice::from_ref(file),
+            Command::Complete(Complete { file, .. })
+            | Command::Diff(Diff { first: file, .. }) => std::slice::from_ref(file),
         }
     }
 
@@ -159,6 +179,7 @@ impl Command {
         match self {
             Command::Audit(Audit { json, .. })
             | Command::Complete(Complete { json, .. })
+            | Command::Diff(Diff { json, .. })
             | Command::Lint(Lint { json, .. })
             | Command::List(List { json, .. })
             | Command::Stats(Stats { json, .. }) => *json,
@@ -169,6 +190,7 @@ impl Command {
         match self {
             Command::Audit(Audit { quiet, .. })
             | Command::Complete(Complete { quiet, .. })
+            | Command::Diff(Diff { quiet, .. })
             | Command::Lint(Lint { quiet, .. }) => *quiet,
             Command::List(_) | Command::Stats(_) => false,
         }
@@ -183,6 +205,9 @@ impl Command {
         match &self {
             Command::Lint(lint) if lint.fix && self.files().len() > 1 => {
                 wrong("the mended text is that of one file: name one alone, or leave out --fix")
+            }
+            Command::Diff(diff) if diff.first == diff.second && diff.first == Path::new("-") => {
+                wrong("both traces are standard input: name the file of one")
             }
             Command::Complete(complete) if complete.json && complete.form != Form::Added => {
                 wrong("--json writes what is added: leave out --as, or --json")
@@ -230,6 +255,16 @@ Example:
 Status 1: `never PID I WORD`, no run without a reset has these streams, for the
 reason WORD at event I of PID, whatever unlisted processes it may have.
 Status 5, with --as acts or streams: `long`, there is one, too long to be read.";
+
+const DIFF: &str = "\
+Example:
+  gemshowal diff before.txt after.txt
+
+Status 0: `same`, one renaming of the pids, and one of the counts that keeps
+their order, make the one trace of the other. Status 1: `different`.
+Processes are matched by their names, by their pids if that leaves no more
+changes than another way, and by what they report; a guess is told. If both
+traces have terms, these are compared, and else the numbers of labels and values.";
 
 const LINT: &str = "\
 Example:

@@ -5,6 +5,7 @@
 mod args;
 mod audit;
 mod complete;
+mod diff;
 mod input;
 mod late;
 mod lint;
@@ -83,6 +84,7 @@ fn run_on(command: &Command, input: &mut Input, out: &mut Output, notes: &mut No
     let status = match command {
         Command::Audit(args) => audit::run(args, input, out, notes),
         Command::Complete(args) => complete::run(args, input, out, notes),
+        Command::Diff(args) => diff::run(args, input, out, notes),
         Command::Lint(args) => lint::run(args, input, out, notes),
         Command::List(args) => list::run(args, input, out, notes),
         Command::Stats(args) => stats::run(args, input, out, notes),
