@@ -27,6 +27,7 @@ impl Ranks {
             events.flat_map(|event| [event.serial.prev, event.serial.this]).collect();
         counts.sort_unstable();
         counts.dedup();
+        counts.shrink_to_fit();
         Ranks(counts)
     }
 

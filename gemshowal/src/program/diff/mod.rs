@@ -78,6 +78,11 @@ struct Found {
 
 /// Compares two traces, of which these processes are called alike.
 fn compare(sides: [&Side<'_>; 2], mates: &[Mate]) -> Found {
+    let [first, second] = sides;
+    if first.len() != second.len() || first.total() != second.total() {
+        let (pairs, changes) = best_match(sides, mates);
+        return Found { pairs, changes, moved: None, is_certain: true };
+    }
     let ranks = sides.map(Ranks::of);
     if let Some(pairs) = match_alike(sides, Some(&ranks), mates) {
         let changes = Changes::find(sides, &pairs);
@@ -92,17 +97,14 @@ fn compare(sides: [&Side<'_>; 2], mates: &[Mate]) -> Found {
     Found { pairs, changes, moved, is_certain: true }
 }
 
-/// Matches the processes of two traces if a renaming may make the one of the other: one that keeps
-/// the order of counts, if their ranks are given.
+/// Matches the processes of two traces of one length if a renaming may make the one of the other:
+/// one that keeps the order of counts, if their ranks are given.
 fn match_alike(
     sides: [&Side<'_>; 2],
     ranks: Option<&[Ranks; 2]>,
     mates: &[Mate],
 ) -> Option<Pairs> {
     let [first, second] = sides;
-    if first.len() != second.len() || first.total() != second.total() {
-        return None;
-    }
     let [ones, others] = ranks.map_or([None, None], |[ones, others]| [Some(ones), Some(others)]);
     let colours = [Colours::first(first, ones), Colours::first(second, others)];
     let [before, after] = &colours;

@@ -9,14 +9,14 @@ use super::words::{sentence, Difference, Row, Sums};
 use super::{Changes, Found};
 use crate::names::Names;
 use crate::output::Output;
-use gemshowal::{Lines, OutOfMemory, Pid, Trace};
+use gemshowal::{LineNumbers, OutOfMemory, Pid, Trace};
 use std::io::{self, Write};
 
 /// A trace as it is shown.
 pub(super) struct Text<'a> {
     pub(super) name: &'a str,
     pub(super) names: &'a Names,
-    lines: Lines<'a>,
+    lines: LineNumbers<'a>,
 }
 
 impl<'a> Text<'a> {
