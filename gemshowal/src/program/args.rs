@@ -37,6 +37,9 @@ pub(crate) enum Command {
     /// Counts events and messages by process, pair and label
     #[command(after_help = STATS)]
     Stats(Stats),
+    /// Says what an event follows, and so on back, or what follows it
+    #[command(after_help = WHY)]
+    Why(Why),
 }
 
 /// The inputs of a command that takes several.
@@ -157,6 +160,36 @@ pub(crate) struct Stats {
     pub(crate) json: bool,
 }
 
+/// Which event is asked about, and how far.
+#[derive(clap::Args)]
+pub(crate) struct Why {
+    /// The trace: NAME (of NAME.seqtrace), a file, or - for standard input
+    #[arg(value_name = "NAME")]
+    file: PathBuf,
+    /// The event: shop#2, '<0.81.0> 2', or the number of its line
+    #[arg(required = true, num_args = 1..=2)]
+    pub(crate) event: Vec<String>,
+    /// Say what follows the event, as a tree
+    #[arg(long)]
+    pub(crate) effects: bool,
+    /// Go on over a change of label
+    #[arg(long)]
+    pub(crate) across: bool,
+    /// At most so many events back, or levels of the tree
+    #[arg(long, value_name = "N")]
+    depth: Option<u64>,
+    /// A JSON object, for programs
+    #[arg(long)]
+    pub(crate) json: bool,
+}
+
+impl Why {
+    /// The most events back, or levels of the tree.
+    pub(crate) fn most(&self) -> u64 {
+        self.depth.unwrap_or(u64::MAX)
+    }
+}
+
 impl Conditions {
     pub(crate) fn filter(&self) -> Filter {
         Filter { label: self.label.map(Label), process: self.process, lines: self.lines, counts: self.counts }
@@ -171,7 +204,8 @@ impl Command {
             | Command::List(List { files, .. })
             | Command::Stats(Stats { files, .. }) => &files.files,
             Command::Complete(Complete { file, .. })
-            | Command::Diff(Diff { first: file, .. }) => std::slice::from_ref(file),
+            | Command::Diff(Diff { first: file, .. })
+            | Command::Why(Why { file, .. }) => std::slice::from_ref(file),
         }
     }
 
@@ -182,7 +216,8 @@ impl Command {
             | Command::Diff(Diff { json, .. })
             | Command::Lint(Lint { json, .. })
             | Command::List(List { json, .. })
-            | Command::Stats(Stats { json, .. }) => *json,
+            | Command::Stats(Stats { json, .. })
+            | Command::Why(Why { json, .. }) => *json,
         }
     }
 
@@ -192,7 +227,7 @@ impl Command {
             | Command::Complete(Complete { quiet, .. })
             | Command::Diff(Diff { quiet, .. })
             | Command::Lint(Lint { quiet, .. }) => *quiet,
-            Command::List(_) | Command::Stats(_) => false,
+            Command::List(_) | Command::Stats(_) | Command::Why(_) => false,
         }
     }
 
@@ -293,3 +328,20 @@ the one before was received; width the most messages at one depth. The queue is
 that of the messages of which both ends are reported, in the charts' order.
 Status 1: the trace can't be paired (gemshowal audit), or a send or print counts
 no higher than a receive before it, so that the counts give no order.";
+
+const WHY: &str = "\
+Example:
+  gemshowal why examples/order stock#0
+  stock#0 received call {take,apple,3} from shop, label {order,7}
+  because shop#1 sent call {take,apple,3} to stock
+  because shop#0 received call {order,apple,3} from client (1, 2)
+  because client#0 sent call {order,apple,3} to shop
+  client#0 begins this chain
+  this holds in each run without a reset that reports the trace
+  (1) if each receive of a token was reported
+  (2) if no process cleared or lost its token, began again and reported an
+  earlier label again
+  ..
+The numbers behind a line are the premises on which the because in front of it
+rests. An event with ~ in its name wasn't reported: gemshowal complete adds it.
+Status 1: there is no such event, or the trace can't be paired.";

@@ -4,18 +4,22 @@
 
 mod args;
 mod audit;
+mod causes;
 mod complete;
 mod diff;
 mod input;
 mod late;
 mod lint;
 mod list;
+mod moment;
 mod names;
 mod object;
 mod output;
 mod progress;
-mod stats;
 mod reason;
+mod stats;
+mod why;
+mod words;
 
 use crate::args::{Args, Command};
 use crate::input::Input;
@@ -57,6 +61,8 @@ enum Failure {
     Uncertified(String),
     #[error(transparent)]
     Beside(#[from] names::Fault),
+    #[error(transparent)]
+    NotFound(#[from] names::NotFound),
     #[error("standard output can't be written: {0}")]
     Unwritten(#[from] io::Error),
 }
@@ -67,6 +73,8 @@ impl Failure {
             Failure::TooLarge(_) | Failure::Faulty(..) | Failure::Beside(names::Fault::Wrong { .. }) => {
                 Status::Faulty as u8
             }
+            Failure::NotFound(names::NotFound::Memory(_)) => 4,
+            Failure::NotFound(_) => Status::No as u8,
             _ => 4,
         }
     }
@@ -88,6 +96,7 @@ fn run_on(command: &Command, input: &mut Input, out: &mut Output, notes: &mut No
         Command::Lint(args) => lint::run(args, input, out, notes),
         Command::List(args) => list::run(args, input, out, notes),
         Command::Stats(args) => stats::run(args, input, out, notes),
+        Command::Why(args) => why::run(args, input, out, notes),
     }?;
     out.finish()?;
     Ok(status)
