@@ -28,6 +28,9 @@ pub(crate) enum Command {
     /// Compares two traces of one program: what is new, gone or elsewhere in the second
     #[command(after_help = DIFF)]
     Diff(Diff),
+    /// Writes the trace for another program that draws
+    #[command(after_help = EXPORT)]
+    Export(Export),
     /// Names the mistakes of a text, or mends them
     #[command(after_help = LINT)]
     Lint(Lint),
@@ -103,6 +106,34 @@ pub(crate) struct Diff {
     /// Write no result and no note: the status tells
     #[arg(short, long)]
     quiet: bool,
+}
+
+#[derive(clap::Args)]
+pub(crate) struct Export {
+    /// The trace's name or file; standard input if it is left out or -
+    #[arg(value_name = "NAME", default_value = "-", hide_default_value = true)]
+    file: PathBuf,
+    /// For which program
+    #[arg(long = "as", value_enum)]
+    pub(crate) target: Target,
+    /// Only the events of this label, by its term or its number
+    #[arg(long)]
+    pub(crate) label: Option<String>,
+}
+
+/// For what a trace is written.
+#[derive(Clone, Copy, Debug, PartialEq, Eq, ValueEnum)]
+pub(crate) enum Target {
+    #[value(help = "Perfetto: slices and flows")]
+    Perfetto,
+    #[value(help = "OpenTelemetry, as Jaeger shows it: spans, of a trace with times")]
+    Otlp,
+    #[value(help = "ShiViz: a log with vector clocks")]
+    Shiviz,
+    #[value(help = "Mermaid: a sequence diagram")]
+    Mermaid,
+    #[value(help = "Graphviz: a graph of the events")]
+    Dot,
 }
 
 #[derive(clap::Args)]
@@ -205,6 +236,7 @@ impl Command {
             | Command::Stats(Stats { files, .. }) => &files.files,
             Command::Complete(Complete { file, .. })
             | Command::Diff(Diff { first: file, .. })
+            | Command::Export(Export { file, .. })
             | Command::Why(Why { file, .. }) => std::slice::from_ref(file),
         }
     }
@@ -218,6 +250,7 @@ impl Command {
             | Command::List(List { json, .. })
             | Command::Stats(Stats { json, .. })
             | Command::Why(Why { json, .. }) => *json,
+            Command::Export(_) => false,
         }
     }
 
@@ -227,7 +260,7 @@ impl Command {
             | Command::Complete(Complete { quiet, .. })
             | Command::Diff(Diff { quiet, .. })
             | Command::Lint(Lint { quiet, .. }) => *quiet,
-            Command::List(_) | Command::Stats(_) | Command::Why(_) => false,
+            Command::Export(_) | Command::List(_) | Command::Stats(_) | Command::Why(_) => false,
         }
     }
 
@@ -300,6 +333,16 @@ their order, make the one trace of the other. Status 1: `different`.
 Processes are matched by their names, by their pids if that leaves no more
 changes than another way, and by what they report; a guess is told. If both
 traces have terms, these are compared, and else the numbers of labels and values.";
+
+const EXPORT: &str = "\
+Example:
+  gemshowal export --as perfetto order >order.json
+
+It opens in ui.perfetto.dev. A collector of OpenTelemetry takes what --as otlp
+writes, for Jaeger and the like. Times are those of NAME.times; --as perfetto
+without them draws by the order of the counts. Status 1: the trace can't be
+paired or has a late event (gemshowal audit), no event is drawn, or --as otlp
+and there are no times. Status 5, with --as shiviz: the clocks would be too long.";
 
 const LINT: &str = "\
 Example:

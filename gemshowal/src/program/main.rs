@@ -7,6 +7,7 @@ mod audit;
 mod causes;
 mod complete;
 mod diff;
+mod export;
 mod input;
 mod late;
 mod lint;
@@ -93,6 +94,7 @@ fn run_on(command: &Command, input: &mut Input, out: &mut Output, notes: &mut No
         Command::Audit(args) => audit::run(args, input, out, notes),
         Command::Complete(args) => complete::run(args, input, out, notes),
         Command::Diff(args) => diff::run(args, input, out, notes),
+        Command::Export(args) => export::run(args, input, out, notes),
         Command::Lint(args) => lint::run(args, input, out, notes),
         Command::List(args) => list::run(args, input, out, notes),
         Command::Stats(args) => stats::run(args, input, out, notes),
