@@ -36,6 +36,12 @@ pub(crate) enum Command {
     /// Says why check refuses acts: the act, what was due, what came
     #[command(after_help = EXPLAIN)]
     Explain(Explain),
+    /// Compares two traces of one program: what is new, gone or elsewhere in the second
+    #[command(after_help = DIFF)]
+    Diff(Diff),
+    /// Writes the trace for another program that draws
+    #[command(after_help = EXPORT)]
+    Export(Export),
     /// Names the mistakes of a text, or mends them
     #[command(after_help = LINT)]
     Lint(Lint),
@@ -158,6 +164,50 @@ pub(crate) struct Cut {
     inputs: Inputs,
     #[command(flatten)]
     pub(crate) conditions: Conditions,
+}
+
+#[derive(clap::Args)]
+pub(crate) struct Diff {
+    /// The trace before a change; - is standard input
+    #[arg(value_name = "A")]
+    first: PathBuf,
+    /// The trace after it; - is standard input
+    #[arg(value_name = "B")]
+    pub(crate) second: PathBuf,
+    /// A JSON object, for programs (docs/FORMATS.md)
+    #[arg(long)]
+    pub(crate) json: bool,
+    /// Write no result and no note: the status tells
+    #[arg(short, long)]
+    quiet: bool,
+}
+
+#[derive(clap::Args)]
+pub(crate) struct Export {
+    /// The trace's name or file; standard input if it is left out or -
+    #[arg(value_name = "NAME", default_value = "-", hide_default_value = true)]
+    file: PathBuf,
+    /// For which program
+    #[arg(long = "as", value_enum)]
+    pub(crate) target: Target,
+    /// Only the events of this label, by its term or its number
+    #[arg(long)]
+    pub(crate) label: Option<String>,
+}
+
+/// For what a trace is written.
+#[derive(Clone, Copy, Debug, PartialEq, Eq, ValueEnum)]
+pub(crate) enum Target {
+    #[value(help = "Perfetto: slices and flows")]
+    Perfetto,
+    #[value(help = "OpenTelemetry, as Jaeger shows it: spans, of a trace with times")]
+    Otlp,
+    #[value(help = "ShiViz: a log with vector clocks")]
+    Shiviz,
+    #[value(help = "Mermaid: a sequence diagram")]
+    Mermaid,
+    #[value(help = "Graphviz: a graph of the events")]
+    Dot,
 }
 
 #[derive(clap::Args)]
@@ -293,6 +343,8 @@ impl Command {
             Command::Convert(_) => "convert",
             Command::Why(_) => "why",
             Command::Chart(_) => "chart",
+            Command::Diff(_) => "diff",
+            Command::Export(_) => "export",
         }
     }
 
@@ -307,7 +359,9 @@ impl Command {
             Command::Lint(args) => &args.inputs,
             Command::List(args) => &args.inputs,
             Command::Stats(args) => &args.inputs,
-            Command::Chart(_) | Command::Why(_) => return None,
+            Command::Chart(_) | Command::Diff(_) | Command::Export(_) | Command::Why(_) => {
+                return None
+            }
             Command::Collect(_) | Command::Watch(_) | Command::Convert(_) => return None,
         })
     }
@@ -322,15 +376,19 @@ impl Command {
 
     pub(crate) fn files(&self) -> &[PathBuf] {
         match self {
-            Command::Chart(Chart { file, .. }) | Command::Why(Why { file, .. }) => {
-                std::slice::from_ref(file)
-            }
+            Command::Chart(Chart { file, .. })
+            | Command::Diff(Diff { first: file, .. })
+            | Command::Export(Export { file, .. })
+            | Command::Why(Why { file, .. }) => std::slice::from_ref(file),
             _ => self.inputs().map_or(&[], |inputs| &inputs.names),
         }
     }
 
     pub(crate) fn is_quiet(&self) -> bool {
-        self.inputs().is_some_and(|inputs| inputs.quiet)
+        match self {
+            Command::Diff(Diff { quiet, .. }) => *quiet,
+            _ => self.inputs().is_some_and(|inputs| inputs.quiet),
+        }
     }
 
     pub(crate) fn is_json(&self) -> bool {
@@ -342,7 +400,10 @@ impl Command {
             | Command::Lint(Lint { json, .. })
             | Command::List(List { json, .. })
             | Command::Stats(Stats { json, .. }) => json.json,
-            Command::Why(Why { json, .. }) | Command::Chart(Chart { json, .. }) => *json,
+            Command::Chart(Chart { json, .. })
+            | Command::Diff(Diff { json, .. })
+            | Command::Why(Why { json, .. }) => *json,
+            Command::Export(_) => false,
             Command::Cut(_) | Command::Collect(_) | Command::Watch(_) | Command::Convert(_) => {
                 false
             }
@@ -370,6 +431,9 @@ impl Command {
             return wrong("what this writes is of one trace: name one alone");
         }
         match &self {
+            Command::Diff(diff) if diff.first == diff.second && diff.first == Path::new("-") => {
+                wrong("both traces are standard input: name the file of one")
+            }
             Command::Complete(complete) if self.is_json() && complete.form != Form::Added => {
                 wrong("--json writes what is added: leave out --as, or --json")
             }
@@ -433,6 +497,26 @@ Example:
 It makes the run again up to the first act that reports something else than the
 trace has, and shows the act, the event that was due, what came, and the state of
 the process before it, with the messages that wait.";
+
+const DIFF: &str = "\
+Example:
+  gemshowal diff before.txt after.txt
+
+Status 0: `same`, one renaming of the pids, and one of the counts that keeps
+their order, make the one trace of the other. Status 1: `different`.
+Processes are matched by their names, by their pids if that leaves no more
+changes than another way, and by what they report; a guess is told. If both
+traces have terms, these are compared, and else the numbers of labels and values.";
+
+const EXPORT: &str = "\
+Example:
+  gemshowal export --as perfetto order >order.json
+
+It opens in ui.perfetto.dev. A collector of OpenTelemetry takes what --as otlp
+writes, for Jaeger and the like. Times are those of NAME.times; --as perfetto
+without them draws by the order of the counts. Status 1: the trace can't be
+paired or has a late event (gemshowal audit), no event is drawn, or --as otlp
+and there are no times. Status 5, with --as shiviz: the clocks would be too long.";
 
 const LINT: &str = "\
 Example:

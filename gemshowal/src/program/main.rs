@@ -11,11 +11,14 @@ mod chart;
 mod check;
 mod complete;
 mod cut;
+mod diff;
 mod erlang;
 mod explain;
+mod export;
 mod failure;
 mod input;
 mod keep;
+mod late;
 mod lint;
 mod list;
 mod moment;
@@ -70,6 +73,8 @@ fn run_on(
         Command::Stats(_) => stats::run(json, input, out, notes),
         Command::Collect(_) | Command::Watch(_) | Command::Convert(_) => Ok(Status::Yes),
         Command::Chart(args) => chart::run(args, input, out, notes),
+        Command::Diff(args) => diff::run(args, input, out, notes),
+        Command::Export(args) => export::run(args, input, out, notes),
         Command::Why(args) => why::run(args, input, out, notes),
     }?;
     out.finish()?;
