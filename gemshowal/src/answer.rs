@@ -2,6 +2,7 @@
 
 use crate::{Act, Completion, Event, Finding, OutOfMemory, Pid, Reason, Text, Trace};
 use std::collections::{BTreeMap, BTreeSet};
+use std::fmt::{self, Display, Formatter};
 use std::io::{self, Write};
 use thiserror::Error;
 
@@ -64,6 +65,14 @@ impl Unfit {
     /// The same as the libraries return it.
     pub fn into_finding(self) -> Finding {
         Finding::Unfit(self.pid, self.index, self.reason)
+    }
+}
+
+impl Display for Unfit {
+    fn fmt(&self, f: &mut Formatter<'_>) -> fmt::Result {
+        let found =
+            if self.is_final() { "no run without a reset reports" } else { "no run was found of" };
+        write!(f, "{found} event {} of {}: {:?}", self.index, Text(self.pid), self.reason)
     }
 }
 

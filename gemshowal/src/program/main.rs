@@ -16,6 +16,8 @@ mod erlang;
 mod explain;
 mod export;
 mod failure;
+#[cfg(test)]
+mod fuzz;
 mod input;
 mod keep;
 mod late;
