@@ -37,6 +37,9 @@ pub(crate) enum Command {
     /// Counts events and messages by process, pair and label
     #[command(after_help = STATS)]
     Stats(Stats),
+    /// Says how long messages and labels took
+    #[command(after_help = TIMES)]
+    Times(Times),
     /// Says what an event follows, and so on back, or what follows it
     #[command(after_help = WHY)]
     Why(Why),
@@ -160,6 +163,19 @@ pub(crate) struct Chart {
     pub(crate) json: bool,
 }
 
+#[derive(clap::Args)]
+pub(crate) struct Times {
+    /// The trace: NAME (of NAME.seqtrace)
+    #[arg(value_name = "NAME")]
+    file: PathBuf,
+    /// Say too what the last event of this label waited for
+    #[arg(long)]
+    pub(crate) label: Option<String>,
+    /// A JSON object, for programs; times are nanoseconds
+    #[arg(long)]
+    pub(crate) json: bool,
+}
+
 /// Which event is asked about, and how far.
 #[derive(clap::Args)]
 pub(crate) struct Why {
@@ -203,7 +219,7 @@ impl Command {
             | Command::Lint(Lint { files, .. })
             | Command::List(List { files, .. })
             | Command::Stats(Stats { files, .. }) => &files.files,
-            Command::Complete(Complete { file, .. }) | Command::Why(Why { file, .. }) | Command::Chart(Chart { file, .. }) => std::slice::from_ref(file),
+            Command::Complete(Complete { file, .. }) | Command::Times(Times { file, .. }) | Command::Why(Why { file, .. }) | Command::Chart(Chart { file, .. }) => std::slice::from_ref(file),
         }
     }
 
@@ -214,6 +230,7 @@ impl Command {
             | Command::Lint(Lint { json, .. })
             | Command::List(List { json, .. })
             | Command::Stats(Stats { json, .. })
+            | Command::Times(Times { json, .. })
             | Command::Why(Why { json, .. })
             | Command::Chart(Chart { json, .. }) => *json,
         }
@@ -224,7 +241,7 @@ impl Command {
             Command::Audit(Audit { quiet, .. })
             | Command::Complete(Complete { quiet, .. })
             | Command::Lint(Lint { quiet, .. }) => *quiet,
-            Command::List(_) | Command::Stats(_) | Command::Why(_) | Command::Chart(_) => false,
+            Command::List(_) | Command::Stats(_) | Command::Times(_) | Command::Why(_) | Command::Chart(_) => false,
         }
     }
 
@@ -342,3 +359,12 @@ S is a send, R a receive, P a print, and a dot the other end. Small letters are
 events that nobody reported, and that gemshowal complete adds; their names have
 a ~, and in the drawing they are dashed. No row is above what it follows.
 Status 1: the trace can't be paired, or has no such label.";
+
+const TIMES: &str = "\
+Example:
+  gemshowal times order --label '{order,7}'
+
+A message takes from its send until its receiver took it, so its time in the
+mailbox is in that. Between two nodes it may seem to take less than no time, as
+far as their clocks differ.
+Status 1: the events have no times, or there is no such label.";

@@ -162,7 +162,7 @@ impl Chart {
             let (marks, name) = (self.marks(causes, row), name(row));
             let (kind, serial) = (kind_word(row.event.kind), gemshowal::Text(row.event.serial));
             let message = short(&words::message(causes, row.item), MESSAGE);
-            let follows = words::follows(causes, row.item, row.link);
+            let follows = words::follows(causes, row.item, row.link) + &took(causes, row.item);
             writeln!(
                 out,
                 "{marks}  {name:width$}{time:>wide$}  {kind:<8}{serial} {message}  {follows}"
@@ -195,6 +195,13 @@ fn time(causes: &Causes<'_>, item: Item) -> String {
     let times = causes.names().times().zip(causes.reported(item));
     let time = times.and_then(|(times, place)| Some(moment::moment(times, times.of_event(place)?)));
     time.map(|time| format!("  {time}")).unwrap_or_default()
+}
+
+/// How long after its send a receive was reported.
+fn took(causes: &Causes<'_>, item: Item) -> String {
+    let times = causes.names().times().zip(causes.reported(item));
+    let took = times.and_then(|(times, place)| Some(times.of_message(place)?.1));
+    took.map(|took| format!(", {} later", moment::seconds(took))).unwrap_or_default()
 }
 
 /// The text, or its first characters and three dots.

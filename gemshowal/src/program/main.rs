@@ -6,6 +6,7 @@ mod args;
 mod audit;
 mod causes;
 mod chart;
+mod durations;
 mod complete;
 mod input;
 mod keep;
@@ -20,6 +21,7 @@ mod progress;
 mod reason;
 mod stats;
 mod svg;
+mod times;
 mod why;
 mod words;
 
@@ -67,6 +69,8 @@ enum Failure {
     NotFound(#[from] names::NotFound),
     #[error("the chart has {0} rows, and a drawing takes {1}: make a page (gemshowal page), or cut the trace")]
     TooManyRows(usize, usize),
+    #[error("{0} has no times: events need the flag timestamp, and NAME.times beside the trace")]
+    NoTimes(String),
     #[error("{0} can't be written: {1}")]
     Unkept(String, #[source] io::Error),
     #[error("standard output can't be written: {0}")]
@@ -80,7 +84,7 @@ impl Failure {
                 Status::Faulty as u8
             }
             Failure::NotFound(names::NotFound::Memory(_)) => 4,
-            Failure::NotFound(_) => Status::No as u8,
+            Failure::NotFound(_) | Failure::NoTimes(_) => Status::No as u8,
             Failure::TooManyRows(..) => Status::Long as u8,
             _ => 4,
         }
@@ -103,6 +107,7 @@ fn run_on(command: &Command, input: &mut Input, out: &mut Output, notes: &mut No
         Command::Lint(args) => lint::run(args, input, out, notes),
         Command::List(args) => list::run(args, input, out, notes),
         Command::Stats(args) => stats::run(args, input, out, notes),
+        Command::Times(args) => times::run(args, input, out, notes),
         Command::Why(args) => why::run(args, input, out, notes),
     }?;
     out.finish()?;
