@@ -51,6 +51,9 @@ pub(crate) enum Command {
     /// Counts events and messages by process, pair and label
     #[command(after_help = STATS)]
     Stats(Stats),
+    /// Says how long messages and labels took
+    #[command(after_help = TIMES)]
+    Times(Times),
     /// Says what an event follows, and so on back, or what follows it
     #[command(after_help = WHY)]
     Why(Why),
@@ -267,6 +270,19 @@ pub(crate) struct Chart {
     pub(crate) json: bool,
 }
 
+#[derive(clap::Args)]
+pub(crate) struct Times {
+    /// The trace: NAME (of NAME.seqtrace)
+    #[arg(value_name = "NAME")]
+    file: PathBuf,
+    /// Say too what the last event of this label waited for
+    #[arg(long)]
+    pub(crate) label: Option<String>,
+    /// A JSON object, for programs; times are nanoseconds
+    #[arg(long)]
+    pub(crate) json: bool,
+}
+
 /// Which event is asked about, and how far.
 #[derive(clap::Args)]
 pub(crate) struct Why {
@@ -345,6 +361,7 @@ impl Command {
             Command::Chart(_) => "chart",
             Command::Diff(_) => "diff",
             Command::Export(_) => "export",
+            Command::Times(_) => "times",
         }
     }
 
@@ -359,9 +376,11 @@ impl Command {
             Command::Lint(args) => &args.inputs,
             Command::List(args) => &args.inputs,
             Command::Stats(args) => &args.inputs,
-            Command::Chart(_) | Command::Diff(_) | Command::Export(_) | Command::Why(_) => {
-                return None
-            }
+            Command::Chart(_)
+            | Command::Diff(_)
+            | Command::Export(_)
+            | Command::Times(_)
+            | Command::Why(_) => return None,
             Command::Collect(_) | Command::Watch(_) | Command::Convert(_) => return None,
         })
     }
@@ -379,6 +398,7 @@ impl Command {
             Command::Chart(Chart { file, .. })
             | Command::Diff(Diff { first: file, .. })
             | Command::Export(Export { file, .. })
+            | Command::Times(Times { file, .. })
             | Command::Why(Why { file, .. }) => std::slice::from_ref(file),
             _ => self.inputs().map_or(&[], |inputs| &inputs.names),
         }
@@ -402,6 +422,7 @@ impl Command {
             | Command::Stats(Stats { json, .. }) => json.json,
             Command::Chart(Chart { json, .. })
             | Command::Diff(Diff { json, .. })
+            | Command::Times(Times { json, .. })
             | Command::Why(Why { json, .. }) => *json,
             Command::Export(_) => false,
             Command::Cut(_) | Command::Collect(_) | Command::Watch(_) | Command::Convert(_) => {
@@ -574,3 +595,12 @@ S is a send, R a receive, P a print, and a dot the other end. Small letters are
 events that nobody reported, and that gemshowal complete adds; their names have
 a ~, and in the drawing they are dashed. No row is above what it follows.
 Status 1: the trace can't be paired, or has no such label.";
+
+const TIMES: &str = "\
+Example:
+  gemshowal times order --label '{order,7}'
+
+A message takes from its send until its receiver took it, so its time in the
+mailbox is in that. Between two nodes it may seem to take less than no time, as
+far as their clocks differ.
+Status 1: the events have no times, or there is no such label.";

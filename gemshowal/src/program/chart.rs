@@ -4,7 +4,7 @@
 use crate::args::Chart as Args;
 use crate::causes::{with_causes, Causes, Grade, Link};
 use crate::input::Input;
-use crate::object::kind_word;
+use crate::object::{kind_word, Number};
 use crate::output::{Notes, Output};
 use crate::reason::write_unpaired;
 use crate::{moment, svg, words, Failure, Status};
@@ -153,7 +153,7 @@ impl Chart {
             let (marks, name) = (self.marks(causes, row), name(row));
             let (kind, serial) = (kind_word(row.event.kind), gemshowal::Text(row.event.serial));
             let message = short(&words::message(causes, row.item), MESSAGE);
-            let follows = words::follows(causes, row.item, row.link);
+            let follows = words::follows(causes, row.item, row.link) + &took(causes, row.item);
             writeln!(
                 out,
                 "{marks}  {name:width$}{time:>wide$}  {kind:<8}{serial} {message}  {follows}"
@@ -188,6 +188,13 @@ fn time(causes: &Causes<'_>, item: Item) -> String {
     time.map(|time| format!("  {time}")).unwrap_or_default()
 }
 
+/// How long after its send a receive was reported.
+fn took(causes: &Causes<'_>, item: Item) -> String {
+    let times = causes.names().times().zip(causes.reported(item));
+    let took = times.and_then(|(times, place)| Some(times.of_message(place)?.1));
+    took.map(|took| format!(", {} later", moment::seconds(took))).unwrap_or_default()
+}
+
 /// The text, or its first characters and three dots.
 pub(crate) fn short(text: &str, most: usize) -> String {
     if text.chars().count() <= most {
@@ -197,8 +204,7 @@ pub(crate) fn short(text: &str, most: usize) -> String {
     }
 }
 
-/// A chart as JSON.
-/// The charts of a trace.
+/// The charts of a trace, as JSON.
 #[derive(Serialize)]
 struct Charts {
     charts: Vec<Charted>,
@@ -219,7 +225,7 @@ struct ChartedRow {
     kind: &'static str,
     lane: usize,
     other: Option<usize>,
-    serial: [u64; 2],
+    serial: [Number; 2],
     message: String,
     /// The row of the event that it follows.
     after: Option<usize>,
@@ -237,7 +243,7 @@ impl Charted {
             kind: kind_word(row.event.kind),
             lane: row.lane,
             other: row.other,
-            serial: [row.event.serial.prev, row.event.serial.this],
+            serial: [row.event.serial.prev, row.event.serial.this].map(Number),
             message: words::message(causes, row.item),
             after: row.link.after().and_then(|item| places.get(&item).copied()),
             follows: words::follows(causes, row.item, row.link),

@@ -12,6 +12,7 @@ mod check;
 mod complete;
 mod cut;
 mod diff;
+mod durations;
 mod erlang;
 mod explain;
 mod export;
@@ -32,6 +33,7 @@ mod reason;
 mod spool;
 mod stats;
 mod svg;
+mod times;
 mod view;
 mod why;
 mod words;
@@ -77,6 +79,7 @@ fn run_on(
         Command::Chart(args) => chart::run(args, input, out, notes),
         Command::Diff(args) => diff::run(args, input, out, notes),
         Command::Export(args) => export::run(args, input, out, notes),
+        Command::Times(args) => times::run(args, input, out, notes),
         Command::Why(args) => why::run(args, input, out, notes),
     }?;
     out.finish()?;

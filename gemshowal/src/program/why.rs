@@ -3,7 +3,7 @@
 use crate::args::Why;
 use crate::causes::{with_causes, Cause, Causes, Grade, Link};
 use crate::input::Input;
-use crate::object::{kind_word, Place};
+use crate::object::{kind_word, Number, Place};
 use crate::output::{Notes, Output};
 use crate::reason::write_unpaired;
 use crate::words;
@@ -187,7 +187,7 @@ struct Found {
     label: String,
     from: String,
     to: Option<String>,
-    serial: [u64; 2],
+    serial: [Number; 2],
     /// The message, if one of its ends was reported.
     message: Option<String>,
     /// Nanoseconds after the first event.
@@ -215,7 +215,7 @@ impl Found {
             label: names.label(event.label).into_owned(),
             from: causes.process(event.from).into_owned(),
             to: event.to.map(|to| causes.process(to).into_owned()),
-            serial: [event.serial.prev, event.serial.this],
+            serial: [event.serial.prev, event.serial.this].map(Number),
             message: causes.message(step.item).map(|value| names.value(value).into_owned()),
             at: names.times().zip(place).and_then(|(times, place)| times.of_event(place)),
             cause,
