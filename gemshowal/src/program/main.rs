@@ -1,16 +1,21 @@
 //! The program `gemshowal`: what a trace says, for people and as JSON.
 //!
-//! What is found comes from the proved libraries, through `gemshowal` (the library); the words are made here, and nothing of them is proved.
+//! What is found comes from the proved libraries, through `gemshowal` (the library); the words are
+//! made here, and nothing of them is proved.
+#![forbid(unsafe_code)]
 
 mod args;
 mod audit;
 mod causes;
 mod chart;
-mod durations;
+mod check;
 mod complete;
+mod cut;
+mod durations;
+mod erlang;
+mod explain;
 mod input;
 mod keep;
-mod late;
 mod lint;
 mod list;
 mod moment;
@@ -19,20 +24,24 @@ mod object;
 mod output;
 mod progress;
 mod reason;
+mod spool;
 mod stats;
 mod svg;
 mod times;
+mod view;
 mod why;
 mod words;
 
 use crate::args::{Args, Command};
 use crate::input::Input;
-use crate::output::{Notes, Output};
+use crate::output::{Headings, Notes, Output};
 use clap::Parser;
-use std::io;
+use gemshowal::{CertificateError, OutOfMemory};
+use serde::Serialize;
+use std::io::{self, ErrorKind};
+use std::path::Path;
 use std::process::ExitCode;
 use thiserror::Error;
-use gemshowal::OutOfMemory;
 
 /// How a command ended, unless by an error.
 #[derive(Clone, Copy, Debug, PartialEq, Eq)]
@@ -41,38 +50,51 @@ enum Status {
     No = 1,
     /// The text is none of a trace.
     Faulty = 2,
-    /// There is an answer, too long to be read by `seqtool`.
+    /// Two programs disagree.
+    Differs = 4,
+    /// There is an answer, too long to be read again.
     Long = 5,
 }
 
 /// The status of a command line that isn't understood.
 const USAGE: u8 = 3;
 
+/// The status of a program whose reader has gone, as a shell has it for one that a signal ended.
+const PIPE: u8 = 141;
+
 /// Why there is no result. `{0}` is the input's name.
 #[derive(Debug, Error)]
 enum Failure {
     #[error("memory ran out")]
     Memory(#[from] OutOfMemory),
-    #[error("{0} can't be opened: {1}")]
-    Unopened(String, #[source] io::Error),
+    #[error("{0} can't be opened: {2}{1}")]
+    Unopened(String, String, #[source] io::Error),
     #[error("{0} can't be read: {1}")]
     Unread(String, #[source] io::Error),
     #[error("{0} has more than {most} bytes", most = gemshowal::LIMITS.bytes)]
     TooLarge(String),
     #[error("{0}{1}; see gemshowal lint")]
     Faulty(String, String),
-    #[error("the acts that were built don't show the streams of {0}")]
-    Uncertified(String),
+    #[error("{0} has no acts: look for some with gemshowal audit --acts")]
+    NoActs(String),
     #[error(transparent)]
     Beside(#[from] names::Fault),
     #[error(transparent)]
     NotFound(#[from] names::NotFound),
-    #[error("the chart has {0} rows, and a drawing takes {1}: make a page (gemshowal page), or cut the trace")]
+    #[error("the chart has {0} rows, and a drawing takes {1}: make a page, or cut the trace")]
     TooManyRows(usize, usize),
     #[error("{0} has no times: events need the flag timestamp, and NAME.times beside the trace")]
     NoTimes(String),
+    #[error("the cut leaves none of {0}: no event has all that the options ask for")]
+    NothingLeft(String),
+    #[error("{0} has a completion, with more acts or processes than are read")]
+    TooLong(String),
+    #[error("the acts that were built don't show the streams of {0}")]
+    Uncertified(String),
     #[error("{0} can't be written: {1}")]
     Unkept(String, #[source] io::Error),
+    #[error("{0}")]
+    Program(String),
     #[error("standard output can't be written: {0}")]
     Unwritten(#[from] io::Error),
 }
@@ -80,13 +102,32 @@ enum Failure {
 impl Failure {
     fn status(&self) -> u8 {
         match self {
-            Failure::TooLarge(_) | Failure::Faulty(..) | Failure::Beside(names::Fault::Wrong { .. }) => {
+            Failure::TooLarge(_)
+            | Failure::Faulty(..)
+            | Failure::NoActs(_)
+            | Failure::Beside(names::Fault::Wrong { .. }) => Status::Faulty as u8,
+            Failure::NotFound(names::NotFound::Memory(_)) => 4,
+            Failure::NotFound(_) | Failure::NoTimes(_) | Failure::NothingLeft(_) => {
+                Status::No as u8
+            }
+            Failure::TooLong(_) | Failure::TooManyRows(..) => Status::Long as u8,
+            Failure::Unread(_, reason) if reason.kind() == ErrorKind::InvalidData => {
                 Status::Faulty as u8
             }
-            Failure::NotFound(names::NotFound::Memory(_)) => 4,
-            Failure::NotFound(_) | Failure::NoTimes(_) => Status::No as u8,
-            Failure::TooManyRows(..) => Status::Long as u8,
+            Failure::Unwritten(reason) if reason.kind() == ErrorKind::BrokenPipe => PIPE,
             _ => 4,
+        }
+    }
+}
+
+impl Failure {
+    /// Why the acts of a completion of this trace weren't written.
+    fn of_acts(error: CertificateError, name: &str) -> Failure {
+        match error {
+            CertificateError::Io(reason) => reason.into(),
+            CertificateError::Memory(error) => error.into(),
+            CertificateError::TooLong => Failure::TooLong(name.into()),
+            CertificateError::Uncertified => Failure::Uncertified(name.into()),
         }
     }
 }
@@ -98,35 +139,83 @@ impl From<serde_json::Error> for Failure {
     }
 }
 
+/// An object in place of a result.
+#[derive(Serialize)]
+struct Failed {
+    status: u8,
+    error: String,
+}
+
 /// Does the command on one input.
-fn run_on(command: &Command, input: &mut Input, out: &mut Output, notes: &mut Notes) -> Result<Status, Failure> {
+fn run_on(
+    command: &Command,
+    input: &mut Input,
+    out: &mut Output,
+    notes: &mut Notes,
+) -> Result<Status, Failure> {
+    let json = command.is_json();
     let status = match command {
-        Command::Audit(args) => audit::run(args, input, out, notes),
-        Command::Chart(args) => chart::run(args, input, out, notes),
-        Command::Complete(args) => complete::run(args, input, out, notes),
-        Command::Lint(args) => lint::run(args, input, out, notes),
-        Command::List(args) => list::run(args, input, out, notes),
-        Command::Stats(args) => stats::run(args, input, out, notes),
-        Command::Times(args) => times::run(args, input, out, notes),
-        Command::Why(args) => why::run(args, input, out, notes),
+        Command::Audit(args) => audit::run(args, json, input, out, notes),
+        Command::Chart(args) => chart::run(args, json, input, out, notes),
+        Command::Check(_) => check::run(json, input, out),
+        Command::Complete(args) => complete::run(args, json, input, out, notes),
+        Command::Cut(args) => cut::run(args, input, out, notes),
+        Command::Explain(_) => explain::run(json, input, out),
+        Command::Lint(args) => lint::run(args, json, input, out, notes),
+        Command::List(args) => list::run(args, json, input, out, notes),
+        Command::Stats(_) => stats::run(json, input, out, notes),
+        Command::Times(args) => times::run(args, json, input, out, notes),
+        Command::Why(args) => why::run(args, json, input, out, notes),
+        Command::Collect(_) | Command::Watch(_) | Command::Convert(_) => Ok(Status::Yes),
     }?;
     out.finish()?;
     Ok(status)
 }
 
+/// Opens an input, and does the command on it. In place of a result JSON has an object too.
+fn run_on_path(
+    command: &Command,
+    path: &Path,
+    headings: &mut Headings,
+    notes: &mut Notes,
+) -> Result<Status, Failure> {
+    let mut opened = Input::open(path);
+    let (name, progress) = match &opened {
+        Ok(input) => (input.name().to_owned(), input.watch(!command.is_quiet())),
+        Err(_) => (path.to_string_lossy().into_owned(), None),
+    };
+    let mut out = headings.output(&name, progress)?;
+    let ended = match &mut opened {
+        Ok(input) => run_on(command, input, &mut out, notes),
+        Err(_) => opened.map(|_| Status::Yes),
+    };
+    let ended = ended.or_else(|failure| report(failure, command.is_json(), &mut out));
+    headings.note(&out);
+    ended
+}
+
+/// Reports a failure as JSON if that is asked for, and returns it.
+fn report(failure: Failure, is_json: bool, out: &mut Output) -> Result<Status, Failure> {
+    out.forget();
+    if is_json && !matches!(failure, Failure::Unwritten(_)) {
+        let failed = Failed { status: failure.status(), error: failure.to_string() };
+        out.report("failed", &failed)?;
+    }
+    out.finish()?;
+    Err(failure)
+}
+
 /// Does the command on one input after the other. The status is that of the worst.
 fn run(command: &Command) -> u8 {
     let mut status = 0;
-    let mut headings = output::Headings::new(command.files().len() > 1, command.is_json());
+    let several = command.files().len() > 1 && !command.is_json();
+    let mut headings = Headings::new(command.word(), several, command.is_quiet());
     for path in command.files() {
         let mut notes = Notes::new(command.is_quiet());
-        let ended = Input::open(path).and_then(|mut input| {
-            let progress = input.watch(!command.is_quiet());
-            let mut out = headings.output(input.name(), command.is_quiet(), progress)?;
-            let ended = run_on(command, &mut input, &mut out, &mut notes);
-            headings.note(&out);
-            ended
-        });
+        let ended = run_on_path(command, path, &mut headings, &mut notes);
+        if ended.as_ref().is_err_and(|failure| failure.status() == PIPE) {
+            return PIPE;
+        }
         notes.send();
         match ended {
             Ok(ended) => status = status.max(ended as u8),
@@ -142,23 +231,27 @@ fn run(command: &Command) -> u8 {
     status
 }
 
+/// Prints what the reader of the command line says: help, the version, or what it doesn't
+/// understand.
+fn print(error: &clap::Error) -> u8 {
+    match error.print() {
+        Err(reason) if reason.kind() == ErrorKind::BrokenPipe => PIPE,
+        Err(reason) => {
+            output::say_red(format_args!("error: {}\n", Failure::Unwritten(reason)));
+            4
+        }
+        Ok(()) if error.use_stderr() => USAGE,
+        Ok(()) => 0,
+    }
+}
+
 fn main() -> ExitCode {
     let read = Args::try_parse().and_then(|args| args.command.checked());
-    match read {
-        Ok(command) => ExitCode::from(run(&command)),
-        Err(error) => {
-            let printed = error.print();
-            if let Err(reason) = &printed {
-                output::say_red(format_args!(
-                    "error: {}\n",
-                    Failure::Unwritten(io::Error::new(reason.kind(), reason.to_string()))
-                ));
-            }
-            ExitCode::from(match printed {
-                Err(_) => 4,
-                Ok(()) if error.use_stderr() => USAGE,
-                Ok(()) => 0,
-            })
-        }
-    }
+    ExitCode::from(match read {
+        Ok(command) => match command.handed() {
+            Some(args) => erlang::hand_over(command.word(), &args.words),
+            None => run(&command),
+        },
+        Err(error) => print(&error),
+    })
 }
