@@ -21,12 +21,12 @@ pub(crate) enum Command {
     /// Says whether the events fit together, and what is missing
     #[command(after_help = AUDIT)]
     Audit(Audit),
-    /// Says whether the acts in a text are a run that reports exactly its events
-    #[command(after_help = CHECK)]
-    Check(Check),
     /// Prints the messages of a trace with what each event follows, or draws them
     #[command(after_help = CHART)]
     Chart(Chart),
+    /// Says whether the acts in a text are a run that reports exactly its events
+    #[command(after_help = CHECK)]
+    Check(Check),
     /// Adds unreported events until each event has what it follows, or says why not
     #[command(after_help = COMPLETE)]
     Complete(Complete),
@@ -177,9 +177,8 @@ pub(crate) struct Diff {
     /// The trace after it; - is standard input
     #[arg(value_name = "B")]
     pub(crate) second: PathBuf,
-    /// A JSON object, for programs (docs/FORMATS.md)
-    #[arg(long)]
-    pub(crate) json: bool,
+    #[command(flatten)]
+    json: Json,
     /// Write no result and no note: the status tells
     #[arg(short, long)]
     quiet: bool,
@@ -187,9 +186,8 @@ pub(crate) struct Diff {
 
 #[derive(clap::Args)]
 pub(crate) struct Export {
-    /// The trace's name or file; standard input if it is left out or -
-    #[arg(value_name = "NAME", default_value = "-", hide_default_value = true)]
-    file: PathBuf,
+    #[command(flatten)]
+    inputs: Inputs,
     /// For which program
     #[arg(long = "as", value_enum)]
     pub(crate) target: Target,
@@ -254,65 +252,6 @@ pub(crate) struct Conditions {
     counts: Option<Span>,
 }
 
-#[derive(clap::Args)]
-pub(crate) struct Chart {
-    /// The trace: NAME (of NAME.seqtrace), a file, or - for standard input
-    #[arg(value_name = "NAME", default_value = "-", hide_default_value = true)]
-    file: PathBuf,
-    /// The label, as it is shown or by its number; else all labels
-    #[arg(long)]
-    pub(crate) label: Option<String>,
-    /// Draw it as well, into this file
-    #[arg(long, value_name = "FILE")]
-    pub(crate) svg: Option<PathBuf>,
-    /// A JSON object, for programs
-    #[arg(long)]
-    pub(crate) json: bool,
-}
-
-#[derive(clap::Args)]
-pub(crate) struct Times {
-    /// The trace: NAME (of NAME.seqtrace)
-    #[arg(value_name = "NAME")]
-    file: PathBuf,
-    /// Say too what the last event of this label waited for
-    #[arg(long)]
-    pub(crate) label: Option<String>,
-    /// A JSON object, for programs; times are nanoseconds
-    #[arg(long)]
-    pub(crate) json: bool,
-}
-
-/// Which event is asked about, and how far.
-#[derive(clap::Args)]
-pub(crate) struct Why {
-    /// The trace: NAME (of NAME.seqtrace), a file, or - for standard input
-    #[arg(value_name = "NAME")]
-    file: PathBuf,
-    /// The event: shop#2, '<0.81.0> 2', or the number of its line
-    #[arg(required = true, num_args = 1..=2)]
-    pub(crate) event: Vec<String>,
-    /// Say what follows the event, as a tree
-    #[arg(long)]
-    pub(crate) effects: bool,
-    /// Go on over a change of label
-    #[arg(long)]
-    pub(crate) across: bool,
-    /// At most so many events back, or levels of the tree
-    #[arg(long, value_name = "N")]
-    depth: Option<u64>,
-    /// A JSON object, for programs
-    #[arg(long)]
-    pub(crate) json: bool,
-}
-
-impl Why {
-    /// The most events back, or levels of the tree.
-    pub(crate) fn most(&self) -> u64 {
-        self.depth.unwrap_or(u64::MAX)
-    }
-}
-
 impl Conditions {
     /// The conditions on the events of a trace with these names.
     pub(crate) fn filter(&self, trace: &Trace, names: &Names) -> Result<Filter, NotFound> {
@@ -335,6 +274,63 @@ pub(crate) struct Stats {
     json: Json,
 }
 
+#[derive(clap::Args)]
+pub(crate) struct Chart {
+    #[command(flatten)]
+    inputs: Inputs,
+    #[command(flatten)]
+    json: Json,
+    /// The label, as it is shown or by its number; else all labels
+    #[arg(long)]
+    pub(crate) label: Option<String>,
+    /// Draw it as well, into this file
+    #[arg(long, value_name = "FILE")]
+    pub(crate) svg: Option<PathBuf>,
+}
+
+#[derive(clap::Args)]
+pub(crate) struct Times {
+    #[command(flatten)]
+    inputs: Inputs,
+    #[command(flatten)]
+    json: Json,
+    /// Say too what the last event of this label waited for
+    #[arg(long)]
+    pub(crate) label: Option<String>,
+}
+
+/// Which event is asked about, and how far.
+#[derive(clap::Args)]
+pub(crate) struct Why {
+    /// The trace: NAME (of NAME.seqtrace), a file, or - for standard input
+    #[arg(value_name = "NAME")]
+    name: PathBuf,
+    /// The event: shop#2, '<0.81.0> 2', or the number of its line
+    #[arg(required = true, num_args = 1..=2)]
+    pub(crate) event: Vec<String>,
+    #[command(flatten)]
+    json: Json,
+    /// Say what follows the event, as a tree
+    #[arg(long)]
+    pub(crate) effects: bool,
+    /// Go on over a change of label
+    #[arg(long)]
+    pub(crate) across: bool,
+    /// At most so many events back, or levels of the tree
+    #[arg(long, value_name = "N")]
+    depth: Option<u64>,
+    /// Write no result and no note: the status tells
+    #[arg(short, long)]
+    quiet: bool,
+}
+
+impl Why {
+    /// The most events back, or levels of the tree.
+    pub(crate) fn most(&self) -> u64 {
+        self.depth.unwrap_or(u64::MAX)
+    }
+}
+
 /// The words for a command of the Erlang application.
 #[derive(clap::Args)]
 pub(crate) struct Handed {
@@ -347,40 +343,39 @@ impl Command {
     pub(crate) fn word(&self) -> &'static str {
         match self {
             Command::Audit(_) => "audit",
+            Command::Chart(_) => "chart",
             Command::Check(_) => "check",
             Command::Complete(_) => "complete",
             Command::Cut(_) => "cut",
+            Command::Diff(_) => "diff",
+            Command::Export(_) => "export",
             Command::Explain(_) => "explain",
             Command::Lint(_) => "lint",
             Command::List(_) => "list",
             Command::Stats(_) => "stats",
+            Command::Times(_) => "times",
+            Command::Why(_) => "why",
             Command::Collect(_) => "collect",
             Command::Watch(_) => "watch",
             Command::Convert(_) => "convert",
-            Command::Why(_) => "why",
-            Command::Chart(_) => "chart",
-            Command::Diff(_) => "diff",
-            Command::Export(_) => "export",
-            Command::Times(_) => "times",
         }
     }
 
-    /// Its inputs; none of a command that takes one trace, or is handed over.
+    /// Its inputs, if it takes several; none of a command that is handed over.
     fn inputs(&self) -> Option<&Inputs> {
         Some(match self {
             Command::Audit(args) => &args.inputs,
+            Command::Chart(args) => &args.inputs,
             Command::Check(args) => &args.inputs,
             Command::Complete(args) => &args.inputs,
             Command::Cut(args) => &args.inputs,
             Command::Explain(args) => &args.inputs,
+            Command::Export(args) => &args.inputs,
             Command::Lint(args) => &args.inputs,
             Command::List(args) => &args.inputs,
             Command::Stats(args) => &args.inputs,
-            Command::Chart(_)
-            | Command::Diff(_)
-            | Command::Export(_)
-            | Command::Times(_)
-            | Command::Why(_) => return None,
+            Command::Times(args) => &args.inputs,
+            Command::Diff(_) | Command::Why(_) => return None,
             Command::Collect(_) | Command::Watch(_) | Command::Convert(_) => return None,
         })
     }
@@ -395,18 +390,16 @@ impl Command {
 
     pub(crate) fn files(&self) -> &[PathBuf] {
         match self {
-            Command::Chart(Chart { file, .. })
-            | Command::Diff(Diff { first: file, .. })
-            | Command::Export(Export { file, .. })
-            | Command::Times(Times { file, .. })
-            | Command::Why(Why { file, .. }) => std::slice::from_ref(file),
+            Command::Diff(args) => std::slice::from_ref(&args.first),
+            Command::Why(args) => std::slice::from_ref(&args.name),
             _ => self.inputs().map_or(&[], |inputs| &inputs.names),
         }
     }
 
     pub(crate) fn is_quiet(&self) -> bool {
         match self {
-            Command::Diff(Diff { quiet, .. }) => *quiet,
+            Command::Diff(args) => args.quiet,
+            Command::Why(args) => args.quiet,
             _ => self.inputs().is_some_and(|inputs| inputs.quiet),
         }
     }
@@ -414,30 +407,29 @@ impl Command {
     pub(crate) fn is_json(&self) -> bool {
         match self {
             Command::Audit(Audit { json, .. })
+            | Command::Chart(Chart { json, .. })
             | Command::Check(Check { json, .. })
             | Command::Complete(Complete { json, .. })
+            | Command::Diff(Diff { json, .. })
             | Command::Explain(Explain { json, .. })
             | Command::Lint(Lint { json, .. })
             | Command::List(List { json, .. })
-            | Command::Stats(Stats { json, .. }) => json.json,
-            Command::Chart(Chart { json, .. })
-            | Command::Diff(Diff { json, .. })
+            | Command::Stats(Stats { json, .. })
             | Command::Times(Times { json, .. })
-            | Command::Why(Why { json, .. }) => *json,
-            Command::Export(_) => false,
-            Command::Cut(_) | Command::Collect(_) | Command::Watch(_) | Command::Convert(_) => {
-                false
-            }
+            | Command::Why(Why { json, .. }) => json.json,
+            Command::Cut(_) | Command::Export(_) => false,
+            Command::Collect(_) | Command::Watch(_) | Command::Convert(_) => false,
         }
     }
 
     /// Whether it writes a text, so that it takes one input.
     fn writes_text(&self) -> bool {
         match self {
-            Command::Cut(_) => true,
+            Command::Cut(_) | Command::Export(_) => true,
             Command::Complete(complete) => complete.form != Form::Added,
             Command::Lint(lint) => lint.fix,
             Command::Audit(audit) => audit.acts.is_some(),
+            Command::Chart(chart) => chart.svg.is_some(),
             _ => false,
         }
     }
@@ -519,26 +511,6 @@ It makes the run again up to the first act that reports something else than the
 trace has, and shows the act, the event that was due, what came, and the state of
 the process before it, with the messages that wait.";
 
-const DIFF: &str = "\
-Example:
-  gemshowal diff before.txt after.txt
-
-Status 0: `same`, one renaming of the pids, and one of the counts that keeps
-their order, make the one trace of the other. Status 1: `different`.
-Processes are matched by their names, by their pids if that leaves no more
-changes than another way, and by what they report; a guess is told. If both
-traces have terms, these are compared, and else the numbers of labels and values.";
-
-const EXPORT: &str = "\
-Example:
-  gemshowal export --as perfetto order >order.json
-
-It opens in ui.perfetto.dev. A collector of OpenTelemetry takes what --as otlp
-writes, for Jaeger and the like. Times are those of NAME.times; --as perfetto
-without them draws by the order of the counts. Status 1: the trace can't be
-paired or has a late event (gemshowal audit), no event is drawn, or --as otlp
-and there are no times. Status 5, with --as shiviz: the clocks would be too long.";
-
 const LINT: &str = "\
 Example:
   gemshowal lint trace.txt
@@ -566,23 +538,6 @@ receive of the one before (as gemshowal why tells it); width is the most message
 one depth.
 Status 1: the trace can't be paired (gemshowal audit).";
 
-const WHY: &str = "\
-Example:
-  gemshowal why examples/order stock#0
-  stock#0 received call {take,apple,3} from shop, label {order,7}
-  because shop#1 sent call {take,apple,3} to stock
-  because shop#0 received call {order,apple,3} from client (1, 2)
-  because client#0 sent call {order,apple,3} to shop
-  client#0 begins this chain
-  this holds in each run without a reset that reports the trace
-  (1) if each receive of a token was reported
-  (2) if no process cleared or lost its token, began again and reported an
-  earlier label again
-  ..
-The numbers behind a line are the premises on which the because in front of it
-rests. An event with ~ in its name wasn't reported: gemshowal complete adds it.
-Status 1: there is no such event, or the trace can't be paired.";
-
 const CHART: &str = "\
 Example:
   gemshowal chart examples/order --svg order.svg
@@ -604,3 +559,40 @@ A message takes from its send until its receiver took it, so its time in the
 mailbox is in that. Between two nodes it may seem to take less than no time, as
 far as their clocks differ.
 Status 1: the events have no times, or there is no such label.";
+
+const WHY: &str = "\
+Example:
+  gemshowal why examples/order stock#0
+  stock#0 received call {take,apple,3} from shop, label {order,7}
+  because shop#1 sent call {take,apple,3} to stock
+  because shop#0 received call {order,apple,3} from client (1, 2)
+  because client#0 sent call {order,apple,3} to shop
+  client#0 begins this chain
+  this holds in each run without a reset that reports the trace
+  (1) if each receive of a token was reported
+  (2) if no process cleared or lost its token, began again and reported an
+  earlier label again
+  ..
+The numbers behind a line are the premises on which the because in front of it
+rests. An event with ~ in its name wasn't reported: gemshowal complete adds it.
+Status 1: there is no such event, or the trace can't be paired.";
+
+const DIFF: &str = "\
+Example:
+  gemshowal diff before.txt after.txt
+
+Status 0: `same`, one renaming of the pids, and one of the counts that keeps
+their order, make the one trace of the other. Status 1: `different`.
+Processes are matched by their names, by their pids if that leaves no more
+changes than another way, and by what they report; a guess is told. If both
+traces have terms, these are compared, and else the numbers of labels and values.";
+
+const EXPORT: &str = "\
+Example:
+  gemshowal export --as perfetto order >order.json
+
+It opens in ui.perfetto.dev. A collector of OpenTelemetry takes what --as otlp
+writes, for Jaeger and the like. Times are those of NAME.times; --as perfetto
+without them draws by the order of the counts. Status 1: the trace can't be
+paired or has a late event (gemshowal audit), no event is drawn, or --as otlp
+and there are no times. Status 5, with --as shiviz: the clocks would be too long.";

@@ -5,6 +5,7 @@
 //! on, which say what is so in one run of several: so that is said with `perhaps`.
 
 use crate::names::Names;
+use crate::view::Place;
 use crate::Failure;
 use gemshowal::{
     Answer, Completion, Event, Finding, Hop, Hops, Item, Kind, Label, Never, OutOfMemory, Paired,
@@ -13,9 +14,6 @@ use gemshowal::{
 use gemshowal::{Pid, Premises, Streams, Trace};
 use std::borrow::Cow;
 use std::collections::HashMap;
-
-/// A process, and the index of one of its events.
-pub(crate) type Place = (Pid, u64);
 
 /// How sure it is what an event follows.
 #[derive(Clone, Copy, Debug, PartialEq, Eq)]
@@ -75,10 +73,10 @@ struct Whole<'a> {
 #[derive(Clone, Copy, Debug, Default, PartialEq, Eq)]
 pub(crate) struct Added {
     /// Sends whose receive was reported, so they have happened.
-    pub(crate) certain: usize,
+    pub(crate) certain: u64,
     /// Other sends.
-    pub(crate) sends: usize,
-    pub(crate) receives: usize,
+    pub(crate) sends: u64,
+    pub(crate) receives: u64,
 }
 
 impl Added {
@@ -329,10 +327,11 @@ impl Causes<'_> {
 
     /// What a process is called.
     pub(crate) fn process(&self, pid: Pid) -> Cow<'_, str> {
-        if self.is_unlisted(pid) {
-            format!("unlisted {}", gemshowal::Text(pid)).into()
-        } else {
-            self.names.process(pid)
+        let unlisted = self.whole.as_ref().map_or(&[][..], |whole| whole.completion.unlisted());
+        match unlisted.iter().position(|&other| other == pid) {
+            None => self.names.process(pid),
+            Some(_) if unlisted.len() == 1 => "a process that the trace doesn't list".into(),
+            Some(at) => format!("a process that the trace doesn't list {}", at + 1).into(),
         }
     }
 

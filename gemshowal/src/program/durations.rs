@@ -3,8 +3,8 @@
 //! A message takes from its send until its receiver took it, so its time in the receiver's mailbox
 //! is in that.
 
-use crate::causes::Place;
 use crate::names::{Names, Times};
+use crate::view::Place;
 use gemshowal::{Event, Kind, Label, Trace};
 use std::cmp::Reverse;
 use std::collections::{BTreeMap, HashMap};

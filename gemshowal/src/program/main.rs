@@ -76,11 +76,11 @@ fn run_on(
         Command::List(args) => list::run(args, json, input, out, notes),
         Command::Stats(_) => stats::run(json, input, out, notes),
         Command::Collect(_) | Command::Watch(_) | Command::Convert(_) => Ok(Status::Yes),
-        Command::Chart(args) => chart::run(args, input, out, notes),
-        Command::Diff(args) => diff::run(args, input, out, notes),
+        Command::Chart(args) => chart::run(args, json, input, out, notes),
+        Command::Diff(args) => diff::run(args, json, input, out, notes),
         Command::Export(args) => export::run(args, input, out, notes),
-        Command::Times(args) => times::run(args, input, out, notes),
-        Command::Why(args) => why::run(args, input, out, notes),
+        Command::Times(args) => times::run(args, json, input, out, notes),
+        Command::Why(args) => why::run(args, json, input, out, notes),
     }?;
     out.finish()?;
     Ok(status)

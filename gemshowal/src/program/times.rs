@@ -2,13 +2,14 @@
 //! waited for.
 
 use crate::args::Times as Args;
-use crate::causes::{with_causes, Causes, Grade, Place};
+use crate::causes::{with_causes, Causes, Grade};
 use crate::chart::short;
 use crate::durations::{self, Durations, LabelTime};
 use crate::input::Input;
 use crate::moment::{clock, seconds, span, spans};
 use crate::names::{Names, Times};
 use crate::output::{Notes, Output};
+use crate::view::{count, Place};
 use crate::words;
 use crate::{Failure, Status};
 use gemshowal::{Item, Kind, Label, Trace};
@@ -27,6 +28,7 @@ const MEANING: &str =
 
 pub(crate) fn run(
     args: &Args,
+    json: bool,
     input: &mut Input,
     out: &mut Output,
     notes: &mut Notes,
@@ -45,8 +47,8 @@ pub(crate) fn run(
             .ok()
             .flatten(),
     };
-    if args.json {
-        out.report("told", &Told { tables: &tables, path: &path })?;
+    if json {
+        out.report("timed", &Told { tables: &tables, path: &path })?;
         return Ok(Status::Yes);
     }
     tables.write(&names, out)?;
@@ -155,7 +157,7 @@ pub(crate) fn summary(trace: &Trace, times: &Times) -> String {
             "; the median message took {}, the slowest {} ({})",
             span(took.get((took.len() - 1) / 2).copied().unwrap_or(slowest)),
             span(slowest),
-            words::count(took.len(), "message")
+            count(took.len() as u64, "message")
         ),
     };
     let before = match took.iter().filter(|&&took| took < 0).count() {
