@@ -14,7 +14,7 @@ CODE := crates.txt .ci/quick .ci/quick-clang $(filter %.rt,$(SOURCES))
 # The tests' judges assert: Python must not leave assertions out.
 unexport PYTHONOPTIMIZE
 
-.PHONY: help quick try program demo install uninstall test wrong-bodies layout layers clauses plan docs test-program test-erlang test-conformance test-rust rust dist bench hostile clean distclean
+.PHONY: help quick try program demo install uninstall test wrong-bodies layout layers clauses plan docs test-program test-erlang test-conformance test-rust test-coq rust dist bench hostile clean distclean
 .DELETE_ON_ERROR:
 
 help:
@@ -78,7 +78,7 @@ PARTS_AT_ONCE = $(shell test $$(nproc) -ge 4 && nproc || echo 1)
 test: layout layers clauses plan docs ## the merge gate: all proofs from nothing, the wrong bodies of must-fail/, the tests (about 90 minutes on four processors)
 	.ci/gate
 	@if command -v erl >/dev/null; then $(MAKE) --no-print-directory -C erlang compiled; fi
-	@$(MAKE) --no-print-directory -j$(PARTS_AT_ONCE) --output-sync=target test-program test-erlang test-conformance test-rust
+	@$(MAKE) --no-print-directory -j$(PARTS_AT_ONCE) --output-sync=target test-program test-erlang test-conformance test-rust test-coq
 
 # The gate tries the wrong bodies that tell most.
 wrong-bodies: ## tries all wrong bodies, many in one check (an hour or more, after program)
@@ -139,6 +139,10 @@ test-conformance: ## compares 200 random scripts with a real node (1 minute; nee
 test-rust: ## plain Rust: its own tests, and each output beside the programs' (3 to 4 minutes; needs cargo and Python)
 	@if command -v python3 >/dev/null; then rust/test $(BUILT) $(BUILT_TOOL); \
 	else echo "There is no python3 here: the plain Rust is skipped."; fi
+
+# The same laws in Coq, for readers without Rattle.
+test-coq: ## checks coq/ from nothing (1 minute; needs Debian's coq and Python)
+	@tests/coq
 
 bench: bin/seqaudit ## times the commands on bundles of 600,000 events, beside plain Rust (11 minutes, after program; needs rustc)
 	bench/run
