@@ -141,7 +141,7 @@ test-rust: ## plain Rust: its own tests, and each output beside the programs' (3
 	else echo "There is no python3 here: the plain Rust is skipped."; fi
 
 # The same laws in Coq, for readers without Rattle.
-test-coq: ## checks coq/ from nothing (1 minute; needs Debian's coq and Python)
+test-coq: ## checks coq/ from nothing, plants mistakes, and tries seqcheck (2 minutes; needs Debian's coq and Python)
 	@tests/coq
 
 bench: bin/seqaudit ## times the commands on bundles of 600,000 events, beside plain Rust (11 minutes, after program; needs rustc)

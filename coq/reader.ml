@@ -18,8 +18,19 @@ let greatest_label = 0xffff_ffff
 
 (* Numbers *)
 
+(* Numbers are linked lists of bits; what most of them begin with is there once. *)
+let shared = 65_536
+
+let shared_positives =
+  let made = Array.make shared XH in
+  for n = 2 to shared - 1 do
+    let half = made.(n lsr 1) in
+    made.(n) <- if n land 1 = 1 then XI half else XO half
+  done;
+  made
+
 let rec positive_of_int n =
-  if n = 1 then XH
+  if n < shared then shared_positives.(n)
   else
     let half = positive_of_int (n lsr 1) in
     if n land 1 = 1 then XI half else XO half
