@@ -12,7 +12,7 @@ CODE := crates.txt .ci/quick .ci/quick-clang $(filter %.rt,$(SOURCES))
 # The tests' judges assert: Python must not leave assertions out.
 unexport PYTHONOPTIMIZE
 
-.PHONY: help quick try program demo install uninstall test gate wrong-bodies layout layers clauses plan docs tables test-kit test-program test-erlang test-conformance test-rust test-readme rust dist bench hostile clean distclean
+.PHONY: help quick try program demo install uninstall test gate wrong-bodies layout layers clauses plan docs tables test-kit test-program test-erlang test-conformance test-rust test-readme test-coq rust dist bench hostile clean distclean
 .DELETE_ON_ERROR:
 
 help:
@@ -71,7 +71,7 @@ test: ## the merge gate: all proofs from nothing, the wrong bodies of must-fail/
 gate: layout layers clauses plan tables
 	rt ci
 	@if command -v erl >/dev/null; then $(MAKE) --no-print-directory -C erlang compiled; fi
-	@$(MAKE) --no-print-directory -j$(PARTS_AT_ONCE) --output-sync=target test-kit test-program test-erlang test-conformance test-rust test-readme
+	@$(MAKE) --no-print-directory -j$(PARTS_AT_ONCE) --output-sync=target test-kit test-program test-erlang test-conformance test-rust test-readme test-coq
 
 # The gate tries the wrong bodies that tell most.
 wrong-bodies: ## tries all wrong bodies (an hour or more, after program)
@@ -143,6 +143,10 @@ test-rust: ## plain Rust: its own tests, make install and make dist, and each ou
 test-readme: ## the README's commands on a fresh Debian 13, and the archive of make dist there (5 to 10 minutes; needs debootstrap, and root)
 	@if command -v python3 >/dev/null; then tests/readme; \
 	else echo "There is no python3 here: the README's commands are skipped."; fi
+
+# The same laws in Coq, for readers without Rattle.
+test-coq: ## checks coq/ from nothing, plants mistakes, and tries seqcheck (2 minutes; needs Debian's coq and Python)
+	@tests/coq
 
 bench: bin/seqaudit ## times the commands on bundles of 600,000 events, beside plain Rust (11 minutes, after program; needs rustc)
 	bench/run
