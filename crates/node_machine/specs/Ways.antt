@@ -1,0 +1,58 @@
+-- The four ways in which events give a stamp, as a walk finds them.
+use Rattle.std.specs.Prelude.{◌≡◌, ◌⊎◌, ℕ, ◌+◌, ◌<◌, max, ◌&&◌, true, false, List, [], ◌∷◌, ◌++◌, if◌then◌else◌}
+use Rattle.std.specs.List.{AllByRecursion}
+use Rattle.st_core.specs.declared.types.Serial.{Serial}
+use Rattle.node_machine.specs.Node.{answer_count, Seen}
+use Rattle.node_machine.specs.Premises.{IsAmong}
+use Rattle.node_machine.specs.Given.{clock_behind, is_next, is_receipt, last_behind}
+
+-- the serials of the tokens that events show: an answer's isn't taken
+abbrev pub carried : List Seen → List Serial
+carried [] = []
+carried (e ∷ es) = if is_receipt e && e.answer then carried es else e.serial ∷ carried es
+
+-- what an event shows of what its process's last was
+abbrev pub lasts_shown : Seen → List ℕ
+lasts_shown e = if is_receipt e
+    then (if e.answer then answer_count e.serial.this ∷ []
+    else e.serial.prev ∷ e.serial.this ∷ [])
+    else e.serial.prev ∷ []
+
+-- what it can have been up to the end of these events: 0 at the beginning, too
+abbrev pub lasts : List Seen → List ℕ
+lasts [] = 0 ∷ []
+lasts (e ∷ es) = lasts_shown e ++ lasts es
+
+-- the greatest count of events, 0 of none
+abbrev pub greatest_taken : List Seen → ℕ
+greatest_taken [] = 0
+greatest_taken (e ∷ es) = max e.serial.this (greatest_taken es)
+
+-- plainly: it goes on from the counts that the events lead to
+abbrev pub IsPlainly : List Seen → Seen → Type 0
+IsPlainly es e = is_next (clock_behind 0 es) (last_behind 0 es) e ≡ true
+
+-- again: it is the successor of a token that the events show
+abbrev pub IsAgain : List Seen → Seen → Type 0
+IsAgain es e = (x : Serial) × IsAmong (carried es) x × (x.prev ≡ e.serial.prev)
+    × (e.serial.this ≡ x.this + 1)
+
+-- fresh: it is the successor of a token that was made where last had its prev
+abbrev pub IsFreshly : List Seen → Seen → Type 0
+IsFreshly es e = (e.serial.this ≡ 1) × IsAmong (lasts es) e.serial.prev
+
+-- lowered: it has the prev that the events lead to, and some of them, the last ones, are receives
+-- and no answers. The clock is their greatest count, or a greater one of a token that the events
+-- before them show
+pub record IsLowered (es : List Seen) (e : Seen) : Type 0 where
+  pub front : List Seen
+  pub first : Seen
+  pub back : List Seen
+  pub split : es ≡ front ++ first ∷ back
+  pub receives : AllByRecursion (λ r. (is_receipt r ≡ true) × (r.answer ≡ false)) (first ∷ back)
+  pub prev : last_behind 0 es ≡ e.serial.prev
+  pub clock : ℕ
+  pub count : e.serial.this ≡ clock + 1
+  pub way : (greatest_taken (first ∷ back) ≡ clock)
+      ⊎ ((greatest_taken (first ∷ back) < clock)
+      × ((x : Serial) × IsAmong (carried front) x × (x.this ≡ clock)))
