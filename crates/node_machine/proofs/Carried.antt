@@ -21,9 +21,11 @@ use Rattle.st_core.specs.Pick.{pick}
 use Rattle.st_core.specs.Report.{token_event}
 use Rattle.st_core.specs.Step.{Acted, receives}
 use Rattle.st_core.specs.Laws.{moves_token}
-use Rattle.node_machine.specs.Node.{Answer, answered, fresh_token, is_answer, machine_act, node_acted, NodeAct, Plain}
-use Rattle.node_machine.specs.Node.{Seen, seen, takes_answer}
+use Rattle.node_machine.specs.Counts.{node_token}
+use Rattle.node_machine.specs.Node.{after_answer, Answer, Common, fresh_token, is_answer, machine_act, node_acted, node_found}
+use Rattle.node_machine.specs.Node.{NodeAct, Seen, seen, takes_answer}
 use Rattle.node_machine.specs.Origins.{AfterRestore, AfterSet, Follows, Held, Home, IsOwnLabel, TokenOrigin, OriginAfter}
+use Rattle.node_machine.proofs.Counts.{serial_fits}
 use Rattle.node_machine.proofs.Moves.{emptied, IsAnswered, IsBack, IsQuiet, IsStamp, IsStill, IsTake, is_plain}
 use Rattle.node_machine.proofs.Moves.{plain_stamps, set_serial, StampMoves, unmoved}
 
@@ -97,24 +99,27 @@ module _ (front rest : List Seen) (held : List Held) (before now : TokenOrigin) 
 
   take_carries : (r : Process) (place : ℕ) (from : Pid) (v : ℕ) (token : Option Token)
       → (let m : Message = record { from = from; value = v; token = token } in
-      PartCarries r (receives r (Some (place, m))) (is_some token))
+      PartCarries r (receives r (node_found (Some (place, m)))) (is_some token))
   take_carries r place from v None is same =
       inl (record { silent = refl; quiet = emptied r.local; origin = same })
   take_carries r place from v (Some t) is same =
       elim (r.local.traced && t.flags.receive) as (λ b.
-      (let told : Option Event = cond b (Some (token_event kind.Receive t (Some r.pid) v)) None in
+      (let told : Option Event =
+      cond b (Some (token_event kind.Receive (node_token t) (Some r.pid) v)) None in
       IsSome told
-      → CarriesHere r.local (received r.local (Some t)) (option_map (seen false) told))) [
+      → CarriesHere r.local (received r.local (Some (node_token t)))
+      (option_map (seen false) told))) [
         | true ↦ λ is. inr (inr (inl (record {
-          event = seen false (token_event kind.Receive t (Some r.pid) v);
+          event = seen false (token_event kind.Receive (node_token t) (Some r.pid) v);
           is = refl;
           take = record {
             kind = refl;
             answer = refl;
+            fits = serial_fits t.serial.this;
             clock = refl;
             last = refl;
-            token = λ u at. ap (λ (x : Token). x.serial) (same_Some t u at);
-            label = λ u at. ap (λ (x : Token). x.label) (same_Some t u at);
+            token = λ u at. ap (λ (x : Token). x.serial) (same_Some (node_token t) u at);
+            label = λ u at. ap (λ (x : Token). x.label) (same_Some (node_token t) u at);
           };
           origin = same;
         })))
@@ -122,7 +127,7 @@ module _ (front rest : List Seen) (held : List Held) (before now : TokenOrigin) 
       ] (is refl)
 
   received_carries : (r : Process) (found : Option (ℕ × Message))
-      → PartCarries r (receives r found)
+      → PartCarries r (receives r (node_found found))
       (option_map_or (λ (x : ℕ × Message). is_some x.1.token) found false)
   received_carries r None is same =
       inl (record { silent = refl; quiet = unmoved r.local; origin = same })
@@ -186,27 +191,30 @@ module _ (front rest : List Seen) (held : List Held) (before now : TokenOrigin) 
   set_carries p l (Some u) (component.Print b) had after =
       quiet_set l u (with_component (component.Print b) u) had refl refl after
 
-  plain_carries : (top : ℕ) (a : Act) (r : Process) (done : Acted) → is_plain a ≡ true
-      → node_acted top r (Plain a) ≡ Some done
-      → (moves_token r a ≡ true → IsSome done.report) → now ≡ before
-      → CarriesHere r.local done.local (option_map (seen false) done.report)
-  plain_carries top a r done plain h is same =
-      stamp_carries r.local done.local done.report (plain_stamps top a r done plain h is) same
+  plain_carries : (a : Act) (r : Process) → is_plain a ≡ true
+      → (moves_token r a ≡ true → IsSome (node_acted r (Common a)).report) → now ≡ before
+      → (let done = node_acted r (Common a) in
+      CarriesHere r.local done.local (option_map (seen false) done.report))
+  plain_carries a r plain is same =
+      let done = node_acted r (Common a) in
+      stamp_carries r.local done.local done.report (plain_stamps a r plain is) same
 
   answer_carries : (r : Process) (place : ℕ) (from : Pid) (v : ℕ) (token : Option Token)
       → (let m : Message = record { from = from; value = v; token = token } in
-      let done : Acted = takes_answer r (Some (place, m)) in
+      let done : Acted = takes_answer r (node_found (Some (place, m))) in
       (is_some token ≡ true → IsSome done.report) → now ≡ before
       → CarriesHere r.local done.local (option_map (seen true) done.report))
   answer_carries r place from v None is same =
       inl (record { silent = refl; quiet = unmoved r.local; origin = same })
   answer_carries r place from v (Some t) is same =
       elim (r.local.traced && t.flags.receive) as (λ b.
-      (let told : Option Event = cond b (Some (token_event kind.Receive t (Some r.pid) v)) None in
+      (let told : Option Event =
+      cond b (Some (token_event kind.Receive (node_token t) (Some r.pid) v)) None in
       IsSome told
-      → CarriesHere r.local (answered r.local (Some t)) (option_map (seen true) told))) [
+      → CarriesHere r.local (after_answer r.local (Some (node_token t)))
+      (option_map (seen true) told))) [
         | true ↦ λ is. inr (inr (inr (inr (inr (record {
-          event = seen true (token_event kind.Receive t (Some r.pid) v);
+          event = seen true (token_event kind.Receive (node_token t) (Some r.pid) v);
           is = refl;
           answer = record {
             kind = refl;
@@ -221,7 +229,7 @@ module _ (front rest : List Seen) (held : List Held) (before now : TokenOrigin) 
       ] (is refl)
 
   answers_carry : (r : Process) (found : Option (ℕ × Message))
-      → (let done : Acted = takes_answer r found in
+      → (let done : Acted = takes_answer r (node_found found) in
       (option_map_or (λ (x : ℕ × Message). is_some x.1.token) found false ≡ true
       → IsSome done.report)
       → now ≡ before
@@ -232,48 +240,28 @@ module _ (front rest : List Seen) (held : List Held) (before now : TokenOrigin) 
       let m = found.1 in
       answer_carries r found.0 m.from m.value m.token is same
 
-  abbrev AnswerCarries : Process → Acted → Bool → Type 0
-  AnswerCarries r done moves = (moves ≡ true → IsSome done.report) → now ≡ before
-      → CarriesHere r.local done.local (option_map (seen true) done.report)
-
-  pub node_carries : (top : ℕ) (a : NodeAct) (r : Process) (done : Acted)
-      → node_acted top r a ≡ Some done
-      → (moves_token r (machine_act a) ≡ true → IsSome done.report)
+  abbrev pub PartCarriesAll : NodeAct → Process → Acted → Type 0
+  PartCarriesAll a r done = (moves_token r (machine_act a) ≡ true → IsSome done.report)
       → OriginAfter front rest held r a before now
       → CarriesHere r.local done.local (option_map (seen (is_answer a)) done.report)
-  node_carries top (Answer p place) r done h is after =
-      let part = subst (λ (x : Acted).
-      AnswerCarries r x (moves_token r (act.Receive p (want.Place place))))
-      (same_Some (takes_answer r (pick (want.Place place) r.queue)) done h)
-      (answers_carry r (pick (want.Place place) r.queue)) in
-      part is after
-  node_carries top (Plain (act.Receive p w)) r done h is after =
-      let part = subst (λ (x : Acted). PartCarries r x (moves_token r (act.Receive p w)))
-      (same_Some (receives r (pick w r.queue)) done h)
-      (received_carries r (pick w r.queue)) in
-      part is after
-  node_carries top (Plain (act.Set p c)) r done h is after =
-      subst (λ (x : Acted). CarriesHere r.local x.local (option_map (seen false) x.report)) (same_Some _ done h)
-      (set_carries r.pid r.local r.local.token c refl after)
-  node_carries top (Plain (act.Restore p t)) r done h is after =
-      subst (λ (x : Acted). CarriesHere r.local x.local (option_map (seen false) x.report)) (same_Some _ done h)
-      (inr (inr (inr (inr (inl (record {
-        token = t;
-        silent = refl;
-        back = record { clock = refl; last = refl; token = refl };
-        after = after;
-      }))))))
-  node_carries top (Plain (act.Send p q v)) r done h is same =
-      plain_carries top (act.Send p q v) r done refl h is same
-  node_carries top (Plain (act.Print p v)) r done h is same =
-      plain_carries top (act.Print p v) r done refl h is same
-  node_carries top (Plain (act.PrintAt p n v)) r done h is same =
-      plain_carries top (act.PrintAt p n v) r done refl h is same
-  node_carries top (Plain (act.Clear p)) r done h is same =
-      plain_carries top (act.Clear p) r done refl h is same
-  node_carries top (Plain (act.Look p)) r done h is same =
-      plain_carries top (act.Look p) r done refl h is same
-  node_carries top (Plain (act.Reset p)) r done h is same =
-      plain_carries top (act.Reset p) r done refl h is same
-  node_carries top (Plain (act.Tracer p b)) r done h is same =
-      plain_carries top (act.Tracer p b) r done refl h is same
+
+  pub node_carries : (a : NodeAct) (r : Process) → PartCarriesAll a r (node_acted r a)
+  node_carries (Answer p place) r is after =
+      answers_carry r (pick (want.Place place) r.queue) is after
+  node_carries (Common (act.Receive p w)) r is after = received_carries r (pick w r.queue) is after
+  node_carries (Common (act.Set p c)) r is after =
+      set_carries r.pid r.local r.local.token c refl after
+  node_carries (Common (act.Restore p t)) r is after = inr (inr (inr (inr (inl (record {
+    token = node_token t;
+    silent = refl;
+    back = record { fits = serial_fits t.serial.this; clock = refl; last = refl; token = refl };
+    after = after;
+  })))))
+  node_carries (Common (act.Send p q v)) r is same = plain_carries (act.Send p q v) r refl is same
+  node_carries (Common (act.Print p v)) r is same = plain_carries (act.Print p v) r refl is same
+  node_carries (Common (act.PrintAt p n v)) r is same =
+      plain_carries (act.PrintAt p n v) r refl is same
+  node_carries (Common (act.Clear p)) r is same = plain_carries (act.Clear p) r refl is same
+  node_carries (Common (act.Look p)) r is same = plain_carries (act.Look p) r refl is same
+  node_carries (Common (act.Reset p)) r is same = plain_carries (act.Reset p) r refl is same
+  node_carries (Common (act.Tracer p b)) r is same = plain_carries (act.Tracer p b) r refl is same

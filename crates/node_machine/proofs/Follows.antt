@@ -20,17 +20,21 @@ use Rattle.st_core.specs.Pid.{pid_eq}
 use Rattle.st_core.specs.State.{LocalState, Process, State, process, zero_state}
 use Rattle.st_core.specs.Step.{Outcome}
 use Rattle.st_core.proofs.ForCallers.{local_found, local_in, mapped, pid_same, zero_found}
-use Rattle.node_machine.specs.Node.{answer_count, is_answer, node_actor, node_run, node_run_from, NodeAct}
-use Rattle.node_machine.specs.Node.{Plain, Seen, seen, seen_by, seen_stream}
+use Rattle.node_machine.specs.Counts.{answer_count, stamp_count, node_token, serial_count}
+use Rattle.node_machine.specs.Node.{Common, is_answer, node_actor, node_run, node_run_from, NodeAct}
+use Rattle.node_machine.specs.Node.{Seen, seen, seen_by, seen_stream}
 use Rattle.node_machine.specs.Premises.{IsAmong, NoNodeReset, ReportsTokens, token_put_back}
-use Rattle.node_machine.specs.Given.{is_receipt, tokens}
+use Rattle.node_machine.specs.Readings.{is_receipt}
+use Rattle.node_machine.specs.Given.{IsPutBack, IsStraight, tokens}
 use Rattle.node_machine.specs.Origins.{answered, AnswersComeNext, Can, Follows, Held, held_in, Home, home, IsOwnLabel, TokenOrigin}
 use Rattle.node_machine.specs.Origins.{OriginAfter, OriginsAre, origins_told, received, stamped, taken, told_send}
+use Rattle.node_machine.proofs.Counts.{next_of_clock}
+use Rattle.node_machine.proofs.Lists.{all_append, all_change, all_of}
 use Rattle.node_machine.proofs.Steps.{node_run_parts, node_step_parts}
 use Rattle.node_machine.proofs.Steps.{actor_found, actor_same, other_same}
-use Rattle.node_machine.proofs.Tokens.{all_append, all_change, all_of, tokens_more}
-use Rattle.node_machine.proofs.Givens.{AreTold, IsHeld, IsReached, no_receive, step_moves, step_told, told_same, zero_told}
-use Rattle.node_machine.proofs.Carried.{CameBack, Carries, IsStamped, node_carries}
+use Rattle.node_machine.proofs.Tokens.{tokens_more}
+use Rattle.node_machine.proofs.Givens.{AreTold, IsHeld, no_receive, reached_way, step_moves, step_told, told_same, zero_told}
+use Rattle.node_machine.proofs.Carried.{CameBack, Carries, IsStamped, node_carries, PartCarriesAll}
 
 length_push : (es : List Seen) (e : Seen) → length (es ++ e ∷ []) ≡ suc (length es)
 length_push [] e = refl
@@ -130,7 +134,7 @@ module _ (all : List Seen) where
 
   -- a stamp that succeeds such a token
   can_succeed : (i : ℕ) (e : Seen) (x : Serial) (h : TokenOrigin) → slice_get all i ≡ Some e
-      → x.prev ≡ e.serial.prev → e.serial.this ≡ x.this + 1 → CanHold i x e.label h
+      → x.prev ≡ e.serial.prev → e.serial.this ≡ stamp_count x.this → CanHold i x e.label h
       → Can all i h
   can_succeed i e x h at prev count (inl by) =
       subst (Can all i) (sym by.origin) (received i by.index (record {
@@ -143,7 +147,7 @@ module _ (all : List Seen) where
         own = by.own;
         label = by.same;
         prev = ap (λ (y : Serial). y.prev) by.serial ∙ prev;
-        count = count ∙ sym (ap (λ (y : Serial). y.this + 1) by.serial);
+        count = count ∙ sym (ap (λ (y : Serial). stamp_count y.this) by.serial);
       }))
   can_succeed i e x h at prev count (inr (inl by)) =
       stamped i by.index h (record {
@@ -156,7 +160,7 @@ module _ (all : List Seen) where
         own = by.own;
         label = by.same;
         prev = ap (λ (y : Serial). y.prev) by.serial ∙ prev;
-        count = count ∙ sym (ap (λ (y : Serial). y.this + 1) by.serial);
+        count = count ∙ sym (ap (λ (y : Serial). stamp_count y.this) by.serial);
       }) by.can
   can_succeed i e x h at prev count (inr (inr by)) =
       subst (Can all i) (sym by.origin) (home i (record {
@@ -181,7 +185,8 @@ module _ (all : List Seen) where
     own : event.answer ≡ false
     clock_before : ℕ
     last_before : ℕ
-    way : IsReached (take index all) clock_before last_before
+    way : IsStraight (take index all) clock_before last_before
+        ⊎ IsPutBack (take index all) clock_before last_before
     lifted : clock ≡ max clock_before event.serial.this
     count : event.serial.this ≡ last
     same : event.label ≡ label
@@ -216,15 +221,15 @@ module _ (all : List Seen) where
     answers : answer.answer ≡ true
     behind : length es ≡ suc (suc index)
     lifted : clock ≡ answer_count answer.serial.this
-    count : answer_count answer.serial.this ≡ last
+    count : serial_count (answer_count answer.serial.this) ≡ last
 
   -- behind these events a process with these counts has a token of this serial and label, whose
-  -- origin is this: the counts are the token's, or the token came with the last event, or it was
-  -- made or labelled since the last event
+  -- origin is this: the counts lead to the token's successor, or the token came with the last event,
+  -- or it was made or labelled since the last event, or kept in an answer
   record IsInForce (es : List Seen) (clock last : ℕ) (x : Serial) (label : Label)
       (h : TokenOrigin) : Type 0 where
     can : CanHold (length es) x label h
-    form : ((x.prev ≡ last) × (x.this ≡ clock))
+    form : ((x.prev ≡ last) × (stamp_count x.this ≡ stamp_count clock))
         ⊎ (LastTaken es clock last label h
         ⊎ (NowAtHome es label h ⊎ JustAnswered es clock last label h))
 
@@ -252,12 +257,12 @@ module _ (all : List Seen) where
   -- a stamp
   stamp_can : (es : List Seen) (l : LocalState) (t : Token) (e : Seen) (h : TokenOrigin)
       → slice_get all (length es) ≡ Some e → e.serial.prev ≡ l.last
-      → e.serial.this ≡ l.clock + 1 → t.label ≡ e.label → InForce es l t h
+      → e.serial.this ≡ stamp_count l.clock → t.label ≡ e.label → InForce es l t h
       → Can all (length es) h
   stamp_can es l t e h at prev count label now =
       elim now.form as (λ _. Can all (length es) h) [
         | inl own ↦ can_succeed (length es) e t.serial h at (own.0 ∙ sym prev)
-            (count ∙ ap (λ n. n + 1) (sym own.1))
+            (count ∙ sym own.1)
             (subst (λ x. CanHold (length es) t.serial x h) label now.can)
         | inr (inl by) ↦
             subst (Can all (length es)) (sym by.origin) (taken (length es) by.index (record {
@@ -273,7 +278,7 @@ module _ (all : List Seen) where
               last = by.last_before;
               way = by.way;
               prev = by.count ∙ sym prev;
-              count = count ∙ ap (λ n. n + 1) by.lifted;
+              count = count ∙ ap stamp_count by.lifted;
             }))
         | inr (inr (inr by)) ↦ answered (length es) by.index h (record {
           stamp = e;
@@ -287,7 +292,7 @@ module _ (all : List Seen) where
           answers = by.answers;
           behind = by.behind;
           prev = by.count ∙ sym prev;
-          count = count ∙ ap (λ n. n + 1) by.lifted;
+          count = count ∙ ap stamp_count by.lifted;
         }) by.can
         | inr (inr (inl by)) ↦
             subst (Can all (length es)) (sym by.origin) (home (length es) (record {
@@ -385,8 +390,9 @@ module _ (all : List Seen) where
           form = inl (
             sym (ap (λ (y : Serial). y.prev) (c.stamp.token u is)) ∙ c.stamp.prev
                 ∙ sym c.stamp.last,
-            sym (ap (λ (y : Serial). y.this) (c.stamp.token u is)) ∙ c.stamp.count
-                ∙ sym c.stamp.clock,
+            sym (ap (λ (y : Serial). stamp_count y.this) (c.stamp.token u is))
+                ∙ ap stamp_count c.stamp.count ∙ sym (next_of_clock l.clock)
+                ∙ ap stamp_count (sym c.stamp.clock),
           );
         })
     next_tokens (inr (inr (inl c))) =
@@ -413,8 +419,9 @@ module _ (all : List Seen) where
             own = c.take.answer;
             clock_before = l.clock;
             last_before = l.last;
-            way = subst (λ xs. IsReached xs l.clock l.last)
-                (sym (ap (take (length es)) split ∙ take_front es rest)) tells.reached;
+            way = subst (λ xs. IsStraight xs l.clock l.last ⊎ IsPutBack xs l.clock l.last)
+                (sym (ap (take (length es)) split ∙ take_front es rest))
+                (reached_way es l.clock l.last tells.reached);
             lifted = c.take.clock;
             count = sym c.take.last;
             same = c.take.label u is;
@@ -470,7 +477,7 @@ module _ (all : List Seen) where
     next_tokens (inr (inr (inr (inr (inl c))))) =
         let here : InForce es m c.token now = record {
           can = put_back_can c;
-          form = inl (sym c.back.last, sym c.back.clock);
+          form = inl (sym c.back.last, ap stamp_count (sym c.back.clock));
         } in
         silently c.silent (λ u is.
         subst (λ (y : Token). InForce es m y now) (same_Some c.token u (sym c.back.token ∙ is)) here)
@@ -546,9 +553,9 @@ module _ (all : List Seen) where
       (before now : TokenOrigin)
       → AllByRecursion (IsKnown es) held → OriginAfter es rest held r a before now → (t : Token)
       → token_put_back a ≡ Some t → IsHeld es t.serial
-  restored_held es rest held r (Plain (act.Restore p u)) before now known after t is =
+  restored_held es rest held r (Common (act.Restore p u)) before now known after t is =
       let had = all_of (IsKnown es) held after.0 known after.1 in
-      subst (λ (y : Token). IsHeld es y.serial) (same_Some u t is)
+      subst (λ (y : Token). IsHeld es y.serial) (same_Some (node_token u) t is)
       (subst (IsHeld es) after.2 had.1)
   restored_held es rest held r a before now known after t is = absurd (none-some t is)
 
@@ -574,24 +581,24 @@ module _ (all : List Seen) where
       → (e : Seen) × (seen_by a o ≡ Some e) × (is_receipt e ≡ false)
   seen_send a o is = seen_send_by (is_answer a) o.report is
 
-  can_from : (top : ℕ) (s : State) (acts : List NodeAct) (os : List Outcome) (hs : List TokenOrigin) (p : Pid)
+  can_from : (s : State) (acts : List NodeAct) (os : List Outcome) (hs : List TokenOrigin) (p : Pid)
       (es : List Seen) (held : List Held) (before : TokenOrigin)
-      → all ≡ es ++ seen_stream acts os p → node_run_from top s acts ≡ Some os → NoNodeReset acts
+      → all ≡ es ++ seen_stream acts os p → node_run_from s acts ≡ Some os → NoNodeReset acts
       → ReportsTokens p s acts os
       → OriginsAre p es held before s acts os hs → AllByRecursion (IsKnown es) held
       → AreTold es (local_in s p)
       → HasTokens es (local_in s p) before → (sent : Bool) → AnswersComeNext p sent acts os
       → (sent ≡ true → (t : Token) → (local_in s p).token ≡ Some t → JustStamped es t.label before)
       → AllCan (length es) (seen_stream acts os p) (origins_told acts os hs p)
-  can_from top s [] os hs p es held before split h none all_told origins known tells has
+  can_from s [] os hs p es held before split h none all_told origins known tells has
       sent nexts just = tt
-  can_from top s (a ∷ acts) os [] p es held before split h none all_told origins known tells has
+  can_from s (a ∷ acts) os [] p es held before split h none all_told origins known tells has
       sent nexts just =
-      let t = node_run_parts top s a acts os h in
+      let t = node_run_parts s a acts os h in
       absurd (subst (λ xs. OriginsAre p es held before s (a ∷ acts) xs []) t.is_whole origins)
-  can_from top s (a ∷ acts) os (now ∷ hs) p es held before split h none all_told origins known
+  can_from s (a ∷ acts) os (now ∷ hs) p es held before split h none all_told origins known
       tells has sent nexts just =
-      let t = node_run_parts top s a acts os h in
+      let t = node_run_parts s a acts os h in
       let o = t.first in
       let tail = seen_stream acts t.others p in
       let later = origins_told acts t.others hs p in
@@ -600,7 +607,7 @@ module _ (all : List Seen) where
       origins in
       let next_of = subst (AnswersComeNext p sent (a ∷ acts)) t.is_whole nexts in
       let whole = subst (λ xs. all ≡ es ++ seen_stream (a ∷ acts) xs p) t.is_whole split in
-      let x = node_step_parts top s a o t.is_first in
+      let x = node_step_parts s a o t.is_first in
       let holds = held ++ held_in s p before in
       let have : AllByRecursion (IsKnown es) holds =
       all_append (IsKnown es) held (held_in s p before) known
@@ -618,16 +625,17 @@ module _ (all : List Seen) where
       ((if b then option_to_list (option_map (λ _. now) (seen_by a o)) else []) ++ later)) [
         | true ↦ λ mine here are_later nexts_later.
             let who = pid_same (node_actor a) p mine in
-            let found = actor_found top s a o x none.0 p mine in
+            let found = actor_found s a o x none.0 p mine in
             let was = subst (AreTold es) (ap local_found found) tells in
             let had = subst (λ l. HasTokens es l before) (ap local_found found) has in
             let after = are.0 who x.before found in
-            let moves = step_moves top s a o x none.0 p mine told.0 in
+            let moves = step_moves s a o x none.0 p mine told.0 in
             let same : x.done.report ≡ o.report = ap (λ (y : Outcome). y.report) x.is_outcome in
             let carries : Carries es rest holds x.before.local x.done.local (seen_by a o) before now =
             subst (λ r. Carries es rest holds x.before.local x.done.local
             (option_map (seen (is_answer a)) r) before now) same
-            (node_carries es rest holds before now top a x.before x.done x.is_done
+            (subst (PartCarriesAll es rest holds before now a x.before) x.is_done
+            (node_carries es rest holds before now a x.before)
             (λ moved. subst IsSome (sym same) (told.0 who x.before found moved)) after) in
             let there : (e : Seen) → seen_by a o ≡ Some e → slice_get all (length es) ≡ Some e =
             λ e is. ap (λ ys. slice_get ys (length es))
@@ -641,10 +649,10 @@ module _ (all : List Seen) where
             let next = next_tokens es rest holds x.before.local x.done.local (seen_by a o) before now
             whole there was have had sent just_before right_behind carries in
             let next_there : HasTokens (es ++ option_to_list (seen_by a o)) (local_in o.after p) now =
-            (let to = actor_same top s a o x none.0 p mine in λ u is.
+            (let to = actor_same s a o x none.0 p mine in λ u is.
             in_force_same (es ++ option_to_list (seen_by a o)) x.done.local (local_in o.after p) u u now
             now to.clock to.last refl refl refl (next u (sym to.token ∙ is))) in
-            let next_told = step_told top s a o x none.0 p es mine moves
+            let next_told = step_told s a o x none.0 p es mine moves
             (restored_held es rest holds x.before a before now have after) was in
             let next_known = known_told es (seen_by a o) holds have in
             let just_later : told_send o ≡ true → (u : Token) → (local_in o.after p).token ≡ Some u
@@ -653,8 +661,8 @@ module _ (all : List Seen) where
             let sends = seen_send a o yes in
             next_just es rest holds x.before.local x.done.local (seen_by a o) before now
             whole there was have had sent just_before right_behind carries sends.0 sends.1 sends.2 u
-            (sym (actor_same top s a o x none.0 p mine).token ∙ is) in
-            let rest_can = can_from top o.after acts t.others hs p
+            (sym (actor_same s a o x none.0 p mine).token ∙ is) in
+            let rest_can = can_from o.after acts t.others hs p
             (es ++ option_to_list (seen_by a o)) holds now
             (here ∙ sym (append_assoc es (option_to_list (seen_by a o)) tail)) t.is_rest none.1 told.1
             are_later next_known next_told next_there (told_send o) nexts_later just_later in
@@ -671,8 +679,8 @@ module _ (all : List Seen) where
                   (can e refl, subst (λ n. AllCan n tail later) (length_push es e) rest_can)
             ] now_here rest_can
         | false ↦ λ other here are_later nexts_later.
-            let to = other_same top s a o x none.0 p other in
-            can_from top o.after acts t.others hs p es holds now here t.is_rest none.1 told.1
+            let to = other_same s a o x none.0 p other in
+            can_from o.after acts t.others hs p es holds now here t.is_rest none.1 told.1
             (subst (λ xs. OriginsAre p xs holds now o.after acts t.others hs) (append-nil es)
             are_later) have
             (told_same es (local_in s p) (local_in o.after p) to tells)
@@ -697,20 +705,20 @@ module _ (all : List Seen) where
       let same : suc n + i ≡ n + suc i = omega arith in
       subst (λ k. Can all k h) same (can_at (suc n) es hs i e h can.1 at is stamp)
 
-pub origins_can : (top : ℕ) (pids : List Pid) (acts : List NodeAct) (os : List Outcome)
-    → node_run top pids acts ≡ Some os → NoNodeReset acts → (p : Pid)
+pub origins_can : (pids : List Pid) (acts : List NodeAct) (os : List Outcome)
+    → node_run pids acts ≡ Some os → NoNodeReset acts → (p : Pid)
     → ReportsTokens p (zero_state pids) acts os → (hs : List TokenOrigin)
     → OriginsAre p [] [] Home (zero_state pids) acts os hs → AnswersComeNext p false acts os
     → (i : ℕ) (e : Seen) (h : TokenOrigin)
     → slice_get (seen_stream acts os p) i ≡ Some e → e.kind ≢ kind.Receive
     → slice_get (origins_told acts os hs p) i ≡ Some h
     → Can (seen_stream acts os p) i h
-origins_can top pids acts os run none p tells hs origins nexts i e h at other is =
+origins_can pids acts os run none p tells hs origins nexts i e h at other is =
     let all = seen_stream acts os p in
     let empty : HasTokens all [] (local_in (zero_state pids) p) Home =
     (λ t is. absurd (none-some t
     (sym (ap (λ (l : LocalState). l.token) (zero_found pids p)) ∙ is))) in
-    let whole = can_from all top (zero_state pids) acts os hs p [] [] Home refl run none tells
+    let whole = can_from all (zero_state pids) acts os hs p [] [] Home refl run none tells
     origins tt (subst (AreTold []) (sym (zero_found pids p)) zero_told) empty false nexts (λ yes. absurd (false≢true yes)) in
     let found = can_at all 0 all (origins_told acts os hs p) i e h whole at is
     (no_receive e other) in

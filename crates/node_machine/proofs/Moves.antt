@@ -1,9 +1,9 @@
 -- How an act of the node that is reported if it moves a token changes its actor's counts and token.
-use Rattle.std.proofs.Common.{◌≡◌, ◌≢◌, ℕ, ◌+◌, ◌⊎◌, ◌&&◌, max, Bool, true, false, cond, nat_lt, Option}
+use Rattle.std.proofs.Common.{◌≡◌, ◌≢◌, ℕ, ◌⊎◌, ◌&&◌, max, Bool, true, false, cond, Option}
 use Rattle.std.proofs.Common.{Some, None, is_some, IsSome, option_map, inl, inr, refl, sym, ◌∙◌, ap, subst}
 use Rattle.std.specs.Option.{option_map_or}
 use Rattle.std.proofs.lemmas.Bool.{false≢true}
-use Rattle.std.proofs.lemmas.Option.{same_Some, none-some, cond_some, option_and_then_some}
+use Rattle.std.proofs.lemmas.Option.{same_Some, none-some}
 use Rattle.st_core.specs.declared.types.Pid.{Pid}
 use Rattle.st_core.specs.declared.types.Token.{Token}
 use Rattle.st_core.specs.declared.types.Message.{Message}
@@ -14,21 +14,21 @@ use Rattle.st_core.specs.declared.types.Kind.TheVariants as kind
 use Rattle.st_core.specs.declared.types.Event.{Event}
 use Rattle.st_core.specs.declared.types.Act.{Act}
 use Rattle.st_core.specs.declared.types.Act.TheVariants as act
-use Rattle.st_core.specs.declared.types.Reply.{Reply}
 use Rattle.st_core.specs.declared.types.Reply.TheVariants as reply
 use Rattle.st_core.specs.declared.types.Want.TheVariants as want
 use Rattle.st_core.specs.State.{LocalState, Process}
-use Rattle.st_core.specs.Stamp.{stamp, stamp_any, stamped_token}
 use Rattle.st_core.specs.Local.{has_label, received, with_component}
 use Rattle.st_core.specs.Pick.{pick}
 use Rattle.st_core.specs.Report.{flag_of, report, token_event}
-use Rattle.st_core.specs.Step.{Acted, answers, prints, receives, sends}
+use Rattle.st_core.specs.Step.{Acted, answers, prints, receives}
 use Rattle.st_core.specs.Laws.{moves_token}
-use Rattle.st_core.proofs.ForCallers.{mapped}
-use Rattle.node_machine.specs.Node.{Answer, answer_count, answered, fresh_token, is_answer, machine_act, node_acted}
-use Rattle.node_machine.specs.Node.{NodeAct, Plain, Seen, seen, takes_answer, token_to_set}
+use Rattle.node_machine.specs.Counts.{answer_count, next_clock, stamp_count, node_token, serial_count}
+use Rattle.node_machine.specs.Node.{after_answer, after_stamp, Answer, Common, fresh_token, is_answer}
+use Rattle.node_machine.specs.Node.{machine_act, node_acted, node_found, node_stamped_token, NodeAct, Seen, seen}
+use Rattle.node_machine.specs.Node.{takes_answer, token_to_set}
 use Rattle.node_machine.specs.Premises.{token_put_back}
-use Rattle.node_machine.specs.Given.{is_receipt}
+use Rattle.node_machine.specs.Readings.{is_receipt}
+use Rattle.node_machine.proofs.Counts.{FitsSerial, serial_fits}
 
 -- nothing is reported and the counts stay. A token that is there has the serial of the one before,
 -- or of one that was made
@@ -51,8 +51,8 @@ pub record IsStamp (l m : LocalState) (e : Seen) : Type 0 where
   pub kind : is_receipt e ≡ false
   pub answer : e.answer ≡ false
   pub prev : e.serial.prev ≡ l.last
-  pub count : e.serial.this ≡ l.clock + 1
-  pub clock : m.clock ≡ l.clock + 1
+  pub count : e.serial.this ≡ stamp_count l.clock
+  pub clock : m.clock ≡ next_clock l.clock
   pub last : m.last ≡ l.last
   pub token : (t : Token) → m.token ≡ Some t → e.serial ≡ t.serial
   pub label : (t : Token) → m.token ≡ Some t → e.label ≡ t.label
@@ -62,6 +62,7 @@ pub record IsStamp (l m : LocalState) (e : Seen) : Type 0 where
 pub record IsTake (l m : LocalState) (e : Seen) : Type 0 where
   pub kind : is_receipt e ≡ true
   pub answer : e.answer ≡ false
+  pub fits : FitsSerial e.serial.this
   pub clock : m.clock ≡ max l.clock e.serial.this
   pub last : m.last ≡ e.serial.this
   pub token : (t : Token) → m.token ≡ Some t → e.serial ≡ t.serial
@@ -72,11 +73,12 @@ pub record IsAnswered (l m : LocalState) (e : Seen) : Type 0 where
   pub kind : is_receipt e ≡ true
   pub answer : e.answer ≡ true
   pub clock : m.clock ≡ answer_count e.serial.this
-  pub last : m.last ≡ answer_count e.serial.this
+  pub last : m.last ≡ serial_count (answer_count e.serial.this)
   pub token : m.token ≡ l.token
 
 -- a token was put back, which made m
 pub record IsBack (t : Token) (m : LocalState) : Type 0 where
+  pub fits : FitsSerial t.serial.this
   pub clock : m.clock ≡ t.serial.this
   pub last : m.last ≡ t.serial.prev
   pub token : m.token ≡ Some t
@@ -113,54 +115,58 @@ emptied l = record { clock = refl; last = refl; token = λ t is. absurd (none-so
 -- STAMPS
 
 module _ (l : LocalState) (k : Kind) (stamps : (e : Event) → e.kind ≡ k → is_receipt (seen false e) ≡ false)
-    (traced : Bool) (to : Option Pid) (v : ℕ) where
-  made_moves : (p : Pid) (t : Token) (b : Bool) → l.token ≡ Some t → (let made : LocalState =
-      record l { token = Some (stamped_token p l t); clock = l.clock + 1 } in
-      let told : Option Event = cond b (Some (token_event k (stamped_token p l t) to v)) None in
+    (traced : Bool) (to : Option Pid) (v : ℕ) (p : Pid) where
+  made_moves : (t : Token) (b : Bool) → l.token ≡ Some t → (let made : LocalState =
+      record l { token = Some (node_stamped_token p l t); clock = next_clock l.clock } in
+      let told : Option Event =
+      cond b (Some (token_event k (node_stamped_token p l t) to v)) None in
       IsSome told → StampMoves l made told)
-  made_moves p t true had is = record {
-    kind = stamps (token_event k (stamped_token p l t) to v) refl;
+  made_moves t true had is = record {
+    kind = stamps (token_event k (node_stamped_token p l t) to v) refl;
     answer = refl;
     prev = refl;
     count = refl;
     clock = refl;
     last = refl;
-    token = λ u at. ap (λ (x : Token). x.serial) (same_Some (stamped_token p l t) u at);
-    label = λ u at. ap (λ (x : Token). x.label) (same_Some (stamped_token p l t) u at);
+    token = λ u at. ap (λ (x : Token). x.serial) (same_Some (node_stamped_token p l t) u at);
+    label = λ u at. ap (λ (x : Token). x.label) (same_Some (node_stamped_token p l t) u at);
     had = (t, had, refl);
   }
-  made_moves p t false had is = absurd (false≢true is)
+  made_moves t false had is = absurd (false≢true is)
 
-  pub stamp_moves : (top : ℕ) (p : Pid) (m : LocalState) → stamp top p l ≡ Some m
-      → IsSome (report traced k m.token to v)
-      → StampMoves l m (report traced k m.token to v)
-  stamp_moves top p m h is =
-      let made = λ (t : Token). record l {
-        token = Some (stamped_token p l t);
-        clock = l.clock + 1;
-      } in
-      option_and_then_some (λ t. cond (nat_lt l.clock top) (Some (made t)) None) l.token m h
-      (λ t had at.
-      let same = (cond_some (nat_lt l.clock top) (made t) m at).1 in
-      let part = λ (x : LocalState). IsSome (report traced k x.token to v)
-      → StampMoves l x (report traced k x.token to v) in
-      subst part same (made_moves p t (traced && flag_of k t.flags) had) is)
+  abbrev stamped_as : Option Token → LocalState
+  stamped_as None = l
+  stamped_as (Some t) = record l {
+    token = Some (node_stamped_token p l t);
+    clock = next_clock l.clock;
+  }
 
-  any_moves_at : (top : ℕ) (p : Pid) (m : LocalState) (token : Option Token) → l.token ≡ token
-      → cond (is_some token) (stamp top p l) (Some l) ≡ Some m
-      → (is_some token ≡ true → IsSome (report traced k m.token to v))
-      → StampMoves l m (report traced k m.token to v)
-  any_moves_at top p m None e h is =
-      let still : StampMoves l l (report traced k l.token to v) =
-      subst (λ token. StampMoves l l (report traced k token to v)) (sym e) (unmoved l) in
-      subst (λ (x : LocalState). StampMoves l x (report traced k x.token to v))
-      (same_Some l m h) still
-  any_moves_at top p m (Some t) e h is = stamp_moves top p m h (is refl)
+  moves_at : (token : Option Token) → l.token ≡ token
+      → (let m = stamped_as token in
+      (is_some token ≡ true → IsSome (report traced k m.token to v))
+      → StampMoves l m (report traced k m.token to v))
+  moves_at None e is =
+      subst (λ token. StampMoves l l (report traced k token to v)) (sym e) (unmoved l)
+  moves_at (Some t) e is = made_moves t (traced && flag_of k t.flags) e (is refl)
 
-  pub any_moves : (top : ℕ) (p : Pid) (m : LocalState) → stamp_any top p l ≡ Some m
-      → (is_some l.token ≡ true → IsSome (report traced k m.token to v))
-      → StampMoves l m (report traced k m.token to v)
-  any_moves top p m h is = any_moves_at top p m l.token refl h is
+  stamped_same : (token : Option Token) → (let m : LocalState = elim token [
+    | None ↦ l
+    | Some t ↦ record l {
+      token = Some (node_stamped_token p l t);
+      clock = next_clock l.clock;
+    }
+  ] in stamped_as token ≡ m)
+  stamped_same None = refl
+  stamped_same (Some t) = refl
+
+  pub stamp_moves : (is_some l.token ≡ true
+      → IsSome (report traced k (after_stamp p l).token to v))
+      → StampMoves l (after_stamp p l) (report traced k (after_stamp p l).token to v)
+  stamp_moves is =
+      let same = stamped_same l.token in
+      subst (λ (m : LocalState). (is_some l.token ≡ true
+      → IsSome (report traced k m.token to v)) → StampMoves l m (report traced k m.token to v))
+      same (moves_at l.token refl) is
 
 pub no_receive : (k : Kind) → k ≢ kind.Receive → (e : Event) → e.kind ≡ k
     → is_receipt (seen false e) ≡ false
@@ -171,7 +177,7 @@ no_receive kind.Print other e is = rw is refl
 -- THE ACTOR'S PART
 
 -- a part of an act that reports what it has to
-abbrev PartMoves : Option Token → Bool → Process → Acted → Bool → Type 0
+abbrev pub PartMoves : Option Token → Bool → Process → Acted → Bool → Type 0
 PartMoves back answer r done moves = (moves ≡ true → IsSome done.report)
     → Moves back r.local done.local (option_map (seen answer) done.report)
 
@@ -180,20 +186,6 @@ abbrev pub PartStamps : Process → Acted → Bool → Type 0
 PartStamps r done moves =
     (moves ≡ true → IsSome done.report) → StampMoves r.local done.local done.report
 
-printed_stamps : (r : Process) (v : ℕ) (stamped : Option LocalState) (done : Acted) (moves : Bool)
-    → ((m : LocalState) → stamped ≡ Some m
-    → (moves ≡ true → IsSome (report r.local.traced kind.Print m.token None v))
-    → StampMoves r.local m (report r.local.traced kind.Print m.token None v))
-    → option_map (prints r v) stamped ≡ Some done → PartStamps r done moves
-printed_stamps r v stamped done moves part h =
-    let parts = mapped (prints r v) stamped done h in
-    subst (λ (x : Acted). PartStamps r x moves) parts.2 (part parts.0 parts.1)
-
-quiet_stamps : (r : Process) (l : LocalState) (y : Reply) (done : Acted) (moves : Bool)
-    → Some (answers r l y) ≡ Some done → IsQuiet r.local l → PartStamps r done moves
-quiet_stamps r l y done moves h quiet =
-    subst (λ (x : Acted). PartStamps r x moves) (same_Some (answers r l y) done h) (λ _. quiet)
-
 -- an act that neither receives nor sets a token
 abbrev pub is_plain : Act → Bool
 is_plain (act.Receive p w) = false
@@ -201,71 +193,61 @@ is_plain (act.Set p c) = false
 is_plain (act.Restore p t) = false
 is_plain a = true
 
-pub plain_stamps : (top : ℕ) (a : Act) (r : Process) (done : Acted) → is_plain a ≡ true
-    → node_acted top r (Plain a) ≡ Some done
-    → PartStamps r done (moves_token r a)
-plain_stamps top (act.Send p q v) r done plain h =
-    let parts = mapped (sends r q v) (stamp_any top r.pid r.local) done h in
-    subst (λ (x : Acted). PartStamps r x (is_some r.local.token)) parts.2
-    (any_moves r.local kind.Send (no_receive kind.Send (λ e. absurd (cc))) r.local.traced (Some q) v
-    top r.pid parts.0 parts.1)
-plain_stamps top (act.Receive p w) r done plain h = absurd (false≢true plain)
-plain_stamps top (act.Print p v) r done plain h =
-    printed_stamps r v (stamp_any top r.pid r.local) done (is_some r.local.token)
-    (any_moves r.local kind.Print (no_receive kind.Print (λ e. absurd (cc))) r.local.traced None v
-    top r.pid) h
-plain_stamps top (act.PrintAt p n v) r done plain h =
-    elim (has_label n r.local.token) as (λ b.
-    cond b (option_map (prints r v) (stamp top r.pid r.local)) (Some (answers r r.local reply.Done))
-    ≡ Some done
-    → PartStamps r done b) [
-      | true ↦ λ h. printed_stamps r v (stamp top r.pid r.local) done true
-          (λ m at is.
+pub plain_stamps : (a : Act) (r : Process) → is_plain a ≡ true
+    → PartStamps r (node_acted r (Common a)) (moves_token r a)
+plain_stamps (act.Send p q v) r plain =
+    stamp_moves r.local kind.Send (no_receive kind.Send (λ e. absurd (cc))) r.local.traced
+    (Some q) v r.pid
+plain_stamps (act.Receive p w) r plain = absurd (false≢true plain)
+plain_stamps (act.Print p v) r plain =
+    stamp_moves r.local kind.Print (no_receive kind.Print (λ e. absurd (cc))) r.local.traced None
+    v r.pid
+plain_stamps (act.PrintAt p n v) r plain =
+    elim (has_label n r.local.token) as (λ b. has_label n r.local.token ≡ b
+    → PartStamps r (cond b (prints r v (after_stamp r.pid r.local))
+    (answers r r.local reply.Done)) b) [
+      | true ↦ λ has is.
           stamp_moves r.local kind.Print (no_receive kind.Print (λ e. absurd (cc))) r.local.traced
-          None v top r.pid m at (is refl)) h
-      | false ↦ λ h. quiet_stamps r r.local reply.Done done false h (unmoved r.local)
-    ] h
-plain_stamps top (act.Set p c) r done plain h = absurd (false≢true plain)
-plain_stamps top (act.Clear p) r done plain h =
-    quiet_stamps r _ _ done false h (emptied r.local)
-plain_stamps top (act.Restore p t) r done plain h = absurd (false≢true plain)
-plain_stamps top (act.Look p) r done plain h = quiet_stamps r _ _ done false h (unmoved r.local)
-plain_stamps top (act.Reset p) r done plain h = quiet_stamps r _ _ done false h (unmoved r.local)
-plain_stamps top (act.Tracer p b) r done plain h =
-    quiet_stamps r _ _ done false h (unmoved r.local)
+          None v r.pid (λ _. is refl)
+      | false ↦ λ _ _. unmoved r.local
+    ] refl
+plain_stamps (act.Set p c) r plain = absurd (false≢true plain)
+plain_stamps (act.Clear p) r plain = λ _. emptied r.local
+plain_stamps (act.Restore p t) r plain = absurd (false≢true plain)
+plain_stamps (act.Look p) r plain = λ _. unmoved r.local
+plain_stamps (act.Reset p) r plain = λ _. unmoved r.local
+plain_stamps (act.Tracer p b) r plain = λ _. unmoved r.local
 
-pub plain_moves : (top : ℕ) (a : Act) (r : Process) (done : Acted) → is_plain a ≡ true
-    → node_acted top r (Plain a) ≡ Some done
-    → PartMoves None false r done (moves_token r a)
-plain_moves top a r done plain h is =
-    stamp_moves_on r.local done.local done.report (plain_stamps top a r done plain h is)
-
-still_moves : (r : Process) (l : LocalState) (y : Reply) (done : Acted) (moves : Bool)
-    → Some (answers r l y) ≡ Some done → IsStill r.local l → PartMoves None false r done moves
-still_moves r l y done moves h still =
-    subst (λ (x : Acted). PartMoves None false r x moves) (same_Some (answers r l y) done h) (λ _. still)
+pub plain_moves : (a : Act) (r : Process) → is_plain a ≡ true
+    → PartMoves None false r (node_acted r (Common a)) (moves_token r a)
+plain_moves a r plain is =
+    let done = node_acted r (Common a) in
+    stamp_moves_on r.local done.local done.report (plain_stamps a r plain is)
 
 take_moves : (r : Process) (place : ℕ) (from : Pid) (v : ℕ) (token : Option Token)
     → (let m : Message = record { from = from; value = v; token = token } in
-    PartMoves None false r (receives r (Some (place, m))) (is_some token))
+    PartMoves None false r (receives r (node_found (Some (place, m)))) (is_some token))
 take_moves r place from v None is = quiet_still r.local _ (emptied r.local)
 take_moves r place from v (Some t) is =
     elim (r.local.traced && t.flags.receive) as (λ b.
-    (let told : Option Event = cond b (Some (token_event kind.Receive t (Some r.pid) v)) None in
-    IsSome told → Moves None r.local (received r.local (Some t)) (option_map (seen false) told))) [
+    (let told : Option Event =
+    cond b (Some (token_event kind.Receive (node_token t) (Some r.pid) v)) None in
+    IsSome told
+    → Moves None r.local (received r.local (Some (node_token t))) (option_map (seen false) told))) [
       | true ↦ λ is. inr (inl (record {
         kind = refl;
         answer = refl;
+        fits = serial_fits t.serial.this;
         clock = refl;
         last = refl;
-        token = λ u at. ap (λ (x : Token). x.serial) (same_Some t u at);
-        label = λ u at. ap (λ (x : Token). x.label) (same_Some t u at);
+        token = λ u at. ap (λ (x : Token). x.serial) (same_Some (node_token t) u at);
+        label = λ u at. ap (λ (x : Token). x.label) (same_Some (node_token t) u at);
       }))
       | false ↦ λ is. absurd (false≢true is)
     ] (is refl)
 
 received_moves : (r : Process) (found : Option (ℕ × Message))
-    → PartMoves None false r (receives r found)
+    → PartMoves None false r (receives r (node_found found))
     (option_map_or (λ (x : ℕ × Message). is_some x.1.token) found false)
 received_moves r None is = quiet_still r.local r.local (unmoved r.local)
 received_moves r (Some found) is =
@@ -290,13 +272,15 @@ set_serial p c l (Some u) t is =
 
 answer_moves : (r : Process) (place : ℕ) (from : Pid) (v : ℕ) (token : Option Token)
     → (let m : Message = record { from = from; value = v; token = token } in
-    PartMoves None true r (takes_answer r (Some (place, m))) (is_some token))
+    PartMoves None true r (takes_answer r (node_found (Some (place, m)))) (is_some token))
 answer_moves r place from v None is = quiet_still r.local r.local (unmoved r.local)
 answer_moves r place from v (Some t) is =
     elim (r.local.traced && t.flags.receive) as (λ b.
-    (let told : Option Event = cond b (Some (token_event kind.Receive t (Some r.pid) v)) None in
+    (let told : Option Event =
+    cond b (Some (token_event kind.Receive (node_token t) (Some r.pid) v)) None in
     IsSome told
-    → Moves None r.local (answered r.local (Some t)) (option_map (seen true) told))) [
+    → Moves None r.local (after_answer r.local (Some (node_token t)))
+    (option_map (seen true) told))) [
       | true ↦ λ is. inr (inr (record {
         kind = refl;
         answer = refl;
@@ -308,46 +292,31 @@ answer_moves r place from v (Some t) is =
     ] (is refl)
 
 answers_moves : (r : Process) (found : Option (ℕ × Message))
-    → PartMoves None true r (takes_answer r found)
+    → PartMoves None true r (takes_answer r (node_found found))
     (option_map_or (λ (x : ℕ × Message). is_some x.1.token) found false)
 answers_moves r None is = quiet_still r.local r.local (unmoved r.local)
 answers_moves r (Some found) is =
     let m = found.1 in
     answer_moves r found.0 m.from m.value m.token is
 
-pub node_acted_moves : (top : ℕ) (a : NodeAct) (r : Process) (done : Acted)
-    → node_acted top r a ≡ Some done
-    → PartMoves (token_put_back a) (is_answer a) r done (moves_token r (machine_act a))
-node_acted_moves top (Answer p place) r done h =
-    subst (λ (x : Acted).
-    PartMoves None true r x (moves_token r (act.Receive p (want.Place place))))
-    (same_Some _ done h)
-    (answers_moves r (pick (want.Place place) r.queue))
-node_acted_moves top (Plain (act.Receive p w)) r done h =
-    subst (λ (x : Acted). PartMoves None false r x (moves_token r (act.Receive p w)))
-    (same_Some _ done h)
-    (received_moves r (pick w r.queue))
-node_acted_moves top (Plain (act.Set p c)) r done h =
-    still_moves r _ _ done false h (record {
-      clock = refl;
-      last = refl;
-      token = λ t is. set_serial r.pid c r.local r.local.token t
-          (same_Some (with_component c (token_to_set r.pid r.local)) t is);
-    })
-node_acted_moves top (Plain (act.Restore p t)) r done h =
-    subst (λ (x : Acted). PartMoves (Some t) false r x false) (same_Some _ done h)
-    (λ _. (refl, record { clock = refl; last = refl; token = refl }))
-node_acted_moves top (Plain (act.Send p q v)) r done h =
-    plain_moves top (act.Send p q v) r done refl h
-node_acted_moves top (Plain (act.Print p v)) r done h =
-    plain_moves top (act.Print p v) r done refl h
-node_acted_moves top (Plain (act.PrintAt p n v)) r done h =
-    plain_moves top (act.PrintAt p n v) r done refl h
-node_acted_moves top (Plain (act.Clear p)) r done h =
-    plain_moves top (act.Clear p) r done refl h
-node_acted_moves top (Plain (act.Look p)) r done h =
-    plain_moves top (act.Look p) r done refl h
-node_acted_moves top (Plain (act.Reset p)) r done h =
-    plain_moves top (act.Reset p) r done refl h
-node_acted_moves top (Plain (act.Tracer p b)) r done h =
-    plain_moves top (act.Tracer p b) r done refl h
+pub node_acted_moves : (a : NodeAct) (r : Process)
+    → PartMoves (token_put_back a) (is_answer a) r (node_acted r a) (moves_token r (machine_act a))
+node_acted_moves (Answer p place) r = answers_moves r (pick (want.Place place) r.queue)
+node_acted_moves (Common (act.Receive p w)) r = received_moves r (pick w r.queue)
+node_acted_moves (Common (act.Set p c)) r = λ _. record {
+  clock = refl;
+  last = refl;
+  token = λ t is. set_serial r.pid c r.local r.local.token t
+      (same_Some (with_component c (token_to_set r.pid r.local)) t is);
+}
+node_acted_moves (Common (act.Restore p t)) r = λ _. (
+  refl,
+  record { fits = serial_fits t.serial.this; clock = refl; last = refl; token = refl },
+)
+node_acted_moves (Common (act.Send p q v)) r = plain_moves (act.Send p q v) r refl
+node_acted_moves (Common (act.Print p v)) r = plain_moves (act.Print p v) r refl
+node_acted_moves (Common (act.PrintAt p n v)) r = plain_moves (act.PrintAt p n v) r refl
+node_acted_moves (Common (act.Clear p)) r = plain_moves (act.Clear p) r refl
+node_acted_moves (Common (act.Look p)) r = plain_moves (act.Look p) r refl
+node_acted_moves (Common (act.Reset p)) r = plain_moves (act.Reset p) r refl
+node_acted_moves (Common (act.Tracer p b)) r = plain_moves (act.Tracer p b) r refl

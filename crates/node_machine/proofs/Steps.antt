@@ -1,6 +1,6 @@
 -- A step of the node in parts, and what of it reaches each process.
-use Rattle.std.proofs.Common.{◌≡◌, ℕ, true, false, Bool, cond, List, [], ◌∷◌, ◌++◌, Option, Some, None, option_map}
-use Rattle.std.proofs.Common.{option_and_then, refl, sym, ◌∙◌, ap, subst}
+use Rattle.std.proofs.Common.{◌≡◌, true, false, Bool, cond, List, [], ◌∷◌, ◌++◌, Option, Some, None, option_map}
+use Rattle.std.proofs.Common.{refl, sym, ◌∙◌, ap, subst}
 use Rattle.std.proofs.lemmas.Bool.{false≢true}
 use Rattle.std.proofs.lemmas.Option.{option_and_then_some}
 use Rattle.st_core.specs.declared.types.Pid.{Pid}
@@ -19,45 +19,45 @@ use Rattle.node_machine.specs.Node.{machine_act, NodeAct, node_acted, node_actor
 -- IN PARTS
 
 -- what a step is made of: the actor's process and its part
-pub record NodeStepped (top : ℕ) (s : State) (a : NodeAct) (o : Outcome) : Type 0 where
+pub record NodeStepped (s : State) (a : NodeAct) (o : Outcome) : Type 0 where
   pub before : Process
   pub done : Acted
   pub is_before : process s (node_actor a) ≡ Some before
-  pub is_done : node_acted top before a ≡ Some done
+  pub is_done : node_acted before a ≡ done
   pub is_outcome : outcome_of s (machine_act a) done ≡ o
 
-pub node_step_parts : (top : ℕ) (s : State) (a : NodeAct) (o : Outcome) → node_step top s a ≡ Some o
-    → NodeStepped top s a o
-node_step_parts top s a o h =
-    let part = λ (r : Process). option_map (outcome_of s (machine_act a)) (node_acted top r a) in
-    let among = λ (r : Process). option_and_then (λ (_ : Process). part r)
-    (process s (receiver (machine_act a))) in
-    option_and_then_some among (process s (node_actor a)) o h (λ r is_r rest.
-    option_and_then_some (λ (_ : Process). part r) (process s (receiver (machine_act a))) o rest (λ x is_x last.
-    let found = mapped (outcome_of s (machine_act a)) (node_acted top r a) o last in
+pub node_step_parts : (s : State) (a : NodeAct) (o : Outcome) → node_step s a ≡ Some o
+    → NodeStepped s a o
+node_step_parts s a o h =
+    let whole = λ (r : Process). outcome_of s (machine_act a) (node_acted r a) in
+    let found = process s (receiver (machine_act a)) in
+    option_and_then_some (λ r. option_map (λ (_ : Process). whole r) found)
+    (process s (node_actor a)) o h
+    (λ r is_r rest.
+    let parts = mapped (λ (_ : Process). whole r) found o rest in
     record {
       before = r;
-      done = found.0;
+      done = node_acted r a;
       is_before = is_r;
-      is_done = found.1;
-      is_outcome = found.2;
-    }))
+      is_done = refl;
+      is_outcome = parts.2;
+    })
 
 -- a run is a step and the run from there on
-pub record NodeBegan (top : ℕ) (s : State) (a : NodeAct) (rest : List NodeAct)
+pub record NodeBegan (s : State) (a : NodeAct) (rest : List NodeAct)
     (os : List Outcome) : Type 0 where
   pub first : Outcome
   pub others : List Outcome
-  pub is_first : node_step top s a ≡ Some first
-  pub is_rest : node_run_from top first.after rest ≡ Some others
+  pub is_first : node_step s a ≡ Some first
+  pub is_rest : node_run_from first.after rest ≡ Some others
   pub is_whole : os ≡ first ∷ others
 
-pub node_run_parts : (top : ℕ) (s : State) (a : NodeAct) (rest : List NodeAct) (os : List Outcome)
-    → node_run_from top s (a ∷ rest) ≡ Some os → NodeBegan top s a rest os
-node_run_parts top s a rest os h =
-    let from = λ (o : Outcome). option_map (λ os. o ∷ os) (node_run_from top o.after rest) in
-    option_and_then_some from (node_step top s a) os h (λ o is_o later.
-    let found = mapped (λ os. o ∷ os) (node_run_from top o.after rest) os later in
+pub node_run_parts : (s : State) (a : NodeAct) (rest : List NodeAct) (os : List Outcome)
+    → node_run_from s (a ∷ rest) ≡ Some os → NodeBegan s a rest os
+node_run_parts s a rest os h =
+    let from = λ (o : Outcome). option_map (λ os. o ∷ os) (node_run_from o.after rest) in
+    option_and_then_some from (node_step s a) os h (λ o is_o later.
+    let found = mapped (λ os. o ∷ os) (node_run_from o.after rest) os later in
     record {
       first = o;
       others = found.0;
@@ -67,10 +67,10 @@ node_run_parts top s a rest os h =
     })
 
 -- the process of p after a step
-pub node_process_after : (top : ℕ) (s : State) (a : NodeAct) (o : Outcome) (t : NodeStepped top s a o)
+pub node_process_after : (s : State) (a : NodeAct) (o : Outcome) (t : NodeStepped s a o)
     (p : Pid)
     → process o.after p ≡ option_map (changed (machine_act a) t.done) (process s p)
-node_process_after top s a o t p =
+node_process_after s a o t p =
     ap (λ (x : Outcome). process x.after p) (sym t.is_outcome)
     ∙ process-map (changed (machine_act a) t.done) (changed_pid (machine_act a) t.done) s p
 
@@ -125,13 +125,13 @@ changed_same a done r mine plain is =
       | false ↦ λ h. h
     ] part
 
-module _ (top : ℕ) (s : State) (a : NodeAct) (o : Outcome) (t : NodeStepped top s a o)
+module _ (s : State) (a : NodeAct) (o : Outcome) (t : NodeStepped s a o)
     (plain : is_reset (machine_act a) ≡ false) where
   pub other_same : (p : Pid) → pid_eq (node_actor a) p ≡ false
       → SameButTraced (local_in s p) (local_in o.after p)
   other_same p other =
       subst (λ found. SameButTraced (local_in s p) (local_found found))
-      (sym (node_process_after top s a o t p))
+      (sym (node_process_after s a o t p))
       (elim (process s p) as (λ found. process s p ≡ found
       → SameButTraced (local_found found) (local_found (option_map (changed (machine_act a) t.done) found))) [
         | None ↦ λ _. same_but_traced (local_found None)
@@ -151,5 +151,5 @@ module _ (top : ℕ) (s : State) (a : NodeAct) (o : Outcome) (t : NodeStepped to
       let own : pid_eq t.before.pid (node_actor a) ≡ true =
       ap (λ q. pid_eq q (node_actor a)) (process_pid s p t.before is) ∙ pid_eq-swap p (node_actor a) ∙ mine in
       subst (λ found. SameButTraced t.done.local (local_found found))
-      (sym (node_process_after top s a o t p ∙ ap (option_map (changed (machine_act a) t.done)) is))
+      (sym (node_process_after s a o t p ∙ ap (option_map (changed (machine_act a) t.done)) is))
       (changed_same (machine_act a) t.done t.before true plain own)

@@ -1,51 +1,17 @@
 -- The serials that events show as held, and the counts behind them, with one more event.
-use Rattle.std.proofs.Common.{◌≡◌, ℕ, ◌⊎◌, max, Bool, true, false, cond, List, [], ◌∷◌, ◌++◌}
+use Rattle.std.proofs.Common.{◌≡◌, ℕ, max, not, Bool, true, false, cond, List, [], ◌∷◌, ◌++◌}
 use Rattle.std.proofs.Common.{inl, inr, refl, sym, ◌∙◌, ap, subst}
-use Rattle.std.specs.List.{AllByRecursion}
+use Rattle.std.proofs.lemmas.Bool.{and_parts}
 use Rattle.st_core.specs.declared.types.Serial.{Serial}
-use Rattle.node_machine.specs.Node.{answer_count, Seen}
+use Rattle.st_core.proofs.ForCallers.{both_true, not_true}
+use Rattle.node_machine.specs.Counts.{answer_count, serial_count}
+use Rattle.node_machine.specs.Node.{Seen}
 use Rattle.node_machine.specs.Premises.{IsAmong}
-use Rattle.node_machine.specs.Given.{clock_behind, clock_by, fresh, is_receipt, last_behind, last_by, shown, tokens}
-
--- LISTS
-
-pub all_of : {A : Type 0} (P : A → Type 0) (xs : List A) (x : A) → AllByRecursion P xs
-    → IsAmong xs x → P x
-all_of P [] x all is = absurd is
-all_of P (y ∷ ys) x all (inl is) = subst P is all.0
-all_of P (y ∷ ys) x all (inr is) = all_of P ys x all.1 is
-
-pub all_append : {A : Type 0} (P : A → Type 0) (xs ys : List A) → AllByRecursion P xs
-    → AllByRecursion P ys
-    → AllByRecursion P (xs ++ ys)
-all_append P [] ys all more = more
-all_append P (x ∷ xs) ys all more = (all.0, all_append P xs ys all.1 more)
-
-pub all_change : {A : Type 0} (P Q : A → Type 0) → ((x : A) → P x → Q x) → (xs : List A)
-    → AllByRecursion P xs
-    → AllByRecursion Q xs
-all_change P Q change [] all = tt
-all_change P Q change (x ∷ xs) all = (change x all.0, all_change P Q change xs all.1)
+use Rattle.node_machine.specs.Readings.{clock_behind, clock_by, is_receipt, last_behind, last_by}
+use Rattle.node_machine.specs.Given.{fresh, shown, takes, tokens}
+use Rattle.node_machine.proofs.Lists.{among_back, among_front, among_parts}
 
 -- HELD SERIALS
-
-pub among_front : {A : Type 0} (xs ys : List A) (x : A) → IsAmong xs x → IsAmong (xs ++ ys) x
-among_front [] ys x is = absurd is
-among_front (z ∷ xs) ys x (inl is) = inl is
-among_front (z ∷ xs) ys x (inr is) = inr (among_front xs ys x is)
-
-pub among_back : {A : Type 0} (xs ys : List A) (x : A) → IsAmong ys x → IsAmong (xs ++ ys) x
-among_back [] ys x is = is
-among_back (z ∷ xs) ys x is = inr (among_back xs ys x is)
-
-pub among_parts : {A : Type 0} (xs ys : List A) (x : A) → IsAmong (xs ++ ys) x
-    → IsAmong xs x ⊎ IsAmong ys x
-among_parts [] ys x is = inr is
-among_parts (z ∷ xs) ys x (inl is) = inl (inl is)
-among_parts (z ∷ xs) ys x (inr is) = elim (among_parts xs ys x is) [
-  | inl front ↦ inl (inr front)
-  | inr back ↦ inr back
-]
 
 module _ (e : Seen) where
   pub tokens_more : (es : List Seen) (x : Serial) → IsAmong (tokens es) x
@@ -63,7 +29,7 @@ module _ (e : Seen) where
 
   abbrev shown_by : Bool → Bool → List Serial
   shown_by receive answer = cond receive
-      (cond answer (fresh (answer_count e.serial.this) ∷ [])
+      (cond answer (fresh (serial_count (answer_count e.serial.this)) ∷ [])
       (e.serial ∷ fresh e.serial.prev ∷ fresh e.serial.this ∷ []))
       (e.serial ∷ fresh e.serial.prev ∷ [])
 
@@ -89,9 +55,9 @@ module _ (e : Seen) where
       (subst (λ b. IsAmong (shown_by true b) x) (sym other) (inr (inr (inl refl)))))
 
   pub tokens_answer : (es : List Seen) → is_receipt e ≡ true → e.answer ≡ true
-      → IsAmong (tokens (es ++ e ∷ [])) (fresh (answer_count e.serial.this))
+      → IsAmong (tokens (es ++ e ∷ [])) (fresh (serial_count (answer_count e.serial.this)))
   tokens_answer es is answer =
-      let x = fresh (answer_count e.serial.this) in
+      let x = fresh (serial_count (answer_count e.serial.this)) in
       tokens_new es x
       (subst (λ b. IsAmong (shown_by b e.answer) x) (sym is)
       (subst (λ b. IsAmong (shown_by true b) x) (sym answer) (inl refl)))
@@ -132,27 +98,19 @@ pub last_push : (es : List Seen) (e : Seen) (last : ℕ)
 last_push [] e last = refl
 last_push (d ∷ es) e last = last_push es e (last_by d)
 
-abbrev clock_from : Seen → ℕ → Bool → Bool → ℕ
-clock_from e clock receive answer =
-    cond receive (cond answer (answer_count e.serial.this) (max clock e.serial.this)) e.serial.this
-
 abbrev last_from : Seen → Bool → Bool → ℕ
 last_from e receive answer =
-    cond receive (cond answer (answer_count e.serial.this) e.serial.this) e.serial.prev
+    cond receive (cond answer (serial_count (answer_count e.serial.this)) e.serial.this) e.serial.prev
 
-pub clock_by_stamp : (e : Seen) (clock : ℕ) → is_receipt e ≡ false
-    → clock_by e clock ≡ e.serial.this
-clock_by_stamp e clock is = ap (λ b. clock_from e clock b e.answer) is
-
-pub clock_by_receive : (e : Seen) (clock : ℕ) → is_receipt e ≡ true → e.answer ≡ false
+pub clock_by_receive : (e : Seen) (clock : ℕ) → e.answer ≡ false
     → clock_by e clock ≡ max clock e.serial.this
-clock_by_receive e clock is other =
-    ap (λ b. clock_from e clock b e.answer) is ∙ ap (clock_from e clock true) other
+clock_by_receive e clock other =
+    ap (λ b. cond b (answer_count e.serial.this) (max clock e.serial.this)) other
 
-pub clock_by_answer : (e : Seen) (clock : ℕ) → is_receipt e ≡ true → e.answer ≡ true
+pub clock_by_answer : (e : Seen) (clock : ℕ) → e.answer ≡ true
     → clock_by e clock ≡ answer_count e.serial.this
-clock_by_answer e clock is answer =
-    ap (λ b. clock_from e clock b e.answer) is ∙ ap (clock_from e clock true) answer
+clock_by_answer e clock answer =
+    ap (λ b. cond b (answer_count e.serial.this) (max clock e.serial.this)) answer
 
 pub last_by_stamp : (e : Seen) → is_receipt e ≡ false → last_by e ≡ e.serial.prev
 last_by_stamp e is = ap (λ b. last_from e b e.answer) is
@@ -162,5 +120,16 @@ pub last_by_receive : (e : Seen) → is_receipt e ≡ true → e.answer ≡ fals
 last_by_receive e is other = ap (λ b. last_from e b e.answer) is ∙ ap (last_from e true) other
 
 pub last_by_answer : (e : Seen) → is_receipt e ≡ true → e.answer ≡ true
-    → last_by e ≡ answer_count e.serial.this
+    → last_by e ≡ serial_count (answer_count e.serial.this)
 last_by_answer e is answer = ap (λ b. last_from e b e.answer) is ∙ ap (last_from e true) answer
+
+-- RECEIVES
+
+pub takes_true : (e : Seen) → is_receipt e ≡ true → e.answer ≡ false → takes e ≡ true
+takes_true e is other =
+    both_true (is_receipt e) (not e.answer) is (ap not other)
+
+pub takes_parts : (e : Seen) → takes e ≡ true → (is_receipt e ≡ true) × (e.answer ≡ false)
+takes_parts e is =
+    let parts = and_parts (is_receipt e) (not e.answer) is in
+    (parts.0, not_true e.answer parts.1)

@@ -1,16 +1,19 @@
 -- What is given is so in one of the four ways.
-use Rattle.std.proofs.Common.{◌≡◌, ℕ, ◌+◌, ◌<◌, ◌⊎◌, ◌&&◌, max, Bool, true, false, cond, List, [], ◌∷◌, ◌++◌}
+use Rattle.std.proofs.Common.{◌≡◌, ℕ, ◌<◌, ◌⊎◌, ◌&&◌, max, Bool, true, false, cond, List, [], ◌∷◌, ◌++◌}
 use Rattle.std.proofs.Common.{inl, inr, refl, arith, sym, ◌∙◌, ap, subst, append-nil}
 use Rattle.std.specs.List.{AllByRecursion}
 use Rattle.std.proofs.lemmas.Bool.{cases_order}
 use Rattle.st_core.specs.declared.types.Serial.{Serial}
-use Rattle.node_machine.specs.Node.{answer_count, Seen}
+use Rattle.node_machine.specs.Counts.{answer_count, stamp_count, serial_count}
+use Rattle.node_machine.specs.Node.{Seen}
 use Rattle.node_machine.specs.Premises.{IsAmong}
-use Rattle.node_machine.specs.Given.{clock_behind, clock_by, fresh, is_receipt, IsGiven, IsPutBack, last_behind}
-use Rattle.node_machine.specs.Given.{last_by, shown, tokens}
+use Rattle.node_machine.specs.Readings.{clock_behind, clock_by, is_receipt, last_behind, last_by}
+use Rattle.node_machine.specs.Given.{fresh, IsGiven, IsPutBack, shown, takes, tokens}
 use Rattle.node_machine.specs.Ways.{carried, greatest_taken, IsAgain, IsFreshly, IsLowered, IsPlainly, lasts, lasts_shown}
-use Rattle.node_machine.proofs.Tokens.{among_back, among_front, among_parts, clock_by_answer, clock_by_receive}
-use Rattle.node_machine.proofs.Decided.{next_parts, next_true}
+use Rattle.node_machine.proofs.Counts.{next_of_zero}
+use Rattle.node_machine.proofs.Lists.{among_back, among_front, among_parts}
+use Rattle.node_machine.proofs.Readings.{next_parts, next_true}
+use Rattle.node_machine.proofs.Tokens.{clock_by_receive, takes_parts}
 
 -- TOKENS
 
@@ -21,7 +24,7 @@ IsHeldAs es x = IsAmong (carried es) x ⊎ ((v : ℕ) × IsAmong (lasts es) v ×
 module _ (e : Seen) (rest : List Serial) (more : List ℕ) where
   abbrev shown_as : Bool → Bool → List Serial
   shown_as receive answer = cond receive
-      (cond answer (fresh (answer_count e.serial.this) ∷ [])
+      (cond answer (fresh (serial_count (answer_count e.serial.this)) ∷ [])
       (e.serial ∷ fresh e.serial.prev ∷ fresh e.serial.this ∷ []))
       (e.serial ∷ fresh e.serial.prev ∷ [])
 
@@ -30,7 +33,7 @@ module _ (e : Seen) (rest : List Serial) (more : List ℕ) where
 
   abbrev lasts_as : Bool → Bool → List ℕ
   lasts_as receive answer = cond receive
-      (cond answer (answer_count e.serial.this ∷ []) (e.serial.prev ∷ e.serial.this ∷ []))
+      (cond answer (serial_count (answer_count e.serial.this) ∷ []) (e.serial.prev ∷ e.serial.this ∷ []))
       (e.serial.prev ∷ [])
 
   abbrev HeldAs : Bool → Bool → Serial → Type 0
@@ -39,7 +42,7 @@ module _ (e : Seen) (rest : List Serial) (more : List ℕ) where
 
   shown_held : (receive answer : Bool) (x : Serial) → IsAmong (shown_as receive answer) x
       → HeldAs receive answer x
-  shown_held true true x (inl is) = inr (answer_count e.serial.this, inl refl, sym is)
+  shown_held true true x (inl is) = inr (serial_count (answer_count e.serial.this), inl refl, sym is)
   shown_held true true x (inr is) = absurd is
   shown_held true false x (inl is) = inl (inl is)
   shown_held true false x (inr (inl is)) = inr (e.serial.prev, inl refl, sym is)
@@ -133,40 +136,16 @@ made_last es v is = elim (held_as es (fresh v) is) [
 -- COUNTS
 
 abbrev AreTaken : List Seen → Type 0
-AreTaken es = AllByRecursion (λ r. (is_receipt r ≡ true) × (r.answer ≡ false)) es
-
-taken_receives : (es : List Seen) → AreTaken es → AllByRecursion (λ e. is_receipt e ≡ true) es
-taken_receives [] all = tt
-taken_receives (e ∷ es) all = (all.0.0, taken_receives es all.1)
+AreTaken es = AllByRecursion (λ r. takes r ≡ true) es
 
 -- receives without an answer lift the clock to their greatest count
 taken_clock : (es : List Seen) (clock : ℕ) → AreTaken es
     → clock_behind clock es ≡ max clock (greatest_taken es)
 taken_clock [] clock all = omega arith
 taken_clock (e ∷ es) clock all =
-    let lift = clock_by_receive e clock all.0.0 all.0.1 in
+    let lift = clock_by_receive e clock (takes_parts e all.0).1 in
     let rest = taken_clock es (clock_by e clock) all.1 in
     omega arith
-
--- an answer makes the clock before it count no more
-either_taken : (es : List Seen) → AllByRecursion (λ e. is_receipt e ≡ true) es
-    → AreTaken es ⊎ ((a b : ℕ) → clock_behind a es ≡ clock_behind b es)
-either_taken [] all = inl tt
-either_taken (e ∷ es) all =
-    elim e.answer as (λ answer. e.answer ≡ answer → AreTaken (e ∷ es)
-    ⊎ ((a b : ℕ) → clock_behind a (e ∷ es) ≡ clock_behind b (e ∷ es))) [
-      | true ↦ λ is. inr (λ a b. ap (λ n. clock_behind n es)
-          (clock_by_answer e a all.0 is ∙ sym (clock_by_answer e b all.0 is)))
-      | false ↦ λ is. elim (either_taken es all.1) [
-        | inl taken ↦ inl ((all.0, is), taken)
-        | inr same ↦ inr (λ a b. same (clock_by e a) (clock_by e b))
-      ]
-    ] refl
-
-clock_parts : (front back : List Seen) (clock : ℕ)
-    → clock_behind clock (front ++ back) ≡ clock_behind (clock_behind clock front) back
-clock_parts [] back clock = refl
-clock_parts (e ∷ front) back clock = clock_parts front back (clock_by e clock)
 
 last_parts : (front back : List Seen) (first : Seen) (a b : ℕ)
     → last_behind a (front ++ first ∷ back) ≡ last_behind b (first ∷ back)
@@ -178,7 +157,7 @@ last_parts (e ∷ front) back first a b = last_parts front back first (last_by e
 abbrev Ways : List Seen → Seen → Type 0
 Ways es e = IsPlainly es e ⊎ (IsAgain es e ⊎ (IsFreshly es e ⊎ IsLowered es e))
 
-put_back_ways : (es : List Seen) (e : Seen) (clock : ℕ) → e.serial.this ≡ clock + 1
+put_back_ways : (es : List Seen) (e : Seen) (clock : ℕ) → e.serial.this ≡ stamp_count clock
     → (way : IsPutBack es clock e.serial.prev) (back : List Seen) → way.back ≡ back → Ways es e
 put_back_ways es e clock count way [] none =
     let prev : e.serial.prev ≡ way.token.prev =
@@ -188,12 +167,20 @@ put_back_ways es e clock count way [] none =
     sym (way.split ∙ ap (λ xs. way.front ++ xs) none ∙ append-nil way.front) in
     let held = subst (λ xs. IsAmong (tokens xs) way.token) whole way.held in
     elim (held_as es way.token held) [
-      | inl shown ↦ inr (inl (way.token, shown, sym prev, omega arith))
+      | inl old ↦ inr (inl (record {
+        token = way.token;
+        held = old;
+        prev = sym prev;
+        count = count ∙ ap stamp_count this;
+      }))
       | inr made ↦
           let zero_count : way.token.this ≡ 0 = ap (λ (x : Serial). x.this) made.2 in
           let same : made.0 ≡ e.serial.prev =
           sym (prev ∙ ap (λ (x : Serial). x.prev) made.2) in
-          inr (inr (inl (omega arith, subst (IsAmong (lasts es)) same made.1)))
+          inr (inr (inl (
+            count ∙ ap stamp_count (this ∙ zero_count) ∙ next_of_zero,
+            subst (IsAmong (lasts es)) same made.1,
+          )))
     ]
 put_back_ways es e clock count way (first ∷ back) is =
     let split : es ≡ way.front ++ first ∷ back =
@@ -203,56 +190,50 @@ put_back_ways es e clock count way (first ∷ back) is =
     let prev : last_behind 0 es ≡ e.serial.prev =
     ap (last_behind 0) split ∙ last_parts way.front back first 0 way.token.prev
     ∙ sym (way.last_is ∙ ap (last_behind way.token.prev) is) in
-    let receives = subst (AllByRecursion (λ e. is_receipt e ≡ true)) is way.receives in
-    elim (either_taken (first ∷ back) receives) [
-      | inl taken ↦
-          let lifted = taken_clock (first ∷ back) way.token.this taken in
-          let m = greatest_taken (first ∷ back) in
-          let lower = λ (found : (m ≡ clock) ⊎ ((m < clock)
-          × ((x : Serial) × IsAmong (carried way.front) x × (x.this ≡ clock)))).
-          let low : IsLowered es e = record {
-            front = way.front;
-            first = first;
-            back = back;
-            split = split;
-            receives = taken;
-            prev = prev;
-            clock = clock;
-            count = count;
-            way = found;
-          } in
-          low in
-          elim (cases_order m clock) [
-            | inl same ↦ inr (inr (inr (lower (inl same))))
-            | inr other ↦ elim other [
-              | inl less ↦ elim (held_as way.front way.token way.held) [
-                | inl shown ↦ inr (inr (inr (lower (inr (less, (way.token, shown, omega arith))))))
-                | inr made ↦
-                    let none : way.token.this ≡ 0 = ap (λ (x : Serial). x.this) made.2 in
-                    absurd (omega arith)
-              ]
-              | inr more ↦ absurd (omega arith)
-            ]
-          ]
-      | inr same ↦
-          let clock_here : clock ≡ clock_behind 0 es =
-          this ∙ same way.token.this (clock_behind 0 way.front)
-          ∙ sym (ap (clock_behind 0) split ∙ clock_parts way.front (first ∷ back) 0) in
-          inl (next_true (clock_behind 0 es) (last_behind 0 es) e
-          (count ∙ ap (λ n. n + 1) clock_here) (sym prev))
+    let receives = subst AreTaken is way.receives in
+    let lifted = taken_clock (first ∷ back) way.token.this receives in
+    let m = greatest_taken (first ∷ back) in
+    let lower = λ (found : (m ≡ clock) ⊎ ((m < clock)
+    × ((x : Serial) × IsAmong (carried way.front) x × (x.this ≡ clock)))).
+    let low : IsLowered es e = record {
+      front = way.front;
+      first = first;
+      back = back;
+      split = split;
+      receives = receives;
+      prev = prev;
+      clock = clock;
+      count = count;
+      way = found;
+    } in
+    low in
+    elim (cases_order m clock) [
+      | inl same ↦ inr (inr (inr (lower (inl same))))
+      | inr other ↦ elim other [
+        | inl less ↦ elim (held_as way.front way.token way.held) [
+          | inl old ↦ inr (inr (inr (lower (inr (less, (way.token, old, omega arith))))))
+          | inr made ↦
+              let none : way.token.this ≡ 0 = ap (λ (x : Serial). x.this) made.2 in
+              absurd (omega arith)
+        ]
+        | inr more ↦ absurd (omega arith)
+      ]
     ]
 
 pub given_ways : (es : List Seen) (e : Seen) → IsGiven es e → Ways es e
 given_ways es e given = elim given.way as (λ _. Ways es e) [
-  | inl plain ↦
-      inl (next_true (clock_behind 0 es) (last_behind 0 es) e
-      (given.count ∙ ap (λ n. n + 1) plain.clock_is) plain.last_is)
+  | inl plain ↦ inl (record {
+    reading = plain.reading;
+    reads = plain.reads;
+    next = next_true plain.reading.clock (last_behind 0 es) e
+        (given.count ∙ ap stamp_count plain.clock_is) plain.last_is;
+  })
   | inr way ↦ put_back_ways es e given.clock given.count way way.back refl
 ]
 
 -- a token put back right before the stamp
 put_now : (es : List Seen) (e : Seen) (x : Serial) → IsAmong (tokens es) x
-    → x.prev ≡ e.serial.prev → e.serial.this ≡ x.this + 1 → IsGiven es e
+    → x.prev ≡ e.serial.prev → e.serial.this ≡ stamp_count x.this → IsGiven es e
 put_now es e x held prev count = record {
   clock = x.this;
   count = count;
@@ -278,7 +259,7 @@ lowered_given es e low x held lifted = record {
     front = low.front;
     back = low.first ∷ low.back;
     split = low.split;
-    receives = taken_receives (low.first ∷ low.back) low.receives;
+    receives = low.receives;
     token = x;
     held = held;
     clock_is = sym (taken_clock (low.first ∷ low.back) x.this low.receives ∙ lifted);
@@ -289,17 +270,22 @@ lowered_given es e low x held lifted = record {
 
 pub ways_give : (es : List Seen) (e : Seen) → Ways es e → IsGiven es e
 ways_give es e (inl plain) =
-    let parts = next_parts (clock_behind 0 es) (last_behind 0 es) e plain in
+    let parts = next_parts plain.reading.clock (last_behind 0 es) e plain.next in
     record {
-      clock = clock_behind 0 es;
+      clock = plain.reading.clock;
       count = parts.0;
-      way = inl (record { clock_is = refl; last_is = parts.1 });
+      way = inl (record {
+        reading = plain.reading;
+        reads = plain.reads;
+        clock_is = refl;
+        last_is = parts.1;
+      });
     }
 ways_give es e (inr (inl again)) =
-    put_now es e again.0 (carried_held es again.0 again.1) again.2 again.3
+    put_now es e again.token (carried_held es again.token again.held) again.prev again.count
 ways_give es e (inr (inr (inl new))) =
-    let one = new.0 in
-    put_now es e (fresh e.serial.prev) (lasts_held es e.serial.prev new.1) refl (omega arith)
+    put_now es e (fresh e.serial.prev) (lasts_held es e.serial.prev new.1) refl
+    (new.0 ∙ sym next_of_zero)
 ways_give es e (inr (inr (inr low))) = elim low.way as (λ _. IsGiven es e) [
   | inl same ↦ lowered_given es e low (fresh 0) (zero_held low.front) (omega arith)
   | inr found ↦

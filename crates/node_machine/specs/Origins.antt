@@ -1,6 +1,6 @@
 -- What a stamp's token came from in a run of the node, and what the events of its process say of
 -- that.
-use Rattle.std.specs.Prelude.{◌≡◌, ◌⊎◌, ℕ, ◌+◌, ◌<◌, ◌≤◌, suc, Bool, true, false, List, [], ◌∷◌, ◌++◌, length, max, take}
+use Rattle.std.specs.Prelude.{◌≡◌, ◌⊎◌, ℕ, ◌<◌, ◌≤◌, suc, Bool, true, false, List, [], ◌∷◌, ◌++◌, length, max, take}
 use Rattle.std.specs.Prelude.{Option, Some, None, if◌then◌else◌, is_some, option_map, option_to_list, option_and_then, slice_get}
 use Rattle.std.specs.List.{AllByRecursion}
 use Rattle.std.specs.Option.{option_map_or}
@@ -18,10 +18,12 @@ use Rattle.st_core.specs.Local.{with_component}
 use Rattle.st_core.specs.Event.{kind_eq}
 use Rattle.st_core.specs.Step.{Outcome}
 use Rattle.st_core.specs.Laws.{moves_token}
-use Rattle.node_machine.specs.Node.{answer_count, fresh_token, is_answer, node_actor, NodeAct, Plain, Seen}
+use Rattle.node_machine.specs.Counts.{answer_count, stamp_count, node_token, serial_count}
+use Rattle.node_machine.specs.Node.{fresh_token, is_answer, node_actor, NodeAct, Common, Seen}
 use Rattle.node_machine.specs.Node.{seen_by, seen_stream}
 use Rattle.node_machine.specs.Premises.{IsAmong, told_by}
-use Rattle.node_machine.specs.Given.{is_receipt, IsPutBack, IsStraight, tokens}
+use Rattle.node_machine.specs.Readings.{is_receipt}
+use Rattle.node_machine.specs.Given.{IsPutBack, IsStraight, tokens}
 
 -- Follows k: the token came with the message of its process's event k. Home: its process made it, or
 -- set its label
@@ -76,12 +78,12 @@ AfterRestore front rest held t now = (x : Held) × IsAmong held x × (x.serial �
 -- r, reported the front events, has these left, and held these tokens
 abbrev pub OriginAfter : List Seen → List Seen → List Held → Process → NodeAct → TokenOrigin → TokenOrigin
     → Type 0
-OriginAfter front rest held r (Plain (act.Receive p w)) before now =
+OriginAfter front rest held r (Common (act.Receive p w)) before now =
     now ≡ (if moves_token r (act.Receive p w) then Follows (length front) else before)
-OriginAfter front rest held r (Plain (act.Set p c)) before now =
+OriginAfter front rest held r (Common (act.Set p c)) before now =
     AfterSet front rest r.pid r.local r.local.token c before now
-OriginAfter front rest held r (Plain (act.Restore p t)) before now =
-    AfterRestore front rest held t now
+OriginAfter front rest held r (Common (act.Restore p t)) before now =
+    AfterRestore front rest held (node_token t) now
 OriginAfter front rest held r a before now = now ≡ before
 
 -- p's token, if it has one, with this origin
@@ -144,7 +146,7 @@ pub record IsTaken (es : List Seen) (i k : ℕ) : Type 0 where
   pub last : ℕ
   pub way : IsStraight (take k es) clock last ⊎ IsPutBack (take k es) clock last
   pub prev : event.serial.this ≡ stamp.serial.prev
-  pub count : stamp.serial.this ≡ max clock event.serial.this + 1
+  pub count : stamp.serial.this ≡ stamp_count (max clock event.serial.this)
 
 -- the event at index k, a receive or not, is before the stamp at index i, and the stamp is the
 -- successor of its token
@@ -158,7 +160,7 @@ pub record IsSuccessor (receive : Bool) (es : List Seen) (i k : ℕ) : Type 0 wh
   pub own : event.answer ≡ false
   pub label : event.label ≡ stamp.label
   pub prev : event.serial.prev ≡ stamp.serial.prev
-  pub count : stamp.serial.this ≡ event.serial.this + 1
+  pub count : stamp.serial.this ≡ stamp_count event.serial.this
 
 -- the event at index k is a stamp, an answer is right behind it, and then the stamp at index i, which
 -- has its label and goes on from the answer's count
@@ -173,8 +175,8 @@ pub record IsAnsweredAt (es : List Seen) (i k : ℕ) : Type 0 where
   pub answer_at : slice_get es (suc k) ≡ Some answer
   pub answers : answer.answer ≡ true
   pub behind : i ≡ suc (suc k)
-  pub prev : answer_count answer.serial.this ≡ stamp.serial.prev
-  pub count : stamp.serial.this ≡ answer_count answer.serial.this + 1
+  pub prev : serial_count (answer_count answer.serial.this) ≡ stamp.serial.prev
+  pub count : stamp.serial.this ≡ stamp_count (answer_count answer.serial.this)
 
 -- behind the front events the process may have given its token the stamp's label: right before the
 -- stamp, or then the stamp is the successor of a token that was held up to there
@@ -187,7 +189,7 @@ pub record IsAtHome (es : List Seen) (i : ℕ) : Type 0 where
   pub within : length front ≤ i
   pub own : IsOwnLabel front rest stamp.label
   pub way : (length front ≡ i) ⊎ ((token : Serial) × IsAmong (tokens front) token
-      × (token.prev ≡ stamp.serial.prev) × (stamp.serial.this ≡ token.this + 1))
+      × (token.prev ≡ stamp.serial.prev) × (stamp.serial.this ≡ stamp_count token.this))
 
 -- what the events of a process allow as the origin of its stamp at an index: the receive right
 -- before it; an earlier receive with the token that it succeeds; what is allowed of an earlier stamp

@@ -11,7 +11,8 @@ use Rattle.st_core.specs.Pid.{pid_eq}
 use Rattle.st_core.specs.State.{Process, State, process}
 use Rattle.st_core.specs.Step.{Outcome}
 use Rattle.st_core.specs.Laws.{is_reset, moves_token}
-use Rattle.node_machine.specs.Node.{NodeAct, Plain, machine_act, node_actor, Seen, seen_by}
+use Rattle.node_machine.specs.Counts.{node_token}
+use Rattle.node_machine.specs.Node.{NodeAct, Common, machine_act, node_actor, Seen, seen_by}
 
 -- x is one of these
 abbrev pub IsAmong : {A : Type 0} → List A → A → Type 0
@@ -32,7 +33,7 @@ ReportsTokens p s (a ∷ rest) (o ∷ os) =
 
 -- the token that an act puts back
 abbrev pub token_put_back : NodeAct → Option Token
-token_put_back (Plain (act.Restore p t)) = Some t
+token_put_back (Common (act.Restore p t)) = Some (node_token t)
 token_put_back a = None
 
 -- the serial of p's token, if p has one

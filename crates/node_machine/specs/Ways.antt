@@ -1,10 +1,12 @@
 -- The four ways in which events give a stamp, as a walk finds them.
-use Rattle.std.specs.Prelude.{◌≡◌, ◌⊎◌, ℕ, ◌+◌, ◌<◌, max, ◌&&◌, true, false, List, [], ◌∷◌, ◌++◌, if◌then◌else◌}
+use Rattle.std.specs.Prelude.{◌≡◌, ◌⊎◌, ℕ, ◌<◌, max, ◌&&◌, true, List, [], ◌∷◌, ◌++◌, if◌then◌else◌}
 use Rattle.std.specs.List.{AllByRecursion}
 use Rattle.st_core.specs.declared.types.Serial.{Serial}
-use Rattle.node_machine.specs.Node.{answer_count, Seen}
+use Rattle.node_machine.specs.Counts.{answer_count, stamp_count, serial_count}
+use Rattle.node_machine.specs.Node.{Seen}
 use Rattle.node_machine.specs.Premises.{IsAmong}
-use Rattle.node_machine.specs.Given.{clock_behind, is_next, is_receipt, last_behind}
+use Rattle.node_machine.specs.Readings.{is_next, is_receipt, last_behind, Reading, readings}
+use Rattle.node_machine.specs.Given.{takes}
 
 -- the serials of the tokens that events show: an answer's isn't taken
 abbrev pub carried : List Seen → List Serial
@@ -14,7 +16,7 @@ carried (e ∷ es) = if is_receipt e && e.answer then carried es else e.serial �
 -- what an event shows of what its process's last was
 abbrev pub lasts_shown : Seen → List ℕ
 lasts_shown e = if is_receipt e
-    then (if e.answer then answer_count e.serial.this ∷ []
+    then (if e.answer then serial_count (answer_count e.serial.this) ∷ []
     else e.serial.prev ∷ e.serial.this ∷ [])
     else e.serial.prev ∷ []
 
@@ -28,14 +30,18 @@ abbrev pub greatest_taken : List Seen → ℕ
 greatest_taken [] = 0
 greatest_taken (e ∷ es) = max e.serial.this (greatest_taken es)
 
--- plainly: it goes on from the counts that the events lead to
-abbrev pub IsPlainly : List Seen → Seen → Type 0
-IsPlainly es e = is_next (clock_behind 0 es) (last_behind 0 es) e ≡ true
+-- plainly: it goes on from the counts behind the events, in some way to read them
+pub record IsPlainly (es : List Seen) (e : Seen) : Type 0 where
+  pub reading : Reading
+  pub reads : IsAmong (readings es) reading
+  pub next : is_next reading.clock (last_behind 0 es) e ≡ true
 
 -- again: it is the successor of a token that the events show
-abbrev pub IsAgain : List Seen → Seen → Type 0
-IsAgain es e = (x : Serial) × IsAmong (carried es) x × (x.prev ≡ e.serial.prev)
-    × (e.serial.this ≡ x.this + 1)
+pub record IsAgain (es : List Seen) (e : Seen) : Type 0 where
+  pub token : Serial
+  pub held : IsAmong (carried es) token
+  pub prev : token.prev ≡ e.serial.prev
+  pub count : e.serial.this ≡ stamp_count token.this
 
 -- fresh: it is the successor of a token that was made where last had its prev
 abbrev pub IsFreshly : List Seen → Seen → Type 0
@@ -49,10 +55,10 @@ pub record IsLowered (es : List Seen) (e : Seen) : Type 0 where
   pub first : Seen
   pub back : List Seen
   pub split : es ≡ front ++ first ∷ back
-  pub receives : AllByRecursion (λ r. (is_receipt r ≡ true) × (r.answer ≡ false)) (first ∷ back)
+  pub receives : AllByRecursion (λ r. takes r ≡ true) (first ∷ back)
   pub prev : last_behind 0 es ≡ e.serial.prev
   pub clock : ℕ
-  pub count : e.serial.this ≡ clock + 1
+  pub count : e.serial.this ≡ stamp_count clock
   pub way : (greatest_taken (first ∷ back) ≡ clock)
       ⊎ ((greatest_taken (first ∷ back) < clock)
       × ((x : Serial) × IsAmong (carried front) x × (x.this ≡ clock)))

@@ -2,24 +2,25 @@
 //! that do nothing: each clause is a theorem over the definitions of `specs/`, and a proof that
 //! calls the function may use it.
 
-ghost use Rattle.std.specs.Prelude.{◌≡◌, ◌≢◌, ◌<◌, ◌≤◌, ◌⊎◌, ℕ, true, false, List, [], ◌∷◌, Some, slice_get, take};
+ghost use Rattle.std.specs.Prelude.{◌≡◌, ◌≢◌, ◌≤◌, ◌⊎◌, ℕ, true, false, map, List, [], ◌∷◌, Some, slice_get, take};
 ghost use Rattle.st_core.specs.declared.types.Kind.TheVariants as kind;
 ghost use Rattle.st_core.specs.declared.types.Pid.{Pid};
 ghost use Rattle.st_core.specs.State.{zero_state};
 ghost use Rattle.st_core.specs.Step.{Outcome};
-ghost use Rattle.node_machine.specs.Example.{all_home, printer, prints_again};
-ghost use Rattle.node_machine.specs.Given.{IsGiven, IsMet, clock_behind, is_given, is_next, last_behind, put_backs_needed};
-ghost use Rattle.node_machine.specs.Given.{put_backs_needed_anyway};
+ghost use Rattle.node_machine.specs.Example.{all_home, printer, prints_again, sender, wrapped_serials, wraps};
+ghost use Rattle.node_machine.specs.Given.{IsGiven, IsMet, is_given, strange_prevs};
 ghost use Rattle.node_machine.specs.Node.{NodeAct, Seen, node_run, seen_stream};
 ghost use Rattle.node_machine.specs.Origins.{AnswersComeNext, Can, Home, TokenOrigin, OriginsAre, origins_told};
-ghost use Rattle.node_machine.specs.Premises.{IsAmong, NoNodeReset, PutsBackOwn, ReportsTaken, ReportsTokens, places, put_backs};
+ghost use Rattle.node_machine.specs.Premises.{IsAmong, NoNodeReset, PutsBackOwn, ReportsTaken, ReportsTokens};
+ghost use Rattle.node_machine.specs.Premises.{places, put_backs};
+ghost use Rattle.node_machine.specs.Readings.{NeedsAtLeast, NeedsPutBack};
 ghost use Rattle.node_machine.specs.Ways.{IsAgain, IsFreshly, IsLowered, IsPlainly, lasts};
 
 /// If a process reports each stamp and each receive of a token, and puts back only tokens of its
 /// own, its events before each of its stamps give it.
 pub fn own_tokens_give_each_stamp()
-    ensures { (top : ℕ) (pids : List Pid) (acts : List NodeAct) (os : List Outcome)
-        → node_run top pids acts ≡ Some os → NoNodeReset acts → (p : Pid)
+    ensures { (pids : List Pid) (acts : List NodeAct) (os : List Outcome)
+        → node_run pids acts ≡ Some os → NoNodeReset acts → (p : Pid)
         → ReportsTokens p (zero_state pids) acts os
         → PutsBackOwn p [] (zero_state pids) acts os
         → (i : ℕ) (e : Seen) → slice_get (seen_stream acts os p) i ≡ Some e → e.kind ≢ kind.Receive
@@ -30,38 +31,37 @@ pub fn own_tokens_give_each_stamp()
 pub fn what_is_not_given_is_final()
     ensures { (es : List Seen) (i : ℕ) (e : Seen) → slice_get es i ≡ Some e
         → e.kind ≢ kind.Receive → is_given (take i es) e ≡ false
-        → (top : ℕ) (pids : List Pid) (acts : List NodeAct) (os : List Outcome)
-        → node_run top pids acts ≡ Some os → NoNodeReset acts → (p : Pid)
+        → (pids : List Pid) (acts : List NodeAct) (os : List Outcome)
+        → node_run pids acts ≡ Some os → NoNodeReset acts → (p : Pid)
         → ReportsTokens p (zero_state pids) acts os
         → PutsBackOwn p [] (zero_state pids) acts os → ¬ (seen_stream acts os p ≡ es) }
 {}
 
-/// If it reports these, it puts back as many tokens at least as it has stamps that don't go on from
-/// the counts before them, whichever tokens they are.
+/// If it reports these, it puts back at least as many tokens as its events need however they are
+/// read, whichever tokens they are.
 pub fn each_need_is_a_put_back()
-    ensures { (top : ℕ) (pids : List Pid) (acts : List NodeAct) (os : List Outcome)
-        → node_run top pids acts ≡ Some os → NoNodeReset acts → (p : Pid)
+    ensures { (pids : List Pid) (acts : List NodeAct) (os : List Outcome)
+        → node_run pids acts ≡ Some os → NoNodeReset acts → (p : Pid)
         → ReportsTokens p (zero_state pids) acts os
-        → put_backs_needed (seen_stream acts os p) ≤ put_backs p acts }
+        → (n : ℕ) → NeedsAtLeast (seen_stream acts os p) n → n ≤ put_backs p acts }
 {}
 
-/// And each of these stamps has one of its own: a token is put back before it, and behind the stamp
-/// before it.
+/// And a stamp that doesn't go on from the counts before it, however the events before it are read,
+/// has a put-back of its own: before it, and behind the stamp before it.
 pub fn each_need_has_its_put_back()
-    ensures { (top : ℕ) (pids : List Pid) (acts : List NodeAct) (os : List Outcome)
-        → node_run top pids acts ≡ Some os → NoNodeReset acts → (p : Pid)
+    ensures { (pids : List Pid) (acts : List NodeAct) (os : List Outcome)
+        → node_run pids acts ≡ Some os → NoNodeReset acts → (p : Pid)
         → ReportsTokens p (zero_state pids) acts os
         → (i : ℕ) (e : Seen) → slice_get (seen_stream acts os p) i ≡ Some e → e.kind ≢ kind.Receive
         → (let es = take i (seen_stream acts os p) in
-        is_next (clock_behind 0 es) (last_behind 0 es) e ≡ false
-        → IsMet (places p [] acts os) es) }
+        NeedsPutBack es e → IsMet (places p [] acts os) es) }
 {}
 
 /// If it reports these, puts back only tokens of its own, and gives its tokens only labels of its
 /// own, then of each of its stamps its events allow the origin that its token has.
 pub fn an_origin_is_one_that_events_allow()
-    ensures { (top : ℕ) (pids : List Pid) (acts : List NodeAct) (os : List Outcome)
-        → node_run top pids acts ≡ Some os → NoNodeReset acts → (p : Pid)
+    ensures { (pids : List Pid) (acts : List NodeAct) (os : List Outcome)
+        → node_run pids acts ≡ Some os → NoNodeReset acts → (p : Pid)
         → ReportsTokens p (zero_state pids) acts os
         → (hs : List TokenOrigin) → OriginsAre p [] [] Home (zero_state pids) acts os hs
         → AnswersComeNext p false acts os
@@ -74,22 +74,21 @@ pub fn an_origin_is_one_that_events_allow()
 /// of its own, the prev of each of its stamps is a last that its events before it show. Of its count
 /// nothing more can be said.
 pub fn each_prev_was_a_last()
-    ensures { (top : ℕ) (pids : List Pid) (acts : List NodeAct) (os : List Outcome)
-        → node_run top pids acts ≡ Some os → NoNodeReset acts → (p : Pid)
+    ensures { (pids : List Pid) (acts : List NodeAct) (os : List Outcome)
+        → node_run pids acts ≡ Some os → NoNodeReset acts → (p : Pid)
         → ReportsTaken p (zero_state pids) acts os
         → PutsBackOwn p [] (zero_state pids) acts os → (i : ℕ) (e : Seen)
         → slice_get (seen_stream acts os p) i ≡ Some e → e.kind ≢ kind.Receive
-        → IsAmong (lasts (take i (seen_stream acts os p))) e.serial.prev
-        × (0 < e.serial.this) }
+        → IsAmong (lasts (take i (seen_stream acts os p))) e.serial.prev }
 {}
 
 /// And it puts back at least as many tokens as it has stamps with another prev than the last before
-/// them, or with a count that isn't above the clock.
-pub fn each_need_is_a_put_back_anyway()
-    ensures { (top : ℕ) (pids : List Pid) (acts : List NodeAct) (os : List Outcome)
-        → node_run top pids acts ≡ Some os → NoNodeReset acts → (p : Pid)
+/// them.
+pub fn each_strange_prev_is_a_put_back()
+    ensures { (pids : List Pid) (acts : List NodeAct) (os : List Outcome)
+        → node_run pids acts ≡ Some os → NoNodeReset acts → (p : Pid)
         → ReportsTaken p (zero_state pids) acts os
-        → put_backs_needed_anyway (seen_stream acts os p) ≤ put_backs p acts }
+        → strange_prevs (seen_stream acts os p) ≤ put_backs p acts }
 {}
 
 /// What is given is so in one of four ways: plainly, again, fresh or lowered.
@@ -108,12 +107,21 @@ pub fn what_is_given_is_decided()
 /// What the laws ask of a run can be kept together, and a put-back can be needed: here is one such
 /// run.
 pub fn a_run_keeps_to_all_of_it()
-    ensures { (os : List Outcome) × (node_run 9 (printer ∷ []) prints_again ≡ Some os)
+    ensures { (os : List Outcome) × (node_run (printer ∷ []) prints_again ≡ Some os)
         × NoNodeReset prints_again
         × ReportsTokens printer (zero_state (printer ∷ [])) prints_again os
         × PutsBackOwn printer [] (zero_state (printer ∷ [])) prints_again os
         × OriginsAre printer [] [] Home (zero_state (printer ∷ [])) prints_again os all_home
         × AnswersComeNext printer false prints_again os
-        × (put_backs_needed (seen_stream prints_again os printer) ≡ 1)
+        × NeedsAtLeast (seen_stream prints_again os printer) 1
         × (put_backs printer prints_again ≡ 1) }
+{}
+
+/// Counts wrap: here is a run in which a serial shows the greatest count and then 0, and nothing was
+/// put back by the process that reports it.
+pub fn a_run_goes_through_the_wrap()
+    ensures { (os : List Outcome) × (node_run (printer ∷ sender ∷ []) wraps ≡ Some os)
+        × ReportsTokens printer (zero_state (printer ∷ sender ∷ [])) wraps os
+        × PutsBackOwn printer [] (zero_state (printer ∷ sender ∷ [])) wraps os
+        × (map (λ e. e.serial) (seen_stream wraps os printer) ≡ wrapped_serials) }
 {}
