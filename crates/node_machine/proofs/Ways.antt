@@ -1,6 +1,6 @@
 -- What is given is so in one of the four ways.
 use Rattle.std.proofs.Common.{◌≡◌, ℕ, ◌<◌, ◌⊎◌, ◌&&◌, max, Bool, true, false, cond, List, [], ◌∷◌, ◌++◌}
-use Rattle.std.proofs.Common.{inl, inr, refl, arith, sym, ◌∙◌, ap, subst, append-nil}
+use Rattle.std.proofs.Common.{inl, inr, refl, arith, sym, ◌∙◌, ap, subst, append_assoc, append-nil}
 use Rattle.std.specs.List.{AllByRecursion}
 use Rattle.std.proofs.lemmas.Bool.{cases_order}
 use Rattle.st_core.specs.declared.types.Serial.{Serial}
@@ -9,11 +9,11 @@ use Rattle.node_machine.specs.Node.{Seen}
 use Rattle.node_machine.specs.Premises.{IsAmong}
 use Rattle.node_machine.specs.Readings.{clock_behind, clock_by, is_receipt, last_behind, last_by}
 use Rattle.node_machine.specs.Given.{fresh, IsGiven, IsPutBack, shown, takes, tokens}
-use Rattle.node_machine.specs.Ways.{carried, greatest_taken, IsAgain, IsFreshly, IsLowered, IsPlainly, lasts, lasts_shown}
-use Rattle.node_machine.proofs.Counts.{next_of_zero}
+use Rattle.node_machine.specs.Ways.{carried, IsAgain, IsFreshly, IsInSomeWay, IsLowered, lasts, lasts_shown}
+use Rattle.node_machine.proofs.Counts.{max_either, next_of_zero}
 use Rattle.node_machine.proofs.Lists.{among_back, among_front, among_parts}
 use Rattle.node_machine.proofs.Readings.{next_parts, next_true}
-use Rattle.node_machine.proofs.Tokens.{clock_by_receive, takes_parts}
+use Rattle.node_machine.proofs.Tokens.{clock_by_receive, last_by_receive, takes_parts, tokens_more, tokens_receive}
 
 -- TOKENS
 
@@ -114,10 +114,6 @@ lasts_held (e ∷ es) v is = elim (among_parts (lasts_shown e) (lasts es) v is) 
   | inr later ↦ among_back (shown e) (tokens es) (fresh v) (lasts_held es v later)
 ]
 
-zero_held : (es : List Seen) → IsAmong (tokens es) (fresh 0)
-zero_held [] = inl refl
-zero_held (e ∷ es) = among_back (shown e) (tokens es) (fresh 0) (zero_held es)
-
 carried_lasts : (es : List Seen) (x : Serial) → IsAmong (carried es) x → IsAmong (lasts es) x.prev
 carried_lasts [] x is = absurd is
 carried_lasts (e ∷ es) x is =
@@ -138,27 +134,45 @@ made_last es v is = elim (held_as es (fresh v) is) [
 abbrev AreTaken : List Seen → Type 0
 AreTaken es = AllByRecursion (λ r. takes r ≡ true) es
 
--- receives without an answer lift the clock to their greatest count
-taken_clock : (es : List Seen) (clock : ℕ) → AreTaken es
-    → clock_behind clock es ≡ max clock (greatest_taken es)
-taken_clock [] clock all = omega arith
-taken_clock (e ∷ es) clock all =
-    let lift = clock_by_receive e clock (takes_parts e all.0).1 in
-    let rest = taken_clock es (clock_by e clock) all.1 in
-    omega arith
-
-last_parts : (front back : List Seen) (first : Seen) (a b : ℕ)
-    → last_behind a (front ++ first ∷ back) ≡ last_behind b (first ∷ back)
-last_parts [] back first a b = refl
-last_parts (e ∷ front) back first a b = last_parts front back first (last_by e) b
+-- a token that was put back leads to a clock: it is its own count or that of a receive since, so a
+-- token put back right before the last receive leads there too
+lower : (es : List Seen) (e : Seen) (clock : ℕ) → e.serial.this ≡ stamp_count clock
+    → (front : List Seen) (first : Seen) (back : List Seen) (t : Serial)
+    → es ≡ front ++ first ∷ back
+    → IsAmong (tokens front) t → AreTaken (first ∷ back)
+    → clock ≡ clock_behind t.this (first ∷ back)
+    → e.serial.prev ≡ last_behind t.prev (first ∷ back)
+    → (token : Serial) × IsLowered es e token
+lower es e clock count front first [] t split held all clock_is last_is =
+    let parts = takes_parts first all.0 in
+    (t, record {
+      front = front;
+      receive = first;
+      split = split;
+      taken = all.0;
+      held = held;
+      prev = sym (last_is ∙ last_by_receive first parts.0 parts.1);
+      count = count ∙ ap stamp_count (clock_is ∙ clock_by_receive first t.this parts.1);
+    })
+lower es e clock count front first (d ∷ back) t split held all clock_is last_is =
+    let parts = takes_parts first all.0 in
+    let lifted = clock_by_receive first t.this parts.1 in
+    let longer = split ∙ sym (append_assoc front (first ∷ []) (d ∷ back)) in
+    elim (max_either t.this first.serial.this) [
+      | inl same ↦
+          lower es e clock count (front ++ first ∷ []) d back t longer
+          (tokens_more first front t held) all.1
+          (clock_is ∙ ap (λ n. clock_behind n (d ∷ back)) (lifted ∙ same)) last_is
+      | inr same ↦
+          lower es e clock count (front ++ first ∷ []) d back first.serial longer
+          (tokens_receive first front parts.0 parts.1) all.1
+          (clock_is ∙ ap (λ n. clock_behind n (d ∷ back)) (lifted ∙ same)) last_is
+    ]
 
 -- THE WAYS
 
-abbrev Ways : List Seen → Seen → Type 0
-Ways es e = IsPlainly es e ⊎ (IsAgain es e ⊎ (IsFreshly es e ⊎ IsLowered es e))
-
 put_back_ways : (es : List Seen) (e : Seen) (clock : ℕ) → e.serial.this ≡ stamp_count clock
-    → (way : IsPutBack es clock e.serial.prev) (back : List Seen) → way.back ≡ back → Ways es e
+    → (way : IsPutBack es clock e.serial.prev) (back : List Seen) → way.back ≡ back → IsInSomeWay es e
 put_back_ways es e clock count way [] none =
     let prev : e.serial.prev ≡ way.token.prev =
     way.last_is ∙ ap (last_behind way.token.prev) none in
@@ -183,45 +197,13 @@ put_back_ways es e clock count way [] none =
           )))
     ]
 put_back_ways es e clock count way (first ∷ back) is =
-    let split : es ≡ way.front ++ first ∷ back =
-    way.split ∙ ap (λ xs. way.front ++ xs) is in
-    let this : clock ≡ clock_behind way.token.this (first ∷ back) =
-    way.clock_is ∙ ap (clock_behind way.token.this) is in
-    let prev : last_behind 0 es ≡ e.serial.prev =
-    ap (last_behind 0) split ∙ last_parts way.front back first 0 way.token.prev
-    ∙ sym (way.last_is ∙ ap (last_behind way.token.prev) is) in
-    let receives = subst AreTaken is way.receives in
-    let lifted = taken_clock (first ∷ back) way.token.this receives in
-    let m = greatest_taken (first ∷ back) in
-    let lower = λ (found : (m ≡ clock) ⊎ ((m < clock)
-    × ((x : Serial) × IsAmong (carried way.front) x × (x.this ≡ clock)))).
-    let low : IsLowered es e = record {
-      front = way.front;
-      first = first;
-      back = back;
-      split = split;
-      receives = receives;
-      prev = prev;
-      clock = clock;
-      count = count;
-      way = found;
-    } in
-    low in
-    elim (cases_order m clock) [
-      | inl same ↦ inr (inr (inr (lower (inl same))))
-      | inr other ↦ elim other [
-        | inl less ↦ elim (held_as way.front way.token way.held) [
-          | inl old ↦ inr (inr (inr (lower (inr (less, (way.token, old, omega arith))))))
-          | inr made ↦
-              let none : way.token.this ≡ 0 = ap (λ (x : Serial). x.this) made.2 in
-              absurd (omega arith)
-        ]
-        | inr more ↦ absurd (omega arith)
-      ]
-    ]
+    inr (inr (inr (lower es e clock count way.front first back way.token
+    (way.split ∙ ap (λ xs. way.front ++ xs) is) way.held (subst AreTaken is way.receives)
+    (way.clock_is ∙ ap (clock_behind way.token.this) is)
+    (way.last_is ∙ ap (last_behind way.token.prev) is))))
 
-pub given_ways : (es : List Seen) (e : Seen) → IsGiven es e → Ways es e
-given_ways es e given = elim given.way as (λ _. Ways es e) [
+pub given_ways : (es : List Seen) (e : Seen) → IsGiven es e → IsInSomeWay es e
+given_ways es e given = elim given.way as (λ _. IsInSomeWay es e) [
   | inl plain ↦ inl (record {
     reading = plain.reading;
     reads = plain.reads;
@@ -249,26 +231,25 @@ put_now es e x held prev count = record {
   });
 }
 
-lowered_given : (es : List Seen) (e : Seen) (low : IsLowered es e) (x : Serial)
-    → IsAmong (tokens low.front) x
-    → max x.this (greatest_taken (low.first ∷ low.back)) ≡ low.clock → IsGiven es e
-lowered_given es e low x held lifted = record {
-  clock = low.clock;
-  count = low.count;
-  way = inr (record {
-    front = low.front;
-    back = low.first ∷ low.back;
-    split = low.split;
-    receives = low.receives;
-    token = x;
-    held = held;
-    clock_is = sym (taken_clock (low.first ∷ low.back) x.this low.receives ∙ lifted);
-    last_is = sym (sym (ap (last_behind 0) low.split
-        ∙ last_parts low.front low.back low.first 0 x.prev) ∙ low.prev);
-  });
-}
+lowered_given : (es : List Seen) (e : Seen) (token : Serial) → IsLowered es e token → IsGiven es e
+lowered_given es e token low =
+    let parts = takes_parts low.receive low.taken in
+    record {
+      clock = max token.this low.receive.serial.this;
+      count = low.count;
+      way = inr (record {
+        front = low.front;
+        back = low.receive ∷ [];
+        split = low.split;
+        receives = (low.taken, tt);
+        token = token;
+        held = low.held;
+        clock_is = sym (clock_by_receive low.receive token.this parts.1);
+        last_is = sym (last_by_receive low.receive parts.0 parts.1 ∙ low.prev);
+      });
+    }
 
-pub ways_give : (es : List Seen) (e : Seen) → Ways es e → IsGiven es e
+pub ways_give : (es : List Seen) (e : Seen) → IsInSomeWay es e → IsGiven es e
 ways_give es e (inl plain) =
     let parts = next_parts plain.reading.clock (last_behind 0 es) e plain.next in
     record {
@@ -286,11 +267,4 @@ ways_give es e (inr (inl again)) =
 ways_give es e (inr (inr (inl new))) =
     put_now es e (fresh e.serial.prev) (lasts_held es e.serial.prev new.1) refl
     (new.0 ∙ sym next_of_zero)
-ways_give es e (inr (inr (inr low))) = elim low.way as (λ _. IsGiven es e) [
-  | inl same ↦ lowered_given es e low (fresh 0) (zero_held low.front) (omega arith)
-  | inr found ↦
-      let less = found.0 in
-      let x = found.1.0 in
-      let this = found.1.2 in
-      lowered_given es e low x (carried_held low.front x found.1.1) (omega arith)
-]
+ways_give es e (inr (inr (inr low))) = lowered_given es e low.0 low.1

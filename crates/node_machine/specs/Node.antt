@@ -26,6 +26,8 @@ use Rattle.st_core.specs.Local.{default_token, has_label, old_component, with_co
 use Rattle.st_core.specs.Step.{Acted, Outcome, actor, answers, outcome_of, prints, receiver, receives, sends}
 use Rattle.node_machine.specs.Counts.{answer_count, next_clock, stamp_count, node_token, serial_count}
 
+pub use Rattle.node_machine.specs.declared.types.Seen.{Seen}
+
 -- STAMPS
 
 -- p's token stamped: its serial is last and the count of the clock after it grew
@@ -146,13 +148,7 @@ node_run_from s (a ∷ rest) =
 abbrev pub node_run : List Pid → List NodeAct → Option (List Outcome)
 node_run pids acts = node_run_from (zero_state pids) acts
 
--- what is seen of an event: whether it is an answer isn't in it, but in its message's term
-pub record Seen : Type 0 where
-  pub kind : Kind
-  pub label : Label
-  pub serial : Serial
-  pub answer : Bool
-
+-- what is seen of an event
 abbrev pub seen : Bool → Event → Seen
 seen answer e = record { kind = e.kind; label = e.label; serial = e.serial; answer = answer }
 

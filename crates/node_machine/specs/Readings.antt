@@ -6,6 +6,8 @@ use Rattle.st_core.specs.Event.{kind_eq}
 use Rattle.node_machine.specs.Counts.{answer_count, next_clock, stamp_count, serial_count}
 use Rattle.node_machine.specs.Node.{Seen}
 
+pub use Rattle.node_machine.specs.declared.types.Reading.{Reading}
+
 abbrev pub is_receipt : Seen → Bool
 is_receipt e = kind_eq e.kind kind.Receive
 
@@ -50,11 +52,7 @@ clock_put_back e = if e.serial.this == 0 then 2 ^ 60 else e.serial.this
 -- back: a stamp goes on from the clock before it, with those bits, or a token was put back since the
 -- stamp before it, and brought none. So events can be read in several ways.
 
--- one way to read events: the clock behind them, and how many tokens were put back
-pub record Reading : Type 0 where
-  pub clock : ℕ
-  pub put_backs : ℕ
-
+-- a reading of the events before a receive or a stamp, with this event
 abbrev pub taking : Seen → Reading → Reading
 taking e r = record r { clock = clock_by e r.clock }
 

@@ -1,12 +1,12 @@
 -- The four ways in which events give a stamp, as a walk finds them.
-use Rattle.std.specs.Prelude.{◌≡◌, ◌⊎◌, ℕ, ◌<◌, max, ◌&&◌, true, List, [], ◌∷◌, ◌++◌, if◌then◌else◌}
+use Rattle.std.specs.Prelude.{◌≡◌, ◌⊎◌, ℕ, max, ◌&&◌, true, List, [], ◌∷◌, ◌++◌, if◌then◌else◌}
 use Rattle.std.specs.List.{AllByRecursion}
 use Rattle.st_core.specs.declared.types.Serial.{Serial}
 use Rattle.node_machine.specs.Counts.{answer_count, stamp_count, serial_count}
 use Rattle.node_machine.specs.Node.{Seen}
 use Rattle.node_machine.specs.Premises.{IsAmong}
 use Rattle.node_machine.specs.Readings.{is_next, is_receipt, last_behind, Reading, readings}
-use Rattle.node_machine.specs.Given.{takes}
+use Rattle.node_machine.specs.Given.{takes, tokens}
 
 -- the serials of the tokens that events show: an answer's isn't taken
 abbrev pub carried : List Seen → List Serial
@@ -25,11 +25,6 @@ abbrev pub lasts : List Seen → List ℕ
 lasts [] = 0 ∷ []
 lasts (e ∷ es) = lasts_shown e ++ lasts es
 
--- the greatest count of events, 0 of none
-abbrev pub greatest_taken : List Seen → ℕ
-greatest_taken [] = 0
-greatest_taken (e ∷ es) = max e.serial.this (greatest_taken es)
-
 -- plainly: it goes on from the counts behind the events, in some way to read them
 pub record IsPlainly (es : List Seen) (e : Seen) : Type 0 where
   pub reading : Reading
@@ -47,18 +42,19 @@ pub record IsAgain (es : List Seen) (e : Seen) : Type 0 where
 abbrev pub IsFreshly : List Seen → Seen → Type 0
 IsFreshly es e = (e.serial.this ≡ 1) × IsAmong (lasts es) e.serial.prev
 
--- lowered: it has the prev that the events lead to, and some of them, the last ones, are receives
--- and no answers. The clock is their greatest count, or a greater one of a token that the events
--- before them show
-pub record IsLowered (es : List Seen) (e : Seen) : Type 0 where
+-- lowered, by a token: the event before it is a receive that took a token, and has its prev as the
+-- count. The token, which was held before that, was put back right before it, and the clock is the
+-- greater of its count and the receive's
+pub record IsLowered (es : List Seen) (e : Seen) (token : Serial) : Type 0 where
   pub front : List Seen
-  pub first : Seen
-  pub back : List Seen
-  pub split : es ≡ front ++ first ∷ back
-  pub receives : AllByRecursion (λ r. takes r ≡ true) (first ∷ back)
-  pub prev : last_behind 0 es ≡ e.serial.prev
-  pub clock : ℕ
-  pub count : e.serial.this ≡ stamp_count clock
-  pub way : (greatest_taken (first ∷ back) ≡ clock)
-      ⊎ ((greatest_taken (first ∷ back) < clock)
-      × ((x : Serial) × IsAmong (carried front) x × (x.this ≡ clock)))
+  pub receive : Seen
+  pub split : es ≡ front ++ receive ∷ []
+  pub taken : takes receive ≡ true
+  pub held : IsAmong (tokens front) token
+  pub prev : receive.serial.this ≡ e.serial.prev
+  pub count : e.serial.this ≡ stamp_count (max token.this receive.serial.this)
+
+-- the four ways
+abbrev pub IsInSomeWay : List Seen → Seen → Type 0
+IsInSomeWay es e = IsPlainly es e
+    ⊎ (IsAgain es e ⊎ (IsFreshly es e ⊎ ((token : Serial) × IsLowered es e token)))

@@ -2,7 +2,7 @@
 //! that do nothing: each clause is a theorem over the definitions of `specs/`, and a proof that
 //! calls the function may use it.
 
-ghost use Rattle.std.specs.Prelude.{◌≡◌, ◌≢◌, ◌≤◌, ◌⊎◌, ℕ, true, false, map, List, [], ◌∷◌, Some, slice_get, take};
+ghost use Rattle.std.specs.Prelude.{◌≡◌, ◌≢◌, ◌≤◌, ℕ, true, false, map, List, [], ◌∷◌, Some, slice_get, take};
 ghost use Rattle.st_core.specs.declared.types.Kind.TheVariants as kind;
 ghost use Rattle.st_core.specs.declared.types.Pid.{Pid};
 ghost use Rattle.st_core.specs.State.{zero_state};
@@ -14,7 +14,7 @@ ghost use Rattle.node_machine.specs.Origins.{AnswersComeNext, Can, Home, TokenOr
 ghost use Rattle.node_machine.specs.Premises.{IsAmong, NoNodeReset, PutsBackOwn, ReportsTaken, ReportsTokens};
 ghost use Rattle.node_machine.specs.Premises.{places, put_backs};
 ghost use Rattle.node_machine.specs.Readings.{NeedsAtLeast, NeedsPutBack};
-ghost use Rattle.node_machine.specs.Ways.{IsAgain, IsFreshly, IsLowered, IsPlainly, lasts};
+ghost use Rattle.node_machine.specs.Ways.{IsInSomeWay, lasts};
 
 /// If a process reports each stamp and each receive of a token, and puts back only tokens of its
 /// own, its events before each of its stamps give it.
@@ -94,8 +94,7 @@ pub fn each_strange_prev_is_a_put_back()
 /// What is given is so in one of four ways: plainly, again, fresh or lowered.
 pub fn four_ways_give_a_stamp()
     ensures { (es : List Seen) (e : Seen)
-        → (IsGiven es e → IsPlainly es e ⊎ (IsAgain es e ⊎ (IsFreshly es e ⊎ IsLowered es e)))
-        × (IsPlainly es e ⊎ (IsAgain es e ⊎ (IsFreshly es e ⊎ IsLowered es e)) → IsGiven es e) }
+        → (IsGiven es e → IsInSomeWay es e) × (IsInSomeWay es e → IsGiven es e) }
 {}
 
 /// Whether events give a stamp can be tested.

@@ -1,4 +1,7 @@
-//! What streams say of a standard node: which serials their processes' own tokens give.
+//! A standard node, and what streams say of it: which serials their processes' own tokens give.
 #![tactic(auto)]
 
 pub mod laws;
+mod types;
+
+pub use types::{Reading, Seen};
