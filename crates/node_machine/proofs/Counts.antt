@@ -47,3 +47,26 @@ max_either a b = elim (cases_order a b) [
     | inr more ↦ inl (omega arith)
   ]
 ]
+
+-- below the size of a serial two clocks before a stamp differ in the counts that they lead to
+serial_case : (n : ℕ) → FitsSerial n → ((n + 1 < 2 ^ 60) × (stamp_count n ≡ n + 1))
+    ⊎ ((n + 1 ≡ 2 ^ 60) × (stamp_count n ≡ 0))
+serial_case n fits = elim (cases_order (n + 1) (2 ^ 60)) [
+  | inl same ↦ inr (same, (next_wraps n same).0)
+  | inr other ↦ elim other [
+    | inl less ↦ inl (less, (next_below n less).0)
+    | inr more ↦ absurd (omega arith)
+  ]
+]
+
+pub count_once : (a b : ℕ) → FitsSerial a → FitsSerial b → stamp_count a ≡ stamp_count b → a ≡ b
+count_once a b fits_a fits_b same = elim (serial_case a fits_a) [
+  | inl below_a ↦ elim (serial_case b fits_b) [
+    | inl below_b ↦ let left = below_a.1 in let right = below_b.1 in omega arith
+    | inr wraps_b ↦ let left = below_a.1 in let right = wraps_b.1 in absurd (omega arith)
+  ]
+  | inr wraps_a ↦ elim (serial_case b fits_b) [
+    | inl below_b ↦ let left = wraps_a.1 in let right = below_b.1 in absurd (omega arith)
+    | inr wraps_b ↦ let left = wraps_a.0 in let right = wraps_b.0 in omega arith
+  ]
+]

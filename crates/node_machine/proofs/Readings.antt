@@ -1,5 +1,5 @@
 -- The ways to read events grow with each event: each way to read the front ones goes on.
-use Rattle.std.proofs.Common.{◌≡◌, ℕ, ◌+◌, ◌==◌, ◌^◌, Bool, true, false, cond, List, [], ◌∷◌, ◌++◌, map}
+use Rattle.std.proofs.Common.{◌≡◌, ℕ, ◌⊎◌, ◌+◌, ◌==◌, ◌^◌, Bool, true, false, cond, List, [], ◌∷◌, ◌++◌, map}
 use Rattle.std.proofs.Common.{inl, inr, refl, arith, sym, ◌∙◌, ap, subst, if◌then◌else◌}
 use Rattle.std.specs.Prelude.{flat_map}
 use Rattle.std.proofs.lemmas.Bool.{and_parts, cases_order, eq-eqb, eqb-true}
@@ -10,7 +10,7 @@ use Rattle.node_machine.specs.Premises.{IsAmong}
 use Rattle.node_machine.specs.Readings.{clock_put_back, going_on, is_next, is_receipt, last_behind, last_by}
 use Rattle.node_machine.specs.Readings.{put_back_before, Reading, readings, readings_by, readings_from, stamp_readings, taking}
 use Rattle.node_machine.proofs.Counts.{FitsSerial, next_below, next_wraps}
-use Rattle.node_machine.proofs.Lists.{among_back, among_front}
+use Rattle.node_machine.proofs.Lists.{among_back, among_front, among_parts}
 
 readings_push : (last : ℕ) (es : List Seen) (rs : List Reading) (e : Seen)
     → readings_from last (es ++ e ∷ []) rs
@@ -130,3 +130,55 @@ pub next_parts : (clock last : ℕ) (e : Seen) → is_next clock last e ≡ true
 next_parts clock last e is =
     let parts = and_parts (e.serial.this == stamp_count clock) (e.serial.prev == last) is in
     (eqb-true e.serial.this (stamp_count clock) parts.0, eqb-true e.serial.prev last parts.1)
+
+-- THE WAY BACK
+
+among_map : {A B : Type 0} (f : A → B) (xs : List A) (y : B) → IsAmong (map f xs) y
+    → (x : A) × IsAmong xs x × (f x ≡ y)
+among_map f [] y is = absurd is
+among_map f (x ∷ xs) y (inl is) = (x, inl refl, is)
+among_map f (x ∷ xs) y (inr is) = let found = among_map f xs y is in (found.0, inr found.1, found.2)
+
+among_flat : {A B : Type 0} (f : A → List B) (xs : List A) (y : B) → IsAmong (flat_map f xs) y
+    → (x : A) × IsAmong xs x × IsAmong (f x) y
+among_flat f [] y is = absurd is
+among_flat f (x ∷ xs) y is = elim (among_parts (f x) (flat_map f xs) y is) [
+  | inl here ↦ (x, inl refl, here)
+  | inr later ↦ let found = among_flat f xs y later in (found.0, inr found.1, found.2)
+]
+
+module _ (es : List Seen) (e : Seen) (x : Reading) (is : IsAmong (readings (es ++ e ∷ [])) x) where
+  grown_from : (receive : Bool) → is_receipt e ≡ receive → IsAmong (cond receive
+      (map (taking e) (readings es))
+      (flat_map (stamp_readings (last_behind 0 es) e) (readings es))) x
+  grown_from receive kind =
+      let start : Reading = record { clock = 0; put_backs = 0 } in
+      subst (λ b. IsAmong (cond b (map (taking e) (readings es))
+      (flat_map (stamp_readings (last_behind 0 es) e) (readings es))) x) kind
+      (subst (λ xs. IsAmong xs x) (readings_push 0 es (start ∷ []) e) is)
+
+  pub took_reads : is_receipt e ≡ true → (r : Reading) × IsAmong (readings es) r × (taking e r ≡ x)
+  took_reads kind = among_map (taking e) (readings es) x (grown_from true kind)
+
+  pub stamped_reads : is_receipt e ≡ false → (r : Reading) × IsAmong (readings es) r
+      × (((is_next r.clock (last_behind 0 es) e ≡ true) × (going_on r ≡ x))
+      ⊎ (put_back_before e r ≡ x))
+  stamped_reads kind =
+      let found = among_flat (stamp_readings (last_behind 0 es) e) (readings es) x
+      (grown_from false kind) in
+      let r = found.0 in
+      (r, found.1, (elim (is_next r.clock (last_behind 0 es) e) as (λ b.
+      IsAmong ((if b then going_on r ∷ [] else []) ++ put_back_before e r ∷ []) x
+      → ((b ≡ true) × (going_on r ≡ x)) ⊎ (put_back_before e r ≡ x)) [
+        | true ↦ λ there. elim there [
+          | inl first ↦ inl (refl, first)
+          | inr rest ↦ elim rest [
+            | inl second ↦ inr second
+            | inr none ↦ absurd none
+          ]
+        ]
+        | false ↦ λ there. elim there [
+          | inl first ↦ inr first
+          | inr none ↦ absurd none
+        ]
+      ]) found.2)

@@ -1,5 +1,5 @@
 -- The serials that events show as held, and the counts behind them, with one more event.
-use Rattle.std.proofs.Common.{◌≡◌, ℕ, max, not, Bool, true, false, cond, List, [], ◌∷◌, ◌++◌}
+use Rattle.std.proofs.Common.{◌≡◌, ℕ, ◌⊎◌, max, not, Bool, true, false, cond, List, [], ◌∷◌, ◌++◌}
 use Rattle.std.proofs.Common.{inl, inr, refl, sym, ◌∙◌, ap, subst}
 use Rattle.std.proofs.lemmas.Bool.{and_parts}
 use Rattle.st_core.specs.declared.types.Serial.{Serial}
@@ -22,10 +22,22 @@ module _ (e : Seen) where
     | inr back ↦ among_back (shown d) (tokens (es ++ e ∷ [])) x (tokens_more es x back)
   ]
 
-  tokens_new : (es : List Seen) (x : Serial) → IsAmong (shown e) x
+  pub tokens_new : (es : List Seen) (x : Serial) → IsAmong (shown e) x
       → IsAmong (tokens (es ++ e ∷ [])) x
   tokens_new [] x is = among_front (shown e) (fresh 0 ∷ []) x is
   tokens_new (d ∷ es) x is = among_back (shown d) (tokens (es ++ e ∷ [])) x (tokens_new es x is)
+
+  pub tokens_parts : (es : List Seen) (x : Serial) → IsAmong (tokens (es ++ e ∷ [])) x
+      → IsAmong (shown e) x ⊎ IsAmong (tokens es) x
+  tokens_parts [] x is = among_parts (shown e) (fresh 0 ∷ []) x is
+  tokens_parts (d ∷ es) x is =
+      elim (among_parts (shown d) (tokens (es ++ e ∷ [])) x is) [
+        | inl now ↦ inr (among_front (shown d) (tokens es) x now)
+        | inr later ↦ elim (tokens_parts es x later) [
+          | inl new ↦ inl new
+          | inr old ↦ inr (among_back (shown d) (tokens es) x old)
+        ]
+      ]
 
   abbrev shown_by : Bool → Bool → List Serial
   shown_by receive answer = cond receive

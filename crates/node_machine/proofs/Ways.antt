@@ -97,7 +97,7 @@ held_as (e ∷ es) x is = elim (among_parts (shown e) (tokens es) x is) [
   ]
 ]
 
-carried_held : (es : List Seen) (x : Serial) → IsAmong (carried es) x → IsAmong (tokens es) x
+pub carried_held : (es : List Seen) (x : Serial) → IsAmong (carried es) x → IsAmong (tokens es) x
 carried_held [] x is = absurd is
 carried_held (e ∷ es) x is =
     elim (carried_shown e (carried es) (lasts es) (is_receipt e) e.answer x is) [
@@ -105,7 +105,7 @@ carried_held (e ∷ es) x is =
       | inr later ↦ among_back (shown e) (tokens es) x (carried_held es x later)
     ]
 
-lasts_held : (es : List Seen) (v : ℕ) → IsAmong (lasts es) v → IsAmong (tokens es) (fresh v)
+pub lasts_held : (es : List Seen) (v : ℕ) → IsAmong (lasts es) v → IsAmong (tokens es) (fresh v)
 lasts_held [] v (inl is) = inl (ap fresh is)
 lasts_held [] v (inr is) = absurd is
 lasts_held (e ∷ es) v is = elim (among_parts (lasts_shown e) (lasts es) v is) [
