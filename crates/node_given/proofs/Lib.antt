@@ -1,0 +1,5 @@
+-- The lemmas.
+pub mod CountValues
+pub mod TableLemmas
+pub mod Knowledge
+pub mod Decisions

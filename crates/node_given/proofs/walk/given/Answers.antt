@@ -1,0 +1,47 @@
+-- One event more has its way, and is among those that the walk knows.
+use Rattle.std.proofs.Common.{◌≡◌, false, get_or, length, take, inl, inr, sym, ◌∙◌, ap, subst}
+use Rattle.std.specs.List.{slice_get}
+use Rattle.std.proofs.lemmas.Option.{same_Some}
+use Rattle.st_core.specs.declared.types.Kind.TheVariants as kind
+use Rattle.node_machine.specs.declared.types.Seen.{Seen}
+use Rattle.node_given.specs.Walk.{IsKnown, IsWay}
+use Rattle.node_given.proofs.Decisions.{at_get_or, length_more, pushed_at, taken_more}
+use Rattle.node_given.proofs.walk.given.Goals as goal
+
+-- where there is no event
+abbrev blank : Seen
+blank = record {
+  kind = kind.Send;
+  label = record { 0 = 0 };
+  serial = record { prev = 0; this = 0 };
+  answer = false;
+}
+
+pub loop-event-preserved : goal.loop-event-preserved
+loop-event-preserved c =
+    let es = c.args.events.now in
+    let i = c.loop-event.event-index in
+    let e = get_or es i blank in
+    let at = at_get_or es i blank c.loop-event-test.true in
+    let so_far = c.loop-event.invariant in
+    let walk = c.step.new.self in
+    let items = c.in_ok-push.ensures.items in
+    let way = c.in_ok-step.field-0 in
+    let now = c.in_ok-step.ensures.way (take i es) so_far.known in
+    record {
+      known = subst (λ xs. IsKnown xs walk.clocks.items walk.lift walk.last walk.takes walk.tokens)
+          (sym (taken_more es i e at)) (c.in_ok-step.ensures.known (take i es) so_far.known);
+      count = ap length items ∙ length_more c.loop-event.ways.items way i so_far.count;
+      ways = λ j d w at_j at_w.
+          elim (pushed_at c.loop-event.ways.items way j w
+          (ap (λ xs. slice_get xs j) (sym items) ∙ at_w)) [
+            | inl old ↦ so_far.ways j d w at_j old
+            | inr new ↦
+                let place : j ≡ i = new.0 ∙ so_far.count in
+                let same : e ≡ d =
+                same_Some e d (sym at ∙ ap (slice_get es) (sym place) ∙ at_j) in
+                subst (λ n. IsWay (take n es) d w) (sym place)
+                (subst (λ x. IsWay (take i es) x w) same
+                (subst (IsWay (take i es) e) new.1 now))
+          ];
+    }

@@ -1,0 +1,51 @@
+-- What the walk says of each event, and what it knows behind events.
+use Rattle.std.specs.Prelude.{◌≡◌, ℕ, ◌<◌, ◌^◌, Bool, true, false, List, [], ◌∷◌}
+use Rattle.std.specs.List.{AllByRecursion}
+use Rattle.st_core.specs.declared.types.Serial.{Serial}
+use Rattle.node_machine.specs.Counts.{stamp_count}
+use Rattle.node_machine.specs.declared.types.Seen.{Seen}
+use Rattle.node_machine.specs.Premises.{IsAmong}
+use Rattle.node_machine.specs.Readings.{is_receipt, last_behind, NeedsPutBack}
+use Rattle.node_machine.specs.Given.{IsGiven, takes, tokens}
+use Rattle.node_machine.specs.Ways.{IsLowered, IsPlainly}
+use Rattle.node_given.specs.declared.tokens.Tokens.{Tokens}
+use Rattle.node_given.specs.declared.way.Way.{Way}
+use Rattle.node_given.specs.declared.way.Way.TheVariants as way
+use Rattle.node_given.specs.Clocks.{AreClocks}
+use Rattle.node_given.specs.Tables.{AreTokens}
+
+-- the counts of the events are ones that a serial can show
+abbrev pub AreFit : List Seen → Type 0
+AreFit es = AllByRecursion (λ e. e.serial.this < 2 ^ 60) es
+
+-- a token that the process had, or can have made, was put back right before the stamp
+pub record IsPutBackNow (es : List Seen) (e : Seen) (token : Serial) : Type 0 where
+  pub held : IsAmong (tokens es) token
+  pub prev : token.prev ≡ e.serial.prev
+  pub count : e.serial.this ≡ stamp_count token.this
+
+-- what gives the event e behind these events. A put-back is named only for a stamp that goes on in no
+-- way to read the events
+abbrev pub IsWay : List Seen → Seen → Way → Type 0
+IsWay es e way.Receive = is_receipt e ≡ true
+IsWay es e way.Plain = (is_receipt e ≡ false) × IsPlainly es e
+IsWay es e (way.PutBack token) =
+    (is_receipt e ≡ false) × NeedsPutBack es e × IsPutBackNow es e token
+IsWay es e (way.Lowered token) =
+    (is_receipt e ≡ false) × NeedsPutBack es e × IsLowered es e token
+IsWay es e way.Ungiven = (is_receipt e ≡ false) × ¬ (IsGiven es e)
+
+-- the last of these events is a receive that took a token
+abbrev pub ends_in_take : List Seen → Bool
+ends_in_take [] = false
+ends_in_take (e ∷ []) = takes e
+ends_in_take (e ∷ d ∷ es) = ends_in_take (d ∷ es)
+
+-- what the walk knows behind events
+pub record IsKnown (es : List Seen) (ks : List ℕ) (lift last : ℕ) (taking : Bool)
+    (t : Tokens) : Type 0 where
+  pub clocks_are : AreClocks ks lift es
+  pub last_is : last ≡ last_behind 0 es
+  pub taking_is : taking ≡ ends_in_take es
+  pub tokens_are : AreTokens (tokens es) t
+  pub fit : AreFit es

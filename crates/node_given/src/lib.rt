@@ -1,0 +1,11 @@
+//! What gives each stamp of a process that ran on a standard node, by one walk over its events.
+#![tactic(auto)]
+
+mod clocks;
+mod counts;
+mod tokens;
+mod walk;
+mod way;
+
+pub use walk::given;
+pub use way::Way;

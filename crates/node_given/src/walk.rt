@@ -1,0 +1,198 @@
+//! The walk.
+
+ghost use Rattle.std.specs.Prelude.{◌≡◌, ◌<◌, ◌^◌, false, true, [], ◌∷◌, ◌++◌, List, ℕ, Some, length, slice_get, take};
+ghost use Rattle.std.specs.Prelude.{IfOk, IfSome, IsSome, OnOk};
+ghost use Rattle.node_machine.specs.Readings.{is_receipt};
+ghost use Rattle.st_core.specs.declared.types.Serial.{Serial as SerialValue};
+ghost use Rattle.node_machine.specs.Ways.{IsLowered};
+ghost use Rattle.node_machine.specs.declared.types.Seen.{Seen as SeenValue};
+ghost use Rattle.node_given.specs.declared.way.Way.{Way as WayValue};
+ghost use Rattle.node_given.specs.Walk.{AreFit, IsKnown, IsWay};
+
+use crate::clocks::{behind_stamp, some_goes_on};
+use crate::counts::{clock_of_answer, count_before, last_of_answer};
+use crate::tokens::Tokens;
+use crate::way::Way;
+use node_machine::Seen;
+use st_core::{Kind, Serial};
+use std::alloc::{AllocError, Global};
+
+/// What is known behind some events of a process.
+#[derive(Drop)]
+pub(crate) struct Walk {
+    alloc: Global,
+    /// The clocks behind the last stamp or answer, in all ways to read the events.
+    clocks: Vec<u64>,
+    /// The greatest count that was received since, to which it lifts the clocks.
+    lift: u64,
+    /// Last.
+    last: u64,
+    /// Whether the last event is a receive that took a token.
+    takes: bool,
+    /// The tokens that the process had or can have made.
+    tokens: Tokens,
+}
+
+impl Walk {
+    /// Before all events.
+    fn new(alloc: Global) -> Result<Walk, AllocError>
+        ensures { IfOk result (λ w. IsKnown [] w.clocks.items w.lift w.last w.takes w.tokens) }
+    {
+        let mut clocks = Vec::new(alloc);
+        clocks.push(0)?;
+        let mut tokens = Tokens::new(alloc);
+        tokens.note(0, 0)?;
+        Ok(Walk {
+            alloc,
+            clocks,
+            lift: 0,
+            last: 0,
+            takes: false,
+            tokens,
+        })
+    }
+
+    /// The token that was put back right before the last event, a receive, if that leads to the stamp.
+    fn lowering(&self, stamp: Seen) -> Option<Serial>
+        requires { stamp.serial.this < 2 ^ 60 }
+        ensures found { (es : List SeenValue)
+            → IsKnown es self.now.clocks.items self.now.lift self.now.last self.now.takes self.now.tokens
+            → IfSome result (IsLowered es stamp) }
+        ensures missing { (es : List SeenValue)
+            → IsKnown es self.now.clocks.items self.now.lift self.now.last self.now.takes self.now.tokens
+            → (t : SerialValue) → IsLowered es stamp t → IsSome result }
+    {
+        if !self.takes {
+            return None;
+        }
+        if self.last != stamp.serial.prev {
+            return None;
+        }
+        let clock = count_before(stamp.serial.this);
+        if self.last == clock {
+            return Some(Serial { prev: 0, this: 0 });
+        }
+        if self.last > clock {
+            return None;
+        }
+        let prev = self.tokens.prev_with(clock)?;
+        Some(Serial { prev, this: clock })
+    }
+
+    /// What gives a stamp.
+    fn way(&self, stamp: Seen) -> Way
+        requires { stamp.serial.this < 2 ^ 60 }
+        ensures { (es : List SeenValue) → is_receipt stamp ≡ false
+            → IsKnown es self.now.clocks.items self.now.lift self.now.last self.now.takes self.now.tokens
+            → IsWay es stamp result }
+    {
+        if some_goes_on(&self.clocks, self.lift, self.last, stamp) {
+            return Way::Plain;
+        }
+        let prev = stamp.serial.prev;
+        let this = count_before(stamp.serial.this);
+        if self.tokens.has(prev, this) {
+            return Way::PutBack(Serial { prev, this });
+        }
+        match self.lowering(stamp) {
+            Some(token) => Way::Lowered(token),
+            None => Way::Ungiven,
+        }
+    }
+
+    /// With a stamp more.
+    fn stamp(&mut self, stamp: Seen) -> Result<(), AllocError>
+        requires { stamp.serial.this < 2 ^ 60 }
+        ensures { (es : List SeenValue) → is_receipt stamp ≡ false
+            → IsKnown es self.old.clocks.items self.old.lift self.old.last self.old.takes self.old.tokens
+            → OnOk result (IsKnown (es ++ stamp ∷ []) self.new.clocks.items self.new.lift
+            self.new.last self.new.takes self.new.tokens) }
+    {
+        let Serial { prev, this } = stamp.serial;
+        self.clocks = behind_stamp(self.alloc, &self.clocks, self.lift, self.last, stamp)?;
+        self.lift = 0;
+        self.last = prev;
+        self.takes = false;
+        self.tokens.note(prev, this)?;
+        self.tokens.note(prev, 0)
+    }
+
+    /// With the answer to a spawn more.
+    fn answer(&mut self, answer: Seen) -> Result<(), AllocError>
+        requires { answer.serial.this < 2 ^ 60 }
+        ensures { (es : List SeenValue) → is_receipt answer ≡ true → answer.answer ≡ true
+            → IsKnown es self.old.clocks.items self.old.lift self.old.last self.old.takes self.old.tokens
+            → OnOk result (IsKnown (es ++ answer ∷ []) self.new.clocks.items self.new.lift
+            self.new.last self.new.takes self.new.tokens) }
+    {
+        let mut clocks = Vec::new(self.alloc);
+        clocks.push(clock_of_answer(answer.serial.this))?;
+        self.clocks = clocks;
+        self.lift = 0;
+        self.last = last_of_answer(answer.serial.this);
+        self.takes = false;
+        self.tokens.note(self.last, 0)
+    }
+
+    /// With a receive more that took a token.
+    fn receive(&mut self, receive: Seen) -> Result<(), AllocError>
+        requires { receive.serial.this < 2 ^ 60 }
+        ensures { (es : List SeenValue) → is_receipt receive ≡ true → receive.answer ≡ false
+            → IsKnown es self.old.clocks.items self.old.lift self.old.last self.old.takes self.old.tokens
+            → OnOk result (IsKnown (es ++ receive ∷ []) self.new.clocks.items self.new.lift
+            self.new.last self.new.takes self.new.tokens) }
+    {
+        let Serial { prev, this } = receive.serial;
+        self.lift = self.lift.max(this);
+        self.last = this;
+        self.takes = true;
+        self.tokens.note(prev, this)?;
+        self.tokens.note(prev, 0)?;
+        self.tokens.note(this, 0)
+    }
+
+    /// With an event more, and what gives it.
+    fn step(&mut self, event: Seen) -> Result<Way, AllocError>
+        requires { event.serial.this < 2 ^ 60 }
+        ensures known { (es : List SeenValue)
+            → IsKnown es self.old.clocks.items self.old.lift self.old.last self.old.takes self.old.tokens
+            → OnOk result (IsKnown (es ++ event ∷ []) self.new.clocks.items self.new.lift
+            self.new.last self.new.takes self.new.tokens) }
+        ensures way { (es : List SeenValue)
+            → IsKnown es self.old.clocks.items self.old.lift self.old.last self.old.takes self.old.tokens
+            → IfOk result (IsWay es event) }
+    {
+        match event.kind {
+            Kind::Send | Kind::Print => {
+                let way = self.way(event);
+                self.stamp(event)?;
+                Ok(way)
+            }
+            Kind::Receive => {
+                if event.answer {
+                    self.answer(event)?;
+                } else {
+                    self.receive(event)?;
+                }
+                Ok(Way::Receive)
+            }
+        }
+    }
+}
+
+/// What gives each event of one process, in order, if it ran on a standard node. In a serial a count
+/// is the number from 0 to 2^60 - 1 that has its bits.
+pub fn given(alloc: Global, events: &[Seen]) -> Result<Vec<Way>, AllocError>
+    requires { AreFit events.now }
+    ensures each { IfOk result (λ v. length v.items ≡ length events.now) }
+    ensures ways { IfOk result (λ v. (i : ℕ) (e : SeenValue) (w : WayValue)
+        → slice_get events.now i ≡ Some e → slice_get v.items i ≡ Some w
+        → IsWay (take i events.now) e w) }
+{
+    let mut walk = Walk::new(alloc)?;
+    let mut ways = Vec::with_capacity(alloc, events.len())?;
+    for &event in events {
+        ways.push(walk.step(event)?)?;
+    }
+    Ok(ways)
+}

@@ -1,0 +1,193 @@
+-- The example keeps to it.
+use Rattle.std.proofs.Common.{◌≡◌, ◌==◌, true, false, map, List, [], ◌∷◌, Some, None, inl, inr, refl, arith, ap, subst}
+use Rattle.std.proofs.lemmas.Bool.{false≢true}
+use Rattle.std.proofs.lemmas.Option.{same_Some, none-some}
+use Rattle.st_core.specs.declared.types.Pid.{Pid}
+use Rattle.st_core.specs.declared.types.Token.{Token}
+use Rattle.st_core.specs.declared.types.Component.TheVariants as component
+use Rattle.st_core.specs.declared.types.Act.TheVariants as act
+use Rattle.st_core.specs.State.{Process, zero_state}
+use Rattle.st_core.specs.Step.{Outcome}
+use Rattle.node_machine.specs.Counts.{counter_value, node_token, serial_count}
+use Rattle.node_machine.specs.Node.{node_run, Common, Seen, seen_stream}
+use Rattle.node_machine.specs.Premises.{NoNodeReset, put_backs, PutsBackOwn, ReportsTokens}
+use Rattle.node_machine.specs.Readings.{NeedsAtLeast}
+use Rattle.node_machine.specs.Origins.{AnswersComeNext, Held, Home, OriginAfter, OriginsAre}
+use Rattle.node_machine.specs.Example.{all_home, first_token, printer, prints_again, sender, wrapped_serials, wraps}
+
+abbrev pub outcomes : List Outcome
+outcomes = elim (node_run (printer ∷ []) prints_again) as (λ _. List Outcome) [
+  | None ↦ []
+  | Some os ↦ os
+]
+
+pub runs : node_run (printer ∷ []) prints_again ≡ Some outcomes
+unfolding serial_count counter_value
+runs = refl
+
+pub no_reset : NoNodeReset prints_again
+no_reset = (refl, (refl, (refl, (refl, (refl, (refl, tt))))))
+
+pub reports : ReportsTokens printer (zero_state (printer ∷ [])) prints_again outcomes
+unfolding serial_count counter_value
+reports = (
+  λ _ r _ moves. absurd (false≢true moves),
+  (
+    λ _ r _ moves. absurd (false≢true moves),
+    (
+      λ _ r _ _. refl,
+      (
+        λ _ r _ _. refl,
+        (
+          λ _ r _ moves. absurd (false≢true moves),
+          (λ _ r _ _. refl, tt),
+        ),
+      ),
+    ),
+  ),
+)
+
+pub own : PutsBackOwn printer [] (zero_state (printer ∷ [])) prints_again outcomes
+unfolding serial_count counter_value
+own = (
+  λ _ t is. absurd (none-some t is),
+  (
+    λ _ t is. absurd (none-some t is),
+    (
+      λ _ t is. absurd (none-some t is),
+      (
+        λ _ t is. absurd (none-some t is),
+        (λ _ t is. inr (inl (ap (λ (x : Token). x.serial) (same_Some (node_token first_token) t is))), (λ _ t is. absurd (none-some t is), tt)),
+      ),
+    ),
+  ),
+)
+
+-- the printer before its set
+abbrev before_set : Process
+before_set = record {
+  pid = printer;
+  local = record { token = None; clock = 0; last = 0; traced = true };
+  queue = [];
+}
+
+set_at_home : (r : Process) → Some before_set ≡ Some r
+    → OriginAfter [] (seen_stream prints_again outcomes printer) [] r
+    (Common (act.Set printer (component.Print true))) Home Home
+unfolding serial_count counter_value
+set_at_home r is =
+    subst (λ (x : Process). OriginAfter [] (seen_stream prints_again outcomes printer) [] x
+    (Common (act.Set printer (component.Print true))) Home Home) (same_Some before_set r is)
+    (refl, record { new = tt; stamps = (λ _. refl, λ no. absurd (no (refl, refl))) })
+
+-- the token of the first print was held
+abbrev first_held : Held
+first_held = record {
+  serial = first_token.serial;
+  label = first_token.label;
+  origin = Home;
+}
+
+pub origins : OriginsAre printer [] [] Home (zero_state (printer ∷ [])) prints_again outcomes all_home
+unfolding serial_count counter_value
+origins = (
+  λ _ r _. refl,
+  λ _. refl,
+  (
+    λ _ r is. set_at_home r is,
+    λ _. refl,
+    (
+      λ _ r _. refl,
+      λ _. refl,
+      (
+        λ _ r _. refl,
+        λ _. refl,
+        (
+          λ _ r _. (first_held, inr (inl refl), refl, inl (refl, refl)),
+          λ _. refl,
+          (λ _ r _. refl, λ _. refl, tt),
+        ),
+      ),
+    ),
+  ),
+)
+
+pub answers : AnswersComeNext printer false prints_again outcomes
+unfolding serial_count counter_value
+answers = (
+  λ _ no. absurd (false≢true no),
+  (
+    λ _ no. absurd (false≢true no),
+    (
+      λ _ no. absurd (false≢true no),
+      (
+        λ _ no. absurd (false≢true no),
+        (λ _ no. absurd (false≢true no), (λ _ no. absurd (false≢true no), tt)),
+      ),
+    ),
+  ),
+)
+
+-- and its last print needs the put-back
+pub one_need : NeedsAtLeast (seen_stream prints_again outcomes printer) 1
+unfolding serial_count counter_value
+one_need = (omega arith, (omega arith, (omega arith, (omega arith, tt))))
+
+pub one_put_back : put_backs printer prints_again ≡ 1
+one_put_back = refl
+
+-- THE WRAP
+
+abbrev pub wrap_outcomes : List Outcome
+wrap_outcomes = elim (node_run (printer ∷ sender ∷ []) wraps) as (λ _. List Outcome) [
+  | None ↦ []
+  | Some os ↦ os
+]
+
+pub wrap_runs : node_run (printer ∷ sender ∷ []) wraps ≡ Some wrap_outcomes
+unfolding serial_count counter_value
+wrap_runs = refl
+
+-- the sender isn't the printer
+apart : sender ≡ printer → ⊥
+apart same = false≢true (ap (λ (p : Pid). p.number == 1) same)
+
+pub wrap_reports : ReportsTokens printer (zero_state (printer ∷ sender ∷ [])) wraps wrap_outcomes
+unfolding serial_count counter_value
+wrap_reports = (
+  λ _ r _ moves. absurd (false≢true moves),
+  (
+    λ mine. absurd (apart mine),
+    (
+      λ mine. absurd (apart mine),
+      (λ _ r _ _. refl, (λ _ r _ _. refl, (λ mine. absurd (apart mine), (λ _ r _ _. refl, (λ _ r _ _. refl, tt))))),
+    ),
+  ),
+)
+
+pub wrap_own : PutsBackOwn printer [] (zero_state (printer ∷ sender ∷ [])) wraps wrap_outcomes
+unfolding serial_count counter_value
+wrap_own = (
+  λ _ t is. absurd (none-some t is),
+  (
+    λ mine. absurd (apart mine),
+    (
+      λ _ t is. absurd (none-some t is),
+      (
+        λ _ t is. absurd (none-some t is),
+        (
+          λ _ t is. absurd (none-some t is),
+          (
+            λ _ t is. absurd (none-some t is),
+            (λ _ t is. absurd (none-some t is), (λ _ t is. absurd (none-some t is), tt)),
+          ),
+        ),
+      ),
+    ),
+  ),
+)
+
+pub wrap_shown : map (λ (e : Seen). e.serial) (seen_stream wraps wrap_outcomes printer)
+    ≡ wrapped_serials
+unfolding serial_count counter_value
+wrap_shown = refl

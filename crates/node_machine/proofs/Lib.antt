@@ -1,0 +1,19 @@
+-- The lemmas.
+pub mod Counts
+pub mod Lists
+pub mod Readings
+pub mod Steps
+pub mod Tokens
+pub mod Moves
+pub mod Givens
+pub mod Decided
+pub mod Ways
+pub mod Needs
+pub mod Places
+pub mod Lasts
+pub mod NeedsAnyway
+pub mod Carried
+pub mod Follows
+pub mod Example
+-- what proofs of the crates above may cite
+pub mod ForCallers

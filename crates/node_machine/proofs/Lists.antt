@@ -1,0 +1,40 @@
+-- What holds of each member of a list, and which lists have it.
+use Rattle.std.proofs.Common.{◌⊎◌, List, [], ◌∷◌, ◌++◌, inl, inr, subst}
+use Rattle.std.specs.List.{AllByRecursion}
+use Rattle.node_machine.specs.Premises.{IsAmong}
+
+pub all_of : {A : Type 0} (P : A → Type 0) (xs : List A) (x : A) → AllByRecursion P xs
+    → IsAmong xs x → P x
+all_of P [] x all is = absurd is
+all_of P (y ∷ ys) x all (inl is) = subst P is all.0
+all_of P (y ∷ ys) x all (inr is) = all_of P ys x all.1 is
+
+pub all_append : {A : Type 0} (P : A → Type 0) (xs ys : List A) → AllByRecursion P xs
+    → AllByRecursion P ys
+    → AllByRecursion P (xs ++ ys)
+all_append P [] ys all more = more
+all_append P (x ∷ xs) ys all more = (all.0, all_append P xs ys all.1 more)
+
+pub all_change : {A : Type 0} (P Q : A → Type 0) → ((x : A) → P x → Q x) → (xs : List A)
+    → AllByRecursion P xs
+    → AllByRecursion Q xs
+all_change P Q change [] all = tt
+all_change P Q change (x ∷ xs) all = (change x all.0, all_change P Q change xs all.1)
+
+pub among_front : {A : Type 0} (xs ys : List A) (x : A) → IsAmong xs x → IsAmong (xs ++ ys) x
+among_front [] ys x is = absurd is
+among_front (z ∷ xs) ys x (inl is) = inl is
+among_front (z ∷ xs) ys x (inr is) = inr (among_front xs ys x is)
+
+pub among_back : {A : Type 0} (xs ys : List A) (x : A) → IsAmong ys x → IsAmong (xs ++ ys) x
+among_back [] ys x is = is
+among_back (z ∷ xs) ys x is = inr (among_back xs ys x is)
+
+pub among_parts : {A : Type 0} (xs ys : List A) (x : A) → IsAmong (xs ++ ys) x
+    → IsAmong xs x ⊎ IsAmong ys x
+among_parts [] ys x is = inr is
+among_parts (z ∷ xs) ys x (inl is) = inl (inl is)
+among_parts (z ∷ xs) ys x (inr is) = elim (among_parts xs ys x is) [
+  | inl front ↦ inl (inr front)
+  | inr back ↦ inr back
+]

@@ -1,0 +1,58 @@
+-- A run that keeps to all that the laws ask of one: a process prints twice, puts the token of the
+-- first print back, and prints again.
+use Rattle.std.specs.Prelude.{◌-◌, ◌^◌, true, false, List, [], ◌∷◌}
+use Rattle.st_core.specs.declared.types.Pid.{Pid}
+use Rattle.st_core.specs.declared.types.Serial.{Serial}
+use Rattle.st_core.specs.declared.types.Token.{Token}
+use Rattle.st_core.specs.declared.types.Component.TheVariants as component
+use Rattle.st_core.specs.declared.types.Act.TheVariants as act
+use Rattle.st_core.specs.declared.types.Want.TheVariants as want
+use Rattle.node_machine.specs.Node.{NodeAct, Common}
+use Rattle.node_machine.specs.Origins.{Home, TokenOrigin}
+
+abbrev pub printer : Pid
+printer = record { node = 0; number = 1 }
+
+-- the token of the first print
+abbrev pub first_token : Token
+first_token = record {
+  label = record { 0 = 0 };
+  flags = record { send = false; receive = false; print = true };
+  serial = record { prev = 0; this = 1 };
+  from = printer;
+}
+
+abbrev pub prints_again : List NodeAct
+prints_again = Common (act.Tracer printer true) ∷ Common (act.Set printer (component.Print true))
+    ∷ Common (act.Print printer 5) ∷ Common (act.Print printer 6) ∷ Common (act.Restore printer first_token)
+    ∷ Common (act.Print printer 7) ∷ []
+
+-- its tokens are its own
+abbrev pub all_home : List TokenOrigin
+all_home = Home ∷ Home ∷ Home ∷ Home ∷ Home ∷ Home ∷ []
+
+-- A run through the wrap: a process puts back a token whose count is next to the greatest, and sends
+-- twice to another, which prints behind each receive.
+abbrev pub sender : Pid
+sender = record { node = 0; number = 2 }
+
+-- the token that it puts back
+abbrev pub greatest_token : Token
+greatest_token = record {
+  label = record { 0 = 0 };
+  flags = record { send = false; receive = true; print = true };
+  serial = record { prev = 0; this = 2 ^ 60 - 2 };
+  from = sender;
+}
+
+abbrev pub wraps : List NodeAct
+wraps = Common (act.Tracer printer true) ∷ Common (act.Restore sender greatest_token)
+    ∷ Common (act.Send sender printer 5) ∷ Common (act.Receive printer want.First)
+    ∷ Common (act.Print printer 6) ∷ Common (act.Send sender printer 7)
+    ∷ Common (act.Receive printer want.First) ∷ Common (act.Print printer 8) ∷ []
+
+-- what the printer's serials show: behind the greatest count comes 0, and its clock, which that
+-- lifted above all counts, isn't lowered by a receive of 0
+abbrev pub wrapped_serials : List Serial
+wrapped_serials = record { prev = 0; this = 2 ^ 60 - 1 } ∷ record { prev = 2 ^ 60 - 1; this = 0 }
+    ∷ record { prev = 0; this = 0 } ∷ record { prev = 0; this = 1 } ∷ []

@@ -1,0 +1,202 @@
+-- What a stamp's token came from in a run of the node, and what the events of its process say of
+-- that.
+use Rattle.std.specs.Prelude.{◌≡◌, ◌⊎◌, ℕ, ◌<◌, ◌≤◌, suc, Bool, true, false, List, [], ◌∷◌, ◌++◌, length, max, take}
+use Rattle.std.specs.Prelude.{Option, Some, None, if◌then◌else◌, is_some, option_map, option_to_list, option_and_then, slice_get}
+use Rattle.std.specs.List.{AllByRecursion}
+use Rattle.std.specs.Option.{option_map_or}
+use Rattle.st_core.specs.declared.types.Pid.{Pid}
+use Rattle.st_core.specs.declared.types.Label.{Label}
+use Rattle.st_core.specs.declared.types.Serial.{Serial}
+use Rattle.st_core.specs.declared.types.Token.{Token}
+use Rattle.st_core.specs.declared.types.Component.{Component}
+use Rattle.st_core.specs.declared.types.Component.TheVariants as component
+use Rattle.st_core.specs.declared.types.Kind.TheVariants as kind
+use Rattle.st_core.specs.declared.types.Act.TheVariants as act
+use Rattle.st_core.specs.Pid.{pid_eq}
+use Rattle.st_core.specs.State.{LocalState, Process, State, process}
+use Rattle.st_core.specs.Local.{with_component}
+use Rattle.st_core.specs.Event.{kind_eq}
+use Rattle.st_core.specs.Step.{Outcome}
+use Rattle.st_core.specs.Laws.{moves_token}
+use Rattle.node_machine.specs.Counts.{answer_count, stamp_count, node_token, serial_count}
+use Rattle.node_machine.specs.Node.{fresh_token, is_answer, node_actor, NodeAct, Common, Seen}
+use Rattle.node_machine.specs.Node.{seen_by, seen_stream}
+use Rattle.node_machine.specs.Premises.{IsAmong, told_by}
+use Rattle.node_machine.specs.Readings.{is_receipt}
+use Rattle.node_machine.specs.Given.{IsPutBack, IsStraight, tokens}
+
+-- Follows k: the token came with the message of its process's event k. Home: its process made it, or
+-- set its label
+pub data TokenOrigin : Type 0 where
+  Follows : ℕ → TokenOrigin
+  Home : TokenOrigin
+
+-- a token that a process held, and its origin
+pub record Held : Type 0 where
+  pub serial : Serial
+  pub label : Label
+  pub origin : TokenOrigin
+
+-- IN A RUN
+
+-- the event shows that its process's token had this label: an answer's token isn't taken
+abbrev pub Bears : Label → Seen → Type 0
+Bears label e = (e.answer ≡ false) × (e.label ≡ label)
+
+-- the first of these events that does, if there is one, is no receive
+abbrev pub StampsFirst : Label → List Seen → Type 0
+StampsFirst label [] = Unit {0}
+StampsFirst label (e ∷ es) =
+    (Bears label e → is_receipt e ≡ false) × (¬ (Bears label e) → StampsFirst label es)
+
+-- a process that reported the front events and has these left may give its token the label: none of
+-- its tokens in the events before had it, and it stamps with it before it receives it
+pub record IsOwnLabel (front rest : List Seen) (label : Label) : Type 0 where
+  pub new : AllByRecursion (λ e. ¬ (Bears label e)) front
+  pub stamps : StampsFirst label rest
+
+-- a set on no token makes one at home, and so does a set of a label; another set keeps the origin
+abbrev pub AfterSet : List Seen → List Seen → Pid → LocalState → Option Token → Component → TokenOrigin
+    → TokenOrigin
+    → Type 0
+AfterSet front rest p l None c before now =
+    (now ≡ Home) × IsOwnLabel front rest (with_component c (fresh_token p l)).label
+AfterSet front rest p l (Some t) (component.Label x) before now =
+    (now ≡ Home) × IsOwnLabel front rest x
+AfterSet front rest p l (Some t) (component.Send b) before now = now ≡ before
+AfterSet front rest p l (Some t) (component.Receive b) before now = now ≡ before
+AfterSet front rest p l (Some t) (component.Print b) before now = now ≡ before
+
+-- a token that is put back is one that was held, with its origin, or with another label and so at
+-- home
+abbrev pub AfterRestore : List Seen → List Seen → List Held → Token → TokenOrigin → Type 0
+AfterRestore front rest held t now = (x : Held) × IsAmong held x × (x.serial ≡ t.serial)
+    × (((x.label ≡ t.label) × (now ≡ x.origin))
+    ⊎ ((now ≡ Home) × IsOwnLabel front rest t.label))
+
+-- the origin of the actor's token after its act, if it was this before: the actor, whose record is
+-- r, reported the front events, has these left, and held these tokens
+abbrev pub OriginAfter : List Seen → List Seen → List Held → Process → NodeAct → TokenOrigin → TokenOrigin
+    → Type 0
+OriginAfter front rest held r (Common (act.Receive p w)) before now =
+    now ≡ (if moves_token r (act.Receive p w) then Follows (length front) else before)
+OriginAfter front rest held r (Common (act.Set p c)) before now =
+    AfterSet front rest r.pid r.local r.local.token c before now
+OriginAfter front rest held r (Common (act.Restore p t)) before now =
+    AfterRestore front rest held (node_token t) now
+OriginAfter front rest held r a before now = now ≡ before
+
+-- p's token, if it has one, with this origin
+abbrev pub held_in : State → Pid → TokenOrigin → List Held
+held_in s p h = option_to_list (option_map
+    (λ t. record { serial = t.serial; label = t.label; origin = h })
+    (option_and_then (λ r. r.local.token) (process s p)))
+
+-- after each act of a run from s the origin of p's token is this one. Before s p reported the front
+-- events, held these tokens, and its token had this origin. So p puts back only tokens of its own,
+-- and gives its tokens only labels of its own
+abbrev pub OriginsAre : Pid → List Seen → List Held → TokenOrigin → State → List NodeAct → List Outcome
+    → List TokenOrigin
+    → Type 0
+OriginsAre p front held before s [] os hs = Unit {0}
+OriginsAre p front held before s (a ∷ acts) [] hs = Unit {0}
+OriginsAre p front held before s (a ∷ acts) (o ∷ os) [] = ⊥
+OriginsAre p front held before s (a ∷ acts) (o ∷ os) (now ∷ hs) =
+    (node_actor a ≡ p → (r : Process) → process s p ≡ Some r
+    → OriginAfter front (seen_stream (a ∷ acts) (o ∷ os) p) (held ++ held_in s p before) r a before now)
+    × (pid_eq (node_actor a) p ≡ false → now ≡ before)
+    × OriginsAre p (front ++ told_by p a o) (held ++ held_in s p before) now o.after acts os hs
+
+-- the origins at p's events, in order
+abbrev pub origins_told : List NodeAct → List Outcome → List TokenOrigin → Pid → List TokenOrigin
+origins_told [] os hs p = []
+origins_told (a ∷ acts) [] hs p = []
+origins_told (a ∷ acts) (o ∷ os) [] p = []
+origins_told (a ∷ acts) (o ∷ os) (h ∷ hs) p =
+    (if pid_eq (node_actor a) p then option_to_list (option_map (λ _. h) (seen_by a o)) else [])
+    ++ origins_told acts os hs p
+
+-- the act reported a send
+abbrev pub told_send : Outcome → Bool
+told_send o = option_map_or (λ e. kind_eq e.kind kind.Send) o.report false
+
+-- each answer that p reports comes right behind an act of p that reported a send: its request. This
+-- is of the acts behind one of p that did
+abbrev pub AnswersComeNext : Pid → Bool → List NodeAct → List Outcome → Type 0
+AnswersComeNext p sent [] os = Unit {0}
+AnswersComeNext p sent (a ∷ acts) [] = Unit {0}
+AnswersComeNext p sent (a ∷ acts) (o ∷ os) =
+    (node_actor a ≡ p → is_answer a ≡ true → is_some o.report ≡ true → sent ≡ true)
+    × AnswersComeNext p (if pid_eq (node_actor a) p then told_send o else sent) acts os
+
+-- BY EVENTS
+
+-- the receive at index k is right before the stamp at index i, has its label, and lifts counts that
+-- are there before it to those that the stamp goes on from
+pub record IsTaken (es : List Seen) (i k : ℕ) : Type 0 where
+  pub stamp : Seen
+  pub is_stamp : slice_get es i ≡ Some stamp
+  pub event : Seen
+  pub at : slice_get es k ≡ Some event
+  pub before : i ≡ suc k
+  pub receive : is_receipt event ≡ true
+  pub own : event.answer ≡ false
+  pub label : event.label ≡ stamp.label
+  pub clock : ℕ
+  pub last : ℕ
+  pub way : IsStraight (take k es) clock last ⊎ IsPutBack (take k es) clock last
+  pub prev : event.serial.this ≡ stamp.serial.prev
+  pub count : stamp.serial.this ≡ stamp_count (max clock event.serial.this)
+
+-- the event at index k, a receive or not, is before the stamp at index i, and the stamp is the
+-- successor of its token
+pub record IsSuccessor (receive : Bool) (es : List Seen) (i k : ℕ) : Type 0 where
+  pub stamp : Seen
+  pub is_stamp : slice_get es i ≡ Some stamp
+  pub event : Seen
+  pub at : slice_get es k ≡ Some event
+  pub before : k < i
+  pub kind : is_receipt event ≡ receive
+  pub own : event.answer ≡ false
+  pub label : event.label ≡ stamp.label
+  pub prev : event.serial.prev ≡ stamp.serial.prev
+  pub count : stamp.serial.this ≡ stamp_count event.serial.this
+
+-- the event at index k is a stamp, an answer is right behind it, and then the stamp at index i, which
+-- has its label and goes on from the answer's count
+pub record IsAnsweredAt (es : List Seen) (i k : ℕ) : Type 0 where
+  pub stamp : Seen
+  pub is_stamp : slice_get es i ≡ Some stamp
+  pub event : Seen
+  pub at : slice_get es k ≡ Some event
+  pub kind : is_receipt event ≡ false
+  pub label : event.label ≡ stamp.label
+  pub answer : Seen
+  pub answer_at : slice_get es (suc k) ≡ Some answer
+  pub answers : answer.answer ≡ true
+  pub behind : i ≡ suc (suc k)
+  pub prev : serial_count (answer_count answer.serial.this) ≡ stamp.serial.prev
+  pub count : stamp.serial.this ≡ stamp_count (answer_count answer.serial.this)
+
+-- behind the front events the process may have given its token the stamp's label: right before the
+-- stamp, or then the stamp is the successor of a token that was held up to there
+pub record IsAtHome (es : List Seen) (i : ℕ) : Type 0 where
+  pub stamp : Seen
+  pub is_stamp : slice_get es i ≡ Some stamp
+  pub front : List Seen
+  pub rest : List Seen
+  pub split : es ≡ front ++ rest
+  pub within : length front ≤ i
+  pub own : IsOwnLabel front rest stamp.label
+  pub way : (length front ≡ i) ⊎ ((token : Serial) × IsAmong (tokens front) token
+      × (token.prev ≡ stamp.serial.prev) × (stamp.serial.this ≡ stamp_count token.this))
+
+-- what the events of a process allow as the origin of its stamp at an index: the receive right
+-- before it; an earlier receive with the token that it succeeds; what is allowed of an earlier stamp
+-- with that token, or of the stamp whose answer is right before it; and home
+pub data Can (es : List Seen) : ℕ → TokenOrigin → Type 0 where
+  taken : (i k : ℕ) → IsTaken es i k → Can es i (Follows k)
+  received : (i k : ℕ) → IsSuccessor true es i k → Can es i (Follows k)
+  stamped : (i k : ℕ) (h : TokenOrigin) → IsSuccessor false es i k → Can es k h → Can es i h
+  answered : (i k : ℕ) (h : TokenOrigin) → IsAnsweredAt es i k → Can es k h → Can es i h
+  home : (i : ℕ) → IsAtHome es i → Can es i Home

@@ -1,0 +1,126 @@
+//! What streams say of a standard node in all its runs without a reset, as contracts of functions
+//! that do nothing: each clause is a theorem over the definitions of `specs/`, and a proof that
+//! calls the function may use it.
+
+ghost use Rattle.std.specs.Prelude.{◌≡◌, ◌≢◌, ◌≤◌, ℕ, true, false, map, List, [], ◌∷◌, Some, slice_get, take};
+ghost use Rattle.st_core.specs.declared.types.Kind.TheVariants as kind;
+ghost use Rattle.st_core.specs.declared.types.Pid.{Pid};
+ghost use Rattle.st_core.specs.State.{zero_state};
+ghost use Rattle.st_core.specs.Step.{Outcome};
+ghost use Rattle.node_machine.specs.Example.{all_home, printer, prints_again, sender, wrapped_serials, wraps};
+ghost use Rattle.node_machine.specs.Given.{IsGiven, IsMet, is_given, strange_prevs};
+ghost use Rattle.node_machine.specs.Node.{NodeAct, Seen, node_run, seen_stream};
+ghost use Rattle.node_machine.specs.Origins.{AnswersComeNext, Can, Home, TokenOrigin, OriginsAre, origins_told};
+ghost use Rattle.node_machine.specs.Premises.{IsAmong, NoNodeReset, PutsBackOwn, ReportsTaken, ReportsTokens};
+ghost use Rattle.node_machine.specs.Premises.{places, put_backs};
+ghost use Rattle.node_machine.specs.Readings.{NeedsAtLeast, NeedsPutBack};
+ghost use Rattle.node_machine.specs.Ways.{IsInSomeWay, lasts};
+
+/// If a process reports each stamp and each receive of a token, and puts back only tokens of its
+/// own, its events before each of its stamps give it.
+pub fn own_tokens_give_each_stamp()
+    ensures { (pids : List Pid) (acts : List NodeAct) (os : List Outcome)
+        → node_run pids acts ≡ Some os → NoNodeReset acts → (p : Pid)
+        → ReportsTokens p (zero_state pids) acts os
+        → PutsBackOwn p [] (zero_state pids) acts os
+        → (i : ℕ) (e : Seen) → slice_get (seen_stream acts os p) i ≡ Some e → e.kind ≢ kind.Receive
+        → IsGiven (take i (seen_stream acts os p)) e }
+{}
+
+/// So events with a stamp that they don't give are those of no such process, whatever the others do.
+pub fn what_is_not_given_is_final()
+    ensures { (es : List Seen) (i : ℕ) (e : Seen) → slice_get es i ≡ Some e
+        → e.kind ≢ kind.Receive → is_given (take i es) e ≡ false
+        → (pids : List Pid) (acts : List NodeAct) (os : List Outcome)
+        → node_run pids acts ≡ Some os → NoNodeReset acts → (p : Pid)
+        → ReportsTokens p (zero_state pids) acts os
+        → PutsBackOwn p [] (zero_state pids) acts os → ¬ (seen_stream acts os p ≡ es) }
+{}
+
+/// If it reports these, it puts back at least as many tokens as its events need however they are
+/// read, whichever tokens they are.
+pub fn each_need_is_a_put_back()
+    ensures { (pids : List Pid) (acts : List NodeAct) (os : List Outcome)
+        → node_run pids acts ≡ Some os → NoNodeReset acts → (p : Pid)
+        → ReportsTokens p (zero_state pids) acts os
+        → (n : ℕ) → NeedsAtLeast (seen_stream acts os p) n → n ≤ put_backs p acts }
+{}
+
+/// And a stamp that doesn't go on from the counts before it, however the events before it are read,
+/// has a put-back of its own: before it, and behind the stamp before it.
+pub fn each_need_has_its_put_back()
+    ensures { (pids : List Pid) (acts : List NodeAct) (os : List Outcome)
+        → node_run pids acts ≡ Some os → NoNodeReset acts → (p : Pid)
+        → ReportsTokens p (zero_state pids) acts os
+        → (i : ℕ) (e : Seen) → slice_get (seen_stream acts os p) i ≡ Some e → e.kind ≢ kind.Receive
+        → (let es = take i (seen_stream acts os p) in
+        NeedsPutBack es e → IsMet (places p [] acts os) es) }
+{}
+
+/// If it reports these, puts back only tokens of its own, and gives its tokens only labels of its
+/// own, then of each of its stamps its events allow the origin that its token has.
+pub fn an_origin_is_one_that_events_allow()
+    ensures { (pids : List Pid) (acts : List NodeAct) (os : List Outcome)
+        → node_run pids acts ≡ Some os → NoNodeReset acts → (p : Pid)
+        → ReportsTokens p (zero_state pids) acts os
+        → (hs : List TokenOrigin) → OriginsAre p [] [] Home (zero_state pids) acts os hs
+        → AnswersComeNext p false acts os
+        → (i : ℕ) (e : Seen) (h : TokenOrigin) → slice_get (seen_stream acts os p) i ≡ Some e
+        → e.kind ≢ kind.Receive → slice_get (origins_told acts os hs p) i ≡ Some h
+        → Can (seen_stream acts os p) i h }
+{}
+
+/// If a process reports each receive of a token, whatever else it reports, and puts back only tokens
+/// of its own, the prev of each of its stamps is a last that its events before it show. Of its count
+/// nothing more can be said.
+pub fn each_prev_was_a_last()
+    ensures { (pids : List Pid) (acts : List NodeAct) (os : List Outcome)
+        → node_run pids acts ≡ Some os → NoNodeReset acts → (p : Pid)
+        → ReportsTaken p (zero_state pids) acts os
+        → PutsBackOwn p [] (zero_state pids) acts os → (i : ℕ) (e : Seen)
+        → slice_get (seen_stream acts os p) i ≡ Some e → e.kind ≢ kind.Receive
+        → IsAmong (lasts (take i (seen_stream acts os p))) e.serial.prev }
+{}
+
+/// And it puts back at least as many tokens as it has stamps with another prev than the last before
+/// them.
+pub fn each_strange_prev_is_a_put_back()
+    ensures { (pids : List Pid) (acts : List NodeAct) (os : List Outcome)
+        → node_run pids acts ≡ Some os → NoNodeReset acts → (p : Pid)
+        → ReportsTaken p (zero_state pids) acts os
+        → strange_prevs (seen_stream acts os p) ≤ put_backs p acts }
+{}
+
+/// What is given is so in one of four ways: plainly, again, fresh or lowered.
+pub fn four_ways_give_a_stamp()
+    ensures { (es : List Seen) (e : Seen)
+        → (IsGiven es e → IsInSomeWay es e) × (IsInSomeWay es e → IsGiven es e) }
+{}
+
+/// Whether events give a stamp can be tested.
+pub fn what_is_given_is_decided()
+    ensures { (es : List Seen) (e : Seen) → (IsGiven es e → is_given es e ≡ true)
+        × (is_given es e ≡ true → IsGiven es e) }
+{}
+
+/// What the laws ask of a run can be kept together, and a put-back can be needed: here is one such
+/// run.
+pub fn a_run_keeps_to_all_of_it()
+    ensures { (os : List Outcome) × (node_run (printer ∷ []) prints_again ≡ Some os)
+        × NoNodeReset prints_again
+        × ReportsTokens printer (zero_state (printer ∷ [])) prints_again os
+        × PutsBackOwn printer [] (zero_state (printer ∷ [])) prints_again os
+        × OriginsAre printer [] [] Home (zero_state (printer ∷ [])) prints_again os all_home
+        × AnswersComeNext printer false prints_again os
+        × NeedsAtLeast (seen_stream prints_again os printer) 1
+        × (put_backs printer prints_again ≡ 1) }
+{}
+
+/// Counts wrap: here is a run in which a serial shows the greatest count and then 0, and nothing was
+/// put back by the process that reports it.
+pub fn a_run_goes_through_the_wrap()
+    ensures { (os : List Outcome) × (node_run (printer ∷ sender ∷ []) wraps ≡ Some os)
+        × ReportsTokens printer (zero_state (printer ∷ sender ∷ [])) wraps os
+        × PutsBackOwn printer [] (zero_state (printer ∷ sender ∷ [])) wraps os
+        × (map (λ e. e.serial) (seen_stream wraps os printer) ≡ wrapped_serials) }
+{}
