@@ -9,7 +9,7 @@
 -module(seqaudit_external).
 
 -export([read/1, take/1, from_term/1, to_term/1, atom/1, name/2, view/1, event/1, tuple/1,
-         pairs/1, map/1, list/1, number/1, about_term/1, part/1, characters/3, request/1]).
+         pairs/1, map/1, list/1, number/1, call/1, about_term/1, part/1, characters/3, request/1]).
 -export_type([encoded/0, view/0, event/0]).
 
 -define(VERSION, 131).
@@ -72,7 +72,7 @@
 %% process, and what `ttb' knows of it).
 
 -type event() :: {send | 'receive' | print, Label :: encoded(),
-                  {Prev :: non_neg_integer(), This :: non_neg_integer()},
+                  {Prev :: integer(), This :: integer()},
                   From :: encoded(), To :: encoded(), Message :: encoded(),
                   Time :: encoded() | none}.
 
@@ -447,10 +447,10 @@ event_body(Kind, <<?SMALL_TUPLE, 2, Rest0/binary>>, Arity, Label, Bytes) ->
 event_body(_Kind, _, _Arity, _Label, Bytes) ->
     other(Bytes).
 
-%% A number of a serial.
+%% A number of a serial: a node shows the lowest 60 bits of its counters with their sign.
 count(<<?SMALL_INTEGER, N, Rest/binary>>) -> {N, Rest};
-count(<<?INTEGER, N:32/signed, Rest/binary>>) when N >= 0 -> {N, Rest};
-count(<<?SMALL_BIG, Size, 0, N:Size/little-unit:8, Rest/binary>>) -> {N, Rest};
+count(<<?INTEGER, N:32/signed, Rest/binary>>) -> {N, Rest};
+count(<<?SMALL_BIG, Size, Sign, N:Size/little-unit:8, Rest/binary>>) -> {signed(Sign, N), Rest};
 count(Bytes) ->
     {_, Rest} = one(Bytes),
     {other, Rest}.
@@ -476,6 +476,18 @@ number(<<?INTEGER, N:32/signed>>) -> N;
 number(<<?SMALL_BIG, Size, 0, N:Size/little-unit:8>>) when Size =< 8 -> N;
 number(<<?SMALL_BIG, Size, 1, N:Size/little-unit:8>>) when Size =< 8 -> -N;
 number(_) -> other.
+
+%% @doc The function that a triple of its module, name and arity means.
+-spec call(encoded()) -> {Module :: binary(), Function :: binary(), Arity :: integer()} | other.
+call(Term) ->
+    case tuple(Term) of
+        [First, Second, Third] ->
+            case {view(First), view(Second), number(Third)} of
+                {{atom, Module}, {atom, Function}, Arity} when is_integer(Arity) -> {Module, Function, Arity};
+                _ -> other
+            end;
+        _ -> other
+    end.
 
 %% @doc The elements of a tuple.
 -spec tuple(encoded()) -> [encoded()] | other.

@@ -65,13 +65,16 @@ over(_) ->
 
 %% @doc The facts, of which each sentence is a note; nothing if there is nothing to say.
 -spec facts(#{collections := [seqaudit_build:collected()], counts := #{atom() => non_neg_integer()},
+              wrapped := boolean(),
               listed := [{seqaudit_processes:pid_number(), seqaudit_processes:party()}],
               labels := [{non_neg_integer(), seqaudit_external:encoded()}], atom() => term()},
             sizes()) -> [fact()].
-facts(#{collections := Collections, counts := Counts, samples := Samples, listed := Listed, labels := Labels}, Sizes) ->
+facts(#{collections := Collections, counts := Counts, samples := Samples, wrapped := Wrapped, listed := Listed,
+        labels := Labels}, Sizes) ->
     Known = lists:append([collected(Collection) || Collection <- Collections]) ++ converted(Counts, Samples),
     lists:append([of_kind(nothing, [nothing() || is_nothing(Known, Sizes)]),
                   Known,
+                  of_kind(wrapped, [wrapped() || Wrapped]),
                   of_kind(limits, limits(Sizes)),
                   of_kind(nodes, several("nodes are numbered by name: ", nodes_of(Listed))),
                   of_kind(renumbered, several("no processes, or their number was taken, so they have free numbers: ",
@@ -98,6 +101,10 @@ losses(Text) ->
 -spec nothing() -> string().
 nothing() ->
     "no events came; set a token while the tracer is on, as seqaudit_trace:with_trace/2 does".
+
+wrapped() ->
+    "counters have wrapped: each spawn under a token multiplies them by 16, and a serial shows their lowest 60 bits with "
+        "a sign; so NAME.seqtrace is of version 3, which has the counts as the node prints them".
 
 %% If something is gone, events may have come.
 is_nothing(Known, #{events := 0}) -> [] =:= [Kind || {Kind, _} <- Known, lists:member(Kind, ?LOSSES)];

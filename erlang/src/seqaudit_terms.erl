@@ -352,17 +352,9 @@ process(Process, Numbers) ->
 %% @doc What a process was started with, as `module:function/3'.
 -spec call(seqaudit_external:encoded()) -> string().
 call(Call) ->
-    case [seqaudit_external:view(Part) || Part <- tl(seqaudit_external:tuple(Call))] of
-        [{atom, Function}, _] ->
-            [First, _, Arity] = seqaudit_external:tuple(Call),
-            case {seqaudit_external:view(First), seqaudit_external:number(Arity)} of
-                {{atom, Module}, Number} when is_integer(Number) ->
-                    lists:flatten([atom(Module), $:, atom(Function), $/, integer_to_list(Number)]);
-                _ ->
-                    encoded(Call)
-            end;
-        _ ->
-            encoded(Call)
+    case seqaudit_external:call(Call) of
+        {Module, Function, Arity} -> lists:flatten([atom(Module), $:, atom(Function), $/, integer_to_list(Arity)]);
+        other -> encoded(Call)
     end.
 
 %% @doc An atom's text, in quotes if Erlang needs them. The atom isn't made.

@@ -142,7 +142,7 @@ repeated_names_test() ->
 %% What is no event is counted.
 counts_test() ->
     Strays = [hello, {seq_trace, 1, {send, {0, 1}, self(), "x", x}}, {seq_trace, 1, 2},
-              {seq_trace, 1, {print, {0, -1}, self(), [], x}}, {seq_trace, 1, {spawn, {0, 1}, 2, 3, 4}},
+              {seq_trace, 1, {print, {0, -1 bsl 60}, self(), [], x}}, {seq_trace, 1, {spawn, {0, 1}, 2, 3, 4}},
               {seq_trace, 1, {print, {0, 1 bsl 64}, self(), [], x}}],
     #{events := 1, dropped := 9, notes := [Dropped, Own, Left, Unknown]} =
         seqaudit_convert:convert([#{node => 'a@h', dropped => 2, own => 1, strays => 0, events =>
@@ -158,7 +158,7 @@ counts_test() ->
 limits_test() ->
     Facts = fun(Processes) ->
                     seqaudit_notes:facts(#{collections => [], counts => #{}, samples => #{}, listed => [],
-                                           labels => []},
+                                           wrapped => false, labels => []},
                                          #{events => 1, processes => Processes})
             end,
     [] = Facts(1_000_000),
