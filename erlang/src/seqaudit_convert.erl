@@ -372,6 +372,8 @@ word(?PRINT) -> <<",{print,{">>.
 %% texts of some. It notes which of them have dots: all those that are cut do.
 terms(Sorted, Labels, {Known, Values}, {Numbers, Dots}, Out) ->
     ok = Out(seqaudit_legend:text(named(Sorted, Known), [], [], #{})),
+    ok = Out([["node\t", integer_to_binary(Node), $\t, unicode:characters_to_binary(seqaudit_terms:plain(Name)), $\n]
+              || {Node, Name} <- seqaudit_processes:further_nodes(Sorted)]),
     ok = Out([entry(<<"label">>, Number, Label, Numbers, <<>>) || {Number, Label} <- Labels]),
     seqaudit_workers:in_turn([fun() ->
                                       Entries = entries(First, Values, Numbers),

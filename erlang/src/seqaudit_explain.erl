@@ -191,7 +191,9 @@ not_received(Waiting, Outcome, Legend) ->
             {", or came too late, as a reply may",
              fun(#{value := Value}) -> seqaudit_legend:is_reply_to_alias(Value, Legend) end},
             {", or reached another node without a token",
-             fun(#{from := From, to := To}) -> node_of(From) =/= node_of(To) end}],
+             fun(#{from := From, to := To}) ->
+                     node_of(From) =/= node_of(To) andalso not seqaudit_legend:has_further_nodes(Legend)
+             end}],
     [count(length(Waiting), "message"), case Waiting of [_] -> " has"; _ -> " have" end,
      case Outcome of
          #{cut := true} -> " no receive here";
