@@ -223,8 +223,8 @@ take(Bytes, Part) ->
             end;
         other ->
             stray(Bytes, Part);
-        damaged ->
-            count(damaged, Part)
+        Unread ->
+            count(Unread, Part)
     end.
 
 event({_, _, {Prev, This}, _, _, _, _}, _Part)
