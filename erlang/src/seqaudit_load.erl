@@ -40,7 +40,11 @@ load(From, Node, Module) ->
     There = try erpc:call(Node, Module, module_info, [md5], ?REMOTE_MS)
             catch error:{exception, undef, _} -> none
             end,
-    {ok, {Module, Here}} = beam_lib:md5(Binary),
+    %% Only the release that compiled a module can be sure to read it.
+    {ok, {Module, Here}} = case From of
+                               compiled -> erpc:call(Node, beam_lib, md5, [Binary], ?REMOTE_MS);
+                               _ -> beam_lib:md5(Binary)
+                           end,
     Here =:= There orelse load(From, Node, Module, File, Binary).
 
 load(From, Node, Module, File, Binary) ->
