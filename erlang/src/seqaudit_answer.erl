@@ -3,7 +3,7 @@
 
 -export([audit/1, chart/1, why/1]).
 %% What other commands on a trace need too.
--export([with_trace/3, with_outcome/2, wish/2, losses/1, shown/1, doubt/2, keep/3]).
+-export([with_trace/3, with_outcome/2, mistakes/1, wish/2, losses/1, shown/1, doubt/2, keep/3]).
 
 %% Exit statuses, as those of `seqaudit'.
 -define(FITS, 0).
@@ -27,7 +27,8 @@ with_trace(Name, Wish, Do) ->
         with_file(legend(Name ++ ".terms", Streams), fun seqaudit_legend:format_error/1, fun(Legend) ->
             with_file(times(Name, Streams), fun seqaudit_times:format_error/1, fun(Times) ->
                 with_cut(#{name => Name, legend => Legend, times => maps:get(events, Times), timed => Times,
-                           losses => losses(Name), whole => Streams}, Wish, Do)
+                           losses => losses(Name), wrapped => seqaudit_bundle:has_wrapped(Name ++ ".seqtrace"),
+                           whole => Streams}, Wish, Do)
             end)
         end)
     end).
@@ -157,11 +158,11 @@ named(Outcomes, #{legend := Legend} = Trace) ->
     Trace#{legend := seqaudit_legend:unlisted(Unlisted, Legend)}.
 
 %% The outcome, which knows what the trace is called, whether the trace was cut and whether anything was lost.
-ask(Streams, #{name := Name, cut := Note, losses := Losses, times := Times}) ->
-    case seqaudit_outcome:ask(Streams) of
+ask(Streams, #{name := Name, cut := Note, losses := Losses, times := Times, wrapped := Wrapped} = Trace) ->
+    case seqaudit_outcome:ask(Streams, Wrapped) of
         {ok, Outcome} ->
             Told = told_apart(Outcome, Times),
-            {ok, with_mistakes(Told#{name => Name, cut => Note =/= "", lost => Losses =/= []})};
+            {ok, with_mistakes(Told#{name => Name, cut => Note =/= "", lost => Losses =/= []}, Trace)};
         {error, Reason} ->
             {error, Reason}
     end.
@@ -176,10 +177,15 @@ told_apart(Outcome, _Times) ->
     Outcome.
 
 %% What a cut leaves isn't in the file.
-with_mistakes(#{said := fault, cut := false, name := Name} = Outcome) ->
-    Outcome#{mistakes => seqaudit_outcome:mistakes(Name ++ ".seqtrace")};
-with_mistakes(Outcome) ->
+with_mistakes(#{said := fault, cut := false} = Outcome, Trace) ->
+    Outcome#{mistakes => mistakes(Trace)};
+with_mistakes(Outcome, _Trace) ->
     Outcome.
+
+%% @doc What `seqtool lint' says of the trace, but of a version that it doesn't read.
+-spec mistakes(map()) -> [binary()].
+mistakes(#{wrapped := true}) -> [];
+mistakes(#{name := Name}) -> seqaudit_outcome:mistakes(Name ++ ".seqtrace").
 
 %% @doc Says whether a run has the trace and what it lacks, and keeps what shows it.
 -spec audit(options()) -> result().

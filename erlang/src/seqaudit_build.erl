@@ -12,8 +12,9 @@
 -export([new/0, item/2, context/1, part/2, add/2, number/2, renumber/2, append/2, fold/3]).
 -export_type([build/0, packed/0, collected/0, context/0, found/0, numbers/0]).
 
-%% The greatest serial number that the text of a bundle has.
+%% The greatest count that the text of a bundle has, and the least that a node shows.
 -define(GREATEST, 16#FFFF_FFFF_FFFF_FFFF).
+-define(LEAST, -(1 bsl 59)).
 -define(NANOSECONDS, 1_000_000_000).
 -define(NOWHERE, <<"nonode@nohost">>).
 %% So many entries of each kind that are no events are shown, and so many characters of each.
@@ -222,11 +223,12 @@ take(Bytes, Part) ->
             end;
         other ->
             stray(Bytes, Part);
-        damaged ->
-            count(damaged, Part)
+        Unread ->
+            count(Unread, Part)
     end.
 
-event({_, _, {Prev, This}, _, _, _, _}, _Part) when Prev > ?GREATEST; This > ?GREATEST ->
+event({_, _, {Prev, This}, _, _, _, _}, _Part)
+  when Prev > ?GREATEST; This > ?GREATEST; Prev < ?LEAST; This < ?LEAST ->
     stray;
 event({_, _, _, From, To, _, _} = Event, #part{home = unknown} = Part) ->
     event(Event, Part#part{home = home(From, To)});

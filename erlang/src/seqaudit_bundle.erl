@@ -5,11 +5,15 @@
 %% `seqtool complete' adds, is named after the one that it comes before: `shop#24~1'.
 -module(seqaudit_bundle).
 
--export([read/1, parse/1, text/1, event_text/1, events/1, actor/1]).
+-export([read/1, has_wrapped/1, parse/1, text/1, event_text/1, events/1, actor/1]).
 -export([complete/2, copies/1, without/2, in_order/1, labels/1, by_number/1, name/3, find/3, format_error/1]).
 -export_type([streams/0, event/0, pid_text/0, at/0, place/0]).
 
 -import(seqaudit_errors, [text/2]).
+
+%% So many different counts a serial shows.
+-define(SERIALS, (1 bsl 60)).
+-define(WRAPPED, "seqtrace 3\n").
 
 -type pid_text() :: binary().
 %% A process as the bundle spells it, `<<"<0.81.0>">>'.
@@ -38,6 +42,11 @@ read(File) ->
         {error, Reason} ->
             {error, {file, File, Reason}}
     end.
+
+%% @doc Whether counters have wrapped in the trace of this file, by its first line.
+-spec has_wrapped(file:filename()) -> boolean().
+has_wrapped(File) ->
+    seqaudit_events:begins_with(File, <<?WRAPPED>>).
 
 %% @doc Processes each once, in the order in which a bundle lists them: by the numbers of their pids.
 -spec in_order([pid_text()]) -> [pid_text()].
@@ -89,17 +98,24 @@ close({Pid, Events, _}, Done) -> [{Pid, lists:reverse(Events)} | Done].
 parse_event(Line, At, Separators) ->
     try binary:split(Line, Separators, [global, trim_all]) of
         [<<"seq_trace">>, Label, Kind, Prev, This, From, To, Value] ->
-            #{kind => kind(Kind), label => Label, prev => binary_to_integer(Prev),
-              this => binary_to_integer(This), from => From, to => receiver(To), value => Value,
-              at => At};
+            #{kind => kind(Kind), label => Label, prev => count(Prev), this => count(This), from => From, to => receiver(To),
+              value => Value, at => At};
         _ ->
             none
     catch
         error:_ -> none
     end.
 
+%% The programs compare counts without a sign, as a node does.
+count(Text) ->
+    case binary_to_integer(Text) of
+        Count when Count < 0 -> Count + ?SERIALS;
+        Count -> Count
+    end.
+
 kind(<<"send">>) -> send;
 kind(<<"'receive'">>) -> 'receive';
+kind(<<"answer">>) -> 'receive';
 kind(<<"print">>) -> print.
 
 receiver(<<"[]">>) -> none;

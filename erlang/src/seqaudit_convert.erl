@@ -224,11 +224,21 @@ parts(#build{actors = Actors, others = Others} = Build) ->
     Labels = seqaudit_numbers:listed(Build#build.labels),
     LabelNumbers = seqaudit_terms:label_numbers(Labels),
     LabelTexts = list_to_tuple([integer_to_binary(maps:get(Label, LabelNumbers)) || Label <- Labels]),
-    {Streams, Nameless, Placed} = streams(Packed, Spelled),
+    Spawns = seqaudit_spawns:read(Build#build.values),
+    OfActors = list_to_tuple(element(1, Listed)),
+    {Streams, Nameless, Placed} = streams(Packed, Spelled, {OfActors, Spawns}),
+    Wrapped = seqaudit_spawns:has_wrapped(Packed, Spawns),
     Sorted = lists:sort([{Number, Party} || {Party, Number} <- maps:to_list(Numbers)]),
     Counts = maps:merge(Build#build.counts, Resolved#{nameless => Nameless}),
+    IsAnswer = case Wrapped of
+                   true -> fun(Before, Event) -> seqaudit_spawns:is_answer(Before, Event, OfActors, Spawns) end;
+                   false -> fun(_, _) -> false end
+               end,
     ByLabel = lists:sort([{Number, Label} || {Label, Number} <- maps:to_list(LabelNumbers)]),
-    Bundle = fun(Out) -> bundle(Sorted, Streams, Packed, {Spelled, LabelTexts}, Out) end,
+    Bundle = fun(Out) ->
+                     ok = Out(header(Wrapped, Sorted)),
+                     bundle(Sorted, Streams, Packed, {Spelled, LabelTexts, IsAnswer}, Out)
+             end,
     Known = Build#build.known,
     Values = Build#build.values,
     Dots = atomics:new(seqaudit_numbers:size(Values) + 1, []),
@@ -238,7 +248,7 @@ parts(#build{actors = Actors, others = Others} = Build) ->
     {maps:from_list([{seqtrace, Bundle}, {terms, Terms}, {messages, Messages}]
                     ++ [{times, Times} || is_map_key(timestamps, Counts)]),
      #{collections => lists:reverse(Build#build.collections), counts => Counts,
-       samples => Build#build.samples, listed => Sorted, labels => ByLabel, events => Placed, kept => Kept}}.
+       samples => Build#build.samples, wrapped => Wrapped, listed => Sorted, labels => ByLabel, events => Placed, kept => Kept}}.
 
 noted(Bytes, #{listed := Listed, collections := Collections, counts := Counts} = Facts) ->
     Sizes = #{bytes => Bytes, processes => length(Listed), events => maps:get(events, Facts)},
@@ -286,14 +296,15 @@ spell(Party, {Actors, _}) -> element(Party + 1, Actors).
 
 %% The places of each process's events in the records, by its spelling; how many events name a party
 %% without a number, and how many don't.
-streams(Packed, Spelled) ->
+streams(Packed, Spelled, {Actors, Spawns}) ->
     Looked = seqaudit_workers:shares(Packed, fun(Part, First) -> streams(Part, First, Spelled, #{}, 0) end),
     {Streams, Nameless} =
         lists:foldl(fun({More, Other}, {Before, None}) ->
                             {maps:merge_with(fun(_, Places, Later) -> <<Places/binary, Later/binary>> end,
                                              Before, More), None + Other}
                     end, {#{}, 0}, Looked),
-    {maps:from_list([{spell(Party, Spelled), Places} || {Party, Places} <- maps:to_list(Streams)]),
+    Ordered = seqaudit_spawns:births_first(Streams, Packed, Actors, Spawns),
+    {maps:from_list([{spell(Party, Spelled), Places} || {Party, Places} <- maps:to_list(Ordered)]),
      Nameless, byte_size(Packed) div ?PACKED_SIZE - Nameless}.
 
 streams(<<?PACKED(Kind, _Label, _Prev, _This, From, To, _Value, _Time), Rest/binary>>, Place, Spelled,
@@ -313,35 +324,45 @@ placed(Actor, Place, Streams) ->
         #{} -> Streams#{Actor => <<Place:32>>}
     end.
 
+%% Only a text that needs a later version has it, so that all that read the first one read most.
+header(true, _Sorted) -> <<"seqtrace 3\n">>;
+header(false, Sorted) ->
+    case lists:any(fun({{Node, _}, _}) -> Node > 0 end, Sorted) of
+        true -> <<"seqtrace 2\n">>;
+        false -> <<"seqtrace 1\n">>
+    end.
+
 bundle(Sorted, Streams, Packed, Texts, Out) ->
-    ok = Out(case lists:any(fun({{Node, _}, _}) -> Node > 0 end, Sorted) of
-                 true -> <<"seqtrace 2\n">>;
-                 false -> <<"seqtrace 1\n">>
-             end),
     lists:foreach(fun({Number, _Party}) ->
                           Spelled = list_to_binary(seqaudit_processes:spell(Number)),
                           ok = Out([<<"process ">>, Spelled, $\n]),
-                          lines(maps:get(Spelled, Streams, <<>>), Packed, Texts, Out)
+                          lines(maps:get(Spelled, Streams, <<>>), <<>>, Packed, Texts, Out)
                   end, Sorted).
 
-lines(<<>>, _Packed, _Texts, _Out) ->
+%% The record of the event before tells whether an event is the answer of a spawn.
+lines(<<>>, _Last, _Packed, _Texts, _Out) ->
     ok;
-lines(Places, Packed, Texts, Out) ->
+lines(Places, Last, Packed, Texts, Out) ->
     Size = min(byte_size(Places), 4 * ?AT_ONCE),
     <<Now:Size/binary, Later/binary>> = Places,
-    ok = Out(append_lines(Now, Packed, Texts, <<>>)),
-    lines(Later, Packed, Texts, Out).
+    {Text, Record} = append_lines(Now, Last, Packed, Texts, <<>>),
+    ok = Out(Text),
+    lines(Later, Record, Packed, Texts, Out).
 
-append_lines(<<Place:32, Places/binary>>, Packed, {Spelled, Labels} = Texts, Before) ->
-    Begin = Place * ?PACKED_SIZE,
-    <<_:Begin/binary, ?PACKED(Kind, Label, Prev, This, From, To, Value, _Time), _/binary>> = Packed,
-    Text = <<Before/binary, "{seq_trace,", (element(Label + 1, Labels))/binary, (word(Kind))/binary,
+append_lines(<<Place:32, Places/binary>>, Last, Packed, {Spelled, Labels, IsAnswer} = Texts, Before) ->
+    Record = binary:part(Packed, Place * ?PACKED_SIZE, ?PACKED_SIZE),
+    <<?PACKED(Kind, Label, Prev, This, From, To, Value, _Time)>> = Record,
+    Word = case Kind =:= ?RECEIVE andalso IsAnswer(Last, Record) of
+               true -> <<",{answer,{">>;
+               false -> word(Kind)
+           end,
+    Text = <<Before/binary, "{seq_trace,", (element(Label + 1, Labels))/binary, Word/binary,
              (integer_to_binary(Prev))/binary, $,, (integer_to_binary(This))/binary, "},",
              (spell(From, Spelled))/binary, $,, (spell(To, Spelled))/binary, $,,
              (integer_to_binary(Value))/binary, "}}\n">>,
-    append_lines(Places, Packed, Texts, Text);
-append_lines(<<>>, _Packed, _Texts, Text) ->
-    Text.
+    append_lines(Places, Record, Packed, Texts, Text);
+append_lines(<<>>, Last, _Packed, _Texts, Text) ->
+    {Text, Last}.
 
 word(?SEND) -> <<",{send,{">>;
 word(?RECEIVE) -> <<",{'receive',{">>;
@@ -351,6 +372,8 @@ word(?PRINT) -> <<",{print,{">>.
 %% texts of some. It notes which of them have dots: all those that are cut do.
 terms(Sorted, Labels, {Known, Values}, {Numbers, Dots}, Out) ->
     ok = Out(seqaudit_legend:text(named(Sorted, Known), [], [], #{})),
+    ok = Out([["node\t", integer_to_binary(Node), $\t, unicode:characters_to_binary(seqaudit_terms:plain(Name)), $\n]
+              || {Node, Name} <- seqaudit_processes:further_nodes(Sorted)]),
     ok = Out([entry(<<"label">>, Number, Label, Numbers, <<>>) || {Number, Label} <- Labels]),
     seqaudit_workers:in_turn([fun() ->
                                       Entries = entries(First, Values, Numbers),

@@ -21,7 +21,7 @@ audit(#{"" := [_]} = Options) when is_map_key("--whole", Options); is_map_key("-
 audit(#{"" := [Name]} = Options) ->
     Wish = seqaudit_answer:wish(Options, [labels, processes, from, to]),
     seqaudit_answer:with_trace(Name, Wish, fun(#{streams := Streams, cut := Cut} = Trace) ->
-        Mistakes = seqaudit_outcome:mistakes(Name ++ ".seqtrace"),
+        Mistakes = seqaudit_answer:mistakes(Trace),
         case Mistakes =:= [] orelse is_of_size(hd(Mistakes)) of
             true ->
                 is_map_key("--json", Options) orelse io:put_chars(Cut),
@@ -37,8 +37,8 @@ audit(_) ->
 is_of_size(Mistake) ->
     re:run(Mistake, ": expected no [a-z]+ more than ", [{capture, none}]) =:= match.
 
-audit(Labels, Trace, Options) ->
-    Makes = [fun() -> {Label, Own, seqaudit_outcome:ask(Own)} end || {Label, Own} <- Labels],
+audit(Labels, #{wrapped := Wrapped} = Trace, Options) ->
+    Makes = [fun() -> {Label, Own, seqaudit_outcome:ask(Own, Wrapped)} end || {Label, Own} <- Labels],
     told(seqaudit_workers:fold(Makes, fun(Asked, Counts) -> tell(Asked, Trace, Options, Counts) end, #{}),
          length(Labels), Trace, Options).
 

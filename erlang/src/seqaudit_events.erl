@@ -13,7 +13,7 @@
 %% damage is taken, and the rest is counted.
 -module(seqaudit_events).
 
--export([fold/3, fold_list/3, read/1, is_collected/1, facts/1, open/1, begin_collection/2, append/2, close/1,
+-export([fold/3, fold_list/3, read/1, is_collected/1, begins_with/2, facts/1, open/1, begin_collection/2, append/2, close/1,
          whole_entries/3, writable/1, format_error/1]).
 -export_type([collection/0, item/0, facts/0, about/0]).
 
@@ -78,6 +78,8 @@ fold(File, Do, Acc) ->
 is_collected(File) ->
     filelib:is_dir(File) orelse begins_with(File, <<?HEADER>>).
 
+%% @doc Whether these are the first bytes of the file.
+-spec begins_with(file:filename(), binary()) -> boolean().
 begins_with(File, Begin) ->
     case file:open(File, [read, raw, binary]) of
         {ok, Device} ->

@@ -45,6 +45,13 @@ headline(#{said := never, finding := {Reason, Found}} = Outcome, Legend) ->
 headline(#{said := unexplained, finding := {Reason, Found}} = Outcome, Legend) ->
     format("not explained~ts: no run was found that reports this trace~ts (~ts)~n",
            [by(Outcome), about("; the search ended at ", Found, Legend), Reason]);
+headline(#{said := fault, fault := <<"fault wrapped">>} = Outcome, _Legend) ->
+    case is_cut(Outcome) of
+        true -> "not judged: counters have wrapped here, and the programs can't judge that yet\n";
+        false ->
+            "not judged as a whole: counters have wrapped, as they do where a service spawns under its tokens, and the "
+                "programs can't judge that yet; --each-label judges the labels of before\n"
+    end;
 headline(#{said := fault, fault := <<"fault", _/binary>> = Fault} = Outcome, _Legend) ->
     format("not audited~ts: ~ts~n", [by(Outcome), fault(Fault, Outcome)]);
 headline(#{said := fault, fault := Words} = Outcome, _Legend) ->
@@ -184,7 +191,9 @@ not_received(Waiting, Outcome, Legend) ->
             {", or came too late, as a reply may",
              fun(#{value := Value}) -> seqaudit_legend:is_reply_to_alias(Value, Legend) end},
             {", or reached another node without a token",
-             fun(#{from := From, to := To}) -> node_of(From) =/= node_of(To) end}],
+             fun(#{from := From, to := To}) ->
+                     node_of(From) =/= node_of(To) andalso not seqaudit_legend:has_further_nodes(Legend)
+             end}],
     [count(length(Waiting), "message"), case Waiting of [_] -> " has"; _ -> " have" end,
      case Outcome of
          #{cut := true} -> " no receive here";

@@ -9,10 +9,11 @@
 -module(seqaudit_external).
 
 -export([read/1, take/1, from_term/1, to_term/1, atom/1, name/2, view/1, event/1, tuple/1,
-         pairs/1, map/1, list/1, number/1, about_term/1, part/1, characters/3, request/1]).
+         pairs/1, map/1, list/1, number/1, call/1, about_term/1, part/1, characters/3, request/1]).
 -export_type([encoded/0, view/0, event/0]).
 
 -define(VERSION, 131).
+-define(RECORD, 67).
 -define(NEW_FLOAT, 70).
 -define(BIT_BINARY, 77).
 -define(NEW_PID, 88).
@@ -41,6 +42,9 @@
 -define(ATOM_UTF8, 118).
 -define(SMALL_ATOM_UTF8, 119).
 -define(V4_PORT, 120).
+%% A tag that no release has that was tried is that of a newer one.
+-define(IS_KNOWN(Tag), Tag =:= ?RECORD; Tag =:= ?NEW_FLOAT; Tag =:= ?BIT_BINARY; Tag >= ?NEW_PID, Tag =< ?NEWER_REFERENCE;
+        Tag >= ?SMALL_INTEGER, Tag =< ?MAP; Tag >= ?ATOM_UTF8, Tag =< ?V4_PORT).
 
 %% So many pairs of a map are sorted as a list, which takes far more memory than their bytes; larger
 %% maps are merged of parts that are.
@@ -72,7 +76,7 @@
 %% process, and what `ttb' knows of it).
 
 -type event() :: {send | 'receive' | print, Label :: encoded(),
-                  {Prev :: non_neg_integer(), This :: non_neg_integer()},
+                  {Prev :: integer(), This :: integer()},
                   From :: encoded(), To :: encoded(), Message :: encoded(),
                   Time :: encoded() | none}.
 
@@ -92,7 +96,8 @@ take(Bytes) ->
     try one(Bytes) of
         {Term, Rest} -> {ok, Term, Rest}
     catch
-        throw:damaged -> error
+        throw:damaged -> error;
+        throw:{newer, _} -> error
     end.
 
 %% @doc The bytes of a term of this Erlang.
@@ -213,6 +218,9 @@ walk_other(<<?MAP, Pairs:32, Rest/binary>>, Left, Depth, Done) ->
     walk(Rest, Left - 1 + 2 * Pairs, Depth, <<Done/binary, ?MAP, Pairs:32>>);
 walk_other(<<?LARGE_TUPLE, Arity:32, Rest/binary>>, Left, Depth, Done) ->
     walk(Rest, Left - 1 + Arity, Depth, <<Done/binary, ?LARGE_TUPLE, Arity:32>>);
+%% A native record of OTP 29: its module and name, the names of its fields, and their values.
+walk_other(<<?RECORD, Fields:32, Flag, Rest/binary>>, Left, Depth, Done) ->
+    walk(Rest, Left + 1 + 2 * Fields, Depth, <<Done/binary, ?RECORD, Fields:32, Flag>>);
 walk_other(<<?EXPORT, Rest/binary>>, Left, Depth, Done) ->
     walk(Rest, Left + 2, Depth, <<Done/binary, ?EXPORT>>);
 walk_other(<<?NEW_FUN, _Size:32, Fixed:21/binary, Free:32, Rest0/binary>>, Left, Depth, Done) ->
@@ -266,8 +274,12 @@ seldom(<<?FLOAT, Text:31/binary, Rest/binary>>) ->
     try {<<?NEW_FLOAT, (binary_to_float(Digits)):64/float>>, Rest}
     catch error:badarg -> throw(damaged)
     end;
-seldom(Bytes) ->
-    take_atom(Bytes).
+seldom(<<Tag, _/binary>> = Bytes) when ?IS_KNOWN(Tag) ->
+    take_atom(Bytes);
+seldom(<<Tag, _/binary>>) ->
+    throw({newer, Tag});
+seldom(<<>>) ->
+    throw(damaged).
 
 with_node(Bytes, Size, Make) ->
     {Node, Rest0} = take_atom(Bytes),
@@ -401,45 +413,47 @@ atom_name(<<?ATOM, Size:16, Name:Size/binary, Rest/binary>>) -> {Name, Rest};
 atom_name(<<?ATOM_UTF8, Size:16, Name:Size/binary, Rest/binary>>) -> {Name, Rest};
 atom_name(_) -> none.
 
-%% @doc The event that the bytes of a term are; `other' if they are another term.
--spec event(binary()) -> {ok, event()} | other | damaged.
+%% @doc The event that the bytes of a term are; `other' if they are another term, and `newer' if a tag in them is of a
+%% release of OTP that is newer than this application.
+-spec event(binary()) -> {ok, event()} | other | newer | damaged.
 event(Bytes) ->
     try event_of(Bytes)
-    catch throw:damaged -> damaged
+    catch
+        throw:damaged -> damaged;
+        throw:{newer, _} -> newer
     end.
 
-event_of(<<?SMALL_TUPLE, _, ?SMALL_ATOM_UTF8, _/binary>> = Bytes) ->
-    case one(Bytes) of
-        {Event, <<>>} -> event_head(Event);
-        _ -> damaged
-    end;
-event_of(Bytes) ->
-    event_head(Bytes).
-
-%% As OTP 25 writes it; what another release wrote is put into that form first.
-event_head(<<?SMALL_TUPLE, Arity, ?ATOM, 9:16, "seq_trace", Rest0/binary>> = Bytes)
+%% OTP 25 and 27 write short atoms with another tag.
+event_of(<<?SMALL_TUPLE, Arity, ?ATOM, 9:16, "seq_trace", Rest/binary>> = Bytes) when Arity =:= 3; Arity =:= 4 ->
+    event_of(Rest, Arity, Bytes);
+event_of(<<?SMALL_TUPLE, Arity, ?SMALL_ATOM_UTF8, 9, "seq_trace", Rest/binary>> = Bytes)
   when Arity =:= 3; Arity =:= 4 ->
-    {Label, Rest1} = one(Rest0),
-    case Rest1 of
-        <<?SMALL_TUPLE, 5, ?ATOM, 4:16, "send", Rest2/binary>> ->
-            event_body(send, Rest2, Arity, Label, Bytes);
-        <<?SMALL_TUPLE, 5, ?ATOM, 7:16, "receive", Rest2/binary>> ->
-            event_body('receive', Rest2, Arity, Label, Bytes);
-        <<?SMALL_TUPLE, 5, ?ATOM, 5:16, "print", Rest2/binary>> ->
-            event_body(print, Rest2, Arity, Label, Bytes);
-        _ ->
-            other(Bytes)
-    end;
-event_head(Bytes) ->
+    event_of(Rest, Arity, Bytes);
+event_of(Bytes) ->
     other(Bytes).
 
-event_body(Kind, <<?SMALL_TUPLE, 2, Rest0/binary>>, Arity, Label, Bytes) ->
+event_of(Rest0, Arity, Bytes) ->
+    {Label, Rest1} = one(Rest0),
+    case Rest1 of
+        <<?SMALL_TUPLE, 5, ?ATOM, Size:16, Kind:Size/binary, Rest/binary>> ->
+            event_body(event_kind(Kind), Rest, Arity, Label, Bytes);
+        <<?SMALL_TUPLE, 5, ?SMALL_ATOM_UTF8, Size, Kind:Size/binary, Rest/binary>> ->
+            event_body(event_kind(Kind), Rest, Arity, Label, Bytes);
+        _ ->
+            other(Bytes)
+    end.
+
+event_kind(<<"send">>) -> send;
+event_kind(<<"receive">>) -> 'receive';
+event_kind(<<"print">>) -> print;
+event_kind(_) -> none.
+
+event_body(Kind, <<?SMALL_TUPLE, 2, Rest0/binary>>, Arity, Label, Bytes) when Kind =/= none ->
     {Prev, Rest1} = count(Rest0),
     {This, Rest2} = count(Rest1),
     {From, Rest3} = one(Rest2),
     {To, Rest4} = one(Rest3),
-    {Message, Rest5} = one(Rest4),
-    Time = time(Arity, Rest5),
+    {Message, Time} = message(Arity, Rest4),
     case Prev =:= other orelse This =:= other of
         true -> other(Bytes);
         false -> {ok, {Kind, Label, {Prev, This}, From, To, Message, Time}}
@@ -447,10 +461,18 @@ event_body(Kind, <<?SMALL_TUPLE, 2, Rest0/binary>>, Arity, Label, Bytes) ->
 event_body(_Kind, _, _Arity, _Label, Bytes) ->
     other(Bytes).
 
-%% A number of a serial.
+%% Nobody knows where a term of a newer release ends, so such a message has all bytes that are left, and no time.
+message(Arity, Bytes) ->
+    try one(Bytes) of
+        {Message, Rest} -> {Message, time(Arity, Rest)}
+    catch
+        throw:{newer, _} -> {Bytes, none}
+    end.
+
+%% A number of a serial: a node shows the lowest 60 bits of its counters with their sign.
 count(<<?SMALL_INTEGER, N, Rest/binary>>) -> {N, Rest};
-count(<<?INTEGER, N:32/signed, Rest/binary>>) when N >= 0 -> {N, Rest};
-count(<<?SMALL_BIG, Size, 0, N:Size/little-unit:8, Rest/binary>>) -> {N, Rest};
+count(<<?INTEGER, N:32/signed, Rest/binary>>) -> {N, Rest};
+count(<<?SMALL_BIG, Size, Sign, N:Size/little-unit:8, Rest/binary>>) -> {signed(Sign, N), Rest};
 count(Bytes) ->
     {_, Rest} = one(Bytes),
     {other, Rest}.
@@ -476,6 +498,18 @@ number(<<?INTEGER, N:32/signed>>) -> N;
 number(<<?SMALL_BIG, Size, 0, N:Size/little-unit:8>>) when Size =< 8 -> N;
 number(<<?SMALL_BIG, Size, 1, N:Size/little-unit:8>>) when Size =< 8 -> -N;
 number(_) -> other.
+
+%% @doc The function that a triple of its module, name and arity means.
+-spec call(encoded()) -> {Module :: binary(), Function :: binary(), Arity :: integer()} | other.
+call(Term) ->
+    case tuple(Term) of
+        [First, Second, Third] ->
+            case {view(First), view(Second), number(Third)} of
+                {{atom, Module}, {atom, Function}, Arity} when is_integer(Arity) -> {Module, Function, Arity};
+                _ -> other
+            end;
+        _ -> other
+    end.
 
 %% @doc The elements of a tuple.
 -spec tuple(encoded()) -> [encoded()] | other.
@@ -526,14 +560,18 @@ about_term(About) ->
     maps:map(fun(name, Name) -> to_term(atom(Name)); (call, Call) -> to_term(Call) end, About).
 
 %% @doc The outermost part of the first term of these bytes: what its elements are read from, or the
-%% whole leaf.
+%% whole leaf. Behind a tag of a newer release nothing can be read.
 -spec part(encoded()) -> {tuple | list | map, non_neg_integer(), binary()}
-                       | {string, binary(), binary()} | {leaf, term(), binary()}.
+                       | {record, Module :: binary(), Name :: binary(), Fields :: [binary()], binary()}
+                       | {string, binary(), binary()} | {leaf, term(), binary()} | {newer, Tag :: byte()}.
 part(<<?SMALL_TUPLE, Arity, Rest/binary>>) -> {tuple, Arity, Rest};
 part(<<?LARGE_TUPLE, Arity:32, Rest/binary>>) -> {tuple, Arity, Rest};
 part(<<?LIST, Length:32, Rest/binary>>) -> {list, Length, Rest};
 part(<<?STRING, Size:16, Bytes:Size/binary, Rest/binary>>) -> {string, Bytes, Rest};
 part(<<?MAP, Pairs:32, Rest/binary>>) -> {map, Pairs, Rest};
+part(<<?RECORD, Count:32, _Flag, Rest0/binary>>) ->
+    {[Module, Name | Fields], Rest} = atoms(2 + Count, Rest0, []),
+    {record, Module, Name, Fields, Rest};
 part(<<?NIL, Rest/binary>>) -> {leaf, nil, Rest};
 part(<<?SMALL_INTEGER, N, Rest/binary>>) -> {leaf, {integer, N}, Rest};
 part(<<?INTEGER, N:32/signed, Rest/binary>>) -> {leaf, {integer, N}, Rest};
@@ -549,8 +587,19 @@ part(<<?EXPORT, Rest/binary>>) ->
     {Arity, After} = one(Rest1),
     {leaf, {export, <<?SMALL_TUPLE, 3, Module/binary, Function/binary, Arity/binary>>}, After};
 part(Bytes) ->
-    {Leaf, Rest} = one(Bytes),
-    {leaf, leaf(Leaf), Rest}.
+    try one(Bytes) of
+        {Leaf, Rest} -> {leaf, leaf(Leaf), Rest}
+    catch
+        throw:{newer, Tag} -> {newer, Tag}
+    end.
+
+%% The names of so many atoms.
+atoms(0, Rest, Names) ->
+    {lists:reverse(Names), Rest};
+atoms(Left, Bytes, Names) ->
+    {Atom, Rest} = take_atom(Bytes),
+    {Name, <<>>} = atom_name(Atom),
+    atoms(Left - 1, Rest, [Name | Names]).
 
 %% The numbers of a reference, last first, as Erlang prints them.
 ids(0, Rest, Ids) -> {Ids, Rest};

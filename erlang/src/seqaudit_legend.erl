@@ -1,13 +1,14 @@
 %% @doc `NAME.terms', which says what each number of a bundle means.
 %%
 %% It is text in UTF-8, a line an entry, with tabs between its parts: `process PID NAME WHAT',
-%% `label NUMBER TERM' and `value NUMBER TERM'. All of them are kept as binaries, as they are in
+%% `label NUMBER TERM' and `value NUMBER TERM'; and `node NUMBER NAME' for each further number of a node
+%% that has more than one. All of them are kept as binaries, as they are in
 %% the text of a bundle and in what `seqaudit' writes.
 -module(seqaudit_legend).
 
 -export([text/4, read/1, numbers/1, unlisted/2, is_unlisted/2, process/2, about/2, is_port/2, label/2, value/2,
          brief/2]).
--export([of_cut/1, is_of_cut/1, absent/1, present/1]).
+-export([has_further_nodes/1, of_cut/1, is_of_cut/1, absent/1, present/1]).
 -export([is_spawned/2, is_reply_to_alias/2, find_label/2, which_label/2, format_error/1]).
 -export_type([legend/0]).
 
@@ -31,7 +32,7 @@
                 {?SPAWNED, ["spawned ", 1]},
                 {"^\\{" ?TAG ",(.*)\\}$", ["reply ", 1]}]).
 
--opaque legend() :: #{{process | about | unlisted | label | value, binary()} => binary(), style => binary(),
+-opaque legend() :: #{{process | about | unlisted | node | label | value, binary()} => binary(), style => binary(),
                       cut => binary()}.
 
 %% @doc The text of the file: the processes by pid, with a short name and all that is known of each,
@@ -79,6 +80,8 @@ read_lines([Line | Lines], Number, Legend, File) ->
         [<<"process">>, Pid, Name, What] ->
             Named = Legend#{{process, Pid} => Name, {about, Pid} => What},
             read_lines(Lines, Number + 1, Named, File);
+        [<<"node">>, Node, Name] ->
+            read_lines(Lines, Number + 1, Legend#{{node, Node} => Name}, File);
         [<<"label">>, Label, Term] ->
             read_lines(Lines, Number + 1, Legend#{{label, Label} => Term}, File);
         [<<"value">>, Value, Term] ->
@@ -106,6 +109,10 @@ unlisted(Pids, Legend) ->
 %% @doc Whether the trace doesn't list the process.
 -spec is_unlisted(binary(), legend()) -> boolean().
 is_unlisted(Pid, Legend) -> is_map_key({unlisted, Pid}, Legend).
+
+%% @doc Whether two node numbers may mean one node.
+-spec has_further_nodes(legend()) -> boolean().
+has_further_nodes(Legend) -> lists:any(fun({node, _}) -> true; (_) -> false end, maps:keys(Legend)).
 
 %% @doc The legend of a trace that was cut.
 -spec of_cut(legend()) -> legend().

@@ -15,7 +15,7 @@
 -define(MOST_PROCESSES, 1_000_000).
 -define(MOST_EVENTS, 16_000_000).
 %% This many entries of one kind are listed; `NAME.terms' has them all.
--define(LISTED, 50).
+-define(LISTED, 5).
 %% Reasons come from files, so little of them is shown.
 -define(REASON, 200).
 %% A byte that says what it is, and four with the size.
@@ -23,7 +23,7 @@
 
 -define(HEADER, <<"seqaudit facts 1">>).
 %% What is gone if there is a fact of this kind.
--define(LOSSES, [nothing, lost, unread, ended, dropped, left, damaged, no_events, pauses, written_over, taken,
+-define(LOSSES, [nothing, lost, unread, ended, dropped, left, damaged, newer, no_events, pauses, written_over, taken,
                  nameless]).
 
 -type fact() :: {Kind :: atom(), Sentence :: string()}.
@@ -34,8 +34,8 @@
 %% bytes are known: they are taken to be as large as the kept ones.
 -spec dropped([seqaudit_build:collected()], #{atom() => non_neg_integer()}) -> non_neg_integer().
 dropped(Collections, Counts) ->
-    count(nameless, Counts) + count(strays, Counts) + count(damaged, Counts) + count(no_events, Counts)
-        + lists:sum([known(Kind, Collection) || Collection <- Collections,
+    count(nameless, Counts) + count(strays, Counts) + count(damaged, Counts) + count(newer, Counts)
+        + count(no_events, Counts) + lists:sum([known(Kind, Collection) || Collection <- Collections,
                                                 Kind <- [dropped, own, strays]])
         + lists:sum([Events || Collection <- Collections, {_, Events} <- [over(Collection)]]).
 
@@ -65,15 +65,19 @@ over(_) ->
 
 %% @doc The facts, of which each sentence is a note; nothing if there is nothing to say.
 -spec facts(#{collections := [seqaudit_build:collected()], counts := #{atom() => non_neg_integer()},
+              wrapped := boolean(),
               listed := [{seqaudit_processes:pid_number(), seqaudit_processes:party()}],
               labels := [{non_neg_integer(), seqaudit_external:encoded()}], atom() => term()},
             sizes()) -> [fact()].
-facts(#{collections := Collections, counts := Counts, samples := Samples, listed := Listed, labels := Labels}, Sizes) ->
+facts(#{collections := Collections, counts := Counts, samples := Samples, wrapped := Wrapped, listed := Listed,
+        labels := Labels}, Sizes) ->
     Known = lists:append([collected(Collection) || Collection <- Collections]) ++ converted(Counts, Samples),
     lists:append([of_kind(nothing, [nothing() || is_nothing(Known, Sizes)]),
                   Known,
+                  of_kind(wrapped, [wrapped() || Wrapped]),
                   of_kind(limits, limits(Sizes)),
                   of_kind(nodes, several("nodes are numbered by name: ", nodes_of(Listed))),
+                  of_kind(further_nodes, further_nodes(seqaudit_processes:further_nodes(Listed))),
                   of_kind(renumbered, several("no processes, or their number was taken, so they have free numbers: ",
                                               renumbered(Listed))),
                   of_kind(labels, several("labels that aren't numbers from 0 to 4294967295 have numbers: ",
@@ -98,6 +102,10 @@ losses(Text) ->
 -spec nothing() -> string().
 nothing() ->
     "no events came; set a token while the tracer is on, as seqaudit_trace:with_trace/2 does".
+
+wrapped() ->
+    "counters have wrapped: each spawn under a token multiplies them by 16, and a serial shows their lowest 60 bits with "
+        "a sign; so NAME.seqtrace is of version 3, which has the counts as the node prints them".
 
 %% If something is gone, events may have come.
 is_nothing(Known, #{events := 0}) -> [] =:= [Kind || {Kind, _} <- Known, lists:member(Kind, ?LOSSES)];
@@ -275,11 +283,12 @@ converted(Counts, Samples) ->
               "its own"},
              {strays, "convert left out ~ts that seq_trace doesn't write"},
              {damaged, "convert left out ~ts that can't be read, since it is damaged"},
+             {newer, "convert left out ~ts with terms of a newer Erlang/OTP than this version knows"},
              {no_events, "convert left out ~ts of seq_trace whose form it doesn't know"},
-             {nameless, "convert left out ~ts, as it takes 65,536 nodes and as many processes of each"}],
+             {nameless, "convert left out ~ts, as a trace has 65,536 node numbers and as many processes of each"}],
         count(Kind, Counts) > 0].
 
-thing(Kind) when Kind =:= strays; Kind =:= damaged; Kind =:= no_events -> "entry";
+thing(Kind) when Kind =:= strays; Kind =:= damaged; Kind =:= newer; Kind =:= no_events -> "entry";
 thing(nameless) -> "event";
 thing(_) -> "send".
 
@@ -300,8 +309,16 @@ limits(Sizes) ->
                          {events, ?MOST_EVENTS}],
         count(Kind, Sizes) > Most].
 
+further_nodes([]) ->
+    [];
+further_nodes(Further) ->
+    [text("more processes than a node number has numbers for: ~ts, of which NAME.terms says which nodes they mean",
+          [seqaudit_explain:count(length(Further), "further node number")])].
+
 nodes_of(Listed) ->
-    case lists:usort([{Node, seqaudit_processes:home(Party)} || {{Node, _}, Party} <- Listed]) of
+    Further = maps:from_list(seqaudit_processes:further_nodes(Listed)),
+    case lists:usort([{Node, seqaudit_processes:home(Party)}
+                      || {{Node, _}, Party} <- Listed, not is_map_key(Node, Further)]) of
         [_, _ | _] = Nodes -> [text("~b is ~ts", [Number, seqaudit_terms:plain(Node)])
                                || {Number, Node} <- Nodes];
         _ -> []

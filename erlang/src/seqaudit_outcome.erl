@@ -11,7 +11,7 @@
 %% ({@link seqaudit_exchange}): the prevs alone if that is enough, else all of them.
 -module(seqaudit_outcome).
 
--export([ask/1, mistakes/1, rows/1]).
+-export([ask/1, ask/2, mistakes/1, rows/1]).
 -export_type([outcome/0, finding/0]).
 
 -type finding() :: {Reason :: binary(), [{seqaudit_bundle:place(), seqaudit_bundle:event()}]}.
@@ -60,9 +60,22 @@
 %% So many lines of what it says are shown: three mistakes, each with its line and a remark.
 -define(MISTAKE_LINES, 12).
 
-%% @doc Asks the programs. If streams don't fit, they are asked again with each event once.
+%% @equiv ask(Streams, false)
 -spec ask(seqaudit_bundle:streams()) -> {ok, outcome()} | {error, term()}.
 ask(Streams) ->
+    ask(Streams, false).
+
+%% @doc Asks the programs. If streams don't fit, they are asked again with each event once. Of a trace in which counters
+%% have wrapped a run can be found, but no reason against one is believed: the programs take a counter that has wrapped
+%% for one that went back.
+-spec ask(seqaudit_bundle:streams(), Wrapped :: boolean()) -> {ok, outcome()} | {error, term()}.
+ask(Streams, true) ->
+    case ask_as_it_is(Streams) of
+        {ok, #{said := Said} = Outcome} when Said =:= never; Said =:= unexplained ->
+            {ok, fault(<<"fault wrapped">>, Outcome)};
+        Answer -> Answer
+    end;
+ask(Streams, false) ->
     case ask_once(Streams) of
         {ok, #{said := never} = Outcome} -> ask_without(seqaudit_bundle:copies(Streams), Streams, Outcome);
         Answer -> Answer

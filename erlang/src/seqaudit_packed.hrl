@@ -1,10 +1,10 @@
 %% The record of an event: its kind, numbers for its label and message, its serial, its parties, and
 %% its time in nanoseconds.
 -define(PACKED(Kind, Label, Prev, This, From, To, Value, Time),
-        Kind:8, From:32, Label:32, Prev:64, This:64, Value:32, To:32, Time:64/signed).
--define(PACKED_SIZE, 41).
+        Kind:8, From:32, Label:32, Prev:72/signed, This:72/signed, Value:32, To:32, Time:64/signed).
+-define(PACKED_SIZE, 43).
 %% The same record; the key is what a send and its receive have in common.
--define(KEYED(Kind, Key, To, Time), Kind:8, Key:28/binary, To:32, Time:8/binary).
+-define(KEYED(Kind, Key, To, Time), Kind:8, Key:30/binary, To:32, Time:8/binary).
 
 -define(SEND, 0).
 -define(RECEIVE, 1).

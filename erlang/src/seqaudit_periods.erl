@@ -180,17 +180,20 @@ outcome(Period, _Events, How, Later) ->
     {ok, Legend} = seqaudit_legend:read(Period ++ ".terms"),
     {ok, Streams} = seqaudit_bundle:read(Period ++ ".seqtrace"),
     Lost = seqaudit_answer:losses(Period),
-    {Verdict, Line} = said(seqaudit_outcome:ask(Streams), Streams, Lost =/= [], Legend),
+    Asked = seqaudit_outcome:ask(Streams, seqaudit_bundle:has_wrapped(Period ++ ".seqtrace")),
+    {Verdict, Line} = said(Asked, Streams, Lost =/= [], Legend),
     {ok, Verdict, [Line, losses(Lost), "; ", How], Later}.
 
 %% The files of a period that fits go, so what it lacks is said here.
 losses(Losses) -> [["; ", Loss] || Loss <- Losses].
 
 said({ok, #{said := fault, fault := <<"fault too ", _/binary>>}}, Streams, _IsLost, _Legend) ->
-    too_many(Streams);
+    by_label("too many for the programs at once", Streams, false);
+said({ok, #{said := fault, fault := <<"fault wrapped">>}}, Streams, _IsLost, _Legend) ->
+    by_label("not judged as a whole, as counters have wrapped", Streams, true);
 %% Neither renumbered nor completed.
 said({ok, #{said := unexplained, large := true}}, Streams, _IsLost, _Legend) ->
-    too_many(Streams);
+    by_label("too many for the programs at once", Streams, false);
 said({ok, Outcome}, _Streams, IsLost, Legend) ->
     Said = Outcome#{cut => true, lost => IsLost},
     {verdict(Said), string:trim(unicode:characters_to_list(seqaudit_explain:headline(Said, Legend)))};
@@ -199,15 +202,15 @@ said({error, Reason}, Streams, _IsLost, _Legend) ->
 
 count(Streams) -> seqaudit_explain:count(seqaudit_bundle:events(Streams), "event").
 
-%% A period that is too large as a whole may fit label by label.
-too_many(Streams) ->
-    {Verdict, Line} = each_label(Streams),
-    {Verdict, [count(Streams), ", too many for the programs at once; ", Line,
+%% A period that can't be judged as a whole may fit label by label.
+by_label(Why, Streams, Wrapped) ->
+    {Verdict, Line} = each_label(Streams, Wrapped),
+    {Verdict, [count(Streams), ", ", Why, "; ", Line,
                seqaudit_explain:by_whom(seqaudit_program:lacks_proofs())]}.
 
-each_label(Streams) ->
+each_label(Streams, Wrapped) ->
     Labels = seqaudit_each:by_label(Streams),
-    Counts = seqaudit_workers:fold([fun() -> seqaudit_outcome:ask(Own) end || {_, Own} <- Labels],
+    Counts = seqaudit_workers:fold([fun() -> seqaudit_outcome:ask(Own, Wrapped) end || {_, Own} <- Labels],
                                    fun(Asked, Known) ->
                                            maps:update_with(label_verdict(Asked), fun(N) -> N + 1 end, 1, Known)
                                    end, #{}),

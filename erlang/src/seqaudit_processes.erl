@@ -6,7 +6,7 @@
 %% 65,535, and for what is no process, a number is taken that nobody has, from 65,535 downwards.
 -module(seqaudit_processes).
 
--export([number/1, is_own/2, home/1, spell/1, name/3, what/2]).
+-export([number/1, further_nodes/1, is_own/2, home/1, spell/1, name/3, what/2]).
 -export_type([party/0, pid_number/0, numbers/0]).
 
 -define(GREATEST, 65_535).
@@ -31,8 +31,18 @@ number(Parties) ->
                                               {process, Node, Number, Serial} <- [view(Pid)]])),
     Others = [Party || Party <- Here, element(1, view(Party)) =/= process],
     Wanting = Rest ++ [{maps:get(home(Party), Nodes), Party} || Party <- Others],
-    {Numbers, _} = lists:foldl(fun free_number/2, {Own, {taken(Own), #{}}}, Wanting),
+    {Numbers, _} = lists:foldl(fun free_number/2, {Own, {taken(Own), #{}, length(Names)}}, Wanting),
     Numbers.
+
+%% @doc The node numbers that aren't the first of their node, with its name.
+-spec further_nodes([{pid_number(), party()}]) -> [{Node :: 0..?GREATEST, Name :: binary()}].
+further_nodes(Listed) ->
+    Homes = maps:from_list([{Node, Party} || {{Node, _}, Party} <- Listed]),
+    {Further, _} = lists:foldl(fun({Node, Party}, {Found, Names}) ->
+                                       Name = home(Party),
+                                       {[{Node, Name} || is_map_key(Name, Names)] ++ Found, Names#{Name => Node}}
+                               end, {[], #{}}, lists:sort(maps:to_list(Homes))),
+    lists:reverse(Further).
 
 %% The first process with a number in range keeps it; the others are left over.
 own_numbers(Sorted) ->
@@ -49,10 +59,16 @@ own_numbers(Sorted) ->
 taken(Numbers) ->
     maps:from_list([{Number, Party} || {Party, Number} <- maps:to_list(Numbers)]).
 
-free_number({Node, Party}, {Numbers, {Taken, Next}}) ->
-    case free(Node, maps:get(Node, Next, ?GREATEST), Taken) of
-        none -> {Numbers, {Taken, Next#{Node => -1}}};
-        N -> {Numbers#{Party => {Node, N}}, {Taken, Next#{Node => N - 1}}}
+%% `Next' has where the free numbers of a node go on, and `Further' is the first node number that no node has.
+free_number({Node, Party}, {Numbers, {Taken, Next, Further}}) ->
+    {At, From} = maps:get(Node, Next, {Node, ?GREATEST}),
+    case free(At, From, Taken) of
+        none when Further > ?GREATEST ->
+            {Numbers, {Taken, Next#{Node => {At, -1}}, Further}};
+        none ->
+            free_number({Node, Party}, {Numbers, {Taken, Next#{Node => {Further, ?GREATEST}}, Further + 1}});
+        N ->
+            {Numbers#{Party => {At, N}}, {Taken, Next#{Node => {At, N - 1}}, Further}}
     end.
 
 free(_Node, N, _Taken) when N < 0 -> none;

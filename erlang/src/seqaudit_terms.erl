@@ -119,8 +119,10 @@ short(Text, Length) ->
 %% more; dots replace what is left out.
 print(_Bytes, _Depth, 0, _, Before) -> {<<Before/binary, "...">>, 0, unread};
 print(Bytes, 0, Parts, _, Before) ->
-    {ok, _, Rest} = seqaudit_external:take(Bytes),
-    {<<Before/binary, "...">>, Parts, Rest};
+    case seqaudit_external:take(Bytes) of
+        {ok, _, Rest} -> {<<Before/binary, "...">>, Parts, Rest};
+        error -> {<<Before/binary, "...">>, 0, unread}
+    end;
 print(Bytes, Depth, Parts, Style, Before) ->
     case seqaudit_external:part(Bytes) of
         {tuple, Arity, Rest} ->
@@ -133,9 +135,21 @@ print(Bytes, Depth, Parts, Style, Before) ->
         {map, Pairs, Rest} ->
             {Text, Left, After} = print_map(Pairs, Rest, Depth - 1, Parts - 1, Style, <<Before/binary, "#{">>),
             {<<Text/binary, $}>>, Left, After};
+        {record, Module, Name, Fields, Rest} ->
+            Begun = <<Before/binary, $#, (atom_text(Module))/binary, $:, (atom_text(Name))/binary, ${>>,
+            {Text, Left, After} = print_fields(Fields, Rest, Depth - 1, Parts - 1, Style, Begun),
+            {<<Text/binary, $}>>, Left, After};
         {leaf, Leaf, Rest} ->
-            {leaf(Leaf, Style, Before), Parts - 1, Rest}
+            {leaf(Leaf, Style, Before), Parts - 1, Rest};
+        {newer, Tag} ->
+            {<<Before/binary, "#Newer<", (integer_to_binary(Tag))/binary, $>>>, 0, unread}
     end.
+
+print_fields([], Rest, _Depth, Parts, _, Before) -> {Before, Parts, Rest};
+print_fields(_, _Rest, _Depth, 0, _, Before) -> {<<Before/binary, "...">>, 0, unread};
+print_fields([Name | Names], Bytes, Depth, Parts, Style, Before) ->
+    {Text, Left, Rest} = print(Bytes, Depth, Parts, Style, <<Before/binary, (atom_text(Name))/binary, " = ">>),
+    print_fields(Names, Rest, Depth, Left, Style, separated(length(Names) + 1, Text)).
 
 print_parts(0, Rest, _Depth, Parts, _, Before) -> {Before, Parts, Rest};
 print_parts(_, _Rest, _Depth, 0, _, Before) -> {<<Before/binary, "...">>, 0, unread};
@@ -228,18 +242,33 @@ escaped(Characters) ->
 
 print_map(Pairs, Bytes, Depth, Parts, Style, Before)
   when Pairs > 1, Pairs =< ?ORDERED, Depth >= Style#style.unordered ->
-    {Keyed, Rest} = pairs(Pairs, Bytes, []),
-    {Text, Left} = print_pairs([{Key, Value} || {_, Key, Value} <- lists:sort(Keyed)], Depth, Parts,
-                               Style, Before),
-    {Text, Left, Rest};
+    case pairs(Pairs, Bytes, []) of
+        {Keyed, Rest} ->
+            {Text, Left} = print_pairs([{Key, Value} || {_, Key, Value} <- lists:sort(Keyed)], Depth, Parts,
+                                       Style, Before),
+            {Text, Left, Rest};
+        newer ->
+            print_pairs(Pairs, Bytes, Depth, Parts, Style, Before)
+    end;
 print_map(Pairs, Bytes, Depth, Parts, Style, Before) ->
     print_pairs(Pairs, Bytes, Depth, Parts, Style, Before).
 
 pairs(0, Rest, Done) -> {Done, Rest};
 pairs(Left, Bytes, Done) ->
-    {ok, Key, Rest0} = seqaudit_external:take(Bytes),
-    {ok, Value, Rest} = seqaudit_external:take(Rest0),
-    pairs(Left - 1, Rest, [{order(Key), Key, Value} | Done]).
+    case take_pair(Bytes) of
+        {Key, Value, Rest} -> pairs(Left - 1, Rest, [{order(Key), Key, Value} | Done]);
+        newer -> newer
+    end.
+
+take_pair(Bytes) ->
+    case seqaudit_external:take(Bytes) of
+        {ok, Key, Rest0} ->
+            case seqaudit_external:take(Rest0) of
+                {ok, Value, Rest} -> {Key, Value, Rest};
+                error -> newer
+            end;
+        error -> newer
+    end.
 
 %% Numbers come before atoms, and these before all else, as Erlang orders them.
 order(Key) ->
@@ -352,17 +381,9 @@ process(Process, Numbers) ->
 %% @doc What a process was started with, as `module:function/3'.
 -spec call(seqaudit_external:encoded()) -> string().
 call(Call) ->
-    case [seqaudit_external:view(Part) || Part <- tl(seqaudit_external:tuple(Call))] of
-        [{atom, Function}, _] ->
-            [First, _, Arity] = seqaudit_external:tuple(Call),
-            case {seqaudit_external:view(First), seqaudit_external:number(Arity)} of
-                {{atom, Module}, Number} when is_integer(Number) ->
-                    lists:flatten([atom(Module), $:, atom(Function), $/, integer_to_list(Number)]);
-                _ ->
-                    encoded(Call)
-            end;
-        _ ->
-            encoded(Call)
+    case seqaudit_external:call(Call) of
+        {Module, Function, Arity} -> lists:flatten([atom(Module), $:, atom(Function), $/, integer_to_list(Arity)]);
+        other -> encoded(Call)
     end.
 
 %% @doc An atom's text, in quotes if Erlang needs them. The atom isn't made.

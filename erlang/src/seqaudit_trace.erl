@@ -226,8 +226,13 @@ format_error({node, Node, unreachable}) ->
     text("node ~ts can't be reached; is it running, is its name spelled so, and is the cookie "
          "the same?", [Node]);
 format_error({node, Node, {load, Module, Reason}}) ->
-    text("~ts can't load ~ts (~0tp); compile it there with that node's own OTP release, or "
-         "with an older one", [Node, Module, Reason]);
+    text("node ~ts can't load ~ts (~0tp)", [Node, Module, Reason]);
+format_error({node, Node, {load_elsewhere, Module, Reason}}) ->
+    text("node ~ts can't load ~ts (~0tp): it has another release of OTP than this command, OTP ~ts, and no compiler; run "
+         "the command with that node's release", [Node, Module, Reason, erlang:system_info(otp_release)]);
+format_error({node, Node, {no_forms, Module}}) ->
+    text("node ~ts has another release of OTP than this command, and ~ts was compiled without debug information, from "
+         "which that node could compile it; `make -C erlang clean all' compiles it anew", [Node, Module]);
 format_error({node, Node, Reason}) ->
     text("no collector could be started on ~ts: ~0tp", [Node, Reason]);
 format_error({unwritable, File, Reason}) ->
@@ -395,26 +400,14 @@ start_on(Node, Options) ->
     try
         Release = erpc:call(Node, erlang, system_info, [otp_release], ?REMOTE_MS),
         is_enough(Release) orelse throw({otp, Release}),
-        lists:foreach(fun(Module) -> load(Node, Module) end, ?MODULES),
-        erpc:call(Node, seqaudit_collector, start, [Options], ?REMOTE_MS)
+        case seqaudit_load:on(Node, ?MODULES) of
+            ok -> erpc:call(Node, seqaudit_collector, start, [Options], ?REMOTE_MS);
+            {error, NotLoaded} -> {error, NotLoaded}
+        end
     catch
         error:{erpc, noconnection} -> {error, unreachable};
         error:{erpc, Reason} -> {error, Reason};
         throw:Reason -> {error, Reason}
-    end.
-
-%% Loads the module there, unless the very same is loaded already.
-load(Node, Module) ->
-    Here = Module:module_info(md5),
-    There = try erpc:call(Node, Module, module_info, [md5], ?REMOTE_MS)
-            catch error:{exception, undef, _} -> none
-            end,
-    Here =:= There orelse load_binary(Node, code:get_object_code(Module)).
-
-load_binary(Node, {Module, Binary, File}) ->
-    case erpc:call(Node, code, load_binary, [Module, File, Binary], ?REMOTE_MS) of
-        {module, Module} -> ok;
-        {error, Reason} -> throw({load, Module, Reason})
     end.
 
 %% Stops all collectors at once. One that is out of reach is tried a last time.

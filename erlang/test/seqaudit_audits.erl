@@ -2,7 +2,7 @@
 %% program if it is built and has the command; then both must write the same.
 -module(seqaudit_audits).
 
--export([file/1, mode/1, home/0, tests/0, fits/1, audit/1, answer/2, has/1, has/2, programs/0, tools/0, model/0]).
+-export([file/1, mode/1, home/0, tests/0, tests_of_node/0, fits/1, audit/1, answer/2, has/1, has/2, programs/0, tools/0, model/0]).
 
 -include_lib("kernel/include/file.hrl").
 
@@ -31,6 +31,10 @@ home(Folder) ->
 %% The tests of the programs, beside the folder of the application.
 tests() ->
     filename:join(filename:dirname(home()), "tests").
+
+%% The folder of the tests of the application.
+tests_of_node() ->
+    filename:join(home(), "test").
 
 %% The auditor says that the bundle fits, and the checker confirms its acts.
 fits(Name) ->

@@ -4,7 +4,7 @@
 -export([captures_test_/0, equal_terms_test/0, numbers_test/0, parties_test/0, aliases_test/0,
          reset_aliases_test/0, ambiguous_aliases_test/0,
          repeated_names_test/0,
-         counts_test/0, limits_test/0, too_many_test_/0,
+         counts_test/0, limits_test/0, many_processes_test_/0,
          lost_test/0, hostile_test_/0, hostile_trace_test_/0, hostile_process_test_/0,
          text_test/0, text_faults_test/0, external_test/0, trace_file_test/0,
          damaged_event_test/0]).
@@ -142,7 +142,7 @@ repeated_names_test() ->
 %% What is no event is counted.
 counts_test() ->
     Strays = [hello, {seq_trace, 1, {send, {0, 1}, self(), "x", x}}, {seq_trace, 1, 2},
-              {seq_trace, 1, {print, {0, -1}, self(), [], x}}, {seq_trace, 1, {spawn, {0, 1}, 2, 3, 4}},
+              {seq_trace, 1, {print, {0, -1 bsl 60}, self(), [], x}}, {seq_trace, 1, {spawn, {0, 1}, 2, 3, 4}},
               {seq_trace, 1, {print, {0, 1 bsl 64}, self(), [], x}}],
     #{events := 1, dropped := 9, notes := [Dropped, Own, Left, Unknown]} =
         seqaudit_convert:convert([#{node => 'a@h', dropped => 2, own => 1, strays => 0, events =>
@@ -158,21 +158,32 @@ counts_test() ->
 limits_test() ->
     Facts = fun(Processes) ->
                     seqaudit_notes:facts(#{collections => [], counts => #{}, samples => #{}, listed => [],
-                                           labels => []},
+                                           wrapped => false, labels => []},
                                          #{events => 1, processes => Processes})
             end,
     [] = Facts(1_000_000),
     [{limits, Note}] = Facts(1_000_001),
     true = has(Note, "it has 1,000,001 processes, and `seqtool audit' takes 1,000,000").
 
-%% A node has 65,536 numbers; events of processes beyond are left out and counted.
-too_many_test_() ->
-    {timeout, 60, fun() ->
+%% A node number has 65,536 numbers for processes. With more processes a node gets further numbers, and nothing is left
+%% out.
+many_processes_test_() ->
+    {timeout, 120, fun() ->
         Events = [{seq_trace, 1, {print, {0, 1}, pid('a@h', N, Serial), [], x}}
-                  || Serial <- [0, 1, 2], N <- lists:seq(0, 32_767)],
-        #{events := 65_536, processes := 65_536, dropped := 32_768, notes := Notes} = convert(Events),
-        Left = "left out 32,768 events, as it takes 65,536 nodes and as many processes of each",
-        true = lists:any(fun(Note) -> has(Note, Left) end, Notes)
+                  || Serial <- [0, 1, 2, 3, 4], N <- lists:seq(0, 32_767)]
+            ++ [{seq_trace, 1, {print, {0, 1}, pid('b@h', 7, 0), [], x}}],
+        #{events := 163_841, processes := 163_841, dropped := 0, notes := Notes, terms := Terms, seqtrace := Text} =
+            convert(Events),
+        [] = [Note || Note <- Notes, length(Note) > 500],
+        true = lists:any(fun(Note) -> has(Note, "2 further node numbers, of which NAME.terms says") end, Notes),
+        [<<"node\t2\ta@h">>, <<"node\t3\ta@h">>] =
+            [Line || <<"node", _/binary>> = Line <- binary:split(iolist_to_binary(Terms), <<"\n">>, [global])],
+        {_, _} = binary:match(Text, <<"\nprocess <1.7.0>\n">>),
+        {_, _} = binary:match(Text, <<"\nprocess <3.65535.0>\n">>),
+        Name = seqaudit_audits:file("many_processes"),
+        ok = file:write_file(Name ++ ".terms", Terms),
+        {ok, Legend} = seqaudit_legend:read(Name ++ ".terms"),
+        true = seqaudit_legend:has_further_nodes(Legend)
     end}.
 
 lost_test() ->

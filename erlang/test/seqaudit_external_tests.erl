@@ -2,7 +2,7 @@
 -module(seqaudit_external_tests).
 
 -export([one_form_test/0, other_terms_test/0, fun_is_a_term_test/0, large_maps_test_/0, both_ends_test_/0,
-         funs_on_another_node_test_/0]).
+         funs_on_another_node_test_/0, native_record_test/0, newer_test/0]).
 -export([echo/0]).
 
 form(Bytes) ->
@@ -151,3 +151,35 @@ on_two(What, Test) ->
             Test(There)
         end)
     end}.
+
+%% A native record as OTP 29 writes it, within another term, and as it prints it.
+native_record_test() ->
+    Record = <<67, 2:32, 0, 119, 2, "nr", 119, 5, "point", 119, 1, "x", 119, 1, "y", 119, 1, "a", 107, 2:16, "bc">>,
+    Empty = <<67, 0:32, 0, 119, 2, "nr", 119, 5, "empty">>,
+    "#nr:point{x = a,y = \"bc\"}" = seqaudit_terms:encoded(form(Record)),
+    "{[#nr:empty{}],#nr:point{x = a,y = \"bc\"},7}" =
+        seqaudit_terms:encoded(form(<<104, 3, 108, 1:32, Empty/binary, 106, Record/binary, 97, 7>>)),
+    error = seqaudit_external:read(<<131, 67, 1:32, 0, 119, 2, "nr", 119, 5, "point", 119, 1, "x">>).
+
+%% Of a message with a tag that isn't known what comes before it is shown, and its event is kept; elsewhere in an event it
+%% is said to be newer, not damaged.
+newer_test() ->
+    Newer = fun(Event) ->
+                    Bytes = term_to_binary(Event),
+                    lists:foldl(fun(Marker, Known) -> binary:replace(Known, Marker, <<68, 1, 2, 3>>) end, Bytes,
+                                [<<100, 6:16, "marker">>, <<119, 6, "marker">>])
+            end,
+    Events = [Newer({seq_trace, 1, {print, {0, 1}, self(), [], {reply, marker, 5}}}),
+              Newer({seq_trace, 1, {print, {1, 2}, self(), [], #{marker => 1, a => 2}}, {5, 6}}),
+              Newer({seq_trace, 1, {print, {2, 3}, self(), [], [marker]}}),
+              Newer({seq_trace, marker, {print, {3, 4}, self(), [], x}}),
+              binary:part(Newer({seq_trace, 1, {print, {4, 5}, self(), [], "whole"}}), 0, 40)],
+    Name = seqaudit_audits:file("newer"),
+    ok = file:write_file(Name ++ ".trace", [<<0, (byte_size(Event)):32, Event/binary>> || Event <- Events]),
+    {ok, #{events := 3, dropped := 2, notes := Notes}} = seqaudit_convert:from_files([Name ++ ".trace"], Name),
+    {ok, Terms} = file:read_file(Name ++ ".terms"),
+    [{_, _} = binary:match(Terms, Text)
+     || Text <- [<<"\t{reply,#Newer<68>,...}\n">>, <<"#Newer<68>">>, <<"\t[#Newer<68>]\n">>]],
+    [{_, _} = {1, string:find(lists:append(Notes), Part)}
+     || Part <- ["left out 1 entry with terms of a newer Erlang/OTP", "left out 1 entry that can't be read"],
+        string:find(lists:append(Notes), Part) =/= nomatch orelse error(Notes)].

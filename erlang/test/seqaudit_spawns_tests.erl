@@ -1,0 +1,168 @@
+%% Services that spawn under their tokens: counters wrap, and what the spawner reports of a new process may come late.
+-module(seqaudit_spawns_tests).
+
+-export([requests_are_whole_test_/0, births_come_first_test/0, only_births_move_test/0, answers_test/0, signs_test/0,
+         wrapped_is_not_judged_test_/0, children_that_spawn_test_/0]).
+
+%% Each request runs in a process of its own, calls the server, waits for a task that calls it, and calls it again: 21
+%% events with its print. Nothing is left out, by either tracer, whatever the counters are.
+requests_are_whole_test_() ->
+    [{timeout, 60, {text(Requests, Port), fun() -> requests_are_whole(Requests, Port) end}}
+     || Requests <- [20, 300], Port <- [true, false]].
+
+text(Requests, Port) -> lists:flatten(io_lib:format("~b requests, port ~p", [Requests, Port])).
+
+requests_are_whole(Requests, Port) ->
+    Name = seqaudit_audits:file("requests"),
+    {ok, #{events := Events, dropped := 0}} = served(Name, Requests, #{port => Port}),
+    Events = 21 * Requests,
+    {ok, Text} = file:read_file(Name ++ ".seqtrace"),
+    <<"seqtrace 3\n", _/binary>> = Text,
+    Events = length(binary:matches(Text, <<"{seq_trace,">>)),
+    Answers = length(binary:matches(Text, <<"{answer,">>)),
+    Answers = Requests,
+    true = length(binary:matches(Text, <<",{-">>)) > Requests,
+    %% Every process begins with its birth, so none sends before it has received.
+    Streams = streams(Text),
+    [] = [Events0 || [First | _] = Events0 <- maps:values(Streams), kind(First) =:= <<"send">>,
+                     length(Events0) =< 6].
+
+%% `audit' says that counters have wrapped, and nothing else: neither a reset nor a lost event is a reason.
+wrapped_is_not_judged_test_() ->
+    {timeout, 60, fun() ->
+        Name = seqaudit_audits:file("wrapped"),
+        {ok, _} = served(Name, 60, #{}),
+        {2, Said} = run(["audit", Name]),
+        {0, _} = binary:match(Said, <<"not judged as a whole: counters have wrapped">>),
+        [] = [Word || Word <- [<<"reset">>, <<"doesn't fit">>, <<"nobody reported">>, <<"mistake">>, <<"damaged">>],
+                      binary:match(Said, Word) =/= nomatch],
+        {Status, Each} = run(["audit", Name, "--each-label"]),
+        2 = Status,
+        nomatch = binary:match(Each, <<"doesn't fit">>),
+        {match, [Fit]} = re:run(Each, "\n60 labels[^:]*: ([0-9]+) fit", [{capture, [1], list}]),
+        %% The requests that came before the counters wrapped.
+        true = list_to_integer(Fit) >= 10
+    end}.
+
+%% Processes that spawn one child each at once: the spawners' reports come late if the tracer is a process.
+children_that_spawn_test_() ->
+    {timeout, 60, fun() ->
+        Name = seqaudit_audits:file("children"),
+        ok = seqaudit_trace:start(#{name => Name, port => false}),
+        Self = self(),
+        Spawners = [spawn(fun() -> receive go -> ok end, spawner({spawner, N}), Self ! done end)
+                    || N <- lists:seq(1, 300)],
+        [Spawner ! go || Spawner <- Spawners],
+        [receive done -> ok end || _ <- Spawners],
+        {ok, #{dropped := 0}} = seqaudit_trace:stop(),
+        {0, _} = run(["audit", Name])
+    end}.
+
+spawner(Label) ->
+    seqaudit_trace:with_trace(Label, fun() ->
+        Child = spawn(fun() -> receive {From, asked} -> From ! {self(), done} end end),
+        Child ! {self(), asked},
+        receive {Child, done} -> ok end
+    end).
+
+%% The receive of the request and the send of the reply go first, wherever they came.
+births_come_first_test() ->
+    {Events, _, _} = birth({erlang, apply, 2}),
+    [Request, Received, Reply, Answer, Own] = Events,
+    Expected = [<<"'receive'">>, <<"send">>, <<"print">>],
+    [Expected = kinds("<0.31.0>", Order)
+     || Order <- [[Request, Received, Reply, Answer, Own], [Request, Own, Received, Reply, Answer],
+                  [Request, Own, Reply, Received, Answer], [Request, Received, Own, Answer, Reply]]].
+
+%% A message that only looks like one of a spawn stays where it came.
+only_births_move_test() ->
+    {[Request, {_, _, {_, _, _, Child, Message}}, _, _, Own], Parent, Child} = birth({erlang, apply, 2}),
+    Forwarder = pid(40),
+    Forwarded = {seq_trace, 1, {'receive', {7, 8}, Forwarder, Child, Message}},
+    [<<"print">>, <<"'receive'">>] = kinds("<0.31.0>", [Request, Own, Forwarded]),
+    true = is_pid(Parent).
+
+%% The reply that `spawn' waits for is an answer; that of `spawn_request' is a receive. Only a text of version 3 says so.
+answers_test() ->
+    Kinds = fun(Call, Change) ->
+                    {Events, _, _} = birth(Call),
+                    kinds("<0.30.0>", [Change(Event) || Event <- Events])
+            end,
+    Wrap = fun({seq_trace, Label, {Kind, {Prev, This}, From, To, Message}}) ->
+                   {seq_trace, Label, {Kind, {Prev - 100, This - 100}, From, To, Message}}
+           end,
+    [<<"send">>, <<"'receive'">>] = Kinds({erlang, apply, 2}, fun(Event) -> Event end),
+    [<<"send">>, <<"answer">>] = Kinds({erlang, apply, 2}, Wrap),
+    [<<"send">>, <<"'receive'">>] = Kinds({erts_internal, spawn_init, 1}, Wrap).
+
+%% Counts are as the node prints them; a number that no node has is no serial.
+signs_test() ->
+    Print = fun(Prev, This) -> {seq_trace, 1, {print, {Prev, This}, self(), [], seen}} end,
+    Least = -(1 bsl 59),
+    #{seqtrace := Text, dropped := 0} = converted([Print(-3, Least)]),
+    {match, _} = re:run(Text, "^seqtrace 3\n.*\n.*\\{print,\\{-3,-576460752303423488\\},"),
+    #{dropped := 1} = converted([Print(Least - 1, 5)]),
+    #{seqtrace := <<"seqtrace 1\n", _/binary>>} = converted([Print(3, -Least - 1)]).
+
+%% The request and its receive, the reply and its receive, and a print of the child.
+birth(Call) ->
+    [Parent, Child] = [pid(30), pid(31)],
+    Reference = make_ref(),
+    Request = {spawn_request, Reference, Parent, Parent, Call, [], spawn_reply, []},
+    Reply = {spawn_reply, Reference, ok, Child},
+    {[{seq_trace, 1, {send, {0, 1}, Parent, Child, Request}},
+      {seq_trace, 1, {'receive', {0, 1}, Parent, Child, Request}},
+      {seq_trace, 1, {send, {1, 2}, Child, Parent, Reply}},
+      {seq_trace, 1, {'receive', {1, 2}, Child, Parent, Reply}},
+      {seq_trace, 1, {print, {1, 3}, Child, [], born}}], Parent, Child}.
+
+kinds(Process, Events) ->
+    #{seqtrace := Text} = converted(Events),
+    [kind(Line) || Line <- maps:get(list_to_binary(Process), streams(Text))].
+
+converted(Events) ->
+    seqaudit_convert:convert([#{node => node(), events => Events}]).
+
+%% The lines of each process.
+streams(Text) ->
+    [_ | Processes] = binary:split(Text, <<"process ">>, [global]),
+    maps:from_list([{Pid, Lines} || Process <- Processes,
+                                    [Pid | Lines] <- [binary:split(Process, <<"\n">>, [global, trim_all])]]).
+
+kind(Line) ->
+    {match, [Kind]} = re:run(Line, "^\\{seq_trace,[0-9]+,\\{([^,]*),", [{capture, [1], binary}]),
+    Kind.
+
+pid(Number) -> list_to_pid("<0." ++ integer_to_list(Number) ++ ".0>").
+
+%% A service of requests one after the other, each under a label and in a process of its own.
+served(Name, Requests, Options) ->
+    Server = seqaudit_test_server:start(fun(X) -> X end),
+    ok = seqaudit_trace:start(Options#{name => Name}),
+    [begin
+         {Pid, Monitor} = spawn_monitor(fun() -> request(Server, Number) end),
+         receive {'DOWN', Monitor, process, Pid, normal} -> ok end
+     end || Number <- lists:seq(1, Requests)],
+    seqaudit_trace:stop().
+
+request(Server, Number) ->
+    seqaudit_trace:with_trace({request, Number}, fun() ->
+        seq_trace:print({'begin', Number}),
+        user = gen_server:call(Server, user),
+        Self = self(),
+        {Task, Monitor} = spawn_monitor(fun() ->
+            receive {Self, Reference} -> Self ! {Reference, gen_server:call(Server, {row, Number})} end
+        end),
+        Task ! {Self, Monitor},
+        receive {Monitor, Row} -> demonitor(Monitor, [flush]), Row end,
+        gen_server:call(Server, {done, Row})
+    end).
+
+run([Command | Words]) ->
+    Said = os:cmd(lists:flatten([filename:join(seqaudit_audits:home(), "seqaudit-node"), $\s, Command,
+                                 [[$\s, $', Word, $'] || Word <- Words], "; echo status $?"])),
+    Text = unicode:characters_to_binary(Said),
+    {match, [Status]} = re:run(Text, "status ([0-9]+)\n$", [{capture, [1], list}]),
+    Report = [[Line, $\n] || Line <- binary:split(Text, <<"\n">>, [global]),
+                             binary:match(Line, <<"seqaudit-node: ">>) =:= nomatch],
+    {list_to_integer(Status), iolist_to_binary(Report)}.
