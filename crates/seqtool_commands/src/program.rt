@@ -8,7 +8,7 @@ use crate::lines::OutputLine;
 use crate::renumber::run_renumber;
 use crate::why::run_why;
 use crate::words::Task;
-use st_commands::{run_audit, run_check, tell_line};
+use st_commands::{run_audit_within, run_check_within, tell_line};
 use st_core::{ByteSink, ByteSource};
 use st_text::Limits;
 use std::thread::Threads;
@@ -24,8 +24,8 @@ pub fn run<H: AllocGlobal + Threads + Sync, R: ByteSource, W: ByteSink>(
         (call W.ByteSink writer.old writer.new) task result }
 {
     match task {
-        Task::Check => run_check(rt.alloc(), reader, writer, Limits::GREATER),
-        Task::Audit => run_audit(rt, rt.alloc(), reader, writer, Limits::GREATER),
+        Task::Check => run_check_within(rt.alloc(), reader, writer, Limits::GREATER),
+        Task::Audit => run_audit_within(rt, rt.alloc(), reader, writer, Limits::GREATER),
         Task::Complete(form) => run_complete(rt, rt.alloc(), reader, writer, form),
         Task::Renumber => run_renumber(rt.alloc(), reader, writer),
         Task::Why(question) => run_why(rt.alloc(), reader, writer, question),

@@ -2,7 +2,7 @@
 
 use crate::helpers::{same, sink_at_last, streams_at_last};
 use st_chain::Causes;
-use st_chart::{ChartFault, chart};
+use st_chart::{ChartFault, chart_by_causes};
 use st_core::{Label, MemorySink, Streams};
 use st_order::Item;
 use st_pair::pair;
@@ -22,7 +22,7 @@ fn chart_of(alloc: Global, sink: &mut MemorySink, streams: &Streams) -> Result<(
         Item::Hidden(p31(), 0),
         Item::Reported(p31(), 0),
     ];
-    chart(alloc, sink, streams, &causes, &items, Label(17))
+    chart_by_causes(alloc, sink, streams, &causes, &items, Label(17))
 }
 
 /// If memory runs out nothing is written, and the same call writes the chart afterwards.

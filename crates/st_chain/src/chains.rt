@@ -54,6 +54,13 @@ impl<'a> Chains<'a> {
         Ok(Chains { causes, table })
     }
 
+    /// The causes alone.
+    pub fn causes(&self) -> &Causes<'a>
+        ensures { result.now ≡ self.now }
+    {
+        &self.causes
+    }
+
     /// The indexes of a process's events with this label, rising; none if the process isn't listed.
     /// Takes no memory; finding the first takes logarithmic time, and each next one constant time.
     pub fn of(&self, pid: Pid, label: Label) -> Chain<'_>

@@ -19,7 +19,7 @@ use crate::lanes::{lanes_of, lanes_to_ends};
 use crate::marks::{RUN, bars_of, mark_of, put_item};
 use crate::page::{Page, put_on, turn};
 use crate::sheet::Sheet;
-use st_chain::Causes;
+use st_chain::{Causes, Chains};
 use st_core::{ByteSink, Label, Pid, Streams};
 use st_order::Item;
 use st_text::{Buffer, Device, put_bytes, put_number, put_pid};
@@ -243,7 +243,7 @@ fn send_chart<W: ByteSink>(
 /// each. An item at whose place there is no event has no label and is left out; each item of these
 /// streams has one. The causes are those of these streams. It takes memory for its lanes, without
 /// which it fails, and up to 128 kB for what waits for the writer, without which it is slower.
-pub fn chart<W: ByteSink>(
+pub fn chart_by_causes<W: ByteSink>(
     alloc: Global,
     writer: &mut W,
     streams: &Streams,
@@ -273,4 +273,22 @@ pub fn chart<W: ByteSink>(
         Ok(()) => Ok(()),
         Err(Device) => Err(ChartFault::Device),
     }
+}
+
+/// Does what `chart_by_causes` does, with the causes of these chains.
+pub fn chart<W: ByteSink>(
+    alloc: Global,
+    writer: &mut W,
+    streams: &Streams,
+    chains: &Chains,
+    items: &[Item],
+    label: Label,
+) -> Result<(), ChartFault>
+    requires { chains.now ≡ streams.now }
+    ensures written { WritesChart W.puts W.failed (chart_text streams.now items.now label)
+        writer.old writer.new result }
+    ensures no_label { result ≡ Err ChartFault.NoLabel
+        ↔ list_any (item_has_label streams.now label) items.now ≡ false }
+{
+    chart_by_causes(alloc, writer, streams, chains.causes(), items, label)
 }

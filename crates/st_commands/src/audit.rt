@@ -5,6 +5,7 @@ ghost use Rattle.st_commands.specs.Audited.{IsAudited};
 ghost use Rattle.st_commands.specs.Command.{Tells, call};
 ghost use Rattle.st_commands.specs.Meaning.{MeansFits, MeansUnfit, Performs};
 ghost use Rattle.st_commands.specs.Parts.{AuditsTo};
+ghost use Rattle.st_text.specs.Limits.{standard};
 
 use crate::answer::{tell_fault, tell_finding};
 use crate::check::TOP;
@@ -32,7 +33,7 @@ fn audit_streams<H: Threads + Sync, W: ByteSink>(
 /// Reads a bundle within these limits and writes its streams with a certificate's acts, with status
 /// 0, or an event and a reason, with status 1. Faulty input is 2; if memory runs out, or a reader
 /// or a writer fails, it is 4. It sorts on several threads.
-pub fn run_audit<H: Threads + Sync, R: ByteSource, W: ByteSink>(
+pub fn run_audit_within<H: Threads + Sync, R: ByteSource, W: ByteSink>(
     rt: &H,
     alloc: Global,
     reader: &mut R,
@@ -47,4 +48,18 @@ pub fn run_audit<H: Threads + Sync, R: ByteSource, W: ByteSink>(
         Ok(bundle) => audit_streams(rt, alloc, &bundle.streams, writer),
         Err(fault) => tell_fault(writer, fault),
     }
+}
+
+/// Does what `run_audit_within` does, within the standard limits.
+pub fn run_audit<H: Threads + Sync, R: ByteSource, W: ByteSink>(
+    rt: &H,
+    alloc: Global,
+    reader: &mut R,
+    writer: &mut W,
+) -> u8
+    ensures { Performs standard (call R.ByteSource reader.old reader.new)
+        (call W.ByteSink writer.old writer.new)
+        (IsAudited standard) (MeansFits standard) (MeansUnfit standard) result }
+{
+    run_audit_within(rt, alloc, reader, writer, Limits::STANDARD)
 }

@@ -8,12 +8,13 @@ ghost use Rattle.st_commands.specs.Charted.{IsCharted};
 ghost use Rattle.st_commands.specs.Command.{Tells, call};
 ghost use Rattle.st_commands.specs.Meaning.{MeansCharted, MeansNoChart, Performs};
 ghost use Rattle.st_commands.specs.Parts.{ChartsTo, DrawsTo};
+ghost use Rattle.st_text.specs.Limits.{standard};
 
 use crate::answer::{tell_fault, tell_finding, tell_line};
 use crate::lines::OutputLine;
 use st_audit::unfit_by;
 use st_chain::Causes;
-use st_chart::{ChartFault, chart};
+use st_chart::{ChartFault, chart_by_causes};
 use st_core::{ByteSink, ByteSource, Label, Streams};
 use st_order::{Item, order};
 use st_pair::{PairFault, Pairing, pair};
@@ -50,7 +51,7 @@ fn tell_chart<W: ByteSink>(
     ensures { Tells (call W.ByteSink writer.old writer.new)
         (DrawsTo streams.now label items.now) result }
 {
-    match chart(alloc, writer, streams, causes, items, label) {
+    match chart_by_causes(alloc, writer, streams, causes, items, label) {
         Ok(()) => 0,
         Err(ChartFault::NoLabel) => tell_line(writer, OutputLine::NoLabel(label), 1),
         Err(ChartFault::Memory) => tell_fault(writer, ReadFault::Memory),
@@ -98,7 +99,7 @@ fn chart_streams<H: Threads + Sync, W: ByteSink>(
 /// Reads a bundle within these limits and writes the chart of the label, with status 0. If no item
 /// has the label, or the streams can't be paired, it says so with status 1. Faulty input is 2; if
 /// memory runs out, or a reader or a writer fails, it is 4. It sorts on several threads.
-pub fn run_chart<H: Threads + Sync, R: ByteSource, W: ByteSink>(
+pub fn run_chart_within<H: Threads + Sync, R: ByteSource, W: ByteSink>(
     rt: &H,
     alloc: Global,
     reader: &mut R,
@@ -114,4 +115,20 @@ pub fn run_chart<H: Threads + Sync, R: ByteSource, W: ByteSink>(
         Ok(bundle) => chart_streams(rt, alloc, &bundle.streams, label, writer),
         Err(fault) => tell_fault(writer, fault),
     }
+}
+
+/// Does what `run_chart_within` does, within the standard limits.
+pub fn run_chart<H: Threads + Sync, R: ByteSource, W: ByteSink>(
+    rt: &H,
+    alloc: Global,
+    reader: &mut R,
+    writer: &mut W,
+    label: Label,
+) -> u8
+    ensures { Performs standard (call R.ByteSource reader.old reader.new)
+        (call W.ByteSink writer.old writer.new)
+        (IsCharted standard label) (MeansCharted standard label)
+        (MeansNoChart standard label) result }
+{
+    run_chart_within(rt, alloc, reader, writer, Limits::STANDARD, label)
 }

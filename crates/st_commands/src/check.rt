@@ -5,6 +5,7 @@ ghost use Rattle.st_commands.specs.Checked.{IsChecked};
 ghost use Rattle.st_commands.specs.Command.{Tells, call};
 ghost use Rattle.st_commands.specs.Meaning.{MeansYes, MeansNo, Performs};
 ghost use Rattle.st_commands.specs.Parts.{ChecksTo, OfBundle};
+ghost use Rattle.st_text.specs.Limits.{standard};
 
 use crate::answer::{tell_fault, tell_line, tell_verdict};
 use crate::lines::OutputLine;
@@ -40,7 +41,7 @@ fn check_bundle<W: ByteSink>(alloc: Global, bundle: &Bundle, writer: &mut W) -> 
 /// Reads a bundle within these limits and writes its verdict: `yes` and the pairs with status 0, or
 /// a no with status 1. Faulty input is 2; if memory runs out, or a reader or a writer fails, it is
 /// 4.
-pub fn run_check<R: ByteSource, W: ByteSink>(
+pub fn run_check_within<R: ByteSource, W: ByteSink>(
     alloc: Global,
     reader: &mut R,
     writer: &mut W,
@@ -54,4 +55,17 @@ pub fn run_check<R: ByteSource, W: ByteSink>(
         Ok(bundle) => check_bundle(alloc, &bundle, writer),
         Err(fault) => tell_fault(writer, fault),
     }
+}
+
+/// Does what `run_check_within` does, within the standard limits.
+pub fn run_check<R: ByteSource, W: ByteSink>(
+    alloc: Global,
+    reader: &mut R,
+    writer: &mut W,
+) -> u8
+    ensures { Performs standard (call R.ByteSource reader.old reader.new)
+        (call W.ByteSink writer.old writer.new)
+        (IsChecked standard) (MeansYes standard) (MeansNo standard) result }
+{
+    run_check_within(alloc, reader, writer, Limits::STANDARD)
 }

@@ -9,6 +9,7 @@ ghost use Rattle.st_commands.specs.Command.{Delivers, Tells, call};
 ghost use Rattle.st_commands.specs.Meaning.{MeansDriven, MeansStray, Performs};
 ghost use Rattle.st_commands.specs.Parts.{DrivesTo, OfBundle, drive_refused};
 ghost use Rattle.st_commands.specs.Recorded.{IsRecorded, scripts_of};
+ghost use Rattle.st_text.specs.Limits.{standard};
 
 use crate::answer::{tell_bundle, tell_fault, tell_line};
 use crate::check::TOP;
@@ -119,7 +120,7 @@ fn drive_bundle<H: Threads + Wait + Sync, W: ByteSink>(
 /// writes the bundle of the one run that they made, with status 0. Faulty input is 2; if memory
 /// runs out, a thread can't be started, or a reader or a writer fails, it is 4. An act that is
 /// refused would be status 1 (`MeansStray`). It waits for locks and for the threads.
-pub fn run_drive<H: Threads + Wait + Sync, R: ByteSource, W: ByteSink>(
+pub fn run_drive_within<H: Threads + Wait + Sync, R: ByteSource, W: ByteSink>(
     rt: &H,
     alloc: Global,
     reader: &mut R,
@@ -134,4 +135,18 @@ pub fn run_drive<H: Threads + Wait + Sync, R: ByteSource, W: ByteSink>(
         Ok(bundle) => drive_bundle(rt, alloc, bundle, writer),
         Err(fault) => tell_fault(writer, fault),
     }
+}
+
+/// Does what `run_drive_within` does, within the standard limits.
+pub fn run_drive<H: Threads + Wait + Sync, R: ByteSource, W: ByteSink>(
+    rt: &H,
+    alloc: Global,
+    reader: &mut R,
+    writer: &mut W,
+) -> u8
+    ensures { Performs standard (call R.ByteSource reader.old reader.new)
+        (call W.ByteSink writer.old writer.new)
+        (IsRecorded standard) (MeansDriven standard) (MeansStray standard) result }
+{
+    run_drive_within(rt, alloc, reader, writer, Limits::STANDARD)
 }

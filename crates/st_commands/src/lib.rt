@@ -18,10 +18,10 @@ mod replay;
 mod words;
 
 pub use answer::{status_of, tell_bundle, tell_fault, tell_finding, tell_line, tell_refusal};
-pub use audit::run_audit;
-pub use chart::run_chart;
-pub use check::{TOP, run_check};
-pub use drive::run_drive;
+pub use audit::{run_audit, run_audit_within};
+pub use chart::{run_chart, run_chart_within};
+pub use check::{TOP, run_check, run_check_within};
+pub use drive::{run_drive, run_drive_within};
 pub use program::run;
-pub use replay::run_replay;
+pub use replay::{run_replay, run_replay_within};
 pub use words::{Refusal, Task, read_words};

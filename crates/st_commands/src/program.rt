@@ -15,28 +15,26 @@ use crate::drive::run_drive;
 use crate::replay::run_replay;
 use crate::words::{Task, read_words};
 use st_core::{ByteSink, ByteSource};
-use st_text::Limits;
 use std::convert::AsStr;
 use std::sync::Wait;
 use std::thread::Threads;
 
-/// Does what this command does, within these limits.
+/// Does what this command does.
 fn run_task<H: AllocGlobal + Threads + Wait + Sync, R: ByteSource, W: ByteSink>(
     rt: &H,
     task: Task,
     reader: &mut R,
     writer: &mut W,
-    limits: Limits,
 ) -> u8
-    ensures { PerformsBy limits (call R.ByteSource reader.old reader.new)
+    ensures { PerformsBy standard (call R.ByteSource reader.old reader.new)
         (call W.ByteSink writer.old writer.new) task result }
 {
     match task {
-        Task::Check => run_check(rt.alloc(), reader, writer, limits),
-        Task::Audit => run_audit(rt, rt.alloc(), reader, writer, limits),
-        Task::Replay => run_replay(rt.alloc(), reader, writer, limits),
-        Task::Chart(label) => run_chart(rt, rt.alloc(), reader, writer, limits, label),
-        Task::Drive => run_drive(rt, rt.alloc(), reader, writer, limits),
+        Task::Check => run_check(rt.alloc(), reader, writer),
+        Task::Audit => run_audit(rt, rt.alloc(), reader, writer),
+        Task::Replay => run_replay(rt.alloc(), reader, writer),
+        Task::Chart(label) => run_chart(rt, rt.alloc(), reader, writer, label),
+        Task::Drive => run_drive(rt, rt.alloc(), reader, writer),
     }
 }
 
@@ -58,7 +56,7 @@ pub fn run<H: AllocGlobal + Threads + Wait + Sync, S: AsStr, R: ByteSource, W: B
         (call W.ByteSink writer.old writer.new) task result }
 {
     match read_words(rt.alloc(), words) {
-        Ok(task) => run_task(rt, task, reader, writer, Limits::STANDARD),
+        Ok(task) => run_task(rt, task, reader, writer),
         Err(refusal) => tell_refusal(writer, refusal),
     }
 }

@@ -6,6 +6,7 @@ ghost use Rattle.st_commands.specs.Command.{Delivers, Tells, call};
 ghost use Rattle.st_commands.specs.Meaning.{MeansReplayed, NeverMeant, Performs};
 ghost use Rattle.st_commands.specs.Parts.{OfBundle, ReplaysTo, reports_output};
 ghost use Rattle.st_commands.specs.Replayed.{IsReplayed};
+ghost use Rattle.st_text.specs.Limits.{standard};
 
 use crate::answer::{tell_bundle, tell_fault, tell_line};
 use crate::check::TOP;
@@ -53,7 +54,7 @@ fn replay_bundle<W: ByteSink>(alloc: Global, bundle: &Bundle, writer: &mut W) ->
 /// An act without a step would be status 1, but there is none, since limits let fewer acts pass than
 /// a clock has counts. Faulty input is 2; if memory runs out, or a reader or a writer fails, it is
 /// 4.
-pub fn run_replay<R: ByteSource, W: ByteSink>(
+pub fn run_replay_within<R: ByteSource, W: ByteSink>(
     alloc: Global,
     reader: &mut R,
     writer: &mut W,
@@ -67,4 +68,17 @@ pub fn run_replay<R: ByteSource, W: ByteSink>(
         Ok(bundle) => replay_bundle(alloc, &bundle, writer),
         Err(fault) => tell_fault(writer, fault),
     }
+}
+
+/// Does what `run_replay_within` does, within the standard limits.
+pub fn run_replay<R: ByteSource, W: ByteSink>(
+    alloc: Global,
+    reader: &mut R,
+    writer: &mut W,
+) -> u8
+    ensures { Performs standard (call R.ByteSource reader.old reader.new)
+        (call W.ByteSink writer.old writer.new)
+        (IsReplayed standard) (MeansReplayed standard) NeverMeant result }
+{
+    run_replay_within(alloc, reader, writer, Limits::STANDARD)
 }

@@ -10,7 +10,7 @@ mod arenas;
 use crate::helpers::same;
 use st_audit::{Finding, audit, told_acts};
 use st_chain::{Causes, Chains};
-use st_chart::chart;
+use st_chart::chart_by_causes;
 use st_core::{Act, Draft, Event, Kind, Label, MemorySink, Pid, Serial, Streams};
 use st_order::{by_label, order};
 use st_pair::pair;
@@ -91,7 +91,7 @@ fn a_way_back_of_a_hundred_thousand_events_is_charted(rt: HostRuntime) -> Result
     same(&rt, &(back.len() as u64), &MANY);
     let items = order(&rt, alloc, &streams, &pairing)?;
     let mut sink = MemorySink::new(alloc, 10_000_000, None)?;
-    chart(
+    chart_by_causes(
         alloc,
         &mut sink,
         &streams,

@@ -4,7 +4,7 @@ use Rattle.st_commands.specs.Command.{call}
 use Rattle.st_commands.specs.Charted.{IsCharted, Faulty}
 use Rattle.st_commands.proofs.Deliveries.{owes_chart, performs, tells_as, tells_fault, was_read}
 use Rattle.st_commands.proofs.ChartMeanings.{charted_means, no_chart_means}
-use Rattle.st_commands.proofs.chart.run_chart.Goals as goal
+use Rattle.st_commands.proofs.chart.run_chart_within.Goals as goal
 
 pub returns-in-Ok : goal.returns-in-Ok
 returns-in-Ok g c =

@@ -4,7 +4,7 @@ use Rattle.st_commands.specs.Command.{call}
 use Rattle.st_commands.specs.Audited.{IsAudited, Faulty}
 use Rattle.st_commands.proofs.Deliveries.{owes_audit, performs, tells_as, tells_fault, was_read}
 use Rattle.st_commands.proofs.Findings.{fits_means, unfit_means}
-use Rattle.st_commands.proofs.audit.run_audit.Goals as goal
+use Rattle.st_commands.proofs.audit.run_audit_within.Goals as goal
 
 pub returns-in-Ok : goal.returns-in-Ok
 returns-in-Ok g c =

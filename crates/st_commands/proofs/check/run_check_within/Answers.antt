@@ -4,7 +4,7 @@ use Rattle.st_commands.specs.Command.{call}
 use Rattle.st_commands.specs.Checked.{IsChecked, Faulty}
 use Rattle.st_commands.proofs.Deliveries.{owes_check, performs, tells_as, tells_fault, was_read}
 use Rattle.st_commands.proofs.Meanings.{yes_means, no_means}
-use Rattle.st_commands.proofs.check.run_check.Goals as goal
+use Rattle.st_commands.proofs.check.run_check_within.Goals as goal
 
 pub returns-in-Ok : goal.returns-in-Ok
 returns-in-Ok g c =

@@ -6,7 +6,7 @@ use Rattle.st_commands.specs.Command.{call}
 use Rattle.st_commands.specs.Replayed.{IsReplayed, Faulty}
 use Rattle.st_commands.proofs.Deliveries.{owes_replay, performs, tells_as, tells_fault, was_read}
 use Rattle.st_commands.proofs.Meanings.{never_refused, replayed_means}
-use Rattle.st_commands.proofs.replay.run_replay.Goals as goal
+use Rattle.st_commands.proofs.replay.run_replay_within.Goals as goal
 
 pub returns-in-Ok : goal.returns-in-Ok
 returns-in-Ok g c =

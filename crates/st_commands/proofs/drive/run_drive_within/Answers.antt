@@ -5,7 +5,7 @@ use Rattle.st_commands.specs.Command.{call}
 use Rattle.st_commands.specs.Recorded.{IsRecorded, Faulty}
 use Rattle.st_commands.proofs.Deliveries.{performs, tells_as, tells_fault, was_read}
 use Rattle.st_commands.proofs.Drives.{AreSmall, driven_means, owes_drive, stray_means}
-use Rattle.st_commands.proofs.drive.run_drive.Goals as goal
+use Rattle.st_commands.proofs.drive.run_drive_within.Goals as goal
 
 pub returns-in-Ok : goal.returns-in-Ok
 returns-in-Ok g c =
