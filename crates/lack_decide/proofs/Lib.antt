@@ -3,4 +3,5 @@ pub mod Answered
 pub mod Bounded
 pub mod Judged
 pub mod Linked
+pub mod NeededAdditions
 pub mod Reasons

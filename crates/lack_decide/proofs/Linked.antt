@@ -8,7 +8,6 @@ use Rattle.std.proofs.lemmas.Bool.Decides.{nat_tests}
 use Rattle.std.proofs.lemmas.Option.{none-some, same_Some}
 use Rattle.st_core.specs.declared.types.Pid.{Pid}
 use Rattle.st_core.specs.declared.types.Event.{Event}
-use Rattle.st_core.specs.declared.types.Kind.TheVariants as kind
 use Rattle.st_core.specs.Laws.{greatest_count}
 use Rattle.st_core.specs.Pid.{pid_eq, IsRising}
 use Rattle.st_core.specs.Run.{Stream, pids_of}
@@ -23,7 +22,8 @@ use Rattle.st_pair.proofs.ForCallers.{send_stamps}
 use Rattle.st_order.specs.Items.{is_hidden}
 use Rattle.lack_laws.specs.Local.{IsNeedless}
 use Rattle.lack_laws.proofs.ForCallers.{accepted_if, own_at, received_to, FitTogether}
-use Rattle.lack_decide.specs.Links.{other_end, receipt_of, AreEventsFit, IsEventFit, IsLinked}
+use Rattle.lack_needs.specs.Additions.{receipt_of}
+use Rattle.lack_decide.specs.Links.{other_end, AreEventsFit, IsEventFit, IsLinked}
 
 -- THE EVENTS OF A PROCESS
 

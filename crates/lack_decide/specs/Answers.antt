@@ -14,11 +14,14 @@ use Rattle.st_pair.specs.Places.{event_at, is_stamp}
 use Rattle.st_plan.specs.Marks.{all_streams}
 use Rattle.lack_laws.specs.Completed.{IsShownInOneTrace}
 use Rattle.lack_laws.specs.Needs.{is_need}
+use Rattle.lack_laws.specs.OpenReasons.{HasNoOpenReason}
 use Rattle.lack_laws.specs.Silent.{with_silent}
 use Rattle.lack_needs.specs.Completions.{Completed, Completes}
 use Rattle.lack_decide.specs.declared.answer.Never.{Never}
 use Rattle.lack_decide.specs.declared.answer.Never.TheVariants as never
 use Rattle.lack_decide.specs.declared.answer.Certificate.{Certificate}
+use Rattle.lack_decide.specs.declared.answer.CompleteFault.{CompleteFault}
+use Rattle.lack_decide.specs.declared.answer.CompleteFault.TheVariants as fault
 use Rattle.lack_decide.specs.declared.answer.Answer.{Answer}
 use Rattle.lack_decide.specs.declared.answer.Answer.TheVariants as answer
 
@@ -140,3 +143,8 @@ pub record IsCertificate (top : ℕ) (streams : List Stream) (most : ℕ) (found
 abbrev pub IsAnswer : ℕ → List Stream → Answer → Type 0
 IsAnswer top streams (answer.Whole completed) = IsWhole top streams completed
 IsAnswer top streams (answer.Never p i reason) = IsNever top streams p i reason
+
+-- what a fault tells of the streams: if no completion was found, no reason holds of them
+abbrev pub IsFaultOf : ℕ → List Stream → CompleteFault → Type 0
+IsFaultOf top streams fault.Memory = Unit {0}
+IsFaultOf top streams fault.Uncompleted = HasNoOpenReason top streams

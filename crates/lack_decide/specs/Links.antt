@@ -2,15 +2,11 @@
 -- needed in them.
 use Rattle.std.specs.Prelude.{◌≡◌, ℕ, true, false, List, [], get_or, take, slice_get, Some}
 use Rattle.st_core.specs.declared.types.Event.{Event}
-use Rattle.st_core.specs.declared.types.Kind.TheVariants as kind
 use Rattle.st_core.specs.Run.{Stream, pids_of}
 use Rattle.st_pair.specs.Pairing.{is_send}
 use Rattle.st_pair.specs.Places.{event_at, is_stamp}
+use Rattle.lack_needs.specs.Additions.{receipt_of}
 use Rattle.lack_needs.specs.Flaws.{GoesOnWithin}
-
--- the receive of a send
-abbrev pub receipt_of : Event → Event
-receipt_of e = record e { kind = kind.Receive }
 
 -- the index that a process, by its place, has for the other end of the message of its event at this
 -- index

@@ -42,9 +42,13 @@ pub enum Answer {
 /// Why `complete` fails.
 #[derive(Clone, Copy, Debug, PartialEq, Eq, Error)]
 pub enum CompleteFault {
-    /// Memory ran out, or the 2^32 pids that there are. The same call may succeed later.
+    /// Memory ran out. The same call may succeed later.
     #[error("no memory")]
     Memory,
+    /// No reason holds of the streams, and the judge refuses the completion that was built. No test
+    /// has seen it.
+    #[error("no completion")]
+    Uncompleted,
 }
 
 /// Acts that show streams, with the unlisted processes of a completion, as the checker says.

@@ -1,14 +1,15 @@
 //! `complete`: the reasons, one after the other, each at its least place; and if none holds, a
 //! completion.
 
-ghost use Rattle.std.specs.Prelude.{◌≡◌, ◌≤◌, length, IfNone, IfOk, IfSome, None};
+ghost use Rattle.std.specs.Prelude.{◌≡◌, ◌≤◌, length, IfErr, IfNone, IfOk, IfSome, None};
+ghost use Rattle.std.specs.Option.{ForSome};
 ghost use Rattle.st_pair.specs.Links.{IsPairing};
 ghost use Rattle.st_pair.specs.Pairing.{refusal, IsPairFault};
 ghost use Rattle.lack_laws.specs.Needs.{is_late};
 ghost use Rattle.lack_laws.specs.Reasons.{HoldsAt};
 ghost use Rattle.lack_laws.specs.OpenReasons.{HasNoOpenReason, IsLeastPlace};
 ghost use Rattle.lack_needs.specs.Completions.{Completes};
-ghost use Rattle.lack_decide.specs.Answers.{IsAnswer};
+ghost use Rattle.lack_decide.specs.Answers.{IsAnswer, IsFaultOf};
 ghost use Rattle.lack_decide.specs.Found.{IsFound, IsFoundReason};
 ghost use Rattle.lack_decide.specs.Higher.{LastHigher};
 
@@ -16,7 +17,7 @@ use crate::answer::{Answer, CompleteFault, Never};
 use crate::judge::judge;
 use lack_laws::closed_world::{needless_streams_are_shown, shown_exactly_where_nothing_is_needed};
 use lack_laws::open_world::{open_reasons_are_final, shown_with_others_only_without_a_reason};
-use lack_needs::{Completion, Flaw, complete_by_definition, find_flaw, find_unfounded};
+use lack_needs::{Completion, Flaw, find_flaw, find_unfounded};
 use lack_search::build_candidate;
 use st_core::{Event, Pid, Streams};
 use st_pair::{PairFault, Pairing, pair};
@@ -114,23 +115,35 @@ fn find_refusal<const TOP: u64>(
     Ok(None)
 }
 
-/// The completion of streams of which no reason holds. Should the judge refuse the candidate, which
-/// no test has seen, it is built by the definition, which takes a time quadratic in the events.
+/// The completion that was built of streams of which no reason holds, if the judge accepts it.
 fn complete_open<const TOP: u64>(
     alloc: Global,
     streams: &Streams,
     pairing: &Pairing,
-) -> Result<Completion, AllocError>
-    requires paired { IsPairing streams.now pairing.now }
-    requires none { HasNoOpenReason TOP streams.now }
-    ensures { IfOk result (Completes TOP streams.now) }
+) -> Result<Option<Completion>, AllocError>
+    ensures { IfOk result (λ found. ForSome found (Completes TOP streams.now)) }
 {
-    if let Some(candidate) = build_candidate(alloc, streams, pairing)? {
-        if let Some(completion) = judge::<TOP>(alloc, streams, candidate)? {
-            return Ok(completion);
-        }
+    match build_candidate(alloc, streams, pairing)? {
+        None => Ok(None),
+        Some(candidate) => judge::<TOP>(alloc, streams, candidate),
     }
-    complete_by_definition::<TOP>(alloc, streams, pairing)
+}
+
+/// The completion of streams of which no reason holds, as an answer.
+fn whole_answer<const TOP: u64>(
+    alloc: Global,
+    streams: &Streams,
+    pairing: &Pairing,
+) -> Result<Answer, CompleteFault>
+    requires { HasNoOpenReason TOP streams.now }
+    ensures found { IfOk result (IsFound TOP streams.now) }
+    ensures fault { IfErr result (IsFaultOf TOP streams.now) }
+{
+    match complete_open::<TOP>(alloc, streams, pairing) {
+        Err(_) => Err(CompleteFault::Memory),
+        Ok(None) => Err(CompleteFault::Uncompleted),
+        Ok(Some(completion)) => Ok(Answer::Whole(completion)),
+    }
 }
 
 /// The answer for streams that pairing accepts.
@@ -138,31 +151,30 @@ fn answer_of_paired<const TOP: u64>(
     alloc: Global,
     streams: &Streams,
     pairing: &Pairing,
-) -> Result<Answer, AllocError>
+) -> Result<Answer, CompleteFault>
     requires accepted { refusal streams.now ≡ None }
     requires paired { IsPairing streams.now pairing.now }
-    ensures { IfOk result (IsFound TOP streams.now) }
+    ensures found { IfOk result (IsFound TOP streams.now) }
+    ensures fault { IfErr result (IsFaultOf TOP streams.now) }
 {
-    if let Some(Refusal { pid, index, never }) = find_refusal::<TOP>(alloc, streams, pairing)? {
-        return Ok(Answer::Never(pid, index, never));
+    match find_refusal::<TOP>(alloc, streams, pairing) {
+        Err(_) => Err(CompleteFault::Memory),
+        Ok(Some(Refusal { pid, index, never })) => Ok(Answer::Never(pid, index, never)),
+        Ok(None) => whole_answer::<TOP>(alloc, streams, pairing),
     }
-    let completion = complete_open::<TOP>(alloc, streams, pairing)?;
-    Ok(Answer::Whole(completion))
 }
 
-/// The answer for streams, or that memory ran out.
+/// The answer for streams.
 fn answer_of<const TOP: u64>(alloc: Global, streams: &Streams) -> Result<Answer, CompleteFault>
-    ensures { IfOk result (IsFound TOP streams.now) }
+    ensures found { IfOk result (IsFound TOP streams.now) }
+    ensures fault { IfErr result (IsFaultOf TOP streams.now) }
 {
     match pair(alloc, streams) {
         Err(fault) => match refusal_of::<TOP>(streams, fault) {
             None => Err(CompleteFault::Memory),
             Some(Refusal { pid, index, never }) => Ok(Answer::Never(pid, index, never)),
         },
-        Ok(pairing) => match answer_of_paired::<TOP>(alloc, streams, &pairing) {
-            Err(_) => Err(CompleteFault::Memory),
-            Ok(answer) => Ok(answer),
-        },
+        Ok(pairing) => answer_of_paired::<TOP>(alloc, streams, &pairing),
     }
 }
 
@@ -175,7 +187,8 @@ fn answer_of<const TOP: u64>(alloc: Global, streams: &Streams) -> Result<Answer,
 /// receives that may have caused them, messages that were sent and never received are taken if a
 /// stamp needs them, and others are invented only if a need is left.
 pub fn complete<const TOP: u64>(alloc: Global, streams: &Streams) -> Result<Answer, CompleteFault>
-    ensures { IfOk result (IsAnswer TOP streams.now) }
+    ensures answer { IfOk result (IsAnswer TOP streams.now) }
+    ensures fault { IfErr result (IsFaultOf TOP streams.now) }
 {
     needless_streams_are_shown();
     shown_exactly_where_nothing_is_needed();

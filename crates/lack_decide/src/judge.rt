@@ -12,8 +12,10 @@ ghost use Rattle.st_pair.specs.Places.{is_stamp};
 ghost use Rattle.lack_laws.specs.Local.{IsNeedless};
 ghost use Rattle.st_plan.specs.Marks.{told_events, told_streams};
 ghost use Rattle.lack_needs.specs.Completions.{marked_with, wholes_with, Completes};
-ghost use Rattle.lack_decide.specs.Links.{other_end, receipt_of, AreEventsFit, IsLinked};
+ghost use Rattle.lack_needs.specs.Additions.{receipt_of};
+ghost use Rattle.lack_decide.specs.Links.{other_end, AreEventsFit, IsLinked};
 
+use crate::additions::are_additions_needed;
 use lack_needs::{Completion, Left, completion_of, is_marked, is_unlisted, marks_at, pids_with};
 use lack_search::Candidate;
 use st_core::{Event, Kind, Pid, Sequence, Streams, is_rising};
@@ -86,7 +88,7 @@ fn tells_streams(
 
 /// The index that a process, by its place, has for the other end of the message of its event at
 /// this index.
-fn other_end(links: &[Sequence<u32>], place: usize, index: usize) -> u32
+pub(crate) fn other_end(links: &[Sequence<u32>], place: usize, index: usize) -> u32
     ensures { result ≡ other_end links.now place index }
 {
     match links.get(place) {
@@ -106,7 +108,7 @@ fn receive_of(sent: &Event) -> Event
 }
 
 /// Whether the event is the receive of this one, and this a send.
-fn is_received(sent: &Event, event: &Event) -> bool
+pub(crate) fn is_received(sent: &Event, event: &Event) -> bool
     ensures sends { result ≡ true → is_send sent.now ≡ true }
     ensures same { result ≡ true → receipt_of sent.now ≡ event.now }
 {
@@ -250,6 +252,9 @@ pub(crate) fn judge<const TOP: u64>(
         return Ok(None);
     }
     if !are_all_fit(&all, &links, TOP) {
+        return Ok(None);
+    }
+    if !are_additions_needed(&all, &links, &told) {
         return Ok(None);
     }
     Ok(Some(completion_of(streams, all, told, unlisted)))

@@ -5,6 +5,7 @@
 //! the acts of a completion. `renumbered` makes the counts of streams small.
 #![tactic(auto)]
 
+mod additions;
 mod answer;
 mod bounds;
 mod certificates;

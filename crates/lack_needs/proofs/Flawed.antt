@@ -1,7 +1,7 @@
 -- Where a test holds first, at a loop's index and in what is left.
 use Rattle.std.proofs.Common.{◌≡◌, ℕ, ◌+◌, ◌<◌, suc, Bool, true, false, cond, List, [], ◌∷◌, length, get_or}
-use Rattle.std.proofs.Common.{take, drop, slice_get, Option, None, Some, option_and_then, refl, sym, ◌∙◌, ap, subst}
-use Rattle.std.proofs.Common.{arith, if◌then◌else◌}
+use Rattle.std.proofs.Common.{take, drop, slice_get, Option, None, Some, refl, sym, ◌∙◌, ap, subst}
+use Rattle.std.proofs.Common.{arith}
 use Rattle.std.proofs.lemmas.Bool.{false≢true}
 use Rattle.std.proofs.lemmas.Option.{same_Some}
 use Rattle.st_core.specs.declared.types.Pid.{Pid}
@@ -9,17 +9,12 @@ use Rattle.st_core.specs.declared.types.Event.{Event}
 use Rattle.st_core.specs.Pid.{IsRising}
 use Rattle.st_core.specs.Run.{Stream, pids_of}
 use Rattle.st_core.specs.Streams.{events_of}
-use Rattle.st_pair.specs.declared.answer.Source.{Source}
-use Rattle.st_pair.specs.declared.answer.Source.TheVariants as source
-use Rattle.st_pair.specs.Pairing.{source_at, source_of}
-use Rattle.st_pair.specs.Places.{event_at, first, first_from, is_stamp, or_else}
+use Rattle.st_pair.specs.Places.{first, first_from, or_else}
 use Rattle.st_pair.proofs.ForCallers.{event_none, first_from-at, first_least, first-loop}
 use Rattle.lack_laws.specs.Needs.{HoldsOfNone}
 use Rattle.lack_laws.specs.Reasons.{HoldsAt}
 use Rattle.lack_laws.specs.OpenReasons.{IsLeastPlace}
 use Rattle.lack_needs.specs.Places.{flaw_place, place_where}
-use Rattle.lack_needs.specs.Hidden.{is_hidden_in}
-use Rattle.st_order.specs.Items.{is_hidden}
 
 module _ (rule : Pid → ℕ → Event → Option (Pid × ℕ)) (p : Pid) (es : List Event) (i : ℕ) (e : Event)
     (at : slice_get es i ≡ Some e) where
@@ -46,22 +41,6 @@ pub if_false : (b : Bool) (p : Pid) (i : ℕ) → b ≡ false
     → (let o : Option (Pid × ℕ) = cond b (Some (p, i)) None in o)
     ≡ None
 if_false b p i is = ap (λ (c : Bool). cond c (Some (p, i)) None) is
-
--- a receive's source says whether its send is hidden
-hidden_by : (streams : List Stream) (e : Event) (stamp : Bool) (from : Source)
-    → is_hidden_in (cond stamp None (Some from))
-    ≡ cond stamp false (elim from [ source.Hidden ↦ true | source.Event q j ↦ false ])
-hidden_by streams e true from = refl
-hidden_by streams e false source.Hidden = refl
-hidden_by streams e false (source.Event q j) = refl
-
-pub hidden_at : (streams : List Stream) (p : Pid) (i : ℕ) (e : Event)
-    → event_at streams p i ≡ Some e
-    → is_hidden_in (source_at streams p i) ≡ is_hidden streams e
-hidden_at streams p i e at =
-    ap (λ (o : Option Event). is_hidden_in (option_and_then
-    (λ f. if is_stamp f then None else Some (source_of streams f)) o)) at
-    ∙ hidden_by streams e (is_stamp e) (source_of streams e)
 
 same_from : (r t : Pid → ℕ → Event → Option (Pid × ℕ)) (p : Pid)
     → ((i : ℕ) (e : Event) → r p i e ≡ t p i e)

@@ -3,7 +3,6 @@
 use Rattle.std.proofs.Common.{◌≡◌, ℕ, zero, suc, ◌≤◌, Bool, true, false, cond, List, [], ◌∷◌, map, length, slice_get}
 use Rattle.std.proofs.Common.{get_or, find, Option, Some, None, option_map, refl, sym, ◌∙◌, ap, arith}
 use Rattle.std.specs.List.{AllByRecursion}
-use Rattle.std.specs.Option.{option_map_or}
 use Rattle.std.proofs.lemmas.Option.{same_Some}
 use Rattle.st_core.specs.declared.types.Pid.{Pid}
 use Rattle.st_core.specs.declared.types.Event.{Event}
@@ -12,10 +11,9 @@ use Rattle.st_core.specs.Run.{Stream, pids_of}
 use Rattle.st_core.specs.Streams.{events_of, stream_of}
 use Rattle.st_core.proofs.ForCallers.{pid_eq-refl, above_apart}
 use Rattle.st_pair.proofs.ForCallers.{events_in}
-use Rattle.st_plan.specs.Marks.{all_streams, marks_of, Marked, Whole}
+use Rattle.st_plan.specs.Marks.{all_streams, Marked, Whole}
 use Rattle.lack_laws.specs.Needs.{marked_of}
 use Rattle.lack_needs.specs.Completions.{marked_with, wholes_with}
-use Rattle.st_plan.proofs.ForCallers.{mark_in}
 
 all_events : (es : List Event) (ms : List Bool) → map (λ (m : Marked). m.event) (marked_with es ms)
     ≡ es
@@ -105,11 +103,3 @@ pub past_end : (es : List Event) (i : ℕ) → length es ≤ i → slice_get es 
 past_end [] i past = refl
 past_end (e ∷ es) zero past = absurd (omega arith)
 past_end (e ∷ es) (suc i) past = past_end es i (omega arith)
-
--- the marks by place
-pub mark_of : (wholes : List Whole) (p : Pid) (i : ℕ)
-    → marks_of wholes p i ≡ option_map_or (λ (m : Marked). m.told)
-    (slice_get (marked_of wholes p) i) false
-mark_of wholes p i = elim (find (λ (w : Whole). pid_eq w.pid p) wholes)
-    as (λ o. mark_in o i ≡ option_map_or (λ (m : Marked). m.told) (slice_get (marked_in o) i) false)
-    [ None ↦ refl | Some w ↦ refl ]

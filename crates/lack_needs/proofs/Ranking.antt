@@ -5,7 +5,7 @@ use Rattle.std.proofs.Common.{◌≡◌, ℕ, ◌+◌, zero, suc, ◌<◌, ◌�
 use Rattle.std.proofs.Common.{length, take, get_or, slice_get, Option, Some, None, is_some, option_map, refl, sym, ◌∙◌}
 use Rattle.std.proofs.Common.{ap, subst, arith}
 use Rattle.std.specs.List.{AllByRecursion}
-use Rattle.std.proofs.lemmas.List.{map_more}
+use Rattle.std.proofs.lemmas.List.{map_more, take_more}
 use Rattle.std.proofs.lemmas.Option.{slice_get-map}
 use Rattle.st_core.specs.declared.types.Pid.{Pid}
 use Rattle.st_core.specs.declared.types.Event.{Event}
@@ -135,3 +135,17 @@ streams_more counts streams pids k d es now next rising are within is so_far ste
     ∙ ap (λ xs. xs ++ ranked_stream counts (get_or pids k d) es ∷ []) so_far
     ∙ sym (take_map (λ (x : Stream). ranked_stream counts x.pid x.events) streams k _ at)
     ∙ ap (λ n. with_counts (rank counts) (take n streams)) one
+
+-- THE EVENTS OF A PROCESS
+
+-- one event more
+pub event_more : (old now next : List Stream) (p : Pid) (es : List Event) (i : ℕ) → ComesLast old p
+    → i < length es
+    → now ≡ old ++ record { pid = p; events = take i es } ∷ []
+    → next ≡ added now p (get_or es i blank)
+    → next ≡ old ++ record { pid = p; events = take (i + 1) es } ∷ []
+event_more old now next p es i last within is step =
+    step
+    ∙ ap (λ xs. added xs p (get_or es i blank)) is
+    ∙ added_last old p (take i es) (get_or es i blank) last
+    ∙ sym (ap (λ fs. old ++ record { pid = p; events = fs } ∷ []) (take_more es i blank within))

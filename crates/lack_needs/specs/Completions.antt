@@ -1,5 +1,5 @@
 -- Completions: all that each process may have done, and which of it was told.
-use Rattle.std.specs.Prelude.{◌≡◌, ℕ, Bool, false, not, List, [], ◌∷◌, map, sum_by}
+use Rattle.std.specs.Prelude.{◌≡◌, ℕ, Bool, false, not, List, [], ◌∷◌, sum_by}
 use Rattle.std.specs.List.{count_by, AllByRecursion}
 use Rattle.st_core.specs.declared.types.Pid.{Pid}
 use Rattle.st_core.specs.declared.types.Event.{Event}
@@ -9,6 +9,7 @@ use Rattle.st_core.specs.Streams.{IsStreams, lists}
 use Rattle.st_plan.specs.Marks.{all_streams, told_streams, Marked, Whole}
 use Rattle.lack_laws.specs.Local.{IsNeedless}
 use Rattle.lack_laws.specs.Silent.{with_silent}
+use Rattle.lack_needs.specs.Additions.{AreAdditionsNeeded}
 
 -- These whole streams have the streams as their told events. In all their events pairing accepts,
 -- no send is hidden, no stamp is late, and no receive is missing: so acts without a reset show the
@@ -24,11 +25,12 @@ pub record Completed : Type 0 where
   pub unlisted : List Pid
 
 -- None of the unlisted processes is listed by the streams, and with each of these, of which nothing
--- is told, the streams have this completion.
+-- is told, the streams have this completion. Each event that it adds is needed.
 pub record Completes (top : ℕ) (streams : List Stream) (completed : Completed) : Type 0 where
   pub apart : AllByRecursion (λ q. lists streams q ≡ false) completed.unlisted
   pub rising : IsRising completed.unlisted
   pub is : IsCompletionOf top (with_silent streams completed.unlisted) completed.wholes
+  pub needed : AreAdditionsNeeded completed.wholes
 
 -- how many events are untold
 abbrev pub added_in : List Whole → ℕ
@@ -47,7 +49,3 @@ wholes_with (x ∷ rest) [] = record { pid = x.pid; marked = marked_with x.event
     ∷ wholes_with rest []
 wholes_with (x ∷ rest) (marks ∷ lists) =
     record { pid = x.pid; marked = marked_with x.events marks } ∷ wholes_with rest lists
-
--- the events of these, told or not
-abbrev pub all_events : List Marked → List Event
-all_events marked = map (λ m. m.event) marked

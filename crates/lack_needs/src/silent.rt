@@ -1,16 +1,15 @@
 //! Streams with further processes that report nothing.
 
-ghost use Rattle.std.specs.Prelude.{◌≡◌, drop, false, not, IfOk};
+ghost use Rattle.std.specs.Prelude.{◌≡◌, ◌∷◌, ◌++◌, [], drop, false, not, true, IfOk, OnOk};
 ghost use Rattle.std.specs.List.{AllByRecursion};
 ghost use Rattle.st_core.specs.Pid.{IsRising};
 ghost use Rattle.st_core.specs.Run.{pids_of};
-ghost use Rattle.st_core.specs.Streams.{lists};
+ghost use Rattle.st_core.specs.Streams.{is_own, lists, ComesLast};
 ghost use Rattle.lack_laws.specs.Silent.{with_silent};
 ghost use Rattle.lack_needs.specs.Merged.{is_other_next};
 
-use crate::construction::add_process;
-use crate::ranks::{close_draft, open_last};
-use st_core::{Draft, Pid, Streams};
+use crate::ranks::{add_own, close_draft, open_last};
+use st_core::{Draft, Event, Pid, Streams};
 use std::alloc::{AllocError, Global};
 
 /// Whether the streams don't list the process.
@@ -57,6 +56,21 @@ pub fn pids_with(alloc: Global, streams: &Streams, others: &[Pid]) -> Result<Vec
         }
     }
     Ok(all)
+}
+
+/// Adds a process that comes last, with these events.
+fn add_process(draft: &mut Draft, pid: Pid, events: &[Event]) -> Result<(), AllocError>
+    requires last { ComesLast draft.old pid }
+    requires own { AllByRecursion (λ e. is_own pid e ≡ true) events.now }
+    ensures { OnOk result (draft.new
+        ≡ draft.old ++ record { pid = pid; events = events.now } ∷ []) }
+{
+    open_last(draft, pid)?;
+    draft.reserve(pid, events.len())?;
+    for event in events {
+        add_own(draft, pid, *event)?;
+    }
+    Ok(())
 }
 
 /// The streams, and one without events of each of these processes. It copies all events.

@@ -11,16 +11,26 @@ ghost use Rattle.st_core.specs.Run.{pids_of};
 ghost use Rattle.st_core.specs.Streams.{events_of, lists};
 ghost use Rattle.st_pair.specs.Links.{IsPairing};
 ghost use Rattle.st_pair.specs.Places.{event_at, first, first_from, is_stamp};
+ghost use Rattle.lack_needs.specs.Hidden.{is_hidden_in};
 ghost use Rattle.lack_needs.specs.Places.{flaw_place, place_where};
 ghost use Rattle.lack_needs.specs.Unfounded.{has_receive, is_known_below, is_unfounded, lower_count};
 ghost use Rattle.lack_needs.specs.Unfounded.{lowest_count, lowest_in, lowest_with, IsNoted};
 ghost use Rattle.lack_laws.specs.OpenReasons.{IsLeastPlace, IsUnfounded};
 
 use crate::flaws::is_stamp;
-use crate::hidden_sends::is_hidden_source;
 use st_core::{Event, Pid, Streams};
-use st_pair::Pairing;
+use st_pair::{Pairing, Source};
 use std::alloc::{AllocError, Global};
+
+/// Whether the source is a hidden send, as pairing found it.
+fn is_hidden_source(source: Option<Source>) -> bool
+    ensures { result ≡ is_hidden_in source }
+{
+    match source {
+        None | Some(Source::Event(..)) => false,
+        Some(Source::Hidden) => true,
+    }
+}
 
 /// The lower one of the count that is known, if one is, and this count.
 fn lower_count(low: Option<u64>, count: u64) -> u64

@@ -7,8 +7,8 @@ use Rattle.st_commands.specs.Command.{ReaderCall, Owes, OfBytes, ForMemory}
 use Rattle.st_commands.proofs.ForCallers.{WasRead}
 use Rattle.seqtool_commands.specs.Renumber.{IsRenumbered, Ranked, streams_output}
 use Rattle.seqtool_commands.specs.declared.complete.Form.{Form}
-use Rattle.seqtool_commands.specs.Complete.{IsOutputOfComplete, Answered}
-use Rattle.seqtool_commands.specs.Parts.{CompletesTo, Finds, NoRoomToComplete, RenumbersTo, Ranks, NoRoomToRenumber}
+use Rattle.seqtool_commands.specs.Complete.{uncompleted, Answered, IsOutputOfComplete, Uncompleted}
+use Rattle.seqtool_commands.specs.Parts.{CompletesTo, Finds, FindsNone, NoRoomToComplete, RenumbersTo, Ranks, NoRoomToRenumber}
 
 module _ {R : Type 0} (reader : ReaderCall R) (c : Contents) (h : WasRead greater reader c) where
   -- ---- renumber
@@ -25,4 +25,6 @@ module _ {R : Type 0} (reader : ReaderCall R) (c : Contents) (h : WasRead greate
   owes_complete f out (Finds found o is answers) =
       OfBytes h.bytes o h.all
       (Answered h.bytes c.streams found o (record { given = c.acts; spelled = h.spelled; is = is }) answers)
+  owes_complete f out (FindsNone none) =
+      OfBytes h.bytes uncompleted h.all (Uncompleted h.bytes c.streams c.acts h.spelled none)
   owes_complete f out NoRoomToComplete = ForMemory h.bytes h.all h.small

@@ -13,7 +13,7 @@ use Rattle.lack_decide.specs.declared.answer.Answer.{Answer}
 use Rattle.lack_decide.specs.Answers.{IsFinal, NeverShownWithOthers}
 use Rattle.seqtool_commands.specs.declared.complete.Form.{Form}
 use Rattle.seqtool_commands.specs.Complete.{Adds, Answered, Answers, Certifies, Completes, Faulty, HasAnswer}
-use Rattle.seqtool_commands.specs.Complete.{IsOutputOfComplete, IsLong, IsNever, IsUncertified}
+use Rattle.seqtool_commands.specs.Complete.{IsOutputOfComplete, IsLong, IsNever, IsUncertified, Uncompleted}
 use Rattle.seqtool_commands.specs.Complete.{completed_text, MeansCompleted, MeansLong, MeansNever}
 
 final_here : (streams : List Stream) (r : Never) → IsFinal top streams r → NeverShownWithOthers top streams
@@ -41,6 +41,7 @@ completion_of f bytes streams _ _ has (Adds c is) e =
       short = λ same. absurd (cc (is, same));
       told = has.is.completes.is.told;
       lacks = has.is.lacks;
+      needed = has.is.completes.needed;
       text = sym (ap (λ (g : Form). completed_text g streams c (has.is.shown.acts)) is);
     }
 completion_of f bytes streams _ _ has (Completes c is few) e =
@@ -57,6 +58,7 @@ completion_of f bytes streams _ _ has (Completes c is few) e =
       short = λ same. absurd (cc (is, same));
       told = has.is.completes.is.told;
       lacks = has.is.lacks;
+      needed = has.is.completes.needed;
       text = sym (ap (λ (g : Form). completed_text g streams c (has.is.shown.acts)) is);
     }
 completion_of f bytes streams _ _ has (Certifies c acts is shows one_trace few short) e =
@@ -73,6 +75,7 @@ completion_of f bytes streams _ _ has (Certifies c acts is shows one_trace few s
       short = λ _. short;
       told = has.is.completes.is.told;
       lacks = has.is.lacks;
+      needed = has.is.completes.needed;
       text = sym (ap (λ (g : Form). completed_text g streams c (acts)) is);
     }
 completion_of f bytes streams _ _ has (IsLong c is) e = absurd (omega arith)
@@ -82,6 +85,7 @@ completion_of f bytes streams _ _ has (IsNever p i r) e = absurd (omega arith)
 pub completed_means : (f : Form) (bytes : List ℕ) (out : Output) → IsOutputOfComplete f bytes out → out.status ≡ 0
     → MeansCompleted f bytes out
 completed_means f bytes out (Answered b streams found o has is) e = completion_of f bytes streams found out has is e
+completed_means f bytes out (Uncompleted b streams given spelled none) e = absurd (omega arith)
 completed_means f bytes out (Faulty b x is) e = let high = fault_status_high x in absurd (omega arith)
 
 reason_of : (f : Form) (bytes : List ℕ) (streams : List Stream) (found : Answer) (out : Output)
@@ -107,6 +111,7 @@ reason_of f bytes streams _ _ has (IsNever p i r) e =
 pub never_means : (f : Form) (bytes : List ℕ) (out : Output) → IsOutputOfComplete f bytes out → out.status ≡ 1
     → MeansNever bytes out
 never_means f bytes out (Answered b streams found o has is) e = reason_of f bytes streams found out has is e
+never_means f bytes out (Uncompleted b streams given spelled none) e = absurd (omega arith)
 never_means f bytes out (Faulty b x is) e = let high = fault_status_high x in absurd (omega arith)
 
 long_of : (f : Form) (bytes : List ℕ) (streams : List Stream) (found : Answer) (out : Output)
@@ -141,4 +146,5 @@ fault_status_low faults.Truncated = omega arith
 pub long_means : (f : Form) (bytes : List ℕ) (out : Output) → IsOutputOfComplete f bytes out → out.status ≡ 5
     → MeansLong f bytes out
 long_means f bytes out (Answered b streams found o has is) e = long_of f bytes streams found out has is e
+long_means f bytes out (Uncompleted b streams given spelled none) e = absurd (omega arith)
 long_means f bytes out (Faulty b x is) e = let low = fault_status_low x in absurd (omega arith)

@@ -17,6 +17,7 @@ use Rattle.st_text.specs.Text.{spelling}
 use Rattle.st_pair.specs.Places.{event_at}
 use Rattle.st_plan.specs.Marks.{all_streams, told_streams, Marked}
 use Rattle.lack_laws.specs.Needs.{marked_of}
+use Rattle.lack_laws.specs.OpenReasons.{HasNoOpenReason}
 use Rattle.lack_laws.specs.Silent.{with_silent}
 use Rattle.lack_decide.specs.declared.answer.Never.{Never}
 use Rattle.lack_decide.specs.declared.answer.Never.TheVariants as never
@@ -24,6 +25,7 @@ use Rattle.lack_decide.specs.declared.answer.Answer.{Answer}
 use Rattle.lack_decide.specs.declared.answer.Answer.TheVariants as answer
 use Rattle.lack_decide.specs.Answers.{IsAnswer, IsFirstReason, IsWhole, LacksNothing}
 use Rattle.lack_decide.specs.Bounds.{act_bound}
+use Rattle.lack_needs.specs.Additions.{AreAdditionsNeeded}
 use Rattle.lack_needs.specs.Completions.{added_in, Completed}
 use Rattle.st_text.specs.Spelling as spelled
 use Rattle.st_chart.specs.Words.{place_words}
@@ -84,6 +86,10 @@ long = text_of_status (ended_line (codes "long")) 5
 abbrev pub uncertified : Output
 uncertified = text_of_status (ended_line (codes "fault certificate")) 4
 
+-- no reason holds of the streams, and what was built to complete them doesn't
+abbrev pub uncompleted : Output
+uncompleted = text_of_status (ended_line (codes "fault completion")) 4
+
 -- A bundle is wanted, and the completion has more processes than the reader takes; or acts are
 -- wanted, and six for each event of it, one for each count that a process passes unreported and one
 -- for each process are more.
@@ -127,6 +133,9 @@ pub data IsOutputOfComplete (f : Form) : List ℕ → Output → Type 0 where
   Answered : (bytes : List ℕ) (streams : List Stream) (found : Answer) (out : Output)
       → HasAnswer bytes streams found
       → Answers f streams found out → IsOutputOfComplete f bytes out
+  Uncompleted : (bytes : List ℕ) (streams : List Stream) (given : Option (List Act))
+      → Spells greater bytes streams given → HasNoOpenReason top streams
+      → IsOutputOfComplete f bytes uncompleted
   Faulty : (bytes : List ℕ) (x : ReadFault) → fault_within greater bytes ≡ Some x
       → IsOutputOfComplete f bytes (refused x)
 
@@ -161,6 +170,9 @@ pub record MeansCompleted (f : Form) (bytes : List ℕ) (out : Output) : Type 0 
   pub told : told_streams completed.wholes ≡ with_silent streams completed.unlisted
   -- and with all its events no send and no receive is missing
   pub lacks : LacksNothing top (all_streams completed.wholes)
+  -- each event that isn't told is needed: a send is received, a receive gives its count to the event
+  -- right behind it or has only such events behind it, and no print is added
+  pub needed : AreAdditionsNeeded completed.wholes
   -- the text is that of the streams with these acts, or of all events, or of those that were added
   pub text : out.text ≡ completed_text f streams completed acts
 

@@ -36,6 +36,7 @@ never_words p never.TooHigh = codes "toohigh"
 abbrev pub words_of : OutputLine → List ℕ
 words_of lines.Long = codes "long"
 words_of lines.Uncertified = codes "fault certificate"
+words_of lines.Uncompleted = codes "fault completion"
 words_of (lines.Added n) = codes "added " ++ decimal n
 words_of (lines.Never p i r) = codes "never " ++ place_words p i ++ codes " " ++ never_words p r
 words_of (lines.Unlisted p) = codes "unlisted " ++ spelled.pid p

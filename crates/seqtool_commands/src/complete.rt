@@ -157,6 +157,7 @@ fn complete_streams<H: Threads + Sync, W: ByteSink>(
     match complete::<TOP>(alloc, streams) {
         Ok(answer) => tell_answer(rt, alloc, streams, &answer, form, writer),
         Err(CompleteFault::Memory) => tell_fault(writer, ReadFault::Memory),
+        Err(CompleteFault::Uncompleted) => tell_line(writer, OutputLine::Uncompleted, 4),
     }
 }
 
@@ -167,7 +168,8 @@ fn complete_streams<H: Threads + Sync, W: ByteSink>(
 /// suffices (six for each event, one for each count that a process passes unreported, and one for
 /// each process) is more than it takes, it writes `long` with status 5; fewer acts may suffice.
 /// Faulty input is 2; running out of memory, and a reader or a writer that fails, are 4,
-/// and so is a completion whose acts the checker doesn't accept, which no test has seen. It sorts
+/// and so are a completion that the judge doesn't accept, and acts that the checker doesn't accept,
+/// which no test has seen. It sorts
 /// on several threads.
 pub fn run_complete<H: Threads + Sync, R: ByteSource, W: ByteSink>(
     rt: &H,

@@ -23,6 +23,8 @@ pub(crate) enum OutputLine {
     Long,
     /// The checker doesn't accept the acts that were built.
     Uncertified,
+    /// No reason holds of the streams, and what was built doesn't complete them.
+    Uncompleted,
     /// So many events were added.
     Added(u64),
     /// Why the event at this place rules out a run without a reset.
@@ -87,6 +89,7 @@ impl TextLine for OutputLine {
         match self {
             OutputLine::Long => put_bytes(buffer, b"long"),
             OutputLine::Uncertified => put_bytes(buffer, b"fault certificate"),
+            OutputLine::Uncompleted => put_bytes(buffer, b"fault completion"),
             OutputLine::Added(count) => put_numbered(buffer, b"added ", count),
             OutputLine::Never(pid, index, never) => put_never(buffer, pid, index, never),
             OutputLine::Unlisted(pid) => put_unlisted(buffer, pid),

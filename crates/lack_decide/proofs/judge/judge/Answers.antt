@@ -9,6 +9,7 @@ use Rattle.st_core.specs.Streams.{IsStreams, lists}
 use Rattle.lack_laws.specs.Local.{IsNeedless}
 use Rattle.lack_laws.specs.Silent.{with_silent}
 use Rattle.st_plan.specs.Marks.{told_streams}
+use Rattle.lack_needs.specs.Additions.{AreAdditionsNeeded}
 use Rattle.lack_needs.specs.Completions.{wholes_with, Completed, IsCompletionOf}
 use Rattle.lack_needs.proofs.ForCallers.{all_kept}
 use Rattle.lack_decide.proofs.judge.judge.Goals as goal
@@ -58,4 +59,7 @@ returns g c = λ x is.
             needless = subst (IsNeedless g.row.TOP) (sym same)
                 (c.are_all_fit.ensures c.if-not-are_all_fit.false);
           }));
+      needed = subst AreAdditionsNeeded (sym wholes)
+          (subst (λ ls. AreAdditionsNeeded (wholes_with streams ls)) c.deref-6.ensures.value
+          (c.are_additions_needed.ensures c.if-not-are_additions_needed.false));
     }

@@ -1,0 +1,6 @@
+-- The additions to the processes that were taken are needed.
+use Rattle.lack_decide.proofs.NeededAdditions.{AllNeeded}
+use Rattle.lack_decide.proofs.additions.are_additions_needed.Given as goal
+
+abbrev pub invariant-loop-place : goal.invariant-loop-place
+invariant-loop-place l = AllNeeded l.streams l.lists l.place
