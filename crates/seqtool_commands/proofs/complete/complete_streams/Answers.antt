@@ -8,4 +8,5 @@ pub returns-in-Err-Memory : goal.returns-in-Err-Memory
 returns-in-Err-Memory g c = record { output = no_memory; owed = NoRoomToComplete; delivered = c.tell_fault.ensures }
 
 pub returns-in-Err-Uncompleted : goal.returns-in-Err-Uncompleted
-returns-in-Err-Uncompleted g c = ?
+returns-in-Err-Uncompleted g c =
+    record { output = uncompleted; owed = FindsNone c.in-Err-Uncompleted.ensures.fault; delivered = c.tell_line.ensures }
