@@ -48,7 +48,7 @@ none_passes test (j ∷ ks) never k is = (elim (test j) as (λ b. test j ≡ b �
       ]
     ]) refl never
 
-all_from : {A : Type 0} (P : A → Type 0) (xs : List A) → ((x : A) → IsAmong xs x → P x)
+pub all_from : {A : Type 0} (P : A → Type 0) (xs : List A) → ((x : A) → IsAmong xs x → P x)
     → AllByRecursion P xs
 all_from P [] each = tt
 all_from P (x ∷ xs) each = (each x (inl refl), all_from P xs (λ y is. each y (inr is)))

@@ -35,6 +35,12 @@ IsWay es e (way.Lowered token) =
     (is_receipt e ≡ false) × NeedsPutBack es e × IsLowered es e token
 IsWay es e way.Ungiven = (is_receipt e ≡ false) × ¬ (IsGiven es e)
 
+-- a token was put back for this event
+abbrev pub names_put_back : Way → Bool
+names_put_back (way.PutBack token) = true
+names_put_back (way.Lowered token) = true
+names_put_back w = false
+
 -- the last of these events is a receive that took a token
 abbrev pub ends_in_take : List Seen → Bool
 ends_in_take [] = false

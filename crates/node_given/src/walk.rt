@@ -1,13 +1,21 @@
 //! The walk.
 
-ghost use Rattle.std.specs.Prelude.{◌≡◌, ◌<◌, ◌^◌, false, true, [], ◌∷◌, ◌++◌, List, ℕ, Some, length, slice_get, take};
-ghost use Rattle.std.specs.Prelude.{IfOk, IfSome, IsSome, OnOk};
+ghost use Rattle.std.specs.Prelude.{◌≡◌, ◌<◌, ◌≤◌, ◌^◌, false, true, [], ◌∷◌, ◌++◌, List, ℕ, Some, length, slice_get, take};
+ghost use Rattle.std.specs.Prelude.{IfOk, IfSome, IsSome, OnOk, count_by};
 ghost use Rattle.node_machine.specs.Readings.{is_receipt};
+ghost use Rattle.st_core.specs.State.{zero_state};
+ghost use Rattle.st_core.specs.Step.{Outcome};
+ghost use Rattle.st_core.specs.declared.types.Pid.{Pid as PidValue};
 ghost use Rattle.st_core.specs.declared.types.Serial.{Serial as SerialValue};
+ghost use Rattle.node_machine.specs.Given.{IsMet};
+ghost use Rattle.node_machine.specs.Node.{NodeAct};
+ghost use Rattle.node_machine.specs.Premises.{PutsBackOwn, places, put_backs};
 ghost use Rattle.node_machine.specs.Ways.{IsLowered};
+ghost use Rattle.node_given.specs.Runs.{AreEventsOf};
+ghost use Rattle.node_given.specs.declared.way.Way.TheVariants as way;
 ghost use Rattle.node_machine.specs.declared.types.Seen.{Seen as SeenValue};
 ghost use Rattle.node_given.specs.declared.way.Way.{Way as WayValue};
-ghost use Rattle.node_given.specs.Walk.{AreFit, IsKnown, IsWay};
+ghost use Rattle.node_given.specs.Walk.{AreFit, IsKnown, IsWay, names_put_back};
 
 use crate::clocks::{behind_stamp, some_goes_on};
 use crate::counts::{clock_of_answer, count_before, last_of_answer};
@@ -182,12 +190,26 @@ impl Walk {
 
 /// What gives each event of one process, in order, if it ran on a standard node. In a serial a count
 /// is the number from 0 to 2^60 - 1 that has its bits.
+///
+/// In each run in which these are its events, and it reported each stamp and each receive of a token,
+/// it put back at least as many tokens as are named, each of them behind the stamp before that for
+/// which it is named. If a stamp is ungiven, it put back one that wasn't its own.
 pub fn given(alloc: Global, events: &[Seen]) -> Result<Vec<Way>, AllocError>
     requires { AreFit events.now }
     ensures each { IfOk result (λ v. length v.items ≡ length events.now) }
     ensures ways { IfOk result (λ v. (i : ℕ) (e : SeenValue) (w : WayValue)
         → slice_get events.now i ≡ Some e → slice_get v.items i ≡ Some w
         → IsWay (take i events.now) e w) }
+    ensures least { IfOk result (λ v. (p : PidValue) (pids : List PidValue) (acts : List NodeAct)
+        (os : List Outcome) → AreEventsOf p events.now pids acts os
+        → count_by names_put_back v.items ≤ put_backs p acts) }
+    ensures places { IfOk result (λ v. (i : ℕ) (w : WayValue) → slice_get v.items i ≡ Some w
+        → names_put_back w ≡ true → (p : PidValue) (pids : List PidValue) (acts : List NodeAct)
+        (os : List Outcome) → AreEventsOf p events.now pids acts os
+        → IsMet (places p [] acts os) (take i events.now)) }
+    ensures ungiven { IfOk result (λ v. (i : ℕ) → slice_get v.items i ≡ Some way.Ungiven
+        → (p : PidValue) (pids : List PidValue) (acts : List NodeAct) (os : List Outcome)
+        → AreEventsOf p events.now pids acts os → ¬ (PutsBackOwn p [] (zero_state pids) acts os)) }
 {
     let mut walk = Walk::new(alloc)?;
     let mut ways = Vec::with_capacity(alloc, events.len())?;
