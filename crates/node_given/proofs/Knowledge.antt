@@ -12,9 +12,12 @@ use Rattle.node_machine.specs.Premises.{IsAmong}
 use Rattle.node_machine.specs.Readings.{clock_put_back, going_on, is_next, is_receipt, last_behind}
 use Rattle.node_machine.specs.Readings.{put_back_before, taking}
 use Rattle.node_machine.specs.Given.{fresh, shown, takes, tokens}
-use Rattle.node_machine.proofs.ForCallers.{all_append, among_back, among_front, among_parts, clock_by_answer, clock_by_receive}
-use Rattle.node_machine.proofs.ForCallers.{last_by_answer, last_by_receive, last_by_stamp, last_push, put_back_reads}
-use Rattle.node_machine.proofs.ForCallers.{some_reading, stamp_reads, stamped_reads, take_reads, took_reads}
+use Rattle.node_machine.proofs.ForCallers.{all_append, among_back, among_front, among_parts}
+use Rattle.node_machine.proofs.ForCallers.{clock_by_answer, clock_by_receive}
+use Rattle.node_machine.proofs.ForCallers.{last_by_answer, last_by_receive, last_by_stamp}
+use Rattle.node_machine.proofs.ForCallers.{last_push, put_back_reads}
+use Rattle.node_machine.proofs.ForCallers.{some_reading, stamp_reads, stamped_reads, take_reads}
+use Rattle.node_machine.proofs.ForCallers.{took_reads}
 use Rattle.node_machine.proofs.ForCallers.{tokens_more, tokens_new, tokens_parts}
 use Rattle.node_given.specs.declared.tokens.Tokens.{Tokens}
 use Rattle.node_given.specs.Clocks.{AreClocks, clocks_by_stamp, leads_elsewhere}

@@ -7,7 +7,8 @@ use Rattle.std.proofs.lemmas.List.Sums.{sum_by-append}
 use Rattle.node_machine.specs.declared.types.Seen.{Seen}
 use Rattle.node_machine.specs.declared.types.Reading.{Reading}
 use Rattle.node_machine.specs.Premises.{IsAmong}
-use Rattle.node_machine.specs.Readings.{is_next, is_receipt, last_behind, NeedsAtLeast, NeedsPutBack, readings}
+use Rattle.node_machine.specs.Readings.{is_next, is_receipt, last_behind, NeedsAtLeast}
+use Rattle.node_machine.specs.Readings.{NeedsPutBack, readings}
 use Rattle.node_machine.proofs.ForCallers.{all_of, stamped_reads, took_reads}
 use Rattle.node_given.specs.declared.way.Way.{Way}
 use Rattle.node_given.specs.declared.way.Way.TheVariants as way

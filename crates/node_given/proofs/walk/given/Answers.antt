@@ -1,5 +1,6 @@
 -- One event more has its way, and is among those that the walk knows.
-use Rattle.std.proofs.Common.{◌≡◌, [], ◌∷◌, ◌++◌, false, get_or, length, take, inl, inr, arith, sym, ◌∙◌, ap, subst}
+use Rattle.std.proofs.Common.{◌≡◌, [], ◌∷◌, ◌++◌, false, get_or, length, take, inl, inr, arith, sym}
+use Rattle.std.proofs.Common.{◌∙◌, ap, subst}
 use Rattle.std.specs.List.{count_by, slice_get}
 use Rattle.std.proofs.lemmas.List.{take_all}
 use Rattle.std.proofs.lemmas.Option.{same_Some}
