@@ -1,6 +1,7 @@
 -- What the tests of the walk say of a stamp.
 use Rattle.std.proofs.Common.{◌≡◌, ◌≢◌, ℕ, ◌<◌, ◌≤◌, ◌^◌, ◌⊎◌, ◌||◌, max, cond, Bool, true, false}
-use Rattle.std.proofs.Common.{zero, suc, get_or, length, take, Some, ◌+◌, List, [], ◌∷◌, ◌++◌, Result, Ok, Err, OnOk, inl, inr, refl, arith, sym, ◌∙◌, ap, subst}
+use Rattle.std.proofs.Common.{zero, suc, get_or, length, take, Some, ◌+◌, List, [], ◌∷◌, ◌++◌}
+use Rattle.std.proofs.Common.{Result, Ok, Err, OnOk, inl, inr, refl, arith, sym, ◌∙◌, ap, subst}
 use Rattle.std.specs.List.{AllByRecursion, list_any, slice_get}
 use Rattle.std.proofs.lemmas.Bool.{false≢true}
 use Rattle.std.proofs.lemmas.Option.{none-some, same_Some}
@@ -12,8 +13,10 @@ use Rattle.node_machine.specs.Premises.{IsAmong}
 use Rattle.node_machine.specs.Readings.{is_next, is_receipt, last_behind, NeedsPutBack, readings}
 use Rattle.node_machine.specs.Given.{fresh, IsGiven, shown, takes, tokens}
 use Rattle.node_machine.specs.Ways.{IsLowered, IsPlainly}
-use Rattle.node_machine.proofs.ForCallers.{all_of, among_back, among_parts, carried_held, count_once}
-use Rattle.node_machine.proofs.ForCallers.{given_ways, last_by_receive, last_push, lasts_held, next_of_zero, takes_parts}
+use Rattle.node_machine.proofs.ForCallers.{all_of, among_back, among_parts, carried_held}
+use Rattle.node_machine.proofs.ForCallers.{count_once}
+use Rattle.node_machine.proofs.ForCallers.{given_ways, last_by_receive, last_push, lasts_held}
+use Rattle.node_machine.proofs.ForCallers.{next_of_zero, takes_parts}
 use Rattle.node_machine.proofs.ForCallers.{tokens_more, tokens_parts}
 use Rattle.node_given.specs.declared.tokens.Tokens.{Tokens}
 use Rattle.node_given.specs.Walk.{AreFit, ends_in_take, IsKnown}
@@ -48,7 +51,7 @@ none_passes test (j ∷ ks) never k is = (elim (test j) as (λ b. test j ≡ b �
       ]
     ]) refl never
 
-all_from : {A : Type 0} (P : A → Type 0) (xs : List A) → ((x : A) → IsAmong xs x → P x)
+pub all_from : {A : Type 0} (P : A → Type 0) (xs : List A) → ((x : A) → IsAmong xs x → P x)
     → AllByRecursion P xs
 all_from P [] each = tt
 all_from P (x ∷ xs) each = (each x (inl refl), all_from P xs (λ y is. each y (inr is)))

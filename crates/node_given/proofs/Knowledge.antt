@@ -12,9 +12,12 @@ use Rattle.node_machine.specs.Premises.{IsAmong}
 use Rattle.node_machine.specs.Readings.{clock_put_back, going_on, is_next, is_receipt, last_behind}
 use Rattle.node_machine.specs.Readings.{put_back_before, taking}
 use Rattle.node_machine.specs.Given.{fresh, shown, takes, tokens}
-use Rattle.node_machine.proofs.ForCallers.{all_append, among_back, among_front, among_parts, clock_by_answer, clock_by_receive}
-use Rattle.node_machine.proofs.ForCallers.{last_by_answer, last_by_receive, last_by_stamp, last_push, put_back_reads}
-use Rattle.node_machine.proofs.ForCallers.{some_reading, stamp_reads, stamped_reads, take_reads, took_reads}
+use Rattle.node_machine.proofs.ForCallers.{all_append, among_back, among_front, among_parts}
+use Rattle.node_machine.proofs.ForCallers.{clock_by_answer, clock_by_receive}
+use Rattle.node_machine.proofs.ForCallers.{last_by_answer, last_by_receive, last_by_stamp}
+use Rattle.node_machine.proofs.ForCallers.{last_push, put_back_reads}
+use Rattle.node_machine.proofs.ForCallers.{some_reading, stamp_reads, stamped_reads, take_reads}
+use Rattle.node_machine.proofs.ForCallers.{took_reads}
 use Rattle.node_machine.proofs.ForCallers.{tokens_more, tokens_new, tokens_parts}
 use Rattle.node_given.specs.declared.tokens.Tokens.{Tokens}
 use Rattle.node_given.specs.Clocks.{AreClocks, clocks_by_stamp, leads_elsewhere}
@@ -143,22 +146,29 @@ module _ (es : List Seen) (ks : List ℕ) (lift last : ℕ) (e : Seen) (are : Ar
               let next = and_parts (is_next (max found.0 lift) last e)
               (not (next_clock (max found.0 lift) == z)) passes.1 in
               let goes = subst (λ n. is_next old.0.clock n e ≡ true) last_is
-              (subst (λ n. is_next n last e ≡ true) (sym old.2) next.0) in
-              (going_on old.0, stamp_reads es e old.0 old.1 kind goes,
-              ap next_clock old.2 ∙ found.2 ∙ sym (max_zero k))
+              (subst (λ n. is_next n last e ≡ true) (sym old.2) next.0) in (
+                going_on old.0,
+                stamp_reads es e old.0 old.1 kind goes,
+                ap next_clock old.2 ∙ found.2 ∙ sym (max_zero k),
+              )
           | inr second ↦ elim second [
             | inl same ↦
-                let some = some_reading es in
-                (put_back_before e some.0, put_back_reads es e some.0 some.1 kind,
-                same ∙ sym (max_zero k))
+                let some = some_reading es in (
+                  put_back_before e some.0,
+                  put_back_reads es e some.0 some.1 kind,
+                  same ∙ sym (max_zero k),
+                )
             | inr none ↦ absurd none
           ]
         ];
         complete = λ r is.
             let back = stamped_reads es e r is kind in
             elim back.2 [
-              | inr put ↦ (z, among_back went (z ∷ []) z (inl refl),
-                  sym (ap (λ (x : Reading). x.clock) put) ∙ sym (max_zero z))
+              | inr put ↦ (
+                z,
+                among_back went (z ∷ []) z (inl refl),
+                sym (ap (λ (x : Reading). x.clock) put) ∙ sym (max_zero z),
+              )
               | inl goes ↦
                   let old = are.complete back.0 back.1 in
                   let n = f old.0 in
@@ -168,13 +178,19 @@ module _ (es : List Seen) (ks : List ℕ) (lift last : ℕ) (e : Seen) (are : Ar
                   (subst (λ m. is_next m (last_behind 0 es) e ≡ true) old.2 goes.0) in
                   (elim (n == z) as (λ b. (n == z) ≡ b
                   → (k : ℕ) × IsAmong (clocks_by_stamp lift last e ks) k × (r.clock ≡ max k 0)) [
-                    | true ↦ λ same. (z, among_back went (z ∷ []) z (inl refl),
-                        clock ∙ eqb-true n z same ∙ sym (max_zero z))
-                    | false ↦ λ other. (n, among_front went (z ∷ []) n
-                        (in_map f (filter test ks) old.0 (in_filter test ks old.0 old.1
-                        (both_true (is_next (max old.0 lift) last e) (not (n == z)) next
-                        (ap not other)))),
-                        clock ∙ sym (max_zero n))
+                    | true ↦ λ same. (
+                      z,
+                      among_back went (z ∷ []) z (inl refl),
+                      clock ∙ eqb-true n z same ∙ sym (max_zero z),
+                    )
+                    | false ↦ λ other. (
+                      n,
+                      among_front went (z ∷ []) n
+                          (in_map f (filter test ks) old.0 (in_filter test ks old.0 old.1
+                          (both_true (is_next (max old.0 lift) last e) (not (n == z)) next
+                          (ap not other)))),
+                      clock ∙ sym (max_zero n),
+                    )
                   ]) refl
             ];
       }
@@ -183,16 +199,21 @@ module _ (es : List Seen) (ks : List ℕ) (lift last : ℕ) (e : Seen) (are : Ar
       → AreClocks ks (max lift e.serial.this) (es ++ e ∷ [])
   receive_clocks kind other = record {
     sound = λ k is.
-        let old = are.sound k is in
-        (taking e old.0, take_reads es e old.0 old.1 kind,
-        clock_by_receive e old.0.clock other ∙ ap (λ n. max n e.serial.this) old.2
-        ∙ max_again k lift e.serial.this);
+        let old = are.sound k is in (
+          taking e old.0,
+          take_reads es e old.0 old.1 kind,
+          clock_by_receive e old.0.clock other ∙ ap (λ n. max n e.serial.this) old.2
+              ∙ max_again k lift e.serial.this,
+        );
     complete = λ r is.
         let back = took_reads es e r is kind in
-        let old = are.complete back.0 back.1 in
-        (old.0, old.1, sym (ap (λ (x : Reading). x.clock) back.2)
-        ∙ clock_by_receive e back.0.clock other ∙ ap (λ n. max n e.serial.this) old.2
-        ∙ max_again old.0 lift e.serial.this);
+        let old = are.complete back.0 back.1 in (
+          old.0,
+          old.1,
+          sym (ap (λ (x : Reading). x.clock) back.2)
+              ∙ clock_by_receive e back.0.clock other ∙ ap (λ n. max n e.serial.this) old.2
+              ∙ max_again old.0 lift e.serial.this,
+        );
   }
 
   answer_clocks : is_receipt e ≡ true → e.answer ≡ true
@@ -202,15 +223,20 @@ module _ (es : List Seen) (ks : List ℕ) (lift last : ℕ) (e : Seen) (are : Ar
       record {
         sound = λ k is. elim is [
           | inl same ↦
-              let some = some_reading es in
-              (taking e some.0, take_reads es e some.0 some.1 kind,
-              clock_by_answer e some.0.clock answer ∙ same ∙ sym (max_zero k))
+              let some = some_reading es in (
+                taking e some.0,
+                take_reads es e some.0 some.1 kind,
+                clock_by_answer e some.0.clock answer ∙ same ∙ sym (max_zero k),
+              )
           | inr none ↦ absurd none
         ];
         complete = λ r is.
-            let back = took_reads es e r is kind in
-            (n, inl refl, sym (ap (λ (x : Reading). x.clock) back.2)
-            ∙ clock_by_answer e back.0.clock answer ∙ sym (max_zero n));
+            let back = took_reads es e r is kind in (
+              n,
+              inl refl,
+              sym (ap (λ (x : Reading). x.clock) back.2)
+                  ∙ clock_by_answer e back.0.clock answer ∙ sym (max_zero n),
+            );
       }
 
 -- KNOWLEDGE
@@ -264,6 +290,7 @@ module _ (es : List Seen) (ks : List ℕ) (lift last : ℕ) (taking : Bool) (t u
         (λ x is. swap e.serial (fresh e.serial.prev) x (subst (λ xs. IsAmong xs x) (shown_stamp e kind) is)) are;
     fit = fit_push es e known.fit fits;
   }
+
   pub known_receive : is_receipt e ≡ true → e.answer ≡ false
       → AreTokens (fresh e.serial.this ∷ fresh e.serial.prev ∷ e.serial ∷ tokens es) u
       → IsKnown (es ++ e ∷ []) ks (max lift e.serial.this) e.serial.this true u
@@ -276,6 +303,7 @@ module _ (es : List Seen) (ks : List ℕ) (lift last : ℕ) (taking : Bool) (t u
         (λ x is. turn e.serial (fresh e.serial.prev) (fresh e.serial.this) x (subst (λ xs. IsAmong xs x) (shown_taken e false kind other) is)) are;
     fit = fit_push es e known.fit fits;
   }
+
   pub known_answer : is_receipt e ≡ true → e.answer ≡ true
       → AreTokens (fresh (serial_count (answer_count e.serial.this)) ∷ tokens es) u
       → IsKnown (es ++ e ∷ []) (answer_count e.serial.this ∷ []) 0

@@ -3,3 +3,5 @@ pub mod CountValues
 pub mod TableLemmas
 pub mod Knowledge
 pub mod Decisions
+pub mod PutBacks
+pub mod InRuns

@@ -1,5 +1,6 @@
 -- A table with one serial more has that serial and those that it had.
-use Rattle.std.proofs.Common.{◌≡◌, ℕ, ◌⊎◌, ◌==◌, cond, nat_eq, Bool, true, false, List, ◌∷◌, Option, Some, IsSome}
+use Rattle.std.proofs.Common.{◌≡◌, ℕ, ◌⊎◌, ◌==◌, cond, nat_eq, Bool, true, false, List, ◌∷◌, Option}
+use Rattle.std.proofs.Common.{Some, IsSome}
 use Rattle.std.proofs.Common.{inl, inr, refl, sym, ◌∙◌, ap, subst}
 use Rattle.std.specs.HashMap.{get}
 use Rattle.std.specs.HashSet.{contains}

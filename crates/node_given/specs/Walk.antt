@@ -9,6 +9,7 @@ use Rattle.node_machine.specs.Readings.{is_receipt, last_behind, NeedsPutBack}
 use Rattle.node_machine.specs.Given.{IsGiven, takes, tokens}
 use Rattle.node_machine.specs.Ways.{IsLowered, IsPlainly}
 use Rattle.node_given.specs.declared.tokens.Tokens.{Tokens}
+use Rattle.node_given.specs.declared.walk.Walk.{Walk}
 use Rattle.node_given.specs.declared.way.Way.{Way}
 use Rattle.node_given.specs.declared.way.Way.TheVariants as way
 use Rattle.node_given.specs.Clocks.{AreClocks}
@@ -24,8 +25,8 @@ pub record IsPutBackNow (es : List Seen) (e : Seen) (token : Serial) : Type 0 wh
   pub prev : token.prev ≡ e.serial.prev
   pub count : e.serial.this ≡ stamp_count token.this
 
--- what gives the event e behind these events. A put-back is named only for a stamp that goes on in no
--- way to read the events
+-- what gives the event e behind these events. A put-back is named only for a stamp that goes on in
+-- no way to read the events
 abbrev pub IsWay : List Seen → Seen → Way → Type 0
 IsWay es e way.Receive = is_receipt e ≡ true
 IsWay es e way.Plain = (is_receipt e ≡ false) × IsPlainly es e
@@ -34,6 +35,12 @@ IsWay es e (way.PutBack token) =
 IsWay es e (way.Lowered token) =
     (is_receipt e ≡ false) × NeedsPutBack es e × IsLowered es e token
 IsWay es e way.Ungiven = (is_receipt e ≡ false) × ¬ (IsGiven es e)
+
+-- a token was put back for this event
+abbrev pub names_put_back : Way → Bool
+names_put_back (way.PutBack token) = true
+names_put_back (way.Lowered token) = true
+names_put_back w = false
 
 -- the last of these events is a receive that took a token
 abbrev pub ends_in_take : List Seen → Bool
@@ -49,3 +56,7 @@ pub record IsKnown (es : List Seen) (ks : List ℕ) (lift last : ℕ) (taking : 
   pub taking_is : taking ≡ ends_in_take es
   pub tokens_are : AreTokens (tokens es) t
   pub fit : AreFit es
+
+-- the same of the walk
+abbrev pub Knows : Walk → List Seen → Type 0
+Knows w es = IsKnown es w.clocks.items w.lift w.last w.takes w.tokens

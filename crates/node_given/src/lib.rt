@@ -7,5 +7,8 @@ mod tokens;
 mod walk;
 mod way;
 
+#[cfg(test)]
+mod tests;
+
 pub use walk::given;
 pub use way::Way;

@@ -1,13 +1,22 @@
 //! The walk.
 
-ghost use Rattle.std.specs.Prelude.{◌≡◌, ◌<◌, ◌^◌, false, true, [], ◌∷◌, ◌++◌, List, ℕ, Some, length, slice_get, take};
-ghost use Rattle.std.specs.Prelude.{IfOk, IfSome, IsSome, OnOk};
+ghost use Rattle.std.specs.Prelude.{◌≡◌, ◌<◌, ◌≤◌, ◌^◌, false, true, [], ◌∷◌, ◌++◌, List, ℕ, Some};
+ghost use Rattle.std.specs.Prelude.{length, slice_get, take};
+ghost use Rattle.std.specs.Prelude.{IfOk, IfSome, IsSome, OnOk, count_by};
 ghost use Rattle.node_machine.specs.Readings.{is_receipt};
+ghost use Rattle.st_core.specs.State.{zero_state};
+ghost use Rattle.st_core.specs.Step.{Outcome};
+ghost use Rattle.st_core.specs.declared.types.Pid.{Pid as PidValue};
 ghost use Rattle.st_core.specs.declared.types.Serial.{Serial as SerialValue};
+ghost use Rattle.node_machine.specs.Given.{IsMet};
+ghost use Rattle.node_machine.specs.Node.{NodeAct};
+ghost use Rattle.node_machine.specs.Premises.{PutsBackOwn, places, put_backs};
 ghost use Rattle.node_machine.specs.Ways.{IsLowered};
+ghost use Rattle.node_given.specs.Runs.{AreEventsOf};
+ghost use Rattle.node_given.specs.declared.way.Way.TheVariants as way;
 ghost use Rattle.node_machine.specs.declared.types.Seen.{Seen as SeenValue};
 ghost use Rattle.node_given.specs.declared.way.Way.{Way as WayValue};
-ghost use Rattle.node_given.specs.Walk.{AreFit, IsKnown, IsWay};
+ghost use Rattle.node_given.specs.Walk.{AreFit, IsWay, Knows, names_put_back};
 
 use crate::clocks::{behind_stamp, some_goes_on};
 use crate::counts::{clock_of_answer, count_before, last_of_answer};
@@ -36,7 +45,7 @@ pub(crate) struct Walk {
 impl Walk {
     /// Before all events.
     fn new(alloc: Global) -> Result<Walk, AllocError>
-        ensures { IfOk result (λ w. IsKnown [] w.clocks.items w.lift w.last w.takes w.tokens) }
+        ensures { IfOk result (λ w. Knows w []) }
     {
         let mut clocks = Vec::new(alloc);
         clocks.push(0)?;
@@ -52,14 +61,15 @@ impl Walk {
         })
     }
 
-    /// The token that was put back right before the last event, a receive, if that leads to the stamp.
+    /// The token that was put back right before the last event, a receive, if that leads to the
+    /// stamp.
     fn lowering(&self, stamp: Seen) -> Option<Serial>
         requires { stamp.serial.this < 2 ^ 60 }
         ensures found { (es : List SeenValue)
-            → IsKnown es self.now.clocks.items self.now.lift self.now.last self.now.takes self.now.tokens
+            → Knows self.now es
             → IfSome result (IsLowered es stamp) }
         ensures missing { (es : List SeenValue)
-            → IsKnown es self.now.clocks.items self.now.lift self.now.last self.now.takes self.now.tokens
+            → Knows self.now es
             → (t : SerialValue) → IsLowered es stamp t → IsSome result }
     {
         if !self.takes {
@@ -83,7 +93,7 @@ impl Walk {
     fn way(&self, stamp: Seen) -> Way
         requires { stamp.serial.this < 2 ^ 60 }
         ensures { (es : List SeenValue) → is_receipt stamp ≡ false
-            → IsKnown es self.now.clocks.items self.now.lift self.now.last self.now.takes self.now.tokens
+            → Knows self.now es
             → IsWay es stamp result }
     {
         if some_goes_on(&self.clocks, self.lift, self.last, stamp) {
@@ -104,9 +114,8 @@ impl Walk {
     fn stamp(&mut self, stamp: Seen) -> Result<(), AllocError>
         requires { stamp.serial.this < 2 ^ 60 }
         ensures { (es : List SeenValue) → is_receipt stamp ≡ false
-            → IsKnown es self.old.clocks.items self.old.lift self.old.last self.old.takes self.old.tokens
-            → OnOk result (IsKnown (es ++ stamp ∷ []) self.new.clocks.items self.new.lift
-            self.new.last self.new.takes self.new.tokens) }
+            → Knows self.old es
+            → OnOk result (Knows self.new (es ++ stamp ∷ [])) }
     {
         let Serial { prev, this } = stamp.serial;
         self.clocks = behind_stamp(self.alloc, &self.clocks, self.lift, self.last, stamp)?;
@@ -121,9 +130,8 @@ impl Walk {
     fn answer(&mut self, answer: Seen) -> Result<(), AllocError>
         requires { answer.serial.this < 2 ^ 60 }
         ensures { (es : List SeenValue) → is_receipt answer ≡ true → answer.answer ≡ true
-            → IsKnown es self.old.clocks.items self.old.lift self.old.last self.old.takes self.old.tokens
-            → OnOk result (IsKnown (es ++ answer ∷ []) self.new.clocks.items self.new.lift
-            self.new.last self.new.takes self.new.tokens) }
+            → Knows self.old es
+            → OnOk result (Knows self.new (es ++ answer ∷ [])) }
     {
         let mut clocks = Vec::new(self.alloc);
         clocks.push(clock_of_answer(answer.serial.this))?;
@@ -138,9 +146,8 @@ impl Walk {
     fn receive(&mut self, receive: Seen) -> Result<(), AllocError>
         requires { receive.serial.this < 2 ^ 60 }
         ensures { (es : List SeenValue) → is_receipt receive ≡ true → receive.answer ≡ false
-            → IsKnown es self.old.clocks.items self.old.lift self.old.last self.old.takes self.old.tokens
-            → OnOk result (IsKnown (es ++ receive ∷ []) self.new.clocks.items self.new.lift
-            self.new.last self.new.takes self.new.tokens) }
+            → Knows self.old es
+            → OnOk result (Knows self.new (es ++ receive ∷ [])) }
     {
         let Serial { prev, this } = receive.serial;
         self.lift = self.lift.max(this);
@@ -155,11 +162,10 @@ impl Walk {
     fn step(&mut self, event: Seen) -> Result<Way, AllocError>
         requires { event.serial.this < 2 ^ 60 }
         ensures known { (es : List SeenValue)
-            → IsKnown es self.old.clocks.items self.old.lift self.old.last self.old.takes self.old.tokens
-            → OnOk result (IsKnown (es ++ event ∷ []) self.new.clocks.items self.new.lift
-            self.new.last self.new.takes self.new.tokens) }
+            → Knows self.old es
+            → OnOk result (Knows self.new (es ++ event ∷ [])) }
         ensures way { (es : List SeenValue)
-            → IsKnown es self.old.clocks.items self.old.lift self.old.last self.old.takes self.old.tokens
+            → Knows self.old es
             → IfOk result (IsWay es event) }
     {
         match event.kind {
@@ -180,14 +186,28 @@ impl Walk {
     }
 }
 
-/// What gives each event of one process, in order, if it ran on a standard node. In a serial a count
-/// is the number from 0 to 2^60 - 1 that has its bits.
+/// What gives each event of one process, in order, if it ran on a standard node. In a serial a
+/// count is the number from 0 to 2^60 - 1 that has its bits.
+///
+/// In each run in which these are its events, and it reported each stamp and each receive of a
+/// token, it put back at least as many tokens as are named, each of them behind the stamp before
+/// that for which it is named. If a stamp is ungiven, it put back one that wasn't its own.
 pub fn given(alloc: Global, events: &[Seen]) -> Result<Vec<Way>, AllocError>
     requires { AreFit events.now }
     ensures each { IfOk result (λ v. length v.items ≡ length events.now) }
     ensures ways { IfOk result (λ v. (i : ℕ) (e : SeenValue) (w : WayValue)
         → slice_get events.now i ≡ Some e → slice_get v.items i ≡ Some w
         → IsWay (take i events.now) e w) }
+    ensures least { IfOk result (λ v. (p : PidValue) (pids : List PidValue) (acts : List NodeAct)
+        (os : List Outcome) → AreEventsOf p events.now pids acts os
+        → count_by names_put_back v.items ≤ put_backs p acts) }
+    ensures places { IfOk result (λ v. (i : ℕ) (w : WayValue) → slice_get v.items i ≡ Some w
+        → names_put_back w ≡ true → (p : PidValue) (pids : List PidValue) (acts : List NodeAct)
+        (os : List Outcome) → AreEventsOf p events.now pids acts os
+        → IsMet (places p [] acts os) (take i events.now)) }
+    ensures ungiven { IfOk result (λ v. (i : ℕ) → slice_get v.items i ≡ Some way.Ungiven
+        → (p : PidValue) (pids : List PidValue) (acts : List NodeAct) (os : List Outcome)
+        → AreEventsOf p events.now pids acts os → ¬ (PutsBackOwn p [] (zero_state pids) acts os)) }
 {
     let mut walk = Walk::new(alloc)?;
     let mut ways = Vec::with_capacity(alloc, events.len())?;

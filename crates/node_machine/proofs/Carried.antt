@@ -1,6 +1,7 @@
 -- How an act of the node that is reported if it moves a token changes its actor's token, with the
 -- origin that it has.
-use Rattle.std.proofs.Common.{◌≡◌, ℕ, ◌⊎◌, ◌&&◌, Bool, true, false, cond, List, length, Option, Some, None}
+use Rattle.std.proofs.Common.{◌≡◌, ℕ, ◌⊎◌, ◌&&◌, Bool, true, false, cond, List, length, Option}
+use Rattle.std.proofs.Common.{Some, None}
 use Rattle.std.proofs.Common.{is_some, IsSome, option_map, inl, inr, refl, ◌∙◌, ap, subst}
 use Rattle.std.specs.Option.{option_map_or}
 use Rattle.std.proofs.lemmas.Bool.{false≢true}
@@ -22,11 +23,14 @@ use Rattle.st_core.specs.Report.{token_event}
 use Rattle.st_core.specs.Step.{Acted, receives}
 use Rattle.st_core.specs.Laws.{moves_token}
 use Rattle.node_machine.specs.Counts.{node_token}
-use Rattle.node_machine.specs.Node.{after_answer, Answer, Common, fresh_token, is_answer, machine_act, node_acted, node_found}
+use Rattle.node_machine.specs.Node.{after_answer, Answer, Common, fresh_token, is_answer}
+use Rattle.node_machine.specs.Node.{machine_act, node_acted, node_found}
 use Rattle.node_machine.specs.Node.{NodeAct, Seen, seen, takes_answer}
-use Rattle.node_machine.specs.Origins.{AfterRestore, AfterSet, Follows, Held, Home, IsOwnLabel, TokenOrigin, OriginAfter}
+use Rattle.node_machine.specs.Origins.{AfterRestore, AfterSet, Follows, Held, Home, IsOwnLabel}
+use Rattle.node_machine.specs.Origins.{TokenOrigin, OriginAfter}
 use Rattle.node_machine.proofs.Counts.{serial_fits}
-use Rattle.node_machine.proofs.Moves.{emptied, IsAnswered, IsBack, IsQuiet, IsStamp, IsStill, IsTake, is_plain}
+use Rattle.node_machine.proofs.Moves.{emptied, IsAnswered, IsBack, IsQuiet, IsStamp, IsStill}
+use Rattle.node_machine.proofs.Moves.{IsTake, is_plain}
 use Rattle.node_machine.proofs.Moves.{plain_stamps, set_serial, StampMoves, unmoved}
 
 -- nothing is reported, and the token stays or goes

@@ -1,6 +1,7 @@
 -- The test of what is given tells.
 use Rattle.std.proofs.Common.{◌≡◌, ◌≢◌, ℕ, ◌⊎◌, ◌&&◌, ◌||◌, Bool, true, false, List, [], ◌∷◌, ◌++◌}
-use Rattle.std.proofs.Common.{take, Some, inl, inr, refl, sym, ◌∙◌, ap, subst, append_assoc, append-nil}
+use Rattle.std.proofs.Common.{take, Some, inl, inr, refl, sym, ◌∙◌, ap, subst, append_assoc}
+use Rattle.std.proofs.Common.{append-nil}
 use Rattle.std.specs.List.{AllByRecursion, list_any, slice_get}
 use Rattle.std.proofs.lemmas.Bool.{and_parts, false≢true}
 use Rattle.st_core.specs.declared.types.Pid.{Pid}
@@ -13,7 +14,8 @@ use Rattle.node_machine.specs.Counts.{stamp_count}
 use Rattle.node_machine.specs.Node.{node_run, NodeAct, Seen, seen_stream}
 use Rattle.node_machine.specs.Premises.{IsAmong, NoNodeReset, PutsBackOwn, ReportsTokens}
 use Rattle.node_machine.specs.Readings.{clock_behind, is_next, last_behind, Reading, readings}
-use Rattle.node_machine.specs.Given.{are_taken, is_given, IsGiven, leads, put_back_gives, some_reading_gives}
+use Rattle.node_machine.specs.Given.{are_taken, is_given, IsGiven, leads, put_back_gives}
+use Rattle.node_machine.specs.Given.{some_reading_gives}
 use Rattle.node_machine.specs.Given.{takes, tokens}
 use Rattle.node_machine.proofs.Readings.{next_parts, next_true}
 use Rattle.node_machine.proofs.Givens.{stamps_given}

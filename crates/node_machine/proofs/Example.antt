@@ -1,5 +1,6 @@
 -- The example keeps to it.
-use Rattle.std.proofs.Common.{◌≡◌, ◌==◌, true, false, map, List, [], ◌∷◌, Some, None, inl, inr, refl, arith, ap, subst}
+use Rattle.std.proofs.Common.{◌≡◌, ◌==◌, true, false, map, List, [], ◌∷◌, Some, None, inl, inr}
+use Rattle.std.proofs.Common.{refl, arith, ap, subst}
 use Rattle.std.proofs.lemmas.Bool.{false≢true}
 use Rattle.std.proofs.lemmas.Option.{same_Some, none-some}
 use Rattle.st_core.specs.declared.types.Pid.{Pid}
@@ -13,7 +14,8 @@ use Rattle.node_machine.specs.Node.{node_run, Common, Seen, seen_stream}
 use Rattle.node_machine.specs.Premises.{NoNodeReset, put_backs, PutsBackOwn, ReportsTokens}
 use Rattle.node_machine.specs.Readings.{NeedsAtLeast}
 use Rattle.node_machine.specs.Origins.{AnswersComeNext, Held, Home, OriginAfter, OriginsAre}
-use Rattle.node_machine.specs.Example.{all_home, first_token, printer, prints_again, sender, wrapped_serials, wraps}
+use Rattle.node_machine.specs.Example.{all_home, first_token, printer, prints_again, sender}
+use Rattle.node_machine.specs.Example.{wrapped_serials, wraps}
 
 abbrev pub outcomes : List Outcome
 outcomes = elim (node_run (printer ∷ []) prints_again) as (λ _. List Outcome) [

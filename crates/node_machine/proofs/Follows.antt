@@ -1,7 +1,9 @@
 -- In each run of the node each token that a process holds is one whose origin its events allow: so
 -- they allow the origins of its stamps.
-use Rattle.std.proofs.Common.{◌≡◌, ◌≢◌, ℕ, ◌+◌, ◌<◌, ◌≤◌, ◌⊎◌, zero, suc, Bool, true, false, List, [], ◌∷◌, ◌++◌, length, max, take}
-use Rattle.std.proofs.Common.{Option, Some, None, is_some, IsSome, option_map, option_and_then, option_to_list, inl, inr, refl, arith}
+use Rattle.std.proofs.Common.{◌≡◌, ◌≢◌, ℕ, ◌+◌, ◌<◌, ◌≤◌, ◌⊎◌, zero, suc, Bool, true, false, List}
+use Rattle.std.proofs.Common.{[], ◌∷◌, ◌++◌, length, max, take}
+use Rattle.std.proofs.Common.{Option, Some, None, is_some, IsSome, option_map, option_and_then}
+use Rattle.std.proofs.Common.{option_to_list, inl, inr, refl, arith}
 use Rattle.std.proofs.Common.{sym, ◌∙◌, ap, subst, append_assoc, append-nil, if◌then◌else◌}
 use Rattle.std.specs.List.{slice_get, AllByRecursion}
 use Rattle.std.specs.Option.{option_map_or}
@@ -26,14 +28,17 @@ use Rattle.node_machine.specs.Node.{Seen, seen, seen_by, seen_stream}
 use Rattle.node_machine.specs.Premises.{IsAmong, NoNodeReset, ReportsTokens, token_put_back}
 use Rattle.node_machine.specs.Readings.{is_receipt}
 use Rattle.node_machine.specs.Given.{IsPutBack, IsStraight, tokens}
-use Rattle.node_machine.specs.Origins.{answered, AnswersComeNext, Can, Follows, Held, held_in, Home, home, IsOwnLabel, TokenOrigin}
-use Rattle.node_machine.specs.Origins.{OriginAfter, OriginsAre, origins_told, received, stamped, taken, told_send}
+use Rattle.node_machine.specs.Origins.{answered, AnswersComeNext, Can, Follows, Held, held_in, Home}
+use Rattle.node_machine.specs.Origins.{home, IsOwnLabel, TokenOrigin}
+use Rattle.node_machine.specs.Origins.{OriginAfter, OriginsAre, origins_told, received, stamped}
+use Rattle.node_machine.specs.Origins.{taken, told_send}
 use Rattle.node_machine.proofs.Counts.{next_of_clock}
 use Rattle.node_machine.proofs.Lists.{all_append, all_change, all_of}
 use Rattle.node_machine.proofs.Steps.{node_run_parts, node_step_parts}
 use Rattle.node_machine.proofs.Steps.{actor_found, actor_same, other_same}
 use Rattle.node_machine.proofs.Tokens.{tokens_more}
-use Rattle.node_machine.proofs.Givens.{AreTold, IsHeld, no_receive, reached_way, step_moves, step_told, told_same, zero_told}
+use Rattle.node_machine.proofs.Givens.{AreTold, IsHeld, no_receive, reached_way, step_moves}
+use Rattle.node_machine.proofs.Givens.{step_told, told_same, zero_told}
 use Rattle.node_machine.proofs.Carried.{CameBack, Carries, IsStamped, node_carries, PartCarriesAll}
 
 length_push : (es : List Seen) (e : Seen) → length (es ++ e ∷ []) ≡ suc (length es)
@@ -224,8 +229,8 @@ module _ (all : List Seen) where
     count : serial_count (answer_count answer.serial.this) ≡ last
 
   -- behind these events a process with these counts has a token of this serial and label, whose
-  -- origin is this: the counts lead to the token's successor, or the token came with the last event,
-  -- or it was made or labelled since the last event, or kept in an answer
+  -- origin is this: the counts lead to the token's successor, or the token came with the last
+  -- event, or it was made or labelled since the last event, or kept in an answer
   record IsInForce (es : List Seen) (clock last : ℕ) (x : Serial) (label : Label)
       (h : TokenOrigin) : Type 0 where
     can : CanHold (length es) x label h

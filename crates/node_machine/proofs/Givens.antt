@@ -1,7 +1,9 @@
 -- In each run of the node the counts of a process are those that its events lead to, or that a
 -- token of its own led to which was put back: so its stamps are given.
-use Rattle.std.proofs.Common.{◌≡◌, ◌≢◌, ℕ, ◌⊎◌, max, zero, suc, true, false, List, [], ◌∷◌, ◌++◌, take}
-use Rattle.std.proofs.Common.{Option, Some, None, IsSome, option_map, option_and_then, option_to_list, inl, inr, refl}
+use Rattle.std.proofs.Common.{◌≡◌, ◌≢◌, ℕ, ◌⊎◌, max, zero, suc, true, false, List, [], ◌∷◌, ◌++◌}
+use Rattle.std.proofs.Common.{take}
+use Rattle.std.proofs.Common.{Option, Some, None, IsSome, option_map, option_and_then}
+use Rattle.std.proofs.Common.{option_to_list, inl, inr, refl}
 use Rattle.std.proofs.Common.{sym, ◌∙◌, ap, subst, append_assoc, append-nil, if◌then◌else◌}
 use Rattle.std.specs.List.{slice_get, AllByRecursion}
 use Rattle.std.proofs.lemmas.Bool.{false≢true}
@@ -17,20 +19,27 @@ use Rattle.st_core.specs.Step.{Acted, Outcome}
 use Rattle.st_core.specs.Laws.{is_reset, moves_token}
 use Rattle.st_core.proofs.ForCallers.{local_found, local_in, pid_same, zero_found}
 use Rattle.node_machine.specs.Counts.{next_clock, stamp_count}
-use Rattle.node_machine.specs.Node.{is_answer, machine_act, node_actor, node_run, node_run_from, NodeAct}
+use Rattle.node_machine.specs.Node.{is_answer, machine_act, node_actor, node_run, node_run_from}
+use Rattle.node_machine.specs.Node.{NodeAct}
 use Rattle.node_machine.specs.Node.{Seen, seen, seen_by, seen_stream}
-use Rattle.node_machine.specs.Premises.{IsAmong, NoNodeReset, PutsBackOwn, ReportsTokens, serials_in, token_put_back}
-use Rattle.node_machine.specs.Readings.{clock_behind, going_on, is_next, is_receipt, last_behind, put_back_before, taking}
+use Rattle.node_machine.specs.Premises.{IsAmong, NoNodeReset, PutsBackOwn, ReportsTokens}
+use Rattle.node_machine.specs.Premises.{serials_in, token_put_back}
+use Rattle.node_machine.specs.Readings.{clock_behind, going_on, is_next, is_receipt, last_behind}
+use Rattle.node_machine.specs.Readings.{put_back_before, taking}
 use Rattle.node_machine.specs.Given.{fresh, IsGiven, IsStraight, IsPutBack, takes, tokens}
 use Rattle.node_machine.proofs.Counts.{FitsSerial, max_either}
 use Rattle.node_machine.proofs.Lists.{all_append, all_change, all_of}
-use Rattle.node_machine.proofs.Readings.{clock_fits, next_true, put_back_reads, some_reading, stamp_reads, take_reads}
+use Rattle.node_machine.proofs.Readings.{clock_fits, next_true, put_back_reads, some_reading}
+use Rattle.node_machine.proofs.Readings.{stamp_reads, take_reads}
 use Rattle.node_machine.proofs.Steps.{node_run_parts, node_step_parts, NodeStepped, SameButTraced}
 use Rattle.node_machine.proofs.Steps.{actor_found, actor_same, other_same}
-use Rattle.node_machine.proofs.Moves.{IsAnswered, IsBack, IsStamp, IsStill, IsTake, Moves, node_acted_moves, PartMoves}
+use Rattle.node_machine.proofs.Moves.{IsAnswered, IsBack, IsStamp, IsStill, IsTake, Moves}
+use Rattle.node_machine.proofs.Moves.{node_acted_moves, PartMoves}
 use Rattle.node_machine.proofs.Tokens.{clock_by_answer, clock_by_receive}
-use Rattle.node_machine.proofs.Tokens.{clock_push, last_by_answer, takes_true, tokens_answer, tokens_receive}
-use Rattle.node_machine.proofs.Tokens.{last_by_receive, last_by_stamp, last_push, tokens_count, tokens_fresh}
+use Rattle.node_machine.proofs.Tokens.{clock_push, last_by_answer, takes_true, tokens_answer}
+use Rattle.node_machine.proofs.Tokens.{tokens_receive}
+use Rattle.node_machine.proofs.Tokens.{last_by_receive, last_by_stamp, last_push, tokens_count}
+use Rattle.node_machine.proofs.Tokens.{tokens_fresh}
 use Rattle.node_machine.proofs.Tokens.{tokens_more, tokens_stamp}
 
 -- WHAT EVENTS TELL

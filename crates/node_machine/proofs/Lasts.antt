@@ -1,7 +1,9 @@
 -- Whatever is stamped unreported, the prev of each stamp is a last that its process's events show.
 use Rattle.std.proofs.Common.{◌≡◌, ◌≢◌, ℕ, ◌⊎◌, zero, suc, true, false, cond, List, [], ◌∷◌, ◌++◌}
-use Rattle.std.proofs.Common.{take, Option, Some, None, is_some, IsSome, option_map, option_and_then, option_to_list}
-use Rattle.std.proofs.Common.{inl, inr, refl, sym, ◌∙◌, ap, subst, append_assoc, append-nil, if◌then◌else◌}
+use Rattle.std.proofs.Common.{take, Option, Some, None, is_some, IsSome, option_map}
+use Rattle.std.proofs.Common.{option_and_then, option_to_list}
+use Rattle.std.proofs.Common.{inl, inr, refl, sym, ◌∙◌, ap, subst, append_assoc, append-nil}
+use Rattle.std.proofs.Common.{if◌then◌else◌}
 use Rattle.std.specs.List.{slice_get, AllByRecursion}
 use Rattle.std.proofs.lemmas.Bool.{false≢true}
 use Rattle.std.proofs.lemmas.Option.{same_Some, none-some}
@@ -19,17 +21,22 @@ use Rattle.st_core.specs.Laws.{is_reset, moves_token}
 use Rattle.st_core.specs.Step.{Acted, answers, Outcome, prints}
 use Rattle.st_core.proofs.ForCallers.{local_found, local_in, pid_same, zero_found}
 use Rattle.node_machine.specs.Counts.{next_clock}
-use Rattle.node_machine.specs.Node.{after_stamp, Answer, Common, is_answer, machine_act, node_acted, node_actor}
-use Rattle.node_machine.specs.Node.{node_run, node_run_from, node_stamped_token, NodeAct, Seen, seen, seen_by, seen_stream}
-use Rattle.node_machine.specs.Premises.{IsAmong, NoNodeReset, PutsBackOwn, ReportsTaken, serials_in, takes_token, token_put_back}
+use Rattle.node_machine.specs.Node.{after_stamp, Answer, Common, is_answer, machine_act, node_acted}
+use Rattle.node_machine.specs.Node.{node_actor}
+use Rattle.node_machine.specs.Node.{node_run, node_run_from, node_stamped_token, NodeAct, Seen}
+use Rattle.node_machine.specs.Node.{seen, seen_by, seen_stream}
+use Rattle.node_machine.specs.Premises.{IsAmong, NoNodeReset, PutsBackOwn, ReportsTaken, serials_in}
+use Rattle.node_machine.specs.Premises.{takes_token, token_put_back}
 use Rattle.node_machine.specs.Readings.{is_receipt}
 use Rattle.node_machine.specs.Given.{fresh}
 use Rattle.node_machine.specs.Ways.{lasts}
 use Rattle.node_machine.proofs.Lists.{all_append, all_change, all_of}
 use Rattle.node_machine.proofs.Steps.{node_run_parts, node_step_parts, NodeStepped, SameButTraced}
 use Rattle.node_machine.proofs.Steps.{actor_found, actor_same, other_same}
-use Rattle.node_machine.proofs.Moves.{IsAnswered, IsBack, is_plain, IsStamp, IsTake, Moves, node_acted_moves, plain_moves}
-use Rattle.node_machine.proofs.Tokens.{tokens_answer, tokens_count, tokens_fresh, tokens_more, tokens_receive}
+use Rattle.node_machine.proofs.Moves.{IsAnswered, IsBack, is_plain, IsStamp, IsTake, Moves}
+use Rattle.node_machine.proofs.Moves.{node_acted_moves, plain_moves}
+use Rattle.node_machine.proofs.Tokens.{tokens_answer, tokens_count, tokens_fresh, tokens_more}
+use Rattle.node_machine.proofs.Tokens.{tokens_receive}
 use Rattle.node_machine.proofs.Givens.{IsHeld, no_receive}
 use Rattle.node_machine.proofs.Ways.{made_last}
 

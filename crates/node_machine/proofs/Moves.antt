@@ -1,6 +1,7 @@
 -- How an act of the node that is reported if it moves a token changes its actor's counts and token.
 use Rattle.std.proofs.Common.{◌≡◌, ◌≢◌, ℕ, ◌⊎◌, ◌&&◌, max, Bool, true, false, cond, Option}
-use Rattle.std.proofs.Common.{Some, None, is_some, IsSome, option_map, inl, inr, refl, sym, ◌∙◌, ap, subst}
+use Rattle.std.proofs.Common.{Some, None, is_some, IsSome, option_map, inl, inr, refl, sym, ◌∙◌, ap}
+use Rattle.std.proofs.Common.{subst}
 use Rattle.std.specs.Option.{option_map_or}
 use Rattle.std.proofs.lemmas.Bool.{false≢true}
 use Rattle.std.proofs.lemmas.Option.{same_Some, none-some}
@@ -22,9 +23,12 @@ use Rattle.st_core.specs.Pick.{pick}
 use Rattle.st_core.specs.Report.{flag_of, report, token_event}
 use Rattle.st_core.specs.Step.{Acted, answers, prints, receives}
 use Rattle.st_core.specs.Laws.{moves_token}
-use Rattle.node_machine.specs.Counts.{answer_count, next_clock, stamp_count, node_token, serial_count}
-use Rattle.node_machine.specs.Node.{after_answer, after_stamp, Answer, Common, fresh_token, is_answer}
-use Rattle.node_machine.specs.Node.{machine_act, node_acted, node_found, node_stamped_token, NodeAct, Seen, seen}
+use Rattle.node_machine.specs.Counts.{answer_count, next_clock, stamp_count, node_token}
+use Rattle.node_machine.specs.Counts.{serial_count}
+use Rattle.node_machine.specs.Node.{after_answer, after_stamp, Answer, Common, fresh_token}
+use Rattle.node_machine.specs.Node.{is_answer}
+use Rattle.node_machine.specs.Node.{machine_act, node_acted, node_found, node_stamped_token}
+use Rattle.node_machine.specs.Node.{NodeAct, Seen, seen}
 use Rattle.node_machine.specs.Node.{takes_answer, token_to_set}
 use Rattle.node_machine.specs.Premises.{token_put_back}
 use Rattle.node_machine.specs.Readings.{is_receipt}

@@ -1,6 +1,7 @@
 -- A run reads its events in one way: where it puts tokens back. So it puts back at least as many as
 -- each way to read them needs.
-use Rattle.std.proofs.Common.{◌≡◌, ℕ, ◌+◌, ◌⊎◌, ◌&&◌, ◌≤◌, max, true, false, cond, List, [], ◌∷◌, ◌++◌}
+use Rattle.std.proofs.Common.{◌≡◌, ℕ, ◌+◌, ◌⊎◌, ◌&&◌, ◌≤◌, max, true, false, cond, List, [], ◌∷◌}
+use Rattle.std.proofs.Common.{◌++◌}
 use Rattle.std.proofs.Common.{Option, Some, None, is_some, option_to_list, inl, inr, refl, arith}
 use Rattle.std.proofs.Common.{sym, ◌∙◌, ap, subst, append_assoc, append-nil, if◌then◌else◌}
 use Rattle.st_core.specs.declared.types.Pid.{Pid}
@@ -10,20 +11,24 @@ use Rattle.st_core.specs.State.{LocalState, State, zero_local, zero_state}
 use Rattle.st_core.specs.Step.{Outcome}
 use Rattle.st_core.proofs.ForCallers.{local_found, local_in, zero_found}
 use Rattle.node_machine.specs.Counts.{next_clock}
-use Rattle.node_machine.specs.Node.{node_actor, node_run, node_run_from, NodeAct, Seen, seen_by, seen_stream}
-use Rattle.node_machine.specs.Premises.{IsAmong, NoNodeReset, put_backs, ReportsTokens, token_put_back}
-use Rattle.node_machine.specs.Readings.{going_on, last_behind, NeedsAtLeast, put_back_before, Reading, readings, taking}
+use Rattle.node_machine.specs.Node.{node_actor, node_run, node_run_from, NodeAct, Seen, seen_by}
+use Rattle.node_machine.specs.Node.{seen_stream}
+use Rattle.node_machine.specs.Premises.{IsAmong, NoNodeReset, put_backs, ReportsTokens}
+use Rattle.node_machine.specs.Premises.{token_put_back}
+use Rattle.node_machine.specs.Readings.{going_on, last_behind, NeedsAtLeast, put_back_before}
+use Rattle.node_machine.specs.Readings.{Reading, readings, taking}
 use Rattle.node_machine.proofs.Counts.{FitsSerial}
 use Rattle.node_machine.proofs.Lists.{all_of}
 use Rattle.node_machine.proofs.Readings.{clock_fits, put_back_reads, stamp_reads, take_reads}
 use Rattle.node_machine.proofs.Steps.{node_run_parts, node_step_parts}
 use Rattle.node_machine.proofs.Steps.{actor_found, actor_same, other_same}
 use Rattle.node_machine.proofs.Moves.{IsStamp, Moves}
-use Rattle.node_machine.proofs.Tokens.{clock_by_answer, clock_by_receive, last_by_answer, last_by_receive, last_push}
+use Rattle.node_machine.proofs.Tokens.{clock_by_answer, clock_by_receive, last_by_answer}
+use Rattle.node_machine.proofs.Tokens.{last_by_receive, last_push}
 use Rattle.node_machine.proofs.Givens.{next_stamp, stamp_last, step_moves, take_fits}
 
--- a reading of the events leads to the counts of the process, with no more put-backs than were spent;
--- or one put-back more was spent since the last stamp
+-- a reading of the events leads to the counts of the process, with no more put-backs than were
+-- spent; or one put-back more was spent since the last stamp
 record IsRead (es : List Seen) (spent : ℕ) (l : LocalState) : Type 0 where
   reading : Reading
   reads : IsAmong (readings es) reading

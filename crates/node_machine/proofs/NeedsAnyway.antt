@@ -1,6 +1,7 @@
 -- Whatever is stamped unreported: a stamp with another prev than the last before it had a token put
 -- back behind the reported stamp before it.
-use Rattle.std.proofs.Common.{◌≡◌, ℕ, ◌+◌, ◌⊎◌, ◌&&◌, ◌==◌, ◌≤◌, true, false, cond, List, [], ◌∷◌, ◌++◌}
+use Rattle.std.proofs.Common.{◌≡◌, ℕ, ◌+◌, ◌⊎◌, ◌&&◌, ◌==◌, ◌≤◌, true, false, cond, List, [], ◌∷◌}
+use Rattle.std.proofs.Common.{◌++◌}
 use Rattle.std.proofs.Common.{Option, Some, None, is_some, option_to_list, inl, inr, refl, arith}
 use Rattle.std.proofs.Common.{sym, ◌∙◌, ap, subst, if◌then◌else◌}
 use Rattle.std.proofs.lemmas.Bool.{eq-eqb}
@@ -10,7 +11,8 @@ use Rattle.st_core.specs.Pid.{pid_eq}
 use Rattle.st_core.specs.State.{LocalState, State, zero_state}
 use Rattle.st_core.specs.Step.{Outcome}
 use Rattle.st_core.proofs.ForCallers.{local_found, local_in, zero_found}
-use Rattle.node_machine.specs.Node.{node_actor, node_run, node_run_from, NodeAct, Seen, seen_by, seen_stream}
+use Rattle.node_machine.specs.Node.{node_actor, node_run, node_run_from, NodeAct, Seen, seen_by}
+use Rattle.node_machine.specs.Node.{seen_stream}
 use Rattle.node_machine.specs.Premises.{NoNodeReset, put_backs, ReportsTaken, token_put_back}
 use Rattle.node_machine.specs.Readings.{is_receipt, last_by}
 use Rattle.node_machine.specs.Given.{strange_prevs, strange_prevs_from}

@@ -1,7 +1,9 @@
 -- A stamp that doesn't go on from the counts before it has a put-back between the stamp before it
 -- and itself.
-use Rattle.std.proofs.Common.{◌≡◌, ◌≢◌, ℕ, ◌⊎◌, ◌&&◌, zero, suc, true, false, cond, List, [], ◌∷◌, ◌++◌}
-use Rattle.std.proofs.Common.{length, take, Option, Some, None, is_some, option_to_list, inl, inr, refl, sym, ◌∙◌, ap}
+use Rattle.std.proofs.Common.{◌≡◌, ◌≢◌, ℕ, ◌⊎◌, ◌&&◌, zero, suc, true, false, cond, List, [], ◌∷◌}
+use Rattle.std.proofs.Common.{◌++◌}
+use Rattle.std.proofs.Common.{length, take, Option, Some, None, is_some, option_to_list, inl, inr}
+use Rattle.std.proofs.Common.{refl, sym, ◌∙◌, ap}
 use Rattle.std.proofs.Common.{subst, append_assoc, append-nil, if◌then◌else◌}
 use Rattle.std.specs.List.{slice_get}
 use Rattle.std.proofs.lemmas.Bool.{false≢true}
@@ -13,9 +15,11 @@ use Rattle.st_core.specs.Pid.{pid_eq}
 use Rattle.st_core.specs.State.{LocalState, State, zero_state}
 use Rattle.st_core.specs.Step.{Outcome}
 use Rattle.st_core.proofs.ForCallers.{local_found, local_in, zero_found}
-use Rattle.node_machine.specs.Node.{node_actor, node_run, node_run_from, NodeAct, Seen, seen_by, seen_stream}
+use Rattle.node_machine.specs.Node.{node_actor, node_run, node_run_from, NodeAct, Seen, seen_by}
+use Rattle.node_machine.specs.Node.{seen_stream}
 use Rattle.node_machine.specs.Premises.{IsAmong, NoNodeReset, places, ReportsTokens, token_put_back}
-use Rattle.node_machine.specs.Readings.{is_next, is_receipt, last_behind, NeedsPutBack, Reading, readings}
+use Rattle.node_machine.specs.Readings.{is_next, is_receipt, last_behind, NeedsPutBack, Reading}
+use Rattle.node_machine.specs.Readings.{readings}
 use Rattle.node_machine.specs.Given.{IsMet, IsStraight, takes}
 use Rattle.node_machine.proofs.Counts.{FitsSerial}
 use Rattle.node_machine.proofs.Lists.{all_append, all_of, among_back}
@@ -23,7 +27,8 @@ use Rattle.node_machine.proofs.Steps.{node_run_parts, node_step_parts}
 use Rattle.node_machine.proofs.Steps.{actor_found, actor_same, other_same}
 use Rattle.node_machine.proofs.Moves.{Moves}
 use Rattle.node_machine.proofs.Tokens.{takes_true}
-use Rattle.node_machine.proofs.Givens.{answer_plain, next_stamp, no_receive, stamp_back, stamp_plain, step_moves}
+use Rattle.node_machine.proofs.Givens.{answer_plain, next_stamp, no_receive, stamp_back}
+use Rattle.node_machine.proofs.Givens.{stamp_plain, step_moves}
 use Rattle.node_machine.proofs.Givens.{take_fits, take_plain, zero_straight}
 
 -- the counts are those that the events lead to, or a token was put back since the last stamp

@@ -1,5 +1,6 @@
 -- A step of the node in parts, and what of it reaches each process.
-use Rattle.std.proofs.Common.{◌≡◌, true, false, Bool, cond, List, [], ◌∷◌, ◌++◌, Option, Some, None, option_map}
+use Rattle.std.proofs.Common.{◌≡◌, true, false, Bool, cond, List, [], ◌∷◌, ◌++◌, Option, Some, None}
+use Rattle.std.proofs.Common.{option_map}
 use Rattle.std.proofs.Common.{refl, sym, ◌∙◌, ap, subst}
 use Rattle.std.proofs.lemmas.Bool.{false≢true}
 use Rattle.std.proofs.lemmas.Option.{option_and_then_some}
@@ -12,9 +13,11 @@ use Rattle.st_core.specs.Pid.{node_eq, pid_eq}
 use Rattle.st_core.specs.State.{LocalState, Process, State, process}
 use Rattle.st_core.specs.Step.{Acted, Outcome, actor, changed, outcome_of, reached, receiver}
 use Rattle.st_core.specs.Laws.{is_reset}
-use Rattle.st_core.proofs.ForCallers.{changed_pid, local_found, local_in, mapped, pid_eq-swap, pid_same}
+use Rattle.st_core.proofs.ForCallers.{changed_pid, local_found, local_in, mapped, pid_eq-swap}
+use Rattle.st_core.proofs.ForCallers.{pid_same}
 use Rattle.st_core.proofs.ForCallers.{process-map, process_pid}
-use Rattle.node_machine.specs.Node.{machine_act, NodeAct, node_acted, node_actor, node_run_from, node_step}
+use Rattle.node_machine.specs.Node.{machine_act, NodeAct, node_acted, node_actor, node_run_from}
+use Rattle.node_machine.specs.Node.{node_step}
 
 -- IN PARTS
 

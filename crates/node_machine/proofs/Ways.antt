@@ -1,5 +1,6 @@
 -- What is given is so in one of the four ways.
-use Rattle.std.proofs.Common.{◌≡◌, ℕ, ◌<◌, ◌⊎◌, ◌&&◌, max, Bool, true, false, cond, List, [], ◌∷◌, ◌++◌}
+use Rattle.std.proofs.Common.{◌≡◌, ℕ, ◌<◌, ◌⊎◌, ◌&&◌, max, Bool, true, false, cond, List, [], ◌∷◌}
+use Rattle.std.proofs.Common.{◌++◌}
 use Rattle.std.proofs.Common.{inl, inr, refl, arith, sym, ◌∙◌, ap, subst, append_assoc, append-nil}
 use Rattle.std.specs.List.{AllByRecursion}
 use Rattle.std.proofs.lemmas.Bool.{cases_order}
@@ -9,11 +10,13 @@ use Rattle.node_machine.specs.Node.{Seen}
 use Rattle.node_machine.specs.Premises.{IsAmong}
 use Rattle.node_machine.specs.Readings.{clock_behind, clock_by, is_receipt, last_behind, last_by}
 use Rattle.node_machine.specs.Given.{fresh, IsGiven, IsPutBack, shown, takes, tokens}
-use Rattle.node_machine.specs.Ways.{carried, IsAgain, IsFreshly, IsInSomeWay, IsLowered, lasts, lasts_shown}
+use Rattle.node_machine.specs.Ways.{carried, IsAgain, IsFreshly, IsInSomeWay, IsLowered, lasts}
+use Rattle.node_machine.specs.Ways.{lasts_shown}
 use Rattle.node_machine.proofs.Counts.{max_either, next_of_zero}
 use Rattle.node_machine.proofs.Lists.{among_back, among_front, among_parts}
 use Rattle.node_machine.proofs.Readings.{next_parts, next_true}
-use Rattle.node_machine.proofs.Tokens.{clock_by_receive, last_by_receive, takes_parts, tokens_more, tokens_receive}
+use Rattle.node_machine.proofs.Tokens.{clock_by_receive, last_by_receive, takes_parts, tokens_more}
+use Rattle.node_machine.proofs.Tokens.{tokens_receive}
 
 -- TOKENS
 

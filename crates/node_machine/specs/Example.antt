@@ -31,8 +31,8 @@ prints_again = Common (act.Tracer printer true) ∷ Common (act.Set printer (com
 abbrev pub all_home : List TokenOrigin
 all_home = Home ∷ Home ∷ Home ∷ Home ∷ Home ∷ Home ∷ []
 
--- A run through the wrap: a process puts back a token whose count is next to the greatest, and sends
--- twice to another, which prints behind each receive.
+-- A run through the wrap: a process puts back a token whose count is next to the greatest, and
+-- sends twice to another, which prints behind each receive.
 abbrev pub sender : Pid
 sender = record { node = 0; number = 2 }
 

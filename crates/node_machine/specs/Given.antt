@@ -1,12 +1,14 @@
 -- What the events of one process say of its next stamp: which serials the tokens that they show
 -- give.
-use Rattle.std.specs.Prelude.{◌≡◌, ◌⊎◌, ℕ, ◌+◌, ◌==◌, ◌&&◌, ◌||◌, not, Bool, true, false, List, [], ◌∷◌, ◌++◌, length, if◌then◌else◌}
+use Rattle.std.specs.Prelude.{◌≡◌, ◌⊎◌, ℕ, ◌+◌, ◌==◌, ◌&&◌, ◌||◌, not, Bool, true, false, List, []}
+use Rattle.std.specs.Prelude.{◌∷◌, ◌++◌, length, if◌then◌else◌}
 use Rattle.std.specs.List.{AllByRecursion, list_any}
 use Rattle.st_core.specs.declared.types.Serial.{Serial}
 use Rattle.node_machine.specs.Counts.{answer_count, stamp_count, serial_count}
 use Rattle.node_machine.specs.Node.{Seen}
 use Rattle.node_machine.specs.Premises.{IsAmong}
-use Rattle.node_machine.specs.Readings.{clock_behind, is_next, is_receipt, last_behind, last_by, Reading, readings}
+use Rattle.node_machine.specs.Readings.{clock_behind, is_next, is_receipt, last_behind, last_by}
+use Rattle.node_machine.specs.Readings.{Reading, readings}
 
 -- a receive whose token is taken: an answer's isn't
 abbrev pub takes : Seen → Bool
@@ -16,8 +18,8 @@ takes e = is_receipt e && not e.answer
 abbrev pub fresh : ℕ → Serial
 fresh last = record { prev = last; this = 0 }
 
--- the serials that an event shows: its own, but for an answer, whose token isn't taken; and those of
--- a set on no token, for each last that it shows: its prev, and what a receive leaves
+-- the serials that an event shows: its own, but for an answer, whose token isn't taken; and those
+-- of a set on no token, for each last that it shows: its prev, and what a receive leaves
 abbrev pub shown : Seen → List Serial
 shown e = if is_receipt e
     then (if e.answer then fresh (serial_count (answer_count e.serial.this)) ∷ []

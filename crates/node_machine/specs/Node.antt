@@ -23,8 +23,10 @@ use Rattle.st_core.specs.Pid.{pid_eq}
 use Rattle.st_core.specs.Pick.{pick}
 use Rattle.st_core.specs.State.{LocalState, Process, State, process, zero_state}
 use Rattle.st_core.specs.Local.{default_token, has_label, old_component, with_component}
-use Rattle.st_core.specs.Step.{Acted, Outcome, actor, answers, outcome_of, prints, receiver, receives, sends}
-use Rattle.node_machine.specs.Counts.{answer_count, next_clock, stamp_count, node_token, serial_count}
+use Rattle.st_core.specs.Step.{Acted, Outcome, actor, answers, outcome_of, prints, receiver}
+use Rattle.st_core.specs.Step.{receives, sends}
+use Rattle.node_machine.specs.Counts.{answer_count, next_clock, stamp_count, node_token}
+use Rattle.node_machine.specs.Counts.{serial_count}
 
 pub use Rattle.node_machine.specs.declared.types.Seen.{Seen}
 

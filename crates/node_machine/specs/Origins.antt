@@ -1,7 +1,9 @@
 -- What a stamp's token came from in a run of the node, and what the events of its process say of
 -- that.
-use Rattle.std.specs.Prelude.{◌≡◌, ◌⊎◌, ℕ, ◌<◌, ◌≤◌, suc, Bool, true, false, List, [], ◌∷◌, ◌++◌, length, max, take}
-use Rattle.std.specs.Prelude.{Option, Some, None, if◌then◌else◌, is_some, option_map, option_to_list, option_and_then, slice_get}
+use Rattle.std.specs.Prelude.{◌≡◌, ◌⊎◌, ℕ, ◌<◌, ◌≤◌, suc, Bool, true, false, List, [], ◌∷◌, ◌++◌}
+use Rattle.std.specs.Prelude.{length, max, take}
+use Rattle.std.specs.Prelude.{Option, Some, None, if◌then◌else◌, is_some, option_map}
+use Rattle.std.specs.Prelude.{option_to_list, option_and_then, slice_get}
 use Rattle.std.specs.List.{AllByRecursion}
 use Rattle.std.specs.Option.{option_map_or}
 use Rattle.st_core.specs.declared.types.Pid.{Pid}
@@ -25,8 +27,8 @@ use Rattle.node_machine.specs.Premises.{IsAmong, told_by}
 use Rattle.node_machine.specs.Readings.{is_receipt}
 use Rattle.node_machine.specs.Given.{IsPutBack, IsStraight, tokens}
 
--- Follows k: the token came with the message of its process's event k. Home: its process made it, or
--- set its label
+-- Follows k: the token came with the message of its process's event k. Home: its process made it,
+-- or set its label
 pub data TokenOrigin : Type 0 where
   Follows : ℕ → TokenOrigin
   Home : TokenOrigin
@@ -162,8 +164,8 @@ pub record IsSuccessor (receive : Bool) (es : List Seen) (i k : ℕ) : Type 0 wh
   pub prev : event.serial.prev ≡ stamp.serial.prev
   pub count : stamp.serial.this ≡ stamp_count event.serial.this
 
--- the event at index k is a stamp, an answer is right behind it, and then the stamp at index i, which
--- has its label and goes on from the answer's count
+-- the event at index k is a stamp, an answer is right behind it, and then the stamp at index i,
+-- which has its label and goes on from the answer's count
 pub record IsAnsweredAt (es : List Seen) (i k : ℕ) : Type 0 where
   pub stamp : Seen
   pub is_stamp : slice_get es i ≡ Some stamp
@@ -192,8 +194,8 @@ pub record IsAtHome (es : List Seen) (i : ℕ) : Type 0 where
       × (token.prev ≡ stamp.serial.prev) × (stamp.serial.this ≡ stamp_count token.this))
 
 -- what the events of a process allow as the origin of its stamp at an index: the receive right
--- before it; an earlier receive with the token that it succeeds; what is allowed of an earlier stamp
--- with that token, or of the stamp whose answer is right before it; and home
+-- before it; an earlier receive with the token that it succeeds; what is allowed of an earlier
+-- stamp with that token, or of the stamp whose answer is right before it; and home
 pub data Can (es : List Seen) : ℕ → TokenOrigin → Type 0 where
   taken : (i k : ℕ) → IsTaken es i k → Can es i (Follows k)
   received : (i k : ℕ) → IsSuccessor true es i k → Can es i (Follows k)

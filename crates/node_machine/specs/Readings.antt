@@ -1,5 +1,6 @@
 -- The counts that the events of one process lead to, in each way to read its stamps.
-use Rattle.std.specs.Prelude.{◌≡◌, ℕ, ◌+◌, ◌^◌, ◌≤◌, max, ◌==◌, ◌&&◌, Bool, false, List, [], ◌∷◌, ◌++◌, map, flat_map, if◌then◌else◌}
+use Rattle.std.specs.Prelude.{◌≡◌, ℕ, ◌+◌, ◌^◌, ◌≤◌, max, ◌==◌, ◌&&◌, Bool, false, List, [], ◌∷◌}
+use Rattle.std.specs.Prelude.{◌++◌, map, flat_map, if◌then◌else◌}
 use Rattle.std.specs.List.{AllByRecursion}
 use Rattle.st_core.specs.declared.types.Kind.TheVariants as kind
 use Rattle.st_core.specs.Event.{kind_eq}
@@ -49,8 +50,8 @@ abbrev pub clock_put_back : Seen → ℕ
 clock_put_back e = if e.serial.this == 0 then 2 ^ 60 else e.serial.this
 
 -- A serial hides the upper four bits of the clock. What they are depends on where tokens were put
--- back: a stamp goes on from the clock before it, with those bits, or a token was put back since the
--- stamp before it, and brought none. So events can be read in several ways.
+-- back: a stamp goes on from the clock before it, with those bits, or a token was put back since
+-- the stamp before it, and brought none. So events can be read in several ways.
 
 -- a reading of the events before a receive or a stamp, with this event
 abbrev pub taking : Seen → Reading → Reading

@@ -2,16 +2,20 @@
 //! that do nothing: each clause is a theorem over the definitions of `specs/`, and a proof that
 //! calls the function may use it.
 
-ghost use Rattle.std.specs.Prelude.{◌≡◌, ◌≢◌, ◌≤◌, ℕ, true, false, map, List, [], ◌∷◌, Some, slice_get, take};
+ghost use Rattle.std.specs.Prelude.{◌≡◌, ◌≢◌, ◌≤◌, ℕ, true, false, map, List, [], ◌∷◌, Some};
+ghost use Rattle.std.specs.Prelude.{slice_get, take};
 ghost use Rattle.st_core.specs.declared.types.Kind.TheVariants as kind;
 ghost use Rattle.st_core.specs.declared.types.Pid.{Pid};
 ghost use Rattle.st_core.specs.State.{zero_state};
 ghost use Rattle.st_core.specs.Step.{Outcome};
-ghost use Rattle.node_machine.specs.Example.{all_home, printer, prints_again, sender, wrapped_serials, wraps};
+ghost use Rattle.node_machine.specs.Example.{all_home, printer, prints_again, sender};
+ghost use Rattle.node_machine.specs.Example.{wrapped_serials, wraps};
 ghost use Rattle.node_machine.specs.Given.{IsGiven, IsMet, is_given, strange_prevs};
 ghost use Rattle.node_machine.specs.Node.{NodeAct, Seen, node_run, seen_stream};
-ghost use Rattle.node_machine.specs.Origins.{AnswersComeNext, Can, Home, TokenOrigin, OriginsAre, origins_told};
-ghost use Rattle.node_machine.specs.Premises.{IsAmong, NoNodeReset, PutsBackOwn, ReportsTaken, ReportsTokens};
+ghost use Rattle.node_machine.specs.Origins.{AnswersComeNext, Can, Home, TokenOrigin, OriginsAre};
+ghost use Rattle.node_machine.specs.Origins.{origins_told};
+ghost use Rattle.node_machine.specs.Premises.{IsAmong, NoNodeReset, PutsBackOwn, ReportsTaken};
+ghost use Rattle.node_machine.specs.Premises.{ReportsTokens};
 ghost use Rattle.node_machine.specs.Premises.{places, put_backs};
 ghost use Rattle.node_machine.specs.Readings.{NeedsAtLeast, NeedsPutBack};
 ghost use Rattle.node_machine.specs.Ways.{IsInSomeWay, lasts};
@@ -27,7 +31,8 @@ pub fn own_tokens_give_each_stamp()
         → IsGiven (take i (seen_stream acts os p)) e }
 {}
 
-/// So events with a stamp that they don't give are those of no such process, whatever the others do.
+/// So events with a stamp that they don't give are those of no such process, whatever the others
+/// do.
 pub fn what_is_not_given_is_final()
     ensures { (es : List Seen) (i : ℕ) (e : Seen) → slice_get es i ≡ Some e
         → e.kind ≢ kind.Receive → is_given (take i es) e ≡ false
@@ -70,9 +75,9 @@ pub fn an_origin_is_one_that_events_allow()
         → Can (seen_stream acts os p) i h }
 {}
 
-/// If a process reports each receive of a token, whatever else it reports, and puts back only tokens
-/// of its own, the prev of each of its stamps is a last that its events before it show. Of its count
-/// nothing more can be said.
+/// If a process reports each receive of a token, whatever else it reports, and puts back only
+/// tokens of its own, the prev of each of its stamps is a last that its events before it show. Of
+/// its count nothing more can be said.
 pub fn each_prev_was_a_last()
     ensures { (pids : List Pid) (acts : List NodeAct) (os : List Outcome)
         → node_run pids acts ≡ Some os → NoNodeReset acts → (p : Pid)
@@ -116,8 +121,8 @@ pub fn a_run_keeps_to_all_of_it()
         × (put_backs printer prints_again ≡ 1) }
 {}
 
-/// Counts wrap: here is a run in which a serial shows the greatest count and then 0, and nothing was
-/// put back by the process that reports it.
+/// Counts wrap: here is a run in which a serial shows the greatest count and then 0, and nothing
+/// was put back by the process that reports it.
 pub fn a_run_goes_through_the_wrap()
     ensures { (os : List Outcome) × (node_run (printer ∷ sender ∷ []) wraps ≡ Some os)
         × ReportsTokens printer (zero_state (printer ∷ sender ∷ [])) wraps os

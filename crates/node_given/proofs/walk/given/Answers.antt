@@ -1,11 +1,16 @@
 -- One event more has its way, and is among those that the walk knows.
-use Rattle.std.proofs.Common.{◌≡◌, false, get_or, length, take, inl, inr, sym, ◌∙◌, ap, subst}
-use Rattle.std.specs.List.{slice_get}
+use Rattle.std.proofs.Common.{◌≡◌, [], ◌∷◌, ◌++◌, false, get_or, length, take, inl, inr, arith, sym}
+use Rattle.std.proofs.Common.{◌∙◌, ap, subst}
+use Rattle.std.specs.List.{count_by, slice_get}
+use Rattle.std.proofs.lemmas.List.{take_all}
 use Rattle.std.proofs.lemmas.Option.{same_Some}
 use Rattle.st_core.specs.declared.types.Kind.TheVariants as kind
 use Rattle.node_machine.specs.declared.types.Seen.{Seen}
-use Rattle.node_given.specs.Walk.{IsKnown, IsWay}
+use Rattle.node_machine.specs.Readings.{NeedsAtLeast}
+use Rattle.node_given.specs.Walk.{IsKnown, IsWay, names_put_back}
 use Rattle.node_given.proofs.Decisions.{at_get_or, length_more, pushed_at, taken_more}
+use Rattle.node_given.proofs.InRuns.{least_in_run, places_in_run, ungiven_in_run}
+use Rattle.node_given.proofs.PutBacks.{counted_more, way_least}
 use Rattle.node_given.proofs.walk.given.Goals as goal
 
 -- where there is no event
@@ -44,4 +49,35 @@ loop-event-preserved c =
                 (subst (λ x. IsWay (take i es) x w) same
                 (subst (IsWay (take i es) e) new.1 now))
           ];
+      needs = subst (λ xs. NeedsAtLeast xs (count_by names_put_back c.push.new.self.items))
+          (sym (taken_more es i e at))
+          (subst (NeedsAtLeast (take i es ++ e ∷ []))
+          (sym (ap (count_by names_put_back) items ∙ counted_more c.loop-event.ways.items way))
+          (way_least (take i es) e way (count_by names_put_back c.loop-event.ways.items) now
+          so_far.needs));
     }
+
+pub returns-clause-least : goal.returns-clause-least
+returns-clause-least c = λ p pids acts os run.
+    let es = c.args.events.now in
+    let n = count_by names_put_back c.loop-event.ways.items in
+    let all = take_all c.loop-event.event-index es c.loop-event-test.false in
+    least_in_run p es pids acts os run n
+    (subst (λ xs. NeedsAtLeast xs n) all c.loop-event.invariant.needs)
+
+pub returns-clause-places : goal.returns-clause-places
+returns-clause-places c = λ i w at named p pids acts os run.
+    let es = c.args.events.now in
+    let count = c.loop-event.invariant.count in
+    let within = c.loop-event.auto.event-index-end in
+    places_in_run p es pids acts os run c.loop-event.ways.items blank (omega arith)
+    c.loop-event.invariant.ways i w at named
+
+pub returns-clause-ungiven : goal.returns-clause-ungiven
+returns-clause-ungiven c = λ i at p pids acts os run own.
+    let es = c.args.events.now in
+    let count = c.loop-event.invariant.count in
+    let within = c.loop-event.auto.event-index-end in
+    let behind = c.loop-event-test.false in
+    ungiven_in_run p es pids acts os run c.loop-event.ways.items blank (omega arith) (omega arith)
+    c.loop-event.invariant.ways i at own

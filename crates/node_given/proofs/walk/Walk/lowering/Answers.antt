@@ -3,7 +3,8 @@ use Rattle.std.proofs.Common.{refl, arith, sym, ◌∙◌}
 use Rattle.std.proofs.lemmas.Bool.{false≢true}
 use Rattle.st_core.specs.declared.types.Serial.{Serial}
 use Rattle.node_machine.specs.Given.{tokens}
-use Rattle.node_given.proofs.Decisions.{lowered_by_receive, lowered_by_token, lowered_count, lowered_ends}
+use Rattle.node_given.proofs.Decisions.{lowered_by_receive, lowered_by_token, lowered_count}
+use Rattle.node_given.proofs.Decisions.{lowered_ends}
 use Rattle.node_given.proofs.Decisions.{lowered_last, lowered_never}
 use Rattle.node_given.proofs.walk.Walk.lowering.Goals as goal
 
