@@ -169,19 +169,22 @@ module _ (es : List Seen) (e : Seen) (x : Reading) (is : IsAmong (readings (es +
   stamped_reads kind =
       let found = among_flat (stamp_readings (last_behind 0 es) e) (readings es) x
       (grown_from false kind) in
-      let r = found.0 in
-      (r, found.1, (elim (is_next r.clock (last_behind 0 es) e) as (λ b.
-      IsAmong ((if b then going_on r ∷ [] else []) ++ put_back_before e r ∷ []) x
-      → ((b ≡ true) × (going_on r ≡ x)) ⊎ (put_back_before e r ≡ x)) [
-        | true ↦ λ there. elim there [
-          | inl first ↦ inl (refl, first)
-          | inr rest ↦ elim rest [
-            | inl second ↦ inr second
-            | inr none ↦ absurd none
-          ]
-        ]
-        | false ↦ λ there. elim there [
-          | inl first ↦ inr first
-          | inr none ↦ absurd none
-        ]
-      ]) found.2)
+      let r = found.0 in (
+        r,
+        found.1,
+        (elim (is_next r.clock (last_behind 0 es) e) as (λ b.
+            IsAmong ((if b then going_on r ∷ [] else []) ++ put_back_before e r ∷ []) x
+            → ((b ≡ true) × (going_on r ≡ x)) ⊎ (put_back_before e r ≡ x)) [
+              | true ↦ λ there. elim there [
+                | inl first ↦ inl (refl, first)
+                | inr rest ↦ elim rest [
+                  | inl second ↦ inr second
+                  | inr none ↦ absurd none
+                ]
+              ]
+              | false ↦ λ there. elim there [
+                | inl first ↦ inr first
+                | inr none ↦ absurd none
+              ]
+            ]) found.2,
+      )

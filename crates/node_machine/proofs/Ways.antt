@@ -147,16 +147,18 @@ lower : (es : List Seen) (e : Seen) (clock : ℕ) → e.serial.this ≡ stamp_co
     → e.serial.prev ≡ last_behind t.prev (first ∷ back)
     → (token : Serial) × IsLowered es e token
 lower es e clock count front first [] t split held all clock_is last_is =
-    let parts = takes_parts first all.0 in
-    (t, record {
-      front = front;
-      receive = first;
-      split = split;
-      taken = all.0;
-      held = held;
-      prev = sym (last_is ∙ last_by_receive first parts.0 parts.1);
-      count = count ∙ ap stamp_count (clock_is ∙ clock_by_receive first t.this parts.1);
-    })
+    let parts = takes_parts first all.0 in (
+      t,
+      record {
+        front = front;
+        receive = first;
+        split = split;
+        taken = all.0;
+        held = held;
+        prev = sym (last_is ∙ last_by_receive first parts.0 parts.1);
+        count = count ∙ ap stamp_count (clock_is ∙ clock_by_receive first t.this parts.1);
+      },
+    )
 lower es e clock count front first (d ∷ back) t split held all clock_is last_is =
     let parts = takes_parts first all.0 in
     let lifted = clock_by_receive first t.this parts.1 in

@@ -27,7 +27,6 @@ use Rattle.st_core.specs.Step.{Acted, Outcome, actor, answers, outcome_of, print
 use Rattle.st_core.specs.Step.{receives, sends}
 use Rattle.node_machine.specs.Counts.{answer_count, next_clock, stamp_count, node_token}
 use Rattle.node_machine.specs.Counts.{serial_count}
-
 pub use Rattle.node_machine.specs.declared.types.Seen.{Seen}
 
 -- STAMPS

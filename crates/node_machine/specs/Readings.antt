@@ -6,7 +6,6 @@ use Rattle.st_core.specs.declared.types.Kind.TheVariants as kind
 use Rattle.st_core.specs.Event.{kind_eq}
 use Rattle.node_machine.specs.Counts.{answer_count, next_clock, stamp_count, serial_count}
 use Rattle.node_machine.specs.Node.{Seen}
-
 pub use Rattle.node_machine.specs.declared.types.Reading.{Reading}
 
 abbrev pub is_receipt : Seen → Bool

@@ -58,11 +58,7 @@ pub fn run_check_within<R: ByteSource, W: ByteSink>(
 }
 
 /// Does what `run_check_within` does, within the standard limits.
-pub fn run_check<R: ByteSource, W: ByteSink>(
-    alloc: Global,
-    reader: &mut R,
-    writer: &mut W,
-) -> u8
+pub fn run_check<R: ByteSource, W: ByteSink>(alloc: Global, reader: &mut R, writer: &mut W) -> u8
     ensures { Performs standard (call R.ByteSource reader.old reader.new)
         (call W.ByteSink writer.old writer.new)
         (IsChecked standard) (MeansYes standard) (MeansNo standard) result }

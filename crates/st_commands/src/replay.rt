@@ -71,11 +71,7 @@ pub fn run_replay_within<R: ByteSource, W: ByteSink>(
 }
 
 /// Does what `run_replay_within` does, within the standard limits.
-pub fn run_replay<R: ByteSource, W: ByteSink>(
-    alloc: Global,
-    reader: &mut R,
-    writer: &mut W,
-) -> u8
+pub fn run_replay<R: ByteSource, W: ByteSink>(alloc: Global, reader: &mut R, writer: &mut W) -> u8
     ensures { Performs standard (call R.ByteSource reader.old reader.new)
         (call W.ByteSink writer.old writer.new)
         (IsReplayed standard) (MeansReplayed standard) NeverMeant result }

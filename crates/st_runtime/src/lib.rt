@@ -18,8 +18,7 @@ mod system;
 
 pub use driver::worker::WORKER_STACK;
 pub use driver::{drive, drive_on};
-pub use fault::{ActFault, DriveFault, JoinFault, PcbFault, SystemFault};
-pub use fault::SystemFault as OpenFault;
+pub use fault::{ActFault, DriveFault, JoinFault, PcbFault, SystemFault, SystemFault as OpenFault};
 pub use join::join_pieces;
 pub use join::record::Record;
 pub use pcb::Pcb;
