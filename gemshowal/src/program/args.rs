@@ -42,6 +42,9 @@ pub(crate) enum Command {
     /// Lists events: line, name, label, serial, message, partner
     #[command(after_help = LIST)]
     List(List),
+    /// Writes a page for a browser, with all labels: by cause, by time, searched, one chain alone
+    #[command(after_help = PAGE)]
+    Page(Page),
     /// Counts events and messages by process, pair and label
     #[command(after_help = STATS)]
     Stats(Stats),
@@ -241,6 +244,18 @@ pub(crate) struct Chart {
 }
 
 #[derive(clap::Args)]
+pub(crate) struct Page {
+    #[command(flatten)]
+    inputs: Inputs,
+    /// Write it to this file, for its owner alone; else to standard output
+    #[arg(short, long, value_name = "FILE")]
+    pub(crate) out: Option<PathBuf>,
+    /// Show this label alone at first
+    #[arg(long)]
+    pub(crate) label: Option<String>,
+}
+
+#[derive(clap::Args)]
 pub(crate) struct Times {
     #[command(flatten)]
     inputs: Inputs,
@@ -302,6 +317,7 @@ impl Command {
             Command::Explain(_) => "explain",
             Command::Lint(_) => "lint",
             Command::List(_) => "list",
+            Command::Page(_) => "page",
             Command::Stats(_) => "stats",
             Command::Times(_) => "times",
             Command::Why(_) => "why",
@@ -322,6 +338,7 @@ impl Command {
             Command::Explain(args) => &args.inputs,
             Command::Lint(args) => &args.inputs,
             Command::List(args) => &args.inputs,
+            Command::Page(args) => &args.inputs,
             Command::Stats(args) => &args.inputs,
             Command::Times(args) => &args.inputs,
             Command::Why(_) | Command::Collect(_) | Command::Watch(_) | Command::Convert(_) => {
@@ -364,16 +381,18 @@ impl Command {
             | Command::Stats(Stats { json, .. })
             | Command::Times(Times { json, .. })
             | Command::Why(Why { json, .. }) => json.json,
-            Command::Cut(_) | Command::Collect(_) | Command::Watch(_) | Command::Convert(_) => {
-                false
-            }
+            Command::Cut(_)
+            | Command::Page(_)
+            | Command::Collect(_)
+            | Command::Watch(_)
+            | Command::Convert(_) => false,
         }
     }
 
     /// Whether it writes a text, so that it takes one input.
     fn writes_text(&self) -> bool {
         match self {
-            Command::Cut(_) => true,
+            Command::Cut(_) | Command::Page(_) => true,
             Command::Complete(complete) => complete.form != Form::Added,
             Command::Lint(lint) => lint.fix,
             Command::Audit(audit) => audit.acts.is_some(),
@@ -495,6 +514,14 @@ S is a send, R a receive, P a print, and a dot the other end. Small letters are
 events that nobody reported, and that gemshowal complete adds; their names have
 a ~, and in the drawing they are dashed. No row is above what it follows.
 Status 1: the trace can't be paired, or has no such label.";
+
+const PAGE: &str = "\
+Example:
+  gemshowal page examples/order -o order.html
+
+The page is one file and needs no network. Whole messages are in it, so whoever
+gets the file gets them. page.html#shop%232 opens it at the event shop#2.
+Status 1: the trace can't be paired (gemshowal audit).";
 
 const TIMES: &str = "\
 Example:

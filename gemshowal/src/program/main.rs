@@ -22,6 +22,7 @@ mod moment;
 mod names;
 mod object;
 mod output;
+mod page;
 mod progress;
 mod reason;
 mod spool;
@@ -163,6 +164,7 @@ fn run_on(
         Command::Explain(_) => explain::run(json, input, out),
         Command::Lint(args) => lint::run(args, json, input, out, notes),
         Command::List(args) => list::run(args, json, input, out, notes),
+        Command::Page(args) => page::run(args, input, out, notes),
         Command::Stats(_) => stats::run(json, input, out, notes),
         Command::Times(args) => times::run(args, json, input, out, notes),
         Command::Why(args) => why::run(args, json, input, out, notes),
