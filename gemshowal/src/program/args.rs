@@ -1,17 +1,16 @@
 //! The command line.
 
+use crate::names::{Names, NotFound};
 use clap::error::ErrorKind;
 use clap::{CommandFactory, Parser, Subcommand, ValueEnum};
+use gemshowal::{Filter, Span, Trace};
+use std::ffi::OsString;
 use std::path::{Path, PathBuf};
-use gemshowal::{Filter, Label, Pid, Span};
 
-/// What a trace says, in words, in tables and as JSON.
+/// What a trace of Erlang's seq_trace says: whether it could have happened, what it lacks, and what
+/// caused what.
 #[derive(Parser)]
-#[command(
-    name = "gemshowal",
-    version,
-    after_help = "Status 0 yes, 1 no, 2 faulty text, 3 bad words, 4 memory or device, 5 too long."
-)]
+#[command(name = "gemshowal", version, after_help = AFTER)]
 pub(crate) struct Args {
     #[command(subcommand)]
     pub(crate) command: Command,
@@ -19,12 +18,24 @@ pub(crate) struct Args {
 
 #[derive(Subcommand)]
 pub(crate) enum Command {
-    /// Finds acts that explain the trace, or names an event and a reason
+    /// Says whether the events fit together, and what is missing
     #[command(after_help = AUDIT)]
     Audit(Audit),
+    /// Says whether the acts in a text are a run that reports exactly its events
+    #[command(after_help = CHECK)]
+    Check(Check),
+    /// Prints the messages of a trace with what each event follows, or draws them
+    #[command(after_help = CHART)]
+    Chart(Chart),
     /// Adds unreported events until each event has what it follows, or says why not
     #[command(after_help = COMPLETE)]
     Complete(Complete),
+    /// Writes a smaller trace, of the events that meet conditions
+    #[command(after_help = CUT)]
+    Cut(Cut),
+    /// Says why check refuses acts: the act, what was due, what came
+    #[command(after_help = EXPLAIN)]
+    Explain(Explain),
     /// Compares two traces of one program: what is new, gone or elsewhere in the second
     #[command(after_help = DIFF)]
     Diff(Diff),
@@ -34,7 +45,7 @@ pub(crate) enum Command {
     /// Names the mistakes of a text, or mends them
     #[command(after_help = LINT)]
     Lint(Lint),
-    /// Lists events: line, process, index, label, serial, partner
+    /// Lists events: line, name, label, serial, message, partner
     #[command(after_help = LIST)]
     List(List),
     /// Counts events and messages by process, pair and label
@@ -43,53 +54,116 @@ pub(crate) enum Command {
     /// Says what an event follows, and so on back, or what follows it
     #[command(after_help = WHY)]
     Why(Why),
+    /// Traces running nodes: a command of the Erlang application
+    #[command(disable_help_flag = true)]
+    Collect(Handed),
+    /// Traces nodes, and audits what came, period by period: a command of the Erlang application
+    #[command(disable_help_flag = true)]
+    Watch(Handed),
+    /// Makes a trace of files of events: a command of the Erlang application
+    #[command(disable_help_flag = true)]
+    Convert(Handed),
 }
 
-/// The inputs of a command that takes several.
+/// The inputs of a command, and whether only its status is wanted.
 #[derive(clap::Args)]
-pub(crate) struct Files {
-    /// The traces' files, one or more; standard input if left out or -
-    #[arg(value_name = "FILE", default_value = "-", hide_default_value = true)]
-    files: Vec<PathBuf>,
+pub(crate) struct Inputs {
+    /// Traces: NAME (of NAME.seqtrace), a file, or - for standard input, which is read without one
+    #[arg(value_name = "NAME", default_value = "-", hide_default_value = true)]
+    names: Vec<PathBuf>,
+    /// Write no result and no note: the status tells
+    #[arg(short, long)]
+    quiet: bool,
+}
+
+/// Whether the result is to be JSON.
+#[derive(clap::Args, Clone, Copy)]
+pub(crate) struct Json {
+    /// Write a JSON object for each trace, on a line (docs/schema.json)
+    #[arg(long)]
+    pub(crate) json: bool,
 }
 
 #[derive(clap::Args)]
 pub(crate) struct Audit {
     #[command(flatten)]
-    files: Files,
-    /// A JSON object a line, for programs (docs/FORMATS.md)
-    #[arg(long)]
-    pub(crate) json: bool,
-    /// Write no result and no note: the status tells
-    #[arg(short, long)]
-    quiet: bool,
+    inputs: Inputs,
+    #[command(flatten)]
+    json: Json,
+    /// Write acts of a run that has the trace to this file; seqaudit check confirms them
+    #[arg(long, value_name = "FILE")]
+    pub(crate) acts: Option<PathBuf>,
+    /// Ask the proved programs seqaudit and seqtool too, and say whether they agree
+    #[arg(long, conflicts_with_all = ["each_label"])]
+    pub(crate) proved: bool,
+    /// Audit the events of each label by themselves, with a line for each label
+    #[arg(long, conflicts_with_all = ["acts"])]
+    pub(crate) each_label: bool,
+    #[command(flatten)]
+    pub(crate) region: Region,
+}
+
+/// A part of a trace to look at.
+#[derive(clap::Args)]
+pub(crate) struct Region {
+    /// Only events with this label; several times for several
+    #[arg(long = "label", value_name = "LABEL")]
+    pub(crate) labels: Vec<String>,
+    /// Only events of this process, by its name or pid; several times for several
+    #[arg(long = "process", value_name = "NAME")]
+    pub(crate) processes: Vec<String>,
+    /// Only events from this time on, in seconds after the first event; it needs NAME.times
+    #[arg(long, value_name = "SECONDS")]
+    pub(crate) from: Option<f64>,
+    /// Only events up to this time
+    #[arg(long, value_name = "SECONDS")]
+    pub(crate) to: Option<f64>,
+}
+
+#[derive(clap::Args)]
+pub(crate) struct Check {
+    #[command(flatten)]
+    inputs: Inputs,
+    #[command(flatten)]
+    json: Json,
+}
+
+#[derive(clap::Args)]
+pub(crate) struct Explain {
+    #[command(flatten)]
+    inputs: Inputs,
+    #[command(flatten)]
+    json: Json,
 }
 
 #[derive(clap::Args)]
 pub(crate) struct Complete {
-    /// The trace's file; standard input if it is left out or -
-    #[arg(value_name = "FILE", default_value = "-", hide_default_value = true)]
-    file: PathBuf,
-    /// What to write: added events, all streams, or acts for the trace
-    #[arg(long = "as", value_enum, default_value_t = Form::Added)]
+    #[command(flatten)]
+    inputs: Inputs,
+    #[command(flatten)]
+    json: Json,
+    /// What to write: the added events in words, a trace of all events, or acts for the trace
+    #[arg(long = "as", value_name = "FORM", value_enum, default_value_t = Form::Added)]
     pub(crate) form: Form,
-    /// A JSON object a line, for programs (docs/FORMATS.md)
-    #[arg(long)]
-    pub(crate) json: bool,
-    /// Write no result and no note: the status tells
-    #[arg(short, long)]
-    quiet: bool,
 }
 
 /// How a completion is written.
 #[derive(Clone, Copy, Debug, PartialEq, Eq, ValueEnum)]
 pub(crate) enum Form {
-    #[value(help = "the events that it adds")]
+    #[value(help = "the events that it adds, in words")]
     Added,
-    #[value(help = "all its events")]
+    #[value(help = "the text of all its events")]
     Streams,
-    #[value(help = "the trace's events, and acts that show them")]
+    #[value(help = "the text of the trace's events, and acts that show them")]
     Acts,
+}
+
+#[derive(clap::Args)]
+pub(crate) struct Cut {
+    #[command(flatten)]
+    inputs: Inputs,
+    #[command(flatten)]
+    pub(crate) conditions: Conditions,
 }
 
 #[derive(clap::Args)]
@@ -139,41 +213,36 @@ pub(crate) enum Target {
 #[derive(clap::Args)]
 pub(crate) struct Lint {
     #[command(flatten)]
-    files: Files,
+    inputs: Inputs,
+    #[command(flatten)]
+    json: Json,
     /// Name at most so many mistakes
     #[arg(long, value_name = "N", default_value_t = 10)]
     pub(crate) most: u64,
     /// Write the text with those mistakes mended that have one remedy
     #[arg(long, conflicts_with_all = ["most", "json"])]
     pub(crate) fix: bool,
-    /// A JSON object a line, for programs (docs/FORMATS.md)
-    #[arg(long)]
-    pub(crate) json: bool,
-    /// Write no result and no note: the status tells
-    #[arg(short, long)]
-    quiet: bool,
 }
 
 #[derive(clap::Args)]
 pub(crate) struct List {
     #[command(flatten)]
-    files: Files,
+    inputs: Inputs,
+    #[command(flatten)]
+    json: Json,
     #[command(flatten)]
     pub(crate) conditions: Conditions,
-    /// A JSON object a line, for programs (docs/FORMATS.md)
-    #[arg(long)]
-    pub(crate) json: bool,
 }
 
 /// What an event has to meet.
 #[derive(clap::Args)]
 pub(crate) struct Conditions {
-    /// Only events with this label
+    /// Only events with this label, a number or a term
     #[arg(long)]
-    label: Option<u32>,
-    /// Only events of this process, as 0.31.0, or '<0.31.0>' in quotes
-    #[arg(long, value_name = "PID", value_parser = pid)]
-    process: Option<Pid>,
+    label: Option<String>,
+    /// Only events of this process, by its name or pid
+    #[arg(long, value_name = "NAME")]
+    process: Option<String>,
     /// Only events on these lines of the text, as 7, 7-9 or 7-
     #[arg(long, value_parser = span)]
     lines: Option<Span>,
@@ -183,10 +252,17 @@ pub(crate) struct Conditions {
 }
 
 #[derive(clap::Args)]
-pub(crate) struct Stats {
-    #[command(flatten)]
-    files: Files,
-    /// A JSON object a line, for programs (docs/FORMATS.md)
+pub(crate) struct Chart {
+    /// The trace: NAME (of NAME.seqtrace), a file, or - for standard input
+    #[arg(value_name = "NAME", default_value = "-", hide_default_value = true)]
+    file: PathBuf,
+    /// The label, as it is shown or by its number; else all labels
+    #[arg(long)]
+    pub(crate) label: Option<String>,
+    /// Draw it as well, into this file
+    #[arg(long, value_name = "FILE")]
+    pub(crate) svg: Option<PathBuf>,
+    /// A JSON object, for programs
     #[arg(long)]
     pub(crate) json: bool,
 }
@@ -222,45 +298,126 @@ impl Why {
 }
 
 impl Conditions {
-    pub(crate) fn filter(&self) -> Filter {
-        Filter { label: self.label.map(Label), process: self.process, lines: self.lines, counts: self.counts }
+    /// The conditions on the events of a trace with these names.
+    pub(crate) fn filter(&self, trace: &Trace, names: &Names) -> Result<Filter, NotFound> {
+        let label = self.label.as_deref().map(|label| names.find_label(trace, Some(label)));
+        let process = self.process.as_deref().map(|name| names.find_process(trace, name));
+        Ok(Filter {
+            label: label.transpose()?,
+            process: process.transpose()?,
+            lines: self.lines,
+            counts: self.counts,
+        })
     }
 }
 
+#[derive(clap::Args)]
+pub(crate) struct Stats {
+    #[command(flatten)]
+    inputs: Inputs,
+    #[command(flatten)]
+    json: Json,
+}
+
+/// The words for a command of the Erlang application.
+#[derive(clap::Args)]
+pub(crate) struct Handed {
+    #[arg(trailing_var_arg = true, allow_hyphen_values = true, hide = true)]
+    pub(crate) words: Vec<OsString>,
+}
+
 impl Command {
+    /// Its word on the command line.
+    pub(crate) fn word(&self) -> &'static str {
+        match self {
+            Command::Audit(_) => "audit",
+            Command::Check(_) => "check",
+            Command::Complete(_) => "complete",
+            Command::Cut(_) => "cut",
+            Command::Explain(_) => "explain",
+            Command::Lint(_) => "lint",
+            Command::List(_) => "list",
+            Command::Stats(_) => "stats",
+            Command::Collect(_) => "collect",
+            Command::Watch(_) => "watch",
+            Command::Convert(_) => "convert",
+            Command::Why(_) => "why",
+            Command::Chart(_) => "chart",
+            Command::Diff(_) => "diff",
+            Command::Export(_) => "export",
+        }
+    }
+
+    /// Its inputs; none of a command that takes one trace, or is handed over.
+    fn inputs(&self) -> Option<&Inputs> {
+        Some(match self {
+            Command::Audit(args) => &args.inputs,
+            Command::Check(args) => &args.inputs,
+            Command::Complete(args) => &args.inputs,
+            Command::Cut(args) => &args.inputs,
+            Command::Explain(args) => &args.inputs,
+            Command::Lint(args) => &args.inputs,
+            Command::List(args) => &args.inputs,
+            Command::Stats(args) => &args.inputs,
+            Command::Chart(_) | Command::Diff(_) | Command::Export(_) | Command::Why(_) => {
+                return None
+            }
+            Command::Collect(_) | Command::Watch(_) | Command::Convert(_) => return None,
+        })
+    }
+
+    /// The words of a command that is handed over.
+    pub(crate) fn handed(&self) -> Option<&Handed> {
+        match self {
+            Command::Collect(args) | Command::Watch(args) | Command::Convert(args) => Some(args),
+            _ => None,
+        }
+    }
+
     pub(crate) fn files(&self) -> &[PathBuf] {
         match self {
-            Command::Audit(Audit { files, .. })
-            | Command::Lint(Lint { files, .. })
-            | Command::List(List { files, .. })
-            | Command::Stats(Stats { files, .. }) => &files.files,
-            Command::Complete(Complete { file, .. })
+            Command::Chart(Chart { file, .. })
             | Command::Diff(Diff { first: file, .. })
             | Command::Export(Export { file, .. })
             | Command::Why(Why { file, .. }) => std::slice::from_ref(file),
+            _ => self.inputs().map_or(&[], |inputs| &inputs.names),
+        }
+    }
+
+    pub(crate) fn is_quiet(&self) -> bool {
+        match self {
+            Command::Diff(Diff { quiet, .. }) => *quiet,
+            _ => self.inputs().is_some_and(|inputs| inputs.quiet),
         }
     }
 
     pub(crate) fn is_json(&self) -> bool {
         match self {
             Command::Audit(Audit { json, .. })
+            | Command::Check(Check { json, .. })
             | Command::Complete(Complete { json, .. })
-            | Command::Diff(Diff { json, .. })
+            | Command::Explain(Explain { json, .. })
             | Command::Lint(Lint { json, .. })
             | Command::List(List { json, .. })
-            | Command::Stats(Stats { json, .. })
+            | Command::Stats(Stats { json, .. }) => json.json,
+            Command::Chart(Chart { json, .. })
+            | Command::Diff(Diff { json, .. })
             | Command::Why(Why { json, .. }) => *json,
             Command::Export(_) => false,
+            Command::Cut(_) | Command::Collect(_) | Command::Watch(_) | Command::Convert(_) => {
+                false
+            }
         }
     }
 
-    pub(crate) fn is_quiet(&self) -> bool {
+    /// Whether it writes a text, so that it takes one input.
+    fn writes_text(&self) -> bool {
         match self {
-            Command::Audit(Audit { quiet, .. })
-            | Command::Complete(Complete { quiet, .. })
-            | Command::Diff(Diff { quiet, .. })
-            | Command::Lint(Lint { quiet, .. }) => *quiet,
-            Command::Export(_) | Command::List(_) | Command::Stats(_) | Command::Why(_) => false,
+            Command::Cut(_) => true,
+            Command::Complete(complete) => complete.form != Form::Added,
+            Command::Lint(lint) => lint.fix,
+            Command::Audit(audit) => audit.acts.is_some(),
+            _ => false,
         }
     }
 
@@ -270,30 +427,19 @@ impl Command {
         if self.files().iter().filter(|file| *file == Path::new("-")).count() > 1 {
             return wrong("standard input is read once: name it once");
         }
+        if self.writes_text() && self.files().len() > 1 {
+            return wrong("what this writes is of one trace: name one alone");
+        }
         match &self {
-            Command::Lint(lint) if lint.fix && self.files().len() > 1 => {
-                wrong("the mended text is that of one file: name one alone, or leave out --fix")
-            }
             Command::Diff(diff) if diff.first == diff.second && diff.first == Path::new("-") => {
                 wrong("both traces are standard input: name the file of one")
             }
-            Command::Complete(complete) if complete.json && complete.form != Form::Added => {
+            Command::Complete(complete) if self.is_json() && complete.form != Form::Added => {
                 wrong("--json writes what is added: leave out --as, or --json")
             }
             _ => Ok(self),
         }
     }
-}
-
-/// A pid, with its angle brackets or without.
-fn pid(text: &str) -> Result<Pid, &'static str> {
-    let parts = || {
-        let bare = text.strip_prefix('<').unwrap_or(text);
-        let bare = bare.strip_suffix('>').unwrap_or(bare);
-        let (node, number) = bare.strip_suffix(".0")?.split_once('.')?;
-        Some(Pid::on(node.parse().ok()?, number.parse().ok()?))
-    };
-    parts().ok_or("write a pid as 0.31.0 or '<0.31.0>', two numbers up to 65535 and a 0")
 }
 
 /// Numbers from A to B, one alone, or all from one on.
@@ -307,22 +453,50 @@ fn span(text: &str) -> Result<Span, &'static str> {
     ends().ok_or("write one number as 7, several as 7-9, all from 7 on as 7-")
 }
 
+const AFTER: &str = "\
+A trace is NAME.seqtrace, with NAME.terms, NAME.facts and NAME.times beside it if
+they are there, or any text of that form (docs/FORMATS.md), also packed by gzip.
+
+Status 0 yes, 1 no, 2 faulty text, 3 bad words, 4 memory, a device, or programs that
+disagree, 5 too long.";
+
 const AUDIT: &str = "\
 Example:
-  gemshowal audit trace.txt
+  gemshowal audit examples/receives_off
 
-Status 0: the acts make each process report exactly these events; it may have
-happened in another way. Standard error says so, or of a no the line and why.";
+Status 0: the trace fits, if need be with events that nobody reported. Status 1:
+no run without a reset reports it, and why, or it has no events.
+Label and process are numbers and pids, or what NAME.terms calls them.";
+
+const CHECK: &str = "\
+Example:
+  gemshowal audit --acts acts.txt order && gemshowal check acts.txt
+
+A no names the act and its line; gemshowal explain says more.";
 
 const COMPLETE: &str = "\
 Example:
-  gemshowal complete trace.txt
-  added 1
-  added <0.31.0> 0 {seq_trace,17,{send,{2,3},<0.31.0>,<0.32.0>,3}}
+  gemshowal complete examples/crossing.txt
 
-Status 1: `never PID I WORD`, no run without a reset has these streams, for the
-reason WORD at event I of PID, whatever unlisted processes it may have.
-Status 5, with --as acts or streams: `long`, there is one, too long to be read.";
+Events that counts alone show aren't added (gemshowal audit counts them), and a
+message whose receive isn't reported may still wait.
+Status 1: no run without a reset has the trace, whatever nobody reported, and why.
+Status 5, with --as acts or streams: there is a completion, too long to be read.";
+
+const CUT: &str = "\
+Example:
+  gemshowal cut --label 17 trace.txt | gemshowal audit
+
+Messages whose other end is cut off look as if nobody had reported that: a smaller
+trace can fit where the whole one doesn't. Standard error says how many those are.";
+
+const EXPLAIN: &str = "\
+Example:
+  gemshowal explain examples/request_tampered.txt
+
+It makes the run again up to the first act that reports something else than the
+trace has, and shows the act, the event that was due, what came, and the state of
+the process before it, with the messages that wait.";
 
 const DIFF: &str = "\
 Example:
@@ -359,18 +533,17 @@ isn't above its first).";
 
 const LIST: &str = "\
 Example:
-  gemshowal list --process 0.30.0 trace.txt
-  3: <0.30.0> 0  send    label 17 {0,1} value 5 to <0.31.0>, received as <0.31.0> 0
+  gemshowal list --process client examples/order
+  3: client#0  send    {order,7} {0,1} call {order,apple,3} to shop, received as shop#0
 
-An event has to meet all conditions that are given. If the streams can't be
-paired (gemshowal audit says why), the partners are left out.";
+An event has to meet all conditions that are given. If the trace can't be paired
+(gemshowal audit says why), the partners are left out.";
 
 const STATS: &str = "\
-Depth is the number of messages on the longest way of a label, each sent after
-the one before was received; width the most messages at one depth. The queue is
-that of the messages of which both ends are reported, in the charts' order.
-Status 1: the trace can't be paired (gemshowal audit), or a send or print counts
-no higher than a receive before it, so that the counts give no order.";
+Depth is the number of messages on the longest way of a label, each sent behind the
+receive of the one before (as gemshowal why tells it); width is the most messages at
+one depth.
+Status 1: the trace can't be paired (gemshowal audit).";
 
 const WHY: &str = "\
 Example:
@@ -388,3 +561,16 @@ Example:
 The numbers behind a line are the premises on which the because in front of it
 rests. An event with ~ in its name wasn't reported: gemshowal complete adds it.
 Status 1: there is no such event, or the trace can't be paired.";
+
+const CHART: &str = "\
+Example:
+  gemshowal chart examples/order --svg order.svg
+  label {order,7}
+  lane 1 client
+  ..
+     S   |   |   .  client#0  send    {0,1} call {order,apple,3}  begins here
+     .   |   |   R  shop#0    receive {0,1} call {order,apple,3}  after client#0
+S is a send, R a receive, P a print, and a dot the other end. Small letters are
+events that nobody reported, and that gemshowal complete adds; their names have
+a ~, and in the drawing they are dashed. No row is above what it follows.
+Status 1: the trace can't be paired, or has no such label.";

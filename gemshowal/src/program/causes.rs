@@ -71,6 +71,26 @@ struct Whole<'a> {
     told: HashMap<Pid, Vec<u64>>,
 }
 
+/// How many events `complete` adds.
+#[derive(Clone, Copy, Debug, Default, PartialEq, Eq)]
+pub(crate) struct Added {
+    /// Sends whose receive was reported, so they have happened.
+    pub(crate) certain: usize,
+    /// Other sends.
+    pub(crate) sends: usize,
+    pub(crate) receives: usize,
+}
+
+impl Added {
+    fn count(&mut self, kind: Kind, is_known: bool) {
+        match kind {
+            Kind::Receive => self.receives += 1,
+            Kind::Send | Kind::Print if is_known => self.certain += 1,
+            Kind::Send | Kind::Print => self.sends += 1,
+        }
+    }
+}
+
 /// What each event of a trace follows.
 pub(crate) struct Causes<'a> {
     trace: &'a Trace,
@@ -153,6 +173,21 @@ impl Causes<'_> {
     pub(crate) fn order(&self) -> Result<Vec<Item>, OutOfMemory> {
         let paired = self.whole.as_ref().map_or(self.paired, |whole| whole.paired);
         Ok(paired.order()?.as_ref().to_vec())
+    }
+
+    /// How many events were added.
+    pub(crate) fn added(&self) -> Added {
+        let mut added = Added::default();
+        let Some(whole) = &self.whole else { return added };
+        for &pid in whole.completion.streams().pids() {
+            for (event, index) in whole.completion.streams().events(pid).iter().zip(0..) {
+                if whole.completion.told(pid, index) == Some(false) {
+                    let is_known = self.message(Item::Reported(pid, index)).is_some();
+                    added.count(event.kind, is_known);
+                }
+            }
+        }
+        added
     }
 
     /// The item of a reported event.
@@ -287,13 +322,17 @@ impl Causes<'_> {
         }
     }
 
+    /// Whether the trace doesn't list a process, which `complete` supposes.
+    pub(crate) fn is_unlisted(&self, pid: Pid) -> bool {
+        self.whole.as_ref().is_some_and(|whole| whole.completion.unlisted().contains(&pid))
+    }
+
     /// What a process is called.
     pub(crate) fn process(&self, pid: Pid) -> Cow<'_, str> {
-        match &self.whole {
-            Some(whole) if whole.completion.unlisted().contains(&pid) => {
-                format!("unlisted {}", gemshowal::Text(pid)).into()
-            }
-            _ => self.names.process(pid),
+        if self.is_unlisted(pid) {
+            format!("unlisted {}", gemshowal::Text(pid)).into()
+        } else {
+            self.names.process(pid)
         }
     }
 

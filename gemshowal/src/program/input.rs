@@ -1,58 +1,49 @@
-//! An input: standard input or a file.
+//! An input: standard input, a file, or the file of a trace's name, packed by gzip or not.
 
 use crate::lint;
 use crate::names::{self, Names};
 use crate::output::Notes;
 use crate::progress::{Counter, Progress};
+use crate::spool::Spool;
 use crate::Failure;
-use std::fs::File;
-use std::io::{self, IsTerminal, Read, Seek, StdinLock};
-use std::path::{Path, PathBuf};
+use flate2::read::MultiGzDecoder;
 use gemshowal::{ReadError, Trace};
+use std::fs::File;
+use std::io::{self, BufReader, Cursor, ErrorKind, IsTerminal, Read, Seek};
+use std::path::{Path, PathBuf};
 
-/// So much of standard input is kept, so that a fault in it can be explained. A file is read once more.
-const KEPT: usize = 16_777_216;
-
-/// Where bytes come from.
-#[derive(Debug)]
-enum Place {
-    Standard(StdinLock<'static>),
-    File(File),
-}
-
-impl Read for Place {
-    fn read(&mut self, piece: &mut [u8]) -> io::Result<usize> {
-        match self {
-            Place::Standard(stdin) => stdin.read(piece),
-            Place::File(file) => file.read(piece),
-        }
-    }
-}
+/// What a packed file begins with.
+const GZIP: &[u8] = b"\x1f\x8b";
 
 /// An input that is open, with the name that messages call it by.
-#[derive(Debug)]
 pub(crate) struct Input {
     name: String,
     /// The file, or `-`.
     path: PathBuf,
-    place: Place,
+    /// The same file, to be read once more; none of standard input.
+    file: Option<File>,
+    reader: Box<dyn Read>,
     counter: Counter,
 }
 
 impl Input {
-    /// Opens the file of this path, that of the trace of this name, or standard input if that is `-`.
+    /// Opens the file of this path, that of the trace of this name, or standard input for `-`.
     pub(crate) fn open(path: &Path) -> Result<Input, Failure> {
         let path = names::trace_file(path);
-        let (name, place) = if path == Path::new("-") {
-            ("standard input".into(), Place::Standard(io::stdin().lock()))
-        } else {
-            let name = path.display().to_string();
-            match File::open(&path) {
-                Ok(file) => (name, Place::File(file)),
-                Err(reason) => return Err(Failure::Unopened(on_one_line(&name).into(), reason)),
-            }
-        };
-        Ok(Input { name, path, place, counter: Counter::default() })
+        let counter = Counter::default();
+        if path == Path::new("-") {
+            let name = "standard input".to_owned();
+            let reader = unpacked(Box::new(io::stdin().lock()));
+            let reader = reader.map_err(|reason| Failure::Unread(name.clone(), reason))?;
+            return Ok(Input { name, path, file: None, reader, counter });
+        }
+        let name = path.to_string_lossy().into_owned();
+        let opened = File::open(&path).and_then(|file| Ok((file.try_clone()?, file)));
+        let (again, file) = opened
+            .map_err(|reason| Failure::Unopened(on_one_line(&name).into(), hint(&path), reason))?;
+        let reader = unpacked(Box::new(file));
+        let reader = reader.map_err(|reason| Failure::Unread(on_one_line(&name).into(), reason))?;
+        Ok(Input { name, path, file: Some(again), reader, counter })
     }
 
     /// What messages call it, whole: also with a line break in it.
@@ -63,6 +54,12 @@ impl Input {
     /// The name on one line: one with a line break would look like another file's.
     pub(crate) fn line_name(&self) -> &str {
         on_one_line(&self.name)
+    }
+
+    /// What a command line calls the trace: its name without the extension, if it has files beside.
+    pub(crate) fn word(&self) -> String {
+        let path = self.path.to_string_lossy();
+        path.strip_suffix(".seqtrace").unwrap_or(&path).to_owned()
     }
 
     /// What the files beside it say of its trace.
@@ -77,15 +74,16 @@ impl Input {
 
     /// The trace that it is the text of.
     pub(crate) fn trace(&mut self) -> Result<Trace, Failure> {
-        let mut kept = matches!(self.place, Place::Standard(_)).then(Vec::new);
-        let read = Trace::read(Kept { input: self, kept: &mut kept });
+        let mut spool = self.file.is_none().then(Spool::default);
+        let read = Trace::read(Kept { input: self, spool: spool.as_mut() });
         read.map_err(|error| match error {
             ReadError::Memory(error) => error.into(),
             ReadError::Io(reason) => self.unread(reason),
             ReadError::TooLarge => Failure::TooLarge(self.line_name().into()),
             ReadError::Faulty(fault) => {
-                let text = kept.filter(|text| text.len() <= KEPT).or_else(|| self.again().ok());
-                let words = text.and_then(|text| lint::first_refused(&text)).unwrap_or_else(|| format!(": {fault}"));
+                let text = spool.map_or_else(|| self.again(), Spool::bytes);
+                let words = text.ok().and_then(|text| lint::first_refused(&text));
+                let words = words.unwrap_or_else(|| format!(": {fault}"));
                 Failure::Faulty(self.line_name().into(), words)
             }
         })
@@ -95,7 +93,7 @@ impl Input {
     pub(crate) fn bytes(&mut self) -> Result<Vec<u8>, Failure> {
         let mut bytes = Vec::new();
         let most = gemshowal::LIMITS.bytes;
-        let read = Counted(self).take(most + 1).read_to_end(&mut bytes);
+        let read = Kept { input: self, spool: None }.take(most + 1).read_to_end(&mut bytes);
         match read {
             Err(reason) => Err(self.unread(reason)),
             Ok(count) if count as u64 > most => Err(Failure::TooLarge(self.line_name().into())),
@@ -103,58 +101,82 @@ impl Input {
         }
     }
 
-    /// All bytes of a file, from its front; fails for what can be read only once.
+    /// All bytes of a file, from its front.
     fn again(&mut self) -> io::Result<Vec<u8>> {
-        let Place::File(file) = &mut self.place else {
-            return Err(io::ErrorKind::Unsupported.into());
-        };
+        let mut file = self.file.take().ok_or(ErrorKind::Unsupported)?;
         file.rewind()?;
         let mut bytes = Vec::new();
-        file.read_to_end(&mut bytes)?;
+        unpacked(Box::new(file))?.read_to_end(&mut bytes)?;
         Ok(bytes)
     }
 
     fn unread(&self, reason: io::Error) -> Failure {
         match reason.kind() {
-            io::ErrorKind::OutOfMemory => gemshowal::OutOfMemory.into(),
+            ErrorKind::OutOfMemory => gemshowal::OutOfMemory.into(),
             _ => Failure::Unread(self.line_name().into(), reason),
         }
     }
 }
 
-/// Reads, and counts what is read.
-struct Counted<'a>(&'a mut Input);
-
-impl Read for Counted<'_> {
-    fn read(&mut self, piece: &mut [u8]) -> io::Result<usize> {
-        let taken = self.0.place.read(piece)?;
-        self.0.counter.count(taken);
-        Ok(taken)
+/// A reader of what this one reads, unpacked if it is packed.
+fn unpacked(mut reader: Box<dyn Read>) -> io::Result<Box<dyn Read>> {
+    let mut front = Vec::new();
+    reader.by_ref().take(GZIP.len() as u64).read_to_end(&mut front)?;
+    let is_packed = front == GZIP;
+    let whole = Cursor::new(front).chain(reader);
+    if is_packed {
+        Ok(Box::new(Unpacking(MultiGzDecoder::new(BufReader::new(whole)))))
+    } else {
+        Ok(Box::new(whole))
     }
 }
 
-/// Reads, and keeps what is read up to a limit.
+/// Unpacks, and says of an error that it is one of the packing.
+struct Unpacking<R>(MultiGzDecoder<R>);
+
+impl<R: Read> Read for Unpacking<R> {
+    fn read(&mut self, piece: &mut [u8]) -> io::Result<usize> {
+        self.0.read(piece).map_err(|error| match error.kind() {
+            ErrorKind::InvalidInput | ErrorKind::InvalidData | ErrorKind::UnexpectedEof => {
+                io::Error::new(
+                    ErrorKind::InvalidData,
+                    "it is packed by gzip, and damaged or cut short",
+                )
+            }
+            _ => error,
+        })
+    }
+}
+
+/// Reads, counts what is read, and keeps it if that is wanted.
 struct Kept<'a> {
     input: &'a mut Input,
-    kept: &'a mut Option<Vec<u8>>,
+    spool: Option<&'a mut Spool>,
 }
 
 impl Read for Kept<'_> {
     fn read(&mut self, piece: &mut [u8]) -> io::Result<usize> {
-        let taken = Counted(self.input).read(piece)?;
-        if let Some(kept) = self.kept {
-            if kept.len() + taken > KEPT {
-                *self.kept = None;
-            } else {
-                kept.extend_from_slice(&piece[..taken]);
-            }
+        let taken = self.input.reader.read(piece)?;
+        self.input.counter.count(taken);
+        if let (Some(spool), Some(bytes)) = (&mut self.spool, piece.get(..taken)) {
+            spool.keep(bytes);
         }
         Ok(taken)
     }
 }
 
+/// What to say of a file that isn't there, if another one is.
+fn hint(path: &Path) -> String {
+    let name = path.with_extension("");
+    let is_beside = path.extension().is_some_and(|it| it != "seqtrace");
+    if is_beside && name.with_extension("seqtrace").is_file() {
+        return format!(" (there is a trace of the name {})", name.display());
+    }
+    String::new()
+}
+
 fn on_one_line(name: &str) -> &str {
-    if name.chars().any(|c| c < ' ') {
+    if name.chars().any(char::is_control) {
         "a file with a control character in its name"
     } else {
         name

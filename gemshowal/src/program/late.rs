@@ -19,6 +19,7 @@ fn first_late_of(events: &[Event]) -> Option<(usize, usize)> {
         greatest = greatest.max(event.serial.this);
         is_late
     })?;
-    let higher = events[..index].iter().rposition(|event| event.serial.this >= events[index].serial.this)?;
+    let higher =
+        events[..index].iter().rposition(|event| event.serial.this >= events[index].serial.this)?;
     Some((index, higher))
 }

@@ -1,129 +1,140 @@
-//! The command `stats`: how many events and messages a trace has, by process, by pair of processes and by label.
+//! The command `stats`: how many events and messages a trace has, by process, by pair of processes
+//! and by label.
 
-use crate::args::Stats;
 use crate::input::Input;
-use crate::late::first_late;
+use crate::names::Names;
+use crate::object::Number;
 use crate::output::{Notes, Output};
-use crate::reason::Unfit;
+use crate::reason::write_unpaired;
 use crate::{Failure, Status};
+use gemshowal::{Event, Hop, Hops, Kind, Label, Paired, Pairing, Partner, Pid, Text, Trace};
 use serde::Serialize;
 use std::collections::{BTreeMap, HashMap};
 use std::io::{self, Write};
-use gemshowal::{Event, Finding, Kind, Pairing, Partner, Pid, Text, Trace};
 
-pub(crate) fn run(args: &Stats, input: &mut Input, out: &mut Output, notes: &mut Notes) -> Result<Status, Failure> {
+pub(crate) fn run(
+    json: bool,
+    input: &mut Input,
+    out: &mut Output,
+    notes: &mut Notes,
+) -> Result<Status, Failure> {
     let trace = input.trace()?;
-    let name = input.line_name();
-    match trace.pair()? {
+    let names = input.names(&trace, notes)?;
+    let paired = match Paired::of(trace.streams())? {
+        Ok(paired) => paired,
         Err(finding) => {
-            trace.write_finding(out, &finding)?;
-            if let Finding::Unfit(pid, index, reason) = &finding {
-                Unfit::by_audit(*pid, *index, reason).note(&trace, name, notes)?;
-            }
-            Ok(Status::No)
+            write_unpaired(json, &trace, &names, &finding, out)?;
+            return Ok(Status::No);
         }
-        Ok(pairing) => match first_late(&trace) {
-            Some((pid, index, never)) => {
-                trace.write_never(out, pid, index, never)?;
-                Unfit::by_complete(pid, index, never).note(&trace, name, notes)?;
-                Ok(Status::No)
-            }
-            None => {
-                for count in counts(&trace, &pairing) {
-                    if args.json {
-                        out.object(&count)?;
-                    } else {
-                        count.write(out)?;
-                    }
-                }
-                Ok(Status::Yes)
-            }
-        },
+    };
+    let stats = Stats {
+        processes: trace
+            .processes()
+            .map(|(pid, events)| Process::of(pid, events, &names))
+            .collect(),
+        pairs: pairs(&trace, paired.pairing(), &names),
+        labels: Depths::of(&trace, paired.hops()?).labels(&names),
+    };
+    if json {
+        out.report("counted", &stats)?;
+    } else {
+        stats.write(out)?;
     }
+    Ok(Status::Yes)
 }
 
-/// A line of the counts.
+/// The counts of a trace.
 #[derive(Serialize)]
-#[serde(tag = "of", rename_all = "lowercase")]
-enum Count {
-    Process {
-        pid: Text<Pid>,
-        sends: u64,
-        receives: u64,
-        prints: u64,
-        /// Of each send and print the counts between the greatest count of the events before and its own, summed.
-        skipped: u64,
-        /// The most messages that waited at once, in the order of all events.
-        queue: u64,
-    },
-    Pair {
-        from: Text<Pid>,
-        to: Text<Pid>,
-        messages: u64,
-        unreceived: u64,
-        unsent: u64,
-    },
-    Label {
-        label: u32,
-        events: u64,
-        /// The messages on the longest way.
-        depth: u64,
-        /// The most messages at one depth.
-        width: u64,
-    },
+struct Stats {
+    processes: Vec<Process>,
+    pairs: Vec<Pair>,
+    labels: Vec<LabelStats>,
 }
 
-impl Count {
+#[derive(Serialize)]
+struct Process {
+    process: String,
+    pid: Text<Pid>,
+    sends: u64,
+    receives: u64,
+    prints: u64,
+    /// Of each send and print the counts between the greatest count of the events before and its
+    /// own, summed.
+    skipped: Number,
+}
+
+/// The messages from one process to another.
+#[derive(Serialize)]
+struct Pair {
+    from: String,
+    to: String,
+    from_pid: Text<Pid>,
+    to_pid: Text<Pid>,
+    messages: u64,
+    unreceived: u64,
+    unsent: u64,
+}
+
+#[derive(Serialize)]
+struct LabelStats {
+    label: u32,
+    term: String,
+    events: u64,
+    /// The messages on the longest way.
+    depth: u64,
+    /// The most messages at one depth.
+    width: u64,
+}
+
+impl Stats {
     fn write(&self, out: &mut Output) -> io::Result<()> {
-        match self {
-            Count::Process { pid, sends, receives, prints, skipped, queue } => writeln!(
+        for Process { process, sends, receives, prints, skipped, .. } in &self.processes {
+            writeln!(
                 out,
-                "process {pid}: sends {sends}, receives {receives}, prints {prints}, counts skipped {skipped}, longest queue {queue}"
-            ),
-            Count::Pair { from, to, messages, unreceived, unsent } => writeln!(
+                "process {process}: sends {sends}, receives {receives}, prints {prints}, counts \
+                 skipped {}",
+                skipped.0
+            )?;
+        }
+        for Pair { from, to, messages, unreceived, unsent, .. } in &self.pairs {
+            writeln!(
                 out,
-                "messages from {from} to {to}: {messages}, without a reported receive {unreceived}, without a reported send {unsent}"
-            ),
-            Count::Label { label, events, depth, width } => {
-                writeln!(out, "label {label}: events {events}, depth {depth}, width {width}")
+                "messages from {from} to {to}: {messages}, without a reported receive \
+                 {unreceived}, without a reported send {unsent}"
+            )?;
+        }
+        for LabelStats { term, events, depth, width, .. } in &self.labels {
+            writeln!(out, "label {term}: events {events}, depth {depth}, width {width}")?;
+        }
+        Ok(())
+    }
+}
+
+impl Process {
+    fn of(pid: Pid, events: &[Event], names: &Names) -> Process {
+        let number = |kind| events.iter().filter(|event| event.kind == kind).count() as u64;
+        let (mut clock, mut skipped) = (0_u64, 0_u64);
+        for event in events {
+            let this = event.serial.this;
+            if event.kind != Kind::Receive {
+                skipped = skipped.saturating_add(this.saturating_sub(clock).saturating_sub(1));
             }
+            clock = clock.max(this);
+        }
+        Process {
+            process: names.process(pid).into_owned(),
+            pid: Text(pid),
+            sends: number(Kind::Send),
+            receives: number(Kind::Receive),
+            prints: number(Kind::Print),
+            skipped: Number(skipped),
         }
     }
 }
 
-/// The counts of a trace without a late event: processes and pairs by pid, then labels.
-fn counts(trace: &Trace, pairing: &Pairing) -> Vec<Count> {
-    let sweep = Sweep::over(trace, pairing);
-    let processes =
-        trace.processes().map(|(pid, events)| process(pid, events, sweep.queues.get(&pid).map_or(0, |it| it.most)));
-    let labels =
-        sweep.labels.iter().map(|(&label, &Shape { events, depth, width })| Count::Label { label, events, depth, width });
-    processes.chain(pairs(trace, pairing)).chain(labels).collect()
-}
-
-fn process(pid: Pid, events: &[Event], queue: u64) -> Count {
-    let of = |kind| events.iter().filter(|event| event.kind == kind).count() as u64;
-    let (mut clock, mut skipped) = (0_u64, 0_u64);
-    for event in events {
-        let this = event.serial.this;
-        if event.kind != Kind::Receive {
-            skipped = skipped.saturating_add(this.saturating_sub(clock).saturating_sub(1));
-        }
-        clock = clock.max(this);
-    }
-    Count::Process {
-        pid: Text(pid),
-        sends: of(Kind::Send),
-        receives: of(Kind::Receive),
-        prints: of(Kind::Print),
-        skipped,
-        queue,
-    }
-}
-
-/// The messages by sender and receiver, of which at least one end was reported. One that both ends reported is counted at its
-/// send.
-fn pairs(trace: &Trace, pairing: &Pairing) -> impl Iterator<Item = Count> {
+/// The messages by sender and receiver, of which at least one end was reported. One that both ends
+/// reported is counted at its send.
+fn pairs(trace: &Trace, pairing: &Pairing, names: &Names) -> Vec<Pair> {
     let mut pairs = BTreeMap::<_, [u64; 3]>::new();
     for (pid, events) in trace.processes() {
         for (event, index) in events.iter().zip(0..) {
@@ -141,103 +152,92 @@ fn pairs(trace: &Trace, pairing: &Pairing) -> impl Iterator<Item = Count> {
             }
         }
     }
-    pairs.into_iter().map(|((from, to), [messages, unreceived, unsent])| Count::Pair {
-        from: Text(from),
-        to: Text(to),
+    let pair = |((from, to), [messages, unreceived, unsent]): (_, [u64; 3])| Pair {
+        from: names.process(from).into_owned(),
+        to: names.process(to).into_owned(),
+        from_pid: Text(from),
+        to_pid: Text(to),
         messages,
         unreceived,
         unsent,
-    })
+    };
+    pairs.into_iter().map(pair).collect()
 }
 
-/// The tree of a label: its events, and the messages on its longest way and at its widest depth.
-#[derive(Clone, Copy, Default)]
-struct Shape {
-    events: u64,
-    depth: u64,
-    width: u64,
-}
-
-/// How many messages wait for a process, and the most that did.
-#[derive(Clone, Copy, Default)]
-struct Queue {
-    waiting: u64,
-    most: u64,
-}
-
-/// One pass over all events, in an order in which each message is sent before it is received.
-#[derive(Default)]
-struct Sweep {
-    /// The depth of each message on its way, by the place of its receive.
-    sent: HashMap<(Pid, u64), u64>,
-    /// The depth of the last message of a label that a process received.
-    received: HashMap<(Pid, u32), u64>,
+/// How deep each message is on its way: one more than the message whose receive its send follows.
+struct Depths<'a> {
+    trace: &'a Trace,
+    hops: Hops<'a>,
+    /// The depth of each send, by process and index.
+    sent: HashMap<Pid, Vec<u64>>,
     /// How many messages of a label are at a depth.
     widths: HashMap<(u32, u64), u64>,
-    queues: HashMap<Pid, Queue>,
-    labels: BTreeMap<u32, Shape>,
 }
 
-impl Sweep {
-    /// The order is that of the charts: by height, which is the greatest count of the process so far, sends and prints before
-    /// receives. It keeps each process's own order if no event is late.
-    fn over(trace: &Trace, pairing: &Pairing) -> Sweep {
-        let mut turns = Vec::with_capacity(trace.streams().total() as usize);
+impl<'a> Depths<'a> {
+    /// The sends are taken by rising counts: what a send follows has a lower count.
+    fn of(trace: &'a Trace, hops: Hops<'a>) -> Depths<'a> {
+        let sent = trace.processes().map(|(pid, events)| (pid, vec![0; events.len()])).collect();
+        let mut depths = Depths { trace, hops, sent, widths: HashMap::new() };
+        let mut sends = Vec::new();
         for (pid, events) in trace.processes() {
-            let mut height = 0;
             for (event, index) in events.iter().zip(0_u64..) {
-                height = height.max(event.serial.this);
-                turns.push((height, event.kind == Kind::Receive, pid, index));
+                match event.kind {
+                    Kind::Send => sends.push((event.serial.this, pid, index)),
+                    Kind::Receive if depths.hops.hop(pid, index) == Some(Hop::Unsent) => {
+                        *depths.widths.entry((event.label.0, 1)).or_default() += 1;
+                    }
+                    Kind::Receive | Kind::Print => {}
+                }
             }
         }
-        turns.sort_unstable();
-        let mut sweep = Sweep::default();
-        for (_, _, pid, index) in turns {
-            let event = &trace.streams().events(pid)[index as usize];
-            sweep.labels.entry(event.label.0).or_default().events += 1;
-            match event.kind {
-                Kind::Print => {}
-                Kind::Send => sweep.send(pid, event, gemshowal::partner_at(pairing, pid, index, Kind::Send).place()),
-                Kind::Receive => sweep.receive(pid, index, event),
-            }
+        sends.sort_unstable();
+        for (_, pid, index) in sends {
+            depths.send(pid, index);
         }
-        sweep
+        depths
     }
 
-    /// Notes a message of a label at this depth.
-    fn note(&mut self, label: u32, depth: u64) {
-        let width = self.widths.entry((label, depth)).or_default();
-        *width += 1;
-        let shape = self.labels.entry(label).or_default();
-        shape.depth = shape.depth.max(depth);
-        shape.width = shape.width.max(*width);
-    }
-
-    fn send(&mut self, pid: Pid, event: &Event, receive: Option<(Pid, u64)>) {
-        let label = event.label.0;
-        let depth = self.received.get(&(pid, label)).map_or(1, |before| before + 1);
-        if let Some(receive) = receive {
-            self.sent.insert(receive, depth);
-            let queue = self.queues.entry(receive.0).or_default();
-            queue.waiting += 1;
-            queue.most = queue.most.max(queue.waiting);
-        }
-        self.note(label, depth);
-    }
-
-    /// A message that nobody reported to be sent begins a way.
-    fn receive(&mut self, pid: Pid, index: u64, event: &Event) {
-        let label = event.label.0;
-        let depth = match self.sent.remove(&(pid, index)) {
-            Some(depth) => {
-                self.queues.entry(pid).or_default().waiting -= 1;
-                depth
+    fn send(&mut self, pid: Pid, index: u64) {
+        let Some(event) = self.trace.streams().event(pid, index) else { return };
+        let depth = match self.hops.hop(pid, index) {
+            Some(Hop::After(receive) | Hop::AfterOneLabel(receive)) => {
+                1 + self.received(pid, receive)
             }
-            None => {
-                self.note(label, 1);
-                1
-            }
+            _ => 1,
         };
-        self.received.insert((pid, label), depth);
+        if let Some(own) = self.sent.get_mut(&pid).and_then(|own| own.get_mut(index as usize)) {
+            *own = depth;
+        }
+        *self.widths.entry((event.label.0, depth)).or_default() += 1;
+    }
+
+    /// The depth of the message of a receive; one that nobody reported to be sent begins a way.
+    fn received(&self, pid: Pid, index: u64) -> u64 {
+        match self.hops.hop(pid, index) {
+            Some(Hop::Sent(from, send)) => {
+                let own = self.sent.get(&from).and_then(|own| own.get(send as usize));
+                own.copied().unwrap_or(1)
+            }
+            _ => 1,
+        }
+    }
+
+    /// What there is of each label.
+    fn labels(self, names: &Names) -> Vec<LabelStats> {
+        let mut labels = BTreeMap::<u32, (u64, u64, u64)>::new();
+        for event in self.trace.processes().flat_map(|(_, events)| events) {
+            labels.entry(event.label.0).or_default().0 += 1;
+        }
+        for ((label, depth), number) in self.widths {
+            let (_, deepest, widest) = labels.entry(label).or_default();
+            *deepest = (*deepest).max(depth);
+            *widest = (*widest).max(number);
+        }
+        let stats = |(label, (events, depth, width))| {
+            let term = names.label(Label(label)).into_owned();
+            LabelStats { label, term, events, depth, width }
+        };
+        labels.into_iter().map(stats).collect()
     }
 }

@@ -5,10 +5,10 @@ use crate::causes::{with_causes, Cause, Causes, Grade, Link};
 use crate::input::Input;
 use crate::object::{kind_word, Place};
 use crate::output::{Notes, Output};
-use crate::reason::Unfit;
+use crate::reason::write_unpaired;
 use crate::words;
 use crate::{Failure, Status};
-use gemshowal::{Finding, Item, OutOfMemory, Premises};
+use gemshowal::{Item, OutOfMemory, Premises};
 use serde::Serialize;
 use std::collections::HashMap;
 use std::io::{self, Write};
@@ -25,7 +25,6 @@ pub(crate) fn run(
     let trace = input.trace()?;
     let names = input.names(&trace, notes)?;
     let place = names.find_event(&trace, &args.event)?;
-    let name = input.line_name();
     let told = with_causes(&trace, &names, |causes| {
         let way = if args.effects {
             Way::forth(causes, causes.item(place), args)?
@@ -33,19 +32,16 @@ pub(crate) fn run(
             Way::back(causes, causes.item(place), args)
         };
         if args.json {
-            out.object(&way.object(causes)?)?;
+            out.report("told", &way.object(causes)?)?;
         } else {
             way.write(causes, out)?;
         }
         Ok(Status::Yes)
     })?;
-    match told {
-        Err(Finding::Unfit(pid, index, reason)) => {
-            Unfit::by_audit(pid, index, &reason).note(&trace, name, notes)?;
-            Ok(Status::No)
-        }
-        told => Ok(told.unwrap_or(Status::No)),
-    }
+    told.or_else(|finding| {
+        write_unpaired(args.json, &trace, &names, &finding, out)?;
+        Ok(Status::No)
+    })
 }
 
 /// An event on the way back from another, or in the tree of what follows it.
@@ -213,7 +209,7 @@ impl Found {
         Ok(Some(Found {
             depth: step.depth,
             name: causes.name(step.item),
-            place: place.map(|(pid, index)| Place::new(pid, index)),
+            place: place.map(|place| Place::new(causes.names(), place)),
             line,
             kind: kind_word(event.kind),
             label: names.label(event.label).into_owned(),

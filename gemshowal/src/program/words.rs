@@ -146,3 +146,42 @@ pub(crate) fn at(causes: &Causes<'_>, item: Item) -> String {
     let time = times.and_then(|(times, place)| Some(moment(times, times.of_event(place)?)));
     time.map(|time| format!(", at {time}")).unwrap_or_default()
 }
+
+/// Whether a run has the trace, and what is added to it, in a line.
+pub(crate) fn headline(causes: &Causes<'_>) -> String {
+    if causes.never().is_some() {
+        return NEVER.into();
+    }
+    let own = causes.trace().streams();
+    let events = count(own.total() as usize, "event");
+    let processes = count_of(own.pids().len(), "process", "processes");
+    let added = causes.added();
+    let certain = (added.certain > 0).then(|| count(added.certain, "send"));
+    let sends = (added.sends > 0).then(|| count(added.sends, "send"));
+    let receives = (added.receives > 0).then(|| count(added.receives, "receive"));
+    let probable: Vec<String> = sends.into_iter().chain(receives).collect();
+    let probable = (!probable.is_empty()).then(|| format!("probably {}", probable.join(" and ")));
+    let added: Vec<String> = certain.into_iter().chain(probable).collect();
+    let with = if added.is_empty() { "" } else { ", with " };
+    let behind = if added.is_empty() { "" } else { " that nobody reported" };
+    format!("fits: {events} of {processes}{with}{}{behind}", added.join(" and "))
+}
+
+/// What a chart's sentences rest on, if on anything.
+pub(crate) fn chart_note(grades: impl Iterator<Item = Grade>) -> Option<&'static str> {
+    let is_under = |grade| matches!(grade, Grade::Under(_));
+    grades.into_iter().any(is_under).then_some(
+        "note: what a send or print follows holds if its process reported each receive of a token \
+         and began no label twice; gemshowal why says of which event that is needed",
+    )
+}
+
+/// A number of things, with an s unless it is one.
+pub(crate) fn count(number: usize, thing: &str) -> String {
+    count_of(number, thing, &format!("{thing}s"))
+}
+
+/// A number of things, of which one and several are called so.
+pub(crate) fn count_of(number: usize, one: &str, several: &str) -> String {
+    format!("{number} {}", if number == 1 { one } else { several })
+}

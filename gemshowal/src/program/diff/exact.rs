@@ -185,8 +185,7 @@ impl Search<'_> {
     }
 
     fn is_open_in_first(&mut self, place: usize, guessed: &Guessed) -> bool {
-        self.pairs.is_free_in_first(place)
-            && !guessed.first.contains(&self.first.parts.end(place))
+        self.pairs.is_free_in_first(place) && !guessed.first.contains(&self.first.parts.end(place))
     }
 
     /// Guesses that these two are the same, unless one of them is matched, or its part has a guess.

@@ -11,11 +11,8 @@ use serde::{Serialize, Serializer};
 /// Two traces with what differs.
 #[derive(Serialize)]
 pub(super) struct Object<'a> {
-    command: &'static str,
-    /// The names of the first and of the second trace.
-    name: &'a str,
+    /// The name of the second trace.
     other: &'a str,
-    result: &'static str,
     /// Whether that holds however processes are matched. All that is the same is compared.
     certain: bool,
     #[serde(flatten)]
@@ -28,14 +25,10 @@ pub(super) struct Object<'a> {
 
 impl<'a> Object<'a> {
     pub(super) fn new(report: &'a Report<'a>) -> Object<'a> {
-        let [first, second] = report.texts;
-        let is_same = report.is_same();
+        let [_, second] = report.texts;
         Object {
-            command: "diff",
-            name: first.name,
             other: second.name,
-            result: if is_same { "same" } else { "different" },
-            certain: is_same || report.found.is_certain,
+            certain: report.is_same() || report.found.is_certain,
             sums: report.sums(),
             processes: report,
             changes: report,
@@ -73,7 +66,7 @@ fn matches<S: Serializer>(report: &&Report<'_>, serializer: S) -> Result<S::Ok, 
 /// A process or an event that differs.
 #[derive(Serialize)]
 #[serde(untagged)]
-enum Difference<'a> {
+enum Difference {
     Process {
         change: &'static str,
         pid: Text<Pid>,
@@ -81,33 +74,29 @@ enum Difference<'a> {
     Event {
         change: &'static str,
         #[serde(flatten)]
-        row: Placed<'a>,
+        row: Placed,
         /// Where it is in the second trace.
         #[serde(skip_serializing_if = "Option::is_none")]
-        now: Option<Placed<'a>>,
+        now: Option<Placed>,
     },
 }
 
 /// An event with its line and its place.
 #[derive(Serialize)]
-struct Placed<'a> {
+struct Placed {
     line: u64,
     #[serde(flatten)]
     place: Place,
     #[serde(flatten)]
     event: Fields,
-    /// The term of its value.
-    #[serde(skip_serializing_if = "Option::is_none")]
-    term: Option<&'a str>,
 }
 
-impl<'a> From<Row<'a>> for Placed<'a> {
-    fn from(row: Row<'a>) -> Placed<'a> {
+impl From<Row<'_>> for Placed {
+    fn from(row: Row<'_>) -> Placed {
         Placed {
             line: row.line,
-            place: Place::new(row.place.0, row.place.1),
-            event: Fields::from(*row.event),
-            term: super::side::term(row.trace.names.value(row.event.value)),
+            place: Place::new(row.trace.names, row.place),
+            event: Fields::new(row.trace.names, row.event),
         }
     }
 }
@@ -133,7 +122,7 @@ fn changes<S: Serializer>(report: &&Report<'_>, serializer: S) -> Result<S::Ok, 
     serializer.collect_seq(told.chain(moved))
 }
 
-fn first<'a>(report: &Report<'a>, change: &Change) -> Option<Difference<'a>> {
+fn first(report: &Report<'_>, change: &Change) -> Option<Difference> {
     let (row, now) = report.rows(change)?;
     let now = now.map(|(now, _)| Placed::from(now));
     let change = if now.is_some() { "elsewhere" } else { "gone" };

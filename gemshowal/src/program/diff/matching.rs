@@ -39,7 +39,8 @@ type Keys = Vec<u64>;
 
 /// All keys of a trace, those that tell most first, each with what it tells.
 fn all_keys(side: &Side<'_>) -> Vec<(Keys, Ground)> {
-    let of_all = |key: fn(&Side<'_>, usize) -> u64| (0..side.len()).map(|it| key(side, it)).collect();
+    let of_all =
+        |key: fn(&Side<'_>, usize) -> u64| (0..side.len()).map(|it| key(side, it)).collect();
     let further = |known: &Keys| {
         Some((0..side.len()).map(|place| key_of_events(side, place, known)).collect::<Keys>())
     };
@@ -131,13 +132,7 @@ impl Search<'_> {
     }
 
     /// Matches processes of one key in their order, and follows the messages of each.
-    fn match_in_order(
-        &mut self,
-        order: &[usize],
-        keys: &Keys,
-        mut others: Groups,
-        ground: Ground,
-    ) {
+    fn match_in_order(&mut self, order: &[usize], keys: &Keys, mut others: Groups, ground: Ground) {
         for &place in order {
             let Some(&key) = keys.get(place).filter(|_| self.pairs.is_free_in_first(place)) else {
                 continue;
@@ -169,7 +164,8 @@ impl Search<'_> {
             self.followed += 1;
             let (ones, others) = (self.first.peers(pair.first), self.second.peers(pair.second));
             let first = known_items(self.first, pair.first, |it| self.pairs.number_of_first(it));
-            let second = known_items(self.second, pair.second, |it| self.pairs.number_of_second(it));
+            let second =
+                known_items(self.second, pair.second, |it| self.pairs.number_of_second(it));
             for run in align(&first, &second, &mut self.budget).runs {
                 let peers = ones.iter().skip(run.first).zip(others.iter().skip(run.second));
                 for (&one, &other) in peers.take(run.len) {

@@ -12,8 +12,8 @@ mod colours;
 mod exact;
 mod groups;
 mod json;
-mod mates;
 mod matching;
+mod mates;
 mod pairs;
 mod report;
 mod side;
@@ -43,17 +43,16 @@ pub(crate) fn run(
     let (ones, others) = (input.names(&first, notes)?, other.names(&second, notes)?);
     let has_terms = has_names(&first, &ones) && has_names(&second, &others);
     let mut vocabulary = Vocabulary::new(has_terms);
-    let sides = [
-        &Side::new(&first, &ones, &mut vocabulary),
-        &Side::new(&second, &others, &mut vocabulary),
-    ];
+    let sides =
+        [&Side::new(&first, &ones, &mut vocabulary), &Side::new(&second, &others, &mut vocabulary)];
     let found = compare(sides, &mates::find(sides, [&ones, &others], has_terms));
     let texts = [Text::new(input.line_name(), &first, &ones)?, {
         Text::new(other.line_name(), &second, &others)?
     }];
     let report = Report::new(sides, &texts, &found);
     if args.json {
-        out.object(&json::Object::new(&report))?;
+        let result = if report.is_same() { "same" } else { "different" };
+        out.report(result, &json::Object::new(&report))?;
     } else {
         report.write(out)?;
     }
@@ -99,11 +98,7 @@ fn compare(sides: [&Side<'_>; 2], mates: &[Mate]) -> Found {
 
 /// Matches the processes of two traces of one length if a renaming may make the one of the other:
 /// one that keeps the order of counts, if their ranks are given.
-fn match_alike(
-    sides: [&Side<'_>; 2],
-    ranks: Option<&[Ranks; 2]>,
-    mates: &[Mate],
-) -> Option<Pairs> {
+fn match_alike(sides: [&Side<'_>; 2], ranks: Option<&[Ranks; 2]>, mates: &[Mate]) -> Option<Pairs> {
     let [first, second] = sides;
     let [ones, others] = ranks.map_or([None, None], |[ones, others]| [Some(ones), Some(others)]);
     let colours = [Colours::first(first, ones), Colours::first(second, others)];
@@ -115,14 +110,16 @@ fn match_alike(
     if pairs.all().len() == first.len() {
         return Some(pairs);
     }
-    let matched: Vec<Mate> = pairs.all().iter().map(|it| (it.first, it.second, it.ground)).collect();
+    let matched: Vec<Mate> =
+        pairs.all().iter().map(|it| (it.first, it.second, it.ground)).collect();
     Some(matching::match_processes(sides, &matched))
 }
 
 /// The way to match processes that leaves fewest changes: all that are called alike, those alone
 /// that have one name, or none of them. Of several that leave as many it is the first.
 fn best_match(sides: [&Side<'_>; 2], mates: &[Mate]) -> (Pairs, Changes) {
-    let named: Vec<Mate> = mates.iter().filter(|mate| mate.2 == pairs::Ground::Name).copied().collect();
+    let named: Vec<Mate> =
+        mates.iter().filter(|mate| mate.2 == pairs::Ground::Name).copied().collect();
     let least = changes::least(sides);
     let mut best = with_changes(sides, matching::match_processes(sides, mates));
     for (mates, is_other) in [(&named[..], named.len() < mates.len()), (&[], !named.is_empty())] {

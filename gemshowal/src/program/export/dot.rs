@@ -63,7 +63,9 @@ fn write_message(
     let (node, open) = (format!("e{own}_{index}"), format!("u{own}_{index}"));
     match scene.partner((pid, index), event) {
         Partner::Nobody | Partner::Receive(..) => Ok(()),
-        Partner::Send(from, sent) => writeln!(out, "    e{}_{sent} -> {node}{MESSAGE};", lane(from)),
+        Partner::Send(from, sent) => {
+            writeln!(out, "    e{}_{sent} -> {node}{MESSAGE};", lane(from))
+        }
         Partner::NoReceive => writeln!(
             out,
             "    {open} [label=\"no receive reported\", style=dashed];\n    {node} -> \

@@ -32,7 +32,11 @@ fn with_sort(scene: &Scene<'_>, word: &str, value: u64) -> String {
         Some(("call" | "cast" | "reply" | "spawn" | "spawned", inside)) => inside,
         _ => &brief,
     };
-    if scene.has_terms() { format!("{word} {}", sort(bare)) } else { word.into() }
+    if scene.has_terms() {
+        format!("{word} {}", sort(bare))
+    } else {
+        word.into()
+    }
 }
 
 /// The first atom of a term, or what it is if it doesn't begin with one.

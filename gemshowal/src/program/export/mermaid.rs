@@ -20,9 +20,8 @@ pub(super) fn write(scene: &Scene<'_>, out: &mut Output) -> Result<(), Failure> 
     for (pid, number) in scene.lanes().into_iter().zip(1..) {
         writeln!(out, "    participant P{number} as {}", plain(&scene.names.process(pid)))?;
     }
-    let is_unsent = |&place: &Place| {
-        scene.event(place).is_some_and(|event| scene.is_unsent(place, event))
-    };
+    let is_unsent =
+        |&place: &Place| scene.event(place).is_some_and(|event| scene.is_unsent(place, event));
     if order.iter().any(is_unsent) {
         writeln!(out, "    participant U as not reported")?;
     }
@@ -68,10 +67,13 @@ impl Diagram<'_> {
                 writeln!(out, "    Note over P{from}: print {content}")
             }
             Partner::Nobody | Partner::Receive(..) => {
-                let to = event.to.map(|to| plain(&self.scene.names.process(to))).unwrap_or_default();
+                let to =
+                    event.to.map(|to| plain(&self.scene.names.process(to))).unwrap_or_default();
                 writeln!(out, "    Note over P{from}: sends {content} to {to}")
             }
-            Partner::NoReceive => writeln!(out, "    P{from}-xP{to}: {content} (no receive reported)"),
+            Partner::NoReceive => {
+                writeln!(out, "    P{from}-xP{to}: {content} (no receive reported)")
+            }
             Partner::NoSend => {
                 let from = plain(&self.scene.names.process(event.from));
                 writeln!(out, "    U->>P{to}: {content} from {from}")

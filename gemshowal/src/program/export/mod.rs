@@ -18,8 +18,10 @@ mod work;
 use crate::args::{Export, Target};
 use crate::input::Input;
 use crate::late::first_late;
+use crate::names::Names;
 use crate::output::{Notes, Output};
-use crate::reason::Unfit;
+use crate::reason::Against;
+use crate::view::{Shown, View};
 use crate::{Failure, Status};
 use gemshowal::{Finding, Paired, Trace};
 use scene::Scene;
@@ -38,13 +40,14 @@ pub(crate) fn run(
     let name = input.line_name();
     let paired = match Paired::of(trace.streams())? {
         Ok(paired) => paired,
-        Err(finding) => return unpaired(&finding, &trace, name, out, notes),
+        Err(Finding::Unfit(pid, index, reason)) => {
+            return Ok(no(Against::by_audit(pid, index, &reason), &trace, &names, notes));
+        }
+        Err(Finding::Fits(..)) => return Ok(Status::No),
     };
     // The order of all events isn't that of each process then. A graph needs no order.
     if let Some((pid, index, never)) = first_late(&trace).filter(|_| args.target != Target::Dot) {
-        trace.write_never(out, pid, index, never)?;
-        Unfit::by_complete(pid, index, never).note(&trace, name, notes)?;
-        return Ok(Status::No);
+        return Ok(no(Some(Against::by_complete(pid, index, never)), &trace, &names, notes));
     }
     let label = args.label.as_deref().map(|label| names.find_label(&trace, Some(label)));
     let scene = Scene::new(&trace, &names, &paired, label.transpose()?)?;
@@ -55,19 +58,13 @@ pub(crate) fn run(
     write(args.target, &scene, name, out, notes)
 }
 
-/// Says why the streams can't be paired.
-fn unpaired(
-    finding: &Finding,
-    trace: &Trace,
-    name: &str,
-    out: &mut Output,
-    notes: &mut Notes,
-) -> Result<Status, Failure> {
-    trace.write_finding(out, finding)?;
-    if let Finding::Unfit(pid, index, reason) = finding {
-        Unfit::by_audit(*pid, *index, reason).note(trace, name, notes)?;
+/// Says on standard error why there is nothing to draw: the output is another program's.
+fn no(against: Option<Against>, trace: &Trace, names: &Names, notes: &mut Notes) -> Status {
+    let view = View::whole(trace, names);
+    if let Some(against) = against {
+        notes.say_no(against.headline(&Shown::reported(&view)));
     }
-    Ok(Status::No)
+    Status::No
 }
 
 fn write(

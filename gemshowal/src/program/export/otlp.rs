@@ -27,7 +27,13 @@ pub(super) fn write(
     notes: &mut Notes,
 ) -> Result<Status, Failure> {
     let begin = match scene.names.times().map(|times| times.begin()) {
-        None => return no_times(name, "no event has a time, which spans need; trace with --times", notes),
+        None => {
+            return no_times(
+                name,
+                "no event has a time, which spans need; trace with --times",
+                notes,
+            )
+        }
         Some(None) => {
             let words = "the events came without the clock of their node, which spans need";
             return no_times(name, words, notes);

@@ -61,7 +61,10 @@ impl<'a> Scene<'a> {
         pid: Pid,
         events: &'a [Event],
     ) -> impl Iterator<Item = (Place, &'a Event)> + 'b {
-        (0..).zip(events).map(move |(index, event)| ((pid, index), event)).filter(|it| self.has(it.1))
+        (0..)
+            .zip(events)
+            .map(move |(index, event)| ((pid, index), event))
+            .filter(|it| self.has(it.1))
     }
 
     /// The events that are drawn, each behind what it follows.

@@ -29,7 +29,8 @@ pub(super) fn write(
         ));
         return Ok(Status::Long);
     }
-    let hosts: HashMap<Pid, String> = scene.lanes().into_iter().map(|it| (it, host(scene, it))).collect();
+    let hosts: HashMap<Pid, String> =
+        scene.lanes().into_iter().map(|it| (it, host(scene, it))).collect();
     each_clock(scene, &order, |place, event, clock| {
         write_words(scene, out, event)?;
         write_clock(out, &hosts, place.0, clock)
@@ -42,7 +43,11 @@ fn is_long(scene: &Scene<'_>, order: &[Place]) -> bool {
     let mut counts = 0;
     let counted = each_clock(scene, order, |_, _, clock| {
         counts += clock.len();
-        if counts > MOST_COUNTS { Err(()) } else { Ok(()) }
+        if counts > MOST_COUNTS {
+            Err(())
+        } else {
+            Ok(())
+        }
     });
     counted.is_err()
 }
@@ -74,7 +79,8 @@ fn each_clock<E>(
 /// Writes what an event is.
 fn write_words(scene: &Scene<'_>, out: &mut Output, event: &Event) -> io::Result<()> {
     let names = scene.names;
-    let (kind, serial, label) = (kind_word(event.kind), Text(event.serial), names.label(event.label));
+    let (kind, serial, label) =
+        (kind_word(event.kind), Text(event.serial), names.label(event.label));
     let message = match scene.has_terms() {
         true => names.brief(event.value),
         false => event.value.to_string().into(),

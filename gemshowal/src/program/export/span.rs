@@ -200,7 +200,9 @@ impl<'a> Spans<'a> {
             let span = self.all.get(*number as usize);
             span.is_some_and(|span| span.end >= end && span.label == label)
         };
-        std::iter::successors(Some(from), up).find(fits).or_else(|| self.labels.get(&label.0).copied())
+        std::iter::successors(Some(from), up)
+            .find(fits)
+            .or_else(|| self.labels.get(&label.0).copied())
     }
 
     /// The span of the receive that an event's process had under another label before it.

@@ -66,7 +66,8 @@ impl Works {
         let work = self.all.get_mut(number as usize)?;
         work.last = index;
         let request = scene.event(work.receive).and_then(|event| role(scene, event.value));
-        if let (Some(Role::Request(one)), Some(Role::Reply(other))) = (request, role(scene, value)) {
+        if let (Some(Role::Request(one)), Some(Role::Reply(other))) = (request, role(scene, value))
+        {
             if one == other {
                 work.reply = Some(index);
             }

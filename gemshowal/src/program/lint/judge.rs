@@ -9,17 +9,23 @@ use super::mistake::{Mistake, Wanted};
 use super::remedy::{remedy_of, remedy_of_front, remedy_of_header, remedy_of_version};
 use super::survey::{process_pid, Survey};
 use super::text::{line_end, lines, Line};
-use std::collections::HashSet;
 use gemshowal::LIMITS;
+use std::collections::HashSet;
 
 /// Finds the mistakes of a text, in its order.
 pub(super) fn judge<'a>(text: &'a [u8], mut add: impl FnMut(Mistake<'a>)) {
     let first = lines(text).next().unwrap_or(Line { number: 1, bytes: b"", is_ended: false });
     if let Some(remedy) = remedy_of_text(text) {
-        return add(Mistake::new(first, 0, Wanted::Words("the header seqtrace 1 or seqtrace 2"), remedy));
+        return add(Mistake::new(
+            first,
+            0,
+            Wanted::Words("the header seqtrace 1 or seqtrace 2"),
+            remedy,
+        ));
     }
     if line_end(text) == b'\r' {
-        let remedy = "lines end with a carriage return alone, as on old Macs: end each with a newline";
+        let remedy =
+            "lines end with a carriage return alone, as on old Macs: end each with a newline";
         add(Mistake::new(first, first.bytes.len(), Wanted::Words("a newline"), remedy).by_fix());
     }
     let mut judge = Judge::new(Survey::of(text));
@@ -89,13 +95,29 @@ impl<'a> Judge<'a> {
     }
 
     /// Adds a mistake that `--fix` mends.
-    fn add_by_fix(&mut self, line: Line<'a>, column: usize, words: &'static str, remedy: &'static str) {
+    fn add_by_fix(
+        &mut self,
+        line: Line<'a>,
+        column: usize,
+        words: &'static str,
+        remedy: &'static str,
+    ) {
         self.found.push(Mistake::new(line, column, Wanted::Words(words), remedy).by_fix());
     }
 
     /// Adds that a line breaks off.
-    fn add_broken(&mut self, line: Line<'a>, column: usize, expected: Expected, remedy: &'static str, is_by_fix: bool) {
-        self.found.push(Mistake { is_by_fix, ..Mistake::new(line, column, Wanted::Grammar(expected), remedy) });
+    fn add_broken(
+        &mut self,
+        line: Line<'a>,
+        column: usize,
+        expected: Expected,
+        remedy: &'static str,
+        is_by_fix: bool,
+    ) {
+        self.found.push(Mistake {
+            is_by_fix,
+            ..Mistake::new(line, column, Wanted::Grammar(expected), remedy)
+        });
     }
 
     fn take_header(&mut self, line: Line<'a>) {
@@ -110,8 +132,12 @@ impl<'a> Judge<'a> {
         // What is behind a carriage return is mended as a line of its own.
         let is_returned = line.bytes.get(column) == Some(&b'\r');
         let (remedy, is_by_fix) = match kind {
-            Kind::Comment | Kind::Other => (remedy_of(line.bytes, column, Above::Nothing, expected), is_mended),
-            Kind::Header if is_mended || is_returned => (remedy_of_front(line.bytes, column, is_remote), true),
+            Kind::Comment | Kind::Other => {
+                (remedy_of(line.bytes, column, Above::Nothing, expected), is_mended)
+            }
+            Kind::Header if is_mended || is_returned => {
+                (remedy_of_front(line.bytes, column, is_remote), true)
+            }
             Kind::Header => (remedy_of_version(line.behind_mark(), is_remote), false),
             _ => (remedy_of_header(is_remote), true),
         };
@@ -155,7 +181,13 @@ impl<'a> Judge<'a> {
             Err(expected) => {
                 let column = scan.column(self.is_wide);
                 let remedy = remedy_of(line.bytes, column, self.above, expected);
-                self.add_broken(line, column, expected, remedy, mends(line.behind_mark(), self.above));
+                self.add_broken(
+                    line,
+                    column,
+                    expected,
+                    remedy,
+                    mends(line.behind_mark(), self.above),
+                );
                 self.pass(line, scan.pids.first());
             }
         }
@@ -167,7 +199,8 @@ impl<'a> Judge<'a> {
             (Kind::Process, _) => {
                 self.above = Above::Process;
                 self.current = process_pid(line.bytes);
-                self.last = self.current.zip(pid).map(|(text, place)| Process { text, pid: place.pid });
+                self.last =
+                    self.current.zip(pid).map(|(text, place)| Process { text, pid: place.pid });
             }
             (Kind::Event, Above::Header) => {
                 self.above = Above::Process;
@@ -205,7 +238,12 @@ impl<'a> Judge<'a> {
                 let column = place.start + rising_bytes(last.pid, process.text);
                 self.add(line, column, Wanted::Above(last.text), RISING);
             }
-            _ if !is_new => self.add(line, place.start, Wanted::Words("a pid without a process line above"), RISING),
+            _ if !is_new => self.add(
+                line,
+                place.start,
+                Wanted::Words("a pid without a process line above"),
+                RISING,
+            ),
             _ => {}
         }
         self.last = Some(process);
@@ -231,11 +269,16 @@ impl<'a> Judge<'a> {
                 self.take_pid(line, *place);
             }
         }
-        if let Some(Counts { prev, start, .. }) = scan.counts.filter(|counts| counts.prev >= counts.this) {
+        if let Some(Counts { prev, start, .. }) =
+            scan.counts.filter(|counts| counts.prev >= counts.this)
+        {
             let remedy =
                 "no run of the machine reports it, since its second count isn't above its first; on a standard node a \
                           token that was put back, or set by hand, may give such a serial";
-            self.found.push(Mistake { is_read: true, ..Mistake::new(line, start, Wanted::Greater(prev), remedy) });
+            self.found.push(Mistake {
+                is_read: true,
+                ..Mistake::new(line, start, Wanted::Greater(prev), remedy)
+            });
         }
     }
 
@@ -251,7 +294,12 @@ impl<'a> Judge<'a> {
     /// Judges whether a line of this noun is the first beyond the most that a text has.
     fn limit(&mut self, line: Line<'a>, noun: &'static str, count: u32, most: u32) {
         if count == most + 1 {
-            self.add(line, 0, Wanted::NoMore(noun, most), "cut the trace: a shorter time, or fewer processes");
+            self.add(
+                line,
+                0,
+                Wanted::NoMore(noun, most),
+                "cut the trace: a shorter time, or fewer processes",
+            );
         }
     }
 
@@ -282,13 +330,19 @@ impl<'a> Judge<'a> {
         }
         let wanted = "a newline at the end";
         match Ending::of(line.behind_mark()) {
-            Ending::Whole => self.add_by_fix(line, end, wanted, "each line is ended by a newline, the last one too"),
+            Ending::Whole => self.add_by_fix(
+                line,
+                end,
+                wanted,
+                "each line is ended by a newline, the last one too",
+            ),
             Ending::Number => {
                 let remedy = "the text may break off within this number: see whether it is whole, and end the line";
                 self.add(line, end, Wanted::Words(wanted), remedy);
             }
             Ending::Part => {
-                let remedy = "the text may break off here: see whether the line is whole, and end it";
+                let remedy =
+                    "the text may break off here: see whether the line is whole, and end it";
                 self.add(line, end, Wanted::Words(wanted), remedy);
             }
         }
@@ -320,6 +374,7 @@ fn greatest_from(digits: &str) -> u64 {
     if value == 0 {
         return 0;
     }
-    let longest = (0..5).map(|count| 10_u64.pow(count)).rfind(|span| value * span <= most).unwrap_or(1);
+    let longest =
+        (0..5).map(|count| 10_u64.pow(count)).rfind(|span| value * span <= most).unwrap_or(1);
     most.min(value * longest + longest - 1)
 }

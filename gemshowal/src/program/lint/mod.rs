@@ -15,27 +15,36 @@ mod text;
 
 use crate::args::Lint;
 use crate::input::Input;
+use crate::object::Number;
 use crate::output::{Notes, Output};
 use crate::{Failure, Status};
+use gemshowal::{OutOfMemory, ReadError, Trace};
 use mistake::Mistake;
 use serde::Serialize;
 use std::collections::BTreeMap;
 use std::fmt::{self, Display, Formatter};
 use std::io::Write;
-use gemshowal::{OutOfMemory, ReadError, Trace};
 
-pub(crate) fn run(args: &Lint, input: &mut Input, out: &mut Output, notes: &mut Notes) -> Result<Status, Failure> {
+pub(crate) fn run(
+    args: &Lint,
+    json: bool,
+    input: &mut Input,
+    out: &mut Output,
+    notes: &mut Notes,
+) -> Result<Status, Failure> {
     let bytes = input.bytes()?;
     if args.fix {
         return fix::run(&bytes, out, notes);
     }
     let judged = Judged::of(&bytes, args.most)?;
-    match (&judged, args.json) {
+    match (&judged, json) {
         (Judged::Good(trace), false) => write_counts(trace, out)?,
-        (Judged::Good(trace), true) => write_count_objects(trace, out)?,
-        (Judged::Impossible(findings) | Judged::Faulty(findings), false) => write!(out, "{findings}")?,
-        (Judged::Impossible(findings), true) => write_objects("unfit", findings, out)?,
-        (Judged::Faulty(findings), true) => write_objects("faulty", findings, out)?,
+        (Judged::Good(trace), true) => write_count_object(trace, out)?,
+        (Judged::Impossible(findings) | Judged::Faulty(findings), false) => {
+            write!(out, "{findings}")?
+        }
+        (Judged::Impossible(findings), true) => write_object("unfit", findings, out)?,
+        (Judged::Faulty(findings), true) => write_object("faulty", findings, out)?,
     }
     Ok(judged.status())
 }
@@ -78,7 +87,9 @@ impl<'a> Judged<'a> {
 
 /// Whether no run reports some event, since its serial doesn't rise.
 fn has_unrising(trace: &Trace) -> bool {
-    trace.processes().any(|(_, events)| events.iter().any(|event| event.serial.prev >= event.serial.this))
+    trace
+        .processes()
+        .any(|(_, events)| events.iter().any(|event| event.serial.prev >= event.serial.this))
 }
 
 /// The mistakes of a text: the first ones, and how many there are.
@@ -140,7 +151,12 @@ fn labels(trace: &Trace) -> BTreeMap<u32, u64> {
 }
 
 fn write_counts(trace: &Trace, out: &mut Output) -> Result<(), Failure> {
-    writeln!(out, "ok\nprocesses {}\nevents {}", trace.streams().pids().len(), trace.streams().total())?;
+    writeln!(
+        out,
+        "ok\nprocesses {}\nevents {}",
+        trace.streams().pids().len(),
+        trace.streams().total()
+    )?;
     match trace.acts() {
         None => writeln!(out, "no acts")?,
         Some(acts) => writeln!(out, "acts {}", acts.len())?,
@@ -151,32 +167,59 @@ fn write_counts(trace: &Trace, out: &mut Output) -> Result<(), Failure> {
     Ok(())
 }
 
-/// An object of what `lint` says.
+/// The object of a text that is a trace's.
 #[derive(Serialize)]
-#[serde(untagged)]
-enum Object<'a> {
-    Result { result: &'a str },
-    Processes { processes: usize },
-    Events { events: u64 },
-    Acts { acts: Option<usize> },
-    Label { label: u32, events: u64 },
-    Mistake { line: u64, column: usize, expected: String, remedy: &'a str },
-    Counts { mistakes: u64, by_fix: u64 },
+struct Counts {
+    processes: usize,
+    events: Number,
+    acts: Option<usize>,
+    labels: Vec<LabelCount>,
 }
 
-fn write_count_objects(trace: &Trace, out: &mut Output) -> Result<(), Failure> {
-    out.object(&Object::Result { result: "ok" })?;
-    out.object(&Object::Processes { processes: trace.streams().pids().len() })?;
-    out.object(&Object::Events { events: trace.streams().total() })?;
-    out.object(&Object::Acts { acts: trace.acts().map(<[_]>::len) })?;
-    labels(trace).into_iter().try_for_each(|(label, events)| out.object(&Object::Label { label, events }))
+#[derive(Serialize)]
+struct LabelCount {
+    label: u32,
+    events: u64,
 }
 
-fn write_objects(result: &str, findings: &Findings<'_>, out: &mut Output) -> Result<(), Failure> {
-    out.object(&Object::Result { result })?;
-    for mistake in &findings.named {
-        let (line, column, expected) = (mistake.line.number, mistake.column + 1, mistake.wanted.to_string());
-        out.object(&Object::Mistake { line, column, expected, remedy: mistake.remedy })?;
-    }
-    out.object(&Object::Counts { mistakes: findings.count, by_fix: findings.by_fix })
+fn write_count_object(trace: &Trace, out: &mut Output) -> Result<(), Failure> {
+    let labels = labels(trace).into_iter();
+    let counts = Counts {
+        processes: trace.streams().pids().len(),
+        events: Number(trace.streams().total()),
+        acts: trace.acts().map(<[_]>::len),
+        labels: labels.map(|(label, events)| LabelCount { label, events }).collect(),
+    };
+    out.report("ok", &counts)
+}
+
+/// The object of a text with mistakes.
+#[derive(Serialize)]
+struct Mistakes<'a> {
+    mistakes: u64,
+    by_fix: u64,
+    named: Vec<Named<'a>>,
+}
+
+#[derive(Serialize)]
+struct Named<'a> {
+    line: u64,
+    column: usize,
+    expected: String,
+    remedy: &'a str,
+}
+
+fn write_object(result: &str, findings: &Findings<'_>, out: &mut Output) -> Result<(), Failure> {
+    let named = |mistake: &Mistake<'_>| Named {
+        line: mistake.line.number,
+        column: mistake.column + 1,
+        expected: mistake.wanted.to_string(),
+        remedy: mistake.remedy,
+    };
+    let mistakes = Mistakes {
+        mistakes: findings.count,
+        by_fix: findings.by_fix,
+        named: findings.named.iter().map(named).collect(),
+    };
+    out.report(result, &mistakes)
 }

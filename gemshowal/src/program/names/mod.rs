@@ -8,6 +8,7 @@
 mod brief;
 mod entry;
 mod facts;
+mod kinds;
 mod shown;
 mod terms;
 mod times;

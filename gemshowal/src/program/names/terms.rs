@@ -57,6 +57,11 @@ impl Terms {
         (is_new && parts.next().is_none()).then_some(())
     }
 
+    /// Whether nothing has a name.
+    pub(super) fn is_empty(&self) -> bool {
+        self.processes.is_empty() && self.labels.is_empty() && self.values.is_empty()
+    }
+
     pub(super) fn process(&self, pid: Pid) -> Option<&Process> {
         self.processes.get(&pid)
     }
