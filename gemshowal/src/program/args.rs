@@ -36,6 +36,12 @@ pub(crate) enum Command {
     /// Says why check refuses acts: the act, what was due, what came
     #[command(after_help = EXPLAIN)]
     Explain(Explain),
+    /// Compares two traces of one program: what is new, gone or elsewhere in the second
+    #[command(after_help = DIFF)]
+    Diff(Diff),
+    /// Writes the trace for another program that draws
+    #[command(after_help = EXPORT)]
+    Export(Export),
     /// Names the mistakes of a text, or mends them
     #[command(after_help = LINT)]
     Lint(Lint),
@@ -164,6 +170,48 @@ pub(crate) struct Cut {
     inputs: Inputs,
     #[command(flatten)]
     pub(crate) conditions: Conditions,
+}
+
+#[derive(clap::Args)]
+pub(crate) struct Diff {
+    /// The trace before a change; - is standard input
+    #[arg(value_name = "A")]
+    first: PathBuf,
+    /// The trace after it; - is standard input
+    #[arg(value_name = "B")]
+    pub(crate) second: PathBuf,
+    #[command(flatten)]
+    json: Json,
+    /// Write no result and no note: the status tells
+    #[arg(short, long)]
+    quiet: bool,
+}
+
+#[derive(clap::Args)]
+pub(crate) struct Export {
+    #[command(flatten)]
+    inputs: Inputs,
+    /// For which program
+    #[arg(long = "as", value_enum)]
+    pub(crate) target: Target,
+    /// Only the events of this label, by its term or its number
+    #[arg(long)]
+    pub(crate) label: Option<String>,
+}
+
+/// For what a trace is written.
+#[derive(Clone, Copy, Debug, PartialEq, Eq, ValueEnum)]
+pub(crate) enum Target {
+    #[value(help = "Perfetto: slices and flows")]
+    Perfetto,
+    #[value(help = "OpenTelemetry, as Jaeger shows it: spans, of a trace with times")]
+    Otlp,
+    #[value(help = "ShiViz: a log with vector clocks")]
+    Shiviz,
+    #[value(help = "Mermaid: a sequence diagram")]
+    Mermaid,
+    #[value(help = "Graphviz: a graph of the events")]
+    Dot,
 }
 
 #[derive(clap::Args)]
@@ -314,6 +362,8 @@ impl Command {
             Command::Check(_) => "check",
             Command::Complete(_) => "complete",
             Command::Cut(_) => "cut",
+            Command::Diff(_) => "diff",
+            Command::Export(_) => "export",
             Command::Explain(_) => "explain",
             Command::Lint(_) => "lint",
             Command::List(_) => "list",
@@ -336,14 +386,14 @@ impl Command {
             Command::Complete(args) => &args.inputs,
             Command::Cut(args) => &args.inputs,
             Command::Explain(args) => &args.inputs,
+            Command::Export(args) => &args.inputs,
             Command::Lint(args) => &args.inputs,
             Command::List(args) => &args.inputs,
             Command::Page(args) => &args.inputs,
             Command::Stats(args) => &args.inputs,
             Command::Times(args) => &args.inputs,
-            Command::Why(_) | Command::Collect(_) | Command::Watch(_) | Command::Convert(_) => {
-                return None;
-            }
+            Command::Diff(_) | Command::Why(_) => return None,
+            Command::Collect(_) | Command::Watch(_) | Command::Convert(_) => return None,
         })
     }
 
@@ -357,6 +407,7 @@ impl Command {
 
     pub(crate) fn files(&self) -> &[PathBuf] {
         match self {
+            Command::Diff(args) => std::slice::from_ref(&args.first),
             Command::Why(args) => std::slice::from_ref(&args.name),
             _ => self.inputs().map_or(&[], |inputs| &inputs.names),
         }
@@ -364,6 +415,7 @@ impl Command {
 
     pub(crate) fn is_quiet(&self) -> bool {
         match self {
+            Command::Diff(args) => args.quiet,
             Command::Why(args) => args.quiet,
             _ => self.inputs().is_some_and(|inputs| inputs.quiet),
         }
@@ -375,24 +427,22 @@ impl Command {
             | Command::Chart(Chart { json, .. })
             | Command::Check(Check { json, .. })
             | Command::Complete(Complete { json, .. })
+            | Command::Diff(Diff { json, .. })
             | Command::Explain(Explain { json, .. })
             | Command::Lint(Lint { json, .. })
             | Command::List(List { json, .. })
             | Command::Stats(Stats { json, .. })
             | Command::Times(Times { json, .. })
             | Command::Why(Why { json, .. }) => json.json,
-            Command::Cut(_)
-            | Command::Page(_)
-            | Command::Collect(_)
-            | Command::Watch(_)
-            | Command::Convert(_) => false,
+            Command::Cut(_) | Command::Export(_) | Command::Page(_) => false,
+            Command::Collect(_) | Command::Watch(_) | Command::Convert(_) => false,
         }
     }
 
     /// Whether it writes a text, so that it takes one input.
     fn writes_text(&self) -> bool {
         match self {
-            Command::Cut(_) | Command::Page(_) => true,
+            Command::Cut(_) | Command::Export(_) | Command::Page(_) => true,
             Command::Complete(complete) => complete.form != Form::Added,
             Command::Lint(lint) => lint.fix,
             Command::Audit(audit) => audit.acts.is_some(),
@@ -411,6 +461,9 @@ impl Command {
             return wrong("what this writes is of one trace: name one alone");
         }
         match &self {
+            Command::Diff(diff) if diff.first == diff.second && diff.first == Path::new("-") => {
+                wrong("both traces are standard input: name the file of one")
+            }
             Command::Complete(complete) if self.is_json() && complete.form != Form::Added => {
                 wrong("--json writes what is added: leave out --as, or --json")
             }
@@ -548,3 +601,23 @@ Example:
 The numbers behind a line are the premises on which the because in front of it
 rests. An event with ~ in its name wasn't reported: gemshowal complete adds it.
 Status 1: there is no such event, or the trace can't be paired.";
+
+const DIFF: &str = "\
+Example:
+  gemshowal diff before.txt after.txt
+
+Status 0: `same`, one renaming of the pids, and one of the counts that keeps
+their order, make the one trace of the other. Status 1: `different`.
+Processes are matched by their names, by their pids if that leaves no more
+changes than another way, and by what they report; a guess is told. If both
+traces have terms, these are compared, and else the numbers of labels and values.";
+
+const EXPORT: &str = "\
+Example:
+  gemshowal export --as perfetto order >order.json
+
+It opens in ui.perfetto.dev. A collector of OpenTelemetry takes what --as otlp
+writes, for Jaeger and the like. Times are those of NAME.times; --as perfetto
+without them draws by the order of the counts. Status 1: the trace can't be
+paired or has a late event (gemshowal audit), no event is drawn, or --as otlp
+and there are no times. Status 5, with --as shiviz: the clocks would be too long.";

@@ -6,7 +6,7 @@ use crate::causes::{with_causes, Causes, Grade, Link};
 use crate::input::Input;
 use crate::object::{kind_word, Number};
 use crate::output::{Notes, Output};
-use crate::stats::write_unpaired;
+use crate::reason::write_unpaired;
 use crate::view::View;
 use crate::{moment, svg, words, Failure, Status};
 use gemshowal::{Event, Item, Kind, Label, Pid};

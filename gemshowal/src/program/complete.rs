@@ -54,8 +54,7 @@ fn write_never(
     notes: &mut Notes,
 ) -> Result<(), Failure> {
     if json {
-        let never = Never { headline: against.headline(shown), refused: against.object(shown) };
-        return out.report("never", &never);
+        return out.report("never", &against.no(shown));
     }
     if form != Form::Added {
         notes.say_no(against.headline(shown));
@@ -63,14 +62,6 @@ fn write_never(
     }
     writeln!(out, "{}", against.headline(shown))?;
     Ok(against.write_details(shown, out)?)
-}
-
-/// A no of `complete`.
-#[derive(Serialize)]
-struct Never<T> {
-    headline: String,
-    #[serde(flatten)]
-    refused: T,
 }
 
 /// Writes the text of a completion, or of acts that show it.

@@ -46,6 +46,18 @@ impl Input {
         Ok(Input { name, path, file: Some(again), reader, counter })
     }
 
+    /// These bytes as standard input gives them.
+    #[cfg(test)]
+    pub(crate) fn of_bytes(bytes: &[u8]) -> Input {
+        Input {
+            name: "standard input".into(),
+            path: "-".into(),
+            file: None,
+            reader: Box::new(Cursor::new(bytes.to_vec())),
+            counter: Counter::default(),
+        }
+    }
+
     /// What messages call it, whole: also with a line break in it.
     pub(crate) fn name(&self) -> &str {
         &self.name

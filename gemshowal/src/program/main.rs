@@ -11,11 +11,17 @@ mod chart;
 mod check;
 mod complete;
 mod cut;
+mod diff;
 mod durations;
 mod erlang;
 mod explain;
+mod export;
+mod failure;
+#[cfg(test)]
+mod fuzz;
 mod input;
 mod keep;
+mod late;
 mod lint;
 mod list;
 mod moment;
@@ -34,111 +40,17 @@ mod why;
 mod words;
 
 use crate::args::{Args, Command};
+use crate::failure::{Failure, Status, PIPE};
 use crate::input::Input;
 use crate::output::{Headings, Notes, Output};
 use clap::Parser;
-use gemshowal::{CertificateError, OutOfMemory};
 use serde::Serialize;
-use std::io::{self, ErrorKind};
+use std::io::ErrorKind;
 use std::path::Path;
 use std::process::ExitCode;
-use thiserror::Error;
-
-/// How a command ended, unless by an error.
-#[derive(Clone, Copy, Debug, PartialEq, Eq)]
-enum Status {
-    Yes = 0,
-    No = 1,
-    /// The text is none of a trace.
-    Faulty = 2,
-    /// Two programs disagree.
-    Differs = 4,
-    /// There is an answer, too long to be read again.
-    Long = 5,
-}
 
 /// The status of a command line that isn't understood.
 const USAGE: u8 = 3;
-
-/// The status of a program whose reader has gone, as a shell has it for one that a signal ended.
-const PIPE: u8 = 141;
-
-/// Why there is no result. `{0}` is the input's name.
-#[derive(Debug, Error)]
-enum Failure {
-    #[error("memory ran out")]
-    Memory(#[from] OutOfMemory),
-    #[error("{0} can't be opened: {2}{1}")]
-    Unopened(String, String, #[source] io::Error),
-    #[error("{0} can't be read: {1}")]
-    Unread(String, #[source] io::Error),
-    #[error("{0} has more than {most} bytes", most = gemshowal::LIMITS.bytes)]
-    TooLarge(String),
-    #[error("{0}{1}; see gemshowal lint")]
-    Faulty(String, String),
-    #[error("{0} has no acts: look for some with gemshowal audit --acts")]
-    NoActs(String),
-    #[error(transparent)]
-    Beside(#[from] names::Fault),
-    #[error(transparent)]
-    NotFound(#[from] names::NotFound),
-    #[error("the chart has {0} rows, and a drawing takes {1}: make a page, or cut the trace")]
-    TooManyRows(usize, usize),
-    #[error("{0} has no times: events need the flag timestamp, and NAME.times beside the trace")]
-    NoTimes(String),
-    #[error("the cut leaves none of {0}: no event has all that the options ask for")]
-    NothingLeft(String),
-    #[error("{0} has a completion, with more acts or processes than are read")]
-    TooLong(String),
-    #[error("the acts that were built don't show the streams of {0}")]
-    Uncertified(String),
-    #[error("{0} can't be written: {1}")]
-    Unkept(String, #[source] io::Error),
-    #[error("{0}")]
-    Program(String),
-    #[error("standard output can't be written: {0}")]
-    Unwritten(#[from] io::Error),
-}
-
-impl Failure {
-    fn status(&self) -> u8 {
-        match self {
-            Failure::TooLarge(_)
-            | Failure::Faulty(..)
-            | Failure::NoActs(_)
-            | Failure::Beside(names::Fault::Wrong { .. }) => Status::Faulty as u8,
-            Failure::NotFound(names::NotFound::Memory(_)) => 4,
-            Failure::NotFound(_) | Failure::NoTimes(_) | Failure::NothingLeft(_) => {
-                Status::No as u8
-            }
-            Failure::TooLong(_) | Failure::TooManyRows(..) => Status::Long as u8,
-            Failure::Unread(_, reason) if reason.kind() == ErrorKind::InvalidData => {
-                Status::Faulty as u8
-            }
-            Failure::Unwritten(reason) if reason.kind() == ErrorKind::BrokenPipe => PIPE,
-            _ => 4,
-        }
-    }
-}
-
-impl Failure {
-    /// Why the acts of a completion of this trace weren't written.
-    fn of_acts(error: CertificateError, name: &str) -> Failure {
-        match error {
-            CertificateError::Io(reason) => reason.into(),
-            CertificateError::Memory(error) => error.into(),
-            CertificateError::TooLong => Failure::TooLong(name.into()),
-            CertificateError::Uncertified => Failure::Uncertified(name.into()),
-        }
-    }
-}
-
-impl From<serde_json::Error> for Failure {
-    /// Objects of ours always have a text, so the writer failed.
-    fn from(error: serde_json::Error) -> Failure {
-        Failure::Unwritten(error.into())
-    }
-}
 
 /// An object in place of a result.
 #[derive(Serialize)]
@@ -157,7 +69,6 @@ fn run_on(
     let json = command.is_json();
     let status = match command {
         Command::Audit(args) => audit::run(args, json, input, out, notes),
-        Command::Chart(args) => chart::run(args, json, input, out, notes),
         Command::Check(_) => check::run(json, input, out),
         Command::Complete(args) => complete::run(args, json, input, out, notes),
         Command::Cut(args) => cut::run(args, input, out, notes),
@@ -166,9 +77,12 @@ fn run_on(
         Command::List(args) => list::run(args, json, input, out, notes),
         Command::Page(args) => page::run(args, input, out, notes),
         Command::Stats(_) => stats::run(json, input, out, notes),
+        Command::Collect(_) | Command::Watch(_) | Command::Convert(_) => Ok(Status::Yes),
+        Command::Chart(args) => chart::run(args, json, input, out, notes),
+        Command::Diff(args) => diff::run(args, json, input, out, notes),
+        Command::Export(args) => export::run(args, input, out, notes),
         Command::Times(args) => times::run(args, json, input, out, notes),
         Command::Why(args) => why::run(args, json, input, out, notes),
-        Command::Collect(_) | Command::Watch(_) | Command::Convert(_) => Ok(Status::Yes),
     }?;
     out.finish()?;
     Ok(status)

@@ -6,8 +6,9 @@
 
 use crate::object::{Fields, Place as PlaceObject};
 use crate::output::Output;
-use crate::view::{Place, Shown};
-use gemshowal::{Event, Kind, Never, Pid, Reason, Streams};
+use crate::view::{Place, Shown, View};
+use crate::Failure;
+use gemshowal::{Event, Finding, Kind, Never, Pid, Reason, Streams};
 use serde::Serialize;
 use std::collections::{HashMap, HashSet};
 use std::io::{self, Write};
@@ -105,6 +106,11 @@ impl Against {
         causes.into_iter().map(Cause::words).collect::<Vec<_>>().join("; ")
     }
 
+    /// The fields of a no, with its headline.
+    pub(crate) fn no(&self, shown: &Shown<'_>) -> No {
+        No { headline: self.headline(shown), refused: self.object(shown) }
+    }
+
     /// The fields of a no for JSON.
     pub(crate) fn object(&self, shown: &Shown<'_>) -> Refused {
         let event = |(place, event): (Place, Event)| Found {
@@ -124,6 +130,14 @@ impl Against {
     }
 }
 
+/// A no with its headline, as an object has it.
+#[derive(Clone, Debug, Serialize)]
+pub(crate) struct No {
+    headline: String,
+    #[serde(flatten)]
+    refused: Refused,
+}
+
 /// A no about events.
 #[derive(Clone, Debug, Serialize)]
 pub(crate) struct Refused {
@@ -141,6 +155,23 @@ struct Found {
     #[serde(flatten)]
     fields: Fields,
     what: String,
+}
+
+/// Writes why a trace can't be paired.
+pub(crate) fn write_unpaired(
+    json: bool,
+    view: &View<'_>,
+    finding: &Finding,
+    out: &mut Output,
+) -> Result<(), Failure> {
+    let shown = Shown::reported(view);
+    let Finding::Unfit(pid, index, reason) = finding else { return Ok(()) };
+    let Some(against) = Against::by_audit(*pid, *index, reason) else { return Ok(()) };
+    if json {
+        return out.report("never", &against.no(&shown));
+    }
+    writeln!(out, "{}", against.headline(&shown))?;
+    Ok(against.write_details(&shown, out)?)
 }
 
 impl Why {

@@ -5,10 +5,10 @@ use crate::input::Input;
 use crate::names::Names;
 use crate::object::Number;
 use crate::output::{Notes, Output};
-use crate::reason::Against;
-use crate::view::{Shown, View};
+use crate::reason::write_unpaired;
+use crate::view::View;
 use crate::{Failure, Status};
-use gemshowal::{Event, Finding, Hop, Kind, Label, Origins, Pairing, Partner, Pid, Text, Trace};
+use gemshowal::{Event, Hop, Hops, Kind, Label, Paired, Pairing, Partner, Pid, Text, Trace};
 use serde::Serialize;
 use std::collections::{BTreeMap, HashMap};
 use std::io::{self, Write};
@@ -21,8 +21,8 @@ pub(crate) fn run(
 ) -> Result<Status, Failure> {
     let trace = input.trace()?;
     let names = input.names(&trace, notes)?;
-    let pairing = match trace.pair()? {
-        Ok(pairing) => pairing,
+    let paired = match Paired::of(trace.streams())? {
+        Ok(paired) => paired,
         Err(finding) => {
             write_unpaired(json, &View::whole(&trace, &names), &finding, out)?;
             return Ok(Status::No);
@@ -33,8 +33,8 @@ pub(crate) fn run(
             .processes()
             .map(|(pid, events)| Process::of(pid, events, &names))
             .collect(),
-        pairs: pairs(&trace, &pairing, &names),
-        labels: Depths::of(&trace, &pairing)?.labels(&names),
+        pairs: pairs(&trace, paired.pairing(), &names),
+        labels: Depths::of(&trace, paired.hops()?).labels(&names),
     };
     if json {
         out.report("counted", &stats)?;
@@ -42,23 +42,6 @@ pub(crate) fn run(
         stats.write(out)?;
     }
     Ok(Status::Yes)
-}
-
-/// Writes why the trace can't be paired.
-pub(crate) fn write_unpaired(
-    json: bool,
-    view: &View<'_>,
-    finding: &Finding,
-    out: &mut Output,
-) -> Result<(), Failure> {
-    let shown = Shown::reported(view);
-    let Finding::Unfit(pid, index, reason) = finding else { return Ok(()) };
-    let Some(against) = Against::by_audit(*pid, *index, reason) else { return Ok(()) };
-    if json {
-        return out.report("never", &against.object(&shown));
-    }
-    writeln!(out, "{}", against.headline(&shown))?;
-    Ok(against.write_details(&shown, out)?)
 }
 
 /// The counts of a trace.
@@ -185,7 +168,7 @@ fn pairs(trace: &Trace, pairing: &Pairing, names: &Names) -> Vec<Pair> {
 /// How deep each message is on its way: one more than the message whose receive its send follows.
 struct Depths<'a> {
     trace: &'a Trace,
-    origins: Origins<'a>,
+    hops: Hops<'a>,
     /// The depth of each send, by process and index.
     sent: HashMap<Pid, Vec<u64>>,
     /// How many messages of a label are at a depth.
@@ -194,16 +177,15 @@ struct Depths<'a> {
 
 impl<'a> Depths<'a> {
     /// The sends are taken by rising counts: what a send follows has a lower count.
-    fn of(trace: &'a Trace, pairing: &'a Pairing) -> Result<Depths<'a>, Failure> {
-        let origins = gemshowal::origins(trace.streams(), pairing)?;
+    fn of(trace: &'a Trace, hops: Hops<'a>) -> Depths<'a> {
         let sent = trace.processes().map(|(pid, events)| (pid, vec![0; events.len()])).collect();
-        let mut depths = Depths { trace, origins, sent, widths: HashMap::new() };
+        let mut depths = Depths { trace, hops, sent, widths: HashMap::new() };
         let mut sends = Vec::new();
         for (pid, events) in trace.processes() {
             for (event, index) in events.iter().zip(0_u64..) {
                 match event.kind {
                     Kind::Send => sends.push((event.serial.this, pid, index)),
-                    Kind::Receive if depths.origins.hop(pid, index, event) == Hop::Unsent => {
+                    Kind::Receive if depths.hops.hop(pid, index) == Some(Hop::Unsent) => {
                         *depths.widths.entry((event.label.0, 1)).or_default() += 1;
                     }
                     Kind::Receive | Kind::Print => {}
@@ -214,13 +196,15 @@ impl<'a> Depths<'a> {
         for (_, pid, index) in sends {
             depths.send(pid, index);
         }
-        Ok(depths)
+        depths
     }
 
     fn send(&mut self, pid: Pid, index: u64) {
         let Some(event) = self.trace.streams().event(pid, index) else { return };
-        let depth = match self.origins.hop(pid, index, &event) {
-            Hop::After(receive) | Hop::AfterOneLabel(receive) => 1 + self.received(pid, receive),
+        let depth = match self.hops.hop(pid, index) {
+            Some(Hop::After(receive) | Hop::AfterOneLabel(receive)) => {
+                1 + self.received(pid, receive)
+            }
             _ => 1,
         };
         if let Some(own) = self.sent.get_mut(&pid).and_then(|own| own.get_mut(index as usize)) {
@@ -231,8 +215,7 @@ impl<'a> Depths<'a> {
 
     /// The depth of the message of a receive; one that nobody reported to be sent begins a way.
     fn received(&self, pid: Pid, index: u64) -> u64 {
-        let event = self.trace.streams().event(pid, index);
-        match event.map(|event| self.origins.hop(pid, index, &event)) {
+        match self.hops.hop(pid, index) {
             Some(Hop::Sent(from, send)) => {
                 let own = self.sent.get(&from).and_then(|own| own.get(send as usize));
                 own.copied().unwrap_or(1)

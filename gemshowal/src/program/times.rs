@@ -149,7 +149,7 @@ impl Tables {
 }
 
 /// Over which time the events stretch, and how long messages took, in a line.
-fn summary(trace: &Trace, times: &Times) -> String {
+pub(crate) fn summary(trace: &Trace, times: &Times) -> String {
     let took = durations::all(trace, times);
     let messages = match took.last() {
         None => String::new(),

@@ -3,7 +3,7 @@
 
 use super::counter::Counter;
 use crate::view::{Place, Shown};
-use gemshowal::{Event, Hop, Kind, Origins, OutOfMemory, Pairing, Partner, Pid};
+use gemshowal::{Event, Hop, Hops, Kind, OutOfMemory, Paired, Partner, Pid};
 use std::collections::{BTreeSet, HashMap, HashSet};
 
 /// An event that nobody reported.
@@ -60,8 +60,8 @@ fn place_of((_, _, pid, index): Turn) -> Place {
 /// What is known of all processes, before one after the other is looked at.
 struct Finder<'a> {
     shown: &'a Shown<'a>,
-    pairing: &'a Pairing,
-    origins: Origins<'a>,
+    paired: &'a Paired<'a>,
+    hops: Hops<'a>,
     /// The reported sends without a receive, by receiver and count, with their labels.
     unreceived: HashMap<(Pid, u64), Vec<(u32, Turn)>>,
     /// The counts of sends that only their receives tell of, or that nobody knows, by sender.
@@ -74,13 +74,13 @@ struct Finder<'a> {
 }
 
 impl Missing {
-    /// What the events that are shown leave out, by the pairing of their streams.
-    pub(super) fn find(shown: &Shown<'_>, pairing: &Pairing) -> Result<Missing, OutOfMemory> {
-        let origins = gemshowal::origins(shown.streams, pairing)?;
+    /// What the events that are shown leave out, whose streams are paired.
+    pub(super) fn find(shown: &Shown<'_>, paired: &Paired<'_>) -> Result<Missing, OutOfMemory> {
+        let hops = paired.hops()?;
         let mut finder = Finder {
             shown,
-            pairing,
-            origins,
+            paired,
+            hops,
             unreceived: HashMap::new(),
             hidden: HashMap::new(),
             added: Vec::new(),
@@ -115,7 +115,7 @@ impl Finder<'_> {
             let this = event.serial.this;
             height = height.max(this);
             let place = (pid, index);
-            let partner = gemshowal::partner_at(self.pairing, pid, index, event.kind);
+            let partner = gemshowal::partner_at(self.paired.pairing(), pid, index, event.kind);
             if !self.shown.is_reported(place) {
                 let turn = (height, event.kind == Kind::Receive, pid, index);
                 let known = self.known(event, partner);
@@ -168,7 +168,7 @@ impl Finder<'_> {
     }
 
     fn is_invented_send(&self, event: &Event, place: Place) -> bool {
-        let partner = || gemshowal::partner_at(self.pairing, place.0, place.1, event.kind);
+        let partner = || gemshowal::partner_at(self.paired.pairing(), place.0, place.1, event.kind);
         event.kind == Kind::Send
             && !self.shown.is_reported(place)
             && self.known(event, partner()) == Known::Invented
@@ -183,7 +183,7 @@ impl Finder<'_> {
         turn: Turn,
         newest: Option<u64>,
     ) -> Option<Place> {
-        if self.origins.hop(place.0, place.1, event) != Hop::BeginsOrUnreported {
+        if self.hops.hop(place.0, place.1) != Some(Hop::BeginsOrUnreported) {
             return None;
         }
         let prev = event.serial.prev;

@@ -3,7 +3,7 @@
 use super::missing::Missing;
 use crate::reason::Against;
 use crate::view::{Place, Shown, View};
-use gemshowal::{Answer, AuditError, Completion, Event, Fits, OutOfMemory, Trace};
+use gemshowal::{Answer, AuditError, Completion, Event, Fits, OutOfMemory, Paired, Trace};
 use std::collections::HashMap;
 
 /// What is found of a trace.
@@ -79,8 +79,8 @@ impl Outcome {
         if !self.is_fit() {
             return Ok(Missing::default());
         }
-        match gemshowal::pair(shown.streams)? {
-            Ok(pairing) => Missing::find(shown, &pairing),
+        match Paired::of(shown.streams)? {
+            Ok(paired) => Missing::find(shown, &paired),
             Err(_) => Ok(Missing::default()),
         }
     }

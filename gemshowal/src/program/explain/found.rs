@@ -4,6 +4,7 @@ use super::queue::Queue;
 use super::reasons::{reasons, Reason};
 use super::rerun::Run;
 use super::{line_of, queue::nearest};
+use crate::object::Number;
 use gemshowal::{Act, Came, Event, Kind, OutOfMemory, Pid, State, Text, Token, Trace};
 use serde::Serialize;
 
@@ -152,8 +153,8 @@ impl Found {
             due_index: self.due.as_ref().map(|due| due.index),
             due_line: self.due.as_ref().and_then(|due| due.line),
             token: self.state.and_then(|state| state.token).map(|token| token_words(&token)),
-            clock: self.state.map(|state| state.clock.to_string()),
-            last: self.state.map(|state| state.last.to_string()),
+            clock: self.state.map(|state| Number(state.clock)),
+            last: self.state.map(|state| Number(state.last)),
             messages: self.queued(),
             next: self
                 .next
@@ -192,8 +193,8 @@ pub(super) struct Object {
     due_index: Option<u64>,
     due_line: Option<u64>,
     token: Option<String>,
-    clock: Option<String>,
-    last: Option<String>,
+    clock: Option<Number>,
+    last: Option<Number>,
     messages: u64,
     next: Option<String>,
     reasons: Vec<String>,
