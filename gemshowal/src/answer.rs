@@ -1,7 +1,9 @@
 //! The questions that a program asks of a trace, each with a result of its own type.
 
+use crate::device::Sink;
 use crate::{Act, Completion, Event, Finding, OutOfMemory, Pid, Reason, Text, Trace};
 use std::collections::{BTreeMap, BTreeSet};
+use std::fmt::{self, Display, Formatter};
 use std::io::{self, Write};
 use thiserror::Error;
 
@@ -67,6 +69,14 @@ impl Unfit {
     }
 }
 
+impl Display for Unfit {
+    fn fmt(&self, f: &mut Formatter<'_>) -> fmt::Result {
+        let found =
+            if self.is_final() { "no run without a reset reports" } else { "no run was found of" };
+        write!(f, "{found} event {} of {}: {:?}", self.index, Text(self.pid), self.reason)
+    }
+}
+
 /// Why [`audit`] has no acts.
 #[derive(Debug, Error)]
 pub enum AuditError {
@@ -95,7 +105,7 @@ impl Trace {
     /// The trace with each count replaced by its rank among all counts, and whether that changed
     /// any. If a run has these counts, one has the trace's own.
     pub fn renumbered(&self) -> Result<(Trace, bool), OutOfMemory> {
-        let ranked = Trace::of_streams(st_complete::renumbered(crate::Global, self.streams())?);
+        let ranked = Trace::of_streams(lack_decide::renumbered(crate::Global, self.streams())?);
         let is_other = self.processes().any(|(pid, events)| events != ranked.streams().events(pid));
         Ok((ranked, is_other))
     }
@@ -149,12 +159,5 @@ pub fn added(completion: &Completion) -> impl Iterator<Item = (Pid, u64, &Event)
 
 /// Writes what a completion adds, as `seqtool complete` does.
 pub fn write_added(out: &mut impl Write, completion: &Completion) -> io::Result<()> {
-    writeln!(out, "added {}", completion.added())?;
-    for &pid in completion.unlisted() {
-        writeln!(out, "unlisted {}", Text(pid))?;
-    }
-    for (pid, index, event) in added(completion) {
-        writeln!(out, "added {} {index} {}", Text(pid), Text(event))?;
-    }
-    Ok(())
+    Sink::write(out, |sink| seqtool_commands::send_added(sink, completion))
 }

@@ -1,7 +1,7 @@
 //! What events follow, and the order of all events, as the proved libraries find them.
 
 use crate::{pair, Finding, OutOfMemory, Pairing, Pid, Streams};
-use st_hops::{Hop, Node, Origins, Reach};
+use node_why::{Hop, Node, Origins, Reach};
 use st_library::alloc::Global;
 use st_library::rt::HostRuntime;
 use st_order::Item;
@@ -47,12 +47,12 @@ impl Hops<'_> {
 
     /// The event at this place, what it follows, what that follows, and so on.
     pub fn way(&self, reach: Reach, place: (Pid, u64)) -> Result<impl AsRef<[Node]>, OutOfMemory> {
-        Ok(crate::List(st_hops::way(Global, &self.0, reach, place)?))
+        Ok(crate::List(node_why::way(Global, &self.0, reach, place)?))
     }
 
     /// The event at this place, and behind each event those that follow it.
     pub fn tree(&self, reach: Reach, place: (Pid, u64)) -> Result<impl AsRef<[Node]>, OutOfMemory> {
-        Ok(crate::List(st_hops::tree(Global, &self.0, reach, place)?))
+        Ok(crate::List(node_why::tree(Global, &self.0, reach, place)?))
     }
 }
 

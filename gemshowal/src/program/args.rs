@@ -21,12 +21,12 @@ pub(crate) enum Command {
     /// Says whether the events fit together, and what is missing
     #[command(after_help = AUDIT)]
     Audit(Audit),
-    /// Says whether the acts in a text are a run that reports exactly its events
-    #[command(after_help = CHECK)]
-    Check(Check),
     /// Prints the messages of a trace with what each event follows, or draws them
     #[command(after_help = CHART)]
     Chart(Chart),
+    /// Says whether the acts in a text are a run that reports exactly its events
+    #[command(after_help = CHECK)]
+    Check(Check),
     /// Adds unreported events until each event has what it follows, or says why not
     #[command(after_help = COMPLETE)]
     Complete(Complete),
@@ -48,9 +48,15 @@ pub(crate) enum Command {
     /// Lists events: line, name, label, serial, message, partner
     #[command(after_help = LIST)]
     List(List),
+    /// Writes a page for a browser, with all labels: by cause, by time, searched, one chain alone
+    #[command(after_help = PAGE)]
+    Page(Page),
     /// Counts events and messages by process, pair and label
     #[command(after_help = STATS)]
     Stats(Stats),
+    /// Says how long messages and labels took
+    #[command(after_help = TIMES)]
+    Times(Times),
     /// Says what an event follows, and so on back, or what follows it
     #[command(after_help = WHY)]
     Why(Why),
@@ -174,9 +180,8 @@ pub(crate) struct Diff {
     /// The trace after it; - is standard input
     #[arg(value_name = "B")]
     pub(crate) second: PathBuf,
-    /// A JSON object, for programs (docs/FORMATS.md)
-    #[arg(long)]
-    pub(crate) json: bool,
+    #[command(flatten)]
+    json: Json,
     /// Write no result and no note: the status tells
     #[arg(short, long)]
     quiet: bool,
@@ -184,9 +189,8 @@ pub(crate) struct Diff {
 
 #[derive(clap::Args)]
 pub(crate) struct Export {
-    /// The trace's name or file; standard input if it is left out or -
-    #[arg(value_name = "NAME", default_value = "-", hide_default_value = true)]
-    file: PathBuf,
+    #[command(flatten)]
+    inputs: Inputs,
     /// For which program
     #[arg(long = "as", value_enum)]
     pub(crate) target: Target,
@@ -251,52 +255,6 @@ pub(crate) struct Conditions {
     counts: Option<Span>,
 }
 
-#[derive(clap::Args)]
-pub(crate) struct Chart {
-    /// The trace: NAME (of NAME.seqtrace), a file, or - for standard input
-    #[arg(value_name = "NAME", default_value = "-", hide_default_value = true)]
-    file: PathBuf,
-    /// The label, as it is shown or by its number; else all labels
-    #[arg(long)]
-    pub(crate) label: Option<String>,
-    /// Draw it as well, into this file
-    #[arg(long, value_name = "FILE")]
-    pub(crate) svg: Option<PathBuf>,
-    /// A JSON object, for programs
-    #[arg(long)]
-    pub(crate) json: bool,
-}
-
-/// Which event is asked about, and how far.
-#[derive(clap::Args)]
-pub(crate) struct Why {
-    /// The trace: NAME (of NAME.seqtrace), a file, or - for standard input
-    #[arg(value_name = "NAME")]
-    file: PathBuf,
-    /// The event: shop#2, '<0.81.0> 2', or the number of its line
-    #[arg(required = true, num_args = 1..=2)]
-    pub(crate) event: Vec<String>,
-    /// Say what follows the event, as a tree
-    #[arg(long)]
-    pub(crate) effects: bool,
-    /// Go on over a change of label
-    #[arg(long)]
-    pub(crate) across: bool,
-    /// At most so many events back, or levels of the tree
-    #[arg(long, value_name = "N")]
-    depth: Option<u64>,
-    /// A JSON object, for programs
-    #[arg(long)]
-    pub(crate) json: bool,
-}
-
-impl Why {
-    /// The most events back, or levels of the tree.
-    pub(crate) fn most(&self) -> u64 {
-        self.depth.unwrap_or(u64::MAX)
-    }
-}
-
 impl Conditions {
     /// The conditions on the events of a trace with these names.
     pub(crate) fn filter(&self, trace: &Trace, names: &Names) -> Result<Filter, NotFound> {
@@ -319,6 +277,75 @@ pub(crate) struct Stats {
     json: Json,
 }
 
+#[derive(clap::Args)]
+pub(crate) struct Chart {
+    #[command(flatten)]
+    inputs: Inputs,
+    #[command(flatten)]
+    json: Json,
+    /// The label, as it is shown or by its number; else all labels
+    #[arg(long)]
+    pub(crate) label: Option<String>,
+    /// Draw it as well, into this file
+    #[arg(long, value_name = "FILE")]
+    pub(crate) svg: Option<PathBuf>,
+}
+
+#[derive(clap::Args)]
+pub(crate) struct Page {
+    #[command(flatten)]
+    inputs: Inputs,
+    /// Write it to this file, for its owner alone; else to standard output
+    #[arg(short, long, value_name = "FILE")]
+    pub(crate) out: Option<PathBuf>,
+    /// Show this label alone at first
+    #[arg(long)]
+    pub(crate) label: Option<String>,
+}
+
+#[derive(clap::Args)]
+pub(crate) struct Times {
+    #[command(flatten)]
+    inputs: Inputs,
+    #[command(flatten)]
+    json: Json,
+    /// Say too what the last event of this label waited for
+    #[arg(long)]
+    pub(crate) label: Option<String>,
+}
+
+/// Which event is asked about, and how far.
+#[derive(clap::Args)]
+pub(crate) struct Why {
+    /// The trace: NAME (of NAME.seqtrace), a file, or - for standard input
+    #[arg(value_name = "NAME")]
+    name: PathBuf,
+    /// The event: shop#2, '<0.81.0> 2', or the number of its line
+    #[arg(required = true, num_args = 1..=2)]
+    pub(crate) event: Vec<String>,
+    #[command(flatten)]
+    json: Json,
+    /// Say what follows the event, as a tree
+    #[arg(long)]
+    pub(crate) effects: bool,
+    /// Go on over a change of label
+    #[arg(long)]
+    pub(crate) across: bool,
+    /// At most so many events back, or levels of the tree
+    #[arg(long, value_name = "N")]
+    depth: Option<u64>,
+    /// Write no result and no note: the status tells
+    #[arg(short, long)]
+    quiet: bool,
+}
+
+impl Why {
+    /// The most events back, or levels of the tree.
+    pub(crate) fn most(&self) -> u64 {
+        self.depth.unwrap_or(u64::MAX)
+    }
+}
+
 /// The words for a command of the Erlang application.
 #[derive(clap::Args)]
 pub(crate) struct Handed {
@@ -331,37 +358,41 @@ impl Command {
     pub(crate) fn word(&self) -> &'static str {
         match self {
             Command::Audit(_) => "audit",
+            Command::Chart(_) => "chart",
             Command::Check(_) => "check",
             Command::Complete(_) => "complete",
             Command::Cut(_) => "cut",
+            Command::Diff(_) => "diff",
+            Command::Export(_) => "export",
             Command::Explain(_) => "explain",
             Command::Lint(_) => "lint",
             Command::List(_) => "list",
+            Command::Page(_) => "page",
             Command::Stats(_) => "stats",
+            Command::Times(_) => "times",
+            Command::Why(_) => "why",
             Command::Collect(_) => "collect",
             Command::Watch(_) => "watch",
             Command::Convert(_) => "convert",
-            Command::Why(_) => "why",
-            Command::Chart(_) => "chart",
-            Command::Diff(_) => "diff",
-            Command::Export(_) => "export",
         }
     }
 
-    /// Its inputs; none of a command that takes one trace, or is handed over.
+    /// Its inputs, if it takes several; none of a command that is handed over.
     fn inputs(&self) -> Option<&Inputs> {
         Some(match self {
             Command::Audit(args) => &args.inputs,
+            Command::Chart(args) => &args.inputs,
             Command::Check(args) => &args.inputs,
             Command::Complete(args) => &args.inputs,
             Command::Cut(args) => &args.inputs,
             Command::Explain(args) => &args.inputs,
+            Command::Export(args) => &args.inputs,
             Command::Lint(args) => &args.inputs,
             Command::List(args) => &args.inputs,
+            Command::Page(args) => &args.inputs,
             Command::Stats(args) => &args.inputs,
-            Command::Chart(_) | Command::Diff(_) | Command::Export(_) | Command::Why(_) => {
-                return None
-            }
+            Command::Times(args) => &args.inputs,
+            Command::Diff(_) | Command::Why(_) => return None,
             Command::Collect(_) | Command::Watch(_) | Command::Convert(_) => return None,
         })
     }
@@ -376,17 +407,16 @@ impl Command {
 
     pub(crate) fn files(&self) -> &[PathBuf] {
         match self {
-            Command::Chart(Chart { file, .. })
-            | Command::Diff(Diff { first: file, .. })
-            | Command::Export(Export { file, .. })
-            | Command::Why(Why { file, .. }) => std::slice::from_ref(file),
+            Command::Diff(args) => std::slice::from_ref(&args.first),
+            Command::Why(args) => std::slice::from_ref(&args.name),
             _ => self.inputs().map_or(&[], |inputs| &inputs.names),
         }
     }
 
     pub(crate) fn is_quiet(&self) -> bool {
         match self {
-            Command::Diff(Diff { quiet, .. }) => *quiet,
+            Command::Diff(args) => args.quiet,
+            Command::Why(args) => args.quiet,
             _ => self.inputs().is_some_and(|inputs| inputs.quiet),
         }
     }
@@ -394,29 +424,29 @@ impl Command {
     pub(crate) fn is_json(&self) -> bool {
         match self {
             Command::Audit(Audit { json, .. })
+            | Command::Chart(Chart { json, .. })
             | Command::Check(Check { json, .. })
             | Command::Complete(Complete { json, .. })
+            | Command::Diff(Diff { json, .. })
             | Command::Explain(Explain { json, .. })
             | Command::Lint(Lint { json, .. })
             | Command::List(List { json, .. })
-            | Command::Stats(Stats { json, .. }) => json.json,
-            Command::Chart(Chart { json, .. })
-            | Command::Diff(Diff { json, .. })
-            | Command::Why(Why { json, .. }) => *json,
-            Command::Export(_) => false,
-            Command::Cut(_) | Command::Collect(_) | Command::Watch(_) | Command::Convert(_) => {
-                false
-            }
+            | Command::Stats(Stats { json, .. })
+            | Command::Times(Times { json, .. })
+            | Command::Why(Why { json, .. }) => json.json,
+            Command::Cut(_) | Command::Export(_) | Command::Page(_) => false,
+            Command::Collect(_) | Command::Watch(_) | Command::Convert(_) => false,
         }
     }
 
     /// Whether it writes a text, so that it takes one input.
     fn writes_text(&self) -> bool {
         match self {
-            Command::Cut(_) => true,
+            Command::Cut(_) | Command::Export(_) | Command::Page(_) => true,
             Command::Complete(complete) => complete.form != Form::Added,
             Command::Lint(lint) => lint.fix,
             Command::Audit(audit) => audit.acts.is_some(),
+            Command::Chart(chart) => chart.svg.is_some(),
             _ => false,
         }
     }
@@ -498,26 +528,6 @@ It makes the run again up to the first act that reports something else than the
 trace has, and shows the act, the event that was due, what came, and the state of
 the process before it, with the messages that wait.";
 
-const DIFF: &str = "\
-Example:
-  gemshowal diff before.txt after.txt
-
-Status 0: `same`, one renaming of the pids, and one of the counts that keeps
-their order, make the one trace of the other. Status 1: `different`.
-Processes are matched by their names, by their pids if that leaves no more
-changes than another way, and by what they report; a guess is told. If both
-traces have terms, these are compared, and else the numbers of labels and values.";
-
-const EXPORT: &str = "\
-Example:
-  gemshowal export --as perfetto order >order.json
-
-It opens in ui.perfetto.dev. A collector of OpenTelemetry takes what --as otlp
-writes, for Jaeger and the like. Times are those of NAME.times; --as perfetto
-without them draws by the order of the counts. Status 1: the trace can't be
-paired or has a late event (gemshowal audit), no event is drawn, or --as otlp
-and there are no times. Status 5, with --as shiviz: the clocks would be too long.";
-
 const LINT: &str = "\
 Example:
   gemshowal lint trace.txt
@@ -545,6 +555,36 @@ receive of the one before (as gemshowal why tells it); width is the most message
 one depth.
 Status 1: the trace can't be paired (gemshowal audit).";
 
+const CHART: &str = "\
+Example:
+  gemshowal chart examples/order --svg order.svg
+  label {order,7}
+  lane 1 client
+  ..
+     S   |   |   .  client#0  send    {0,1} call {order,apple,3}  begins here
+     .   |   |   R  shop#0    receive {0,1} call {order,apple,3}  after client#0
+S is a send, R a receive, P a print, and a dot the other end. Small letters are
+events that nobody reported, and that gemshowal complete adds; their names have
+a ~, and in the drawing they are dashed. No row is above what it follows.
+Status 1: the trace can't be paired, or has no such label.";
+
+const PAGE: &str = "\
+Example:
+  gemshowal page examples/order -o order.html
+
+The page is one file and needs no network. Whole messages are in it, so whoever
+gets the file gets them. page.html#shop%232 opens it at the event shop#2.
+Status 1: the trace can't be paired (gemshowal audit).";
+
+const TIMES: &str = "\
+Example:
+  gemshowal times order --label '{order,7}'
+
+A message takes from its send until its receiver took it, so its time in the
+mailbox is in that. Between two nodes it may seem to take less than no time, as
+far as their clocks differ.
+Status 1: the events have no times, or there is no such label.";
+
 const WHY: &str = "\
 Example:
   gemshowal why examples/order stock#0
@@ -562,15 +602,22 @@ The numbers behind a line are the premises on which the because in front of it
 rests. An event with ~ in its name wasn't reported: gemshowal complete adds it.
 Status 1: there is no such event, or the trace can't be paired.";
 
-const CHART: &str = "\
+const DIFF: &str = "\
 Example:
-  gemshowal chart examples/order --svg order.svg
-  label {order,7}
-  lane 1 client
-  ..
-     S   |   |   .  client#0  send    {0,1} call {order,apple,3}  begins here
-     .   |   |   R  shop#0    receive {0,1} call {order,apple,3}  after client#0
-S is a send, R a receive, P a print, and a dot the other end. Small letters are
-events that nobody reported, and that gemshowal complete adds; their names have
-a ~, and in the drawing they are dashed. No row is above what it follows.
-Status 1: the trace can't be paired, or has no such label.";
+  gemshowal diff before.txt after.txt
+
+Status 0: `same`, one renaming of the pids, and one of the counts that keeps
+their order, make the one trace of the other. Status 1: `different`.
+Processes are matched by their names, by their pids if that leaves no more
+changes than another way, and by what they report; a guess is told. If both
+traces have terms, these are compared, and else the numbers of labels and values.";
+
+const EXPORT: &str = "\
+Example:
+  gemshowal export --as perfetto order >order.json
+
+It opens in ui.perfetto.dev. A collector of OpenTelemetry takes what --as otlp
+writes, for Jaeger and the like. Times are those of NAME.times; --as perfetto
+without them draws by the order of the counts. Status 1: the trace can't be
+paired or has a late event (gemshowal audit), no event is drawn, or --as otlp
+and there are no times. Status 5, with --as shiviz: the clocks would be too long.";

@@ -5,6 +5,7 @@
 //! on, which say what is so in one run of several: so that is said with `perhaps`.
 
 use crate::names::Names;
+use crate::view::Place;
 use crate::Failure;
 use gemshowal::{
     Answer, Completion, Event, Finding, Hop, Hops, Item, Kind, Label, Never, OutOfMemory, Paired,
@@ -13,9 +14,6 @@ use gemshowal::{
 use gemshowal::{Pid, Premises, Streams, Trace};
 use std::borrow::Cow;
 use std::collections::HashMap;
-
-/// A process, and the index of one of its events.
-pub(crate) type Place = (Pid, u64);
 
 /// How sure it is what an event follows.
 #[derive(Clone, Copy, Debug, PartialEq, Eq)]
@@ -75,10 +73,10 @@ struct Whole<'a> {
 #[derive(Clone, Copy, Debug, Default, PartialEq, Eq)]
 pub(crate) struct Added {
     /// Sends whose receive was reported, so they have happened.
-    pub(crate) certain: usize,
+    pub(crate) certain: u64,
     /// Other sends.
-    pub(crate) sends: usize,
-    pub(crate) receives: usize,
+    pub(crate) sends: u64,
+    pub(crate) receives: u64,
 }
 
 impl Added {
@@ -301,23 +299,28 @@ impl Causes<'_> {
         }
     }
 
-    /// What an event that is shown is called. One that was added is named after the reported one
-    /// that it comes before.
+    /// What an event that is shown is called.
     pub(crate) fn name(&self, item: Item) -> String {
-        let (pid, index) = item.place();
-        match (self.reported(item), item, &self.whole) {
-            (Some(place), ..) => self.names.event(place),
-            (None, Item::Hidden(..), _) => {
+        match item {
+            Item::Hidden(pid, index) => {
                 format!("the send of {}", self.name(Item::Reported(pid, index)))
             }
-            (None, Item::Reported(..), whole) => {
-                let told = whole.as_ref().map_or(&[][..], |whole| whole.told(pid));
+            Item::Reported(pid, _) => format!("{}#{}", self.process(pid), self.number(item)),
+        }
+    }
+
+    /// The number of an event in its name. One that was added is counted from the reported one that
+    /// it comes before: `3~1`. A send that only its receive tells of has none.
+    pub(crate) fn number(&self, item: Item) -> String {
+        let (pid, index) = item.place();
+        match (self.reported(item), item) {
+            (Some((_, index)), _) => index.to_string(),
+            (None, Item::Hidden(..)) => String::new(),
+            (None, Item::Reported(..)) => {
+                let told = self.whole.as_ref().map_or(&[][..], |whole| whole.told(pid));
                 let before = told.partition_point(|&told| told < index);
-                let first = before
-                    .checked_sub(1)
-                    .and_then(|last| told.get(last))
-                    .map_or(0, |last| last + 1);
-                format!("{}#{before}~{}", self.process(pid), index - first + 1)
+                let last = before.checked_sub(1).and_then(|last| told.get(last));
+                format!("{before}~{}", index - last.map_or(0, |last| last + 1) + 1)
             }
         }
     }
@@ -329,10 +332,11 @@ impl Causes<'_> {
 
     /// What a process is called.
     pub(crate) fn process(&self, pid: Pid) -> Cow<'_, str> {
-        if self.is_unlisted(pid) {
-            format!("unlisted {}", gemshowal::Text(pid)).into()
-        } else {
-            self.names.process(pid)
+        let unlisted = self.whole.as_ref().map_or(&[][..], |whole| whole.completion.unlisted());
+        match unlisted.iter().position(|&other| other == pid) {
+            None => self.names.process(pid),
+            Some(_) if unlisted.len() == 1 => "a process that the trace doesn't list".into(),
+            Some(at) => format!("a process that the trace doesn't list {}", at + 1).into(),
         }
     }
 

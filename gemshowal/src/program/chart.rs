@@ -4,9 +4,10 @@
 use crate::args::Chart as Args;
 use crate::causes::{with_causes, Causes, Grade, Link};
 use crate::input::Input;
-use crate::object::kind_word;
+use crate::object::{kind_word, Number};
 use crate::output::{Notes, Output};
 use crate::reason::write_unpaired;
+use crate::view::View;
 use crate::{moment, svg, words, Failure, Status};
 use gemshowal::{Event, Item, Kind, Label, Pid};
 use serde::Serialize;
@@ -41,6 +42,7 @@ pub(crate) struct Chart {
 
 pub(crate) fn run(
     args: &Args,
+    json: bool,
     input: &mut Input,
     out: &mut Output,
     notes: &mut Notes,
@@ -54,25 +56,23 @@ pub(crate) fn run(
     let name = input.line_name();
     let told = with_causes(&trace, &names, |causes| {
         let charts = Chart::of(causes, label)?;
-        if charts
-            .iter()
-            .any(|chart| chart.rows.len().saturating_mul(chart.lanes.len()) > MOST_MARKS)
-        {
+        if charts.iter().any(Chart::is_long) {
             notes.say_no(format_args!(
                 "note: {name}: the chart would be too long; gemshowal cut makes a smaller trace"
             ));
             return Ok(Status::Long);
         }
-        write(args, causes, &charts, out, notes)
+        write(args, json, causes, &charts, out, notes)
     })?;
     told.or_else(|finding| {
-        write_unpaired(args.json, &trace, &names, &finding, out)?;
+        write_unpaired(json, &View::whole(&trace, &names), &finding, out)?;
         Ok(Status::No)
     })
 }
 
 fn write(
     args: &Args,
+    json: bool,
     causes: &Causes<'_>,
     charts: &[Chart],
     out: &mut Output,
@@ -81,19 +81,16 @@ fn write(
     if let (Some(file), Some(chart)) = (&args.svg, charts.first()) {
         svg::write(file, causes, chart)?;
     }
-    if args.json {
+    let status = if charts.is_empty() { Status::No } else { Status::Yes };
+    if json {
         let charts = charts.iter().map(|chart| Charted::of(causes, chart)).collect();
-        out.report("charted", &Charts { charts })?;
-        return Ok(Status::Yes);
+        out.report("charted", &Told { headline: words::headline(causes), charts })?;
+        return Ok(status);
     }
-    if causes.never().is_some() {
-        writeln!(out, "{}", words::NEVER)?;
+    writeln!(out, "{}", words::headline(causes))?;
+    for loss in causes.names().losses() {
+        writeln!(out, "this trace isn't whole: {loss}")?;
     }
-    causes
-        .names()
-        .losses()
-        .iter()
-        .try_for_each(|loss| writeln!(out, "this trace isn't whole: {loss}"))?;
     for (chart, number) in charts.iter().zip(0..) {
         if number > 0 {
             writeln!(out)?;
@@ -104,10 +101,15 @@ fn write(
     if let Some(note) = words::chart_note(grades) {
         notes.say(note);
     }
-    Ok(if charts.is_empty() { Status::No } else { Status::Yes })
+    Ok(status)
 }
 
 impl Chart {
+    /// Whether it has more marks than anybody looks at.
+    fn is_long(&self) -> bool {
+        self.rows.len().saturating_mul(self.lanes.len()) > MOST_MARKS
+    }
+
     /// The charts of this label, or of all labels, by rising label.
     pub(crate) fn of(causes: &Causes<'_>, label: Option<Label>) -> Result<Vec<Chart>, Failure> {
         let mut items: BTreeMap<u32, Vec<(Item, Event)>> = BTreeMap::new();
@@ -153,7 +155,7 @@ impl Chart {
             let (marks, name) = (self.marks(causes, row), name(row));
             let (kind, serial) = (kind_word(row.event.kind), gemshowal::Text(row.event.serial));
             let message = short(&words::message(causes, row.item), MESSAGE);
-            let follows = words::follows(causes, row.item, row.link);
+            let follows = words::follows(causes, row.item, row.link) + &took(causes, row.item);
             writeln!(
                 out,
                 "{marks}  {name:width$}{time:>wide$}  {kind:<8}{serial} {message}  {follows}"
@@ -188,6 +190,13 @@ fn time(causes: &Causes<'_>, item: Item) -> String {
     time.map(|time| format!("  {time}")).unwrap_or_default()
 }
 
+/// How long after its send a receive was reported.
+fn took(causes: &Causes<'_>, item: Item) -> String {
+    let times = causes.names().times().zip(causes.reported(item));
+    let took = times.and_then(|(times, place)| Some(times.of_message(place)?.1));
+    took.map(|took| format!(", {} later", moment::seconds(took))).unwrap_or_default()
+}
+
 /// The text, or its first characters and three dots.
 pub(crate) fn short(text: &str, most: usize) -> String {
     if text.chars().count() <= most {
@@ -197,13 +206,14 @@ pub(crate) fn short(text: &str, most: usize) -> String {
     }
 }
 
-/// A chart as JSON.
-/// The charts of a trace.
+/// What is charted, as JSON.
 #[derive(Serialize)]
-struct Charts {
+struct Told {
+    headline: String,
     charts: Vec<Charted>,
 }
 
+/// A chart as JSON.
 #[derive(Serialize)]
 struct Charted {
     label: String,
@@ -214,12 +224,13 @@ struct Charted {
 /// An event of a chart as JSON.
 #[derive(Serialize)]
 struct ChartedRow {
-    name: String,
+    event: String,
     is_reported: bool,
     kind: &'static str,
     lane: usize,
     other: Option<usize>,
-    serial: [u64; 2],
+    prev: Number,
+    this: Number,
     message: String,
     /// The row of the event that it follows.
     after: Option<usize>,
@@ -232,12 +243,13 @@ impl Charted {
         let places: BTreeMap<Item, usize> =
             chart.rows.iter().map(|row| row.item).zip(0..).collect();
         let row = |row: &Row| ChartedRow {
-            name: causes.name(row.item),
+            event: causes.name(row.item),
             is_reported: causes.reported(row.item).is_some(),
             kind: kind_word(row.event.kind),
             lane: row.lane,
             other: row.other,
-            serial: [row.event.serial.prev, row.event.serial.this],
+            prev: Number(row.event.serial.prev),
+            this: Number(row.event.serial.this),
             message: words::message(causes, row.item),
             after: row.link.after().and_then(|item| places.get(&item).copied()),
             follows: words::follows(causes, row.item, row.link),

@@ -12,10 +12,13 @@ mod check;
 mod complete;
 mod cut;
 mod diff;
+mod durations;
 mod erlang;
 mod explain;
 mod export;
 mod failure;
+#[cfg(test)]
+mod fuzz;
 mod input;
 mod keep;
 mod late;
@@ -25,11 +28,13 @@ mod moment;
 mod names;
 mod object;
 mod output;
+mod page;
 mod progress;
 mod reason;
 mod spool;
 mod stats;
 mod svg;
+mod times;
 mod view;
 mod why;
 mod words;
@@ -70,12 +75,14 @@ fn run_on(
         Command::Explain(_) => explain::run(json, input, out),
         Command::Lint(args) => lint::run(args, json, input, out, notes),
         Command::List(args) => list::run(args, json, input, out, notes),
+        Command::Page(args) => page::run(args, input, out, notes),
         Command::Stats(_) => stats::run(json, input, out, notes),
         Command::Collect(_) | Command::Watch(_) | Command::Convert(_) => Ok(Status::Yes),
-        Command::Chart(args) => chart::run(args, input, out, notes),
-        Command::Diff(args) => diff::run(args, input, out, notes),
+        Command::Chart(args) => chart::run(args, json, input, out, notes),
+        Command::Diff(args) => diff::run(args, json, input, out, notes),
         Command::Export(args) => export::run(args, input, out, notes),
-        Command::Why(args) => why::run(args, input, out, notes),
+        Command::Times(args) => times::run(args, json, input, out, notes),
+        Command::Why(args) => why::run(args, json, input, out, notes),
     }?;
     out.finish()?;
     Ok(status)

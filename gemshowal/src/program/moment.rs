@@ -70,7 +70,7 @@ fn date(day: i64) -> (i64, i64, i64) {
 pub(crate) fn moment(times: &Times, after_first: i64) -> String {
     let clock = times.begin().and_then(|begin| begin.checked_add(after_first)).map(clock);
     match clock.as_deref().and_then(|clock| clock.split_once('T')) {
-        Some((_, of_day)) => format!("{} {}", of_day.trim_end_matches('Z'), seconds(after_first)),
+        Some((_, of_day)) => format!("{of_day} {}", seconds(after_first)),
         None => seconds(after_first),
     }
 }

@@ -4,12 +4,11 @@
 //! a second run, sets the counters of several processes back, and a token that is put back that of
 //! one. If nothing tells them apart, the most common one comes first.
 
-use crate::names::Names;
 use crate::object::{Fields, Place as PlaceObject};
 use crate::output::Output;
 use crate::view::{Place, Shown, View};
 use crate::Failure;
-use gemshowal::{Event, Finding, Kind, Never, Pid, Reason, Streams, Trace};
+use gemshowal::{Event, Finding, Kind, Never, Pid, Reason, Streams};
 use serde::Serialize;
 use std::collections::{HashMap, HashSet};
 use std::io::{self, Write};
@@ -161,13 +160,11 @@ struct Found {
 /// Writes why a trace can't be paired.
 pub(crate) fn write_unpaired(
     json: bool,
-    trace: &Trace,
-    names: &Names,
+    view: &View<'_>,
     finding: &Finding,
     out: &mut Output,
 ) -> Result<(), Failure> {
-    let view = View::whole(trace, names);
-    let shown = Shown::reported(&view);
+    let shown = Shown::reported(view);
     let Finding::Unfit(pid, index, reason) = finding else { return Ok(()) };
     let Some(against) = Against::by_audit(*pid, *index, reason) else { return Ok(()) };
     if json {

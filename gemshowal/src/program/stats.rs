@@ -6,6 +6,7 @@ use crate::names::Names;
 use crate::object::Number;
 use crate::output::{Notes, Output};
 use crate::reason::write_unpaired;
+use crate::view::View;
 use crate::{Failure, Status};
 use gemshowal::{Event, Hop, Hops, Kind, Label, Paired, Pairing, Partner, Pid, Text, Trace};
 use serde::Serialize;
@@ -23,7 +24,7 @@ pub(crate) fn run(
     let paired = match Paired::of(trace.streams())? {
         Ok(paired) => paired,
         Err(finding) => {
-            write_unpaired(json, &trace, &names, &finding, out)?;
+            write_unpaired(json, &View::whole(&trace, &names), &finding, out)?;
             return Ok(Status::No);
         }
     };

@@ -8,8 +8,10 @@
 
 use crate::causes::{Cause, Causes, Grade};
 use crate::chart::{short, Chart, Row};
+use crate::keep::keep;
 use crate::object::kind_word;
-use crate::{keep::keep, words, Failure};
+use crate::view::count;
+use crate::{words, Failure};
 use gemshowal::{Item, Kind, Pid};
 use std::collections::HashMap;
 use std::fmt::{self, Display, Formatter, Write};
@@ -130,11 +132,8 @@ impl<'a> Drawing<'a> {
     fn heading(&self, out: &mut String) -> fmt::Result {
         let (rows, lanes) = (self.chart.rows.len(), self.chart.lanes.len());
         let label = self.causes.names().label(self.chart.label);
-        let title = format!(
-            "label {label}: {}, {}",
-            words::count(rows, "event"),
-            words::count_of(lanes, "process", "processes")
-        );
+        let (rows, lanes) = (count(rows as u64, "event"), count(lanes as u64, "process"));
+        let title = format!("label {label}: {rows}, {lanes}");
         writeln!(out, "<text class=\"h\" x=\"12\" y=\"26\">{}</text>", Xml(&title))?;
         let class = if self.causes.never().is_some() { "class=\"w\" " } else { "" };
         let said = Xml(&short(&words::headline(self.causes), HEADING)).to_string();

@@ -3,12 +3,13 @@
 use crate::args::Why;
 use crate::causes::{with_causes, Cause, Causes, Grade, Link};
 use crate::input::Input;
-use crate::object::{kind_word, Place};
+use crate::object::{kind_word, Number};
 use crate::output::{Notes, Output};
 use crate::reason::write_unpaired;
+use crate::view::View;
 use crate::words;
 use crate::{Failure, Status};
-use gemshowal::{Item, OutOfMemory, Premises};
+use gemshowal::{Item, OutOfMemory, Pid, Premises, Text};
 use serde::Serialize;
 use std::collections::HashMap;
 use std::io::{self, Write};
@@ -18,6 +19,7 @@ const INDENT: usize = 16;
 
 pub(crate) fn run(
     args: &Why,
+    json: bool,
     input: &mut Input,
     out: &mut Output,
     notes: &mut Notes,
@@ -31,15 +33,16 @@ pub(crate) fn run(
         } else {
             Way::back(causes, causes.item(place), args)
         };
-        if args.json {
-            out.report("told", &way.object(causes)?)?;
+        if json {
+            let result = if causes.never().is_some() { "never" } else { "found" };
+            out.report(result, &way.object(causes)?)?;
         } else {
             way.write(causes, out)?;
         }
         Ok(Status::Yes)
     })?;
     told.or_else(|finding| {
-        write_unpaired(args.json, &trace, &names, &finding, out)?;
+        write_unpaired(json, &View::whole(&trace, &names), &finding, out)?;
         Ok(Status::No)
     })
 }
@@ -100,7 +103,7 @@ impl Way {
 
     fn write(&self, causes: &Causes<'_>, out: &mut Output) -> io::Result<()> {
         if causes.never().is_some() {
-            writeln!(out, "{}", words::NEVER)?;
+            writeln!(out, "{}", words::headline(causes))?;
         }
         if self.is_back {
             self.write_back(causes, out)?;
@@ -150,8 +153,12 @@ impl Way {
         let found = self.steps.iter().map(|step| Found::of(causes, step).transpose());
         let events = found.flatten().collect::<Result<_, _>>()?;
         let direction = if self.is_back { "back" } else { "forth" };
-        let has_run = causes.never().is_none();
-        Ok(Told { direction, has_run, events, rests_on: words::premises(self.grades()) })
+        Ok(Told {
+            headline: words::headline(causes),
+            direction,
+            events,
+            rests_on: words::premises(self.grades()),
+        })
     }
 }
 
@@ -168,8 +175,7 @@ fn parent(link: &Link, across: bool) -> Option<Item> {
 #[derive(Serialize)]
 pub(crate) struct Told {
     direction: &'static str,
-    /// Whether a run without a reset reports the trace.
-    has_run: bool,
+    headline: String,
     events: Vec<Found>,
     rests_on: Vec<&'static str>,
 }
@@ -178,16 +184,17 @@ pub(crate) struct Told {
 #[derive(Serialize)]
 struct Found {
     depth: usize,
-    name: String,
-    /// Its place and line, unless nobody reported it.
-    #[serde(flatten)]
-    place: Option<Place>,
+    event: String,
+    /// Its process, its number there and its line, unless nobody reported it.
+    pid: Option<Text<Pid>>,
+    index: Option<u64>,
     line: Option<u64>,
     kind: &'static str,
     label: String,
     from: String,
     to: Option<String>,
-    serial: [u64; 2],
+    prev: Number,
+    this: Number,
     /// The message, if one of its ends was reported.
     message: Option<String>,
     /// Nanoseconds after the first event.
@@ -208,14 +215,16 @@ impl Found {
         let (grade, premises) = grade(step.link.grade);
         Ok(Some(Found {
             depth: step.depth,
-            name: causes.name(step.item),
-            place: place.map(|place| Place::new(causes.names(), place)),
+            event: causes.name(step.item),
+            pid: place.map(|(pid, _)| Text(pid)),
+            index: place.map(|(_, index)| index),
             line,
             kind: kind_word(event.kind),
             label: names.label(event.label).into_owned(),
             from: causes.process(event.from).into_owned(),
             to: event.to.map(|to| causes.process(to).into_owned()),
-            serial: [event.serial.prev, event.serial.this],
+            prev: Number(event.serial.prev),
+            this: Number(event.serial.this),
             message: causes.message(step.item).map(|value| names.value(value).into_owned()),
             at: names.times().zip(place).and_then(|(times, place)| times.of_event(place)),
             cause,

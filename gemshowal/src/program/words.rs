@@ -3,6 +3,8 @@
 
 use crate::causes::{Cause, Causes, Grade, Link};
 use crate::moment::moment;
+use crate::reason::Against;
+use crate::view::{count, Shown, View};
 use gemshowal::{Item, Kind, Premises};
 
 /// Of which runs all is said.
@@ -19,11 +21,6 @@ const NODE: &str = "on a standard node (2) belongs to each (1), and behind a spa
 const PERHAPS: &str =
     "perhaps: it is so in the run that gemshowal complete finds, and another may \
                        have something else there";
-/// What is said of a trace that no run reports.
-pub(crate) const NEVER: &str =
-    "no run without a reset reports this trace, so this may not hold of \
-                                what happened; gemshowal audit says why";
-
 /// What an event is, as `post#1 printed {parcel,apple,3}`.
 pub(crate) fn named(causes: &Causes<'_>, item: Item) -> String {
     format!("{} {}{}", causes.name(item), deed(causes, item), unreported(causes, item))
@@ -149,12 +146,13 @@ pub(crate) fn at(causes: &Causes<'_>, item: Item) -> String {
 
 /// Whether a run has the trace, and what is added to it, in a line.
 pub(crate) fn headline(causes: &Causes<'_>) -> String {
-    if causes.never().is_some() {
-        return NEVER.into();
+    if let Some((pid, index, never)) = causes.never() {
+        let view = View::whole(causes.trace(), causes.names());
+        return Against::by_complete(pid, index, never).headline(&Shown::reported(&view));
     }
     let own = causes.trace().streams();
-    let events = count(own.total() as usize, "event");
-    let processes = count_of(own.pids().len(), "process", "processes");
+    let events = count(own.total(), "event");
+    let processes = count(own.pids().len() as u64, "process");
     let added = causes.added();
     let certain = (added.certain > 0).then(|| count(added.certain, "send"));
     let sends = (added.sends > 0).then(|| count(added.sends, "send"));
@@ -174,14 +172,4 @@ pub(crate) fn chart_note(grades: impl Iterator<Item = Grade>) -> Option<&'static
         "note: what a send or print follows holds if its process reported each receive of a token \
          and began no label twice; gemshowal why says of which event that is needed",
     )
-}
-
-/// A number of things, with an s unless it is one.
-pub(crate) fn count(number: usize, thing: &str) -> String {
-    count_of(number, thing, &format!("{thing}s"))
-}
-
-/// A number of things, of which one and several are called so.
-pub(crate) fn count_of(number: usize, one: &str, several: &str) -> String {
-    format!("{number} {}", if number == 1 { one } else { several })
 }

@@ -16,6 +16,7 @@ pub(crate) use region::open as open_ends;
 use crate::args::Audit;
 use crate::input::Input;
 use crate::output::{Notes, Output};
+use crate::times::summary;
 use crate::view::{Kept, Place, View};
 use crate::{Failure, Status};
 use gemshowal::{OutOfMemory, Trace};
@@ -193,6 +194,9 @@ impl Auditor<'_> {
             report::write_parts(self, &audited.parts, out)?;
         }
         write_losses(self.view.names.losses(), out)?;
+        if let (Some(times), None) = (self.view.names.times(), &self.cut) {
+            writeln!(out, "{}", summary(self.view.trace, times))?;
+        }
         match proved {
             None => writeln!(out, "{NOT_PROVED}")?,
             Some(proved) => writeln!(out, "{proved}")?,

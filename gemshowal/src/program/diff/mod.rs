@@ -31,6 +31,7 @@ use side::{Side, Vocabulary};
 
 pub(crate) fn run(
     args: &Diff,
+    json: bool,
     input: &mut Input,
     out: &mut Output,
     notes: &mut Notes,
@@ -47,9 +48,9 @@ pub(crate) fn run(
         Text::new(other.line_name(), &second, &others)?
     }];
     let report = Report::new(sides, &texts, &found);
-    if args.json {
+    if json {
         let result = if report.is_same() { "same" } else { "different" };
-        out.report(result, &json::object(&report))?;
+        out.report(result, &self::json::object(&report))?;
     } else {
         report.write(out)?;
     }

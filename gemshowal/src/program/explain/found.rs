@@ -1,9 +1,9 @@
 //! What is found of acts that aren't a run of the trace.
 
-use super::queue::Queue;
 use super::reasons::{reasons, Reason};
 use super::rerun::Run;
 use super::{line_of, queue::nearest};
+use crate::object::Number;
 use gemshowal::{Act, Came, Event, Kind, OutOfMemory, Pid, State, Text, Token, Trace};
 use serde::Serialize;
 
@@ -111,13 +111,13 @@ impl Found {
             place,
             from: sent.from,
             value: sent.value,
-            count: sent.count(),
+            count: run.queue.count(sent),
             act: sent.act,
             line: lines.act_line(sent.act),
-            is_due: is_traced && receive.is_some_and(|event| Queue::is_due(sent, &event)),
+            is_due: is_traced && receive.is_some_and(|event| run.queue.is_due(sent, &event)),
         });
         let waiting: Vec<Waiting> = waiting.collect();
-        let more = (run.queue.messages().count() - waiting.len()) as u64;
+        let more = (run.queue.len() - waiting.len()) as u64;
         Ok(Found {
             pid,
             act: None,
@@ -152,8 +152,8 @@ impl Found {
             due_index: self.due.as_ref().map(|due| due.index),
             due_line: self.due.as_ref().and_then(|due| due.line),
             token: self.state.and_then(|state| state.token).map(|token| token_words(&token)),
-            clock: self.state.map(|state| state.clock.to_string()),
-            last: self.state.map(|state| state.last.to_string()),
+            clock: self.state.map(|state| Number(state.clock)),
+            last: self.state.map(|state| Number(state.last)),
             messages: self.queued(),
             next: self
                 .next
@@ -192,8 +192,8 @@ pub(super) struct Object {
     due_index: Option<u64>,
     due_line: Option<u64>,
     token: Option<String>,
-    clock: Option<String>,
-    last: Option<String>,
+    clock: Option<Number>,
+    last: Option<Number>,
     messages: u64,
     next: Option<String>,
     reasons: Vec<String>,

@@ -94,6 +94,17 @@ impl Times {
         self.events.get(&place).copied()
     }
 
+    /// How many events have a time.
+    pub(crate) fn count(&self) -> usize {
+        self.events.len()
+    }
+
+    /// The times of the first event and of the last one; 0 if there are none.
+    pub(crate) fn ends(&self) -> (Time, Time) {
+        let times = || self.events.values().copied();
+        (times().min().unwrap_or(0), times().max().unwrap_or(0))
+    }
+
     /// The send of a receive, and the time from the one to the other.
     pub(crate) fn of_message(&self, receive: Place) -> Option<(Place, Time)> {
         self.messages.get(&receive).copied()
