@@ -35,10 +35,22 @@ struct Matched {
 #[derive(Serialize)]
 #[serde(untagged)]
 enum Difference {
-    Process { change: &'static str, pid: Text<Pid> },
-    Event { change: &'static str, #[serde(flatten)] row: Placed },
+    Process {
+        change: &'static str,
+        pid: Text<Pid>,
+    },
+    Event {
+        change: &'static str,
+        #[serde(flatten)]
+        row: Placed,
+    },
     /// One that is in both traces.
-    Both { change: &'static str, #[serde(flatten)] row: Placed, now: Placed },
+    Both {
+        change: &'static str,
+        #[serde(flatten)]
+        row: Placed,
+        now: Placed,
+    },
 }
 
 /// An event with its line and its place.

@@ -103,9 +103,8 @@ fn all_keys(side: &Side<'_>) -> Vec<(Vec<u64>, Ground)> {
         side.events(place).iter().fold(1, |key, event| mix(key, event.kind as u64))
     };
     let first = |side: &Side<'_>, place| side.items(place).first().map_or(0, |&it| it.into());
-    let first_kind = |side: &Side<'_>, place| {
-        side.events(place).first().map_or(0, |event| event.kind as u64)
-    };
+    let first_kind =
+        |side: &Side<'_>, place| side.events(place).first().map_or(0, |event| event.kind as u64);
     keys.push((of_all(kinds), Ground::Kinds));
     keys.push((of_all(first), Ground::First));
     keys.push((of_all(first_kind), Ground::FirstKind));
@@ -189,7 +188,8 @@ struct Search<'a> {
 
 impl<'a> Search<'a> {
     fn new([first, second]: [&'a Side<'a>; 2], [ones, others]: [Vec<u64>; 2]) -> Search<'a> {
-        let half = |side: &'a Side<'a>, which, keys| Half { side, which, order: side.order(), keys };
+        let half =
+            |side: &'a Side<'a>, which, keys| Half { side, which, order: side.order(), keys };
         Search {
             first: half(first, Which::First, ones),
             second: half(second, Which::Second, others),
