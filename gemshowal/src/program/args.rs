@@ -10,7 +10,7 @@ use std::path::{Path, PathBuf};
 /// What a trace of Erlang's seq_trace says: whether it could have happened, what it lacks, and what
 /// caused what.
 #[derive(Parser)]
-#[command(name = "gemshowal", version, after_help = AFTER)]
+#[command(name = "gemshowal", bin_name = "gemshowal", version, after_help = AFTER)]
 pub(crate) struct Args {
     #[command(subcommand)]
     pub(crate) command: Command,
@@ -48,6 +48,9 @@ pub(crate) enum Command {
     /// Lists events: line, name, label, serial, message, partner
     #[command(after_help = LIST)]
     List(List),
+    /// Writes a page for a browser, with all labels: by cause, by time, searched, one chain alone
+    #[command(after_help = PAGE)]
+    Page(Page),
     /// Counts events and messages by process, pair and label
     #[command(after_help = STATS)]
     Stats(Stats),
@@ -289,6 +292,18 @@ pub(crate) struct Chart {
 }
 
 #[derive(clap::Args)]
+pub(crate) struct Page {
+    #[command(flatten)]
+    inputs: Inputs,
+    /// Write it to this file, for its owner alone; else to standard output
+    #[arg(short, long, value_name = "FILE")]
+    pub(crate) out: Option<PathBuf>,
+    /// Show this label alone at first
+    #[arg(long)]
+    pub(crate) label: Option<String>,
+}
+
+#[derive(clap::Args)]
 pub(crate) struct Times {
     #[command(flatten)]
     inputs: Inputs,
@@ -352,6 +367,7 @@ impl Command {
             Command::Explain(_) => "explain",
             Command::Lint(_) => "lint",
             Command::List(_) => "list",
+            Command::Page(_) => "page",
             Command::Stats(_) => "stats",
             Command::Times(_) => "times",
             Command::Why(_) => "why",
@@ -373,6 +389,7 @@ impl Command {
             Command::Export(args) => &args.inputs,
             Command::Lint(args) => &args.inputs,
             Command::List(args) => &args.inputs,
+            Command::Page(args) => &args.inputs,
             Command::Stats(args) => &args.inputs,
             Command::Times(args) => &args.inputs,
             Command::Diff(_) | Command::Why(_) => return None,
@@ -417,7 +434,7 @@ impl Command {
             | Command::Stats(Stats { json, .. })
             | Command::Times(Times { json, .. })
             | Command::Why(Why { json, .. }) => json.json,
-            Command::Cut(_) | Command::Export(_) => false,
+            Command::Cut(_) | Command::Export(_) | Command::Page(_) => false,
             Command::Collect(_) | Command::Watch(_) | Command::Convert(_) => false,
         }
     }
@@ -425,7 +442,7 @@ impl Command {
     /// Whether it writes a text, so that it takes one input.
     fn writes_text(&self) -> bool {
         match self {
-            Command::Cut(_) | Command::Export(_) => true,
+            Command::Cut(_) | Command::Export(_) | Command::Page(_) => true,
             Command::Complete(complete) => complete.form != Form::Added,
             Command::Lint(lint) => lint.fix,
             Command::Audit(audit) => audit.acts.is_some(),
@@ -550,6 +567,14 @@ S is a send, R a receive, P a print, and a dot the other end. Small letters are
 events that nobody reported, and that gemshowal complete adds; their names have
 a ~, and in the drawing they are dashed. No row is above what it follows.
 Status 1: the trace can't be paired, or has no such label.";
+
+const PAGE: &str = "\
+Example:
+  gemshowal page examples/order -o order.html
+
+The page is one file and needs no network. Whole messages are in it, so whoever
+gets the file gets them. page.html#shop%232 opens it at the event shop#2.
+Status 1: the trace can't be paired (gemshowal audit).";
 
 const TIMES: &str = "\
 Example:

@@ -299,23 +299,28 @@ impl Causes<'_> {
         }
     }
 
-    /// What an event that is shown is called. One that was added is named after the reported one
-    /// that it comes before.
+    /// What an event that is shown is called.
     pub(crate) fn name(&self, item: Item) -> String {
-        let (pid, index) = item.place();
-        match (self.reported(item), item, &self.whole) {
-            (Some(place), ..) => self.names.event(place),
-            (None, Item::Hidden(..), _) => {
+        match item {
+            Item::Hidden(pid, index) => {
                 format!("the send of {}", self.name(Item::Reported(pid, index)))
             }
-            (None, Item::Reported(..), whole) => {
-                let told = whole.as_ref().map_or(&[][..], |whole| whole.told(pid));
+            Item::Reported(pid, _) => format!("{}#{}", self.process(pid), self.number(item)),
+        }
+    }
+
+    /// The number of an event in its name. One that was added is counted from the reported one that
+    /// it comes before: `3~1`. A send that only its receive tells of has none.
+    pub(crate) fn number(&self, item: Item) -> String {
+        let (pid, index) = item.place();
+        match (self.reported(item), item) {
+            (Some((_, index)), _) => index.to_string(),
+            (None, Item::Hidden(..)) => String::new(),
+            (None, Item::Reported(..)) => {
+                let told = self.whole.as_ref().map_or(&[][..], |whole| whole.told(pid));
                 let before = told.partition_point(|&told| told < index);
-                let first = before
-                    .checked_sub(1)
-                    .and_then(|last| told.get(last))
-                    .map_or(0, |last| last + 1);
-                format!("{}#{before}~{}", self.process(pid), index - first + 1)
+                let last = before.checked_sub(1).and_then(|last| told.get(last));
+                format!("{before}~{}", index - last.map_or(0, |last| last + 1) + 1)
             }
         }
     }

@@ -1,7 +1,7 @@
 //! An input: standard input, a file, or the file of a trace's name, packed by gzip or not.
 
 use crate::lint;
-use crate::names::{self, Names};
+use crate::names::{self, Messages, Names};
 use crate::output::Notes;
 use crate::progress::{Counter, Progress};
 use crate::spool::Spool;
@@ -77,6 +77,17 @@ impl Input {
     /// What the files beside it say of its trace.
     pub(crate) fn names(&self, trace: &Trace, notes: &mut Notes) -> Result<Names, Failure> {
         Ok(Names::beside(&self.path, trace, notes)?)
+    }
+
+    /// The whole texts of messages that the names have cut, for which `is_wanted` is true.
+    pub(crate) fn messages(&self, is_wanted: impl Fn(u64) -> bool) -> Result<Messages, Failure> {
+        Ok(Messages::beside(&self.path, is_wanted)?)
+    }
+
+    /// The name of the trace without its folder.
+    pub(crate) fn title(&self) -> String {
+        let word = self.word();
+        Path::new(&word).file_name().map_or(word.clone(), |name| name.to_string_lossy().into())
     }
 
     /// Says on a terminal how much was read, if that takes long.

@@ -28,6 +28,7 @@ mod moment;
 mod names;
 mod object;
 mod output;
+mod page;
 mod progress;
 mod reason;
 mod spool;
@@ -74,6 +75,7 @@ fn run_on(
         Command::Explain(_) => explain::run(json, input, out),
         Command::Lint(args) => lint::run(args, json, input, out, notes),
         Command::List(args) => list::run(args, json, input, out, notes),
+        Command::Page(args) => page::run(args, input, out, notes),
         Command::Stats(_) => stats::run(json, input, out, notes),
         Command::Collect(_) | Command::Watch(_) | Command::Convert(_) => Ok(Status::Yes),
         Command::Chart(args) => chart::run(args, json, input, out, notes),

@@ -9,12 +9,14 @@ mod brief;
 mod entry;
 mod facts;
 mod kinds;
+mod messages;
 mod shown;
 mod terms;
 mod times;
 mod which;
 
 pub(crate) use entry::Fault;
+pub(crate) use messages::Messages;
 pub(crate) use times::Times;
 pub(crate) use which::NotFound;
 
@@ -104,6 +106,11 @@ impl Names {
     /// The term of a message, `value` and its number if it has none.
     pub(crate) fn value(&self, value: u64) -> Cow<'_, str> {
         named(self.terms.value(value), || format!("value {value}"))
+    }
+
+    /// Whether a message has a term.
+    pub(crate) fn has_value(&self, value: u64) -> bool {
+        self.terms.value(value).is_some()
     }
 
     /// The same without what every call, cast and reply of OTP's servers has: `call
