@@ -106,6 +106,11 @@ impl<'a> Shown<'a> {
         self.completion.map_or(&[], |completion| completion.unlisted())
     }
 
+    /// Which of these a process is; none if the trace lists it.
+    pub(crate) fn stranger(&self, pid: Pid) -> Option<usize> {
+        self.unlisted().binary_search(&pid).ok()
+    }
+
     pub(crate) fn processes(&self) -> impl Iterator<Item = (Pid, &'a [Event])> {
         let streams = self.streams;
         streams.pids().iter().map(|&pid| (pid, streams.events(pid)))
@@ -113,7 +118,7 @@ impl<'a> Shown<'a> {
 
     /// What a process is called.
     pub(crate) fn process(&self, pid: Pid) -> Cow<'_, str> {
-        match self.unlisted().iter().position(|&other| other == pid) {
+        match self.stranger(pid) {
             None => self.view.names.process(pid),
             Some(_) if self.unlisted().len() == 1 => "a process that the trace doesn't list".into(),
             Some(at) => format!("a process that the trace doesn't list {}", at + 1).into(),

@@ -8,6 +8,9 @@
 use gemshowal::{Event, Kind, Pid, Trace};
 use std::collections::{HashMap, HashSet};
 
+/// From so many parts on it is judged how many there would be.
+const ENOUGH: usize = 8;
+
 /// All that a send and its receive have in common.
 type Message = (Pid, Option<Pid>, u64, u64, u32, u64);
 
@@ -36,7 +39,10 @@ pub(super) fn split(trace: &Trace, most: usize) -> Option<Vec<Part>> {
         if is_last {
             return Some(parts);
         }
-        if parts.len() == most {
+        // If the parts go on like these, there would be far too many: each takes a pass over the rest.
+        let total = trace.streams().total() as usize;
+        let would_be = total * parts.len() / (total - left).max(1);
+        if parts.len() == most || parts.len() >= ENOUGH && would_be > 2 * most {
             return None;
         }
         begins = ends;

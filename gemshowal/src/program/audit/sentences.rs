@@ -114,7 +114,7 @@ impl Sentences<'_> {
             Lack::Added((pid, index), _) => {
                 let event = self.shown.streams.event(pid, index);
                 event.is_some_and(|event| {
-                    event.kind == Kind::Receive && self.shown.unlisted().contains(&event.from)
+                    event.kind == Kind::Receive && self.shown.stranger(event.from).is_some()
                 })
             }
             _ => false,
@@ -129,7 +129,7 @@ impl Sentences<'_> {
             match *lack {
                 Lack::Hidden(_) | Lack::Added(_, Known::Certain) => certain[0] += 1,
                 Lack::Unreceived(..) => supposed[1] += 1,
-                Lack::Added((pid, _), _) if self.shown.unlisted().contains(&pid) => {}
+                Lack::Added((pid, _), _) if self.shown.stranger(pid).is_some() => {}
                 Lack::Added((pid, index), _) => {
                     let kind = self.shown.streams.event(pid, index).map(|event| event.kind);
                     supposed[usize::from(kind == Some(Kind::Receive))] += 1;

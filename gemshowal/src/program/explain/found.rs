@@ -1,6 +1,5 @@
 //! What is found of acts that aren't a run of the trace.
 
-use super::queue::Queue;
 use super::reasons::{reasons, Reason};
 use super::rerun::Run;
 use super::{line_of, queue::nearest};
@@ -112,13 +111,13 @@ impl Found {
             place,
             from: sent.from,
             value: sent.value,
-            count: sent.count(),
+            count: run.queue.count(sent),
             act: sent.act,
             line: lines.act_line(sent.act),
-            is_due: is_traced && receive.is_some_and(|event| Queue::is_due(sent, &event)),
+            is_due: is_traced && receive.is_some_and(|event| run.queue.is_due(sent, &event)),
         });
         let waiting: Vec<Waiting> = waiting.collect();
-        let more = (run.queue.messages().count() - waiting.len()) as u64;
+        let more = (run.queue.len() - waiting.len()) as u64;
         Ok(Found {
             pid,
             act: None,

@@ -1,6 +1,7 @@
 //! The messages that wait for one process along a run, and which of them is due.
 
 use gemshowal::{Act, Event, Pid, Token};
+use std::collections::VecDeque;
 
 /// A message that was sent to the process.
 #[derive(Clone, Copy, Debug)]
@@ -11,18 +12,6 @@ pub(super) struct Sent {
     pub(super) value: u64,
     /// The token that it was sent with, if any.
     token: Option<Token>,
-    /// Whether a reset came since, which took its token.
-    is_wiped: bool,
-}
-
-impl Sent {
-    /// The count of the token that it still has, 0 if it has none.
-    pub(super) fn count(&self) -> u64 {
-        match self.token {
-            Some(token) if !self.is_wiped => token.serial.this,
-            _ => 0,
-        }
-    }
 }
 
 /// In what a message with the sender and the count of a receive still isn't the message of it.
@@ -83,18 +72,21 @@ pub(super) fn nearest(found: Result<u64, Missing>) -> Option<u64> {
     }
 }
 
-/// Which messages wait for one process. A message's place is its rank among those that weren't
-/// taken yet.
+/// Which messages wait for one process, in the order in which they were sent.
 #[derive(Debug)]
 pub(super) struct Queue {
     pid: Pid,
-    /// All messages that were sent to the process, and whether each was taken.
-    sent: Vec<(Sent, bool)>,
+    /// All messages that were sent to the process.
+    sent: Vec<Sent>,
+    /// Which of them wait.
+    waiting: VecDeque<u32>,
+    /// A reset took the tokens of the messages that acts before this one sent.
+    reset: u64,
 }
 
 impl Queue {
     pub(super) fn new(pid: Pid) -> Queue {
-        Queue { pid, sent: Vec::new() }
+        Queue { pid, sent: Vec::new(), waiting: VecDeque::new(), reset: 0 }
     }
 
     /// Follows the act of this number, after which its actor has this token, and which took the
@@ -108,46 +100,39 @@ impl Queue {
     ) {
         match *act {
             Act::Send(from, to, value) if to == self.pid => {
-                let sent = Sent { act: number, from, value, token, is_wiped: false };
-                self.sent.push((sent, false));
+                self.waiting.push_back(self.sent.len() as u32);
+                self.sent.push(Sent { act: number, from, value, token });
             }
-            Act::Reset(actor) if actor.node() == self.pid.node() => {
-                for (sent, _) in &mut self.sent {
-                    sent.is_wiped = true;
-                }
-            }
+            Act::Reset(actor) if actor.node() == self.pid.node() => self.reset = number,
             Act::Send(..) | Act::Reset(_) => {}
-            _ if act.actor() == self.pid => self.take(place),
+            _ if act.actor() == self.pid => {
+                place.and_then(|place| self.waiting.remove(place as usize));
+            }
             _ => {}
         }
     }
 
-    /// Takes out the message at this place, if it is one.
-    fn take(&mut self, place: Option<u64>) {
-        let Some(place) = place else { return };
-        let waiting = self.sent.iter_mut().filter(|(_, is_taken)| !is_taken);
-        if let Some((_, is_taken)) = waiting.zip(0..).find(|(_, at)| *at == place).map(|it| it.0) {
-            *is_taken = true;
-        }
-        if self.sent.first().is_some_and(|(_, is_taken)| *is_taken) && self.is_mostly_taken() {
-            self.sent.retain(|(_, is_taken)| !is_taken);
+    /// The count of the token that a message still has, 0 if it has none.
+    pub(super) fn count(&self, sent: &Sent) -> u64 {
+        match sent.token {
+            Some(token) if sent.act >= self.reset => token.serial.this,
+            _ => 0,
         }
     }
 
-    /// Whether so many messages were taken that leaving them out pays.
-    fn is_mostly_taken(&self) -> bool {
-        self.sent.len() > 64 && self.messages().count() * 2 < self.sent.len()
+    /// How many messages wait.
+    pub(super) fn len(&self) -> usize {
+        self.waiting.len()
     }
 
     /// The messages that wait, each with its place.
     pub(super) fn messages(&self) -> impl Iterator<Item = (u64, &Sent)> {
-        let waiting = self.sent.iter().filter(|(_, is_taken)| !is_taken);
-        (0..).zip(waiting.map(|(sent, _)| sent))
+        (0..).zip(self.waiting.iter().filter_map(|&at| self.sent.get(at as usize)))
     }
 
     /// Whether the receive of a message is reported as this event under a tracer.
-    pub(super) fn is_due(sent: &Sent, receive: &Event) -> bool {
-        fit_of(sent, receive) == Fit::Exact
+    pub(super) fn is_due(&self, sent: &Sent, receive: &Event) -> bool {
+        self.fit(sent, receive) == Fit::Exact
     }
 
     /// The place of the first message whose receive is reported as this event under a tracer, or why
@@ -155,33 +140,33 @@ impl Queue {
     pub(super) fn find(&self, receive: &Event) -> Result<u64, Missing> {
         let mut missing = Missing::Absent;
         for (place, sent) in self.messages() {
-            match fit_of(sent, receive) {
+            match self.fit(sent, receive) {
                 Fit::Exact => return Ok(place),
                 fit => missing = missing.and(place, fit),
             }
         }
         Err(missing)
     }
-}
 
-/// How a message fits a receive.
-fn fit_of(sent: &Sent, receive: &Event) -> Fit {
-    let Some(token) = sent.token else { return Fit::Other };
-    if sent.from != receive.from || token.serial.this != receive.serial.this {
-        return Fit::Other;
-    }
-    let differences = Differences {
-        value: sent.value != receive.value,
-        label: token.label != receive.label,
-        prev: token.serial.prev != receive.serial.prev,
-        flag: !token.flags.receive,
-    };
-    let is_exact =
-        differences == Differences { value: false, label: false, prev: false, flag: false };
-    match (sent.is_wiped, is_exact) {
-        (false, true) => Fit::Exact,
-        (true, true) => Fit::Wiped,
-        (false, false) => Fit::Differs(differences),
-        (true, false) => Fit::Other,
+    /// How a message fits a receive.
+    fn fit(&self, sent: &Sent, receive: &Event) -> Fit {
+        let Some(token) = sent.token else { return Fit::Other };
+        if sent.from != receive.from || token.serial.this != receive.serial.this {
+            return Fit::Other;
+        }
+        let differences = Differences {
+            value: sent.value != receive.value,
+            label: token.label != receive.label,
+            prev: token.serial.prev != receive.serial.prev,
+            flag: !token.flags.receive,
+        };
+        let is_exact =
+            differences == Differences { value: false, label: false, prev: false, flag: false };
+        match (sent.act < self.reset, is_exact) {
+            (false, true) => Fit::Exact,
+            (true, true) => Fit::Wiped,
+            (false, false) => Fit::Differs(differences),
+            (true, false) => Fit::Other,
+        }
     }
 }
