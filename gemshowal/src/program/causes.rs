@@ -366,18 +366,22 @@ impl Causes<'_> {
         }
     }
 
-    /// Whether the trace doesn't list a process, which `complete` supposes.
+    /// The processes that the trace doesn't list and `complete` supposes, by rising pid.
+    fn unlisted(&self) -> &[Pid] {
+        self.whole.as_ref().map_or(&[], |whole| whole.completion.unlisted())
+    }
+
+    /// Whether the trace doesn't list a process.
     pub(crate) fn is_unlisted(&self, pid: Pid) -> bool {
-        self.whole.as_ref().is_some_and(|whole| whole.completion.unlisted().contains(&pid))
+        self.unlisted().binary_search(&pid).is_ok()
     }
 
     /// What a process is called.
     pub(crate) fn process(&self, pid: Pid) -> Cow<'_, str> {
-        let unlisted = self.whole.as_ref().map_or(&[][..], |whole| whole.completion.unlisted());
-        match unlisted.iter().position(|&other| other == pid) {
-            None => self.view.names.process(pid),
-            Some(_) if unlisted.len() == 1 => "a process that the trace doesn't list".into(),
-            Some(at) => format!("a process that the trace doesn't list {}", at + 1).into(),
+        match self.unlisted().binary_search(&pid) {
+            Err(_) => self.view.names.process(pid),
+            Ok(_) if self.unlisted().len() == 1 => "a process that the trace doesn't list".into(),
+            Ok(at) => format!("a process that the trace doesn't list {}", at + 1).into(),
         }
     }
 
