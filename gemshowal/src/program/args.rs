@@ -10,7 +10,7 @@ use std::path::{Path, PathBuf};
 /// What a trace of Erlang's seq_trace says: whether it could have happened, what it lacks, and what
 /// caused what.
 #[derive(Parser)]
-#[command(name = "gemshowal", version, after_help = AFTER)]
+#[command(name = "gemshowal", bin_name = "gemshowal", version, after_help = AFTER)]
 pub(crate) struct Args {
     #[command(subcommand)]
     pub(crate) command: Command,
