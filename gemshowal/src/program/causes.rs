@@ -4,8 +4,9 @@
 //! events. Where these stop at an event that wasn't reported, the hops of the completed trace go
 //! on, which say what is so in one run of several: so that is said with `perhaps`.
 
+use crate::audit;
 use crate::names::Names;
-use crate::view::Place;
+use crate::view::{Kept, Place, View};
 use crate::Failure;
 use gemshowal::{
     Answer, Completion, Event, Finding, Hop, Hops, Item, Kind, Label, Never, OutOfMemory, Paired,
@@ -91,8 +92,7 @@ impl Added {
 
 /// What each event of a trace follows.
 pub(crate) struct Causes<'a> {
-    trace: &'a Trace,
-    names: &'a Names,
+    view: &'a View<'a>,
     never: Option<(Pid, u64, Never)>,
     hops: Hops<'a>,
     paired: &'a Paired<'a>,
@@ -101,15 +101,14 @@ pub(crate) struct Causes<'a> {
 
 /// Does something with the causes of a trace, unless its events can't be paired.
 pub(crate) fn with_causes<T>(
-    trace: &Trace,
-    names: &Names,
+    view: &View<'_>,
     run: impl FnOnce(&Causes<'_>) -> Result<T, Failure>,
 ) -> Result<Result<T, Finding>, Failure> {
-    let paired = match Paired::of(trace.streams())? {
+    let paired = match Paired::of(view.trace.streams())? {
         Ok(paired) => paired,
         Err(finding) => return Ok(Err(finding)),
     };
-    let (completion, never) = match trace.complete()? {
+    let (completion, never) = match view.trace.complete()? {
         Answer::Whole(completion) => (Some(completion), None),
         Answer::Never(pid, index, never) => (None, Some((pid, index, never))),
     };
@@ -120,15 +119,45 @@ pub(crate) fn with_causes<T>(
         .as_ref()
         .zip(all.as_ref())
         .map(|(completion, paired)| Whole::of(completion, paired));
-    let causes = Causes {
-        trace,
-        names,
-        never,
-        hops: paired.hops()?,
-        paired: &paired,
-        whole: whole.transpose()?,
-    };
+    let causes =
+        Causes { view, never, hops: paired.hops()?, paired: &paired, whole: whole.transpose()? };
     Ok(Ok(run(&causes)?))
+}
+
+/// Does something with the causes of a trace. If no run without a reset reports it, that is done
+/// for each part between which resets may have been, with the number of the part and how many there
+/// are. If there are none, or one can't be paired, it is done for the whole, unless that can't be.
+pub(crate) fn with_each<T>(
+    whole: &View<'_>,
+    mut run: impl FnMut(&Causes<'_>, Option<(usize, usize)>) -> Result<T, Failure>,
+) -> Result<Result<Vec<T>, Finding>, Failure> {
+    let done = with_causes(whole, |causes| match causes.never() {
+        None => run(causes, None).map(Some),
+        Some(_) => Ok(None),
+    })?;
+    if let Ok(Some(done)) = done {
+        return Ok(Ok(vec![done]));
+    }
+    let parts = audit::parts(whole)?;
+    if !are_paired(&parts)? {
+        return with_causes(whole, |causes| Ok(vec![run(causes, None)?]));
+    }
+    let mut all = Vec::new();
+    for ((kept, part), which) in parts.iter().zip(1..) {
+        let view = whole.part(part, kept, false);
+        all.extend(with_causes(&view, |causes| run(causes, Some((which, parts.len()))))?.ok());
+    }
+    Ok(Ok(all))
+}
+
+/// Whether there are parts, and each can be paired.
+fn are_paired(parts: &[(Kept, Trace)]) -> Result<bool, OutOfMemory> {
+    for (_, part) in parts {
+        if part.pair()?.is_err() {
+            return Ok(false);
+        }
+    }
+    Ok(!parts.is_empty())
 }
 
 impl<'a> Whole<'a> {
@@ -164,7 +193,7 @@ impl Causes<'_> {
 
     /// All events that are shown.
     pub(crate) fn streams(&self) -> &Streams {
-        self.whole.as_ref().map_or(self.trace.streams(), |whole| whole.completion.streams())
+        self.whole.as_ref().map_or(self.trace().streams(), |whole| whole.completion.streams())
     }
 
     /// The events that are shown, each behind what it follows if the trace has a run.
@@ -188,14 +217,25 @@ impl Causes<'_> {
         added
     }
 
+    /// The item of the event with this place in the whole trace, if it is here.
+    pub(crate) fn item_at(&self, (pid, number): Place) -> Option<Item> {
+        Some(self.item((pid, self.view.index(pid, number)?)))
+    }
+
     /// The item of a reported event.
-    pub(crate) fn item(&self, (pid, index): Place) -> Item {
+    fn item(&self, (pid, index): Place) -> Item {
         let told =
             self.whole.as_ref().and_then(|whole| whole.told(pid).get(index as usize).copied());
         Item::Reported(pid, told.unwrap_or(index))
     }
 
-    /// The place in the trace of an event that was reported.
+    /// The place in the whole trace of an event that was reported.
+    pub(crate) fn place(&self, item: Item) -> Option<Place> {
+        let (pid, index) = self.reported(item)?;
+        Some((pid, self.view.number(pid, index)))
+    }
+
+    /// The place of an event that was reported, among the events of this part.
     pub(crate) fn reported(&self, item: Item) -> Option<Place> {
         match (item, &self.whole) {
             (Item::Hidden(..), _) => None,
@@ -314,40 +354,50 @@ impl Causes<'_> {
     pub(crate) fn number(&self, item: Item) -> String {
         let (pid, index) = item.place();
         match (self.reported(item), item) {
-            (Some((_, index)), _) => index.to_string(),
+            (Some((pid, index)), _) => self.view.number(pid, index).to_string(),
             (None, Item::Hidden(..)) => String::new(),
             (None, Item::Reported(..)) => {
                 let told = self.whole.as_ref().map_or(&[][..], |whole| whole.told(pid));
                 let before = told.partition_point(|&told| told < index);
                 let last = before.checked_sub(1).and_then(|last| told.get(last));
-                format!("{before}~{}", index - last.map_or(0, |last| last + 1) + 1)
+                let which = index - last.map_or(0, |last| last + 1) + 1;
+                format!("{}~{which}", self.view.number(pid, before as u64))
             }
         }
     }
 
-    /// Whether the trace doesn't list a process, which `complete` supposes.
+    /// The processes that the trace doesn't list and `complete` supposes, by rising pid.
+    fn unlisted(&self) -> &[Pid] {
+        self.whole.as_ref().map_or(&[], |whole| whole.completion.unlisted())
+    }
+
+    /// Whether the trace doesn't list a process.
     pub(crate) fn is_unlisted(&self, pid: Pid) -> bool {
-        self.whole.as_ref().is_some_and(|whole| whole.completion.unlisted().contains(&pid))
+        self.unlisted().binary_search(&pid).is_ok()
     }
 
     /// What a process is called.
     pub(crate) fn process(&self, pid: Pid) -> Cow<'_, str> {
-        let unlisted = self.whole.as_ref().map_or(&[][..], |whole| whole.completion.unlisted());
-        match unlisted.iter().position(|&other| other == pid) {
-            None => self.names.process(pid),
-            Some(_) if unlisted.len() == 1 => "a process that the trace doesn't list".into(),
-            Some(at) => format!("a process that the trace doesn't list {}", at + 1).into(),
+        match self.unlisted().binary_search(&pid) {
+            Err(_) => self.view.names.process(pid),
+            Ok(_) if self.unlisted().len() == 1 => "a process that the trace doesn't list".into(),
+            Ok(at) => format!("a process that the trace doesn't list {}", at + 1).into(),
         }
     }
 
     /// The names of the trace.
     pub(crate) fn names(&self) -> &Names {
-        self.names
+        self.view.names
     }
 
-    /// The trace.
+    /// The trace, or the part of it that is looked at.
     pub(crate) fn trace(&self) -> &Trace {
-        self.trace
+        self.view.trace
+    }
+
+    /// The same with what its events are called.
+    pub(crate) fn view(&self) -> &View<'_> {
+        self.view
     }
 }
 

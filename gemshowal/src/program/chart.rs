@@ -2,7 +2,7 @@
 //! as a drawing.
 
 use crate::args::Chart as Args;
-use crate::causes::{with_causes, Causes, Grade, Link};
+use crate::causes::{with_each, Causes, Grade, Link};
 use crate::input::Input;
 use crate::object::{kind_word, Number};
 use crate::output::{Notes, Output};
@@ -13,6 +13,7 @@ use gemshowal::{Event, Item, Kind, Label, Pid};
 use serde::Serialize;
 use std::collections::{BTreeMap, BTreeSet};
 use std::io::{self, Write};
+use std::path::{Path, PathBuf};
 
 /// The characters of a message in a row, and of an event's name.
 const MESSAGE: usize = 80;
@@ -53,55 +54,78 @@ pub(crate) fn run(
         (None, None) => None,
         (label, _) => Some(names.find_label(&trace, label.as_deref())?),
     };
-    let name = input.line_name();
-    let told = with_causes(&trace, &names, |causes| {
-        let charts = Chart::of(causes, label)?;
-        if charts.iter().any(Chart::is_long) {
-            notes.say_no(format_args!(
-                "note: {name}: the chart would be too long; gemshowal cut makes a smaller trace"
-            ));
-            return Ok(Status::Long);
+    let whole = View::whole(&trace, &names);
+    let mut charts = Vec::new();
+    let told = with_each(&whole, |causes, part| {
+        let found = Chart::of(causes, label)?;
+        if found.iter().any(Chart::is_long) {
+            return Err(Failure::LongChart(input.line_name().into()));
         }
-        write(args, json, causes, &charts, out, notes)
+        if let (Some(file), Some(chart)) = (&args.svg, found.first()) {
+            svg::write(&part_file(file, part), causes, chart)?;
+        }
+        if json {
+            charts.extend(found.iter().map(|chart| Charted::of(causes, chart, part)));
+        } else {
+            write(causes, part, &found, out)?;
+        }
+        let grades = found.iter().flat_map(|chart| &chart.rows).map(|row| row.link.grade);
+        Ok((words::headline(causes), !found.is_empty(), words::chart_note(grades)))
     })?;
-    told.or_else(|finding| {
-        write_unpaired(json, &View::whole(&trace, &names), &finding, out)?;
-        Ok(Status::No)
-    })
+    let told = match told {
+        Ok(told) => told,
+        Err(finding) => {
+            write_unpaired(json, &whole, &finding, out)?;
+            return Ok(Status::No);
+        }
+    };
+    told.iter().find_map(|(.., note)| *note).into_iter().for_each(|note| notes.say(note));
+    if json {
+        let headlines: Vec<String> = told.into_iter().map(|(headline, ..)| headline).collect();
+        let headline = headlines.join("; ");
+        out.report("charted", &Told { headline, charts })?;
+        return Ok(Status::Yes);
+    }
+    Ok(if told.iter().any(|(_, is_any, _)| *is_any) { Status::Yes } else { Status::No })
+}
+
+/// The file for the drawing of a part: `shop-2.svg`.
+fn part_file(file: &Path, part: Option<(usize, usize)>) -> PathBuf {
+    let Some((which, _)) = part else { return file.into() };
+    let mut name = file.file_stem().unwrap_or_default().to_owned();
+    name.push(format!("-{which}"));
+    if let Some(extension) = file.extension() {
+        name.push(".");
+        name.push(extension);
+    }
+    file.with_file_name(name)
 }
 
 fn write(
-    args: &Args,
-    json: bool,
     causes: &Causes<'_>,
+    part: Option<(usize, usize)>,
     charts: &[Chart],
     out: &mut Output,
-    notes: &mut Notes,
-) -> Result<Status, Failure> {
-    if let (Some(file), Some(chart)) = (&args.svg, charts.first()) {
-        svg::write(file, causes, chart)?;
+) -> io::Result<()> {
+    match part {
+        None | Some((1, _)) => {
+            for loss in causes.names().losses() {
+                writeln!(out, "this trace isn't whole: {loss}")?;
+            }
+        }
+        Some(_) => writeln!(out)?,
     }
-    let status = if charts.is_empty() { Status::No } else { Status::Yes };
-    if json {
-        let charts = charts.iter().map(|chart| Charted::of(causes, chart)).collect();
-        out.report("charted", &Told { headline: words::headline(causes), charts })?;
-        return Ok(status);
+    if let Some(part) = part {
+        writeln!(out, "{}", words::part(part))?;
     }
     writeln!(out, "{}", words::headline(causes))?;
-    for loss in causes.names().losses() {
-        writeln!(out, "this trace isn't whole: {loss}")?;
-    }
     for (chart, number) in charts.iter().zip(0..) {
         if number > 0 {
             writeln!(out)?;
         }
         chart.write(causes, out)?;
     }
-    let grades = charts.iter().flat_map(|chart| &chart.rows).map(|row| row.link.grade);
-    if let Some(note) = words::chart_note(grades) {
-        notes.say(note);
-    }
-    Ok(status)
+    Ok(())
 }
 
 impl Chart {
@@ -185,14 +209,14 @@ impl Chart {
 
 /// When an event happened, behind two blanks.
 fn time(causes: &Causes<'_>, item: Item) -> String {
-    let times = causes.names().times().zip(causes.reported(item));
+    let times = causes.names().times().zip(causes.place(item));
     let time = times.and_then(|(times, place)| Some(moment::moment(times, times.of_event(place)?)));
     time.map(|time| format!("  {time}")).unwrap_or_default()
 }
 
 /// How long after its send a receive was reported.
 fn took(causes: &Causes<'_>, item: Item) -> String {
-    let times = causes.names().times().zip(causes.reported(item));
+    let times = causes.names().times().zip(causes.place(item));
     let took = times.and_then(|(times, place)| Some(times.of_message(place)?.1));
     took.map(|took| format!(", {} later", moment::seconds(took))).unwrap_or_default()
 }
@@ -216,6 +240,9 @@ struct Told {
 /// A chart as JSON.
 #[derive(Serialize)]
 struct Charted {
+    /// The part between supposed resets that it is of.
+    #[serde(skip_serializing_if = "Option::is_none")]
+    part: Option<usize>,
     label: String,
     lanes: Vec<String>,
     rows: Vec<ChartedRow>,
@@ -239,7 +266,7 @@ struct ChartedRow {
 }
 
 impl Charted {
-    fn of(causes: &Causes<'_>, chart: &Chart) -> Charted {
+    fn of(causes: &Causes<'_>, chart: &Chart, part: Option<(usize, usize)>) -> Charted {
         let places: BTreeMap<Item, usize> =
             chart.rows.iter().map(|row| row.item).zip(0..).collect();
         let row = |row: &Row| ChartedRow {
@@ -256,6 +283,7 @@ impl Charted {
             is_perhaps: row.link.grade == Grade::Perhaps,
         };
         Charted {
+            part: part.map(|(which, _)| which),
             label: causes.names().label(chart.label).into_owned(),
             lanes: chart.lanes.iter().map(|&pid| causes.process(pid).into_owned()).collect(),
             rows: chart.rows.iter().map(row).collect(),

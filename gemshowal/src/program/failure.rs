@@ -57,6 +57,8 @@ pub(crate) enum Failure {
          trace"
     )]
     TooManyRows(usize, usize),
+    #[error("the chart of {0} would be too long; gemshowal cut makes a smaller trace")]
+    LongChart(String),
     #[error("standard output can't be written: {0}")]
     Unwritten(#[from] io::Error),
 }
@@ -76,7 +78,7 @@ impl Failure {
             Failure::Unread(_, reason) if reason.kind() == ErrorKind::InvalidData => {
                 Status::Faulty as u8
             }
-            Failure::TooManyRows(..) => Status::Long as u8,
+            Failure::TooManyRows(..) | Failure::LongChart(_) => Status::Long as u8,
             Failure::Unwritten(reason) if reason.kind() == ErrorKind::BrokenPipe => PIPE,
             _ => 4,
         }

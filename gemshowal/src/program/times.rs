@@ -2,14 +2,14 @@
 //! waited for.
 
 use crate::args::Times as Args;
-use crate::causes::{with_causes, Causes, Grade};
+use crate::causes::{with_each, Causes, Grade};
 use crate::chart::short;
 use crate::durations::{self, Durations, LabelTime};
 use crate::input::Input;
 use crate::moment::{clock, seconds, span, spans};
 use crate::names::{Names, Times};
 use crate::output::{Notes, Output};
-use crate::view::{count, Place};
+use crate::view::{count, Place, View};
 use crate::words;
 use crate::{Failure, Status};
 use gemshowal::{Item, Kind, Label, Trace};
@@ -43,9 +43,7 @@ pub(crate) fn run(
     let tables = Tables::of(&trace, &names, times);
     let path = match label {
         None => None,
-        Some(label) => with_causes(&trace, &names, |causes| Path::to_last(causes, times, label))?
-            .ok()
-            .flatten(),
+        Some(label) => Path::to_last(&View::whole(&trace, &names), times, label)?,
     };
     if json {
         out.report("timed", &Told { tables: &tables, path: &path })?;
@@ -240,9 +238,16 @@ struct Step {
 
 impl Path {
     /// The path to the last event of a label with a time.
-    fn to_last(causes: &Causes<'_>, times: &Times, label: Label) -> Result<Option<Path>, Failure> {
-        let Some(last) = last_event(causes.trace(), times, label) else { return Ok(None) };
-        let mut items = vec![(causes.item(last), Grade::Certain)];
+    fn to_last(whole: &View<'_>, times: &Times, label: Label) -> Result<Option<Path>, Failure> {
+        let Some(last) = last_event(whole.trace, times, label) else { return Ok(None) };
+        let paths = with_each(whole, |causes, _| {
+            Ok(causes.item_at(last).map(|last| Path::to(causes, times, last)))
+        })?;
+        Ok(paths.unwrap_or_default().into_iter().flatten().next())
+    }
+
+    fn to(causes: &Causes<'_>, times: &Times, last: Item) -> Path {
+        let mut items = vec![(last, Grade::Certain)];
         while let Some(&(item, _)) = items.last() {
             let link = causes.link(item);
             match link.after() {
@@ -250,7 +255,7 @@ impl Path {
                 None => break,
             }
         }
-        let time = |item: Item| times.of_event(causes.reported(item)?);
+        let time = |item: Item| times.of_event(causes.place(item)?);
         let behind = items
             .iter()
             .skip(1)
@@ -265,7 +270,7 @@ impl Path {
         });
         let mut steps: Vec<Step> = steps.collect();
         steps.reverse();
-        Ok(Some(Path { steps }))
+        Path { steps }
     }
 
     fn write(&self, names: &Names, label: Label, out: &mut Output) -> io::Result<()> {

@@ -60,6 +60,16 @@ impl<'a> View<'a> {
             .unwrap_or_else(|| own.last().map_or(index, |last| last + 1))
     }
 
+    /// The index here of the event with this number in the whole trace, if it is here.
+    pub(crate) fn index(&self, pid: Pid, number: u64) -> Option<u64> {
+        match &self.numbers {
+            None => (number < self.trace.streams().len(pid)).then_some(number),
+            Some(numbers) => {
+                numbers.get(&pid)?.binary_search(&number).ok().map(|index| index as u64)
+            }
+        }
+    }
+
     /// The events for which `is_in` is true; of processes without one none is listed.
     pub(crate) fn kept(&self, is_in: impl Fn(Pid, u64, &Event) -> bool) -> Kept {
         let own = |(pid, events): (Pid, &[Event])| {

@@ -1,7 +1,7 @@
 //! The command `why`: what an event follows, and so on back, or what follows it.
 
 use crate::args::Why;
-use crate::causes::{with_causes, Cause, Causes, Grade, Link};
+use crate::causes::{with_each, Cause, Causes, Grade, Link};
 use crate::input::Input;
 use crate::object::{kind_word, Number};
 use crate::output::{Notes, Output};
@@ -9,7 +9,7 @@ use crate::reason::write_unpaired;
 use crate::view::View;
 use crate::words;
 use crate::{Failure, Status};
-use gemshowal::{Item, OutOfMemory, Pid, Premises, Text};
+use gemshowal::{Item, OutOfMemory, Pid, Premises, Text, Trace};
 use serde::Serialize;
 use std::collections::HashMap;
 use std::io::{self, Write};
@@ -27,24 +27,29 @@ pub(crate) fn run(
     let trace = input.trace()?;
     let names = input.names(&trace, notes)?;
     let place = names.find_event(&trace, &args.event)?;
-    let told = with_causes(&trace, &names, |causes| {
+    let whole = View::whole(&trace, &names);
+    let told = with_each(&whole, |causes, part| {
+        let Some(item) = causes.item_at(place) else { return Ok(None) };
         let way = if args.effects {
-            Way::forth(causes, causes.item(place), args)?
+            Way::forth(causes, item, args)?
         } else {
-            Way::back(causes, causes.item(place), args)
+            Way::back(causes, item, args)
         };
         if json {
             let result = if causes.never().is_some() { "never" } else { "found" };
-            out.report(result, &way.object(causes)?)?;
+            out.report(result, &way.object(causes, &trace, part)?)?;
         } else {
-            way.write(causes, out)?;
+            way.write(causes, part, out)?;
         }
-        Ok(Status::Yes)
+        Ok(Some(Status::Yes))
     })?;
-    told.or_else(|finding| {
-        write_unpaired(json, &View::whole(&trace, &names), &finding, out)?;
-        Ok(Status::No)
-    })
+    match told {
+        Ok(done) => Ok(done.into_iter().flatten().next().unwrap_or(Status::No)),
+        Err(finding) => {
+            write_unpaired(json, &whole, &finding, out)?;
+            Ok(Status::No)
+        }
+    }
 }
 
 /// An event on the way back from another, or in the tree of what follows it.
@@ -101,7 +106,15 @@ impl Way {
         self.steps.iter().skip(first).map(|step| step.link.grade)
     }
 
-    fn write(&self, causes: &Causes<'_>, out: &mut Output) -> io::Result<()> {
+    fn write(
+        &self,
+        causes: &Causes<'_>,
+        part: Option<(usize, usize)>,
+        out: &mut Output,
+    ) -> io::Result<()> {
+        if let Some(part) = part {
+            writeln!(out, "{}", words::part(part))?;
+        }
         if causes.never().is_some() {
             writeln!(out, "{}", words::headline(causes))?;
         }
@@ -149,12 +162,18 @@ impl Way {
         Ok(())
     }
 
-    fn object(&self, causes: &Causes<'_>) -> Result<Told, Failure> {
-        let found = self.steps.iter().map(|step| Found::of(causes, step).transpose());
+    fn object(
+        &self,
+        causes: &Causes<'_>,
+        trace: &Trace,
+        part: Option<(usize, usize)>,
+    ) -> Result<Told, Failure> {
+        let found = self.steps.iter().map(|step| Found::of(causes, trace, step).transpose());
         let events = found.flatten().collect::<Result<_, _>>()?;
         let direction = if self.is_back { "back" } else { "forth" };
         Ok(Told {
             headline: words::headline(causes),
+            part: part.map(|(which, _)| which),
             direction,
             events,
             rests_on: words::premises(self.grades()),
@@ -176,6 +195,9 @@ fn parent(link: &Link, across: bool) -> Option<Item> {
 pub(crate) struct Told {
     direction: &'static str,
     headline: String,
+    /// The part between supposed resets in which the event is.
+    #[serde(skip_serializing_if = "Option::is_none")]
+    part: Option<usize>,
     events: Vec<Found>,
     rests_on: Vec<&'static str>,
 }
@@ -206,11 +228,11 @@ struct Found {
 }
 
 impl Found {
-    fn of(causes: &Causes<'_>, step: &Step) -> Result<Option<Found>, OutOfMemory> {
+    fn of(causes: &Causes<'_>, trace: &Trace, step: &Step) -> Result<Option<Found>, OutOfMemory> {
         let names = causes.names();
         let Some(event) = causes.event(step.item) else { return Ok(None) };
-        let place = causes.reported(step.item);
-        let line = place.map(|(pid, index)| causes.trace().line(pid, index)).transpose()?.flatten();
+        let place = causes.place(step.item);
+        let line = place.map(|(pid, index)| trace.line(pid, index)).transpose()?.flatten();
         let (cause, after) = cause(causes, step.link);
         let (grade, premises) = grade(step.link.grade);
         Ok(Some(Found {

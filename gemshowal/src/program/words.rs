@@ -4,7 +4,7 @@
 use crate::causes::{Cause, Causes, Grade, Link};
 use crate::moment::moment;
 use crate::reason::Against;
-use crate::view::{count, Shown, View};
+use crate::view::{count, Shown};
 use gemshowal::{Item, Kind, Premises};
 
 /// Of which runs all is said.
@@ -139,7 +139,7 @@ pub(crate) fn premises(grades: impl Iterator<Item = Grade>) -> Vec<&'static str>
 
 /// When a reported event happened, behind what it is.
 pub(crate) fn at(causes: &Causes<'_>, item: Item) -> String {
-    let times = causes.names().times().zip(causes.reported(item));
+    let times = causes.names().times().zip(causes.place(item));
     let time = times.and_then(|(times, place)| Some(moment(times, times.of_event(place)?)));
     time.map(|time| format!(", at {time}")).unwrap_or_default()
 }
@@ -147,8 +147,8 @@ pub(crate) fn at(causes: &Causes<'_>, item: Item) -> String {
 /// Whether a run has the trace, and what is added to it, in a line.
 pub(crate) fn headline(causes: &Causes<'_>) -> String {
     if let Some((pid, index, never)) = causes.never() {
-        let view = View::whole(causes.trace(), causes.names());
-        return Against::by_complete(pid, index, never).headline(&Shown::reported(&view));
+        let shown = Shown::reported(causes.view());
+        return Against::by_complete(pid, index, never).headline(&shown);
     }
     let own = causes.trace().streams();
     let events = count(own.total(), "event");
@@ -172,4 +172,9 @@ pub(crate) fn chart_note(grades: impl Iterator<Item = Grade>) -> Option<&'static
         "note: what a send or print follows holds if its process reported each receive of a token \
          and began no label twice; gemshowal why says of which event that is needed",
     )
+}
+
+/// Which part between supposed resets is looked at.
+pub(crate) fn part((which, of): (usize, usize)) -> String {
+    format!("part {which} of {of} between supposed resets; gemshowal audit says where they are")
 }

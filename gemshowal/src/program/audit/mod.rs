@@ -84,6 +84,30 @@ struct Part {
     outcome: Outcome,
 }
 
+/// The parts between which resets may have been; none if there is one alone, or very many.
+fn split(view: &View<'_>) -> Result<Vec<(Kept, Trace)>, OutOfMemory> {
+    let split = resets::split(view.trace, PARTS).unwrap_or_default();
+    if split.len() < 2 {
+        return Ok(Vec::new());
+    }
+    let part = |part: resets::Part| {
+        let own = |(pid, (first, end))| (pid, (first as u64..end as u64).collect());
+        let kept: Kept = part.into_iter().map(own).collect();
+        let trace = view.trace.part(&kept)?;
+        Ok((kept, trace))
+    };
+    split.into_iter().map(part).collect()
+}
+
+/// The same, none if events are copies of others: then nothing says that there was a reset.
+pub(crate) fn parts(view: &View<'_>) -> Result<Vec<(Kept, Trace)>, OutOfMemory> {
+    if outcome::copies(view).is_empty() {
+        split(view)
+    } else {
+        Ok(Vec::new())
+    }
+}
+
 impl Auditor<'_> {
     fn run(&self, out: &mut Output) -> Result<Status, Failure> {
         if self.args.each_label {
@@ -134,20 +158,13 @@ impl Auditor<'_> {
         Ok(if is_fit { copies } else { Vec::new() })
     }
 
-    /// The parts between which resets may have been; none if there is one alone, or very many.
+    /// The parts between which resets may have been, each audited by itself.
     fn parts(&self) -> Result<Vec<Part>, OutOfMemory> {
-        let split = resets::split(self.view.trace, PARTS).unwrap_or_default();
-        if split.len() < 2 {
-            return Ok(Vec::new());
-        }
-        let part = |part: resets::Part| {
-            let own = |(pid, (first, end))| (pid, (first as u64..end as u64).collect());
-            let kept: Kept = part.into_iter().map(own).collect();
-            let trace = self.view.trace.part(&kept)?;
+        let audited = |(kept, trace): (Kept, Trace)| {
             let outcome = Outcome::of(&trace)?;
             Ok(Part { kept, trace, outcome })
         };
-        split.into_iter().map(part).collect()
+        split(self.view)?.into_iter().map(audited).collect()
     }
 
     /// Writes acts of a run that has the trace to a file.

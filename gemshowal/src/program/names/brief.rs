@@ -1,36 +1,36 @@
 //! The terms of OTP's messages without what all messages of a kind have: a call of `gen_server`, a
 //! cast, a reply, and the messages by which a process is spawned.
 
-/// What a message says in short; none if it is none of OTP's.
-pub(super) fn brief(term: &str) -> Option<String> {
+use std::borrow::Cow;
+
+/// What a message says in short: how it is sent, and the term that is in it. None if it is none of
+/// OTP's.
+pub(super) fn brief(term: &str) -> Option<(Cow<'static, str>, &str)> {
     let inside = term.strip_prefix('{')?.strip_suffix('}')?;
+    let plain = |way: &'static str| move |term| (Cow::Borrowed(way), term);
     call(inside)
-        .or_else(|| cast(inside))
+        .map(plain("call "))
+        .or_else(|| inside.strip_prefix("'$gen_cast',").map(plain("cast ")))
         .or_else(|| spawn(inside))
-        .or_else(|| spawned(inside))
-        .or_else(|| reply(inside))
+        .or_else(|| spawned(inside).map(plain("spawned ")))
+        .or_else(|| after_tag(inside)?.strip_prefix(',').map(plain("reply ")))
 }
 
-fn call(inside: &str) -> Option<String> {
+fn call(inside: &str) -> Option<&str> {
     let caller = inside.strip_prefix("'$gen_call',{")?;
-    let rest = after_tag(after_comma(caller)?)?;
-    Some(format!("call {}", rest.strip_prefix("},")?))
-}
-
-fn cast(inside: &str) -> Option<String> {
-    Some(format!("cast {}", inside.strip_prefix("'$gen_cast',")?))
+    after_tag(after_comma(caller)?)?.strip_prefix("},")
 }
 
 /// `spawn_request,REF,PARENT,LEADER,{MODULE,FUNCTION,ARITY},[OPTION ..],..,ARGUMENTS`, of which the
 /// arguments may be cut.
-fn spawn(inside: &str) -> Option<String> {
+fn spawn(inside: &str) -> Option<(Cow<'static, str>, &str)> {
     let rest = after_reference(inside.strip_prefix("spawn_request,")?)?.strip_prefix(',')?;
     let (function, rest) = after_comma(after_comma(rest)?)?.strip_prefix('{')?.split_once('}')?;
     let [module, name, arity] = function.split(',').collect::<Vec<_>>().try_into().ok()?;
     let is_number = !arity.is_empty() && arity.bytes().all(|byte| byte.is_ascii_digit());
     is_number.then(|| match arguments(rest) {
-        Some(arguments) => format!("spawn {module}:{name}/{arity} {arguments}"),
-        None => format!("spawn {module}:{name}/{arity}"),
+        Some(arguments) => (format!("spawn {module}:{name}/{arity} ").into(), arguments),
+        None => (format!("spawn {module}:{name}/{arity}").into(), ""),
     })
 }
 
@@ -40,13 +40,8 @@ fn arguments(rest: &str) -> Option<&str> {
     after_comma(rest)
 }
 
-fn spawned(inside: &str) -> Option<String> {
-    let rest = after_reference(inside.strip_prefix("spawn_reply,")?)?;
-    Some(format!("spawned {}", rest.strip_prefix(",ok,")?))
-}
-
-fn reply(inside: &str) -> Option<String> {
-    Some(format!("reply {}", after_tag(inside)?.strip_prefix(',')?))
+fn spawned(inside: &str) -> Option<&str> {
+    after_reference(inside.strip_prefix("spawn_reply,")?)?.strip_prefix(",ok,")
 }
 
 /// What follows a word and a comma.
@@ -93,7 +88,8 @@ mod tests {
                 "spawn shop:loop/1",
             ),
         ] {
-            assert_eq!(brief(term).as_deref(), Some(short), "{term}");
+            let said = brief(term).map(|(way, term)| format!("{way}{term}"));
+            assert_eq!(said.as_deref(), Some(short), "{term}");
         }
     }
 

@@ -12,7 +12,7 @@ pub(crate) enum Fault {
     #[error("{} can't be read: {reason}", .file.display())]
     Unread { file: PathBuf, reason: io::Error },
     /// One of its lines is none of such a file.
-    #[error("{}, line {line}, isn't {wanted}; seqaudit-node convert writes it anew", .file.display())]
+    #[error("{}, line {line}, isn't {wanted}; convert it anew", .file.display())]
     Wrong { file: PathBuf, line: usize, wanted: &'static str },
 }
 

@@ -6,6 +6,7 @@
 //! never gets a control character of theirs.
 
 mod brief;
+mod elixir;
 mod entry;
 mod facts;
 mod kinds;
@@ -105,7 +106,19 @@ impl Names {
 
     /// The term of a message, `value` and its number if it has none.
     pub(crate) fn value(&self, value: u64) -> Cow<'_, str> {
-        named(self.terms.value(value), || format!("value {value}"))
+        match self.terms.value(value) {
+            Some(term) => self.shown(term),
+            None => format!("value {value}").into(),
+        }
+    }
+
+    /// The term as its language writes it.
+    fn shown<'a>(&self, term: &'a str) -> Cow<'a, str> {
+        if self.terms.are_elixir() {
+            elixir::text(term).into()
+        } else {
+            term.into()
+        }
     }
 
     /// Whether a message has a term.
@@ -116,8 +129,11 @@ impl Names {
     /// The same without what every call, cast and reply of OTP's servers has: `call
     /// {take,apple,3}`.
     pub(crate) fn brief(&self, value: u64) -> Cow<'_, str> {
-        match self.terms.value(value) {
-            Some(term) => brief::brief(term).map_or(Cow::Borrowed(term), Cow::Owned),
+        match self.terms.value(value).and_then(brief::brief) {
+            Some((way, term)) if self.terms.are_elixir() => {
+                format!("{}{}", elixir::name(&way), self.shown(term)).into()
+            }
+            Some((way, term)) => format!("{way}{term}").into(),
             None => self.value(value),
         }
     }

@@ -1,6 +1,7 @@
 //! `NAME.terms`: what processes, labels and messages are called. A line is an entry, with tabs
 //! between its parts: `process PID NAME ABOUT`, `label NUMBER TERM` or `value NUMBER TERM`.
 
+use super::elixir;
 use super::entry::{lines, number, Fault};
 use super::shown::escaped;
 use gemshowal::{Label, Pid};
@@ -22,11 +23,13 @@ pub(super) struct Terms {
     processes: HashMap<Pid, Process>,
     labels: HashMap<u32, Box<str>>,
     values: HashMap<u64, Box<str>>,
+    are_elixir: bool,
 }
 
 impl Terms {
     pub(super) fn parse(text: &str, file: &Path) -> Result<Terms, Fault> {
-        let mut terms = Terms::default();
+        let are_elixir = elixir::is_elixir(text);
+        let mut terms = Terms { are_elixir, ..Terms::default() };
         for (number, line) in lines(text, file, HEADER)? {
             if terms.add(line).is_none() {
                 return Err(Fault::at(
@@ -47,14 +50,33 @@ impl Terms {
         let text = escaped(parts.next()?).into_boxed_str();
         let is_new = match kind {
             "process" => {
-                let process = Process { name: text, about: escaped(parts.next()?).into() };
+                let about = escaped(parts.next()?);
+                let process = Process { name: self.name(&text), about: self.name(&about) };
                 self.processes.insert(gemshowal::read_pid(of)?, process).is_none()
+            }
+            "label" if self.are_elixir => {
+                let label = number(of)?.try_into().ok()?;
+                self.labels.insert(label, elixir::text(&text).into()).is_none()
             }
             "label" => self.labels.insert(number(of)?.try_into().ok()?, text).is_none(),
             "value" => self.values.insert(number(of)?, text).is_none(),
             _ => false,
         };
         (is_new && parts.next().is_none()).then_some(())
+    }
+
+    /// A name as the language of the terms writes it.
+    fn name(&self, name: &str) -> Box<str> {
+        if self.are_elixir {
+            elixir::name(name).into()
+        } else {
+            name.into()
+        }
+    }
+
+    /// Whether they name modules of Elixir, so that messages are shown as Elixir writes them.
+    pub(super) fn are_elixir(&self) -> bool {
+        self.are_elixir
     }
 
     /// Whether nothing has a name.

@@ -203,7 +203,7 @@ impl Rows {
                 rows.had.extend(places.get(had).map(|had| (number, had)));
             }
             if let (Some(column), Some(times)) = (&mut rows.time, times) {
-                column.push(causes.reported(item).and_then(|place| times.of_event(place)));
+                column.push(causes.place(item).and_then(|place| times.of_event(place)));
             }
         }
         rows

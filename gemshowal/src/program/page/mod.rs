@@ -35,7 +35,8 @@ pub(crate) fn run(
     let names = input.names(&trace, notes)?;
     let label = args.label.as_deref().map(|label| names.find_label(&trace, Some(label)));
     let label = label.transpose()?;
-    let told = with_causes(&trace, &names, |causes| {
+    let whole = View::whole(&trace, &names);
+    let told = with_causes(&whole, |causes| {
         let items = causes.order()?;
         let messages = input.messages(|value| names.has_value(value))?;
         let title = input.title();
@@ -48,7 +49,7 @@ pub(crate) fn run(
         Ok(Status::Yes)
     })?;
     told.or_else(|finding| {
-        write_unpaired(false, &View::whole(&trace, &names), &finding, out)?;
+        write_unpaired(false, &whole, &finding, out)?;
         Ok(Status::No)
     })
 }

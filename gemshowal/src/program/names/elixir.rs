@@ -1,0 +1,224 @@
+//! Terms as Elixir writes them, made of the texts that Erlang prints: `:ok`, `Shop.Order`, `"text"`
+//! for a binary, `%Shop.Order{item: "apple"}`, `%{a: 1}`, `#PID<0.80.0>`.
+//!
+//! It works word by word, so a text that is cut is translated as far as it goes. What Elixir writes
+//! as Erlang does stays.
+
+/// What a module of Elixir is called in Erlang.
+const MODULE: &str = "'Elixir.";
+
+/// A word of a term.
+#[derive(Clone, Copy, Debug, PartialEq, Eq)]
+enum Word<'a> {
+    /// A map of a struct of this name, up to its first field.
+    Struct(&'a str),
+    /// A binary of text, with its quotes.
+    Text(&'a str),
+    /// A list of characters, with its quotes.
+    List(&'a str),
+    Module(&'a str),
+    /// An atom in quotes, without them.
+    Quoted(&'a str),
+    Reference,
+    Map,
+    Arrow,
+    Pid(&'a str),
+    /// A function: its module, and the rest behind the colon.
+    Function(&'a str, &'a str),
+    Atom(&'a str),
+    /// What stays.
+    Same(&'a str),
+}
+
+/// Whether the text of a legend names modules of Elixir.
+pub(super) fn is_elixir(text: &str) -> bool {
+    text.contains(MODULE)
+}
+
+/// The name of a process, with modules as Elixir writes them.
+pub(super) fn name(name: &str) -> String {
+    let mut named = String::with_capacity(name.len());
+    let mut rest = name;
+    while let Some((before, behind)) = rest.split_once(MODULE) {
+        let (module, after) = behind.split_once('\'').unwrap_or((behind, ""));
+        named.push_str(before);
+        named.push_str(module);
+        rest = after;
+    }
+    named + rest
+}
+
+/// The text of a term.
+pub(super) fn text(term: &str) -> String {
+    let mut written = String::with_capacity(term.len());
+    let mut rest = term;
+    while let Some((word, after)) = next(rest) {
+        rest = after;
+        match (word, next(after)) {
+            (Word::Atom(key), Some((Word::Arrow, after))) => {
+                written.extend([key, ": "]);
+                rest = after;
+            }
+            (Word::Quoted(key), Some((Word::Arrow, after))) => {
+                written.extend(["\"", key, "\": "]);
+                rest = after;
+            }
+            (word, _) => write(word, &mut written),
+        }
+    }
+    written
+}
+
+fn write(word: Word<'_>, written: &mut String) {
+    match word {
+        Word::Struct(name) => written.extend(["%", name, "{"]),
+        Word::List(text) => written.extend(["~c", text]),
+        Word::Quoted(atom) => written.extend([":\"", atom, "\""]),
+        Word::Reference => written.push_str("#Reference<"),
+        Word::Map => written.push_str("%{"),
+        Word::Arrow => written.push_str(" => "),
+        Word::Pid(pid) => written.extend(["#PID", pid]),
+        Word::Function(module, function) => written.extend([":", module, ".", function]),
+        Word::Atom(atom) if ["true", "false", "nil"].contains(&atom) => written.push_str(atom),
+        Word::Atom(atom) => written.extend([":", atom]),
+        Word::Text(same) | Word::Module(same) | Word::Same(same) => written.push_str(same),
+    }
+}
+
+/// The first word of a text, and what follows it; none of an empty one.
+fn next(text: &str) -> Option<(Word<'_>, &str)> {
+    let first = text.chars().next()?;
+    let found = match first {
+        '#' => structure(text).or_else(|| sign(text)),
+        '<' => binary(text).or_else(|| pid(text)),
+        '"' => delimited(text, '"').map(|(whole, rest)| (Word::List(whole), rest)),
+        '\'' => delimited(text, '\'').map(|(whole, rest)| (quoted(whole), rest)),
+        ' ' => text.strip_prefix(" => ").map(|rest| (Word::Arrow, rest)),
+        'a'..='z' | 'ß'..='ö' | 'ø'..='ÿ' => Some(atom(text)),
+        'A'..='Z' | '0'..='9' | '_' => {
+            let (word, rest) = split(text, |c| c.is_ascii_alphanumeric() || "_@.#".contains(c));
+            Some((Word::Same(word), rest))
+        }
+        _ => None,
+    };
+    // A word in quotes that doesn't end was cut there.
+    let is_cut = "\"'".contains(first) || text.starts_with("<<\"");
+    let size = if is_cut { text.len() } else { first.len_utf8() };
+    Some(found.unwrap_or_else(|| {
+        let (same, rest) = text.split_at(size);
+        (Word::Same(same), rest)
+    }))
+}
+
+fn structure(text: &str) -> Option<(Word<'_>, &str)> {
+    let rest = text.strip_prefix("#{")?;
+    let rest = rest.strip_prefix("'__exception__' => true,").unwrap_or(rest);
+    let (name, rest) = delimited(rest.strip_prefix("'__struct__' => ")?, '\'')?;
+    let name = name.trim_matches('\'');
+    let rest = rest.strip_prefix(',').or_else(|| rest.starts_with('}').then_some(rest))?;
+    Some((Word::Struct(name.strip_prefix("Elixir.").unwrap_or(name)), rest))
+}
+
+fn sign(text: &str) -> Option<(Word<'_>, &str)> {
+    let reference = text.strip_prefix("#Ref<").map(|rest| (Word::Reference, rest));
+    reference.or_else(|| text.strip_prefix("#{").map(|rest| (Word::Map, rest)))
+}
+
+fn binary(text: &str) -> Option<(Word<'_>, &str)> {
+    let (whole, rest) = delimited(text.strip_prefix("<<")?, '"')?;
+    let rest = rest.strip_prefix("/utf8").unwrap_or(rest);
+    Some((Word::Text(whole), rest.strip_prefix(">>")?))
+}
+
+fn pid(text: &str) -> Option<(Word<'_>, &str)> {
+    let end = text.find('>')? + 1;
+    let (whole, rest) = text.split_at(end);
+    let numbers: Vec<&str> = whole.strip_prefix('<')?.strip_suffix('>')?.split('.').collect();
+    let are_numbers = numbers.iter().all(|it| super::entry::number(it).is_some());
+    (numbers.len() == 3 && are_numbers).then_some((Word::Pid(whole), rest))
+}
+
+fn quoted(whole: &str) -> Word<'_> {
+    let inner = whole.strip_prefix('\'').and_then(|it| it.strip_suffix('\'')).unwrap_or(whole);
+    inner.strip_prefix("Elixir.").map_or(Word::Quoted(inner), Word::Module)
+}
+
+/// An atom without quotes, or the function that it is the module of.
+fn atom(text: &str) -> (Word<'_>, &str) {
+    let (atom, rest) = split(text, |c| c.is_alphanumeric() || c == '_' || c == '@');
+    match function(rest) {
+        Some((function, rest)) if atom.is_ascii() => (Word::Function(atom, function), rest),
+        _ => (Word::Atom(atom), rest),
+    }
+}
+
+/// What is behind the module of a function: `init/1`.
+fn function(rest: &str) -> Option<(&str, &str)> {
+    let text =
+        rest.strip_prefix(':').filter(|it| it.starts_with(|c: char| c.is_ascii_lowercase()))?;
+    let (name, behind) = split(text, |c| c.is_ascii_alphanumeric() || c == '_' || c == '@');
+    let (arity, after) = split(behind.strip_prefix('/')?, |c| c.is_ascii_digit());
+    (!arity.is_empty()).then(|| (&text[..name.len() + 1 + arity.len()], after))
+}
+
+/// The characters at the begin of a text that fit, and what follows them.
+fn split(text: &str, fits: impl Fn(char) -> bool) -> (&str, &str) {
+    text.split_at(text.find(|c| !fits(c)).unwrap_or(text.len()))
+}
+
+/// A word between quotes at the begin of a text, with them, and what follows it. A backslash makes
+/// a quote a part of the word.
+fn delimited(text: &str, quote: char) -> Option<(&str, &str)> {
+    let inner = text.strip_prefix(quote)?;
+    let mut is_escaped = false;
+    let end = inner.char_indices().find(|&(_, c)| {
+        let is_end = c == quote && !is_escaped;
+        is_escaped = c == '\\' && !is_escaped;
+        is_end
+    });
+    Some(text.split_at(end?.0 + 2 * quote.len_utf8()))
+}
+
+#[cfg(test)]
+mod tests {
+    use super::*;
+
+    #[test]
+    fn terms_are_those_of_elixir() {
+        for (erlang, elixir) in [
+            ("ok", ":ok"),
+            ("{true,nil,'Elixir.Shop.Order'}", "{true,nil,Shop.Order}"),
+            ("<<\"apple\">>", "\"apple\""),
+            ("<<\"größe\"/utf8>>", "\"größe\""),
+            ("\"list\"", "~c\"list\""),
+            ("'two words'", ":\"two words\""),
+            ("#{a => 1,'b c' => <<1,2>>}", "%{a: 1,\"b c\": <<1,2>>}"),
+            ("#{1 => a}", "%{1 => :a}"),
+            (
+                "#{'__struct__' => 'Elixir.Shop.Order',item => <<\"apple\">>}",
+                "%Shop.Order{item: \"apple\"}",
+            ),
+            ("#{'__struct__' => 'Elixir.Shop.Order'}", "%Shop.Order{}"),
+            (
+                "#{'__exception__' => true,'__struct__' => 'Elixir.KeyError',key => a}",
+                "%KeyError{key: :a}",
+            ),
+            ("<0.80.0>", "#PID<0.80.0>"),
+            ("#Ref<0.1.2.3>", "#Reference<0.1.2.3>"),
+            ("proc_lib:init_p/5", ":proc_lib.init_p/5"),
+            ("Var_1 and x@y", "Var_1 :and :x@y"),
+            ("<<\"never ended", "<<\"never ended"),
+            ("'never ended", "'never ended"),
+            ("", ""),
+        ] {
+            assert_eq!(text(erlang), elixir, "{erlang}");
+        }
+    }
+
+    #[test]
+    fn names_have_their_modules() {
+        assert_eq!(name("'Elixir.Shop.Server':init/1 <0.1.0>"), "Shop.Server:init/1 <0.1.0>");
+        assert!(is_elixir("x 'Elixir.Shop'"));
+        assert!(!is_elixir("x 'elixir'"));
+    }
+}
