@@ -5,8 +5,8 @@
 
 Runs are made from the number FIRST on until they have so many sends and prints. Of each event `why` is asked, and its
 first line judged: no sentence may be false in a run in which the premises hold that it names. If a program is given, it
-must also write what the slow model writes, for people and as JSON, back and forth, by place and by line. At the end it
-prints how often each sentence was said, and if premises failed what was true then."""
+must also write what the slow model writes, back and forth. At the end it prints how
+often each sentence was said, and if premises failed what was true then."""
 
 import random
 import re
@@ -169,15 +169,10 @@ def judge(run, place, lines, counted):
 def ask(program, run, place):
     """What the program writes of an event; what it says must be the model's."""
     (pid, i), bundle = place, "".join(line + "\n" for line in model.write(run.streams, None))
-    is_tree, is_json, across = (run.chosen.random() < share for share in (0.3, 0.3, 0.3))
-    most = run.chosen.choice([model.TOP, run.chosen.randrange(4)])
-    named = run.chosen.choice([[model.show(pid), str(i)], ["--line", str(slow_why.line_of(run.streams, place))]])
-    flags = *["--effects"][:is_tree], *["--json"][:is_json], *["--label"][:across]
-    for options in ((), (*flags, "--depth", str(most))):
-        words = [program, "why", *named, *options]
+    for options in ((), ("--effects",)):
+        words = [program, "why", model.show(pid), str(i), *options]
         done = subprocess.run(words, input=bundle, capture_output=True, text=True, check=False)
-        asked = (most, across, is_tree, is_json) if options else (model.TOP, False)
-        lines = slow_why.why(run.streams, place, *asked)
+        lines = slow_why.why(run.streams, place, model.TOP, False, bool(options))
         assert (done.stdout.splitlines(), done.returncode) == (lines, 0), (place, options, bundle, done, lines)
     return slow_why.why(run.streams, place, model.TOP, False)
 

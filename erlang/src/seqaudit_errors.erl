@@ -26,5 +26,5 @@ wrong_line(File, Line, What) ->
 %% @doc A file isn't the text of a trace, from this line on if it is known.
 -spec no_trace(file:filename(), iodata()) -> string().
 no_trace(File, Where) ->
-    text("~ts~ts isn't the text of a trace (docs/FORMATS.md); `seqtool lint ~ts' says what is wrong with it",
+    text("~ts~ts isn't the text of a trace (docs/FORMATS.md); `gemshowal lint ~ts' says what is wrong with it",
          [File, [[Where, ","] || iolist_size(Where) > 0], File]).

@@ -44,7 +44,7 @@
 %% <dt>`unexplained'</dt><dd>`seqaudit' found no run, and there is no `seqtool' to ask</dd>
 %% <dt>`fault'</dt><dd>a program didn't take the bundle</dd>
 %% </dl>
-%% `answer' is otherwise what the program said, and `mistakes' what `seqtool lint' says of a file that `seqaudit' didn't
+%% `answer' is otherwise what the program said, and `mistakes' what `gemshowal lint' says of a file that `seqaudit' didn't
 %% take. `twice' has the events that are copies of others, if a run has the
 %% streams without them. `renumbered' says whether counts were replaced, `tool' whether `seqtool' was there and did
 %% what it was asked, `name' what the trace is called, `cut' whether the streams are what a cut left of others, and
@@ -55,7 +55,7 @@
 
 -define(FITS, 0).
 -define(UNFIT, 1).
-%% Of `seqtool lint': there are mistakes.
+%% Of `gemshowal lint': there are mistakes.
 -define(REFUSED, 2).
 %% So many lines of what it says are shown: three mistakes, each with its line and a remark.
 -define(MISTAKE_LINES, 12).
@@ -221,14 +221,11 @@ ask(Streams, Text, File) ->
 fault(Answer, Outcome) ->
     Outcome#{said => fault, fault => line(Answer), answer => Answer}.
 
-%% @doc The first lines of what `seqtool lint' says of a file that `seqaudit' doesn't take; none if it isn't there to be
+%% @doc The first lines of what `gemshowal lint' says of a file that `seqaudit' doesn't take; none if it isn't there to be
 %% asked.
 -spec mistakes(file:filename()) -> [binary()].
 mistakes(File) ->
-    case seqaudit_program:ask_if_known("seqtool", ["lint"], File) of
-        %% Of a text with too many bytes it says so on standard error alone.
-        {ok, {?REFUSED, <<"fault\n">>}} ->
-            [];
+    case seqaudit_program:ask_if_known("gemshowal", ["lint"], File) of
         {ok, {?REFUSED, Said}} ->
             Lines = binary:split(string:trim(Said, trailing), <<"\n">>, [global]),
             lists:sublist(Lines, ?MISTAKE_LINES) ++ [<<"..">> || length(Lines) > ?MISTAKE_LINES];
@@ -261,8 +258,7 @@ audit_large(Ranks, File, Fault, Outcome) ->
     case seqaudit_program:ask_if_known("seqtool", ["audit"], Ranks) of
         {ok, {?FITS, Answer}} -> {ok, Outcome#{said => fits, answer := Answer}};
         {ok, {?UNFIT, Report}} -> complete(Ranks, File, Report, Outcome);
-        {ok, {_, Greater}} when Greater =/= <<"fault\n">> -> {ok, fault(Greater, Outcome)};
-        {ok, _} -> {ok, fault(Fault, Outcome)};
+        {ok, {_, Greater}} -> {ok, fault(Greater, Outcome)};
         unknown -> {ok, fault(Fault, Outcome)};
         {error, Reason} -> {error, Reason}
     end.

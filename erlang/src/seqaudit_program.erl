@@ -12,11 +12,9 @@
 %% The folders of programs that aren't proved, best first, what `seqtool --version' says there, and what these are.
 -define(UNPROVED, [{"rust", <<"(plain Rust, not proved)">>, "plain Rust, not proved"},
                    {"quick", <<"(unproved)">>, "built without proofs"}]).
-%% The exit status of a program that doesn't take the trace.
--define(REFUSED, 2).
 %% The exit status of a program that doesn't understand the words.
 -define(USAGE, 3).
-%% The status of a no; above it a program couldn't do what it was asked to, and seqtool says why on standard error.
+%% The status of a no; above it a program couldn't do what it was asked to.
 -define(NO, 1).
 
 %% @equiv ask("seqaudit", Words, Input)
@@ -34,8 +32,6 @@ ask(Name, Words, Input) ->
         {error, Reason} -> {error, Reason}
     end.
 
-%% What seqtool doesn't take it says on standard error.
-answered(_Program, {ok, {?REFUSED, <<>>}}) -> {ok, {?REFUSED, <<"fault\n">>}};
 answered(Program, {ok, {Status, <<>>}}) when Status > ?NO -> {error, {failed, Program, Status}};
 answered(Program, {ok, {_, <<>>}}) -> {error, {empty, Program}};
 answered(_Program, Answer) -> Answer.

@@ -174,15 +174,18 @@ wrong_name_test_() ->
         has(Terms, [[Name, ".terms is what `seqaudit-node convert' writes beside a trace, and has no events\n"]])
     end).
 
-%% seqtool says what is wrong with a text that is no bundle, also if only the programs see it.
+%% gemshowal, if it is there, says what is wrong with a text that is no bundle, also if only the programs see it.
 no_bundle_test_() ->
     with_tool(fun(Said) ->
-        Lint = ["`seqtool lint ", name("no_bundle"), ".seqtrace' says what is wrong with it\n"],
+        Lint = ["`gemshowal lint ", name("no_bundle"), ".seqtrace' says what is wrong with it\n"],
+        Mistakes = case seqaudit_program:find("gemshowal") of
+                       {ok, _} -> "  line 1, column 1: expected the header seqtrace 1 or seqtrace 2\n";
+                       {error, _} -> ""
+                   end,
         [begin
              ok = write("no_bundle", Text),
              has(Said(["audit"], "no_bundle"),
-                 [[name("no_bundle"), ".seqtrace, line 1, isn't the text of a trace (docs/FORMATS.md); ", Lint,
-                   "  line 1, column 1: expected the header seqtrace 1 or seqtrace 2\n"],
+                 [[name("no_bundle"), ".seqtrace, line 1, isn't the text of a trace (docs/FORMATS.md); ", Lint, Mistakes],
                   "(status 2)"])
          end || Text <- ["", "junk\n"]],
         %% An event below another process.

@@ -325,7 +325,7 @@ faults_test() ->
         ["not audited: the trace has more bytes than the program takes; audit each label by itself (--each-label), "
          "or cut it"]),
     has(said((outcome(fault, []))#{fault => <<"fault line 3">>}),
-        ["not audited: NAME.seqtrace, line 3, isn't the text of a trace (docs/FORMATS.md); `seqtool lint "
+        ["not audited: NAME.seqtrace, line 3, isn't the text of a trace (docs/FORMATS.md); `gemshowal lint "
          "NAME.seqtrace' says what"]),
     %% The lines of a cut are those of no file.
     has(said((outcome(fault, []))#{fault => <<"fault line 3">>, cut => true}),

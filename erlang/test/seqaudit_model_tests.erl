@@ -27,7 +27,7 @@ wrong_program_test_() ->
 compared(Auditor, Tool, Last) ->
     run([test_file("random_tool.py"), $\s, Auditor, $\s, Tool, " 1 ", integer_to_list(Last)], []).
 
-%% Both read the file that is named, or standard input, and say which file can't be opened.
+%% Both read the file that is named, or standard input, and end alike if it can't be opened.
 files_test_() ->
     with_programs("files of the model", fun(_, Tool) ->
         Example = filename:join([filename:dirname(seqaudit_audits:home()), "examples", "crossing.txt"]),
@@ -35,9 +35,7 @@ files_test_() ->
         [[{0, Same}, {0, Same}] = Both(Words)
          || Words <- [["complete ", Example], ["complete <", Example], ["complete --as streams ", Example],
                       ["renumber ", Example]]],
-        [{4, One}, {4, Other}] = Both("complete /no/such/file"),
-        [{_, _} = binary:match(Said, <<"error: /no/such/file can't be opened: No such file or directory">>)
-         || Said <- [One, Other]],
+        [{4, Said}, {4, Said}] = Both("complete /no/such/file"),
         [{2, _}, {2, _}] = Both("complete /dev/null"),
         [{3, _} = run([test_file("models/slow_seqtool.py"), $\s, Words], [])
          || Words <- ["", "complete a b", "complete --as nothing", "lint"]]

@@ -69,7 +69,7 @@ damaged_test_() ->
                   ok = file:write_file(Name ++ Suffix, Text),
                   {2, Said} = command(["audit ", Name]),
                   Remedy = case Suffix of
-                               ".seqtrace" -> ["`seqtool lint ", Name, Suffix, "' says what is wrong with it\n"];
+                               ".seqtrace" -> ["`gemshowal lint ", Name, Suffix, "' says what is wrong with it\n"];
                                _ -> "`seqaudit-node convert' writes it anew\n"
                            end,
                   {_, _} = binary:match(Said, iolist_to_binary([Name, Suffix, ", line ", Line, ", isn't ", What, "; ",

@@ -18,7 +18,7 @@ from .act_families import ACTS, CROWDS_OF_ACTS, looks, resets
 from .mistakes import MISTAKES
 from .program import Check
 from .stream_families import CROWDS, STREAMS, Nodes
-from .texts import LABEL, SECOND, bundle, is_event, on_nodes
+from .texts import LABEL, bundle, is_event, on_nodes
 
 BOUND = 1.25
 PARTS = (9, 3, 1)  # The sizes are these parts of a family's greatest.
@@ -36,7 +36,7 @@ def words(text):
     return tuple(tuple(line.split()) for line in text.strip().split("\n"))
 
 
-# LAST, FIRST, TEXT and the names of SECOND are replaced by what is of the text: an event, a line, a file.
+# LAST, FIRST and TEXT are replaced by what is of the text: an event, a file.
 OF_STREAMS = words(f"""
 seqaudit audit
 seqaudit chart --label {LABEL}
@@ -44,52 +44,21 @@ seqtool audit
 seqtool complete
 seqtool complete --as acts
 seqtool why LAST
-seqtool why --effects FIRST
-seqtool lint
-seqtool list
-seqtool cut --label {LABEL}
-seqtool stats
-seqtool chart
-seqtool chart --complete
-seqtool chart --mermaid
-seqtool chart --dot
-seqtool export --as perfetto
-seqtool export --as shiviz
-seqtool export --as otlp --times TIMES
-seqtool diff - FEWER
-seqtool diff - RENUMBERED
+seqtool why FIRST --effects
 seqtool renumber""")
-# Other forms of these, which are tried with --long.
-FORMS_OF_STREAMS = words("""
-seqtool audit --json
-seqtool complete --json
-seqtool complete --as streams
-seqtool why --effects --label --json FIRST
-seqtool list --json
-seqtool cut --counts 1- --lines 1-
-seqtool stats --json
-seqtool chart --mermaid --complete
-seqtool chart --dot --complete
-seqtool diff - BACKWARDS
-seqtool diff - HALVES
-seqtool diff --json - OTHERWISE""")
+# Another form of these, which is tried with --long.
+FORMS_OF_STREAMS = words("seqtool complete --as streams")
 OF_ACTS = words("""
 seqaudit check
 seqaudit replay
 seqaudit drive
 seqtool check
-seqtool explain
-seqtool lint
 seqtool renumber""")
 # Of certificates that `audit` found for streams.
 OF_CERTIFICATES = words("""
 seqaudit check
-seqaudit replay
-seqtool explain""")
-OF_MISTAKES = words("""
-seqtool lint
-seqtool lint --json --most 1000000
-seqtool lint --fix""")
+seqaudit replay""")
+OF_MISTAKES = words("seqtool check")
 
 # No time is promised for these: such an act waits for all processes of its node, and leaves an entry in the log of each.
 UNPROMISED = {(name, "drive") for name in ("processes that are reset", "processes whose tracer changes")}
@@ -105,7 +74,7 @@ GROUPS = (
     Group(STREAMS, OF_STREAMS, FORMS_OF_STREAMS),
     Group(STREAMS, OF_CERTIFICATES, certified=True),
     Group(CROWDS, of_tool(OF_STREAMS), FORMS_OF_STREAMS),
-    Group(ACTS, OF_ACTS, words("seqtool check --json")),
+    Group(ACTS, OF_ACTS),
     Group(CROWDS_OF_ACTS, of_tool(OF_ACTS)),
     Group(MISTAKES, OF_MISTAKES),
 )
@@ -128,7 +97,7 @@ def write(path, lines):
 
 
 class Text:
-    """A text in a file, and the files that commands take beside it, which are made when they are asked for."""
+    """A text in a file."""
 
     def __init__(self, path, lines):
         self.path = path
@@ -145,12 +114,6 @@ class Text:
         with open(self.path, encoding="ascii") as text:
             yield from text
 
-    def second(self, word):
-        path = f"{self.path}.{word}"
-        if not os.path.exists(path):
-            write(path, SECOND[word](self.lines()))
-        return [path]
-
     def last(self):
         """The last event of the process that reported most."""
         most, name, count = (0, None), None, 0
@@ -163,17 +126,20 @@ class Text:
         return [most[1] or "<0.30.0>", str(max(0, most[0] - 1))]
 
     def first(self):
-        """The first event's line."""
-        return ["--line", str(next((n for n, line in enumerate(self.lines(), 1) if is_event(line)), 1))]
+        """The first event of the first process that reported one."""
+        name = "<0.30.0>"
+        for line in self.lines():
+            if line.startswith("process "):
+                name = line.split()[1]
+            elif is_event(line):
+                break
+        return [name, "0"]
 
     def filled(self, words):
         """The words of a command, with those that are of this text."""
         of_text = {"LAST": self.last, "FIRST": self.first, "TEXT": lambda: [self.path]}
         for word in words:
-            if word in SECOND:
-                yield from self.second(word)
-            else:
-                yield from of_text.get(word, lambda word=word: [word])()
+            yield from of_text.get(word, lambda word=word: [word])()
 
     def cost(self, program, words, seconds=SECONDS):
         """What one run costs, and its status, which is negative if it was killed."""

@@ -13,34 +13,13 @@ from .texts import bundle
 
 KILOBYTES = {"seqaudit": 128, "seqtool": 128}
 EVENTS = 20_000
-# What people ask, beside the commands whose growth is tried.
+# What is asked beside the commands whose growth is tried.
 OTHERS = words("""
-seqtool --help
 seqtool --version
-seqtool audit --help
-seqtool audit --quiet
-seqtool complete --quiet
-seqtool lint --quiet
-seqtool list --process 0.31.0
 seqtool why 0.31.0 0
-seqtool why --depth 1 LAST
-seqtool audit TEXT TEXT
-seqtool lint TEXT TEXT
-seqtool lint --json TEXT TEXT
-seqtool list TEXT TEXT
-seqtool list --json TEXT TEXT
-seqtool stats TEXT TEXT
-seqtool stats --json TEXT
-seqtool diff TEXT FEWER
-seqtool diff --quiet TEXT FEWER
-seqtool diff TEXT TEXT
-seqtool export --as otlp --times TIMES TEXT""")
+seqtool audit TEXT""")
 OTHERS_OF_ACTS = words("""
-seqtool check --quiet
-seqtool check --json
-seqtool check TEXT TEXT
-seqtool explain --quiet
-seqtool explain TEXT
+seqtool check TEXT
 seqtool audit""")
 
 

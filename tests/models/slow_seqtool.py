@@ -1,17 +1,15 @@
 #!/usr/bin/env python3
 """A slow seqtool: a test model, made by the rules (docs/COMPLETIONS.md) and not by the program.
 
-    slow_seqtool.py renumber | why PID I | why --line N | complete [--as added|streams|acts]    [FILE]
+    slow_seqtool.py renumber | complete [--as added|streams|acts] | why PID INDEX [--effects]    [FILE]
 
 It writes what the program writes, but for what differs on purpose:
 
 - The acts of `complete --as acts` are others. There are more of them than the program writes, so `long` comes earlier.
-  Nothing goes to standard error if `seqaudit` doesn't read what is written.
 - A fault of the reader is only `fault line N`, and may not be seen if it is in the acts or a limit. There are no other
   commands.
 """
 
-import argparse
 import re
 import signal
 import sys
@@ -370,11 +368,11 @@ def written(words, streams):
     match words:
         case ["renumber"]:
             return list(model.write(renumbered(streams), None))
-        case ["why", options, *place]:
-            where = (pid_of(place[0]), int(place[1])) if place else slow_why.place_on(streams, options.line)
-            lines = slow_why.why(streams, where, options.depth, options.label, options.effects, options.json)
+        case ["why", pid, index, *effects]:
+            where = pid_of(pid), int(index)
+            lines = slow_why.why(streams, where, model.TOP, False, bool(effects))
             if lines is None:
-                raise NoEvent(f"no event {show(where[0])} {where[1]}" if place else f"no event on line {options.line}")
+                raise NoEvent(f"no event {show(where[0])} {where[1]}")
             return lines
     whole = completed(streams)
     if words[1:] not in ([], ["--as", "added"]) and len(whole) > MOST_PROCESSES:
@@ -413,12 +411,8 @@ def answer(words, text):
         return list(report(streams, unfit)), 1
 
 
-# The options of `why`.
-WHY = argparse.ArgumentParser(add_help=False)
-WHY.add_argument("--line", type=int)
-WHY.add_argument("--depth", type=int, default=model.TOP)
-for flag in ("--label", "--effects", "--json"):
-    WHY.add_argument(flag, action="store_true")
+def is_place(pid, index):
+    return PID.fullmatch(pid) and index.isdecimal()
 
 
 def asked(words):
@@ -426,12 +420,10 @@ def asked(words):
     match words:
         case ["renumber" | "complete" as command, *rest] if len(rest) < 2:
             return [command], *rest
-        case ["why", *rest]:
-            options, rest = WHY.parse_known_args(rest)
-            place, file = (rest[:2], rest[2:]) if options.line is None else ([], rest)
-            is_place = len(place) == 2 and PID.fullmatch(place[0]) and place[1].isdecimal()
-            is_asked = len(file) < 2 and (is_place or options.line is not None)
-            return (["why", options, *place], *file) if is_asked else None
+        case ["why", pid, index, "--effects", *rest] if is_place(pid, index) and len(rest) < 2:
+            return ["why", pid, index, "--effects"], *rest
+        case ["why", pid, index, *rest] if is_place(pid, index) and len(rest) < 2:
+            return ["why", pid, index], *rest
         case ["complete", "--as", "added" | "streams" | "acts" as form, *rest] if len(rest) < 2:
             return ["complete", "--as", form], *rest
         case _:
@@ -449,14 +441,12 @@ def main():
     signal.signal(signal.SIGPIPE, signal.SIG_DFL)
     words = asked(sys.argv[1:])
     if words is None:
-        print("usage: slow_seqtool.py renumber | why PID I | why --line N | complete [--as added|streams|acts]    [FILE]",
-              file=sys.stderr)
+        print("usage: slow_seqtool.py renumber | complete [--as added|streams|acts] | why PID INDEX [--effects]    [FILE]")
         sys.exit(3)
     command, *file = words
     try:
         text = text_of(file)
-    except OSError as error:
-        print(f"error: {error.filename} can't be opened: {error.strerror}", file=sys.stderr)
+    except OSError:
         print("fault device")
         sys.exit(4)
     lines, status = answer(command, text)

@@ -1,6 +1,5 @@
-"""What `seqtool why` writes: a slow model of crates/st_why, by the rules of crates/st_origin and crates/st_hops."""
+"""What `why` writes: a slow model of crates/node_why and of the lines of crates/seqtool_commands."""
 
-import json
 from collections import namedtuple
 
 from slow_seqaudit import pair, show
@@ -8,9 +7,6 @@ from slow_seqaudit import pair, show
 PREMISES = ("in a run without a reset, if any; (1) if each receive of a token was reported; (2) if no process cleared or lost "
             "its token, began again and reported an earlier label again; on a standard node (2) wherever (1), except behind a "
             "spawn or a token put back")
-PREMISES_OBJECT = {"premise_1": "each receive of a token was reported",
-                   "premise_2": "no process cleared or lost its token, began again and reported an earlier label again",
-                   "standard_node": "2 wherever 1, except behind a spawn or a token put back"}
 BEGINS = "begins here"
 BEGINS_OR_UNREPORTED = "begins here, or follows a message whose receive wasn't reported"
 UNSENT = "its send wasn't reported"
@@ -61,10 +57,6 @@ def line_of(streams, place):
     return 3 + i + sum(1 + len(streams[earlier]) for earlier in streams if earlier < pid)
 
 
-def place_on(streams, line):
-    return next(((pid, i) for pid in streams for i in range(len(streams[pid])) if line_of(streams, (pid, i)) == line), None)
-
-
 def way(streams, source, place, most, across):
     nodes = []
     while place and len(nodes) < most:
@@ -111,34 +103,11 @@ def text_line(streams, node, hop, is_tree):
             f"{sentence(streams, place, hop)}")
 
 
-def place_fields(streams, place):
-    return {"pid": show(place[0]), "index": place[1], "line": line_of(streams, place)}
-
-
-def json_line(streams, node, hop):
-    depth, place = node
-    event = streams[place[0]][place[1]]
-    fields = {"depth": depth, **place_fields(streams, place), "kind": event.kind, "label": event.label, "prev": event.prev,
-              "this": event.this, "value": event.value, "hop": hop.kind}
-    if hop.kind == "after":
-        fields["after"] = place_fields(streams, hop.place)
-    elif hop.kind == "other_label":
-        label = streams[hop.place[0]][hop.place[1]].label
-        fields["received"] = {**place_fields(streams, hop.place), "label": label}
-    return compact({**fields, "certain": not hop.premises, "premises": hop.premises})
-
-
-def compact(fields):
-    return json.dumps(fields, separators=(",", ":"))
-
-
-def why(streams, place, most, across, is_tree=False, is_json=False):
+def why(streams, place, most, across, is_tree=False):
     """The lines of at most so many hops back, or of so many levels of what follows; none if there is no such event."""
     source = pair(streams)
     if place is None or place[1] >= len(streams.get(place[0], [])):
         return None
     nodes = (tree if is_tree else way)(streams, source, place, most, across)
     hops = [hop_of(streams, source, here) for _, here in nodes]
-    if is_json:
-        return [*(json_line(streams, node, hop) for node, hop in zip(nodes, hops)), compact(PREMISES_OBJECT)]
     return [*(text_line(streams, node, hop, is_tree) for node, hop in zip(nodes, hops)), PREMISES]

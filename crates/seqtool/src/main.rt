@@ -1,16 +1,63 @@
-//! The program `seqtool`: what a person needs beside the exact `seqaudit`.
+//! The program `seqtool`: the commands that read more than `seqaudit` does, and those on what a trace
+//! lacks and what an event follows.
 //!
-//! It only joins `st_seqtool`, which does what the words of the command line ask for, to the outside.
+//! It only joins `seqtool_commands` to the outside: what it writes and returns is said there, by
+//! `read_words` and `run`.
 #![tactic(auto)]
 
-use st_seqtool::{serve, tell_unread};
+use seqtool_commands::{Task, asks_version, read_words, run, tell_usage, tell_version};
+use st_commands::tell_fault;
+use st_core::{ReadFrom, WriteTo};
+use st_text::ReadFault;
+use std::io::ErrorKind;
 use std::process::ExitCode;
-use std::{env, io};
+use std::thread::Threads;
+use std::{env, fs, io};
 
 /// The words of the command line.
 fn words_of(rt: &HostRuntime) -> io::Result<Vec<String>> {
     let words = env::args(rt)?.collect(rt.alloc())?;
     Ok(words)
+}
+
+/// Does the task on the file of this path, or on standard input if there is none. A file that can't
+/// be opened is a device that fails.
+fn serve_task<H: AllocGlobal + Threads + Sync>(
+    rt: &HostRuntime,
+    threads: &H,
+    task: Task,
+    path: Option<&str>,
+) -> u8 {
+    let mut writer = WriteTo::new(rt.stdout());
+    let Some(path) = path else {
+        return run(threads, task, &mut ReadFrom::new(rt.stdin()), &mut writer);
+    };
+    match fs::open(rt, path) {
+        Ok(file) => run(threads, task, &mut ReadFrom::new(file), &mut writer),
+        Err(_) => tell_fault(&mut writer, ReadFault::Device),
+    }
+}
+
+/// Does what the words ask for. The runtime comes twice: only as a type parameter may it start
+/// threads outside of `main`.
+fn serve<H: AllocGlobal + Threads + Sync>(rt: &HostRuntime, threads: &H, words: &[String]) -> u8 {
+    if asks_version(words) {
+        return tell_version(&mut WriteTo::new(rt.stdout()));
+    }
+    match read_words(words) {
+        Some((task, path)) => serve_task(rt, threads, task, path),
+        None => tell_usage(&mut WriteTo::new(rt.stdout())),
+    }
+}
+
+/// Says that there was no memory for the words, or that one isn't UTF-8 and so is no word of a
+/// command.
+fn tell_unread(rt: &HostRuntime, error: &io::Error) -> u8 {
+    let mut writer = WriteTo::new(rt.stdout());
+    match error.kind() {
+        ErrorKind::OutOfMemory => tell_fault(&mut writer, ReadFault::Memory),
+        _ => tell_usage(&mut writer),
+    }
 }
 
 fn main(rt: HostRuntime) -> ExitCode {

@@ -10,8 +10,8 @@ ghost use Rattle.st_arena.specs.Chain.{IsChained, key_after, node_keys, KeepsLad
 
 use crate::chain::key_at;
 use crate::node::{Ends, Node};
+use crate::slots::Ranks;
 use slab::Slab;
-use st_ranks::Ranks;
 use std::alloc::{AllocError, Global};
 use std::collections::HashMap;
 use std::marker::Model;
@@ -45,7 +45,7 @@ pub(crate) struct Ladder {
 
 impl Model for Ladder {
     ghost use Rattle.std.specs.Prelude.{ℕ, List};
-    ghost use Rattle.st_ranks.specs.Queue.{kept, AreRanksOf};
+    ghost use Rattle.st_arena.specs.Queue.{kept, AreRanksOf};
 
     ghost Value = { List ℕ };
 

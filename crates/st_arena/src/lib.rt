@@ -6,7 +6,7 @@
 //! the value that was to be pushed comes back.
 //!
 //! A list in which a take has walked far has a ladder from then on: the keys of its nodes by place,
-//! in an `st_ranks` tree, which follows each push and take. It is only an aid. If memory for it
+//! in a tree of [`Ranks`], which follows each push and take. It is only an aid. If memory for it
 //! runs out, the list does without one and is walked, until a take that walks far finds memory.
 //!
 //! | Call | Cost | Memory |
@@ -24,11 +24,16 @@
 //! 0. Each call requires that the list's number is below the number of lists, which never changes.
 #![tactic(auto)]
 
+mod block;
+mod blocks;
 mod chain;
 mod ladder;
 mod lists;
 mod node;
+mod slots;
+mod tree;
 mod walk;
 
 pub use lists::Lists;
+pub use slots::Ranks;
 pub use walk::Walk;

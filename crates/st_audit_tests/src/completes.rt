@@ -1,7 +1,7 @@
 //! Completions and their acts: that they are found, and what is left if memory runs out.
 
 use crate::helpers::{same, streams_at_last};
-use st_complete::{
+use lack_decide::{
     Answer, CertificateFault, CompleteFault, Completion, Never, certificate,
     certificate_by_construction, complete,
 };

@@ -1,7 +1,7 @@
 //! Completions of 100,000 events. No clause says that there is memory for them.
 
 use crate::helpers::same;
-use st_complete::{Answer, certificate, complete, renumbered};
+use lack_decide::{Answer, certificate, complete, renumbered};
 use st_core::{Draft, Event, Kind, Label, Serial, Streams};
 use st_samples::{p30, p31};
 use std::alloc::Global;

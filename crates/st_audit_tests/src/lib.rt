@@ -8,9 +8,9 @@
 //! | `checks` | `st_check`: checks and replays |
 //! | `plans` | `st_plan` |
 //! | `audits` | `st_audit` |
-//! | `needs` | `st_needs` |
-//! | `completes` | `st_complete` |
-//! | `completions` | `st_complete`: completions of 100,000 events |
+//! | `needs` | `lack_needs` |
+//! | `completes` | `lack_decide` |
+//! | `completions` | `lack_decide`: completions of 100,000 events |
 //! | `charts` | `st_chart` |
 //! | `helpers` | none: what several of these take |
 #![tactic(auto)]

@@ -1,9 +1,8 @@
 //! What is left of a completion by the definition, and of small counts, if memory runs out.
 
 use crate::helpers::{same, streams_at_last};
-use st_completion::{Completion, Flaw};
+use lack_needs::{Completion, Flaw, complete_by_definition, find_flaw, find_unfounded, renumbered};
 use st_core::Streams;
-use st_needs::{complete_by_definition, find_flaw, find_unfounded, renumbered};
 use st_pair::pair;
 use std::alloc::{AllocError, Global};
 

@@ -2,6 +2,7 @@
 #![tactic(auto)]
 
 mod device;
+mod guesses;
 pub mod laws;
 mod local;
 mod places;
@@ -14,6 +15,7 @@ pub use device::{
     ByteSink, ByteSource, EndlessSource, Failed, MemorySink, MemorySource, ReadFrom, Recorder,
     WriteTo,
 };
+pub use guesses::Guesses;
 pub use local::{ClockFull, Local};
 pub use places::place_of;
 pub use rising::is_rising;

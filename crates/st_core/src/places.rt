@@ -4,8 +4,8 @@ ghost use Rattle.std.specs.Prelude.{◌≡◌, false, Some, IfSome, IfNone, slic
 ghost use Rattle.std.specs.List.{AllByRecursion};
 ghost use Rattle.st_core.specs.Pid.{pid_eq, IsRising};
 
+use crate::guesses::Guesses;
 use crate::types::Pid;
-use st_guesses::Guesses;
 
 /// Where the pid is among pids that rise: at the guess, or where a binary search finds it.
 #[inline]

@@ -14,10 +14,10 @@ ghost use Rattle.st_core.specs.Streams.{ComesLast, IsOpenFault, is_among, names_
 ghost use Rattle.st_core.specs.Streams.{IsDraft, IsStreams};
 ghost use Rattle.st_core.specs.Collected.{first_failing};
 
+use crate::guesses::Guesses;
 use crate::places::place_of;
 use crate::sequence::Sequence;
 use crate::types::{Event, Pid};
-use st_guesses::Guesses;
 use std::alloc::{AllocError, Global};
 use std::marker::Model;
 use thiserror::Error;

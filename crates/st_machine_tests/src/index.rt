@@ -1,11 +1,11 @@
 //! An index beside a queue of three messages.
 
 ghost use Rattle.std.specs.Prelude.{◌≡◌, ◌+◌, ◌<◌, IfOk};
-ghost use Rattle.st_index.specs.Index.{IsIndex, keys_of, room};
+ghost use Rattle.st_mail.specs.Index.{IsIndex, keys_of, room};
 
 use crate::helpers::same;
 use st_core::{Message, Pid, Serial, Token};
-use st_index::{Index, Key, Keys};
+use st_mail::{Index, Key, Keys};
 use st_samples::{p30, p31};
 use std::alloc::{AllocError, Global};
 use std::test::Fail;

@@ -4,9 +4,9 @@
 //! |---|---|
 //! | `machine` | `st_core`: sequences, streams, devices |
 //! | `text`, `reads` | `st_text`; `reads`: if memory runs out |
-//! | `ranks` | `st_ranks` |
+//! | `ranks` | `st_arena` |
 //! | `lists` | `st_arena` |
-//! | `index` | `st_index` |
+//! | `index` | `st_mail` |
 //! | `mailboxes` | `st_mail` |
 //! | `world` | `st_world` |
 //! | `helpers` | none: what several of these take |

@@ -1,7 +1,7 @@
 //! As many slots as a long queue has, and more than there is memory for.
 
 use crate::helpers::same;
-use st_ranks::Ranks;
+use st_arena::Ranks;
 use std::test::Fail;
 
 #[test]

@@ -5,8 +5,8 @@ use Rattle.std.proofs.Common.{Some, None, option_map, Global, refl, ap, subst, â
 use Rattle.std.proofs.lemmas.List.{get_or-set_same}
 use Rattle.std.specs.Prelude.{Box, IfSome}
 use Rattle.st_core.specs.declared.types.Message.{Message}
-use Rattle.st_index.specs.declared.index.Index.{Index}
-use Rattle.st_index.specs.Index.{IsIndex, IsIndexOf}
+use Rattle.st_mail.specs.declared.index.Index.{Index}
+use Rattle.st_mail.specs.Index.{IsIndex, IsIndexOf}
 use Rattle.st_mail.specs.declared.finder.Finder.{Finder}
 use Rattle.st_mail.specs.Found.{Finds, IsFinder, AllFound}
 use Rattle.st_mail.specs.Mail.{queue_in}

@@ -1,3 +1,8 @@
+mod PairLemmas
+mod SlotLemmas
+mod Searches
+mod KeyLemmas
+mod IndexLemmas
 -- The lemmas; what upper crates may cite is in `ForCallers`.
 mod Picks
 mod Fits

@@ -2,7 +2,7 @@
 use Rattle.std.specs.Prelude.{List, IfSome}
 use Rattle.std.specs.List.{AllZip}
 use Rattle.st_core.specs.declared.types.Message.{Message}
-use Rattle.st_index.specs.Index.{IsIndex, IsIndexOf}
+use Rattle.st_mail.specs.Index.{IsIndex, IsIndexOf}
 use Rattle.st_mail.specs.declared.finder.Finder.{Finder}
 
 -- the index of the finder, if it has one, is one of this queue

@@ -2,7 +2,7 @@
 use Rattle.std.specs.Prelude.{ℕ, List, [], Option, Some, None, remove, slice_index_or}
 use Rattle.st_core.specs.declared.types.Message.{Message}
 -- whether a token has this from, and this as its own count
-pub use Rattle.st_index.specs.Index.{bears_stamp}
+pub use Rattle.st_mail.specs.Index.{bears_stamp}
 
 -- the queue of each box, from its oldest message on, and for how many more messages there is room
 pub record Mail : Type 0 where

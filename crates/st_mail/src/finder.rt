@@ -5,9 +5,10 @@ ghost use Rattle.std.specs.Prelude.{slice_get};
 ghost use Rattle.st_arena.specs.Arena.{list_at};
 ghost use Rattle.st_core.specs.declared.types.Message.{Message};
 
+use crate::index::Index;
+use crate::keys::{Key, Keys};
 use st_arena::Lists;
 use st_core::{Message, Want};
-use st_index::{Index, Key, Keys};
 use std::alloc::{AllocError, Global};
 
 /// A walk past fewer messages isn't counted: it takes no longer than what an index costs each
@@ -119,8 +120,8 @@ pub(crate) struct Finder {
 }
 
 impl Finder {
-    ghost use Rattle.st_index.specs.Index.{IsIndexOf, keys_of};
-    ghost use Rattle.st_index.specs.Keys.{has};
+    ghost use Rattle.st_mail.specs.Index.{IsIndexOf, keys_of};
+    ghost use Rattle.st_mail.specs.Keys.{has};
     ghost use Rattle.st_mail.specs.Found.{Finds, IsFinder};
 
     /// What finds the messages of a queue in which nobody has walked.
@@ -237,7 +238,7 @@ impl Finder {
 }
 
 ghost use Rattle.std.specs.Prelude.{◌<◌, IfOk};
-ghost use Rattle.st_index.specs.Index.{IsIndexOf};
+ghost use Rattle.st_mail.specs.Index.{IsIndexOf};
 
 // An index of this list by these keys, with room for as many messages again.
 fn index_over(

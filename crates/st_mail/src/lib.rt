@@ -4,15 +4,20 @@
 //! how many more messages there is room without more memory. A message that one queue gives up
 //! leaves its room to the next put on any queue. [`actor`] has the part of one step that is its
 //! actor's own, for the crates that keep many processes: it knows nothing of the others. This crate
-//! may use the lists of `st_arena`, the index of `st_index`, and the types and local steps of
-//! `st_core`.
+//! may use the lists of `st_arena`, and the types and local steps of `st_core`. Beside a
+//! long queue it keeps an [`Index`].
 #![tactic(auto)]
 
 pub mod actor;
 mod finder;
+mod index;
+mod keyed_slots;
+mod keys;
 mod mailboxes;
 mod outcome;
 mod queues;
 
+pub use index::Index;
+pub use keys::{Key, Keys};
 pub use mailboxes::Mailboxes;
 pub use outcome::Outcome;

@@ -6,14 +6,15 @@ ghost use Rattle.std.specs.Prelude.{remove, replicate, slice_get, slice_set, opt
 ghost use Rattle.st_core.specs.Pid.{pid_eq};
 ghost use Rattle.st_arena.specs.Arena.{list_at};
 ghost use Rattle.st_arena.specs.Calls.{PassesOnce};
-ghost use Rattle.st_index.specs.Index.{IsIndex, IsIndexOf, keys_of};
-ghost use Rattle.st_index.specs.Keys.{has};
+ghost use Rattle.st_mail.specs.Index.{IsIndex, IsIndexOf, keys_of};
+ghost use Rattle.st_mail.specs.Keys.{has};
 ghost use Rattle.st_mail.specs.Mail.{bears_stamp};
 
 use crate::finder::{Finder, Search};
+use crate::index::Index;
+use crate::keys::Key;
 use st_arena::Lists;
 use st_core::{Message, Pid, Token};
-use st_index::{Index, Key};
 use std::alloc::{AllocError, Global};
 use std::marker::Model;
 

@@ -19,5 +19,6 @@ pub mod Leasts
 pub mod Reasons
 pub mod FinalReasons
 pub mod FullyShown
+mod Listed
 mod Cases
 pub mod ForCallers

@@ -14,7 +14,7 @@ use Rattle.st_core.specs.declared.types.Event.{Event}
 use Rattle.st_core.specs.Pid.{pid_eq}
 use Rattle.st_core.specs.Run.{Stream, pids_of}
 use Rattle.st_core.specs.Streams.{events_of, stream_of}
-use Rattle.st_pair.specs.declared.stamp_table.Row.{Row}
+use Rattle.st_pair.specs.declared.stamp_table.StampRow.{StampRow}
 use Rattle.st_pair.specs.Pairing.{not_rising, stamp_of}
 use Rattle.st_pair.specs.Places.{is_stamp, first, first_from, or_else}
 use Rattle.st_pair.specs.Tables.{row_under, rows_in, stamp_rows, AreRising, AreStamps}
@@ -26,17 +26,17 @@ use Rattle.st_pair.proofs.OwnStamps.{own_rule}
 -- WHAT ROWS HAVE
 
 -- the first row with a count
-abbrev pub row_of : ℕ → List Row → Option Row
+abbrev pub row_of : ℕ → List StampRow → Option StampRow
 row_of this rows = find (λ r. r.count == this) rows
 
-abbrev pub index_in : Option Row → Option ℕ
+abbrev pub index_in : Option StampRow → Option ℕ
 index_in o = option_map (λ r. r.index) o
 
 pub row_index : (q : Pid) (this i : ℕ) (es : List Event)
     → index_in (row_of this (stamp_rows i es)) ≡ option_map (λ f. f.0) (first_from (own_rule this) q i es)
 row_index q this i [] = refl
 row_index q this i (e ∷ es) =
-    let row : Row = record { count = e.serial.this; index = i } in
+    let row : StampRow = record { count = e.serial.this; index = i } in
     let rest = stamp_rows (i + 1) es in
     let later = first_from (own_rule this) q (i + 1) es in
     elim (is_stamp e) as (λ b. index_in (row_of this (cond b (row ∷ rest) rest))
@@ -50,11 +50,11 @@ row_index q this i (e ∷ es) =
     ]
 
 -- the rows of the process at a place
-pub place_rows : (streams : List Stream) (rows : List (List Row)) (place : ℕ) (p : Pid) → AreStamps streams rows
+pub place_rows : (streams : List Stream) (rows : List (List StampRow)) (place : ℕ) (p : Pid) → AreStamps streams rows
     → slice_get (pids_of streams) place ≡ Some p → slice_get rows place ≡ Some (stamp_rows 0 (events_of streams p))
 place_rows streams rows place p are at =
     let s = is_at streams place p are.pids at in
-    ap (λ (xs : List (List Row)). slice_get xs place) are.rows ∙ slice_get_map rows_in streams place
+    ap (λ (xs : List (List StampRow)). slice_get xs place) are.rows ∙ slice_get_map rows_in streams place
     ∙ ap (option_map rows_in) s.at ∙ ap (λ (es : List Event). Some (stamp_rows 0 es)) (sym (ap events_in s.found))
 
 no_stream : (streams : List Stream) (p : Pid) → AllByRecursion (λ q. pid_eq q p ≡ false) (pids_of streams)
@@ -87,16 +87,16 @@ rows-step i es e at b is =
     rows-at i i es e at ∙ (λ j. cond (is j) (record { count = e.serial.this; index = i }
     ∷ stamp_rows (i + 1) (drop (next j) es)) (stamp_rows (i + 1) (drop (next j) es)))
 
-module _ (rows : List Row) (i : ℕ) (es : List Event) (e : Event) (at : slice_get es i ≡ Some e)
+module _ (rows : List StampRow) (i : ℕ) (es : List Event) (e : Event) (at : slice_get es i ≡ Some e)
     (all : rows ++ stamp_rows i (drop i es) ≡ stamp_rows 0 es) where
   pub row_passed : is_stamp e ≡ false → rows ++ stamp_rows (i + 1) (drop (i + 1) es) ≡ stamp_rows 0 es
-  row_passed receives = ap (λ (xs : List Row). rows ++ xs) (sym (rows-step i es e at false receives)) ∙ all
+  row_passed receives = ap (λ (xs : List StampRow). rows ++ xs) (sym (rows-step i es e at false receives)) ∙ all
 
   pub row_added : is_stamp e ≡ true
       → (rows ++ record { count = e.serial.this; index = i } ∷ []) ++ stamp_rows (i + 1) (drop (i + 1) es)
       ≡ stamp_rows 0 es
   row_added stamps = append_assoc rows _ _
-      ∙ ap (λ (xs : List Row). rows ++ xs) (sym (rows-step i es e at true stamps)) ∙ all
+      ∙ ap (λ (xs : List StampRow). rows ++ xs) (sym (rows-step i es e at true stamps)) ∙ all
 
 -- THEIR COUNTS RISE
 
@@ -109,7 +109,7 @@ above : (n k : ℕ) (es : List Event)
     → AllByRecursion (λ s. n < s.count) (stamp_rows k es)
 above n k [] h = tt
 above n k (e ∷ es) h =
-    let row : Row = record { count = e.serial.this; index = k } in
+    let row : StampRow = record { count = e.serial.this; index = k } in
     let rest = stamp_rows (k + 1) es in
     let later = above n (k + 1) es (λ j f at. h (suc j) f at) in
     elim (is_stamp e) as (λ b. is_stamp e ≡ b → AllByRecursion (λ s. n < s.count) (cond b (row ∷ rest) rest)) [
@@ -120,7 +120,7 @@ above n k (e ∷ es) h =
 rise_from : (k : ℕ) (es : List Event) → DoRise es → AreRising (stamp_rows k es)
 rise_from k [] h = tt
 rise_from k (e ∷ es) h =
-    let row : Row = record { count = e.serial.this; index = k } in
+    let row : StampRow = record { count = e.serial.this; index = k } in
     let rest = stamp_rows (k + 1) es in
     let later = rise_from (k + 1) es (λ j i d f less at_d at_f. h (suc j) (suc i) d f (omega arith) at_d at_f) in
     elim (is_stamp e) as (λ b. is_stamp e ≡ b → AreRising (cond b (row ∷ rest) rest)) [
@@ -141,7 +141,7 @@ less_apart m n h = grind (arith, nat_tests)
 more_apart : (m n : ℕ) → n < m → (m == n) ≡ false
 more_apart m n h = grind (arith, nat_tests)
 
-pub rows_up : (rows : List Row) → AreRising rows → IsNonDecreasingBy (λ r. r.count) rows
+pub rows_up : (rows : List StampRow) → AreRising rows → IsNonDecreasingBy (λ r. r.count) rows
 rows_up [] rising i j d le within = absurd (omega arith)
 rows_up (x ∷ rows) rising zero zero d le within = omega arith
 rows_up (x ∷ rows) rising zero (suc j) d le within =
@@ -151,7 +151,7 @@ rows_up (x ∷ rows) rising zero (suc j) d le within =
 rows_up (x ∷ rows) rising (suc i) zero d le within = absurd (omega arith)
 rows_up (x ∷ rows) rising (suc i) (suc j) d le within = rows_up rows rising.1 i j d (omega arith) (omega arith)
 
-find_at : (rows : List Row) (this n : ℕ) (r : Row) → AreRising rows → slice_get rows n ≡ Some r → r.count ≡ this
+find_at : (rows : List StampRow) (this n : ℕ) (r : StampRow) → AreRising rows → slice_get rows n ≡ Some r → r.count ≡ this
     → row_of this rows ≡ Some r
 find_at [] this n r rising at is = absurd (none-some r at)
 find_at (x ∷ rows) this zero r rising at is =
@@ -167,14 +167,14 @@ find_at (x ∷ rows) this (suc n) r rising at is =
     ap (λ (b : Bool). cond b (Some x) (row_of this rows)) (less_apart x.count this less)
     ∙ find_at rows this n r rising.1 at is
 
-none_found : (rows : List Row) (this : ℕ)
-    → ((j : ℕ) (d : Row) → j < length rows → ((get_or rows j d).count == this) ≡ false) → row_of this rows ≡ None
+none_found : (rows : List StampRow) (this : ℕ)
+    → ((j : ℕ) (d : StampRow) → j < length rows → ((get_or rows j d).count == this) ≡ false) → row_of this rows ≡ None
 none_found [] this apart = refl
 none_found (x ∷ rows) this apart =
     ap (λ (b : Bool). cond b (Some x) (row_of this rows)) (apart 0 x (omega arith))
     ∙ none_found rows this (λ j d within. apart (suc j) d (omega arith))
 
-under_is : (this : ℕ) (x r : Row) → row_under this x ≡ Some r → (x ≡ r) × (x.count ≡ this)
+under_is : (this : ℕ) (x r : StampRow) → row_under this x ≡ Some r → (x ≡ r) × (x.count ≡ this)
 under_is this x r h = elim (x.count == this)
     as (λ b. (x.count == this) ≡ b → cond b (Some x) None ≡ Some r → (x ≡ r) × (x.count ≡ this)) [
       | true ↦ λ is given. (same_Some x r given, eqb-true x.count this is)
@@ -182,24 +182,24 @@ under_is this x r h = elim (x.count == this)
     ] refl h
 
 -- a row with the count is the only one
-pub found_at : (rows : List Row) (this n : ℕ) (r : Row) → AreRising rows
+pub found_at : (rows : List StampRow) (this n : ℕ) (r : StampRow) → AreRising rows
     → Some r ≡ option_and_then (row_under this) (slice_get rows n) → Some r ≡ row_of this rows
 found_at rows this n r rising h = elim (slice_get rows n)
     as (λ o. slice_get rows n ≡ o → Some r ≡ option_and_then (row_under this) o → Some r ≡ row_of this rows) [
       | None ↦ λ at given. absurd (none-some r (sym given))
       | Some x ↦ λ at given.
           let is = under_is this x r (sym given) in
-          sym (find_at rows this n r rising (at ∙ ap Some is.0) (sym (ap (λ (y : Row). y.count) is.0) ∙ is.1))
+          sym (find_at rows this n r rising (at ∙ ap Some is.0) (sym (ap (λ (y : StampRow). y.count) is.0) ∙ is.1))
     ] refl h
 
-unequal : (this : ℕ) (x : Row) → None ≡ row_under this x → (x.count == this) ≡ false
+unequal : (this : ℕ) (x : StampRow) → None ≡ row_under this x → (x.count == this) ≡ false
 unequal this x h = elim (x.count == this) as (λ b. None ≡ cond b (Some x) None → b ≡ false) [
   | true ↦ λ given. absurd (none-some x given)
   | false ↦ λ given. refl
 ] h
 
 -- if none is where the lesser counts end, there is none
-pub none_at : (rows : List Row) (this n : ℕ) → AreRising rows
+pub none_at : (rows : List StampRow) (this n : ℕ) → AreRising rows
     → IsPartitionPoint (λ r. ltb r.count this ≡ true) (λ r. ltb r.count this ≡ false) rows n
     → None ≡ option_and_then (row_under this) (slice_get rows n) → None ≡ row_of this rows
 none_at rows this n rising point h = sym (none_found rows this (λ j d within. elim (cases_lt j n) [

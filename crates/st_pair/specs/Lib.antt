@@ -5,6 +5,8 @@ pub mod Pairing
 pub mod Final
 pub mod Links
 pub mod Laws
+-- Which events are listed, where they are and what they pair with.
+pub mod Rows
 -- For the parts alone: of `src/tables.rt` and `src/rules.rt`.
 pub mod Tables
 pub mod Rules

@@ -17,7 +17,7 @@ use Rattle.st_pair.specs.declared.pairing.Tables.{Tables}
 use Rattle.st_pair.specs.declared.receives.Key.{Key}
 use Rattle.st_pair.specs.declared.receives.Mark.{Mark}
 use Rattle.st_pair.specs.declared.receives.Receives.{Receives}
-use Rattle.st_pair.specs.declared.stamp_table.Row.{Row}
+use Rattle.st_pair.specs.declared.stamp_table.StampRow.{StampRow}
 use Rattle.st_pair.specs.Places.{is_stamp, first, or_else}
 use Rattle.st_pair.specs.Links.{received_link}
 use Rattle.st_pair.specs.Pairing.{receive_of, repeated, stamp_of, not_rising}
@@ -145,26 +145,26 @@ abbrev pub HasReceivesWith : List Stream → (Key → Option (Pid × ℕ)) → (
 HasReceivesWith streams table rest = HasReceives streams (λ k. or_else (table k) (rest k))
 
 -- the sends and prints among events that are from index i on
-abbrev pub stamp_rows : ℕ → List Event → List Row
+abbrev pub stamp_rows : ℕ → List Event → List StampRow
 stamp_rows i [] = []
 stamp_rows i (e ∷ es) = if is_stamp e then record { count = e.serial.this; index = i }
     ∷ stamp_rows (i + 1) es else stamp_rows (i + 1) es
 
 -- those of a process
-abbrev pub rows_in : Stream → List Row
+abbrev pub rows_in : Stream → List StampRow
 rows_in s = stamp_rows 0 s.events
 
 -- the row, if it has this count
-abbrev pub row_under : ℕ → Row → Option Row
+abbrev pub row_under : ℕ → StampRow → Option StampRow
 row_under count r = if r.count == count then Some r else None
 
 -- each count is less than those after it
-abbrev pub AreRising : List Row → Type 0
+abbrev pub AreRising : List StampRow → Type 0
 AreRising [] = Unit {0}
 AreRising (r ∷ rows) = AllByRecursion (λ s. r.count < s.count) rows × AreRising rows
 
 -- the rows of streams whose pids rise, and in which the counts of each process do
-pub record AreStamps (streams : List Stream) (stamps : List (List Row)) : Type 0 where
+pub record AreStamps (streams : List Stream) (stamps : List (List StampRow)) : Type 0 where
   pub rows : stamps ≡ map rows_in streams
   pub pids : IsRising (pids_of streams)
   pub counts : first (not_rising streams) streams ≡ None

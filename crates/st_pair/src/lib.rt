@@ -7,12 +7,18 @@
 #![tactic(auto)]
 
 mod answer;
+mod filter;
 pub mod laws;
 mod links;
 mod pairing;
+mod partner;
 mod receives;
+mod rows;
 mod rules;
 mod stamp_table;
 
 pub use answer::{PairFault, Source};
+pub use filter::{Filter, Span};
 pub use pairing::{Pairing, pair};
+pub use partner::{Partner, partner_at};
+pub use rows::{Row, list};

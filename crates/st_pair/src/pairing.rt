@@ -20,8 +20,7 @@ use crate::links::{Links, Sources};
 use crate::receives::{Key, Receives};
 use crate::rules::{Rule, mismatch_at};
 use crate::stamp_table::Stamps;
-use st_core::{Event, Kind, Pid, Streams, place_of};
-use st_guesses::Guesses;
+use st_core::{Event, Guesses, Kind, Pid, Streams, place_of};
 use std::alloc::{AllocError, Global};
 use std::marker::Model;
 

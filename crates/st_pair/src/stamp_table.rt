@@ -18,7 +18,7 @@ const NEAR: usize = 128;
 
 /// A send or print of a process.
 #[derive(Clone, Copy, Debug)]
-pub struct Row {
+pub struct StampRow {
     /// Its count.
     count: u64,
     /// Its index among the events.
@@ -28,7 +28,7 @@ pub struct Row {
 /// The sends and prints of each process, by the process's place.
 #[derive(Debug, Drop)]
 pub struct Stamps {
-    rows: Vec<Sequence<Row>>,
+    rows: Vec<Sequence<StampRow>>,
 
     // For each process the number of the row behind the one that was found last: messages mostly are received as
     // they were sent. Only time depends on it.
@@ -37,9 +37,9 @@ pub struct Stamps {
 
 impl Model for Stamps {
     ghost use Rattle.std.specs.Prelude.{List};
-    ghost use Rattle.st_pair.specs.declared.stamp_table.Row.{Row};
+    ghost use Rattle.st_pair.specs.declared.stamp_table.StampRow.{StampRow};
 
-    ghost Value = { List (List Row) };
+    ghost Value = { List (List StampRow) };
 
     ghost view = { λ a. a.rows.items };
 }
@@ -77,7 +77,7 @@ impl Stamps {
 }
 
 /// The row of this number, if it has the count.
-fn row_at(rows: &[Row], number: usize, count: u64) -> Option<Row>
+fn row_at(rows: &[StampRow], number: usize, count: u64) -> Option<StampRow>
     ensures { result ≡ option_and_then (row_under count) (slice_get rows.now number) }
 {
     match rows.get(number) {
@@ -88,7 +88,7 @@ fn row_at(rows: &[Row], number: usize, count: u64) -> Option<Row>
 
 /// The row with this count and its number, if it is one of the `width` rows from `start` on and
 /// their counts rise.
-fn row_near(rows: &[Row], start: usize, width: usize, count: u64) -> Option<(usize, Row)>
+fn row_near(rows: &[StampRow], start: usize, width: usize, count: u64) -> Option<(usize, StampRow)>
     ensures { IfSome result (λ found.
         Some found.1 ≡ option_and_then (row_under count) (slice_get rows.now found.0)) }
 {
@@ -105,7 +105,7 @@ fn row_near(rows: &[Row], start: usize, width: usize, count: u64) -> Option<(usi
 
 /// The row with this count, and its number: `next`, one soon behind it, or what a binary search
 /// of all finds.
-fn find_row(rows: &[Row], next: usize, count: u64) -> Option<(usize, Row)>
+fn find_row(rows: &[StampRow], next: usize, count: u64) -> Option<(usize, StampRow)>
     requires { AreRising rows.now }
     ensures { option_map (λ found. found.1) result ≡ find (λ r. r.count == count) rows.now }
 {
@@ -123,14 +123,14 @@ fn find_row(rows: &[Row], next: usize, count: u64) -> Option<(usize, Row)>
 }
 
 /// The sends and prints among these events.
-fn rows_of(alloc: Global, events: &[Event]) -> Result<Vec<Row>, AllocError>
+fn rows_of(alloc: Global, events: &[Event]) -> Result<Vec<StampRow>, AllocError>
     ensures { IfOk result (λ rows. rows.items ≡ stamp_rows 0 events.now) }
 {
     let mut rows = Vec::new(alloc);
     for (i, event) in events.iter().enumerate() {
         match event.kind {
             Kind::Receive => {}
-            Kind::Send | Kind::Print => rows.push(Row {
+            Kind::Send | Kind::Print => rows.push(StampRow {
                 count: event.serial.this,
                 index: i as u64,
             })?,
@@ -140,7 +140,7 @@ fn rows_of(alloc: Global, events: &[Event]) -> Result<Vec<Row>, AllocError>
 }
 
 /// The sends and prints of all processes.
-fn all_rows(alloc: Global, streams: &Streams) -> Result<Vec<Sequence<Row>>, AllocError>
+fn all_rows(alloc: Global, streams: &Streams) -> Result<Vec<Sequence<StampRow>>, AllocError>
     ensures { IfOk result (λ rows. rows.items ≡ map rows_in streams.now) }
 {
     let mut all = Vec::new(alloc);

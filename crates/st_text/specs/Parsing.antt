@@ -287,3 +287,24 @@ parse_line bytes =
 -- what all the bytes of a line say
 unfoldable pub line_of : List ℕ → Option Line
 line_of bytes = parse_line bytes >>= λ l. if length l.1 == 0 then Some l.0 else None
+
+-- ---- a word by itself
+
+-- a pid without its angle brackets
+unfoldable pub parse_bare_pid : List ℕ → Option (Pid × List ℕ)
+parse_bare_pid bytes = do
+  node ← number most_pid bytes
+  a ← after (codes ".") node.1
+  num ← number most_pid a
+  b ← after (codes ".0") num.1
+  Some (pid_on node.0 num.0, b)
+
+-- the pid that all the bytes spell, in angle brackets or without
+unfoldable pub pid_in : List ℕ → Option Pid
+pid_in bytes =
+    on_some (parse_pid bytes) Some (parse_bare_pid bytes)
+    >>= λ p. if length p.1 == 0 then Some p.0 else None
+
+-- the number that all the bytes spell
+unfoldable pub number_in : List ℕ → Option ℕ
+number_in bytes = number most_number bytes >>= λ n. if length n.1 == 0 then Some n.0 else None

@@ -34,4 +34,5 @@ pub use sink::{Device, flush, make_room, put_all};
 pub use spell::{
     Buffer, put_act, put_bytes, put_event, put_number, put_numbered, put_pid, put_serial,
 };
+pub use words::{read_number, read_pid};
 pub use writer::{write, write_act, write_acts, write_event, write_parts, write_pid};

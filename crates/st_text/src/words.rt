@@ -1,9 +1,11 @@
 //! The words and small values at the front of some bytes: each function returns the value and the
-//! bytes after it.
+//! bytes after it; [`read_pid`] and [`read_number`] read a word of a command line.
 
+ghost use Rattle.std.specs.Prelude.{◌≡◌};
 ghost use Rattle.st_text.specs.Parts.Words.{Gives};
 ghost use Rattle.st_text.specs.Parsing.{after, parse_bool, parse_pid};
 ghost use Rattle.st_text.specs.Parsing.{parse_label, parse_serial, parse_actor};
+ghost use Rattle.st_text.specs.Parsing.{number_in, parse_bare_pid, pid_in};
 
 use crate::number::number;
 use st_core::{Label, Pid, Serial};
@@ -79,4 +81,37 @@ pub(crate) fn parse_actor(bytes: &[u8]) -> Option<(Pid, &[u8])>
     let (pid, rest) = parse_pid(bytes)?;
     let rest = after(b" ", rest)?;
     Some((pid, rest))
+}
+
+#[tactic(auto, unfolding(crate::specs::Parsing::parse_bare_pid))]
+fn parse_bare_pid(bytes: &[u8]) -> Option<(Pid, &[u8])>
+    ensures { Gives (λ x. (x.0, x.1.now)) result (parse_bare_pid bytes.now) }
+{
+    let (node, rest) = number(MOST_PID, bytes)?;
+    let rest = after(b".", rest)?;
+    let (number, rest) = number(MOST_PID, rest)?;
+    let rest = after(b".0", rest)?;
+    Some((Pid::on(node as u16, number as u16), rest))
+}
+
+/// The pid that all the bytes spell, as `<0.31.0>` or `0.31.0`.
+#[tactic(auto, unfolding(crate::specs::Parsing::pid_in))]
+pub fn read_pid(bytes: &[u8]) -> Option<Pid>
+    ensures { result ≡ pid_in bytes.now }
+{
+    let found = match parse_pid(bytes) {
+        Some(found) => Some(found),
+        None => parse_bare_pid(bytes),
+    };
+    let (pid, rest) = found?;
+    if rest.is_empty() { Some(pid) } else { None }
+}
+
+/// The number that all the bytes spell.
+#[tactic(auto, unfolding(crate::specs::Parsing::number_in))]
+pub fn read_number(bytes: &[u8]) -> Option<u64>
+    ensures { result ≡ number_in bytes.now }
+{
+    let (number, rest) = number(u64::MAX, bytes)?;
+    if rest.is_empty() { Some(number) } else { None }
 }

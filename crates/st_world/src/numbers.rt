@@ -3,8 +3,7 @@
 ghost use Rattle.std.specs.Prelude.{◌≡◌, position, IfOk};
 ghost use Rattle.st_core.specs.Pid.{pid_eq, IsRising};
 
-use st_core::{Pid, place_of};
-use st_guesses::Guesses;
+use st_core::{Guesses, Pid, place_of};
 use std::alloc::{AllocError, Global};
 use std::marker::Model;
 

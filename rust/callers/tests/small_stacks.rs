@@ -1,14 +1,12 @@
 //! Each command of both programs as a library's caller has it, in a thread with a stack of 128 KB: `run` of `st_commands`,
-//! and `read_words`, `run` and `run_pair` of `seqtool`. What it writes and returns has to be what it does with ample room.
+//! and `read_words` and `run` of `seqtool_commands`. What it writes and returns has to be what it does with ample room.
 //! A thread that overflows its stack ends the whole test by a signal. That is promised of a release build.
 #![cfg(not(debug_assertions))]
 
+use seqtool_commands::{read_words, run as run_seqtool};
 use st_commands::run as run_seqaudit;
 use st_core::{MemorySink, MemorySource};
 use st_library::prelude::{AllocGlobal, HostRuntime};
-use st_pair_tasks::run_pair;
-use st_tasks::run as run_seqtool;
-use st_options::{Wanted, read_words};
 use std::fmt::Write;
 use std::thread::{self, Builder};
 
@@ -16,59 +14,30 @@ const SMALL: usize = 128 << 10;
 const AMPLE: usize = 64 << 20;
 const PROCESSES: usize = 400;
 const MESSAGES: usize = 10_000;
-/// More bytes than a command writes here: the clocks for ShiViz have 100 MB.
-const ROOM: usize = 128 << 20;
+/// More bytes than a command writes here.
+const ROOM: usize = 16 << 20;
 
 /// Of streams alone, as the words of the command line.
 const OF_STREAMS: &str = "
 seqtool audit
-seqtool audit --json
 seqtool complete
-seqtool complete --json
 seqtool complete --as streams
 seqtool complete --as acts
 seqtool renumber
 seqtool why 0.31.0 0
-seqtool why --effects --line 3
-seqtool why --json --line 10000
-seqtool why --effects --json --depth 3 --line 3
-seqtool lint
-seqtool lint --json
-seqtool lint --fix
-seqtool list
-seqtool list --json
-seqtool list --label 17 --process 0.31.0
-seqtool cut --label 17
-seqtool stats
-seqtool stats --json
-seqtool chart
-seqtool chart --label 17
-seqtool chart --complete
-seqtool chart --mermaid
-seqtool chart --dot
-seqtool chart --complete --dot
-seqtool export --as perfetto
-seqtool export --as shiviz
-seqtool diff A B
-seqtool diff --json A B
+seqtool why 0.31.0 0 --effects
 seqaudit audit
 seqaudit chart --label 17";
 
 /// Of streams with acts.
 const OF_ACTS: &str = "
 seqtool check
-seqtool check --json
-seqtool explain
 seqaudit check
 seqaudit replay
 seqaudit drive";
 
 /// Of texts with mistakes.
 const OF_MISTAKES: &str = "
-seqtool lint
-seqtool lint --most 100000
-seqtool lint --json
-seqtool lint --fix
 seqtool check
 seqaudit check";
 
@@ -88,15 +57,9 @@ fn seqaudit(words: &[&str], text: &[u8]) -> Answer {
 
 fn seqtool(words: &[&str], text: &[u8]) -> Answer {
     let rt = HostRuntime::new();
-    let request = read_words(rt.alloc(), words).expect("words that are understood");
-    let (mut reader, mut writer, mut notes) = (MemorySource::new(text, None), sink(&rt), sink(&rt));
-    let status = match request.wanted {
-        Wanted::Each(task, _) => run_seqtool(&rt, task, &mut reader, &mut writer, &mut notes),
-        Wanted::Two(task, _, _) => {
-            let mut other = MemorySource::new(text, None);
-            run_pair(&rt, task, &mut reader, &mut other, &mut writer).status
-        }
-    };
+    let (task, _) = read_words(words).expect("words that are understood");
+    let (mut reader, mut writer) = (MemorySource::new(text, None), sink(&rt));
+    let status = run_seqtool(&rt, task, &mut reader, &mut writer);
     (writer.written().to_vec(), status)
 }
 

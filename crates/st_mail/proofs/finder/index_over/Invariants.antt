@@ -1,7 +1,7 @@
 -- The index is one of the messages so far, and has room for those that are left.
 use Rattle.std.proofs.Common.{◌+◌, ◌≤◌, length, map}
 use Rattle.st_arena.specs.Arena.{list_at}
-use Rattle.st_index.specs.Index.{IsIndexOf, room}
+use Rattle.st_mail.specs.Index.{IsIndexOf, room}
 use Rattle.st_mail.proofs.finder.index_over.Given as goal
 
 abbrev pub invariant-loop-message : goal.invariant-loop-message

@@ -1,7 +1,7 @@
 -- The first slot that isn't used is dead, and takes the key.
 use Rattle.std.proofs.Common.{◌≡◌, ◌<◌, ◌++◌, ◌∷◌, [], length, set, ap, ◌∙◌, arith}
-use Rattle.st_ranks.proofs.ForCallers.{marked_dead, ranks-put, kept-put}
-use Rattle.st_ranks.specs.Queue.{kept}
+use Rattle.st_arena.proofs.ForCallers.{marked_dead, ranks-put, kept-put}
+use Rattle.st_arena.specs.Queue.{kept}
 use Rattle.st_arena.proofs.ladder.Ladder.add.Goals as goal
 
 pub mark_live-requires-clause-dead : goal.mark_live-requires-clause-dead

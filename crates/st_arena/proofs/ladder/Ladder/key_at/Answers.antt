@@ -1,8 +1,8 @@
 -- The slot of the place's rank holds the key at the place.
 use Rattle.std.proofs.Common.{ap, sym, ◌∙◌, arith, Some, slice_get}
 use Rattle.std.proofs.lemmas.Option.{slice_get_past, slice_get-get_or, same_Some}
-use Rattle.st_ranks.proofs.ForCallers.{live-kept, selected_inside, selected_item}
-use Rattle.st_ranks.specs.Queue.{kept}
+use Rattle.st_arena.proofs.ForCallers.{live-kept, selected_inside, selected_item}
+use Rattle.st_arena.specs.Queue.{kept}
 use Rattle.st_arena.proofs.ladder.Ladder.key_at.Goals as goal
 
 pub returns-in_err-slot : goal.returns-in_err-slot

@@ -4,8 +4,8 @@ use Rattle.std.specs.Prelude.{replicate}
 use Rattle.slab.specs.Slab.{get}
 use Rattle.st_arena.specs.Chain.{node_keys}
 use Rattle.st_arena.proofs.LadderLemmas.{length-keys}
-use Rattle.st_ranks.proofs.ForCallers.{ranks-new, kept-map_Some}
-use Rattle.st_ranks.specs.Queue.{kept}
+use Rattle.st_arena.proofs.ForCallers.{ranks-new, kept-map_Some}
+use Rattle.st_arena.specs.Queue.{kept}
 use Rattle.st_arena.proofs.ladder.Ladder.new.Goals as goal
 
 pub invariant_of-result : goal.invariant_of-result

@@ -1,6 +1,6 @@
 -- The slot of the place's rank is emptied, and marked dead.
 use Rattle.std.proofs.Common.{ap, ◌∙◌, arith, remove}
-use Rattle.st_ranks.proofs.ForCallers.{selected_inside, selected_take, ranks-take}
+use Rattle.st_arena.proofs.ForCallers.{selected_inside, selected_take, ranks-take}
 use Rattle.st_arena.proofs.ladder.Ladder.remove.Goals as goal
 
 pub index_mut-requires : goal.index_mut-requires

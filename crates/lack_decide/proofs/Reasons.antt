@@ -1,0 +1,656 @@
+-- What is found is a reason in the words of the results: if a rule gives nothing at an event, its
+-- reason isn't against that event, and where it gives something first, it is the first one that is.
+use Rattle.std.proofs.Common.{◌≡◌, ◌⊎◌, ℕ, zero, suc, ◌<◌, ◌≤◌, ◌==◌, ◌&&◌, ◌||◌, nat_lt, not, Bool, true, false, cond}
+use Rattle.std.proofs.Common.{inl, inr, List, [], ◌∷◌, take, slice_get, Option, Some, None, option_and_then, refl, sym}
+use Rattle.std.proofs.Common.{◌∙◌, ap, subst, arith, if◌then◌else◌}
+use Rattle.std.specs.Prelude.{is_none, is_some}
+use Rattle.std.specs.declared.cmp.Ordering.TheVariants.{Less, Equal, Greater}
+use Rattle.std.specs.Ordering.{ordering_reverse}
+use Rattle.std.proofs.lemmas.Bool.{and_from, and_parts, cases_lt, eq-eqb, eqb-true, false≢true, ltb-false, ltb-true}
+use Rattle.std.proofs.lemmas.Option.{none-some, same_Some}
+use Rattle.st_core.specs.declared.types.Pid.{Pid}
+use Rattle.st_core.specs.declared.types.Event.{Event}
+use Rattle.st_core.specs.Laws.{greatest_count}
+use Rattle.st_core.specs.Pid.{pid_cmp, pid_eq, IsRising}
+use Rattle.st_core.specs.Run.{Stream, pids_of}
+use Rattle.st_core.specs.Streams.{events_of, IsStreams}
+use Rattle.st_core.proofs.ForCallers.{pid_cmp-Equal, pid_eq-refl, pid_same, false_if, both_of}
+use Rattle.st_pair.specs.declared.answer.PairFault.{PairFault}
+use Rattle.st_pair.specs.declared.answer.PairFault.TheVariants as fault
+use Rattle.st_pair.specs.declared.answer.Source.{Source}
+use Rattle.st_pair.specs.declared.answer.Source.TheVariants as source
+use Rattle.st_pair.specs.Laws.{IsEarlier, IsLeast}
+use Rattle.st_pair.specs.Pairing.{agrees, first_rule, mismatch, not_rising, prev_not_before, receive_of}
+use Rattle.st_pair.specs.Pairing.{refusal, repeated, stamp_before, stamp_of}
+use Rattle.st_pair.specs.Places.{event_at, first, is_stamp}
+use Rattle.st_pair.proofs.ForCallers.{agreed, agrees_if, cond_none, event_none, first_least, got_rule, paired}
+use Rattle.st_pair.proofs.ForCallers.{pid_total, Rule, source_from}
+use Rattle.st_pair.proofs.ForCallers.{got_says, some_unless}
+use Rattle.st_order.specs.Items.{is_hidden}
+use Rattle.lack_laws.specs.Needs.{HoldsOfNone, is_late}
+use Rattle.lack_laws.specs.Reasons.{is_too_high}
+use Rattle.lack_laws.proofs.ForCallers.{count_at, above_if}
+use Rattle.lack_laws.specs.OpenReasons.{HasNoOpenReason, IsUnfounded}
+use Rattle.lack_decide.specs.declared.answer.Never.{Never}
+use Rattle.lack_decide.specs.declared.answer.Never.TheVariants as never
+use Rattle.lack_decide.specs.Answers.{reason_rank, IsAgainst, IsLast, IsFirstReason, IsSendOf}
+use Rattle.lack_decide.specs.Found.{IsFoundReason}
+
+-- TESTS
+
+neither : (a b : Bool) → (a || b) ≡ false → (a ≡ false) × (b ≡ false)
+neither true b h = absurd (false≢true (sym h))
+neither false b h = (refl, h)
+
+-- a receive, or not (a stamp that counts higher)
+stamps_low : (stamp less : Bool) → (not stamp || less) ≡ false → (stamp ≡ true) × (less ≡ false)
+stamps_low true less h = (refl, h)
+stamps_low false less h = absurd (false≢true (sym h))
+
+-- ONE PLACE AND ANOTHER
+
+module _ (q p : Pid) (j i : ℕ) where
+  in_order : ((pid_eq q p && j == i) ≡ false) → IsEarlier q j p i ⊎ IsEarlier p i q j
+  in_order other = elim (pid_cmp q p) as (λ o. pid_cmp q p ≡ o → IsEarlier q j p i
+      ⊎ IsEarlier p i q j) [
+        | Less ↦ λ is. inl (inl is)
+        | Equal ↦ λ is.
+            let same = pid_cmp-Equal q p is in
+            elim (cases_lt j i) [
+              | inl less ↦ inl (inr (same, less))
+              | inr high ↦ elim (cases_lt i j) [
+                | inl less ↦ inr (inr (sym same, less))
+                | inr low ↦
+                    let index : j ≡ i = omega arith in
+                    absurd (false≢true (sym other ∙ and_from (pid_eq q p) (j == i)
+                    (ap (λ (x : Pid). pid_eq x p) same ∙ pid_eq-refl p) (eq-eqb j i index)))
+              ]
+            ]
+        | Greater ↦ λ is. inr (inl (pid_total.antisymm p q ∙ ap ordering_reverse is))
+      ] refl
+
+-- WHAT PAIRING ASKS
+
+-- the last stamp before an index, if there is one, is among those before it
+module _ (streams : List Stream) (p : Pid) where
+  abbrev IsLastStamp : ℕ → ℕ → Type 0
+  IsLastStamp i j = IsLast streams p i (λ f. is_stamp f ≡ true) j
+
+  later_last : (i j : ℕ) → ((f : Event) → event_at streams p i ≡ Some f → is_stamp f ≡ true → ⊥)
+      → IsLastStamp i j → IsLastStamp (suc i) j
+  later_last i j here l = record {
+    event = l.event;
+    at = l.at;
+    before = let less = l.before in omega (arith, less);
+    is = l.is;
+    last = λ k f after within at. elim (cases_lt k i) [
+      | inl less ↦ l.last k f after less at
+      | inr high ↦
+          let same : k ≡ i = omega (arith, within, high) in
+          here f (subst (λ n. event_at streams p n ≡ Some f) same at)
+    ];
+  }
+
+  last_stamp : (i : ℕ) (g : ℕ × Event) → stamp_before (events_of streams p) i ≡ Some g
+      → (l : IsLastStamp i g.0) × (l.event ≡ g.1)
+  unfolding later_last
+  last_stamp zero g h = absurd (none-some g h)
+  last_stamp (suc i) g h = elim (event_at streams p i) as (λ o. event_at streams p i ≡ o
+      → (let last : Option (ℕ × Event) = elim o [
+        | None ↦ stamp_before (events_of streams p) i
+        | Some f ↦ if is_stamp f then Some (i, f) else stamp_before (events_of streams p) i
+      ] in last) ≡ Some g → (l : IsLastStamp (suc i) g.0) × (l.event ≡ g.1)) [
+        | None ↦ λ none h.
+            let rest = last_stamp i g h in
+            (later_last i g.0 (λ f at. absurd (none-some f (sym none ∙ at))) rest.0, rest.1)
+        | Some f ↦ λ at h. elim (is_stamp f) as (λ b. is_stamp f ≡ b
+            → cond b (Some (i, f)) (stamp_before (events_of streams p) i) ≡ Some g
+            → (l : IsLastStamp (suc i) g.0) × (l.event ≡ g.1)) [
+              | true ↦ λ stamps h.
+                  let here : ℕ × Event = (i, f) in
+                  let pair = same_Some here g h in
+                  let index : i ≡ g.0 = ap (λ (x : ℕ × Event). x.0) pair in
+                  let event : f ≡ g.1 = ap (λ (x : ℕ × Event). x.1) pair in (
+                    record {
+                      event = f;
+                      at = subst (λ n. event_at streams p n ≡ Some f) index at;
+                      before = omega (arith, index);
+                      is = stamps;
+                      last = λ k d after within there. absurd (omega (arith, index, after, within));
+                    },
+                    event,
+                  )
+              | false ↦ λ receives h.
+                  let rest = last_stamp i g h in (
+                    later_last i g.0 (λ d there stamps. false≢true (sym receives
+                        ∙ ap is_stamp (same_Some f d (sym at ∙ there)) ∙ stamps)) rest.0,
+                    rest.1,
+                  )
+            ] refl h
+      ] refl h
+
+  -- there is one, if there is a stamp
+  some_stamp : (i j : ℕ) (f : Event) → j < i → event_at streams p j ≡ Some f → is_stamp f ≡ true
+      → stamp_before (events_of streams p) i ≡ None → ⊥
+  some_stamp zero j f less at stamps none = omega (arith, less)
+  some_stamp (suc i) j f less at stamps none = elim (event_at streams p i)
+      as (λ o. event_at streams p i ≡ o
+      → (let last : Option (ℕ × Event) = elim o [
+        | None ↦ stamp_before (events_of streams p) i
+        | Some d ↦ if is_stamp d then Some (i, d) else stamp_before (events_of streams p) i
+      ] in last) ≡ None → ⊥) [
+        | None ↦ λ nothing none. some_stamp i j f
+            (elim (cases_lt j i) [
+              | inl below ↦ below
+              | inr high ↦
+                  let same : j ≡ i = omega (arith, less, high) in
+                  absurd (none-some f (sym nothing ∙ subst (λ n. event_at streams p n ≡ Some f) same
+                  at))
+            ]) at stamps none
+        | Some d ↦ λ there none. elim (is_stamp d) as (λ b. is_stamp d ≡ b
+            → cond b (Some (i, d)) (stamp_before (events_of streams p) i) ≡ None → ⊥) [
+              | true ↦ λ is none. let here : ℕ × Event = (i, d) in none-some here (sym none)
+              | false ↦ λ receives none. some_stamp i j f
+                  (elim (cases_lt j i) [
+                    | inl below ↦ below
+                    | inr high ↦
+                        let same : j ≡ i = omega (arith, less, high) in
+                        let event = same_Some d f (sym there
+                        ∙ subst (λ n. event_at streams p n ≡ Some f) same at) in
+                        absurd (false≢true (sym receives ∙ ap is_stamp event ∙ stamps))
+                  ]) at stamps none
+            ] refl none
+      ] refl none
+
+got : (q : Pid) (this : ℕ) (p : Pid) (i : ℕ) (e : Event) → is_stamp e ≡ false → e.from ≡ q
+    → e.serial.this ≡ this
+    → got_rule q this p i e ≡ Some (p, i)
+got q this p i e receives from count =
+    let place : Pid × ℕ = (p, i) in
+    ap (λ b. cond b None (cond (pid_eq e.from q && e.serial.this == this) (Some place) None))
+    receives
+    ∙ ap (λ b. cond b (Some place) None) (and_from (pid_eq e.from q) (e.serial.this == this)
+    (ap (λ (x : Pid). pid_eq x q) from ∙ pid_eq-refl q) (eq-eqb e.serial.this this count))
+
+-- AN EVENT AND ITS SEND
+
+send_of : (f e : Event) → agrees f e ≡ true → IsSendOf f e
+send_of f e h = let is = agreed f e h in (is.sends, is.label, is.prev, is.to, is.value)
+
+sends_it : (f e : Event) → IsSendOf f e → agrees f e ≡ true
+sends_it f e is = agrees_if f e (record { sends = is.0; label = is.1; prev = is.2; to = is.3; value = is.4 })
+
+-- WHAT EVENTS LEAVE UNSAID
+
+abbrev hides : Source → Bool
+hides s = elim s [ source.Hidden ↦ true | source.Event q j ↦ false ]
+
+-- a stamp, or the receive of a send that isn't there
+hidden_as : (stamp : Bool) (q : Pid) (o : Option (ℕ × Event))
+    → (stamp || cond stamp false (hides (source_from q o))) ≡ (stamp || is_none o)
+hidden_as true q o = refl
+hidden_as false q None = refl
+hidden_as false q (Some f) = refl
+
+some_as : (stamp : Bool) (q : Pid) (o : Option (ℕ × Event))
+    → cond stamp false (hides (source_from q o)) ≡ false
+    → (stamp || is_some o) ≡ true
+some_as true q o h = refl
+some_as false q None h = absurd (false≢true (sym h))
+some_as false q (Some f) h = refl
+
+pub sent_if : (streams : List Stream) (e : Event) → is_hidden streams e ≡ false
+    → (is_stamp e || is_some (stamp_of streams e.from e.serial.this)) ≡ true
+sent_if streams e = some_as (is_stamp e) e.from (stamp_of streams e.from e.serial.this)
+
+taken_at : (es : List Event) (i k : ℕ) (f : Event) → slice_get es k ≡ Some f → k < i
+    → slice_get (take i es) k ≡ Some f
+taken_at es zero k f at less = absurd (omega (arith, less))
+taken_at [] (suc i) k f at less = at
+taken_at (e ∷ es) (suc i) zero f at less = at
+taken_at (e ∷ es) (suc i) (suc k) f at less = taken_at es i k f at (omega (arith, less))
+
+module _ (top : ℕ) (streams : List Stream) (sound : IsStreams streams) where
+  pids_rise : IsRising (pids_of streams)
+  pids_rise = sound.draft.rising
+
+  -- A REASON THAT ISN'T AGAINST AN EVENT
+
+  -- the rule of this turn gives nothing at an event
+  abbrev IsQuiet : ℕ → Pid → ℕ → Event → Type 0
+  IsQuiet zero p i e = prev_not_before p i e ≡ None
+  IsQuiet (suc zero) p i e = not_rising streams p i e ≡ None
+  IsQuiet (suc (suc zero)) p i e = repeated streams p i e ≡ None
+  IsQuiet (suc (suc (suc zero))) p i e = mismatch streams p i e ≡ None
+  IsQuiet (suc (suc (suc (suc zero)))) p i e = is_late (take i (events_of streams p)) e ≡ false
+  IsQuiet (suc (suc (suc (suc (suc zero))))) p i e = IsUnfounded streams p i → ⊥
+  IsQuiet (suc (suc (suc (suc (suc (suc n)))))) p i e = is_too_high top [] e ≡ false
+
+  not_falling : (p : Pid) (i : ℕ) (e : Event) (j : ℕ) → not_rising streams p i e ≡ None
+      → IsAgainst top streams p i e (never.NotRising j) → ⊥
+  not_falling p i e j quiet against = let stamps = against.0 in let l = against.1 in let high =
+      against.2 in
+      elim (stamp_before (events_of streams p) i)
+      as (λ o. stamp_before (events_of streams p) i ≡ o → option_and_then (λ (f : ℕ × Event).
+      if not (is_stamp e) || nat_lt f.1.serial.this e.serial.this then None else Some
+      (fault.NotRising p i f.0)) o
+      ≡ None → ⊥) [
+        | None ↦ λ none quiet. some_stamp streams p i j l.event l.before l.at l.is none
+        | Some f ↦ λ is quiet.
+            let other = last_stamp streams p i f is in
+            let m = other.0 in
+            let test = cond_none (not (is_stamp e) || nat_lt f.1.serial.this e.serial.this)
+            (fault.NotRising p i f.0) quiet in
+            let less = ltb-true f.1.serial.this e.serial.this
+            (ap (λ b. not b || nat_lt f.1.serial.this e.serial.this) (sym stamps) ∙ test) in
+            elim (cases_lt j f.0) [
+              | inl below ↦ l.last f.0 m.event below m.before m.at m.is
+              | inr above ↦ elim (cases_lt f.0 j) [
+                | inl below ↦ m.last j l.event below l.before l.at l.is
+                | inr equal ↦
+                    let index : f.0 ≡ j = omega (arith, above, equal) in
+                    let same = same_Some m.event l.event
+                    (sym m.at ∙ ap (event_at streams p) index ∙ l.at) in
+                    let count : f.1.serial.this ≡ l.event.serial.this =
+                    ap (λ (x : Event). x.serial.this) (sym other.1 ∙ same) in
+                    omega (arith, less, high, count)
+              ]
+            ]
+      ] refl quiet
+
+  not_twice : (p : Pid) (i : ℕ) (e : Event) (q : Pid) (j : ℕ) → event_at streams p i ≡ Some e
+      → repeated streams p i e ≡ None → IsAgainst top streams p i e (never.Repeated q j) → ⊥
+  not_twice p i e q j at quiet against =
+      let receives = against.0 in
+      let earlier = against.1 in
+      let f = against.2 in
+      let there = against.3 in
+      let receipt = against.4 in
+      let from = against.5 in
+      let count = against.6 in
+      let place : Pid × ℕ = (q, j) in
+      elim (receive_of streams e.from e.serial.this)
+      as (λ o. receive_of streams e.from e.serial.this ≡ o → option_and_then (λ (x : Pid × ℕ).
+      if is_stamp e || (pid_eq x.0 p && x.1 == i) then None else Some (fault.Repeated p i x.0 x.1))
+      o ≡ None
+      → ⊥) [
+        | None ↦ λ none quiet.
+            none-some place (sym (event_none (got_rule e.from e.serial.this) streams none q j f
+            there)
+            ∙ got e.from e.serial.this q j f receipt from count)
+        | Some x ↦ λ is quiet.
+            let tests = cond_none (is_stamp e || (pid_eq x.0 p && x.1 == i))
+            (fault.Repeated p i x.0 x.1) quiet in
+            let both = and_parts (pid_eq x.0 p) (x.1 == i)
+            (ap (λ b. b || (pid_eq x.0 p && x.1 == i)) (sym receives) ∙ tests) in
+            let l = first_least (got_rule e.from e.serial.this) streams x pids_rise is in
+            let says = got_says e.from e.serial.this l.pid l.index l.event x l.gives in
+            let pid : p ≡ l.pid = sym (says.pid ∙ pid_same x.0 p both.0) in
+            let index : i ≡ l.index = sym (says.index ∙ eqb-true x.1 i both.1) in
+            let before : IsEarlier q j l.pid l.index =
+            subst (λ (r : Pid). IsEarlier q j r l.index) pid
+            (subst (λ (n : ℕ). IsEarlier q j p n) index earlier) in
+            none-some place (sym (l.least q j f there before)
+            ∙ got e.from e.serial.this q j f receipt from count)
+      ] refl quiet
+
+  not_other : (p : Pid) (i : ℕ) (e : Event) (q : Pid) (j : ℕ) → mismatch streams p i e ≡ None
+      → IsAgainst top streams p i e (never.Mismatch q j) → ⊥
+  not_other p i e q j quiet against =
+      let receives = against.0 in
+      let same = against.1 in
+      let f = against.2 in
+      let is = against.3 in
+      let sent : stamp_of streams e.from e.serial.this ≡ Some (j, f) =
+      ap (λ (r : Pid). stamp_of streams r e.serial.this) (sym same) ∙ is in
+      let given = ap (option_and_then (λ (g : ℕ × Event). if is_stamp e || agrees g.1 e then None
+      else Some (fault.Mismatch p i e.from g.0))) (sym sent) ∙ quiet in
+      let tests = cond_none (is_stamp e || agrees f e) (fault.Mismatch p i e.from j) given in
+      against.4 (send_of f e (ap (λ b. b || agrees f e) (sym receives) ∙ tests))
+
+  not_late : (p : Pid) (i : ℕ) (e : Event) (j : ℕ) → is_late (take i (events_of streams p)) e
+      ≡ false
+      → IsAgainst top streams p i e (never.Late j) → ⊥
+  not_late p i e j quiet against =
+      let stamps = against.0 in
+      let l = against.1 in
+      let es = events_of streams p in
+      let less = ltb-true (greatest_count (take i es)) e.serial.this
+      (above_if (is_stamp e) (nat_lt (greatest_count (take i es)) e.serial.this) stamps quiet) in
+      let low = count_at (take i es) j l.event (taken_at es i j l.event l.at l.before) in
+      let high = l.is.1 in
+      omega (arith, less, low, high)
+
+  unfounded_if : (p : Pid) (i : ℕ) (e : Event) → event_at streams p i ≡ Some e
+      → IsAgainst top streams p i e never.Unfounded → IsUnfounded streams p i
+  unfounded_if p i e at against = elim against.1 [
+    | inl behind ↦ inl (record {
+      event = e;
+      at = at;
+      stamps = behind.0;
+      is_zero = against.0;
+      index = behind.1;
+      received = behind.2;
+      received_at = behind.4;
+      receives = behind.5;
+      behind = behind.3;
+    })
+    | inr behind ↦ inr (record {
+      zero = record {
+        event = e;
+        at = at;
+        is_zero = against.0;
+        pid = behind.1;
+        index = behind.2;
+        first = behind.3;
+        first_at = behind.4;
+        same = behind.5;
+        lower = behind.6;
+        above = behind.7;
+      };
+      tells = hidden_as (is_stamp e) e.from (stamp_of streams e.from e.serial.this) ∙ behind.0;
+    })
+  ]
+
+  not_against : (other : Never) (p : Pid) (i : ℕ) (e : Event) → event_at streams p i ≡ Some e
+      → IsQuiet (reason_rank other) p i e → IsAgainst top streams p i e other → ⊥
+  not_against never.PrevNotBefore p i e at quiet against =
+      let less = ltb-true e.serial.prev e.serial.this
+      (cond_none (nat_lt e.serial.prev e.serial.this) (fault.PrevNotBefore p i) quiet) in
+      omega (arith, less, against)
+  not_against (never.NotRising j) p i e at quiet against = not_falling p i e j quiet against
+  not_against (never.Repeated q j) p i e at quiet against = not_twice p i e q j at quiet against
+  not_against (never.Mismatch q j) p i e at quiet against = not_other p i e q j quiet against
+  not_against (never.Late j) p i e at quiet against = not_late p i e j quiet against
+  not_against never.Unfounded p i e at quiet against = quiet (unfounded_if p i e at against)
+  not_against never.TooHigh p i e at quiet against =
+      let low = ltb-false top e.serial.this quiet in
+      omega (arith, low, against)
+
+  -- THE FIRST THAT IS
+
+  abbrev AreQuiet : ℕ → Type 0
+  AreQuiet n = (q : Pid) (j : ℕ) (f : Event) → event_at streams q j ≡ Some f → IsQuiet n q j f
+
+  abbrev AreQuietBefore : Pid → ℕ → ℕ → Type 0
+  AreQuietBefore p i n = (q : Pid) (j : ℕ) (f : Event) → event_at streams q j ≡ Some f
+      → IsEarlier q j p i
+      → IsQuiet n q j f
+
+  reason_if : (p : Pid) (i : ℕ) (e : Event) (reason : Never) → event_at streams p i ≡ Some e
+      → IsAgainst top streams p i e reason → ((n : ℕ) → n < reason_rank reason → AreQuiet n)
+      → AreQuietBefore p i (reason_rank reason) → IsFirstReason top streams p i reason
+  reason_if p i e reason at holds before earlier = record {
+    event = e;
+    at = at;
+    holds = holds;
+    first = λ other q j f there against. elim (cases_lt (reason_rank other) (reason_rank reason)) [
+      | inl less ↦ absurd (not_against other q j f there
+          (before (reason_rank other) less q j f there) against)
+      | inr high ↦ high
+    ];
+    least = λ other q j f there against same is_earlier.
+        not_against other q j f there
+        (subst (λ n. IsQuiet n q j f) same (earlier q j f there is_earlier)) against;
+  }
+
+  -- what pairing's reason is in the words of the results
+  abbrev IsMeant : PairFault → Type 0
+  IsMeant fault.Memory = Unit {0}
+  IsMeant (fault.PrevNotBefore p i) = IsFirstReason top streams p i never.PrevNotBefore
+  IsMeant (fault.NotRising p i j) = IsFirstReason top streams p i (never.NotRising j)
+  IsMeant (fault.Repeated p i q j) = IsFirstReason top streams p i (never.Repeated q j)
+  IsMeant (fault.Mismatch p i q j) = IsFirstReason top streams p i (never.Mismatch q j)
+
+  -- the rules before one of them give nothing
+  record AreNone (n : ℕ) : Type 0 where
+    prev : 0 < n → first prev_not_before streams ≡ None
+    rising : 1 < n → first (not_rising streams) streams ≡ None
+    once : 2 < n → first (repeated streams) streams ≡ None
+    matched : 3 < n → first (mismatch streams) streams ≡ None
+
+  quiet_before : (n m : ℕ) → n ≤ 4 → AreNone n → m < n → AreQuiet m
+  quiet_before n zero small none less q j f at =
+      event_none prev_not_before streams (none.prev (omega (arith, less))) q j f at
+  quiet_before n (suc zero) small none less q j f at =
+      event_none (not_rising streams) streams (none.rising (omega (arith, less))) q j f at
+  quiet_before n (suc (suc zero)) small none less q j f at =
+      event_none (repeated streams) streams (none.once (omega (arith, less))) q j f at
+  quiet_before n (suc (suc (suc zero))) small none less q j f at =
+      event_none (mismatch streams) streams (none.matched (omega (arith, less))) q j f at
+  quiet_before n (suc (suc (suc (suc m)))) small none less q j f at =
+      absurd (omega (arith, less, small))
+
+  prev_meant : (x : PairFault) → IsLeast prev_not_before streams x → IsMeant x
+  prev_meant x l =
+      let e = l.event in
+      let parts = some_unless (nat_lt e.serial.prev e.serial.this)
+      (fault.PrevNotBefore l.pid l.index) x l.gives in
+      let high = ltb-false e.serial.prev e.serial.this parts.0 in
+      subst IsMeant parts.1 (reason_if l.pid l.index e never.PrevNotBefore l.at high
+      (λ n less. absurd (omega (arith, less))) l.least)
+
+  rising_meant : (x : PairFault) → AreNone 1 → IsLeast (not_rising streams) streams x → IsMeant x
+  rising_meant x none l =
+      let e = l.event in
+      elim (stamp_before (events_of streams l.pid) l.index)
+      as (λ o. stamp_before (events_of streams l.pid) l.index ≡ o
+      → option_and_then (λ (f : ℕ × Event).
+      if not (is_stamp e) || nat_lt f.1.serial.this e.serial.this then None
+      else Some (fault.NotRising l.pid l.index f.0)) o ≡ Some x → IsMeant x) [
+        | None ↦ λ nothing gives. absurd (none-some x gives)
+        | Some f ↦ λ is gives.
+            let parts = some_unless (not (is_stamp e) || nat_lt f.1.serial.this e.serial.this)
+            (fault.NotRising l.pid l.index f.0) x gives in
+            let tests = stamps_low (is_stamp e) (nat_lt f.1.serial.this e.serial.this) parts.0 in
+            let last = last_stamp streams l.pid l.index f is in
+            let low = ltb-false f.1.serial.this e.serial.this tests.1 in
+            let count = ap (λ (d : Event). d.serial.this) last.1 in
+            let high : e.serial.this ≤ last.0.event.serial.this = omega (arith, low, count) in
+            subst IsMeant parts.1 (reason_if l.pid l.index e (never.NotRising f.0) l.at
+            (tests.0, last.0, high) (λ n less. quiet_before 1 n (omega arith) none less) l.least)
+      ] refl l.gives
+
+  repeated_meant : (x : PairFault) → AreNone 2 → IsLeast (repeated streams) streams x → IsMeant x
+  repeated_meant x none l =
+      let e = l.event in
+      elim (receive_of streams e.from e.serial.this)
+      as (λ o. receive_of streams e.from e.serial.this ≡ o → option_and_then (λ (y : Pid × ℕ).
+      if is_stamp e || (pid_eq y.0 l.pid && y.1 == l.index) then None
+      else Some (fault.Repeated l.pid l.index y.0 y.1)) o ≡ Some x → IsMeant x) [
+        | None ↦ λ nothing gives. absurd (none-some x gives)
+        | Some y ↦ λ is gives.
+            let parts = some_unless (is_stamp e || (pid_eq y.0 l.pid && y.1 == l.index))
+            (fault.Repeated l.pid l.index y.0 y.1) x gives in
+            let tests = neither (is_stamp e) (pid_eq y.0 l.pid && y.1 == l.index) parts.0 in
+            let m = first_least (got_rule e.from e.serial.this) streams y pids_rise is in
+            let says = got_says e.from e.serial.this m.pid m.index m.event y m.gives in
+            let there : event_at streams y.0 y.1 ≡ Some m.event =
+            subst (λ (r : Pid). event_at streams r y.1 ≡ Some m.event) says.pid
+            (subst (λ (n : ℕ). event_at streams m.pid n ≡ Some m.event) says.index m.at) in
+            let earlier : IsEarlier y.0 y.1 l.pid l.index =
+            elim (in_order y.0 l.pid y.1 l.index tests.1) [
+              | inl before ↦ before
+              | inr after ↦
+                  let place : IsEarlier l.pid l.index m.pid m.index =
+                  subst (λ (r : Pid). IsEarlier l.pid l.index r m.index) (sym says.pid)
+                  (subst (λ (n : ℕ). IsEarlier l.pid l.index y.0 n) (sym says.index) after) in
+                  let found : Pid × ℕ = (l.pid, l.index) in
+                  absurd (none-some found (sym (m.least l.pid l.index e l.at place)
+                  ∙ got e.from e.serial.this l.pid l.index e tests.0 refl refl))
+            ] in
+            subst IsMeant parts.1 (reason_if l.pid l.index e (never.Repeated y.0 y.1) l.at
+            (tests.0, earlier, m.event, there, says.receives, says.from, says.count)
+            (λ n less. quiet_before 2 n (omega arith) none less) l.least)
+      ] refl l.gives
+
+  mismatch_meant : (x : PairFault) → AreNone 3 → IsLeast (mismatch streams) streams x → IsMeant x
+  mismatch_meant x none l =
+      let e = l.event in
+      elim (stamp_of streams e.from e.serial.this)
+      as (λ o. stamp_of streams e.from e.serial.this ≡ o → option_and_then (λ (f : ℕ × Event).
+      if is_stamp e || agrees f.1 e then None else Some (fault.Mismatch l.pid l.index e.from f.0)) o
+      ≡ Some x
+      → IsMeant x) [
+        | None ↦ λ nothing gives. absurd (none-some x gives)
+        | Some f ↦ λ is gives.
+            let parts = some_unless (is_stamp e || agrees f.1 e)
+            (fault.Mismatch l.pid l.index e.from f.0) x gives in
+            let tests = neither (is_stamp e) (agrees f.1 e) parts.0 in
+            subst IsMeant parts.1 (reason_if l.pid l.index e (never.Mismatch e.from f.0) l.at
+            (tests.0, refl, f.1, is, λ send. false≢true (sym tests.1 ∙ sends_it f.1 e send))
+            (λ n less. quiet_before 3 n (omega arith) none less) l.least)
+      ] refl l.gives
+
+  -- a rule gives it first, or gives nothing
+  by_rule : (x : PairFault) (rule : Rule PairFault) (rules : List (Rule PairFault))
+      → (IsLeast rule streams x → IsMeant x)
+      → (first rule streams ≡ None → first_rule streams rules ≡ Some x → IsMeant x)
+      → first_rule streams (rule ∷ rules) ≡ Some x → IsMeant x
+  by_rule x rule rules here rest h = elim (first rule streams) as (λ o. first rule streams ≡ o
+      → (let all : Option PairFault = elim o [
+        | None ↦ first_rule streams rules
+        | Some g ↦
+            Some g
+      ] in all) ≡ Some x
+      → IsMeant x) [
+        | None ↦ λ none h. rest none h
+        | Some g ↦ λ is h. here (first_least rule streams x pids_rise (is ∙ h))
+      ] refl h
+
+  pair_meant : (x : PairFault) → refusal streams ≡ Some x → IsMeant x
+  pair_meant x =
+      by_rule x prev_not_before (not_rising streams ∷ repeated streams ∷ mismatch streams ∷ [])
+      (prev_meant x) (λ none.
+      by_rule x (not_rising streams) (repeated streams ∷ mismatch streams ∷ [])
+      (rising_meant x (record {
+        prev = λ less. none;
+        rising = λ less. absurd (omega (arith, less));
+        once = λ less. absurd (omega (arith, less));
+        matched = λ less. absurd (omega (arith, less));
+      })) (λ none-2.
+      by_rule x (repeated streams) (mismatch streams ∷ []) (repeated_meant x (record {
+        prev = λ less. none;
+        rising = λ less. none-2;
+        once = λ less. absurd (omega (arith, less));
+        matched = λ less. absurd (omega (arith, less));
+      })) (λ none-3.
+      by_rule x (mismatch streams) [] (mismatch_meant x (record {
+        prev = λ less. none;
+        rising = λ less. none-2;
+        once = λ less. none-3;
+        matched = λ less. absurd (omega (arith, less));
+      })) (λ none-4 h. absurd (none-some x h)))))
+
+  -- streams that pairing accepts
+  paired_quiet : refusal streams ≡ None → (n : ℕ) → n < 4 → AreQuiet n
+  paired_quiet accepted n less =
+      let ok = paired streams accepted in
+      quiet_before 4 n (omega arith) (record {
+        prev = λ _. ok.prev;
+        rising = λ _. ok.rising;
+        once = λ _. ok.once;
+        matched = λ _. ok.matched;
+      }) less
+
+  late_quiet : refusal streams ≡ None → HoldsOfNone is_late streams → (n : ℕ) → n < 5 → AreQuiet n
+  late_quiet accepted timely zero less = paired_quiet accepted 0 (omega arith)
+  late_quiet accepted timely (suc zero) less = paired_quiet accepted 1 (omega arith)
+  late_quiet accepted timely (suc (suc zero)) less = paired_quiet accepted 2 (omega arith)
+  late_quiet accepted timely (suc (suc (suc zero))) less = paired_quiet accepted 3 (omega arith)
+  late_quiet accepted timely (suc (suc (suc (suc zero)))) less = timely
+  late_quiet accepted timely (suc (suc (suc (suc (suc n))))) less = absurd (omega (arith, less))
+
+  founded_quiet : refusal streams ≡ None → HoldsOfNone is_late streams
+      → ((q : Pid) (j : ℕ) → IsUnfounded streams q j → ⊥) → (n : ℕ) → n < 6 → AreQuiet n
+  founded_quiet accepted timely founded zero less = late_quiet accepted timely 0 (omega arith)
+  founded_quiet accepted timely founded (suc zero) less = late_quiet accepted timely 1 (omega arith)
+  founded_quiet accepted timely founded (suc (suc zero)) less =
+      late_quiet accepted timely 2 (omega arith)
+  founded_quiet accepted timely founded (suc (suc (suc zero))) less =
+      late_quiet accepted timely 3 (omega arith)
+  founded_quiet accepted timely founded (suc (suc (suc (suc zero)))) less =
+      late_quiet accepted timely 4 (omega arith)
+  founded_quiet accepted timely founded (suc (suc (suc (suc (suc zero))))) less = λ q j f at.
+      founded q j
+  founded_quiet accepted timely founded (suc (suc (suc (suc (suc (suc n)))))) less =
+      absurd (omega (arith, less))
+
+  -- where no reason of the open question holds, none is against an event
+  pub none_against : HasNoOpenReason top streams → (reason : Never) (p : Pid) (i : ℕ) (e : Event)
+      → event_at streams p i ≡ Some e → ¬ IsAgainst top streams p i e reason
+  none_against none never.PrevNotBefore p i e at =
+      not_against never.PrevNotBefore p i e at (paired_quiet none.accepted 0 (omega arith) p i e at)
+  none_against none (never.NotRising j) p i e at =
+      not_against (never.NotRising j) p i e at (paired_quiet none.accepted 1 (omega arith) p i e at)
+  none_against none (never.Repeated q j) p i e at =
+      not_against (never.Repeated q j) p i e at
+      (paired_quiet none.accepted 2 (omega arith) p i e at)
+  none_against none (never.Mismatch q j) p i e at =
+      not_against (never.Mismatch q j) p i e at
+      (paired_quiet none.accepted 3 (omega arith) p i e at)
+  none_against none (never.Late j) p i e at =
+      not_against (never.Late j) p i e at (none.timely p i e at)
+  none_against none never.Unfounded p i e at =
+      not_against never.Unfounded p i e at (none.founded p i)
+  none_against none never.TooHigh p i e at = λ against.
+      let low = none.within p i e at in
+      omega (arith, low, against)
+
+  pub reason_means : (p : Pid) (i : ℕ) (reason : Never) → IsFoundReason top streams p i reason
+      → IsFirstReason top streams p i reason
+  reason_means p i never.PrevNotBefore is = pair_meant (fault.PrevNotBefore p i) is
+  reason_means p i (never.NotRising j) is = pair_meant (fault.NotRising p i j) is
+  reason_means p i (never.Repeated q j) is = pair_meant (fault.Repeated p i q j) is
+  reason_means p i (never.Mismatch q j) is = pair_meant (fault.Mismatch p i q j) is
+  reason_means p i (never.Late j) is =
+      let h = is.higher in
+      let at = is.least.holds.at in
+      let e = is.least.holds.event in
+      let same = same_Some h.event e (sym h.at ∙ at) in
+      let count : h.event.serial.this ≡ e.serial.this = ap (λ (x : Event). x.serial.this) same in
+      let high = h.high in
+      reason_if p i e (never.Late j) at (
+        (both_of (is_stamp e) _ is.least.holds.holds).0,
+        record {
+          event = h.receive;
+          at = h.there;
+          before = h.before;
+          is = (h.receives, omega (arith, high, count));
+          last = λ k f after before there no_lower.
+              let low = h.last k f after before there in
+              let reaches = no_lower.1 in
+              omega (arith, low, reaches, count);
+        },
+      )
+      (paired_quiet is.accepted)
+      (λ q j f there earlier. false_if (is_late (take j (events_of streams q)) f)
+      (λ late. is.least.least q j earlier (record { event = f; at = there; holds = late })))
+  reason_means p i never.Unfounded is = elim is.least.holds [
+    | inl z ↦ reason_if p i z.event never.Unfounded z.at
+        (z.is_zero, inl (z.stamps, z.index, z.received, z.behind, z.received_at, z.receives))
+        (late_quiet is.accepted is.timely) (λ q j f there earlier. is.least.least q j earlier)
+    | inr t ↦
+        let z = t.zero in
+        let e = z.event in
+        reason_if p i e never.Unfounded z.at (
+          z.is_zero,
+          inr (
+            sym (hidden_as (is_stamp e) e.from (stamp_of streams e.from e.serial.this)) ∙ t.tells,
+            z.pid,
+            z.index,
+            z.first,
+            z.first_at,
+            z.same,
+            z.lower,
+            z.above,
+          ),
+        )
+        (late_quiet is.accepted is.timely) (λ q j f there earlier. is.least.least q j earlier)
+  ]
+  reason_means p i never.TooHigh is =
+      let h = is.least.holds in
+      reason_if p i h.event never.TooHigh h.at (ltb-true top h.event.serial.this h.holds)
+      (founded_quiet is.accepted is.timely is.founded)
+      (λ q j f there earlier. false_if (nat_lt top f.serial.this)
+      (λ high. is.least.least q j earlier (record { event = f; at = there; holds = high })))

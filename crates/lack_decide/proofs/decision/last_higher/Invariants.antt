@@ -1,0 +1,6 @@
+-- The last of the events so far that counts no lower is known.
+use Rattle.lack_decide.specs.Higher.{LastHigher}
+use Rattle.lack_decide.proofs.decision.last_higher.Given as goal
+
+abbrev pub invariant-loop-i : goal.invariant-loop-i
+invariant-loop-i l = LastHigher l.events l.this l.i l.last

@@ -1,0 +1,163 @@
+//! The acts of a completion.
+
+ghost use Rattle.std.specs.Prelude.{◌≡◌, ◌↔◌, IfErr, IfOk, IfSome, IsTrue};
+ghost use Rattle.st_core.specs.Laws.{is_reset, NoReset};
+ghost use Rattle.lack_decide.specs.Answers.{IsCertificate};
+ghost use Rattle.lack_decide.specs.Bounds.{IsCertificateFault};
+
+use crate::answer::{Certificate, CertificateFault};
+use crate::bounds::act_bound;
+use lack_acts::{LeanFault, lean_acts};
+use lack_needs::Completion;
+use st_audit::told_acts;
+use st_check::{Verdict, check};
+use st_core::{Act, Sequence, Streams};
+use std::alloc::{AllocError, Global};
+use std::thread::Threads;
+
+/// Whether the act is a reset.
+fn is_reset(act: &Act) -> bool
+    ensures { result ≡ is_reset act.now }
+{
+    match act {
+        Act::Reset(_) => true,
+        Act::Send(..)
+        | Act::Receive(..)
+        | Act::Print(..)
+        | Act::PrintAt(..)
+        | Act::Set(..)
+        | Act::Clear(_)
+        | Act::Restore(..)
+        | Act::Look(_)
+        | Act::Tracer(..) => false,
+    }
+}
+
+/// Whether none of the acts is a reset.
+fn has_no_reset(acts: &[Act]) -> bool
+    ensures { IsTrue result ↔ NoReset acts.now }
+{
+    for act in acts {
+        if is_reset(act) {
+            return false;
+        }
+    }
+    true
+}
+
+/// Asks the checker whether the acts show the streams. If it says yes, none of them is a reset, and
+/// they are at most `most`, they are the certificate.
+fn certify<const TOP: u64>(
+    alloc: Global,
+    streams: &Streams,
+    acts: Sequence<Act>,
+    most: u64,
+) -> Result<Option<Certificate>, AllocError>
+    ensures { IfOk result (λ some. IfSome some (IsCertificate TOP streams.now most)) }
+{
+    if acts.len() as u64 > most {
+        return Ok(None);
+    }
+    if !has_no_reset(acts.as_slice()) {
+        return Ok(None);
+    }
+    match check::<TOP>(alloc, streams, acts.as_slice()) {
+        Err(_) => Err(AllocError),
+        Ok(Verdict::Yes(pairs)) => Ok(Some(Certificate { acts, pairs })),
+        Ok(_) => Ok(None),
+    }
+}
+
+/// The same of the lean acts.
+fn certify_lean<const TOP: u64>(
+    rt: &(impl Threads + Sync),
+    alloc: Global,
+    streams: &Streams,
+    completion: &Completion,
+    most: u64,
+) -> Result<Option<Certificate>, AllocError>
+    ensures { IfOk result (λ some. IfSome some (IsCertificate TOP streams.now most)) }
+{
+    match lean_acts::<TOP>(rt, alloc, completion, most) {
+        Ok(acts) => certify::<TOP>(alloc, streams, acts, most),
+        Err(LeanFault::Memory) => Err(AllocError),
+        Err(LeanFault::TooMany | LeanFault::Stopped) => Ok(None),
+    }
+}
+
+/// The same of the acts of the auditor's construction, which builds none if more than 1,000 counts are
+/// missing before one event, or 1,000,000 in all.
+fn certify_construction<const TOP: u64>(
+    rt: &(impl Threads + Sync),
+    alloc: Global,
+    streams: &Streams,
+    completion: &Completion,
+    most: u64,
+) -> Result<Option<Certificate>, AllocError>
+    ensures { IfOk result (λ some. IfSome some (IsCertificate TOP streams.now most)) }
+{
+    match told_acts::<TOP, Completion>(rt, alloc, completion.streams(), completion)? {
+        None => Ok(None),
+        Some(acts) => certify::<TOP>(alloc, streams, acts, most),
+    }
+}
+
+/// Why a completion has no certificate, if none of the acts that were tried serves.
+fn fault_of(completion: &Completion, most: u64) -> CertificateFault
+    ensures { IsCertificateFault completion.now.wholes most result }
+{
+    if act_bound(completion.streams()) > most {
+        CertificateFault::TooManyActs
+    } else {
+        CertificateFault::Uncertified
+    }
+}
+
+/// Writes the acts of a completion by the auditor's construction, for which it is proved that they
+/// show the told events of plain streams. They are more than those of `certificate`, which takes them
+/// only if its own don't serve.
+pub fn certificate_by_construction<const TOP: u64>(
+    rt: &(impl Threads + Sync),
+    alloc: Global,
+    streams: &Streams,
+    completion: &Completion,
+    most: u64,
+) -> Result<Certificate, CertificateFault>
+    ensures certified { IfOk result (IsCertificate TOP streams.now most) }
+    ensures fault { IfErr result (IsCertificateFault completion.now.wholes most) }
+{
+    match certify_construction::<TOP>(rt, alloc, streams, completion, most) {
+        Err(AllocError) => Err(CertificateFault::Memory),
+        Ok(Some(found)) => Ok(found),
+        Ok(None) => Err(fault_of(completion, most)),
+    }
+}
+
+/// Writes the acts of a completion. They show the streams: the checker has said yes to them.
+///
+/// A token is changed only if its label, or a flag that decides whether an event is told, is
+/// wrong. Silent acts, which report nothing, stand for the untold events of the completion, and for
+/// counts that a process passed unreported: each count is a print, or the send of a message that
+/// raises the clock of another process, if that saves more than half of the acts there.
+///
+/// If these acts are more than `most`, or the checker refuses them, which no test has seen, the
+/// acts of the auditor's construction are tried.
+///
+/// It sorts on several threads, and the result is the same for every number of threads, which is
+/// tested and not proved.
+pub fn certificate<const TOP: u64>(
+    rt: &(impl Threads + Sync),
+    alloc: Global,
+    streams: &Streams,
+    completion: &Completion,
+    most: u64,
+) -> Result<Certificate, CertificateFault>
+    ensures certified { IfOk result (IsCertificate TOP streams.now most) }
+    ensures fault { IfErr result (IsCertificateFault completion.now.wholes most) }
+{
+    match certify_lean::<TOP>(rt, alloc, streams, completion, most) {
+        Err(AllocError) => Err(CertificateFault::Memory),
+        Ok(Some(found)) => Ok(found),
+        Ok(None) => certificate_by_construction::<TOP>(rt, alloc, streams, completion, most),
+    }
+}

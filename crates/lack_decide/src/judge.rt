@@ -1,0 +1,256 @@
+//! The judge of candidates: whether whole streams are a completion.
+
+ghost use Rattle.std.specs.Prelude.{◌≡◌, ◌↔◌, true, false, IfOk, IsTrue};
+ghost use Rattle.std.specs.List.{AllByRecursion};
+ghost use Rattle.std.specs.Option.{ForSome};
+ghost use Rattle.st_core.specs.Pid.{IsRising};
+ghost use Rattle.st_core.specs.Run.{pids_of};
+ghost use Rattle.st_core.specs.Streams.{lists, IsStreams};
+ghost use Rattle.lack_laws.specs.Silent.{with_silent};
+ghost use Rattle.st_pair.specs.Pairing.{is_send};
+ghost use Rattle.st_pair.specs.Places.{is_stamp};
+ghost use Rattle.lack_laws.specs.Local.{IsNeedless};
+ghost use Rattle.st_plan.specs.Marks.{told_events, told_streams};
+ghost use Rattle.lack_needs.specs.Completions.{marked_with, wholes_with, Completes};
+ghost use Rattle.lack_decide.specs.Links.{other_end, receipt_of, AreEventsFit, IsLinked};
+
+use lack_needs::{Completion, Left, completion_of, is_marked, is_unlisted, marks_at, pids_with};
+use lack_search::Candidate;
+use st_core::{Event, Kind, Pid, Sequence, Streams, is_rising};
+use std::alloc::{AllocError, Global};
+
+/// Whether these are one event.
+fn is_same_event(event: &Event, other: &Event) -> bool
+    ensures { IsTrue result ↔ (event.now ≡ other.now) }
+{
+    *event == *other
+}
+
+/// Whether these are one process.
+fn is_same_pid(pid: Pid, other: Pid) -> bool
+    ensures { IsTrue result ↔ (pid ≡ other) }
+{
+    pid == other
+}
+
+/// Whether these are the marked events among all events of a process.
+fn tells_events(all: &[Event], marks: &[bool], events: &[Event]) -> bool
+    ensures { result ≡ true → told_events (marked_with all.now marks.now) ≡ events.now }
+{
+    let mut rest = events;
+    for (i, event) in all.iter().enumerate() {
+        if is_marked(marks, i) {
+            let Some((first, others)) = rest.split_first() else {
+                return false;
+            };
+            if !is_same_event(first, event) {
+                return false;
+            }
+            rest = others;
+        }
+    }
+    rest.is_empty()
+}
+
+/// Whether the streams, with nothing of these unlisted processes, are the marked events among all
+/// events. The pids are those of both.
+fn tells_streams(
+    all: &Streams,
+    lists: &[Sequence<bool>],
+    streams: &Streams,
+    unlisted: &[Pid],
+    pids: &[Pid],
+) -> bool
+    requires { pids.now ≡ pids_of (with_silent streams.now unlisted.now) }
+    ensures told { result ≡ true → told_streams (wholes_with all.now lists.now)
+        ≡ with_silent streams.now unlisted.now }
+    ensures streams { IsStreams all.now }
+{
+    let _pids = streams.pids();
+    let _unlisted = unlisted;
+    let all_pids = all.pids();
+    if all_pids.len() != pids.len() {
+        return false;
+    }
+    for (place, &pid) in pids.iter().enumerate() {
+        if !is_same_pid(all_pids[place], pid) {
+            return false;
+        }
+        let marks = marks_at(lists, place);
+        if !tells_events(all.events(pid), marks, streams.events(pid)) {
+            return false;
+        }
+    }
+    true
+}
+
+/// The index that a process, by its place, has for the other end of the message of its event at
+/// this index.
+fn other_end(links: &[Sequence<u32>], place: usize, index: usize) -> u32
+    ensures { result ≡ other_end links.now place index }
+{
+    match links.get(place) {
+        None => 0,
+        Some(row) => row.as_slice().get(index).copied().unwrap_or(0),
+    }
+}
+
+/// The receive of a send.
+fn receive_of(sent: &Event) -> Event
+    ensures { result ≡ receipt_of sent.now }
+{
+    Event {
+        kind: Kind::Receive,
+        ..*sent
+    }
+}
+
+/// Whether the event is the receive of this one, and this a send.
+fn is_received(sent: &Event, event: &Event) -> bool
+    ensures sends { result ≡ true → is_send sent.now ≡ true }
+    ensures same { result ≡ true → receipt_of sent.now ≡ event.now }
+{
+    match sent.kind {
+        Kind::Receive | Kind::Print => false,
+        Kind::Send => is_same_event(&receive_of(sent), event),
+    }
+}
+
+/// Whether the receive at this index has a send, at the index that its link has, which has this
+/// index for its receive.
+fn is_linked(
+    streams: &Streams,
+    links: &[Sequence<u32>],
+    index: usize,
+    link: u32,
+    event: &Event,
+) -> bool
+    ensures { result ≡ true → IsLinked streams.now links.now index event.now }
+{
+    let Some(place) = streams.place_of(event.from) else {
+        return false;
+    };
+    let Some(sent) = streams.event(event.from, u64::from(link)) else {
+        return false;
+    };
+    if !is_received(&sent, event) {
+        return false;
+    }
+    other_end(links, place, link as usize) as usize == index
+}
+
+/// Whether the event at this index of the process at this place is no receive, or has its send.
+fn has_send(
+    streams: &Streams,
+    links: &[Sequence<u32>],
+    place: usize,
+    index: usize,
+    event: &Event,
+) -> bool
+    ensures { result ≡ true → is_stamp event.now ≡ false
+        → IsLinked streams.now links.now index event.now }
+{
+    match event.kind {
+        Kind::Send | Kind::Print => true,
+        Kind::Receive => {
+            let link = other_end(links, place, index);
+            is_linked(streams, links, index, link, event)
+        }
+    }
+}
+
+/// Whether all of these events are fit, which are those of the process at this place.
+fn are_fit(
+    streams: &Streams,
+    links: &[Sequence<u32>],
+    top: u64,
+    place: usize,
+    events: &[Event],
+) -> bool
+    ensures { result ≡ true → AreEventsFit top streams.now links.now events.now }
+{
+    let mut left = Left::by_none();
+    for (i, event) in events.iter().enumerate() {
+        if !left.goes_on(event, top) {
+            return false;
+        }
+        if !has_send(streams, links, place, i, event) {
+            return false;
+        }
+        left = left.after(event);
+    }
+    true
+}
+
+/// Whether all events are fit. Then nothing is needed in the streams: pairing accepts them, no send is
+/// hidden, and no event is late, a need or above TOP. It pairs each receive with its send by links,
+/// which are looked at from both ends.
+fn are_all_fit(streams: &Streams, links: &[Sequence<u32>], top: u64) -> bool
+    ensures { result ≡ true → IsNeedless top streams.now }
+{
+    for (place, &pid) in streams.pids().iter().enumerate() {
+        if !are_fit(streams, links, top, place, streams.events(pid)) {
+            return false;
+        }
+    }
+    true
+}
+
+/// Whether the streams list none of these processes, and the pids rise.
+fn are_apart(streams: &Streams, unlisted: &[Pid]) -> bool
+    ensures apart { result ≡ true
+        → AllByRecursion (λ q. lists streams.now q ≡ false) unlisted.now }
+    ensures rising { result ≡ true → IsRising unlisted.now }
+{
+    for &pid in unlisted {
+        if !is_unlisted(streams, pid) {
+            return false;
+        }
+    }
+    is_rising(unlisted)
+}
+
+/// Whether the streams, and nothing of these processes, are the marked events among all events.
+fn tells_with(
+    alloc: Global,
+    all: &Streams,
+    marks: &[Sequence<bool>],
+    streams: &Streams,
+    unlisted: &[Pid],
+) -> Result<bool, AllocError>
+    requires apart { AllByRecursion (λ q. lists streams.now q ≡ false) unlisted.now }
+    requires rising { IsRising unlisted.now }
+    ensures told { IfOk result (λ yes. yes ≡ true → told_streams (wholes_with all.now marks.now)
+        ≡ with_silent streams.now unlisted.now) }
+    ensures streams { IsStreams all.now }
+{
+    let _all = all.pids();
+    let pids = pids_with(alloc, streams, unlisted)?;
+    Ok(tells_streams(all, marks, streams, unlisted, &pids))
+}
+
+/// Checks a candidate, and returns it as a completion of the streams if it is one.
+pub(crate) fn judge<const TOP: u64>(
+    alloc: Global,
+    streams: &Streams,
+    candidate: Candidate,
+) -> Result<Option<Completion>, AllocError>
+    ensures { IfOk result (λ found. ForSome found (Completes TOP streams.now)) }
+{
+    let Candidate {
+        streams: all,
+        told,
+        links,
+        unlisted,
+    } = candidate;
+    if !are_apart(streams, &unlisted) {
+        return Ok(None);
+    }
+    if !tells_with(alloc, &all, &told, streams, &unlisted)? {
+        return Ok(None);
+    }
+    if !are_all_fit(&all, &links, TOP) {
+        return Ok(None);
+    }
+    Ok(Some(completion_of(streams, all, told, unlisted)))
+}

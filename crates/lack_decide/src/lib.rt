@@ -1,0 +1,17 @@
+//! What a trace lacks, and the acts of what was found.
+//!
+//! `complete` decides whether streams have a run without a reset, with any processes that report
+//! nothing: it finds a completion, or an event and the reason why there is none. `certificate` writes
+//! the acts of a completion. `renumbered` makes the counts of streams small.
+#![tactic(auto)]
+
+mod answer;
+mod bounds;
+mod certificates;
+mod decision;
+mod judge;
+
+pub use answer::{Answer, Certificate, CertificateFault, CompleteFault, Never};
+pub use certificates::{certificate, certificate_by_construction};
+pub use decision::complete;
+pub use lack_needs::{Completion, is_marked, renumbered, with_silent};

@@ -1,0 +1,334 @@
+-- An untold event can be put into streams where it fits: any two events of the longer streams fit
+-- together, since each of them stood there before or is the new one.
+use Rattle.std.proofs.Common.{◌≡◌, ℕ, zero, suc, ◌+◌, ◌<◌, ◌≤◌, ◌⊎◌, Bool, true, false, cond, List, [], ◌∷◌, ◌++◌, map}
+use Rattle.std.proofs.Common.{take, drop, length, Some, None, is_some, inl, inr, slice_get, refl, sym, ◌∙◌, ap, subst}
+use Rattle.std.proofs.Common.{arith}
+use Rattle.std.proofs.lemmas.Bool.{false≢true}
+use Rattle.std.proofs.lemmas.Option.{none-some, same_Some}
+use Rattle.st_core.specs.declared.types.Pid.{Pid}
+use Rattle.st_core.specs.declared.types.Event.{Event}
+use Rattle.st_core.specs.Pid.{pid_eq}
+use Rattle.st_core.specs.Run.{Stream, pids_of}
+use Rattle.st_core.specs.Streams.{events_of, lists, stream_of}
+use Rattle.st_core.proofs.ForCallers.{pid_eq-refl, pid_same}
+use Rattle.st_pair.specs.Places.{event_at, is_stamp}
+use Rattle.st_pair.specs.Pairing.{agrees}
+use Rattle.st_pair.proofs.ForCallers.{events_in}
+use Rattle.lack_laws.proofs.AcceptedStreams.{FitTogether}
+
+-- THE STREAMS WITH IT
+
+-- the streams with the event before event i of p
+abbrev pub more : Pid → ℕ → Event → List Stream → List Stream
+more p i r streams = map (λ x. record {
+  pid = x.pid;
+  events = cond (pid_eq x.pid p) (take i x.events ++ r ∷ drop i x.events) x.events;
+}) streams
+
+pub take_drop : (i : ℕ) (es : List Event) → take i es ++ drop i es ≡ es
+take_drop zero es = refl
+take_drop (suc i) [] = refl
+take_drop (suc i) (e ∷ es) = ap (λ xs. e ∷ xs) (take_drop i es)
+
+pub with_pids : (p : Pid) (i : ℕ) (r : Event) (streams : List Stream)
+    → pids_of (more p i r streams) ≡ pids_of streams
+with_pids p i r [] = refl
+with_pids p i r (x ∷ streams) = ap (λ ps. x.pid ∷ ps) (with_pids p i r streams)
+
+-- what a process has then
+pub with_events : (p : Pid) (i : ℕ) (r : Event) (streams : List Stream) (q : Pid)
+    → lists streams q ≡ true
+    → events_of (more p i r streams) q
+    ≡ cond (pid_eq q p) (take i (events_of streams q) ++ r ∷ drop i (events_of streams q))
+    (events_of streams q)
+with_events p i r [] q there = absurd (false≢true there)
+with_events p i r (x ∷ streams) q there =
+    let put = λ (b : Bool) (es : List Event). cond b (take i es ++ r ∷ drop i es) es in
+    let y : Stream = record { pid = x.pid; events = put (pid_eq x.pid p) x.events } in
+    elim (pid_eq x.pid q) as (λ b. pid_eq x.pid q ≡ b
+    → is_some (cond b (Some x) (stream_of streams q)) ≡ true
+    → events_in (cond b (Some y) (stream_of (more p i r streams) q))
+    ≡ put (pid_eq q p) (events_in (cond b (Some x) (stream_of streams q)))) [
+      | true ↦ λ same _. ap (λ z. put (pid_eq z p) x.events) (pid_same x.pid q same)
+      | false ↦ λ _ there. with_events p i r streams q there
+    ] refl there
+
+listed_with : (p : Pid) (i : ℕ) (r : Event) (streams : List Stream) (q : Pid) (k : ℕ) (e : Event)
+    → event_at (more p i r streams) q k ≡ Some e → lists streams q ≡ true
+listed_with p i r [] q k e at = absurd (none-some e at)
+listed_with p i r (x ∷ streams) q k e at =
+    let y : Stream = record {
+      pid = x.pid;
+      events = cond (pid_eq x.pid p) (take i x.events ++ r ∷ drop i x.events) x.events;
+    } in
+    elim (pid_eq x.pid q) as (λ b. slice_get (events_in
+    (cond b (Some y) (stream_of (more p i r streams) q))) k ≡ Some e
+    → is_some (cond b (Some x) (stream_of streams q)) ≡ true) [
+      | true ↦ λ _. refl
+      | false ↦ λ at. listed_with p i r streams q k e at
+    ] at
+
+-- PLACES
+
+-- where event m is then: one further if it isn't before place i of the process that has it
+abbrev pub IsMoved : Bool → ℕ → ℕ → ℕ → Type 0
+IsMoved false i m k = k ≡ m
+IsMoved true i m k = ((m < i) × (k ≡ m)) ⊎ ((i ≤ m) × (k ≡ m + 1))
+
+moved_order : (b : Bool) (i m n j k : ℕ) → IsMoved b i m j → IsMoved b i n k → j < k → m < n
+moved_order false i m n j k x y less = omega arith
+moved_order true i m n j k (inl x) (inl y) less = let a = x.1 in let b = y.1 in omega arith
+moved_order true i m n j k (inl x) (inr y) less = let a = x.0 in let b = y.0 in omega arith
+moved_order true i m n j k (inr x) (inl y) less =
+    let a = x.1 in let b = y.1 in let c = x.0 in let d = y.0 in omega arith
+moved_order true i m n j k (inr x) (inr y) less = let a = x.1 in let b = y.1 in omega arith
+
+moved_same : (b : Bool) (i m j k : ℕ) → IsMoved b i m j → IsMoved b i m k → j ≡ k
+moved_same false i m j k x y = x ∙ sym y
+moved_same true i m j k (inl x) (inl y) = x.1 ∙ sym y.1
+moved_same true i m j k (inl x) (inr y) = let a = x.0 in let b = y.0 in absurd (omega arith)
+moved_same true i m j k (inr x) (inl y) = let a = x.0 in let b = y.0 in absurd (omega arith)
+moved_same true i m j k (inr x) (inr y) = x.1 ∙ sym y.1
+
+moved_after : (b : Bool) (i m k : ℕ) → b ≡ true → IsMoved b i m k → i < k → i ≤ m
+moved_after false i m k is x less = absurd (false≢true is)
+moved_after true i m k is (inl x) less = let a = x.0 in let c = x.1 in absurd (omega arith)
+moved_after true i m k is (inr x) less = x.0
+
+moved_before : (b : Bool) (i m k : ℕ) → b ≡ true → IsMoved b i m k → k < i → m < i
+moved_before false i m k is x less = absurd (false≢true is)
+moved_before true i m k is (inl x) less = x.0
+moved_before true i m k is (inr x) less = let a = x.0 in let c = x.1 in absurd (omega arith)
+
+-- event k is this one, and was so at this place
+pub record IsOld (es : List Event) (b : Bool) (i k : ℕ) (e : Event) : Type 0 where
+  pub index : ℕ
+  pub at : slice_get es index ≡ Some e
+  pub moved : IsMoved b i index k
+
+-- event k is the new one
+abbrev pub IsNew : ℕ → Event → ℕ → Event → Type 0
+IsNew i r k e = (k ≡ i) × (r ≡ e)
+
+old_later : (x : Event) (es : List Event) (i k : ℕ) (e : Event) → IsOld es true i k e
+    → IsOld (x ∷ es) true (suc i) (suc k) e
+old_later x es i k e old = record {
+  index = suc old.index;
+  at = old.at;
+  moved = elim old.moved [
+    | inl y ↦ let a = y.0 in let b = y.1 in inl (omega arith, omega arith)
+    | inr y ↦ let a = y.0 in let b = y.1 in inr (omega arith, omega arith)
+  ];
+}
+
+at_put : (es : List Event) (i : ℕ) (r : Event) (k : ℕ) (e : Event) → i ≤ length es
+    → slice_get (take i es ++ r ∷ drop i es) k ≡ Some e → IsNew i r k e ⊎ IsOld es true i k e
+at_put es zero r zero e within at = inl (refl, same_Some r e at)
+at_put es zero r (suc k) e within at =
+    inr (record { index = k; at = at; moved = inr (omega arith, omega arith) })
+at_put [] (suc i) r k e within at = absurd (omega arith)
+at_put (x ∷ es) (suc i) r zero e within at =
+    inr (record { index = 0; at = at; moved = inl (omega arith, refl) })
+at_put (x ∷ es) (suc i) r (suc k) e within at = elim (at_put es i r k e (omega arith) at) [
+  | inl new ↦ inl (ap suc new.0, new.1)
+  | inr old ↦ inr (old_later x es i k e old)
+]
+
+put_there : (es : List Event) (i : ℕ) (r : Event) → i ≤ length es
+    → slice_get (take i es ++ r ∷ drop i es) i ≡ Some r
+put_there es zero r within = refl
+put_there [] (suc i) r within = absurd (omega arith)
+put_there (x ∷ es) (suc i) r within = put_there es i r (omega arith)
+
+kept_put : (es : List Event) (i : ℕ) (r : Event) (m : ℕ) (e : Event) → slice_get es m ≡ Some e
+    → (k : ℕ) × (slice_get (take i es ++ r ∷ drop i es) k ≡ Some e)
+kept_put es zero r m e at = (suc m, at)
+kept_put [] (suc i) r m e at = absurd (none-some e at)
+kept_put (x ∷ es) (suc i) r zero e at = (zero, at)
+kept_put (x ∷ es) (suc i) r (suc m) e at = let rest = kept_put es i r m e at in (suc rest.0, rest.1)
+
+-- who has an event is listed
+pub listed_at : (streams : List Stream) (q : Pid) (k : ℕ) (e : Event)
+    → event_at streams q k ≡ Some e
+    → lists streams q ≡ true
+listed_at streams q k e at = elim (stream_of streams q) as (λ o. slice_get (events_in o) k ≡ Some e
+    → is_some o ≡ true) [ None ↦ λ at. absurd (none-some e at) | Some x ↦ λ at. refl ] at
+
+-- WITH THE EVENT
+
+module _ (p : Pid) (i : ℕ) (r : Event) (streams : List Stream) where
+  -- an event of the longer streams is the new one or an old one
+  placed : i ≤ length (events_of streams p) → (q : Pid) (k : ℕ) (e : Event) → lists streams q ≡ true
+      → event_at (more p i r streams) q k ≡ Some e
+      → ((q ≡ p) × IsNew i r k e) ⊎ IsOld (events_of streams q) (pid_eq q p) i k e
+  placed within q k e there at =
+      let es = events_of streams q in
+      elim (pid_eq q p) as (λ b. pid_eq q p ≡ b → slice_get (cond b (take i es ++ r ∷ drop i es) es)
+      k ≡ Some e
+      → ((q ≡ p) × IsNew i r k e) ⊎ IsOld es b i k e) [
+        | true ↦ λ same at.
+            let who = pid_same q p same in
+            elim (at_put es i r k e (subst (λ x. i ≤ length (events_of streams x)) (sym who) within)
+            at) [
+              | inl new ↦ inl (who, new)
+              | inr old ↦ inr old
+            ]
+        | false ↦ λ _ at. inr (record { index = k; at = at; moved = refl })
+      ] refl (ap (λ xs. slice_get xs k) (sym (with_events p i r streams q there)) ∙ at)
+
+  pub is_placed : i ≤ length (events_of streams p) → (q : Pid) (k : ℕ) (e : Event)
+      → event_at (more p i r streams) q k ≡ Some e
+      → ((q ≡ p) × IsNew i r k e) ⊎ IsOld (events_of streams q) (pid_eq q p) i k e
+  is_placed within q k e at = placed within q k e (listed_with p i r streams q k e at) at
+
+  -- and each old one stays
+  pub stays : (q : Pid) (m : ℕ) (e : Event) → event_at streams q m ≡ Some e
+      → (k : ℕ) × (event_at (more p i r streams) q k ≡ Some e)
+  stays q m e at =
+      let es = events_of streams q in
+      let there = with_events p i r streams q (listed_at streams q m e at) in
+      let stay = elim (pid_eq q p) as (λ b. (k : ℕ)
+      × (slice_get (cond b (take i es ++ r ∷ drop i es) es) k ≡ Some e)) [
+        | true ↦ kept_put es i r m e at
+        | false ↦ (m, at)
+      ] in
+      (stay.0, ap (λ xs. slice_get xs stay.0) there ∙ stay.1)
+
+  pub new_there : i ≤ length (events_of streams p) → lists streams p ≡ true
+      → event_at (more p i r streams) p i ≡ Some r
+  new_there within there =
+      let es = events_of streams p in
+      ap (λ xs. slice_get xs i) (with_events p i r streams p there
+      ∙ ap (λ b. cond b (take i es ++ r ∷ drop i es) es) (pid_eq-refl p))
+      ∙ put_there es i r within
+
+-- an event that fits before event i of p: its serial rises; a stamp is above the stamps before it
+-- and below those after it, and a receive of its message agrees with it; a receive is the first of
+-- its message, and agrees with its sender's stamp
+pub record FitsAt (streams : List Stream) (p : Pid) (i : ℕ) (r : Event) : Type 0 where
+  pub rises : r.serial.prev < r.serial.this
+  pub above : is_stamp r ≡ true → (j : ℕ) (d : Event) → j < i → event_at streams p j ≡ Some d
+      → is_stamp d ≡ true
+      → d.serial.this < r.serial.this
+  pub below : is_stamp r ≡ true → (j : ℕ) (d : Event) → i ≤ j → event_at streams p j ≡ Some d
+      → is_stamp d ≡ true
+      → r.serial.this < d.serial.this
+  pub taken : is_stamp r ≡ true → (q : Pid) (j : ℕ) (e : Event) → event_at streams q j ≡ Some e
+      → is_stamp e ≡ false
+      → e.from ≡ p → r.serial.this ≡ e.serial.this → agrees r e ≡ true
+  pub fresh : is_stamp r ≡ false → (q : Pid) (j : ℕ) (e : Event) → event_at streams q j ≡ Some e
+      → is_stamp e ≡ false
+      → e.from ≡ r.from → e.serial.this ≡ r.serial.this → ⊥
+  pub sent : is_stamp r ≡ false → (q : Pid) (j : ℕ) (f : Event) → event_at streams q j ≡ Some f
+      → q ≡ r.from
+      → is_stamp f ≡ true → f.serial.this ≡ r.serial.this → agrees f r ≡ true
+
+module _ (p : Pid) (i : ℕ) (r : Event) (streams : List Stream)
+    (within : i ≤ length (events_of streams p))
+    (fit : FitTogether streams) (fits : FitsAt streams p i r) where
+  abbrev is : (q : Pid) (k : ℕ) (e : Event) → event_at (more p i r streams) q k ≡ Some e
+      → ((q ≡ p) × IsNew i r k e) ⊎ IsOld (events_of streams q) (pid_eq q p) i k e
+  is = is_placed p i r streams within
+
+  at_p : (q : Pid) (k : ℕ) (e : Event) → q ≡ p → event_at streams q k ≡ Some e
+      → event_at streams p k ≡ Some e
+  at_p q k e who at = ap (λ x. event_at streams x k) (sym who) ∙ at
+
+  -- of two stamps the later one is greater
+  grows_with : (q : Pid) (j k : ℕ) (d e : Event) → j < k
+      → event_at (more p i r streams) q j ≡ Some d
+      → event_at (more p i r streams) q k ≡ Some e → is_stamp d ≡ true → is_stamp e ≡ true
+      → d.serial.this < e.serial.this
+  grows_with q j k d e less at_d at_e stamps_d stamps_e = elim (is q j d at_d) [
+    | inl new_d ↦ elim (is q k e at_e) [
+      | inl new_e ↦ let one = new_d.1.0 in let two = new_e.1.0 in absurd (omega arith)
+      | inr old_e ↦
+          let here = new_d.1.0 in
+          let after = moved_after (pid_eq q p) i old_e.index k
+          (ap (λ x. pid_eq x p) new_d.0 ∙ pid_eq-refl p)
+          old_e.moved (omega arith) in
+          subst (λ (x : Event). x.serial.this < e.serial.this) new_d.1.1
+          (fits.below (ap is_stamp new_d.1.1 ∙ stamps_d) old_e.index e after
+          (at_p q old_e.index e new_d.0 old_e.at) stamps_e)
+    ]
+    | inr old_d ↦ elim (is q k e at_e) [
+      | inl new_e ↦
+          let here = new_e.1.0 in
+          let before = moved_before (pid_eq q p) i old_d.index j
+          (ap (λ x. pid_eq x p) new_e.0 ∙ pid_eq-refl p)
+          old_d.moved (omega arith) in
+          subst (λ (x : Event). d.serial.this < x.serial.this) new_e.1.1
+          (fits.above (ap is_stamp new_e.1.1 ∙ stamps_e) old_d.index d before
+          (at_p q old_d.index d new_e.0 old_d.at) stamps_d)
+      | inr old_e ↦ fit.grows q old_d.index old_e.index d e
+          (moved_order (pid_eq q p) i old_d.index old_e.index j k old_d.moved old_e.moved less)
+          old_d.at old_e.at
+          stamps_d stamps_e
+    ]
+  ]
+
+  -- one receive of each message
+  once_with : (q x : Pid) (j k : ℕ) (d e : Event) → event_at (more p i r streams) q j ≡ Some d
+      → event_at (more p i r streams) x k ≡ Some e → is_stamp d ≡ false → is_stamp e ≡ false
+      → d.from ≡ e.from
+      → d.serial.this ≡ e.serial.this → (q ≡ x) × (j ≡ k)
+  once_with q x j k d e at_d at_e receives_d receives_e from count = elim (is q j d at_d) [
+    | inl new_d ↦ elim (is x k e at_e) [
+      | inl new_e ↦ (new_d.0 ∙ sym new_e.0, new_d.1.0 ∙ sym new_e.1.0)
+      | inr old_e ↦ absurd (fits.fresh (ap is_stamp new_d.1.1 ∙ receives_d) x old_e.index e old_e.at
+          receives_e
+          (sym from ∙ ap (λ (y : Event). y.from) (sym new_d.1.1))
+          (sym count ∙ ap (λ (y : Event). y.serial.this) (sym new_d.1.1)))
+    ]
+    | inr old_d ↦ elim (is x k e at_e) [
+      | inl new_e ↦ absurd (fits.fresh (ap is_stamp new_e.1.1 ∙ receives_e) q old_d.index d old_d.at
+          receives_d
+          (from ∙ ap (λ (y : Event). y.from) (sym new_e.1.1))
+          (count ∙ ap (λ (y : Event). y.serial.this) (sym new_e.1.1)))
+      | inr old_e ↦
+          let same = fit.once q x old_d.index old_e.index d e old_d.at old_e.at receives_d
+          receives_e from count in
+          let there : IsMoved (pid_eq q p) i old_d.index k =
+          subst (λ m. IsMoved (pid_eq q p) i m k) (sym same.1)
+          (subst (λ y. IsMoved (pid_eq y p) i old_e.index k) (sym same.0) old_e.moved) in
+          (same.0, moved_same (pid_eq q p) i old_d.index j k old_d.moved there)
+    ]
+  ]
+
+  -- each receive agrees with its sender's stamp
+  agree_with : (q : Pid) (k j : ℕ) (e f : Event) → event_at (more p i r streams) q k ≡ Some e
+      → is_stamp e ≡ false
+      → event_at (more p i r streams) e.from j ≡ Some f → is_stamp f ≡ true
+      → f.serial.this ≡ e.serial.this
+      → agrees f e ≡ true
+  agree_with q k j e f at_e receives at_f stamps count = elim (is q k e at_e) [
+    | inl new_e ↦ elim (is e.from j f at_f) [
+      | inl new_f ↦ absurd (false≢true (sym receives ∙ ap is_stamp (sym new_e.1.1 ∙ new_f.1.1)
+          ∙ stamps))
+      | inr old_f ↦
+          let same = new_e.1.1 in
+          subst (λ (y : Event). agrees f y ≡ true) same
+          (fits.sent (ap is_stamp same ∙ receives) e.from old_f.index f old_f.at
+          (ap (λ (y : Event). y.from) (sym same))
+          stamps (count ∙ ap (λ (y : Event). y.serial.this) (sym same)))
+    ]
+    | inr old_e ↦ elim (is e.from j f at_f) [
+      | inl new_f ↦
+          let same = new_f.1.1 in
+          subst (λ (y : Event). agrees y e ≡ true) same
+          (fits.taken (ap is_stamp same ∙ stamps) q old_e.index e old_e.at receives new_f.0
+          (ap (λ (y : Event). y.serial.this) same ∙ count))
+      | inr old_f ↦ fit.agree q old_e.index old_f.index e f old_e.at receives old_f.at stamps count
+    ]
+  ]
+
+  pub fit_with : FitTogether (more p i r streams)
+  fit_with = record {
+    rises = λ q k e at. elim (is q k e at) [
+      | inl new ↦ subst (λ (x : Event). x.serial.prev < x.serial.this) new.1.1 fits.rises
+      | inr old ↦ fit.rises q old.index e old.at
+    ];
+    grows = grows_with;
+    once = once_with;
+    agree = agree_with;
+  }

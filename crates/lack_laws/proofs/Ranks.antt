@@ -1,0 +1,321 @@
+-- The counts of streams are in a rising list that begins with 0. The rank of one of them is its
+-- place there, and what is at that place is the count again; and a later place has a greater
+-- count. So streams are their renumbered streams with the counts put back, in order.
+use Rattle.std.proofs.Common.{◌≡◌, ℕ, ◌+◌, zero, suc, ◌<◌, ◌≤◌, ◌⊎◌, inl, inr, nat_lt, true, false, cond, List, [], ◌∷◌}
+use Rattle.std.proofs.Common.{map, refl, sym, ◌∙◌, ap, subst, arith}
+use Rattle.std.specs.List.{AllByRecursion}
+use Rattle.std.proofs.lemmas.Bool.{ltb-true, ltb-false, le-ltb}
+use Rattle.std.proofs.lemmas.Bool.Decides.{nat_tests}
+use Rattle.st_core.specs.declared.types.Event.{Event}
+use Rattle.st_core.specs.Pid.{IsRising}
+use Rattle.st_core.specs.Run.{Stream, pids_of}
+use Rattle.lack_laws.specs.Completed.{IsShownInOneTrace}
+use Rattle.lack_laws.specs.Renumbering.{count_of_rank, counts_of, event_with, insert_count, insert_counts}
+use Rattle.lack_laws.specs.Renumbering.{KeepsOrder, rank, renumbered_streams, with_counts}
+use Rattle.lack_laws.proofs.NeedlessStreams.{exactly_needless, needless_shown}
+use Rattle.lack_laws.proofs.ReplacedCounts.{pids_with}
+use Rattle.lack_laws.proofs.Renumbering.{shown_with}
+
+-- all of these are above b
+abbrev pub AllAbove : ℕ → List ℕ → Type 0
+AllAbove b cs = AllByRecursion (λ c. b < c) cs
+
+-- each is above all before it
+abbrev pub Climbs : List ℕ → Type 0
+Climbs [] = Unit {0}
+Climbs (c ∷ cs) = AllAbove c cs × Climbs cs
+
+-- c is one of these
+abbrev pub IsIn : ℕ → List ℕ → Type 0
+IsIn c [] = ⊥
+IsIn c (d ∷ ds) = (c ≡ d) ⊎ IsIn c ds
+
+-- INSERTING
+
+pub above_lower : (b c : ℕ) (ds : List ℕ) → b < c → AllAbove c ds → AllAbove b ds
+above_lower b c [] low all = all
+above_lower b c (d ∷ ds) low all = (let high = all.0 in omega arith, above_lower b c ds low all.1)
+
+insert_above : (b c : ℕ) (ds : List ℕ) → b < c → AllAbove b ds → AllAbove b (insert_count c ds)
+insert_above b c [] low all = (low, all)
+insert_above b c (d ∷ ds) low all =
+    elim (nat_lt c d) as (λ x. AllAbove b (cond x (c ∷ d ∷ ds)
+    (cond (nat_lt d c) (d ∷ insert_count c ds) (d ∷ ds)))) [
+      | true ↦ (low, all)
+      | false ↦ elim (nat_lt d c) as (λ y. AllAbove b (cond y (d ∷ insert_count c ds) (d ∷ ds))) [
+        | true ↦ (all.0, insert_above b c ds low all.1)
+        | false ↦ all
+      ]
+    ]
+
+pub insert_climbs : (c : ℕ) (ds : List ℕ) → Climbs ds → Climbs (insert_count c ds)
+insert_climbs c [] all = (all, all)
+insert_climbs c (d ∷ ds) all =
+    elim (nat_lt c d) as (λ x. nat_lt c d ≡ x
+    → Climbs (cond x (c ∷ d ∷ ds) (cond (nat_lt d c) (d ∷ insert_count c ds) (d ∷ ds)))) [
+      | true ↦ λ less. let low = ltb-true c d less in ((low, above_lower c d ds low all.0), all)
+      | false ↦ λ _. elim (nat_lt d c) as (λ y. nat_lt d c ≡ y
+          → Climbs (cond y (d ∷ insert_count c ds) (d ∷ ds))) [
+            | true ↦ λ more. (
+              insert_above d c ds (ltb-true d c more) all.0,
+              insert_climbs c ds
+                  all.1,
+            )
+            | false ↦ λ _. all
+          ] refl
+    ] refl
+
+insert_has : (c : ℕ) (ds : List ℕ) → IsIn c (insert_count c ds)
+insert_has c [] = inl refl
+insert_has c (d ∷ ds) =
+    elim (nat_lt c d) as (λ x. nat_lt c d ≡ x
+    → IsIn c (cond x (c ∷ d ∷ ds) (cond (nat_lt d c) (d ∷ insert_count c ds) (d ∷ ds)))) [
+      | true ↦ λ _. inl refl
+      | false ↦ λ low. elim (nat_lt d c) as (λ y. nat_lt d c ≡ y
+          → IsIn c (cond y (d ∷ insert_count c ds) (d ∷ ds))) [
+            | true ↦ λ _. inr (insert_has c ds)
+            | false ↦ λ high.
+                let at_least = ltb-false c d low in
+                let at_most = ltb-false d c high in
+                inl (omega arith)
+          ] refl
+    ] refl
+
+insert_keeps : (b c : ℕ) (ds : List ℕ) → IsIn b ds → IsIn b (insert_count c ds)
+insert_keeps b c [] here = absurd here
+insert_keeps b c (d ∷ ds) here =
+    elim (nat_lt c d) as (λ x.
+    IsIn b (cond x (c ∷ d ∷ ds) (cond (nat_lt d c) (d ∷ insert_count c ds) (d ∷ ds)))) [
+      | true ↦ inr here
+      | false ↦ elim (nat_lt d c) as (λ y. IsIn b (cond y (d ∷ insert_count c ds) (d ∷ ds))) [
+        | false ↦ here
+        | true ↦ elim here [ inl same ↦ inl same | inr later ↦ inr (insert_keeps b c ds later) ]
+      ]
+    ]
+
+-- THE COUNTS OF STREAMS
+
+-- they rise, and begin with 0
+record AreCounts (cs : List ℕ) : Type 0 where
+  rest : List ℕ
+  is : cs ≡ 0 ∷ rest
+  climb : Climbs cs
+
+insert_counted : (c : ℕ) (cs : List ℕ) → AreCounts cs → AreCounts (insert_count c cs)
+insert_counted c cs are =
+    let climb = insert_climbs c cs are.climb in
+    let low : nat_lt c 0 ≡ false = le-ltb c 0 (omega arith) in
+    let next = cond (nat_lt 0 c) (insert_count c are.rest) are.rest in
+    record {
+      rest = next;
+      is = ap (insert_count c) are.is
+          ∙ ap (λ x. cond x (c ∷ 0 ∷ are.rest) (cond (nat_lt 0 c) (0 ∷ insert_count c are.rest)
+          (0 ∷ are.rest))) low
+          ∙ (elim (nat_lt 0 c) as (λ y. cond y (0 ∷ insert_count c are.rest) (0 ∷ are.rest)
+          ≡ 0 ∷ cond y (insert_count c are.rest) are.rest) [ true ↦ refl | false ↦ refl ]);
+      climb = climb;
+    }
+
+insert_all : (es : List Event) (cs : List ℕ) → AreCounts cs → AreCounts (insert_counts es cs)
+insert_all [] cs are = are
+insert_all (e ∷ es) cs are =
+    insert_counted e.serial.prev (insert_count e.serial.this (insert_counts es cs))
+    (insert_counted e.serial.this (insert_counts es cs) (insert_all es cs are))
+
+counts_are : (streams : List Stream) → AreCounts (counts_of streams)
+counts_are [] = record { rest = []; is = refl; climb = (tt, tt) }
+counts_are (s ∷ streams) = insert_all s.events (counts_of streams) (counts_are streams)
+
+kept_by_all : (b : ℕ) (es : List Event) (cs : List ℕ) → IsIn b cs → IsIn b (insert_counts es cs)
+kept_by_all b [] cs here = here
+kept_by_all b (e ∷ es) cs here =
+    insert_keeps b e.serial.prev (insert_count e.serial.this (insert_counts es cs))
+    (insert_keeps b e.serial.this (insert_counts es cs) (kept_by_all b es cs here))
+
+-- both counts of the event are among these
+abbrev AreIn : List ℕ → Event → Type 0
+AreIn cs e = IsIn e.serial.prev cs × IsIn e.serial.this cs
+
+all_weaken : (P Q : Event → Type 0) (es : List Event) → ((e : Event) → P e → Q e)
+    → AllByRecursion P es
+    → AllByRecursion Q es
+all_weaken P Q [] to all = all
+all_weaken P Q (e ∷ es) to all = (to e all.0, all_weaken P Q es to all.1)
+
+inserted_in : (es : List Event) (cs : List ℕ) → AllByRecursion (AreIn (insert_counts es cs)) es
+inserted_in [] cs = tt
+inserted_in (e ∷ es) cs =
+    let rest = insert_counts es cs in
+    let more = insert_count e.serial.this rest in
+    let keep = λ (b : ℕ) (here : IsIn b rest).
+    insert_keeps b e.serial.prev more (insert_keeps b e.serial.this rest here) in (
+      (
+        insert_has e.serial.prev more,
+        insert_keeps e.serial.this e.serial.prev more
+            (insert_has e.serial.this rest),
+      ),
+      all_weaken (AreIn rest) (AreIn (insert_count e.serial.prev more)) es
+          (λ d at. (keep d.serial.prev at.0, keep d.serial.this at.1)) (inserted_in es cs),
+    )
+
+streams_weaken : (cs : List ℕ) (es : List Event) (streams : List Stream)
+    → AllByRecursion (λ (s : Stream). AllByRecursion (AreIn cs) s.events) streams
+    → AllByRecursion (λ (s : Stream). AllByRecursion (AreIn (insert_counts es cs)) s.events) streams
+streams_weaken cs es [] all = all
+streams_weaken cs es (s ∷ streams) all = (
+  all_weaken (AreIn cs) (AreIn (insert_counts es cs)) s.events
+      (λ d at. (kept_by_all d.serial.prev es cs at.0, kept_by_all d.serial.this es cs at.1)) all.0,
+  streams_weaken cs es streams all.1,
+)
+
+all_in : (streams : List Stream)
+    → AllByRecursion (λ (s : Stream). AllByRecursion (AreIn (counts_of streams)) s.events) streams
+all_in [] = tt
+all_in (s ∷ streams) = (
+  inserted_in s.events (counts_of streams),
+  streams_weaken (counts_of streams) s.events streams
+      (all_in streams),
+)
+
+-- RANKS AND BACK
+
+rank_low : (c : ℕ) (ds : List ℕ) → AllAbove c ds → rank ds c ≡ 0
+rank_low c [] all = refl
+rank_low c (d ∷ ds) all =
+    let rest = rank_low c ds all.1 in
+    ap (λ b. cond b 1 0 + rank ds c) (le-ltb d c (let high = all.0 in omega arith)) ∙ (omega arith)
+
+rank_first : (c : ℕ) (ds : List ℕ) → AllAbove c ds → rank (c ∷ ds) c ≡ 0
+rank_first c ds all =
+    let rest = rank_low c ds all in
+    ap (λ b. cond b 1 0 + rank ds c) (le-ltb c c (omega arith)) ∙ (omega arith)
+
+pub above_in : (b c : ℕ) (ds : List ℕ) → AllAbove b ds → IsIn c ds → b < c
+above_in b c [] all here = absurd here
+above_in b c (d ∷ ds) all here = elim here [
+  | inl same ↦ (let high = all.0 in omega (arith, same))
+  | inr later ↦ above_in b c ds all.1 later
+]
+
+tt_less : (d c : ℕ) → d < c → nat_lt d c ≡ true
+tt_less d c less = grind (arith, nat_tests)
+
+rank_next : (c d : ℕ) (ds : List ℕ) → d < c → rank (d ∷ ds) c ≡ suc (rank ds c)
+rank_next c d ds less = ap (λ b. cond b 1 0 + rank ds c) (tt_less d c less) ∙ (omega arith)
+
+back : (c : ℕ) (cs : List ℕ) → Climbs cs → IsIn c cs → count_of_rank cs (rank cs c) ≡ c
+back c [] climb here = absurd here
+back c (d ∷ []) climb here = elim here [
+  | inl same ↦
+      ap (λ x. count_of_rank (d ∷ []) (rank (d ∷ []) x)) same
+      ∙ ap (count_of_rank (d ∷ [])) (rank_first d [] climb.0)
+      ∙ (omega (arith, same))
+  | inr later ↦ absurd later
+]
+back c (d ∷ e ∷ es) climb here = elim here [
+  | inl same ↦
+      ap (λ x. count_of_rank (d ∷ e ∷ es) (rank (d ∷ e ∷ es) x)) same
+      ∙ ap (count_of_rank (d ∷ e ∷ es)) (rank_first d (e ∷ es) climb.0)
+      ∙ sym same
+  | inr later ↦
+      ap (count_of_rank (d ∷ e ∷ es)) (rank_next c d (e ∷ es) (above_in d c (e ∷ es) climb.0 later))
+      ∙ back c (e ∷ es) climb.1 later
+]
+
+low_first : (c : ℕ) (cs : List ℕ) (n : ℕ) → Climbs (c ∷ cs) → c ≤ count_of_rank (c ∷ cs) n
+low_first c [] n climb = omega arith
+low_first c (d ∷ ds) zero climb = omega arith
+low_first c (d ∷ ds) (suc n) climb =
+    let next = low_first d ds n climb.1 in
+    let high = climb.0.0 in
+    omega arith
+
+rises : (cs : List ℕ) → Climbs cs → (m n : ℕ) → m < n → count_of_rank cs m < count_of_rank cs n
+rises [] climb m n less = less
+rises (c ∷ []) climb m n less = omega arith
+rises (c ∷ d ∷ ds) climb zero zero less = absurd (omega (arith, less))
+rises (c ∷ d ∷ ds) climb (suc m) zero less = absurd (omega (arith, less))
+rises (c ∷ d ∷ ds) climb zero (suc n) less =
+    let low = low_first d ds n climb.1 in
+    let high = climb.0.0 in
+    omega arith
+rises (c ∷ d ∷ ds) climb (suc m) (suc n) less = rises (d ∷ ds) climb.1 m n (omega (arith, less))
+
+first_is : (rest : List ℕ) → count_of_rank (0 ∷ rest) 0 ≡ 0
+first_is [] = refl
+first_is (d ∷ ds) = refl
+
+pub ranks_keep_order : (streams : List Stream) → KeepsOrder (count_of_rank (counts_of streams))
+ranks_keep_order streams =
+    let are = counts_are streams in
+    record {
+      from_zero = ap (λ cs. count_of_rank cs 0) are.is ∙ first_is are.rest;
+      rises = rises (counts_of streams) are.climb;
+    }
+
+module _ (cs : List ℕ) (climb : Climbs cs) where
+  event_back : (e : Event) → AreIn cs e → event_with (count_of_rank cs) (event_with (rank cs) e) ≡ e
+  event_back e at =
+      ap (λ n. record e {
+        serial = record {
+          prev = n;
+          this = count_of_rank cs (rank cs e.serial.this);
+        };
+      }) (back e.serial.prev cs climb at.0)
+      ∙ ap (λ n. record e { serial = record { prev = e.serial.prev; this = n } })
+      (back e.serial.this cs climb at.1)
+
+  events_back : (es : List Event) → AllByRecursion (AreIn cs) es
+      → map (event_with (count_of_rank cs)) (map (event_with (rank cs)) es) ≡ es
+  events_back [] all = refl
+  events_back (e ∷ es) all =
+      ap (λ d. d ∷ map (event_with (count_of_rank cs)) (map (event_with (rank cs)) es))
+      (event_back e all.0)
+      ∙ ap (λ ds. e ∷ ds) (events_back es all.1)
+
+  streams_back : (streams : List Stream) → AllByRecursion
+      (λ (s : Stream). AllByRecursion (AreIn cs) s.events) streams
+      → with_counts (count_of_rank cs) (with_counts (rank cs) streams) ≡ streams
+  streams_back [] all = refl
+  streams_back (s ∷ streams) all =
+      ap (λ es. let t : Stream = record { pid = s.pid; events = es } in
+      t ∷ with_counts (count_of_rank cs) (with_counts (rank cs) streams))
+      (events_back s.events all.0)
+      ∙ ap (λ ss. s ∷ ss) (streams_back streams all.1)
+
+-- put back, the ranks are the counts again
+pub counts_put_back : (streams : List Stream)
+    → with_counts (count_of_rank (counts_of streams)) (renumbered_streams streams) ≡ streams
+counts_put_back streams =
+    streams_back (counts_of streams) (counts_are streams).climb streams (all_in streams)
+
+-- A greater TOP
+pub shown_higher : (top high : ℕ) (streams : List Stream) → IsRising (pids_of streams) → top ≤ high
+    → IsShownInOneTrace top streams → IsShownInOneTrace high streams
+shown_higher top high streams rising le shown =
+    let done = (exactly_needless top streams rising).0 shown in
+    needless_shown high streams (record {
+      wholes = done.wholes;
+      told = done.told;
+      sound = done.sound;
+      is = record {
+        accepted = done.is.accepted;
+        reported = done.is.reported;
+        timely = done.is.timely;
+        caused = done.is.caused;
+        within = λ p i e at. let low = done.is.within p i e at in omega arith;
+      };
+    })
+
+pub renumbered_shown : (top rank_top : ℕ) (streams : List Stream) → IsRising (pids_of streams)
+    → count_of_rank (counts_of streams) rank_top ≤ top
+    → IsShownInOneTrace rank_top (renumbered_streams streams)
+    → IsShownInOneTrace top streams
+renumbered_shown top rank_top streams rising fits shown =
+    let cs = counts_of streams in
+    let back = count_of_rank cs in
+    let rising' = subst IsRising (sym (pids_with (rank cs) streams)) rising in
+    shown_higher (back rank_top) top streams rising fits
+    (subst (IsShownInOneTrace (back rank_top)) (counts_put_back streams)
+    (shown_with back (ranks_keep_order streams) rank_top (renumbered_streams streams) rising'
+    shown))

@@ -1,0 +1,6 @@
+-- The lemma says it.
+use Rattle.lack_laws.proofs.NeedlessStreams.{needless_streams_shown}
+use Rattle.lack_laws.proofs.closed_world.needless_streams_are_shown.Goals as goal
+
+pub returns : goal.returns
+returns c = needless_streams_shown

@@ -1,0 +1,6 @@
+-- The lemma says it.
+use Rattle.lack_laws.proofs.Equivalences.{exactly}
+use Rattle.lack_laws.proofs.closed_world.shown_exactly_where_completed.Goals as goal
+
+pub returns : goal.returns
+returns c = exactly

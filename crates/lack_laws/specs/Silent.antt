@@ -1,0 +1,36 @@
+-- Streams with further processes that reported nothing.
+use Rattle.std.specs.Prelude.{List, [], ◌∷◌, if◌then◌else◌, ◌≡◌, ℕ, length}
+use Rattle.std.specs.Ordering.{is_lt}
+use Rattle.st_core.specs.declared.types.Pid.{Pid}
+use Rattle.st_core.specs.Pid.{pid_cmp}
+use Rattle.st_core.specs.Run.{Stream}
+use Rattle.st_core.specs.Streams.{lists}
+use Rattle.lack_laws.specs.Completed.{IsShownInOneTrace}
+
+-- a process that reported nothing
+abbrev pub silent : Pid → Stream
+silent q = record { pid = q; events = [] }
+
+-- the streams with it, before the first one of a higher pid
+abbrev pub inserted : Pid → List Stream → List Stream
+inserted q [] = silent q ∷ []
+inserted q (x ∷ rest) =
+    if is_lt (pid_cmp q x.pid) then silent q ∷ x ∷ rest else x ∷ inserted q rest
+
+-- the streams, and one without events of each of these pids that they don't list, all by rising pid
+abbrev pub with_silent : List Stream → List Pid → List Stream
+with_silent streams [] = streams
+with_silent streams (q ∷ qs) =
+    if lists (with_silent streams qs) q then with_silent streams qs
+    else inserted q (with_silent streams qs)
+
+-- acts without a reset show the streams with some processes that report nothing
+pub record IsShownWithOthers (top : ℕ) (streams : List Stream) : Type 0 where
+  pub others : List Pid
+  pub shown : IsShownInOneTrace top (with_silent streams others)
+
+-- acts without a reset show the streams with so many processes that report nothing
+pub record IsShownWithSoMany (top : ℕ) (streams : List Stream) (many : ℕ) : Type 0 where
+  pub others : List Pid
+  pub as_many : length others ≡ many
+  pub shown : IsShownInOneTrace top (with_silent streams others)

@@ -1,0 +1,81 @@
+//! The laws of completions with processes that a trace doesn't list, as contracts of functions that do
+//! nothing.
+
+ghost use Rattle.std.specs.Prelude.{◌≡◌, ◌↔◌, ◌⊎◌, ◌≤◌, ◌+◌, ◌||◌, ℕ, List};
+ghost use Rattle.st_core.specs.declared.types.Act.{Act};
+ghost use Rattle.st_core.specs.declared.types.Pid.{Pid};
+ghost use Rattle.st_core.specs.Laws.{NoReset};
+ghost use Rattle.st_core.specs.Run.{pids_of, Shows, Stream};
+ghost use Rattle.st_core.specs.Streams.{events_of, is_among, IsStreams, lists};
+ghost use Rattle.lack_laws.specs.Completed.{IsShownInOneTrace};
+ghost use Rattle.lack_laws.specs.OpenReasons.{asked, HasNoOpenReason, HasOpenReason, HasPlaces};
+ghost use Rattle.lack_laws.specs.OpenReasons.{offered, OpenReason, StandsAgainstOpen};
+ghost use Rattle.lack_laws.specs.Silent.{IsShownWithOthers, IsShownWithSoMany, with_silent};
+
+/// With processes that report nothing streams stay streams: each process has its events, and those
+/// are listed that were and those that are added.
+pub fn with_silent_processes_streams_are_streams()
+    ensures { (streams : List Stream) (others : List Pid) → IsStreams streams
+        → IsStreams (with_silent streams others)
+        × ((p : Pid) → events_of (with_silent streams others) p ≡ events_of streams p)
+        × ((p : Pid) → lists (with_silent streams others) p
+        ≡ (lists streams p || is_among others p)) }
+{}
+
+/// Whatever processes are added that report nothing, the reasons against streams stay the same, at
+/// the same places.
+pub fn silent_processes_change_no_reason()
+    ensures { (top : ℕ) (streams : List Stream) (others : List Pid) → IsStreams streams
+        → (HasNoOpenReason top (with_silent streams others) ↔ HasNoOpenReason top streams)
+        × ((reason : OpenReason) → StandsAgainstOpen top (with_silent streams others) reason
+        ↔ StandsAgainstOpen top streams reason) }
+{}
+
+/// If acts without a reset show the streams with any processes that report nothing, no reason
+/// holds of them.
+pub fn shown_with_others_only_without_a_reason()
+    ensures { (top : ℕ) (streams : List Stream) → IsStreams streams → (others : List Pid)
+        → IsShownInOneTrace top (with_silent streams others) → HasNoOpenReason top streams }
+{}
+
+/// And if none holds, such acts show them with enough processes that report nothing. So the reasons
+/// decide, whether sends are hidden or not.
+pub fn open_reasons_decide()
+    ensures { (top : ℕ) (streams : List Stream) → IsStreams streams
+        → (IsShownWithOthers top streams ↔ HasNoOpenReason top streams) }
+{}
+
+/// A reason is final, at its place: if one holds of streams, no acts without a reset show them with
+/// any processes that report nothing.
+pub fn open_reasons_are_final()
+    ensures { (top : ℕ) (streams : List Stream) → IsStreams streams → (reason : OpenReason)
+        → StandsAgainstOpen top streams reason → (others : List Pid) (acts : List Act)
+        → NoReset acts → ¬ Shows top (with_silent streams others) acts }
+{}
+
+/// Any places of the hidden sends do at which no stamp is late and none needs 0, and any processes
+/// that report nothing, if with them there are as many senders of each count as the needs at these
+/// places ask for, beyond own supplies: then acts show the streams with these processes.
+pub fn shown_with_as_many_as_are_needed()
+    ensures { (top : ℕ) (streams : List Stream) → IsStreams streams
+        → (places : HasPlaces top streams) (others : List Pid)
+        → ((v : ℕ) → asked streams places.wholes v
+        ≤ offered places.wholes v (pids_of (with_silent streams others)))
+        → IsShownInOneTrace top (with_silent streams others) }
+{}
+
+/// So as many are enough as are left over of the count that is needed most often.
+pub fn as_many_as_are_left_over_are_enough()
+    ensures { (top : ℕ) (streams : List Stream) → IsStreams streams
+        → (places : HasPlaces top streams) (many : ℕ)
+        → ((v : ℕ) → asked streams places.wholes v
+        ≤ offered places.wholes v (pids_of streams) + many)
+        → IsShownWithSoMany top streams many }
+{}
+
+/// So there is no third answer: either acts without a reset show streams with some processes that
+/// report nothing, or one of the reasons holds of them.
+pub fn streams_are_shown_with_others_or_refused()
+    ensures { (top : ℕ) (streams : List Stream) → IsStreams streams
+        → IsShownWithOthers top streams ⊎ HasOpenReason top streams }
+{}

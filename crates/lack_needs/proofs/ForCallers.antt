@@ -1,0 +1,9 @@
+-- The lemmas that proofs of the crates above may cite: on what events leave, and on the told events
+-- of whole streams.
+
+pub use Rattle.lack_needs.proofs.Leaving.{left_more}
+pub use Rattle.lack_needs.proofs.Kept.{all_kept, mark_read}
+pub use Rattle.lack_needs.proofs.ToldEvents.{all_told, pids_length, told_end, told_more, untold_more, IsToldAt}
+-- The lemmas that proofs of the crates above may cite.
+
+pub use Rattle.lack_needs.proofs.Constructed.{item_at}

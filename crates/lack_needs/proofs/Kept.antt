@@ -1,0 +1,115 @@
+-- Streams and the marks beside them are whole streams: their events are those of the streams, and
+-- the marks of a process are those at its place.
+use Rattle.std.proofs.Common.{◌≡◌, ℕ, zero, suc, ◌≤◌, Bool, true, false, cond, List, [], ◌∷◌, map, length, slice_get}
+use Rattle.std.proofs.Common.{get_or, find, Option, Some, None, option_map, refl, sym, ◌∙◌, ap, arith}
+use Rattle.std.specs.List.{AllByRecursion}
+use Rattle.std.specs.Option.{option_map_or}
+use Rattle.std.proofs.lemmas.Option.{same_Some}
+use Rattle.st_core.specs.declared.types.Pid.{Pid}
+use Rattle.st_core.specs.declared.types.Event.{Event}
+use Rattle.st_core.specs.Pid.{pid_eq, IsRising}
+use Rattle.st_core.specs.Run.{Stream, pids_of}
+use Rattle.st_core.specs.Streams.{events_of, stream_of}
+use Rattle.st_core.proofs.ForCallers.{pid_eq-refl, above_apart}
+use Rattle.st_pair.proofs.ForCallers.{events_in}
+use Rattle.st_plan.specs.Marks.{all_streams, marks_of, Marked, Whole}
+use Rattle.lack_laws.specs.Needs.{marked_of}
+use Rattle.lack_needs.specs.Completions.{marked_with, wholes_with}
+use Rattle.st_plan.proofs.ForCallers.{mark_in}
+
+all_events : (es : List Event) (ms : List Bool) → map (λ (m : Marked). m.event) (marked_with es ms)
+    ≡ es
+all_events [] ms = refl
+all_events (e ∷ es) [] = ap (λ xs. e ∷ xs) (all_events es [])
+all_events (e ∷ es) (b ∷ ms) = ap (λ xs. e ∷ xs) (all_events es ms)
+
+-- all events are those of the streams
+pub all_kept : (streams : List Stream) (lists : List (List Bool))
+    → all_streams (wholes_with streams lists) ≡ streams
+all_kept [] lists = refl
+all_kept (x ∷ streams) [] =
+    ap (λ es. let y : Stream = record { pid = x.pid; events = es } in
+    y ∷ all_streams (wholes_with streams []))
+    (all_events x.events [])
+    ∙ ap (λ ys. x ∷ ys) (all_kept streams [])
+all_kept (x ∷ streams) (ms ∷ lists) =
+    ap (λ es. let y : Stream = record { pid = x.pid; events = es } in
+    y ∷ all_streams (wholes_with streams lists))
+    (all_events x.events ms)
+    ∙ ap (λ ys. x ∷ ys) (all_kept streams lists)
+
+-- the mark of an event, if it is there
+pub mark_read : (es : List Event) (ms : List Bool) (i : ℕ)
+    → option_map (λ (m : Marked). m.told) (slice_get (marked_with es ms) i)
+    ≡ option_map (λ (e : Event). get_or ms i false) (slice_get es i)
+mark_read [] ms i = refl
+mark_read (e ∷ es) [] zero = refl
+mark_read (e ∷ es) (b ∷ ms) zero = refl
+mark_read (e ∷ es) [] (suc i) = mark_read es [] i
+mark_read (e ∷ es) (b ∷ ms) (suc i) = mark_read es ms i
+
+abbrev pub marked_in : Option Whole → List Marked
+marked_in o = elim o [ None ↦ [] | Some w ↦ w.marked ]
+
+abbrev found : Pid → List Whole → Option Whole
+found p wholes = find (λ (w : Whole). pid_eq w.pid p) wholes
+
+-- the marked events of the process at a place
+pub marked_kept : (streams : List Stream) (lists : List (List Bool)) (k : ℕ) (p : Pid)
+    → IsRising (pids_of streams)
+    → slice_get (pids_of streams) k ≡ Some p
+    → marked_of (wholes_with streams lists) p ≡ marked_with (events_of streams p)
+    (get_or lists k [])
+marked_kept [] lists k p rising at = absurd (cc)
+marked_kept (x ∷ streams) [] zero p rising at =
+    let same : pid_eq x.pid p ≡ true = ap (λ q. pid_eq q p) (same_Some x.pid p at)
+    ∙ pid_eq-refl p in
+    ap (λ b. marked_in (cond b (Some (record { pid = x.pid; marked = marked_with x.events [] }))
+    (found p (wholes_with streams [])))) same
+    ∙ sym (ap (λ b. marked_with (events_in (cond b (Some x) (stream_of streams p))) []) same)
+marked_kept (x ∷ streams) (ms ∷ lists) zero p rising at =
+    let same : pid_eq x.pid p ≡ true = ap (λ q. pid_eq q p) (same_Some x.pid p at)
+    ∙ pid_eq-refl p in
+    ap (λ b. marked_in (cond b (Some (record { pid = x.pid; marked = marked_with x.events ms }))
+    (found p (wholes_with streams lists)))) same
+    ∙ sym (ap (λ b. marked_with (events_in (cond b (Some x) (stream_of streams p))) ms) same)
+marked_kept (x ∷ streams) [] (suc k) p rising at =
+    let other = above_apart (pids_of streams) x.pid p k rising.0 at in
+    ap (λ b. marked_in (cond b (Some (record { pid = x.pid; marked = marked_with x.events [] }))
+    (found p (wholes_with streams [])))) other
+    ∙ marked_kept streams [] k p rising.1 at
+    ∙ sym (ap (λ b. marked_with (events_in (cond b (Some x) (stream_of streams p))) []) other)
+marked_kept (x ∷ streams) (ms ∷ lists) (suc k) p rising at =
+    let other = above_apart (pids_of streams) x.pid p k rising.0 at in
+    ap (λ b. marked_in (cond b (Some (record { pid = x.pid; marked = marked_with x.events ms }))
+    (found p (wholes_with streams lists)))) other
+    ∙ marked_kept streams lists k p rising.1 at
+    ∙ sym (ap (λ b. marked_with (events_in (cond b (Some x) (stream_of streams p)))
+    (get_or lists k [])) other)
+
+pub marked_missing : (streams : List Stream) (lists : List (List Bool)) (p : Pid)
+    → AllByRecursion (λ q. pid_eq q p ≡ false) (pids_of streams)
+    → marked_of (wholes_with streams lists) p ≡ []
+marked_missing [] lists p missing = refl
+marked_missing (x ∷ streams) [] p missing =
+    ap (λ b. marked_in (cond b (Some (record { pid = x.pid; marked = marked_with x.events [] }))
+    (found p (wholes_with streams [])))) missing.0
+    ∙ marked_missing streams [] p missing.1
+marked_missing (x ∷ streams) (ms ∷ lists) p missing =
+    ap (λ b. marked_in (cond b (Some (record { pid = x.pid; marked = marked_with x.events ms }))
+    (found p (wholes_with streams lists)))) missing.0
+    ∙ marked_missing streams lists p missing.1
+
+-- past the end there is none
+pub past_end : (es : List Event) (i : ℕ) → length es ≤ i → slice_get es i ≡ None
+past_end [] i past = refl
+past_end (e ∷ es) zero past = absurd (omega arith)
+past_end (e ∷ es) (suc i) past = past_end es i (omega arith)
+
+-- the marks by place
+pub mark_of : (wholes : List Whole) (p : Pid) (i : ℕ)
+    → marks_of wholes p i ≡ option_map_or (λ (m : Marked). m.told)
+    (slice_get (marked_of wholes p) i) false
+mark_of wholes p i = elim (find (λ (w : Whole). pid_eq w.pid p) wholes)
+    as (λ o. mark_in o i ≡ option_map_or (λ (m : Marked). m.told) (slice_get (marked_in o) i) false)
+    [ None ↦ refl | Some w ↦ refl ]

@@ -1,0 +1,16 @@
+-- The process is last, so each event goes to its end.
+use Rattle.std.proofs.Common.{rules, ◌∙◌, ap}
+use Rattle.st_core.specs.Streams.{lists}
+use Rattle.lack_needs.proofs.Ranking.{lists_last, ranked_more}
+use Rattle.lack_needs.proofs.ranks.add_renumbered.Goals as goal
+
+pub add_own-requires-clause-listed : goal.add_own-requires-clause-listed
+add_own-requires-clause-listed c =
+    ap (λ xs. lists xs c.args.pid) c.loop-event.invariant ∙ lists_last _ c.args.pid _
+
+pub loop-event-preserved : goal.loop-event-preserved
+loop-event-preserved c =
+    ranked_more c.args.counts.now c.args.draft.now c.loop-event.draft c.add_own.new.draft c.args.pid
+    c.args.events.now
+    c.loop-event.event-index c.requires.last c.loop-event-test.true c.loop-event.invariant
+    (search rules)

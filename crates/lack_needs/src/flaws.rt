@@ -1,0 +1,127 @@
+//! What may be wrong with an event after those of its process before it.
+
+ghost use Rattle.std.specs.Prelude.{◌≡◌, ◌↔◌, [], ◌∷◌, ◌++◌, List, IsTrue};
+ghost use Rattle.st_core.specs.declared.types.Event.{Event as EventValue};
+ghost use Rattle.st_pair.specs.Places.{is_stamp};
+ghost use Rattle.st_core.specs.Laws.{greatest_count, prev_after};
+ghost use Rattle.lack_laws.specs.Completion.{begins_trace};
+ghost use Rattle.lack_needs.specs.Flaws.{left_by, test_of, GoesOnWithin};
+
+use st_core::{Event, Kind};
+
+/// What the events of a process leave to its next one. It is two numbers, so one pass over the
+/// events finds what is wrong with each.
+#[derive(Clone, Copy, Debug)]
+pub struct Left {
+    /// The greatest count of these events, 0 of none.
+    pub greatest: u64,
+    /// The prev that the last of them leaves: that of a send or print, the count of a receive; 0 of
+    /// none.
+    pub prev: u64,
+}
+
+/// What may be wrong with an event after those of its process before it.
+#[derive(Clone, Copy, Debug)]
+pub enum Flaw {
+    /// A send or print that counts no higher than one of them.
+    Late,
+    /// A send or print with a prev that they don't leave and no new trace has: a receive is
+    /// missing.
+    Need,
+    /// An event that counts above this.
+    TooHigh(u64),
+}
+
+/// Whether the event is a send or a print.
+pub fn is_stamp(event: &Event) -> bool
+    ensures { result ≡ is_stamp event.now }
+{
+    match event.kind {
+        Kind::Send | Kind::Print => true,
+        Kind::Receive => false,
+    }
+}
+
+/// The prev that an event leaves: its own if it is a send or print, the count of a receive.
+pub fn prev_left(event: &Event) -> u64
+    ensures { result ≡ prev_after (event.now ∷ []) }
+{
+    match event.kind {
+        Kind::Send | Kind::Print => event.serial.prev,
+        Kind::Receive => event.serial.this,
+    }
+}
+
+impl Left {
+    /// What no events leave.
+    pub fn by_none() -> Left
+        ensures { result ≡ left_by [] }
+    {
+        Left {
+            greatest: 0,
+            prev: 0,
+        }
+    }
+
+    /// What is left with one event more.
+    pub fn after(self, event: &Event) -> Left
+        ensures { (es : List EventValue) → self ≡ left_by es → result
+            ≡ left_by (es ++ event.now ∷ []) }
+    {
+        Left {
+            greatest: self.greatest.max(event.serial.this),
+            prev: prev_left(event),
+        }
+    }
+
+    /// Whether the next event has the flaw.
+    pub fn flaws(self, event: &Event, flaw: Flaw) -> bool
+        ensures { (es : List EventValue) → self ≡ left_by es → result ≡ test_of flaw es event.now }
+    {
+        match flaw {
+            Flaw::Late => is_stamp(event) && self.greatest >= event.serial.this,
+            Flaw::Need => self.lacks(event),
+            Flaw::TooHigh(top) => top < event.serial.this,
+        }
+    }
+
+    /// Whether a receive of the event's prev is missing before it.
+    pub fn lacks(self, event: &Event) -> bool
+        ensures { (es : List EventValue) → self ≡ left_by es → result
+            ≡ test_of Flaw.Need es event.now }
+    {
+        is_stamp(event) && (event.serial.prev != self.prev && event.serial.prev < self.greatest)
+    }
+
+    /// Whether the serial of the next event rises, to no count above this, and the event is neither
+    /// late nor a need.
+    pub fn goes_on(self, event: &Event, top: u64) -> bool
+        ensures { (es : List EventValue) → self ≡ left_by es
+            → (IsTrue result ↔ GoesOnWithin top es event.now) }
+    {
+        if event.serial.this <= event.serial.prev {
+            return false;
+        }
+        let high = self.flaws(event, Flaw::TooHigh(top));
+        if high {
+            return false;
+        }
+        let late = self.flaws(event, Flaw::Late);
+        if late {
+            return false;
+        }
+        let need = self.flaws(event, Flaw::Need);
+        !need
+    }
+
+    /// Whether the next event begins a trace below this count: its prev is another than what is
+    /// left, at least the greatest count and less than this.
+    pub fn begins(self, event: &Event, count: u64) -> bool
+        ensures { (es : List EventValue) → self ≡ left_by es
+            → result ≡ begins_trace count (greatest_count es) (prev_after es) event.now }
+    {
+        is_stamp(event)
+            && (event.serial.prev != self.prev
+                && (event.serial.prev >= self.greatest && event.serial.prev < count))
+    }
+}

@@ -1,0 +1,165 @@
+//! The stamps that ask for a message: sends and prints whose prev isn't what is before them
+//! leaves.
+
+use crate::entries::Entries;
+use crate::hidden_sends::HiddenSend;
+use crate::links::short;
+use lack_needs::{Left, is_stamp};
+use st_core::{Event, Kind, Label, Pid, Serial, Streams};
+use std::alloc::{AllocError, Global};
+use std::cmp::Ordering;
+
+/// The message that a stamp gets.
+#[derive(Clone, Copy, PartialEq, Eq)]
+pub(crate) enum Message {
+    /// None.
+    Missing,
+    /// That of a reported send which nobody received, of this process and with this index there:
+    /// its receive was lost.
+    Lost(Pid, u32),
+    /// One that is invented, of this process, which sends it with this prev.
+    Invented(Pid, u64),
+}
+
+/// A send or print that asks for a message of its prev.
+#[derive(Clone, Copy)]
+pub(crate) struct Ask {
+    /// The process whose stamp it is.
+    pub process: Pid,
+    /// The stamp's index among the reported events and hidden sends of its process.
+    pub index: u32,
+    /// The stamp's label.
+    pub label: Label,
+    /// The stamp's prev.
+    pub count: u64,
+    /// What it got.
+    pub message: Message,
+}
+
+impl Ask {
+    /// The sender of the message that it got.
+    pub(crate) fn sender(&self) -> Option<Pid> {
+        match self.message {
+            Message::Missing => None,
+            Message::Lost(from, _) | Message::Invented(from, _) => Some(from),
+        }
+    }
+
+    /// The send of the message that it got.
+    pub(crate) fn sent(&self, streams: &Streams) -> Option<Event> {
+        match self.message {
+            Message::Missing => None,
+            Message::Lost(from, index) => streams.event(from, u64::from(index)),
+            Message::Invented(from, prev) => Some(Event {
+                label: self.label,
+                kind: Kind::Send,
+                to: Some(self.process),
+                from,
+                serial: Serial {
+                    prev,
+                    this: self.count,
+                },
+                value: 0,
+            }),
+        }
+    }
+}
+
+/// The stamps that ask, by process and index.
+#[derive(Drop)]
+pub(crate) struct Asks {
+    /// The needs: their prev is below the clock, so that only a message can give it.
+    pub needs: Vec<Ask>,
+    /// Those whose prev is above the clock. The machine would let a trace begin there, but it is
+    /// more likely that a message brought the count.
+    pub beginnings: Vec<Ask>,
+}
+
+impl Asks {
+    /// Notes what an event of the process asks for, behind what these events left.
+    fn note(
+        &mut self,
+        process: Pid,
+        index: usize,
+        left: Left,
+        event: &Event,
+    ) -> Result<(), AllocError> {
+        let count = event.serial.prev;
+        if !is_stamp(event) || count == left.prev {
+            return Ok(());
+        }
+        let ask = Ask {
+            process,
+            index: short(index),
+            label: event.label,
+            count,
+            message: Message::Missing,
+        };
+        match count.cmp(&left.greatest) {
+            Ordering::Less => self.needs.push(ask)?,
+            // A trace that begins at the clock asks for nothing, so that a full trace doesn't.
+            Ordering::Equal => {}
+            Ordering::Greater => self.beginnings.push(ask)?,
+        }
+        Ok(())
+    }
+
+    /// Notes what the events of a process ask for.
+    fn note_all(&mut self, process: Pid, entries: Entries<'_>) -> Result<(), AllocError> {
+        let mut left = Left::by_none();
+        for (index, entry) in entries.enumerate() {
+            self.note(process, index, left, &entry.event)?;
+            left = left.after(&entry.event);
+        }
+        Ok(())
+    }
+
+    /// The stamps that ask in these streams with their hidden sends.
+    pub(crate) fn of(
+        alloc: Global,
+        streams: &Streams,
+        hidden: &[HiddenSend],
+    ) -> Result<Asks, AllocError> {
+        let mut asks = Asks {
+            needs: Vec::new(alloc),
+            beginnings: Vec::new(alloc),
+        };
+        let mut rest = hidden;
+        for &pid in streams.pids() {
+            let (own, later) = split_hidden(rest, pid);
+            asks.note_all(pid, Entries::new(streams, streams.events(pid), own, &[]))?;
+            rest = later;
+        }
+        Ok(asks)
+    }
+
+    /// All needs, and the beginnings that got a message, by process and index.
+    pub(crate) fn into_fed(self) -> Result<Vec<Ask>, AllocError> {
+        let Asks {
+            needs: mut fed,
+            beginnings,
+        } = self;
+        for ask in &beginnings {
+            if ask.message != Message::Missing {
+                fed.push(*ask)?;
+            }
+        }
+        // Needs that got no lost message are still in order.
+        if !fed.is_sorted_by_key(|ask| (ask.process, ask.index)) {
+            fed.sort_by_key(|ask| (ask.process, ask.index))?;
+        }
+        Ok(fed)
+    }
+}
+
+/// The hidden sends of the processes up to this one, and the others.
+pub(crate) fn split_hidden(hidden: &[HiddenSend], pid: Pid) -> (&[HiddenSend], &[HiddenSend]) {
+    let count = hidden.partition_point(|send| send.event.from <= pid);
+    hidden.split_at(count)
+}
+
+/// The stamps that ask of the processes up to this one, and the others.
+pub(crate) fn split_asks(asks: &[Ask], pid: Pid) -> (&[Ask], &[Ask]) {
+    let count = asks.partition_point(|ask| ask.process <= pid);
+    asks.split_at(count)
+}

@@ -1,0 +1,309 @@
+//! Where hidden sends are among the events of their processes.
+//!
+//! A hidden send is somewhere between the two reported stamps of its sender whose counts are
+//! the nearest, before the first receive that doesn't count lower. Which receives of this stretch
+//! it is behind decides what its prev costs. It costs nothing if the machine could have stamped
+//! it there by what is known: what is before it leaves its prev, or a new trace began, since
+//! its prev isn't below the clock (the greatest count so far). Else a message must be added that
+//! gives the prev.
+//!
+//! The places are found by two walks over each stretch, back and then forth. If all receives were
+//! reported, nothing has to be added: in the run that happened each stamp cost nothing. The walk
+//! back gives no send a last place before the one that it had in that run, so that the walk forth
+//! finds one that costs nothing up to there.
+
+use crate::candidate::items_between;
+use crate::hidden_sends::HiddenSend;
+use crate::links::short;
+use crate::stretch::{Ground, Stretch};
+use lack_needs::is_stamp;
+use st_core::{Event, Label, Streams};
+use std::alloc::{AllocError, Global};
+
+/// A hidden send of the stretch that is walked.
+#[derive(Clone, Copy)]
+struct Step {
+    label: Label,
+    prev: u64,
+    this: u64,
+    /// Its gap: its last place after the walk back, and its place after the walk forth.
+    gap: usize,
+}
+
+/// What comes behind a send in its stretch.
+#[derive(Clone, Copy, PartialEq, Eq)]
+enum Next {
+    /// Nothing, at the end of a process.
+    Nothing,
+    /// The next hidden send, with this prev.
+    Send(u64),
+    /// The reported stamp at the end of the stretch, with this prev.
+    Stamp(u64),
+}
+
+impl Next {
+    /// Whether what comes next may be at this gap, which isn't past its last place, the limit. A
+    /// hidden send may move back to it, but the reported stamp has one place, its limit.
+    fn may_stand_at(self, gap: usize, limit: usize) -> bool {
+        match self {
+            Next::Nothing => false,
+            Next::Send(_) => true,
+            Next::Stamp(_) => gap == limit,
+        }
+    }
+
+    /// The last gap for a send from which what comes next can still cost nothing; `limit` is the
+    /// last place of what comes next.
+    fn last_gap_before(self, ground: &mut Ground, send: &Step, limit: usize) -> usize {
+        let prev = match self {
+            Next::Nothing => return limit,
+            Next::Send(prev) | Next::Stamp(prev) => prev,
+        };
+        // The send leaves its own prev, wherever it is.
+        if prev == send.prev {
+            return limit;
+        }
+        // What comes next costs nothing right behind a receive of its prev: then the send is before
+        // that receive.
+        let received = match ground.last_behind(prev, limit) {
+            Some(gap) if self.may_stand_at(gap, limit) => Some(gap.saturating_sub(1)),
+            _ => None,
+        };
+        // It also costs nothing if a trace can begin behind the send, while the clock isn't above
+        // the prev. Of the two gaps the later one serves.
+        if prev < send.this.max(ground.clock(0)) {
+            return received.unwrap_or(limit);
+        }
+        let begun = limit.min(ground.last_up_to(prev));
+        if !self.may_stand_at(begun, limit) {
+            return received.unwrap_or(limit);
+        }
+        received.map_or(begun, |gap| gap.max(begun))
+    }
+}
+
+/// The walk back: gives each send its last place, the last gap from which what comes next in the
+/// stretch can still cost nothing. If there is no such gap, the send's last place is that of what
+/// comes next. No place is behind a receive that doesn't count lower than the send.
+fn walk_back(ground: &mut Ground, stretch: Stretch<'_>, steps: &mut [Step]) {
+    let mut limit = ground.end();
+    let mut next = match stretch.stamp {
+        None => Next::Nothing,
+        Some(stamp) => Next::Stamp(stamp.serial.prev),
+    };
+    for step in steps.iter_mut().rev() {
+        limit = next.last_gap_before(ground, step, limit);
+        limit = limit.min(ground.last_below(step.this));
+        step.gap = limit;
+        next = Next::Send(step.prev);
+    }
+}
+
+/// Where the walk forth has come.
+#[derive(Clone, Copy)]
+struct Standing {
+    /// The gap, which never goes back.
+    gap: usize,
+    /// The prev that what is before leaves.
+    prev: u64,
+    /// The label of what is before; none at the start of a process.
+    label: Option<Label>,
+    /// The greatest count of what is before.
+    clock: u64,
+}
+
+impl Standing {
+    /// Before the receives of a stretch.
+    fn at_start(stretch: Stretch<'_>) -> Standing {
+        Standing {
+            gap: 0,
+            prev: stretch.before.map_or(0, |stamp| stamp.serial.prev),
+            label: stretch.before.map(|stamp| stamp.label),
+            clock: stretch.before.map_or(0, |stamp| stamp.serial.this),
+        }
+    }
+
+    /// The place of the next send, up to its last place. It goes no further than it must, since
+    /// what costs nothing here costs nothing later for the sends behind it, too. Labels come first:
+    /// they tell calls apart that have the same counts.
+    fn place_of(self, ground: &mut Ground, send: &Step) -> usize {
+        if self.prev == send.prev && self.label == Some(send.label) {
+            return self.gap;
+        }
+        let limit = send.gap;
+        if let Some(gap) = ground.next_of_label(send.prev, send.label, self.gap, limit) {
+            return gap;
+        }
+        if send.prev == self.prev || send.prev == self.clock {
+            return self.gap;
+        }
+        if let Some(gap) = ground.next_behind(send.prev, self.gap, limit) {
+            return gap;
+        }
+        // A trace that began later, at a clock that nothing reported shows: it may be behind
+        // all that counts no higher.
+        if send.prev > self.clock {
+            return self.gap.max(limit.min(ground.last_up_to(send.prev)));
+        }
+        self.gap
+    }
+
+    /// Behind the next send, at its place.
+    fn after(self, ground: &Ground, send: &Step) -> Standing {
+        Standing {
+            gap: send.gap,
+            prev: send.prev,
+            label: Some(send.label),
+            clock: self.clock.max(ground.clock(send.gap)).max(send.this),
+        }
+    }
+}
+
+/// The walk forth: gives each send its place.
+fn walk_forth(ground: &mut Ground, stretch: Stretch<'_>, steps: &mut [Step]) {
+    let mut standing = Standing::at_start(stretch);
+    for step in steps.iter_mut() {
+        step.gap = standing.place_of(ground, step);
+        standing = standing.after(ground, step);
+    }
+}
+
+/// How many sends at the end of the stretch go right before the reported stamp: those of its prev,
+/// if no receive gives it to them and a trace could begin there. Then they and the stamp are one
+/// trace, that began behind all receives of the stretch.
+fn last_with_stamp(ground: &Ground, stretch: Stretch<'_>, steps: &[Step]) -> usize {
+    let Some(stamp) = stretch.stamp else {
+        return 0;
+    };
+    let prev = stamp.serial.prev;
+    if let Some(receive) = stretch.receives.last() {
+        if receive.serial.this == prev {
+            return 0;
+        }
+    }
+    let count = steps
+        .iter()
+        .rev()
+        .take_while(|step| step.prev == prev)
+        .count();
+    let others = steps.len().saturating_sub(count);
+    let before = match others.checked_sub(1) {
+        None => None,
+        Some(last) => steps.get(last),
+    };
+    let clock = before
+        .map_or(0, |step| step.this)
+        .max(ground.clock(ground.end()));
+    if prev < clock {
+        return 0;
+    }
+    count
+}
+
+/// Puts the last sends of the stretch right before the reported stamp.
+fn move_to_stamp(ground: &Ground, steps: &mut [Step], count: usize) {
+    for step in steps.iter_mut().rev().take(count) {
+        step.gap = ground.end();
+    }
+}
+
+/// The walk over the stretches of one process after the other.
+#[derive(Drop)]
+struct Walk {
+    ground: Ground,
+    steps: Vec<Step>,
+}
+
+impl Walk {
+    /// Takes up the hidden sends of a stretch.
+    fn take_steps(&mut self, hidden: &[HiddenSend]) -> Result<(), AllocError> {
+        self.steps.clear();
+        for send in hidden {
+            self.steps.push(Step {
+                label: send.event.label,
+                prev: send.event.serial.prev,
+                this: send.event.serial.this,
+                gap: 0,
+            })?;
+        }
+        Ok(())
+    }
+
+    /// Puts the hidden sends of a stretch at their places; `start` is the index of its first event.
+    fn place_stretch(
+        &mut self,
+        stretch: Stretch<'_>,
+        start: usize,
+        hidden: &mut [HiddenSend],
+    ) -> Result<(), AllocError> {
+        if hidden.is_empty() {
+            return Ok(());
+        }
+        self.ground.fill(stretch)?;
+        self.take_steps(hidden)?;
+        walk_back(&mut self.ground, stretch, &mut self.steps);
+        walk_forth(&mut self.ground, stretch, &mut self.steps);
+        let count = last_with_stamp(&self.ground, stretch, &self.steps);
+        move_to_stamp(&self.ground, &mut self.steps, count);
+        for (send, step) in hidden.iter_mut().zip(self.steps.iter()) {
+            send.place = short(start.saturating_add(step.gap));
+        }
+        Ok(())
+    }
+
+    /// Puts the hidden sends of a process, which come by rising count, at their places among its
+    /// events.
+    fn place_process(
+        &mut self,
+        events: &[Event],
+        hidden: &mut [HiddenSend],
+    ) -> Result<(), AllocError> {
+        let mut rest = hidden;
+        let mut start = 0;
+        let mut before = None;
+        for (end, event) in events.iter().enumerate() {
+            if !is_stamp(event) {
+                continue;
+            }
+            let count = rest.partition_point(|send| send.event.serial.this < event.serial.this);
+            let (now, later) = rest.split_at_mut(count);
+            let stretch = Stretch {
+                before,
+                receives: items_between(events, start, end),
+                stamp: Some(event),
+            };
+            self.place_stretch(stretch, start, now)?;
+            rest = later;
+            start = end.saturating_add(1);
+            before = Some(event);
+        }
+        let stretch = Stretch {
+            before,
+            receives: items_between(events, start, events.len()),
+            stamp: None,
+        };
+        self.place_stretch(stretch, start, rest)
+    }
+}
+
+/// Puts hidden sends, which come by sender and count, at their places.
+pub(crate) fn place_hidden(
+    alloc: Global,
+    streams: &Streams,
+    hidden: &mut [HiddenSend],
+) -> Result<(), AllocError> {
+    let mut walk = Walk {
+        ground: Ground::new(alloc),
+        steps: Vec::new(alloc),
+    };
+    let mut rest = hidden;
+    for &pid in streams.pids() {
+        let count = rest.partition_point(|send| send.event.from <= pid);
+        let (own, later) = rest.split_at_mut(count);
+        rest = later;
+        if !own.is_empty() {
+            walk.place_process(streams.events(pid), own)?;
+        }
+    }
+    Ok(())
+}

@@ -1,0 +1,111 @@
+//! What one process's events tell of the origin of a send or print: `node_why` has the definitions.
+
+ghost use Rattle.std.specs.Prelude.{◌≡◌, ◌-◌, ◌<◌, ◌≤◌, IfOk, Some, length, slice_get};
+ghost use Rattle.std.specs.List.{prefix_len};
+ghost use Rattle.st_core.specs.declared.types.Event.{Event as EventValue};
+ghost use Rattle.node_why.specs.Kept.{row_starts};
+ghost use Rattle.node_why.specs.Events.{in_row, receive_before, row_start, origin_evidence_by};
+
+use crate::evidence::Evidence;
+use st_core::{Event, Kind};
+use std::alloc::{AllocError, Global};
+
+/// Whether the event is a send or a print with this prev.
+pub(crate) fn in_row(prev: u64, event: &Event) -> bool
+    ensures { result ≡ in_row prev event.now }
+{
+    match event.kind {
+        Kind::Send | Kind::Print => event.serial.prev == prev,
+        Kind::Receive => false,
+    }
+}
+
+/// How many of these events, from the first one on, are in the row.
+pub(crate) fn row_length(prev: u64, events: &[Event]) -> usize
+    ensures value { result ≡ prefix_len (λ e. in_row prev e) events.now }
+    ensures len { result ≤ length events.now }
+{
+    events
+        .iter()
+        .take_while(|event| in_row(prev, event))
+        .count()
+}
+
+/// Where the row of sends and prints with the prev of this event begins that goes up to it: where
+/// that of the event before begins, if that event is in the row.
+#[tactic(auto, using(crate::proofs::Starts::next_start))]
+fn next_start(events: &[Event], index: usize, before: usize) -> usize
+    requires within { index < length events.now }
+    requires before { (d : EventValue) → 0 < index → slice_get events.now (index - 1) ≡ Some d
+        → before ≡ row_start d.serial.prev events.now (index - 1) }
+    ensures { (e : EventValue) → slice_get events.now index ≡ Some e
+        → result ≡ row_start e.serial.prev events.now index }
+{
+    if index == 0 {
+        return 0;
+    }
+    if in_row(events[index].serial.prev, &events[index - 1]) {
+        before
+    } else {
+        index
+    }
+}
+
+/// Where the row before each event begins.
+pub(crate) fn row_starts(alloc: Global, events: &[Event]) -> Result<Vec<usize>, AllocError>
+    ensures { IfOk result (λ v. v.items ≡ row_starts events.now) }
+{
+    let mut start = 0;
+    let mut found = Vec::with_capacity(alloc, events.len())?;
+    for index in 0..events.len() {
+        start = next_start(events, index, start);
+        found.push(start)?;
+    }
+    Ok(found)
+}
+
+/// The index before this one, if a receive of this count is there.
+pub(crate) fn receive_before(this: u64, events: &[Event], index: usize) -> Option<u64>
+    requires { index ≤ length events.now }
+    ensures { result ≡ receive_before this events.now index }
+{
+    if index == 0 {
+        return None;
+    }
+    let event = &events[index - 1];
+    match event.kind {
+        Kind::Send | Kind::Print => None,
+        Kind::Receive => {
+            if event.serial.this == this {
+                Some(index as u64 - 1)
+            } else {
+                None
+            }
+        }
+    }
+}
+
+/// The evidence, by whether a count above the prev is before the row, and by the receive
+/// directly before it.
+pub(crate) fn evidence_by(prev: u64, above: bool, receive: Option<u64>) -> Evidence
+    ensures { result ≡ origin_evidence_by prev above receive }
+{
+    match receive {
+        Some(index) => {
+            if above {
+                Evidence::After(index)
+            } else {
+                Evidence::AfterOrBegins(index)
+            }
+        }
+        None => {
+            if above {
+                Evidence::Unreported
+            } else if prev == 0 {
+                Evidence::Begins
+            } else {
+                Evidence::BeginsOrUnreported
+            }
+        }
+    }
+}

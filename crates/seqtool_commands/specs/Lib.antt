@@ -1,0 +1,19 @@
+-- What public contracts cite: which task the words of a command line ask for, and what each task owes.
+pub mod Words
+pub mod Command
+-- Of `complete` and `renumber`.
+pub mod Renumber
+pub mod Complete
+-- Of `why`: the words of a line, what it writes, and what that means.
+pub mod WhyWords
+pub mod Why
+pub mod WhyMeaning
+-- The number of the line on which an event or an act is.
+pub mod LineNumbers
+pub mod LineLaws
+-- For the parts alone: the functions that a command is made of, and what is kept of lines.
+pub mod Lines
+pub mod Parts
+pub mod WhyLines
+pub mod WhyParts
+pub mod KeptLines

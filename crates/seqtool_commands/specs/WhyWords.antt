@@ -1,0 +1,93 @@
+-- The words of what is found: a line for each event, and what they rest on. What a sentence claims
+-- of a run, and that it is true, is in `node_why` (`Claims`).
+use Rattle.std.specs.Prelude.{ℕ, min, List, [], ◌++◌, codes, decimal, take}
+use Rattle.std.specs.Option.{unwrap_or}
+use Rattle.st_core.specs.declared.types.Pid.{Pid}
+use Rattle.st_core.specs.declared.types.Label.{Label}
+use Rattle.st_core.specs.declared.types.Event.{Event}
+use Rattle.st_core.specs.Run.{Stream}
+use Rattle.st_text.specs.Spelling as spelled
+use Rattle.st_text.specs.Spelling.{ended_line}
+use Rattle.st_order.specs.declared.item.Item.TheVariants as item
+use Rattle.st_chart.specs.Words.{place_words}
+use Rattle.st_chart.specs.Chart.{item_word}
+use Rattle.seqtool_commands.specs.LineNumbers.{line_number_of}
+use Rattle.node_why.specs.declared.hop.Hop.{Hop}
+use Rattle.node_why.specs.declared.hop.Hop.TheVariants as hop
+use Rattle.node_why.specs.declared.hop.Premises.{Premises}
+use Rattle.node_why.specs.declared.hop.Premises.TheVariants as premises
+use Rattle.node_why.specs.Hops.{hop_of, premises_of}
+use Rattle.seqtool_commands.specs.declared.question.Direction.{Direction}
+use Rattle.seqtool_commands.specs.declared.question.Direction.TheVariants as direction
+
+-- the line of the event at a place, 0 if there is none
+abbrev pub line_number_at : List Stream → Pid → ℕ → ℕ
+line_number_at streams p i = unwrap_or (line_number_of streams p i) 0
+
+-- where an event is: its process, its index there, and its line of the text
+abbrev pub located_words : List Stream → Pid → ℕ → List ℕ
+located_words streams p i = place_words p i ++ codes ", line "
+    ++ decimal (line_number_at streams p i)
+
+-- how far an event of a tree is from the first one: a number, and so many spaces, up to 16
+abbrev pub depth_words : Direction → ℕ → List ℕ
+depth_words direction.Back depth = []
+depth_words direction.Forth depth =
+    decimal depth ++ codes " " ++ take (min depth 16) (codes "                ")
+
+-- what an event is, its serial and its value, as in a chart
+abbrev pub what_words : Event → List ℕ
+what_words e = item_word (item.Reported e.from 0) e.kind ++ codes " " ++ spelled.serial e.serial
+    ++ codes " "
+    ++ decimal e.value
+
+-- how far an event is, where it is and what it is
+abbrev pub head_words : List Stream → Direction → ℕ → Pid → ℕ → Event → List ℕ
+head_words streams way depth p i e = depth_words way depth ++ located_words streams p i
+    ++ codes "  "
+    ++ what_words e
+    ++ codes " "
+
+-- a process begins this label, or sets it on a token that it has
+abbrev pub begins_label_words : Label → List ℕ
+begins_label_words label =
+    codes "begins label " ++ decimal label.0 ++ codes " here, or set it on its token; "
+
+-- the receive before, which has another label
+abbrev pub had_received_words : List Stream → Pid → ℕ → Label → List ℕ
+had_received_words streams p j received = codes "it had last received "
+    ++ located_words streams p j
+    ++ codes " of label "
+    ++ decimal received.0
+
+-- what an event of p with this label follows: the sentence whose claim `Claims` has
+abbrev pub claim_words : List Stream → Pid → Label → Hop → List ℕ
+claim_words streams p label (hop.Sent q j) = codes "after " ++ located_words streams q j
+claim_words streams p label hop.Unsent = codes "its send wasn't reported"
+claim_words streams p label (hop.After j) = codes "after " ++ located_words streams p j
+claim_words streams p label (hop.AfterOneLabel j) = codes "after " ++ located_words streams p j
+claim_words streams p label (hop.OtherLabel j received) =
+    begins_label_words label ++ had_received_words streams p j received
+claim_words streams p label hop.Begins = codes "begins here"
+claim_words streams p label hop.BeginsOrUnreported =
+    codes "begins here, or follows a message whose receive wasn't reported"
+
+-- the premises that a sentence rests on
+abbrev pub premise_words : Premises → List ℕ
+premise_words premises.Neither = []
+premise_words premises.First = codes " (1)"
+premise_words premises.Both = codes " (1, 2)"
+
+-- the sentence with its premises
+abbrev pub hop_words : List Stream → Pid → Label → Hop → List ℕ
+hop_words streams p label back =
+    claim_words streams p label back ++ premise_words (premises_of back)
+
+-- the line of event i of p, so far from the first one
+abbrev pub hop_line : List Stream → Direction → ℕ → Pid → ℕ → Event → List ℕ
+hop_line streams way depth p i e = head_words streams way depth p i e
+    ++ ended_line (hop_words streams p e.label (hop_of streams p i e))
+
+abbrev pub premises_text : List ℕ
+premises_text = codes
+    "in a run without a reset, if any; (1) if each receive of a token was reported; (2) if no process cleared or lost its token, began again and reported an earlier label again; on a standard node (2) wherever (1), except behind a spawn or a token put back"

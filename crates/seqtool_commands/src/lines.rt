@@ -1,0 +1,109 @@
+//! The lines that are written alone, through a buffer on the stack, so that writing takes no memory.
+
+ghost use Rattle.std.specs.Prelude.{◌≡◌, ◌<◌, ◌+◌, ◌++◌, codes};
+ghost use Rattle.arrayvec.specs.ArrayVec.{array_vec_len};
+ghost use Rattle.st_text.specs.Room.{line_room, HasRoom, Puts};
+ghost use Rattle.st_text.specs.Spelling as spelled;
+ghost use Rattle.st_chart.specs.Words.{place_words};
+ghost use Rattle.st_chart.specs.Room.{place_room};
+ghost use Rattle.seqtool_commands.specs.Lines.{never_words, words_of, words_room};
+
+use lack_decide::Never;
+use st_chart::put_place_after;
+use st_core::Pid;
+use st_text::{Buffer, TextLine, put_bytes, put_numbered, put_pid};
+
+/// What the version's line says. A build that isn't proved adds that.
+const VERSION: &str = "seqtool 1.0.0";
+
+/// A line that is written alone.
+#[derive(Clone, Copy, Debug)]
+pub(crate) enum OutputLine {
+    /// The acts, or the processes, are more than the reader takes.
+    Long,
+    /// The checker doesn't accept the acts that were built.
+    Uncertified,
+    /// So many events were added.
+    Added(u64),
+    /// Why the event at this place rules out a run without a reset.
+    Never(Pid, u64, Never),
+    /// This process takes part in the completion, and the streams don't list it.
+    Unlisted(Pid),
+    /// There is no event at this place.
+    NoEvent(Pid, u64),
+    /// What the lines of `why` rest on.
+    Premises,
+    /// How the program is called.
+    Usage,
+    /// Which version this is.
+    Version,
+}
+
+/// Appends the words of a reason against an event of this process.
+fn put_never_words(buffer: &mut Buffer, pid: Pid, never: Never)
+    requires { HasRoom (13 + place_room) buffer.old }
+    ensures { Puts (13 + place_room) (never_words pid never) buffer.old buffer.new }
+{
+    match never {
+        Never::PrevNotBefore => put_bytes(buffer, b"prevnotbefore"),
+        Never::NotRising(index) => put_place_after(buffer, b"notrising ", pid, index),
+        Never::Repeated(other, index) => put_place_after(buffer, b"repeated ", other, index),
+        Never::Mismatch(other, index) => put_place_after(buffer, b"mismatch ", other, index),
+        Never::Late(index) => put_place_after(buffer, b"late ", pid, index),
+        Never::Unfounded => put_bytes(buffer, b"unfounded"),
+        Never::TooHigh => put_bytes(buffer, b"toohigh"),
+    }
+}
+
+/// Appends the words of a reason and its place.
+fn put_never(buffer: &mut Buffer, pid: Pid, index: u64, never: Never)
+    requires { HasRoom words_room buffer.old }
+    ensures { Puts words_room
+        (codes "never " ++ place_words pid index ++ codes " " ++ never_words pid never)
+        buffer.old buffer.new }
+{
+    put_place_after(buffer, b"never ", pid, index);
+    put_bytes(buffer, b" ");
+    put_never_words(buffer, pid, never);
+}
+
+/// Appends the words of a process that isn't listed.
+fn put_unlisted(buffer: &mut Buffer, pid: Pid)
+    requires { HasRoom words_room buffer.old }
+    ensures { Puts words_room (codes "unlisted " ++ spelled.pid pid) buffer.old buffer.new }
+{
+    put_bytes(buffer, b"unlisted ");
+    put_pid(buffer, pid);
+}
+
+impl TextLine for OutputLine {
+    ghost words = { words_of };
+
+    fn put_words(self, buffer: &mut Buffer)
+        requires { HasRoom line_room buffer.old }
+        ensures items { buffer.new.items ≡ buffer.old.items ++ words_of self }
+        ensures len { array_vec_len buffer.new < array_vec_len buffer.old + line_room }
+    {
+        match self {
+            OutputLine::Long => put_bytes(buffer, b"long"),
+            OutputLine::Uncertified => put_bytes(buffer, b"fault certificate"),
+            OutputLine::Added(count) => put_numbered(buffer, b"added ", count),
+            OutputLine::Never(pid, index, never) => put_never(buffer, pid, index, never),
+            OutputLine::Unlisted(pid) => put_unlisted(buffer, pid),
+            OutputLine::NoEvent(pid, index) => put_place_after(buffer, b"no event ", pid, index),
+            OutputLine::Premises => put_bytes(
+                buffer,
+                b"in a run without a reset, if any; (1) if each receive of a token was reported; \
+                    (2) if no process cleared or lost its token, began again and reported an \
+                    earlier label again; on a standard node (2) wherever (1), except behind a \
+                    spawn or a token put back",
+            ),
+            OutputLine::Usage => put_bytes(
+                buffer,
+                b"usage: seqtool check|audit|renumber [FILE], or complete [--as added|streams|acts] \
+                    [FILE], or why PID INDEX [--effects] [FILE]",
+            ),
+            OutputLine::Version => put_bytes(buffer, VERSION.as_bytes()),
+        }
+    }
+}

@@ -1,0 +1,196 @@
+//! The command line: which task the words ask for, and of which file. Nothing here reads the input,
+//! writes or takes memory.
+
+ghost use Rattle.std.specs.Prelude.{◌≡◌, map, option_map};
+ghost use Rattle.seqtool_commands.specs.Words.{begins_with_minus, direction_asked, file_asked};
+ghost use Rattle.seqtool_commands.specs.Words.{file_named, form_asked, form_named, named_form};
+ghost use Rattle.seqtool_commands.specs.Words.{question_asked, request_asked, task_named};
+ghost use Rattle.seqtool_commands.specs.Words.{version_asked, words_behind};
+
+use crate::complete::Form;
+use crate::question::{Direction, Question};
+use node_why::Reach;
+use st_text::{read_number, read_pid};
+use std::convert::AsStr;
+
+/// A command of the program.
+#[derive(Clone, Copy)]
+pub enum Task {
+    /// `check`: is the input's certificate a run that shows its streams?
+    Check,
+    /// `audit`: is there a certificate for the input's streams?
+    Audit,
+    /// `complete`: what do the input's streams lack?
+    Complete(Form),
+    /// `renumber`: the input's streams with small counts.
+    Renumber,
+    /// `why`: what does an event follow, or what follows it?
+    Why(Question),
+}
+
+/// The words behind this one, if they begin with it.
+fn words_behind<'a, S: AsStr>(word: &str, words: &'a [S]) -> Option<&'a [S]>
+    ensures { option_map (λ rest. map S.text rest.now) result
+        ≡ words_behind word.now (map S.text words.now) }
+{
+    match words {
+        [first, rest @ ..] if first.as_str() == word => Some(rest),
+        _ => None,
+    }
+}
+
+/// The form of this name.
+fn form_named(name: &str) -> Option<Form>
+    ensures { result ≡ form_named name.now }
+{
+    if name == "added" {
+        return Some(Form::Added);
+    }
+    if name == "streams" {
+        return Some(Form::Streams);
+    }
+    if name == "acts" {
+        return Some(Form::Acts);
+    }
+    None
+}
+
+/// The form that words behind `--as` begin with, and the words behind it.
+fn named_form<S: AsStr>(words: &[S]) -> Option<(Form, &[S])>
+    ensures { option_map (λ x. (x.0, map S.text x.1.now)) result ≡ named_form (map S.text words.now) }
+{
+    match words {
+        [name, rest @ ..] => match form_named(name.as_str()) {
+            Some(form) => Some((form, rest)),
+            None => None,
+        },
+        [] => None,
+    }
+}
+
+/// The form that words begin with, and the words behind it.
+fn form_asked<S: AsStr>(words: &[S]) -> Option<(Form, &[S])>
+    ensures { option_map (λ x. (x.0, map S.text x.1.now)) result ≡ form_asked (map S.text words.now) }
+{
+    match words_behind("--as", words) {
+        None => Some((Form::Added, words)),
+        Some(rest) => named_form(rest),
+    }
+}
+
+/// The direction that words begin with, and the words behind it.
+fn direction_asked<S: AsStr>(words: &[S]) -> (Direction, &[S])
+    ensures { (result.0, map S.text result.1.now) ≡ direction_asked (map S.text words.now) }
+{
+    match words_behind("--effects", words) {
+        None => (Direction::Back, words),
+        Some(rest) => (Direction::Forth, rest),
+    }
+}
+
+/// The question that words begin with, and the words behind it.
+fn question_asked<S: AsStr>(words: &[S]) -> Option<(Question, &[S])>
+    ensures { option_map (λ x. (x.0, map S.text x.1.now)) result
+        ≡ question_asked (map S.text words.now) }
+{
+    match words {
+        [pid, index, rest @ ..] => {
+            let pid = read_pid(pid.as_str().as_bytes())?;
+            let index = read_number(index.as_str().as_bytes())?;
+            let (direction, rest) = direction_asked(rest);
+            let question = Question {
+                place: (pid, index),
+                direction,
+                reach: Reach::LABEL,
+            };
+            Some((question, rest))
+        }
+        _ => None,
+    }
+}
+
+/// The task of the command of this name, by the words behind it, and the words that are left.
+fn task_named<'a, S: AsStr>(name: &str, words: &'a [S]) -> Option<(Task, &'a [S])>
+    ensures { option_map (λ x. (x.0, map S.text x.1.now)) result
+        ≡ task_named name.now (map S.text words.now) }
+{
+    if name == "check" {
+        return Some((Task::Check, words));
+    }
+    if name == "audit" {
+        return Some((Task::Audit, words));
+    }
+    if name == "renumber" {
+        return Some((Task::Renumber, words));
+    }
+    if name == "complete" {
+        let (form, rest) = form_asked(words)?;
+        return Some((Task::Complete(form), rest));
+    }
+    if name == "why" {
+        let (question, rest) = question_asked(words)?;
+        return Some((Task::Why(question), rest));
+    }
+    None
+}
+
+/// Whether a word begins with a minus.
+fn begins_with_minus(word: &str) -> bool
+    ensures { result ≡ begins_with_minus word.now }
+{
+    match word.as_bytes() {
+        [first, ..] => *first == b'-',
+        [] => false,
+    }
+}
+
+/// The file that this word names; none of standard input.
+fn file_named<'a>(word: &'a str) -> Option<Option<&'a str>>
+    ensures { option_map (λ file. option_map (λ path. path.now) file) result ≡ file_named word.now }
+{
+    if word == "-" {
+        return Some(None);
+    }
+    if begins_with_minus(word) {
+        return None;
+    }
+    Some(Some(word))
+}
+
+/// The file that is the only word left; none of standard input.
+fn file_asked<'a, S: AsStr>(words: &'a [S]) -> Option<Option<&'a str>>
+    ensures { option_map (λ file. option_map (λ path. path.now) file) result
+        ≡ file_asked (map S.text words.now) }
+{
+    match words {
+        [] => Some(None),
+        [word] => file_named(word.as_str()),
+        _ => None,
+    }
+}
+
+/// The task that the words ask for, and the path of the file, if it isn't of standard input. The
+/// first word is the program's name. None, if they ask for no task.
+pub fn read_words<'a, S: AsStr>(words: &'a [S]) -> Option<(Task, Option<&'a str>)>
+    ensures { option_map (λ x. (x.0, option_map (λ path. path.now) x.1)) result
+        ≡ request_asked (map S.text words.now) }
+{
+    match words {
+        [_, name, rest @ ..] => {
+            let (task, left) = task_named(name.as_str(), rest)?;
+            let file = file_asked(left)?;
+            Some((task, file))
+        }
+        _ => None,
+    }
+}
+
+/// Whether the words ask for the version.
+pub fn asks_version<S: AsStr>(words: &[S]) -> bool
+    ensures { result ≡ version_asked (map S.text words.now) }
+{
+    match words {
+        [_, word] => word.as_str() == "--version",
+        _ => false,
+    }
+}

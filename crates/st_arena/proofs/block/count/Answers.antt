@@ -1,0 +1,13 @@
+-- The marks so far and the next one are one live slot each at most, and a slice has no more than fit.
+use Rattle.std.proofs.Common.{◌+◌, ◌≤◌, ◌<◌, length, arith}
+use Rattle.st_arena.proofs.BlockLemmas.{rank-most}
+use Rattle.st_arena.proofs.block.count.Goals as goal
+
+pub overflow_add-live : goal.overflow_add-live
+overflow_add-live c =
+    let most = rank-most c.args.marks.now c.requires c.loop-mark.mark-index in
+    let bit = c.requires c.loop-mark.mark-index in
+    let inside : c.loop-mark.mark-index < length c.args.marks.now = c.loop-mark-test.true in
+    let fits : c.loop-mark.live + c.from-live.result ≤ c.loop-mark.mark-index + 1 =
+    omega (arith, most, bit, c.loop-mark.invariant, c.from-live.ensures) in
+    search (arith, fits, inside)

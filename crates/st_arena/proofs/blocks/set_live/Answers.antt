@@ -1,0 +1,32 @@
+-- The leaf of the slot's block changes as the slot's mark does.
+use Rattle.std.proofs.Common.{◌+◌, ◌/◌, ◌<◌, arith, ap}
+use Rattle.st_arena.specs.Tree.{count_at, wide}
+use Rattle.st_arena.proofs.BlockLemmas.{leaf-room, counted-set}
+use Rattle.st_arena.proofs.blocks.set_live.Goals as goal
+
+pub count_up-requires-clause-room : goal.count_up-requires-clause-room
+count_up-requires-clause-room c =
+    let block = c.args.slot / 64 in
+    let inside : block < wide c.args.height =
+    omega (arith, c.requires.in_range, c.requires.counted.len) in
+    let leaf =
+    leaf-room c.args.marks.now c.args.counts.now c.args.height c.requires.counted block c.args.slot inside (omega arith)
+    (omega arith) c.requires.dead in
+    let at = ap (λ size. count_at c.args.counts.now (size + block)) c.requires.size in
+    omega (arith, leaf, at)
+
+pub returns-clause-counted : goal.returns-clause-counted
+returns-clause-counted c =
+    let block = c.args.slot / 64 in
+    let size = c.requires.size in
+    let inside : block < wide c.args.height =
+    omega (arith, c.requires.in_range, c.requires.counted.len) in
+    let old = c.args.counts.now in
+    let new = c.count_up.new.counts in
+    let new_at = ap (λ n. count_at new (n + block)) size in
+    let old_at = ap (λ n. count_at old (n + block)) size in
+    let changed = c.count_up.ensures.more in
+    counted-set c.args.marks.now old new c.args.height block c.args.slot 0 1 c.requires.counted
+    c.count_up.ensures.tree (omega arith) (omega arith) c.requires.in_range c.requires.dead (omega arith)
+    (omega (arith, changed.more, new_at, old_at))
+    (λ other low apart. rw (← size) (changed.others other (omega (arith, size, low)) apart))

@@ -1,0 +1,15 @@
+-- The climb that counts up.
+use Rattle.std.proofs.Common.{◌≡◌, ◌<◌, length}
+use Rattle.st_arena.specs.Tree.{count_at, IsShort, IsLifted}
+use Rattle.st_arena.proofs.tree.count_up.Given as goal
+
+-- all sums hold but that of the node, which is one too little
+abbrev pub invariant-loop-node : goal.invariant-loop-node
+invariant-loop-node l =
+    IsShort (count_at l.counts) l.fn.height l.node
+    × (length l.counts ≡ length l.fn.counts)
+    × (l.node < length l.counts)
+    × IsLifted (count_at l.fn.counts) (count_at l.counts) l.fn.size l.fn.block l.node
+
+abbrev pub decreases-loop-node : goal.decreases-loop-node
+decreases-loop-node l = l.node

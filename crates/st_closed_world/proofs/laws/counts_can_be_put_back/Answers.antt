@@ -1,6 +1,0 @@
--- The lemma says it.
-use Rattle.st_closed_world.proofs.Ranks.{counts_put_back, ranks_keep_order}
-use Rattle.st_closed_world.proofs.laws.counts_can_be_put_back.Goals as goal
-
-pub returns : goal.returns
-returns c = λ streams. (ranks_keep_order streams, counts_put_back streams)

@@ -1,8 +1,0 @@
--- What is found is a completion, which acts show, or a reason that is final.
-use Rattle.st_complete.proofs.Answered.{answered}
-use Rattle.st_complete.proofs.decision.complete.Goals as goal
-
-pub returns-in-Ok : goal.returns-in-Ok
-returns-in-Ok g c = answered g.row.TOP c.args.streams.now _ c.open_reasons_are_final.ensures
-    c.shown_exactly_where_nothing_is_needed.ensures c.needless_streams_are_shown.ensures
-    c.shown_with_others_only_without_a_reason.ensures c.pids-pids.ensures.streams c.in-Ok.ensures

@@ -1,6 +1,0 @@
--- The last of the events so far that counts no lower is known.
-use Rattle.st_complete.specs.Higher.{LastHigher}
-use Rattle.st_complete.proofs.decision.last_higher.Given as goal
-
-abbrev pub invariant-loop-i : goal.invariant-loop-i
-invariant-loop-i l = LastHigher l.events l.this l.i l.last

@@ -1,9 +1,0 @@
--- The marks change no event.
-use Rattle.std.proofs.Common.{◌∙◌, sym, ap}
-use Rattle.st_plan.specs.Marks.{all_streams}
-use Rattle.st_completion.specs.Completions.{Completed}
-use Rattle.st_completion.proofs.Kept.{all_kept}
-use Rattle.st_completion.proofs.completion.Completion.streams.Goals as goal
-
-pub returns : goal.returns
-returns c = sym (ap (λ (x : Completed). all_streams x.wholes) (sym c.self.view_is) ∙ all_kept _ _)

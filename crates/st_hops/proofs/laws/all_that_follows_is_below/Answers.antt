@@ -1,6 +1,0 @@
--- The lemma says it.
-use Rattle.st_hops.proofs.Children.{all_below}
-use Rattle.st_hops.proofs.laws.all_that_follows_is_below.Goals as goal
-
-pub returns : goal.returns
-returns c = all_below

@@ -1,5 +1,0 @@
-mod PairLemmas
-mod SlotLemmas
-mod Searches
-mod KeyLemmas
-mod IndexLemmas

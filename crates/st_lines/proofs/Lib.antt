@@ -1,3 +1,0 @@
--- The lemmas.
-pub mod Firsts
-pub mod Texts

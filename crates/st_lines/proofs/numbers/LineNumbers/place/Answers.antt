@@ -1,9 +1,0 @@
--- If no process has an event on the line, nobody does.
-use Rattle.st_lines.proofs.Firsts.{none_at_all}
-use Rattle.st_lines.proofs.numbers.LineNumbers.place.Goals as goal
-
-pub returns-clause-missing : goal.returns-clause-missing
-returns-clause-missing c =
-    none_at_all c.args.self.now c.pids-pid-items.result.now c.args.line c.loop-pid.pid-index
-    (rw (← c.self.view_is) c.pids-pid-items.ensures.value) c.loop-pid-test.false
-    c.loop-pid.invariant

@@ -1,6 +1,0 @@
--- No process so far has an event on the line.
-use Rattle.st_lines.proofs.Firsts.{NoneBefore}
-use Rattle.st_lines.proofs.numbers.LineNumbers.place.Given as goal
-
-abbrev pub invariant-loop-pid : goal.invariant-loop-pid
-invariant-loop-pid l = NoneBefore l.self l.line l.pid-index

@@ -1,2 +1,0 @@
--- The lemmas.
-mod Listed

@@ -1,2 +1,0 @@
--- What public contracts cite: which events are listed, where they are and what they pair with.
-pub mod Rows

@@ -1,0 +1,34 @@
+-- The first slot that has the key has the place.
+use Rattle.std.proofs.Common.{ℕ, Option, Some, option_map, take, sym, ap, subst, ◌∙◌}
+use Rattle.std.specs.List.{sum}
+use Rattle.std.specs.Ordering.{nat_cmp}
+use Rattle.st_mail.specs.Index.{is_of_value}
+use Rattle.st_mail.specs.KeyedSlots.{has_key, IsFirst}
+use Rattle.st_mail.proofs.IndexLemmas.{in_ranks, place_first}
+use Rattle.st_mail.proofs.index.Index.find_value.Goals as goal
+
+pub returns-in_err-slot : goal.returns-in_err-slot
+returns-in_err-slot c queue is =
+    let index = c.args.self.now in
+    c.from_residual.ensures
+    ∙ ap (option_map (λ s. sum (take s index.ranks))) (sym c.in_err-slot.was)
+    ∙ place_first index is.slots is.has_slots nat_cmp is_of_value index.values is.has_slots.values c.requires.kept
+    c.args.value queue is.items
+    c.first.result c.first.ensures
+
+pub rank-requires : goal.rank-requires
+rank-requires c =
+    let index = c.args.self.now in
+    let has = c.requires.index.is.has_slots in
+    in_ranks index c.requires.index.is.slots has nat_cmp is_of_value index.values has.values
+    c.requires.kept c.args.value 0 c.in_ok-slot.slot
+    (subst (λ (o : Option ℕ). IsFirst (has_key nat_cmp index.values c.args.value) 0 o) c.in_ok-slot.was c.first.ensures)
+
+pub returns : goal.returns
+returns c queue is =
+    let index = c.args.self.now in
+    ap (λ n. Some n) c.rank.ensures
+    ∙ ap (option_map (λ s. sum (take s index.ranks))) (sym c.in_ok-slot.was)
+    ∙ place_first index is.slots is.has_slots nat_cmp is_of_value index.values is.has_slots.values c.requires.kept
+    c.args.value queue is.items
+    c.first.result c.first.ensures

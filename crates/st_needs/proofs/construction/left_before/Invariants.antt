@@ -1,7 +1,0 @@
--- What the events that were taken leave.
-use Rattle.std.proofs.Common.{◌≡◌, take}
-use Rattle.st_completion.specs.Flaws.{left_by}
-use Rattle.st_needs.proofs.construction.left_before.Given as goal
-
-abbrev pub invariant-loop-i : goal.invariant-loop-i
-invariant-loop-i l = l.left ≡ left_by (take l.i l.fn.events)

@@ -1,8 +1,0 @@
--- All events that were taken are below the count.
-use Rattle.std.proofs.Common.{◌≡◌, ◌+◌, drop}
-use Rattle.st_closed_world.specs.Completion.{place_below}
-use Rattle.st_needs.proofs.construction.place_below.Given as goal
-
-abbrev pub invariant-loop-i : goal.invariant-loop-i
-invariant-loop-i l = l.i + place_below l.fn.count (drop l.i l.fn.events)
-    ≡ place_below l.fn.count l.fn.events

@@ -1,8 +1,0 @@
--- What was added, with the earliest places of the rest, is as before.
-use Rattle.std.proofs.Common.{◌≡◌, ◌++◌, drop}
-use Rattle.st_closed_world.specs.Placed.{earliest}
-use Rattle.st_needs.proofs.earliest.add_first.Given as goal
-
-abbrev pub invariant-loop-next : goal.invariant-loop-next
-invariant-loop-next l = l.marked.items ++ earliest l.events (drop l.next l.hidden)
-    ≡ l.fn.marked.items ++ earliest l.events (drop l.fn.first l.hidden)

@@ -1,9 +1,0 @@
--- The process has the events that were taken, with their ranks.
-use Rattle.std.proofs.Common.{◌≡◌, ◌∷◌, [], ◌++◌, take}
-use Rattle.st_needs.specs.Counts.{ranked_stream}
-use Rattle.st_needs.proofs.ranks.add_renumbered.Given as goal
-
--- behind the processes that stood there before
-abbrev pub invariant-loop-event : goal.invariant-loop-event
-invariant-loop-event l =
-    l.draft ≡ l.fn.draft ++ ranked_stream l.fn.counts l.fn.pid (take l.event-index l.fn.events) ∷ []

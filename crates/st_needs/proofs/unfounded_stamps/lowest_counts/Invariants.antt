@@ -1,9 +1,0 @@
--- The events of the processes that were taken are noted.
-use Rattle.std.proofs.Common.{take, None}
-use Rattle.st_core.specs.Run.{pids_of}
-use Rattle.st_needs.specs.Unfounded.{lowest_from, IsNoted}
-use Rattle.st_needs.proofs.unfounded_stamps.lowest_counts.Given as goal
-
-abbrev pub invariant-loop-pid : goal.invariant-loop-pid
-invariant-loop-pid l = IsNoted (pids_of l.fn.streams)
-    (λ q. lowest_from q None (take l.pid-index l.fn.streams)) l.lows.items

@@ -1,4 +1,0 @@
--- What public contracts cite.
-pub mod Silent
-pub mod OpenReasons
-pub mod SilentWholes

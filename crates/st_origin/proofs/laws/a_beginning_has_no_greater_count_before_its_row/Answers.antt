@@ -1,6 +1,0 @@
--- The lemma says it.
-use Rattle.st_origin.proofs.Truths.{beginning_below_row}
-use Rattle.st_origin.proofs.laws.a_beginning_has_no_greater_count_before_its_row.Goals as goal
-
-pub returns : goal.returns
-returns c = beginning_below_row

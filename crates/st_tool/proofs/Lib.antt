@@ -1,6 +1,0 @@
--- The lemmas.
-pub mod Deliveries
-pub mod Rooms
-pub mod Completions
-pub mod Meanings
-pub mod RenumberMeanings

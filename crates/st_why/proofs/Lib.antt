@@ -1,5 +1,0 @@
--- The lemmas.
-pub mod Answers
-pub mod Deliveries
-pub mod Meanings
-pub mod Pieces

@@ -1,7 +1,0 @@
--- Running out of memory has a line of its own.
-use Rattle.st_commands.specs.Output.{no_memory}
-use Rattle.st_why.specs.Parts.{NoRoom}
-use Rattle.st_why.proofs.why.answer_paired.Goals as goal
-
-pub returns-in-Err : goal.returns-in-Err
-returns-in-Err g c = record { output = no_memory; owed = NoRoom; delivered = c.tell_fault.ensures }

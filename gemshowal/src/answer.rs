@@ -1,0 +1,163 @@
+//! The questions that a program asks of a trace, each with a result of its own type.
+
+use crate::device::Sink;
+use crate::{Act, Completion, Event, Finding, OutOfMemory, Pid, Reason, Text, Trace};
+use std::collections::{BTreeMap, BTreeSet};
+use std::fmt::{self, Display, Formatter};
+use std::io::{self, Write};
+use thiserror::Error;
+
+/// Acts of a run in which each process reports exactly its events.
+///
+/// # Guarantees
+///
+/// The checker has accepted the acts: whatever built them, they are such a run.
+#[derive(Debug)]
+pub struct Fits {
+    finding: Finding,
+}
+
+impl Fits {
+    /// The acts of the run, in their order.
+    pub fn acts(&self) -> &[Act] {
+        match &self.finding {
+            Finding::Fits(acts, _) => acts.as_slice(),
+            Finding::Unfit(..) => &[],
+        }
+    }
+
+    /// For each reported receive the number of its act and that of its send's.
+    pub fn pairs(&self) -> &[(u64, u64)] {
+        match &self.finding {
+            Finding::Fits(_, pairs) => pairs.as_slice(),
+            Finding::Unfit(..) => &[],
+        }
+    }
+
+    /// The same as the libraries return it.
+    pub fn finding(&self) -> &Finding {
+        &self.finding
+    }
+}
+
+/// An event at which the search for a run ended, and why.
+#[derive(Debug)]
+pub struct Unfit {
+    /// The process that reported the event.
+    pub pid: Pid,
+    /// The event's number among those of its process, from 0.
+    pub index: u64,
+    /// Why no run was found. [`Unfit::is_final`] says whether that means that there is none.
+    pub reason: Reason,
+}
+
+impl Unfit {
+    /// Whether no run without a reset reports the trace; else [`complete`] decides that.
+    pub fn is_final(&self) -> bool {
+        match self.reason {
+            Reason::PrevNotBefore
+            | Reason::NotRising(_)
+            | Reason::Repeated(..)
+            | Reason::Mismatch(..) => true,
+            Reason::Uncaused | Reason::TooWide | Reason::NotReplayed(..) => false,
+        }
+    }
+
+    /// The same as the libraries return it.
+    pub fn into_finding(self) -> Finding {
+        Finding::Unfit(self.pid, self.index, self.reason)
+    }
+}
+
+impl Display for Unfit {
+    fn fmt(&self, f: &mut Formatter<'_>) -> fmt::Result {
+        let found =
+            if self.is_final() { "no run without a reset reports" } else { "no run was found of" };
+        write!(f, "{found} event {} of {}: {:?}", self.index, Text(self.pid), self.reason)
+    }
+}
+
+/// Why [`audit`] has no acts.
+#[derive(Debug, Error)]
+pub enum AuditError {
+    /// No run was found.
+    #[error("no run was found that reports the trace")]
+    Unfit(Unfit),
+    /// Memory ran out.
+    #[error(transparent)]
+    Memory(#[from] OutOfMemory),
+}
+
+/// Looks for a run in which each process reports exactly its events.
+///
+/// # Guarantees
+///
+/// The acts of a yes are such a run, in which each reported receive follows its send. A reason that
+/// is final means that no run without a reset reports the trace.
+pub fn audit(trace: &Trace) -> Result<Fits, AuditError> {
+    match trace.audit()? {
+        Finding::Unfit(pid, index, reason) => Err(AuditError::Unfit(Unfit { pid, index, reason })),
+        finding @ Finding::Fits(..) => Ok(Fits { finding }),
+    }
+}
+
+impl Trace {
+    /// The trace with each count replaced by its rank among all counts, and whether that changed
+    /// any. If a run has these counts, one has the trace's own.
+    pub fn renumbered(&self) -> Result<(Trace, bool), OutOfMemory> {
+        let ranked = Trace::of_streams(lack_decide::renumbered(crate::Global, self.streams())?);
+        let is_other = self.processes().any(|(pid, events)| events != ranked.streams().events(pid));
+        Ok((ranked, is_other))
+    }
+
+    /// What the checker says of the acts in the text; none if it has no acts.
+    pub fn check(&self) -> Result<Option<st_check::Verdict>, OutOfMemory> {
+        let Some(acts) = self.acts() else { return Ok(None) };
+        let verdict = st_check::check::<{ crate::TOP }>(crate::Global, self.streams(), acts);
+        verdict.map(Some).map_err(|_| OutOfMemory)
+    }
+
+    /// A part of the trace: of each process the events at these indices, which rise. The part lists
+    /// these processes, and those that the events name.
+    pub fn part(&self, kept: &BTreeMap<Pid, Vec<u64>>) -> Result<Trace, OutOfMemory> {
+        let places = kept.iter().flat_map(|(&pid, indices)| indices.iter().map(move |&i| (pid, i)));
+        let event = |(pid, index): (Pid, u64)| Some((pid, self.streams().event(pid, index)?));
+        let events: Vec<(Pid, Event)> = places.filter_map(event).collect();
+        let mut listed: BTreeSet<Pid> = kept.keys().copied().collect();
+        listed
+            .extend(events.iter().flat_map(|(_, event)| [event.from].into_iter().chain(event.to)));
+        Trace::of_events(listed, &events)
+    }
+
+    /// The trace of these events, by processes that rise and include all that an event names.
+    fn of_events(listed: BTreeSet<Pid>, events: &[(Pid, Event)]) -> Result<Trace, OutOfMemory> {
+        let mut draft = st_core::Draft::new(crate::Global);
+        for pid in listed {
+            draft.open(pid).map_err(|_| OutOfMemory)?;
+        }
+        for &(pid, event) in events {
+            draft.add(pid, event).map_err(|_| OutOfMemory)?;
+        }
+        draft.close().map(Trace::of_streams).map_err(|_| OutOfMemory)
+    }
+
+    /// Writes the streams with acts of a run that reports them.
+    pub fn write_fits(&self, out: &mut impl Write, fits: &Fits) -> io::Result<()> {
+        self.write_finding(out, fits.finding())
+    }
+}
+
+/// The events that a completion adds, by process and index among all its events.
+pub fn added(completion: &Completion) -> impl Iterator<Item = (Pid, u64, &Event)> {
+    completion.streams().pids().iter().flat_map(move |&pid| {
+        let events = completion.streams().events(pid).iter().zip(0..);
+        let is_added = move |index| completion.told(pid, index) == Some(false);
+        let added = events.filter(move |&(_, index)| is_added(index));
+        added.map(move |(event, index)| (pid, index, event))
+    })
+}
+
+/// Writes what a completion adds, as `seqtool complete` does.
+pub fn write_added(out: &mut impl Write, completion: &Completion) -> io::Result<()> {
+    Sink::write(out, |sink| seqtool_commands::send_added(sink, completion))
+}

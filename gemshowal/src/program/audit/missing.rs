@@ -1,0 +1,264 @@
+//! What a trace that fits leaves out, as far as its pairing, what its events follow, and its counts
+//! tell.
+
+use super::counter::Counter;
+use crate::view::{Place, Shown};
+use gemshowal::{Event, Hop, Hops, Kind, OutOfMemory, Paired, Partner, Pid};
+use std::collections::{BTreeSet, HashMap, HashSet};
+
+/// An event that nobody reported.
+#[derive(Clone, Copy, Debug)]
+pub(super) enum Lack {
+    /// One that a completion adds, at this place of it.
+    Added(Place, Known),
+    /// The send of this receive.
+    Hidden(Place),
+    /// The receive of this send, which an event follows.
+    Unreceived(Place, Before),
+}
+
+/// How much is known of an event that a completion adds.
+#[derive(Clone, Copy, Debug, PartialEq, Eq)]
+pub(super) enum Known {
+    /// The send of a receive that was reported: it happened.
+    Certain,
+    /// The receive of a send that was reported.
+    Supposed,
+    /// One end of a message of which nothing was reported.
+    Invented,
+}
+
+/// The event that an unreported receive comes before.
+#[derive(Clone, Copy, Debug)]
+pub(super) enum Before {
+    Event(Place),
+    /// The unreported send of the receive at this place.
+    SendOf(Place),
+}
+
+/// What a trace leaves out.
+#[derive(Debug, Default)]
+pub(super) struct Missing {
+    /// The events that nobody reported.
+    pub(super) lacks: Vec<Lack>,
+    /// The sends without a receive that nothing follows: their messages may still wait.
+    pub(super) waiting: Vec<Place>,
+    /// The reported sends and prints of which it isn't known what they follow.
+    pub(super) open: Vec<Place>,
+    /// What the counts of each process tell.
+    pub(super) counters: Vec<(Pid, Counter)>,
+}
+
+/// Where an event is in the one order of all processes: by the greatest count of its process so
+/// far, sends and prints before receives, then by process.
+type Turn = (u64, bool, Pid, u64);
+
+fn place_of((_, _, pid, index): Turn) -> Place {
+    (pid, index)
+}
+
+/// What is known of all processes, before one after the other is looked at.
+struct Finder<'a> {
+    shown: &'a Shown<'a>,
+    paired: &'a Paired<'a>,
+    hops: Hops<'a>,
+    /// The reported sends without a receive, by receiver and count, with their labels.
+    unreceived: HashMap<(Pid, u64), Vec<(u32, Turn)>>,
+    /// The counts of sends that only their receives tell of, or that nobody knows, by sender.
+    hidden: HashMap<Pid, BTreeSet<u64>>,
+    added: Vec<(Turn, Lack)>,
+    sends: Vec<(Turn, Lack)>,
+    receives: Vec<(bool, Turn, Lack)>,
+    open: Vec<(Turn, Place)>,
+    counters: Vec<(Pid, Counter)>,
+}
+
+impl Missing {
+    /// What the events that are shown leave out, whose streams are paired.
+    pub(super) fn find(shown: &Shown<'_>, paired: &Paired<'_>) -> Result<Missing, OutOfMemory> {
+        let hops = paired.hops()?;
+        let mut finder = Finder {
+            shown,
+            paired,
+            hops,
+            unreceived: HashMap::new(),
+            hidden: HashMap::new(),
+            added: Vec::new(),
+            sends: Vec::new(),
+            receives: Vec::new(),
+            open: Vec::new(),
+            counters: Vec::new(),
+        };
+        for (pid, events) in shown.processes() {
+            finder.note_ends(pid, events);
+        }
+        for (pid, events) in shown.processes() {
+            finder.follow(pid, events);
+        }
+        finder.follow_hidden();
+        Ok(finder.found())
+    }
+
+    pub(super) fn is_nothing(&self) -> bool {
+        self.lacks.is_empty()
+            && self.waiting.is_empty()
+            && self.open.is_empty()
+            && self.counters.iter().all(|(_, counter)| counter.silent == 0 && counter.jumps == 0)
+    }
+}
+
+impl Finder<'_> {
+    /// Notes the events of a process whose other end was not reported.
+    fn note_ends(&mut self, pid: Pid, events: &[Event]) {
+        let mut height = 0;
+        for (event, index) in events.iter().zip(0..) {
+            let this = event.serial.this;
+            height = height.max(this);
+            let place = (pid, index);
+            let partner = gemshowal::partner_at(self.paired.pairing(), pid, index, event.kind);
+            if !self.shown.is_reported(place) {
+                let turn = (height, event.kind == Kind::Receive, pid, index);
+                let known = self.known(event, partner);
+                self.added.push((turn, Lack::Added(place, known)));
+                if known == Known::Invented && event.kind == Kind::Send {
+                    self.hidden.entry(pid).or_default().insert(this);
+                }
+            } else if let (Partner::NoReceive, Some(to)) = (partner, event.to) {
+                let sends = self.unreceived.entry((to, this)).or_default();
+                sends.push((event.label.0, (height, false, pid, index)));
+            } else if let Partner::NoSend = partner {
+                self.hidden.entry(event.from).or_default().insert(this);
+                self.sends.push(((this, false, event.from, 0), Lack::Hidden(place)));
+            }
+        }
+    }
+
+    fn known(&self, event: &Event, partner: Partner) -> Known {
+        let is_reported = partner.place().is_some_and(|place| self.shown.is_reported(place));
+        match event.kind {
+            Kind::Send if is_reported => Known::Certain,
+            _ if is_reported => Known::Supposed,
+            _ => Known::Invented,
+        }
+    }
+
+    /// Finds what the sends and prints of a process follow, and what its counts tell.
+    fn follow(&mut self, pid: Pid, events: &[Event]) {
+        let mut counter = Counter::default();
+        let mut height = 0;
+        let mut newest = None;
+        let nothing = BTreeSet::new();
+        for (event, index) in events.iter().zip(0..) {
+            height = height.max(event.serial.this);
+            if event.kind == Kind::Receive {
+                newest = Some(event.serial.this);
+                counter.receive(event);
+                continue;
+            }
+            let turn = (height, false, pid, index);
+            let send = self.stamp(event, (pid, index), turn, newest);
+            if !self.is_invented_send(event, (pid, index)) {
+                let hidden = self.hidden.get(&pid).unwrap_or(&nothing);
+                counter.stamp(event, send.is_some(), hidden, self.shown.view.names);
+            }
+        }
+        if counter.tells() {
+            self.counters.push((pid, counter));
+        }
+    }
+
+    fn is_invented_send(&self, event: &Event, place: Place) -> bool {
+        let partner = || gemshowal::partner_at(self.paired.pairing(), place.0, place.1, event.kind);
+        event.kind == Kind::Send
+            && !self.shown.is_reported(place)
+            && self.known(event, partner()) == Known::Invented
+    }
+
+    /// Notes of a send or print what it follows, if nobody reported that; returns the send whose
+    /// receive it is.
+    fn stamp(
+        &mut self,
+        event: &Event,
+        place: Place,
+        turn: Turn,
+        newest: Option<u64>,
+    ) -> Option<Place> {
+        if self.hops.hop(place.0, place.1) != Some(Hop::BeginsOrUnreported) {
+            return None;
+        }
+        let prev = event.serial.prev;
+        if newest.is_some_and(|count| is_behind_spawn(prev, count)) {
+            return None;
+        }
+        let send = self.unreceived_send(place.0, prev, event.label.0);
+        match send {
+            Some(send) => {
+                let lack = Lack::Unreceived(send, Before::Event(place));
+                self.receives.push((false, turn, lack));
+            }
+            None if self.shown.is_reported(place) => self.open.push((turn, place)),
+            None => {}
+        }
+        send
+    }
+
+    /// The send with this label to a process, of this count, whose receive nobody reported.
+    fn unreceived_send(&self, to: Pid, count: u64, label: u32) -> Option<Place> {
+        let sends = self.unreceived.get(&(to, count))?;
+        sends.iter().find(|(of, _)| *of == label).map(|&(_, turn)| place_of(turn))
+    }
+
+    /// Finds the messages that sends follow of which only their receives tell. Such a send may have
+    /// been at any time: so a reported receive with its prev explains it, wherever that is.
+    fn follow_hidden(&mut self) {
+        let senders: HashSet<Pid> = self.sends.iter().map(|((_, _, from, _), _)| *from).collect();
+        let mut received = HashMap::new();
+        for &from in &senders {
+            let events = self.shown.streams.events(from).iter();
+            let receives = events.filter(|event| event.kind == Kind::Receive);
+            received.extend(receives.map(|event| ((from, event.serial.this), ())));
+        }
+        for &(turn, lack) in &self.sends {
+            let Lack::Hidden(receive) = lack else { continue };
+            let Some(event) = self.shown.streams.event(receive.0, receive.1) else { continue };
+            let prev = event.serial.prev;
+            if received.contains_key(&(event.from, prev)) {
+                continue;
+            }
+            if let Some(send) = self.unreceived_send(event.from, prev, event.label.0) {
+                self.receives.push((true, turn, Lack::Unreceived(send, Before::SendOf(receive))));
+            }
+        }
+    }
+
+    /// All that was found, in the order of all events.
+    fn found(mut self) -> Missing {
+        self.added.sort_unstable_by_key(|(turn, _)| *turn);
+        self.sends.sort_by_key(|(turn, _)| *turn);
+        self.receives.sort_by_key(|(is_of_hidden, turn, _)| (*is_of_hidden, *turn));
+        self.open.sort_unstable();
+        let mut followed = HashSet::new();
+        let mut lacks: Vec<Lack> =
+            self.added.into_iter().chain(self.sends).map(|(_, lack)| lack).collect();
+        for (_, _, lack) in self.receives {
+            if let Lack::Unreceived(send, _) = lack {
+                if followed.insert(send) {
+                    lacks.push(lack);
+                }
+            }
+        }
+        let mut waiting: Vec<Turn> =
+            self.unreceived.into_values().flatten().map(|(_, turn)| turn).collect();
+        waiting.sort_unstable();
+        let waiting = waiting.into_iter().map(place_of).filter(|send| !followed.contains(send));
+        let waiting = waiting.collect();
+        let open = self.open.into_iter().map(|(_, place)| place).collect();
+        Missing { lacks, waiting, open, counters: self.counters }
+    }
+}
+
+/// Whether a prev is the one behind the answer of a spawn with this count: OTP moves the counters of
+/// the process that asked for it to 16 times the count, and 15.
+pub(super) fn is_behind_spawn(prev: u64, count: u64) -> bool {
+    count.checked_mul(16).and_then(|count| count.checked_add(15)) == Some(prev)
+}

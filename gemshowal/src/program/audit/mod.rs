@@ -1,0 +1,216 @@
+//! The command `audit`: whether the events of a trace fit together, and what is missing.
+
+mod counter;
+mod each;
+mod missing;
+mod outcome;
+mod proved;
+mod region;
+mod report;
+mod resets;
+mod sentences;
+
+pub(crate) use outcome::{Outcome, Said};
+pub(crate) use region::open as open_ends;
+
+use crate::args::Audit;
+use crate::input::Input;
+use crate::output::{Notes, Output};
+use crate::times::summary;
+use crate::view::{Kept, Place, View};
+use crate::{Failure, Status};
+use gemshowal::{OutOfMemory, Trace};
+use missing::Missing;
+use sentences::{write_losses, Sentences};
+use std::fs::File;
+use std::io::{BufWriter, Write};
+use std::path::Path;
+
+/// Of more parts than these nobody is told: a counter that goes back again and again is hardly one
+/// that was reset so often.
+const PARTS: usize = 100;
+
+/// What isn't proved of an answer.
+const NOT_PROVED: &str =
+    "This answer is not proved: gemshowal is a plain build of proved sources, \
+     and its words are only tested; --proved asks the proved programs.";
+
+pub(crate) fn run(
+    args: &Audit,
+    json: bool,
+    input: &mut Input,
+    out: &mut Output,
+    notes: &mut Notes,
+) -> Result<Status, Failure> {
+    let trace = input.trace()?;
+    let names = input.names(&trace, notes)?;
+    let whole = View::whole(&trace, &names);
+    let kept = region::kept(&args.region, &whole, input.line_name())?;
+    let Some(kept) = kept else {
+        return Auditor { args, json, cut: None, view: &whole, input, word: input.word() }.run(out);
+    };
+    let part = trace.part(&kept)?;
+    let view = whole.part(&part, &kept, true);
+    let cut = region::note(&whole, &kept)?;
+    Auditor { args, json, cut: Some(cut), view: &view, input, word: input.word() }.run(out)
+}
+
+/// A trace that is audited, and what is asked of it.
+struct Auditor<'a> {
+    args: &'a Audit,
+    json: bool,
+    /// What a cut left.
+    cut: Option<String>,
+    view: &'a View<'a>,
+    input: &'a Input,
+    /// What a command line calls the trace.
+    word: String,
+}
+
+/// All that is found of a trace.
+struct Audited<'a> {
+    outcome: &'a Outcome,
+    missing: Missing,
+    /// The events that are copies of others, if a run has the trace without them.
+    copies: Vec<(Place, Place)>,
+    /// The parts between which resets may have been.
+    parts: Vec<Part>,
+}
+
+/// A part of a trace between two resets.
+struct Part {
+    kept: Kept,
+    trace: Trace,
+    outcome: Outcome,
+}
+
+impl Auditor<'_> {
+    fn run(&self, out: &mut Output) -> Result<Status, Failure> {
+        if self.args.each_label {
+            return each::run(self, out);
+        }
+        let outcome = Outcome::of(self.view.trace)?;
+        if let Some(path) = &self.args.acts {
+            self.write_acts(&outcome, path)?;
+        }
+        let proved =
+            if self.args.proved { Some(proved::ask(self.view.trace, &outcome)?) } else { None };
+        let audited = self.audited(&outcome)?;
+        if self.json {
+            report::write(self, &audited, proved.as_ref(), out)?;
+        } else {
+            self.write(&audited, proved.as_ref(), out)?;
+        }
+        Ok(match &proved {
+            Some(proved) if !proved.agrees() => Status::Differs,
+            _ if outcome.is_fit() && self.view.trace.streams().total() > 0 => Status::Yes,
+            _ => Status::No,
+        })
+    }
+
+    /// All that is found of the trace: of one that doesn't fit whether copies or resets explain it.
+    fn audited<'a>(&self, outcome: &'a Outcome) -> Result<Audited<'a>, OutOfMemory> {
+        let shown = outcome.shown(self.view);
+        let missing = outcome.missing(&shown)?;
+        let mut audited = Audited { outcome, missing, copies: Vec::new(), parts: Vec::new() };
+        if let Said::Never(against) = &outcome.said {
+            audited.copies = self.copies()?;
+            if audited.copies.is_empty() && against.allows_reset() {
+                audited.parts = self.parts()?;
+            }
+        }
+        Ok(audited)
+    }
+
+    /// The events without which a run has the trace, as they are copies of others.
+    fn copies(&self) -> Result<Vec<(Place, Place)>, OutOfMemory> {
+        let copies = outcome::copies(self.view);
+        if copies.is_empty() {
+            return Ok(copies);
+        }
+        let is_copy = |place| copies.binary_search_by_key(&place, |(copy, _)| *copy).is_ok();
+        let kept = self.view.kept(|pid, index, _| !is_copy((pid, index)));
+        let is_fit = Outcome::of(&self.view.trace.part(&kept)?)?.is_fit();
+        Ok(if is_fit { copies } else { Vec::new() })
+    }
+
+    /// The parts between which resets may have been; none if there is one alone, or very many.
+    fn parts(&self) -> Result<Vec<Part>, OutOfMemory> {
+        let split = resets::split(self.view.trace, PARTS).unwrap_or_default();
+        if split.len() < 2 {
+            return Ok(Vec::new());
+        }
+        let part = |part: resets::Part| {
+            let own = |(pid, (first, end))| (pid, (first as u64..end as u64).collect());
+            let kept: Kept = part.into_iter().map(own).collect();
+            let trace = self.view.trace.part(&kept)?;
+            let outcome = Outcome::of(&trace)?;
+            Ok(Part { kept, trace, outcome })
+        };
+        split.into_iter().map(part).collect()
+    }
+
+    /// Writes acts of a run that has the trace to a file.
+    fn write_acts(&self, outcome: &Outcome, path: &Path) -> Result<(), Failure> {
+        let unkept = |reason| Failure::Unkept(path.display().to_string(), reason);
+        let trace = outcome.ranked.as_ref().unwrap_or(self.view.trace);
+        let mut file = match outcome.said {
+            Said::Never(_) => return Ok(()),
+            _ => BufWriter::new(File::create(path).map_err(unkept)?),
+        };
+        match &outcome.said {
+            Said::Fits(fits) => trace.write_fits(&mut file, fits).map_err(unkept)?,
+            Said::Completed(completion) => {
+                let name = self.input.line_name();
+                self.view.trace.write_acts(&mut file, completion).map_err(|error| match error {
+                    gemshowal::CertificateError::Io(reason) => unkept(reason),
+                    error => Failure::of_acts(error, name),
+                })?;
+            }
+            Said::Never(_) => {}
+        }
+        file.flush().map_err(unkept)
+    }
+
+    /// Writes what was found, in sentences.
+    fn write(
+        &self,
+        audited: &Audited<'_>,
+        proved: Option<&proved::Proved>,
+        out: &mut Output,
+    ) -> Result<(), Failure> {
+        let shown = audited.outcome.shown(self.view);
+        let sentences = self.sentences(audited.outcome, &shown, &audited.missing);
+        if let Some(cut) = &self.cut {
+            writeln!(out, "cut: {cut}")?;
+        }
+        if audited.copies.is_empty() {
+            writeln!(out, "{}", sentences.headline())?;
+            sentences.write_details(out)?;
+        } else {
+            report::write_copies(&shown, audited, out)?;
+        }
+        if !audited.parts.is_empty() {
+            report::write_parts(self, &audited.parts, out)?;
+        }
+        write_losses(self.view.names.losses(), out)?;
+        if let (Some(times), None) = (self.view.names.times(), &self.cut) {
+            writeln!(out, "{}", summary(self.view.trace, times))?;
+        }
+        match proved {
+            None => writeln!(out, "{NOT_PROVED}")?,
+            Some(proved) => writeln!(out, "{proved}")?,
+        }
+        Ok(())
+    }
+
+    fn sentences<'a>(
+        &'a self,
+        outcome: &'a Outcome,
+        shown: &'a crate::view::Shown<'a>,
+        missing: &'a Missing,
+    ) -> Sentences<'a> {
+        let is_lossy = !self.view.names.losses().is_empty();
+        Sentences { outcome, shown, missing, is_lossy, name: &self.word }
+    }
+}

@@ -1,0 +1,117 @@
+//! Whether a run has a trace, as the proved libraries find it.
+
+use super::missing::Missing;
+use crate::reason::Against;
+use crate::view::{Place, Shown, View};
+use gemshowal::{Answer, AuditError, Completion, Event, Fits, OutOfMemory, Paired, Trace};
+use std::collections::HashMap;
+
+/// What is found of a trace.
+pub(crate) struct Outcome {
+    pub(crate) said: Said,
+    /// The trace with the ranks of its counts, if acts were found for these alone.
+    pub(crate) ranked: Option<Trace>,
+}
+
+/// Whether a run has the trace.
+pub(crate) enum Said {
+    /// These acts are one.
+    Fits(Fits),
+    /// One has it, with events that nobody reported.
+    Completed(Completion),
+    /// None has it without a reset.
+    Never(Against),
+}
+
+impl Outcome {
+    /// Looks for a run. Counts that begin high are replaced by their ranks, and what needs events
+    /// that nobody reported is completed.
+    pub(crate) fn of(trace: &Trace) -> Result<Outcome, OutOfMemory> {
+        match gemshowal::audit(trace) {
+            Ok(fits) => return Ok(Outcome { said: Said::Fits(fits), ranked: None }),
+            Err(AuditError::Memory(error)) => return Err(error),
+            Err(AuditError::Unfit(unfit)) => {
+                if let Some(against) = Against::by_audit(unfit.pid, unfit.index, &unfit.reason) {
+                    return Ok(Outcome { said: Said::Never(against), ranked: None });
+                }
+            }
+        }
+        let (ranked, is_other) = trace.renumbered()?;
+        if is_other {
+            match gemshowal::audit(&ranked) {
+                Ok(fits) => return Ok(Outcome { said: Said::Fits(fits), ranked: Some(ranked) }),
+                Err(AuditError::Memory(error)) => return Err(error),
+                Err(AuditError::Unfit(_)) => {}
+            }
+        }
+        let said = match trace.complete()? {
+            Answer::Whole(completion) => Said::Completed(completion),
+            Answer::Never(pid, index, never) => {
+                Said::Never(Against::by_complete(pid, index, never))
+            }
+        };
+        Ok(Outcome { said, ranked: None })
+    }
+
+    pub(crate) fn is_fit(&self) -> bool {
+        !matches!(self.said, Said::Never(_))
+    }
+
+    /// The word for it in JSON.
+    pub(crate) fn word(&self) -> &'static str {
+        match self.said {
+            Said::Fits(_) => "fits",
+            Said::Completed(_) => "completed",
+            Said::Never(_) => "never",
+        }
+    }
+
+    /// The events that are shown of it: those of the trace, or of its completion.
+    pub(crate) fn shown<'a>(&'a self, view: &'a View<'a>) -> Shown<'a> {
+        match &self.said {
+            Said::Completed(completion) => Shown::completed(view, completion),
+            Said::Fits(_) | Said::Never(_) => Shown::reported(view),
+        }
+    }
+
+    /// What the trace leaves out; nothing of one that doesn't fit.
+    pub(super) fn missing(&self, shown: &Shown<'_>) -> Result<Missing, OutOfMemory> {
+        if !self.is_fit() {
+            return Ok(Missing::default());
+        }
+        match Paired::of(shown.streams)? {
+            Ok(paired) => Missing::find(shown, &paired),
+            Err(_) => Ok(Missing::default()),
+        }
+    }
+}
+
+/// The events that are copies of an earlier one of their process, each with that one; unless the
+/// node gave the two different times.
+pub(crate) fn copies(view: &View<'_>) -> Vec<(Place, Place)> {
+    let mut found = Vec::new();
+    for (pid, events) in view.trace.processes() {
+        let mut seen = HashMap::new();
+        for (event, index) in events.iter().zip(0..) {
+            let first = *seen.entry(key(event)).or_insert(index);
+            if first != index {
+                found.push(((pid, index), (pid, first)));
+            }
+        }
+    }
+    if found.iter().any(|&(copy, of)| are_told_apart(view, copy, of)) {
+        found.clear();
+    }
+    found
+}
+
+/// All that an event says.
+fn key(event: &Event) -> impl std::hash::Hash + Eq {
+    let (prev, this) = (event.serial.prev, event.serial.this);
+    (event.kind as u8, event.label.0, prev, this, event.from, event.to, event.value)
+}
+
+fn are_told_apart(view: &View<'_>, (pid, copy): Place, (_, of): Place) -> bool {
+    let time = |index| view.names.times()?.of_event((pid, view.number(pid, index)));
+    time(copy).zip(time(of)).is_some_and(|(copy, of)| copy != of)
+}

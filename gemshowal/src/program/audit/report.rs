@@ -1,0 +1,326 @@
+//! What `audit` writes of a trace as a whole: its parts, its copies, and the object for programs.
+
+use super::missing::{Known, Lack};
+use super::proved::Proved;
+use super::sentences::Sentences;
+use super::{Audited, Auditor, Said};
+use crate::object::{Number, Place as PlaceObject};
+use crate::output::Output;
+use crate::reason::Refused;
+use crate::view::{grouped, Kept, Place, Shown, View};
+use crate::Failure;
+use gemshowal::{OutOfMemory, Pid};
+use serde::Serialize;
+use std::collections::BTreeMap;
+use std::io::{self, Write};
+
+/// So many processes are named.
+const LISTED: usize = 20;
+
+/// Writes that events are copies of others.
+pub(super) fn write_copies(
+    shown: &Shown<'_>,
+    audited: &Audited<'_>,
+    out: &mut Output,
+) -> io::Result<()> {
+    let Some(&(copy, first)) = audited.copies.first() else { return Ok(()) };
+    writeln!(out, "{}", copies_headline(shown, audited))?;
+    for place in [copy, first] {
+        if let Some(event) = shown.streams.event(place.0, place.1) {
+            writeln!(out, "  {}: {}", shown.event(place), shown.sentence(&event))?;
+        }
+    }
+    let meaning = match audited.copies.len() {
+        1 => "nothing tells the two events apart, and with one of them alone the trace fits.",
+        _ => {
+            "nothing tells the copies from the events that they are copies of, and without them \
+             the trace fits."
+        }
+    };
+    writeln!(out, "What it means: {meaning}")?;
+    writeln!(
+        out,
+        "What to look at: events that were collected twice, by a second tracer or by files of the \
+         same run; a line that came into the file twice; two runs that did just the same, in one \
+         trace."
+    )
+}
+
+fn copies_headline(shown: &Shown<'_>, audited: &Audited<'_>) -> String {
+    let word = match &audited.outcome.said {
+        Said::Never(against) => against.word(),
+        _ => "",
+    };
+    match audited.copies[..] {
+        [(copy, first)] => format!(
+            "doesn't fit: the same event is in the trace twice, as {} and {} ({word})",
+            shown.event(first),
+            shown.event(copy)
+        ),
+        [(copy, first), ..] => format!(
+            "doesn't fit: {} events are copies of others in the trace, as {} of {} ({word})",
+            grouped(audited.copies.len() as u64),
+            shown.event(copy),
+            shown.event(first)
+        ),
+        [] => String::new(),
+    }
+}
+
+/// Writes where resets may have been, and what is found of each part.
+pub(super) fn write_parts(
+    auditor: &Auditor<'_>,
+    parts: &[super::Part],
+    out: &mut Output,
+) -> Result<(), Failure> {
+    let found = parts.iter().map(|part| found(auditor, part)).collect::<Result<Vec<_>, _>>()?;
+    write!(out, "{}", where_resets(auditor.view, parts, &found))?;
+    for (part, number) in found.iter().zip(1..) {
+        writeln!(out, "part {number}: {}", part.headline)?;
+    }
+    Ok(())
+}
+
+/// What is found of a part between resets.
+fn found(auditor: &Auditor<'_>, part: &super::Part) -> Result<Part, OutOfMemory> {
+    let view = auditor.view.part(&part.trace, &part.kept, auditor.view.is_cut);
+    let shown = part.outcome.shown(&view);
+    let missing = part.outcome.missing(&shown)?;
+    Ok(Part::new(&auditor.sentences(&part.outcome, &shown, &missing), None))
+}
+
+/// Where the resets between the parts are, and whether they would explain the trace.
+fn where_resets(view: &View<'_>, parts: &[super::Part], found: &[Part]) -> String {
+    let kept: Vec<&Kept> = parts.iter().map(|part| &part.kept).collect();
+    let places: Vec<String> =
+        (1..kept.len()).map(|at| reset_at(view, &kept[..at], &kept[at..])).collect();
+    let numbered = || {
+        let lines = places.iter().zip(1..);
+        lines.map(|(place, at): (&String, u64)| format!("  {at}. {place}\n")).collect::<String>()
+    };
+    let lacking = match found.iter().any(Part::lacks) {
+        true => ", if what the parts lack wasn't reported",
+        false => "",
+    };
+    match (&places[..], parts.iter().all(|part| part.outcome.is_fit())) {
+        ([place], true) => {
+            format!("A reset would explain it, as two runs in one trace would{lacking}: {place}.\n")
+        }
+        ([place], false) => format!(
+            "Cut {place}, as a reset there would, not all parts fit. A reset elsewhere may still \
+             explain it:\n"
+        ),
+        (_, true) => format!(
+            "Resets would explain it, as several runs in one trace would{lacking}:\n{}",
+            numbered()
+        ),
+        (_, false) => format!(
+            "Cut at these places, as resets there would, not all parts fit. Resets elsewhere may \
+             still explain it:\n{}",
+            numbered()
+        ),
+    }
+}
+
+/// Where a reset is, by the last event of each process before it and the first one behind it. If no
+/// process has events on both sides, each side is told by its processes.
+fn reset_at(view: &View<'_>, before: &[&Kept], behind: &[&Kept]) -> String {
+    let pids: Vec<Pid> = view.trace.streams().pids().to_vec();
+    let last = |pid: &Pid| before.iter().rev().find_map(|kept| kept.get(pid)?.last().copied());
+    let first = |pid: &Pid| behind.iter().find_map(|kept| kept.get(pid)?.first().copied());
+    let shown = Shown::reported(view);
+    let between: Vec<String> = pids
+        .iter()
+        .filter_map(|pid| Some((*pid, last(pid)?, first(pid)?)))
+        .map(|(pid, last, first)| {
+            format!("between {} and {}", shown.event((pid, last)), shown.event((pid, first)))
+        })
+        .collect();
+    if !between.is_empty() {
+        return few(&between);
+    }
+    let named = |is_in: &dyn Fn(&Pid) -> bool| {
+        let names =
+            pids.iter().filter(|pid| is_in(pid)).map(|pid| shown.process(*pid).into_owned());
+        few(&names.collect::<Vec<_>>())
+    };
+    format!(
+        "behind all events of {}, and before all of {}",
+        named(&|pid| last(pid).is_some()),
+        named(&|pid| first(pid).is_some())
+    )
+}
+
+fn few(said: &[String]) -> String {
+    let shown = said.iter().take(LISTED).cloned().collect::<Vec<_>>().join(", ");
+    match said.len().saturating_sub(LISTED) as u64 {
+        0 => shown,
+        more => format!("{shown}, and so of {} more processes", grouped(more)),
+    }
+}
+
+/// What is found of a trace, or of a part of one, for programs.
+#[derive(Serialize)]
+pub(super) struct Part {
+    #[serde(skip_serializing_if = "Option::is_none")]
+    label: Option<String>,
+    fits: bool,
+    said: &'static str,
+    headline: String,
+    events: Number,
+    processes: usize,
+    renumbered: bool,
+    #[serde(flatten)]
+    missing: Option<MissingObject>,
+    #[serde(flatten)]
+    refused: Option<Refused>,
+}
+
+/// What a trace leaves out.
+#[derive(Serialize)]
+struct MissingObject {
+    unreported: Vec<Unreported>,
+    waiting: Vec<PlaceObject>,
+    cause_unknown: Vec<PlaceObject>,
+    silent_counts: BTreeMap<String, Number>,
+    jumps: BTreeMap<String, Number>,
+    counter_before: BTreeMap<String, Number>,
+    spawns: BTreeMap<String, Number>,
+}
+
+/// An event that nobody reported.
+#[derive(Serialize)]
+struct Unreported {
+    what: String,
+    /// Whether its message was reported at its other end as received.
+    certain: bool,
+    #[serde(skip_serializing_if = "Option::is_none")]
+    received_as: Option<PlaceObject>,
+    #[serde(skip_serializing_if = "Option::is_none")]
+    sent_as: Option<PlaceObject>,
+    #[serde(skip_serializing_if = "Option::is_none")]
+    before: Option<String>,
+}
+
+impl Part {
+    pub(super) fn new(sentences: &Sentences<'_>, label: Option<String>) -> Part {
+        let (outcome, shown) = (sentences.outcome, sentences.shown);
+        let streams = shown.view.trace.streams();
+        let (missing, refused) = match &outcome.said {
+            Said::Never(against) => (None, Some(against.object(shown))),
+            _ => (Some(MissingObject::new(sentences)), None),
+        };
+        Part {
+            label,
+            fits: outcome.is_fit() && streams.total() > 0,
+            said: if streams.total() == 0 { "empty" } else { outcome.word() },
+            headline: sentences.headline(),
+            events: Number(streams.total()),
+            processes: streams.pids().len(),
+            renumbered: outcome.ranked.is_some(),
+            missing,
+            refused,
+        }
+    }
+
+    pub(super) fn headline(&self) -> &str {
+        &self.headline
+    }
+
+    /// Whether it lacks an event, or a message waits.
+    fn lacks(&self) -> bool {
+        let lacks =
+            |missing: &MissingObject| !missing.unreported.is_empty() || !missing.waiting.is_empty();
+        self.missing.as_ref().is_some_and(lacks)
+    }
+}
+
+impl MissingObject {
+    fn new(sentences: &Sentences<'_>) -> MissingObject {
+        let (shown, missing) = (sentences.shown, sentences.missing);
+        let places = |places: &[Place]| places.iter().map(|&it| place(shown, it)).collect();
+        let counts = |counts: Vec<(Pid, u64)>| {
+            let named = |(pid, number)| (shown.process(pid).into_owned(), Number(number));
+            counts.into_iter().map(named).collect()
+        };
+        MissingObject {
+            unreported: missing.lacks.iter().map(|it| Unreported::new(sentences, it)).collect(),
+            waiting: places(&missing.waiting),
+            cause_unknown: places(&missing.open),
+            silent_counts: counts(sentences.counted(|it| it.silent)),
+            jumps: counts(sentences.counted(|it| it.jumps)),
+            counter_before: counts(sentences.counted(|it| it.before)),
+            spawns: counts(sentences.counted(|it| it.spawns)),
+        }
+    }
+}
+
+fn place(shown: &Shown<'_>, at: Place) -> PlaceObject {
+    PlaceObject { event: shown.event(at), ..PlaceObject::new(shown.view.names, at) }
+}
+
+impl Unreported {
+    fn new(sentences: &Sentences<'_>, lack: &Lack) -> Unreported {
+        let shown = sentences.shown;
+        let what = sentences.lack(lack);
+        let (certain, received_as, sent_as, before) = match *lack {
+            Lack::Added(_, known) => (known == Known::Certain, None, None, None),
+            Lack::Hidden(receive) => (true, Some(place(shown, receive)), None, None),
+            Lack::Unreceived(send, before) => {
+                (false, None, Some(place(shown, send)), Some(sentences.before(before)))
+            }
+        };
+        Unreported { what, certain, received_as, sent_as, before }
+    }
+}
+
+/// The object of a trace.
+#[derive(Serialize)]
+struct Whole<'a> {
+    #[serde(flatten)]
+    whole: Part,
+    #[serde(skip_serializing_if = "Option::is_none")]
+    cut: Option<&'a str>,
+    #[serde(skip_serializing_if = "Vec::is_empty")]
+    copies: Vec<Copy>,
+    #[serde(skip_serializing_if = "Vec::is_empty")]
+    parts: Vec<Part>,
+    losses: &'a [String],
+    /// What the proved programs say: `not asked`, `confirmed` or `differs`.
+    proved: &'static str,
+}
+
+/// An event that is a copy of another.
+#[derive(Serialize)]
+struct Copy {
+    copy: String,
+    of: String,
+}
+
+/// Writes the object of a trace.
+pub(super) fn write(
+    auditor: &Auditor<'_>,
+    audited: &Audited<'_>,
+    proved: Option<&Proved>,
+    out: &mut Output,
+) -> Result<(), Failure> {
+    let shown = audited.outcome.shown(auditor.view);
+    let mut whole = Part::new(&auditor.sentences(audited.outcome, &shown, &audited.missing), None);
+    if !audited.copies.is_empty() {
+        whole.headline = copies_headline(&shown, audited);
+    }
+    let copies = audited.copies.iter();
+    let copies =
+        copies.map(|&(copy, of)| Copy { copy: shown.event(copy), of: shown.event(of) }).collect();
+    let parts = audited.parts.iter().map(|part| found(auditor, part)).collect::<Result<_, _>>()?;
+    let result = whole.said;
+    let object = Whole {
+        whole,
+        cut: auditor.cut.as_deref(),
+        copies,
+        parts,
+        losses: auditor.view.names.losses(),
+        proved: proved.map_or("not asked", Proved::word),
+    };
+    out.report(result, &object)
+}

@@ -1,0 +1,246 @@
+//! Where resets may be in a trace that no run without one has.
+//!
+//! A reset sets the counters of all processes back and takes the tokens off the messages that are
+//! under way. So each part between two resets is a beginning of what is left of each process's
+//! events: in it each process's counts rise, and a message that both ends report is received in the
+//! part in which it was sent. The longest such beginnings are taken, one part after the other.
+
+use gemshowal::{Event, Kind, Pid, Trace};
+use std::collections::{HashMap, HashSet};
+
+/// From so many parts on it is judged how many there would be.
+const ENOUGH: usize = 8;
+
+/// All that a send and its receive have in common.
+type Message = (Pid, Option<Pid>, u64, u64, u32, u64);
+
+fn message(event: &Event) -> Message {
+    let (prev, this) = (event.serial.prev, event.serial.this);
+    (event.from, event.to, prev, this, event.label.0, event.value)
+}
+
+/// Of each process the indices from which on its events are in the part, and up to which.
+pub(super) type Part = HashMap<Pid, (usize, usize)>;
+
+/// The parts, one after the other; one alone if nothing says that a reset is between. None if there
+/// would be more than so many.
+pub(super) fn split(trace: &Trace, most: usize) -> Option<Vec<Part>> {
+    let mut parts = Vec::new();
+    let mut begins: HashMap<Pid, usize> = trace.processes().map(|(pid, _)| (pid, 0)).collect();
+    loop {
+        let ends = take(trace, &begins);
+        let taken: usize = begins.iter().map(|(pid, begin)| ends[pid] - begin).sum();
+        let left: usize = trace.processes().map(|(pid, events)| events.len() - ends[&pid]).sum();
+        let is_last = taken == 0 || left == 0;
+        let end = |(pid, events): (Pid, &[Event])| {
+            (pid, (begins[&pid], if taken == 0 { events.len() } else { ends[&pid] }))
+        };
+        parts.push(trace.processes().map(end).collect());
+        if is_last {
+            return Some(parts);
+        }
+        // If the parts go on like these, there would be far too many: each takes a pass over the rest.
+        let total = trace.streams().total() as usize;
+        let would_be = total * parts.len() / (total - left).max(1);
+        if parts.len() == most || parts.len() >= ENOUGH && would_be > 2 * most {
+            return None;
+        }
+        begins = ends;
+    }
+}
+
+/// How far each process's events go in the first part of what is left.
+fn take(trace: &Trace, begins: &HashMap<Pid, usize>) -> HashMap<Pid, usize> {
+    let mut run = Run::new(trace, begins);
+    let mut going: Vec<Pid> = trace.streams().pids().iter().rev().copied().collect();
+    while let Some(pid) = going.pop() {
+        run.go_on(pid, &mut going);
+    }
+    let longest = run.ends;
+    Keeper::new(trace, begins, &longest).kept()
+}
+
+/// What came of a process's next event.
+enum Next {
+    Taken,
+    Ends,
+    Waits,
+}
+
+/// Processes that go on side by side as far as they can.
+struct Run<'a> {
+    trace: &'a Trace,
+    ends: HashMap<Pid, usize>,
+    clocks: HashMap<Pid, u64>,
+    /// The sends and prints that were taken, by process and count.
+    stamps: HashMap<(Pid, u64), Event>,
+    received: HashSet<(Pid, u64)>,
+    /// How many such sends are left.
+    sends: HashMap<Message, u64>,
+    waiting: HashMap<Message, Vec<Pid>>,
+}
+
+impl<'a> Run<'a> {
+    fn new(trace: &'a Trace, begins: &HashMap<Pid, usize>) -> Run<'a> {
+        let mut sends = HashMap::new();
+        for (pid, events) in trace.processes() {
+            let left = events.iter().skip(begins[&pid]);
+            for event in left.filter(|event| event.kind == Kind::Send) {
+                *sends.entry(message(event)).or_default() += 1;
+            }
+        }
+        Run {
+            trace,
+            ends: begins.clone(),
+            clocks: HashMap::new(),
+            stamps: HashMap::new(),
+            received: HashSet::new(),
+            sends,
+            waiting: HashMap::new(),
+        }
+    }
+
+    /// Takes the next event of a process, if it can be, and lets go on whoever waited for it.
+    fn go_on(&mut self, pid: Pid, going: &mut Vec<Pid>) {
+        let end = self.ends[&pid];
+        let Some(event) = self.trace.streams().events(pid).get(end) else { return };
+        match self.next(pid, event) {
+            Next::Ends => return,
+            Next::Waits => return self.waiting.entry(message(event)).or_default().push(pid),
+            Next::Taken => {}
+        }
+        self.ends.insert(pid, end + 1);
+        let this = event.serial.this;
+        let clock = self.clocks.entry(pid).or_default();
+        *clock = (*clock).max(this);
+        going.push(pid);
+        if event.kind == Kind::Receive {
+            self.received.insert((event.from, this));
+            return;
+        }
+        self.stamps.insert((pid, this), *event);
+        if event.kind == Kind::Send {
+            *self.sends.entry(message(event)).or_default() -= 1;
+            going.extend(self.waiting.remove(&message(event)).into_iter().flatten());
+        }
+    }
+
+    fn next(&self, pid: Pid, event: &Event) -> Next {
+        let this = event.serial.this;
+        if event.kind != Kind::Receive {
+            let is_late = this <= self.clocks.get(&pid).copied().unwrap_or(0);
+            let is_known = self.received.contains(&(pid, this));
+            return if is_late || is_known { Next::Ends } else { Next::Taken };
+        }
+        match self.stamps.get(&(event.from, this)) {
+            _ if self.received.contains(&(event.from, this)) => Next::Ends,
+            Some(stamp) if stamp.kind == Kind::Send && message(stamp) == message(event) => {
+                Next::Taken
+            }
+            Some(_) => Next::Ends,
+            None if self.sends.get(&message(event)).is_some_and(|left| *left > 0) => Next::Waits,
+            None => Next::Taken,
+        }
+    }
+}
+
+/// How many events of each process stay in a part. What a process does next may follow a receive
+/// that was taken last; a reset makes a process forget what it received, so that receive belongs to
+/// the next part, with all behind it, the send of each such receive, and the receive of each such
+/// send. So does a send whose message is received behind the part.
+struct Keeper<'a> {
+    trace: &'a Trace,
+    begins: &'a HashMap<Pid, usize>,
+    ends: HashMap<Pid, usize>,
+    /// Where the other ends of the part's messages are.
+    stamped: HashMap<(Pid, u64), (Pid, usize)>,
+    received: HashMap<(Pid, u64), (Pid, usize)>,
+}
+
+impl<'a> Keeper<'a> {
+    fn new(
+        trace: &'a Trace,
+        begins: &'a HashMap<Pid, usize>,
+        ends: &HashMap<Pid, usize>,
+    ) -> Keeper<'a> {
+        let (mut stamped, mut received) = (HashMap::new(), HashMap::new());
+        for (pid, events) in trace.processes() {
+            let own = events.iter().enumerate().take(ends[&pid]).skip(begins[&pid]);
+            for (place, event) in own {
+                let this = event.serial.this;
+                match event.kind {
+                    Kind::Receive => received.insert((event.from, this), (pid, place)),
+                    Kind::Send | Kind::Print => stamped.insert((pid, this), (pid, place)),
+                };
+            }
+        }
+        Keeper { trace, begins, ends: ends.clone(), stamped, received }
+    }
+
+    fn events(&self, pid: Pid) -> &'a [Event] {
+        self.trace.streams().events(pid)
+    }
+
+    fn kept(mut self) -> HashMap<Pid, usize> {
+        let pids = self.trace.streams().pids();
+        let mut cuts: Vec<(Pid, usize)> =
+            pids.iter().map(|&pid| (pid, self.caused_from(pid, self.ends[&pid]))).collect();
+        cuts.extend(self.received_behind());
+        while let Some((pid, place)) = cuts.pop() {
+            let end = self.ends[&pid];
+            if place >= end {
+                continue;
+            }
+            self.ends.insert(pid, place);
+            for event in self.events(pid).iter().take(end).skip(place) {
+                let key = (event.from, event.serial.this);
+                let ends = if event.kind == Kind::Receive { &self.stamped } else { &self.received };
+                cuts.extend(ends.get(&key));
+            }
+            cuts.push((pid, self.caused_from(pid, place)));
+        }
+        self.ends
+    }
+
+    /// The place of the receive that the event at a place follows, if only receives are between; else
+    /// that place.
+    fn caused_from(&self, pid: Pid, place: usize) -> usize {
+        let events = self.events(pid);
+        let Some(stamp) = events.get(place).filter(|event| event.kind != Kind::Receive) else {
+            return place;
+        };
+        let own = events.iter().enumerate().take(place).skip(self.begins[&pid]).rev();
+        let mut receives = own.take_while(|(_, event)| event.kind == Kind::Receive);
+        let cause = receives.find(|(_, event)| event.serial.this == stamp.serial.prev);
+        cause.map_or(place, |(at, _)| at)
+    }
+
+    /// The sends whose messages are received behind the part, if no send there is theirs.
+    fn received_behind(&self) -> Vec<(Pid, usize)> {
+        let mut wanted: HashMap<Message, i64> = HashMap::new();
+        for (pid, events) in self.trace.processes() {
+            for event in events.iter().skip(self.ends[&pid]) {
+                match event.kind {
+                    Kind::Receive => *wanted.entry(message(event)).or_default() += 1,
+                    Kind::Send => *wanted.entry(message(event)).or_default() -= 1,
+                    Kind::Print => {}
+                }
+            }
+        }
+        let mut found = Vec::new();
+        for (pid, events) in self.trace.processes() {
+            let own = events.iter().enumerate().take(self.ends[&pid]).skip(self.begins[&pid]);
+            for (place, event) in own.rev().filter(|(_, event)| event.kind == Kind::Send) {
+                let is_received = self.received.contains_key(&(pid, event.serial.this));
+                match wanted.get_mut(&message(event)) {
+                    Some(left) if *left > 0 && !is_received => {
+                        *left -= 1;
+                        found.push((pid, place));
+                    }
+                    _ => {}
+                }
+            }
+        }
+        found
+    }
+}

@@ -1,0 +1,472 @@
+//! What `audit` says of a trace, in sentences: each is here and nowhere else.
+
+use super::counter::Counter;
+use super::missing::{Before, Known, Lack, Missing};
+use super::outcome::{Outcome, Said};
+use crate::output::Output;
+use crate::view::{count, grouped, Place, Shown};
+use gemshowal::{Kind, Pid};
+use std::io::{self, Write};
+
+/// So many events, processes or messages of a kind are listed; the rest are counted.
+const LISTED: usize = 20;
+/// What explains an event as well as a message whose receive wasn't reported does.
+const ANEW: &str = "begun anew with a counter left from an earlier trace";
+
+/// What is said of one trace or part.
+pub(crate) struct Sentences<'a> {
+    pub(crate) outcome: &'a Outcome,
+    pub(crate) shown: &'a Shown<'a>,
+    pub(super) missing: &'a Missing,
+    /// Whether the collectors lost events.
+    pub(super) is_lossy: bool,
+    /// What a command line calls the trace.
+    pub(super) name: &'a str,
+}
+
+impl Sentences<'_> {
+    fn is_cut(&self) -> bool {
+        self.shown.view.is_cut
+    }
+
+    /// The result in a line.
+    pub(crate) fn headline(&self) -> String {
+        let events = self.shown.view.trace.streams().total();
+        let processes = self.shown.view.trace.streams().pids().len() as u64;
+        match &self.outcome.said {
+            Said::Never(against) => against.headline(self.shown),
+            _ if events == 0 => "nothing to audit: the trace has no events".into(),
+            _ => format!(
+                "fits: {} of {}{}",
+                count(events, "event"),
+                count(processes, "process"),
+                self.left_out()
+            ),
+        }
+    }
+
+    /// What is missing, in short. Of what a cut or the collectors took away no event tells.
+    fn left_out(&self) -> String {
+        if self.missing.is_nothing() {
+            return match self.sum(|counter| u64::from(counter.behind > 0)) {
+                0 if self.is_cut() || self.is_lossy => {
+                    "; nothing else is known to be missing".into()
+                }
+                0 => "; nothing is known to be missing".into(),
+                behind => format!(
+                    "; {} may have sent or printed something {} before the first send or print here",
+                    count(behind, "process"),
+                    if self.is_cut() { "that isn't here" } else { "unreported" }
+                ),
+            };
+        }
+        let mut said = String::new();
+        let missing = self.what_is_missing();
+        if !missing.is_empty() {
+            said += &format!(", with {}", missing.join(", "));
+        }
+        if !self.missing.open.is_empty() {
+            let here = if self.is_cut() { " here" } else { "" };
+            let events = count(self.missing.open.len() as u64, "event");
+            said += &format!("; the cause of {events} isn't known{here}");
+        }
+        if !self.missing.waiting.is_empty() {
+            said += &format!("; {}", self.not_received());
+        }
+        said
+    }
+
+    fn sum(&self, number: impl Fn(&Counter) -> u64) -> u64 {
+        self.missing.counters.iter().map(|(_, counter)| number(counter)).sum()
+    }
+
+    /// What is missing, kind by kind.
+    fn what_is_missing(&self) -> Vec<String> {
+        let mut missing = Vec::new();
+        let by = match self.is_cut() {
+            true => "that nobody reported or that the cut took away",
+            false => "that nobody reported",
+        };
+        if let Some(unreported) = self.unreported() {
+            missing.push(format!("{unreported} {by}"));
+        }
+        let strangers = self.strangers();
+        if strangers > 0 {
+            let from = match self.shown.unlisted().len() {
+                1 => "a process that the trace doesn't list".into(),
+                several => format!("{several} processes that the trace doesn't list"),
+            };
+            missing.push(format!("probably {} from {from}", count(strangers, "message")));
+        }
+        let (silent, jumps) = (self.sum(|it| it.silent), self.sum(|it| it.jumps));
+        if silent > 0 {
+            missing.push(format!("{} that no event here has", count(silent, "count")));
+        }
+        if jumps > 0 {
+            missing.push(count(jumps, "jump of a counter"));
+        }
+        missing
+    }
+
+    /// How many messages of unlisted processes a completion has.
+    fn strangers(&self) -> u64 {
+        let is_from_stranger = |lack: &&Lack| match **lack {
+            Lack::Added((pid, index), _) => {
+                let event = self.shown.streams.event(pid, index);
+                event.is_some_and(|event| {
+                    event.kind == Kind::Receive && self.shown.stranger(event.from).is_some()
+                })
+            }
+            _ => false,
+        };
+        self.missing.lacks.iter().filter(is_from_stranger).count() as u64
+    }
+
+    /// How many events nobody reported: the certain ones, and the others of listed processes.
+    fn unreported(&self) -> Option<String> {
+        let (mut certain, mut supposed) = ([0; 2], [0; 2]);
+        for lack in &self.missing.lacks {
+            match *lack {
+                Lack::Hidden(_) | Lack::Added(_, Known::Certain) => certain[0] += 1,
+                Lack::Unreceived(..) => supposed[1] += 1,
+                Lack::Added((pid, _), _) if self.shown.stranger(pid).is_some() => {}
+                Lack::Added((pid, index), _) => {
+                    let kind = self.shown.streams.event(pid, index).map(|event| event.kind);
+                    supposed[usize::from(kind == Some(Kind::Receive))] += 1;
+                }
+            }
+        }
+        let is_certain = certain != [0, 0];
+        match (is_certain, supposed != [0, 0]) {
+            (false, false) => None,
+            (true, false) => Some(by_kind(certain, "")),
+            (false, true) => Some(format!("probably {}", by_kind(supposed, ""))),
+            (true, true) => {
+                let more = if supposed[0] > 0 { "more " } else { "" };
+                Some(format!("{} and probably {}", by_kind(certain, ""), by_kind(supposed, more)))
+            }
+        }
+    }
+
+    /// That messages have no receive. A port reports none, a node drops a reply whose caller waits
+    /// no longer, and a message to another node may get there without its token.
+    fn not_received(&self) -> String {
+        let waiting = &self.missing.waiting;
+        let has = if waiting.len() == 1 { "has" } else { "have" };
+        let messages = count(waiting.len() as u64, "message");
+        if self.is_cut() {
+            return format!("{messages} {has} no receive here");
+        }
+        let names = self.shown.view.names;
+        let events = || waiting.iter().filter_map(|&(pid, i)| self.shown.streams.event(pid, i));
+        let to_port = events().any(|it| it.to.is_some_and(|to| names.is_port(to)));
+        let late = events().any(|it| names.is_reply_to_alias(it.value));
+        let far = events().any(|it| it.to.is_some_and(|to| to.node() != it.from.node()));
+        let mut ways = String::new();
+        for (is_so, way) in [
+            (to_port, ", or went to a port"),
+            (late, ", or came too late, as a reply may"),
+            (far, ", or reached another node without a token"),
+        ] {
+            ways += if is_so { way } else { "" };
+        }
+        format!("{messages} {has} no reported receive, and may still wait{ways}")
+    }
+
+    /// Writes all that an engineer asks behind the headline.
+    pub(crate) fn write_details(&self, out: &mut Output) -> io::Result<()> {
+        if let Said::Never(against) = &self.outcome.said {
+            return against.write_details(self.shown, out);
+        }
+        self.write_lacks(out)?;
+        if !self.missing.waiting.is_empty() {
+            let messages = listed(&self.missing.waiting, |&send| self.message(send), "more");
+            let here = if self.is_cut() { "receive here" } else { "reported receive" };
+            writeln!(out, "Messages without a {here}: {messages}.")?;
+        }
+        self.write_counters(out)?;
+        if !self.missing.open.is_empty() && !self.is_cut() {
+            self.write_open(out)?;
+        }
+        if self.outcome.ranked.is_some() {
+            writeln!(
+                out,
+                "The counts begin high, so the audit took their ranks, which doesn't change the \
+                 answer; the serials shown here are the node's own."
+            )?;
+        }
+        Ok(())
+    }
+
+    /// Writes the events that nobody reported.
+    fn write_lacks(&self, out: &mut Output) -> io::Result<()> {
+        let (certain, supposed): (Vec<&Lack>, Vec<&Lack>) = self
+            .missing
+            .lacks
+            .iter()
+            .partition(|lack| matches!(lack, Lack::Hidden(_) | Lack::Added(_, Known::Certain)));
+        if let Said::Completed(_) = self.outcome.said {
+            let lacks = self.missing.lacks.iter().collect::<Vec<_>>();
+            let heading = format!("{}, in the run that was found", self.what_nobody_reported());
+            self.write_list(out, &heading, &lacks)?;
+            if !supposed.is_empty() {
+                self.write_in_place_of(out, !certain.is_empty())?;
+            }
+        } else {
+            self.write_list(out, self.what_nobody_reported(), &certain)?;
+            let probably = if self.is_cut() {
+                "What probably isn't here"
+            } else {
+                "What was probably not reported"
+            };
+            let heading = format!("{probably}, unless its process has {ANEW}");
+            self.write_list(out, &heading, &supposed)?;
+        }
+        if supposed.iter().any(|lack| matches!(lack, Lack::Added(_, Known::Invented))) {
+            writeln!(
+                out,
+                "Nobody knows what the unknown messages were, or whether other processes sent them."
+            )?;
+        }
+        Ok(())
+    }
+
+    fn what_nobody_reported(&self) -> &'static str {
+        if self.is_cut() {
+            "What nobody reported, or what the cut took away"
+        } else {
+            "What nobody reported"
+        }
+    }
+
+    fn write_list(&self, out: &mut Output, heading: &str, lacks: &[&Lack]) -> io::Result<()> {
+        if lacks.is_empty() {
+            return Ok(());
+        }
+        writeln!(out, "{heading}:")?;
+        for lack in lacks.iter().take(LISTED) {
+            writeln!(out, "  {}", self.lack(lack))?;
+        }
+        match lacks.len().saturating_sub(LISTED) as u64 {
+            0 => Ok(()),
+            more => writeln!(out, "  and {} more", grouped(more)),
+        }
+    }
+
+    fn write_in_place_of(&self, out: &mut Output, is_some_certain: bool) -> io::Result<()> {
+        let present = if self.is_cut() { "is here" } else { "was reported" };
+        if is_some_certain {
+            writeln!(
+                out,
+                "Of this only the sends whose receive {present} are certain; in place of the rest \
+                 a process may have {ANEW}."
+            )
+        } else {
+            writeln!(out, "In place of this a process may have {ANEW}.")
+        }
+    }
+
+    /// An event that nobody reported, and where it belongs.
+    pub(super) fn lack(&self, lack: &Lack) -> String {
+        let event = |(pid, index): Place| self.shown.streams.event(pid, index);
+        match *lack {
+            Lack::Added(place, known) => {
+                let sentence = event(place).map(|event| match known {
+                    Known::Invented => self.shown.sentence_of_unknown(&event),
+                    Known::Certain | Known::Supposed => self.shown.sentence(&event),
+                });
+                format!("{}: {}", self.shown.event(place), sentence.unwrap_or_default())
+            }
+            Lack::Hidden(receive) => {
+                let send = event(receive).map(|mut event| {
+                    event.kind = Kind::Send;
+                    self.shown.sentence(&event)
+                });
+                let send = send.unwrap_or_default();
+                format!("{send}, received as {}", self.shown.event(receive))
+            }
+            Lack::Unreceived(send, before) => {
+                let receive = event(send).map(|mut event| {
+                    event.kind = Kind::Receive;
+                    self.shown.sentence(&event)
+                });
+                format!("{}, before {}", receive.unwrap_or_default(), self.before(before))
+            }
+        }
+    }
+
+    /// The event that an unreported receive comes before.
+    pub(super) fn before(&self, before: Before) -> String {
+        match before {
+            Before::Event(place) => self.shown.event(place),
+            Before::SendOf(receive) => format!("the send of {}", self.shown.event(receive)),
+        }
+    }
+
+    /// A send, and to whom it is.
+    fn message(&self, send: Place) -> String {
+        let to = self.shown.streams.event(send.0, send.1).and_then(|event| event.to);
+        let to = to.map(|to| format!(" to {}", self.shown.process(to))).unwrap_or_default();
+        format!("{}{to}", self.shown.event(send))
+    }
+
+    /// Writes what counts tell.
+    fn write_counters(&self, out: &mut Output) -> io::Result<()> {
+        let silent = self.counted(|it| it.silent);
+        if !silent.is_empty() {
+            let not = if self.is_cut() { "aren't here" } else { "weren't reported" };
+            let by = of_processes(&silent, |(pid, number)| {
+                format!("{} of {}", grouped(*number), self.shown.process(*pid))
+            });
+            writeln!(
+                out,
+                "Counts that no event here has, of prints, or of sends whose receives {not} \
+                 either, unless a token's serial was set by hand (set_token/2): {by}."
+            )?;
+        }
+        let jumps = self.counted(|it| it.jumps);
+        if !jumps.is_empty() {
+            let (anything, that) = match self.is_cut() {
+                true => ("anything here", "that isn't here"),
+                false => ("anything reported", "that wasn't reported"),
+            };
+            writeln!(
+                out,
+                "A counter jumps if it is higher than {anything} explains: {}. Something was \
+                 received, sent or printed there {that}, unless a token's serial was set by hand \
+                 (set_token/2).",
+                self.often(&jumps)
+            )?;
+        }
+        self.write_beginnings(out)
+    }
+
+    /// Writes where counters stood before, and that spawns moved them.
+    fn write_beginnings(&self, out: &mut Output) -> io::Result<()> {
+        let before = self.counted(|it| it.before);
+        if let (Some(((first, stood), rest)), false) = (before.split_first(), self.is_cut()) {
+            let first = format!("{} was {}", self.shown.process(*first), grouped(*stood));
+            let rest = rest.iter().map(|(pid, stood)| {
+                format!("that of {} {}", self.shown.process(*pid), grouped(*stood))
+            });
+            let was: Vec<String> = [first].into_iter().chain(rest).collect();
+            writeln!(
+                out,
+                "Counters go on from trace to trace, and count what isn't reported too. Before the \
+                 first send or print here, the counter of {}. That is usual if the node was traced \
+                 before; `seqaudit-node collect --reset' begins with all counters at 0.",
+                of_processes(&was, String::clone)
+            )?;
+        }
+        let spawns = self.counted(|it| it.spawns);
+        if !spawns.is_empty() {
+            writeln!(
+                out,
+                "When OTP answers a spawn, it moves the counter of the process that asked for it: \
+                 {}.",
+                self.often(&spawns)
+            )?;
+        }
+        Ok(())
+    }
+
+    /// The processes of which a number isn't 0, with it.
+    pub(super) fn counted(&self, number: impl Fn(&Counter) -> u64) -> Vec<(Pid, u64)> {
+        let counted = self.missing.counters.iter().map(|(pid, counter)| (*pid, number(counter)));
+        counted.filter(|(_, number)| *number > 0).collect()
+    }
+
+    fn often(&self, counts: &[(Pid, u64)]) -> String {
+        of_processes(counts, |(pid, number)| {
+            let times = match number {
+                1 => "once".into(),
+                number => format!("{} times", grouped(*number)),
+            };
+            format!("that of {} {times}", self.shown.process(*pid))
+        })
+    }
+
+    /// Writes of which events the cause isn't known, and how to ask what it may be.
+    fn write_open(&self, out: &mut Output) -> io::Result<()> {
+        let Some(&first) = self.missing.open.first() else { return Ok(()) };
+        let events = listed(&self.missing.open, |&place| self.shown.event(place), "more");
+        writeln!(
+            out,
+            "The cause isn't known of {events}; this says what it may be: gemshowal why {} {}",
+            quoted(self.name),
+            quoted(&self.shown.event(first))
+        )?;
+        match self.overtaken(first) {
+            None => Ok(()),
+            Some(later) => writeln!(
+                out,
+                "{} would follow {}, which comes after it, if the two are in the wrong order.",
+                self.shown.event(first),
+                self.shown.event(later)
+            ),
+        }
+    }
+
+    /// The receive that an event would follow, if its process had not reported it only later.
+    fn overtaken(&self, (pid, index): Place) -> Option<Place> {
+        let event = self.shown.streams.event(pid, index)?;
+        let later = self.shown.streams.events(pid).iter().zip(0..).find(|&(other, at)| {
+            at > index
+                && other.kind == Kind::Receive
+                && other.serial.this == event.serial.prev
+                && other.label == event.label
+        });
+        later.map(|(_, at)| (pid, at))
+    }
+}
+
+/// How many sends and receives there are, in words; receives are never certain.
+fn by_kind([sends, receives]: [u64; 2], more: &str) -> String {
+    let send = format!("{more}send");
+    let kinds = [(sends, send.as_str()), (receives, "receive")];
+    let said = kinds.into_iter().filter(|(number, _)| *number > 0);
+    said.map(|(number, kind)| count(number, kind)).collect::<Vec<_>>().join(" and ")
+}
+
+/// The first of several things, and how many more there are.
+fn listed<T>(things: &[T], say: impl Fn(&T) -> String, more: &str) -> String {
+    let mut said: Vec<String> = things.iter().take(LISTED).map(say).collect();
+    if let Some(rest) = things.len().checked_sub(LISTED).filter(|rest| *rest > 0) {
+        said.push(format!("and {} {more}", grouped(rest as u64)));
+    }
+    said.join(", ")
+}
+
+/// What is said of each of several processes.
+fn of_processes<T>(things: &[T], say: impl Fn(&T) -> String) -> String {
+    let more = things.len().saturating_sub(LISTED);
+    let said = listed(things.get(..things.len() - more).unwrap_or_default(), say, "");
+    match more as u64 {
+        0 => said,
+        more => format!("{said}, and so of {} more processes", grouped(more)),
+    }
+}
+
+/// A word as a shell takes it.
+fn quoted(word: &str) -> String {
+    let is_plain = |c: char| c.is_ascii_alphanumeric() || matches!(c, '_' | '.' | '/' | '-');
+    if !word.is_empty() && word.chars().all(is_plain) {
+        word.into()
+    } else {
+        format!("'{}'", word.replace('\'', "'\\''"))
+    }
+}
+
+/// Writes what is gone, by the facts of the conversion. If only nothing came, nothing need be gone.
+pub(crate) fn write_losses(losses: &[String], out: &mut Output) -> io::Result<()> {
+    match losses {
+        [] => Ok(()),
+        [nothing] if nothing.starts_with("no events came") => {
+            writeln!(out, "N{}.", nothing.get(1..).unwrap_or_default())
+        }
+        _ => {
+            writeln!(out, "The trace isn't whole:")?;
+            losses.iter().try_for_each(|loss| writeln!(out, "  {loss}"))
+        }
+    }
+}

@@ -1,0 +1,264 @@
+//! The command `chart`: the messages of a label, with what each event follows, as rows of text and
+//! as a drawing.
+
+use crate::args::Chart as Args;
+use crate::causes::{with_causes, Causes, Grade, Link};
+use crate::input::Input;
+use crate::object::{kind_word, Number};
+use crate::output::{Notes, Output};
+use crate::reason::write_unpaired;
+use crate::view::View;
+use crate::{moment, svg, words, Failure, Status};
+use gemshowal::{Event, Item, Kind, Label, Pid};
+use serde::Serialize;
+use std::collections::{BTreeMap, BTreeSet};
+use std::io::{self, Write};
+
+/// The characters of a message in a row, and of an event's name.
+const MESSAGE: usize = 80;
+const NAME: usize = 40;
+
+/// The most marks of a chart, one for each lane in each row: more would be no text to look at.
+const MOST_MARKS: usize = 100_000_000;
+
+/// An event that is charted.
+pub(crate) struct Row {
+    pub(crate) item: Item,
+    pub(crate) event: Event,
+    pub(crate) link: Link,
+    /// The lane of its process.
+    pub(crate) lane: usize,
+    /// The lane at the other end of its message: the same if a process sends to itself.
+    pub(crate) other: Option<usize>,
+}
+
+/// The events of a label, each behind what it follows.
+pub(crate) struct Chart {
+    pub(crate) label: Label,
+    /// The processes from left to right.
+    pub(crate) lanes: Vec<Pid>,
+    pub(crate) rows: Vec<Row>,
+}
+
+pub(crate) fn run(
+    args: &Args,
+    json: bool,
+    input: &mut Input,
+    out: &mut Output,
+    notes: &mut Notes,
+) -> Result<Status, Failure> {
+    let trace = input.trace()?;
+    let names = input.names(&trace, notes)?;
+    let label = match (&args.label, &args.svg) {
+        (None, None) => None,
+        (label, _) => Some(names.find_label(&trace, label.as_deref())?),
+    };
+    let name = input.line_name();
+    let told = with_causes(&trace, &names, |causes| {
+        let charts = Chart::of(causes, label)?;
+        if charts.iter().any(Chart::is_long) {
+            notes.say_no(format_args!(
+                "note: {name}: the chart would be too long; gemshowal cut makes a smaller trace"
+            ));
+            return Ok(Status::Long);
+        }
+        write(args, json, causes, &charts, out, notes)
+    })?;
+    told.or_else(|finding| {
+        write_unpaired(json, &View::whole(&trace, &names), &finding, out)?;
+        Ok(Status::No)
+    })
+}
+
+fn write(
+    args: &Args,
+    json: bool,
+    causes: &Causes<'_>,
+    charts: &[Chart],
+    out: &mut Output,
+    notes: &mut Notes,
+) -> Result<Status, Failure> {
+    if let (Some(file), Some(chart)) = (&args.svg, charts.first()) {
+        svg::write(file, causes, chart)?;
+    }
+    let status = if charts.is_empty() { Status::No } else { Status::Yes };
+    if json {
+        let charts = charts.iter().map(|chart| Charted::of(causes, chart)).collect();
+        out.report("charted", &Told { headline: words::headline(causes), charts })?;
+        return Ok(status);
+    }
+    writeln!(out, "{}", words::headline(causes))?;
+    for loss in causes.names().losses() {
+        writeln!(out, "this trace isn't whole: {loss}")?;
+    }
+    for (chart, number) in charts.iter().zip(0..) {
+        if number > 0 {
+            writeln!(out)?;
+        }
+        chart.write(causes, out)?;
+    }
+    let grades = charts.iter().flat_map(|chart| &chart.rows).map(|row| row.link.grade);
+    if let Some(note) = words::chart_note(grades) {
+        notes.say(note);
+    }
+    Ok(status)
+}
+
+impl Chart {
+    /// Whether it has more marks than anybody looks at.
+    fn is_long(&self) -> bool {
+        self.rows.len().saturating_mul(self.lanes.len()) > MOST_MARKS
+    }
+
+    /// The charts of this label, or of all labels, by rising label.
+    pub(crate) fn of(causes: &Causes<'_>, label: Option<Label>) -> Result<Vec<Chart>, Failure> {
+        let mut items: BTreeMap<u32, Vec<(Item, Event)>> = BTreeMap::new();
+        for item in causes.order()? {
+            if let Some(event) = causes
+                .event(item)
+                .filter(|event| label.is_none_or(|label| label.0 == event.label.0))
+            {
+                items.entry(event.label.0).or_default().push((item, event));
+            }
+        }
+        Ok(items
+            .into_iter()
+            .map(|(label, items)| Chart::with(causes, Label(label), items))
+            .collect())
+    }
+
+    fn with(causes: &Causes<'_>, label: Label, items: Vec<(Item, Event)>) -> Chart {
+        let named = |(_, event): &(Item, Event)| [Some(event.from), event.to];
+        let lanes: BTreeSet<Pid> = items.iter().flat_map(named).flatten().collect();
+        let lanes: Vec<Pid> = lanes.into_iter().collect();
+        let lane = |pid: Pid| lanes.binary_search(&pid).unwrap_or_default();
+        let row = |(item, event): (Item, Event)| {
+            let actor = causes.actor(item);
+            let other = event.to.map(|to| lane(if actor == to { event.from } else { to }));
+            Row { item, event, link: causes.link(item), lane: lane(actor), other }
+        };
+        let rows = items.into_iter().map(row).collect();
+        Chart { label, lanes, rows }
+    }
+
+    /// The rows as text: a mark for each lane, the event's name, what it is and what it follows.
+    fn write(&self, causes: &Causes<'_>, out: &mut Output) -> io::Result<()> {
+        writeln!(out, "label {}", causes.names().label(self.label))?;
+        for (&pid, number) in self.lanes.iter().zip(1..) {
+            writeln!(out, "lane {number} {}", causes.process(pid))?;
+        }
+        let name = |row: &Row| short(&causes.name(row.item), NAME);
+        let width = self.rows.iter().map(|row| name(row).chars().count()).max().unwrap_or(0);
+        let times: Vec<String> = self.rows.iter().map(|row| time(causes, row.item)).collect();
+        let wide = times.iter().map(|time| time.len()).max().unwrap_or(0);
+        for (row, time) in self.rows.iter().zip(times) {
+            let (marks, name) = (self.marks(causes, row), name(row));
+            let (kind, serial) = (kind_word(row.event.kind), gemshowal::Text(row.event.serial));
+            let message = short(&words::message(causes, row.item), MESSAGE);
+            let follows = words::follows(causes, row.item, row.link) + &took(causes, row.item);
+            writeln!(
+                out,
+                "{marks}  {name:width$}{time:>wide$}  {kind:<8}{serial} {message}  {follows}"
+            )?;
+        }
+        Ok(())
+    }
+
+    /// The marks of a row; small letters if nobody reported the event.
+    fn marks(&self, causes: &Causes<'_>, row: &Row) -> String {
+        let mark = match (row.event.kind, causes.reported(row.item)) {
+            (Kind::Send, Some(_)) => 'S',
+            (Kind::Send, None) => 's',
+            (Kind::Receive, Some(_)) => 'R',
+            (Kind::Receive, None) => 'r',
+            (Kind::Print, Some(_)) => 'P',
+            (Kind::Print, None) => 'p',
+        };
+        let of_lane = |lane| match lane {
+            lane if lane == row.lane => mark,
+            lane if Some(lane) == row.other => '.',
+            _ => '|',
+        };
+        (0..self.lanes.len()).flat_map(|lane| [' ', ' ', ' ', of_lane(lane)]).collect()
+    }
+}
+
+/// When an event happened, behind two blanks.
+fn time(causes: &Causes<'_>, item: Item) -> String {
+    let times = causes.names().times().zip(causes.reported(item));
+    let time = times.and_then(|(times, place)| Some(moment::moment(times, times.of_event(place)?)));
+    time.map(|time| format!("  {time}")).unwrap_or_default()
+}
+
+/// How long after its send a receive was reported.
+fn took(causes: &Causes<'_>, item: Item) -> String {
+    let times = causes.names().times().zip(causes.reported(item));
+    let took = times.and_then(|(times, place)| Some(times.of_message(place)?.1));
+    took.map(|took| format!(", {} later", moment::seconds(took))).unwrap_or_default()
+}
+
+/// The text, or its first characters and three dots.
+pub(crate) fn short(text: &str, most: usize) -> String {
+    if text.chars().count() <= most {
+        text.into()
+    } else {
+        text.chars().take(most - 3).chain("...".chars()).collect()
+    }
+}
+
+/// What is charted, as JSON.
+#[derive(Serialize)]
+struct Told {
+    headline: String,
+    charts: Vec<Charted>,
+}
+
+/// A chart as JSON.
+#[derive(Serialize)]
+struct Charted {
+    label: String,
+    lanes: Vec<String>,
+    rows: Vec<ChartedRow>,
+}
+
+/// An event of a chart as JSON.
+#[derive(Serialize)]
+struct ChartedRow {
+    event: String,
+    is_reported: bool,
+    kind: &'static str,
+    lane: usize,
+    other: Option<usize>,
+    prev: Number,
+    this: Number,
+    message: String,
+    /// The row of the event that it follows.
+    after: Option<usize>,
+    follows: String,
+    is_perhaps: bool,
+}
+
+impl Charted {
+    fn of(causes: &Causes<'_>, chart: &Chart) -> Charted {
+        let places: BTreeMap<Item, usize> =
+            chart.rows.iter().map(|row| row.item).zip(0..).collect();
+        let row = |row: &Row| ChartedRow {
+            event: causes.name(row.item),
+            is_reported: causes.reported(row.item).is_some(),
+            kind: kind_word(row.event.kind),
+            lane: row.lane,
+            other: row.other,
+            prev: Number(row.event.serial.prev),
+            this: Number(row.event.serial.this),
+            message: words::message(causes, row.item),
+            after: row.link.after().and_then(|item| places.get(&item).copied()),
+            follows: words::follows(causes, row.item, row.link),
+            is_perhaps: row.link.grade == Grade::Perhaps,
+        };
+        Charted {
+            label: causes.names().label(chart.label).into_owned(),
+            lanes: chart.lanes.iter().map(|&pid| causes.process(pid).into_owned()).collect(),
+            rows: chart.rows.iter().map(row).collect(),
+        }
+    }
+}

@@ -1,0 +1,160 @@
+//! The command `complete`: events that nobody reported, with which a run has the trace.
+
+use crate::args::{Complete, Form};
+use crate::input::Input;
+use crate::object::{Fields, Number, Place, Sequence};
+use crate::output::{Notes, Output};
+use crate::reason::Against;
+use crate::view::{count, Shown, View};
+use crate::{Failure, Status};
+use gemshowal::{Answer, Completion, Event, Pid, Trace};
+use serde::Serialize;
+use std::io::Write;
+
+pub(crate) fn run(
+    args: &Complete,
+    json: bool,
+    input: &mut Input,
+    out: &mut Output,
+    notes: &mut Notes,
+) -> Result<Status, Failure> {
+    let trace = input.trace()?;
+    let names = input.names(&trace, notes)?;
+    let view = View::whole(&trace, &names);
+    match trace.complete()? {
+        Answer::Whole(completion) if args.form == Form::Added => {
+            let shown = Shown::completed(&view, &completion);
+            if json {
+                write_object(&completion, &shown, out)?;
+            } else {
+                write_added(&completion, &shown, out)?;
+            }
+            Ok(Status::Yes)
+        }
+        Answer::Whole(completion) => {
+            write_text(args.form, &trace, &completion, input.line_name(), out, notes)
+        }
+        Answer::Never(pid, index, never) => {
+            let shown = Shown::reported(&view);
+            let against = Against::by_complete(pid, index, never);
+            write_never(args.form, json, &against, &shown, out, notes)?;
+            Ok(Status::No)
+        }
+    }
+}
+
+/// Writes that no run without a reset has the trace. Where a text was asked for, standard error says
+/// it, so that no other program takes the sentence for one.
+fn write_never(
+    form: Form,
+    json: bool,
+    against: &Against,
+    shown: &Shown<'_>,
+    out: &mut Output,
+    notes: &mut Notes,
+) -> Result<(), Failure> {
+    if json {
+        return out.report("never", &against.no(shown));
+    }
+    if form != Form::Added {
+        notes.say_no(against.headline(shown));
+        return Ok(());
+    }
+    writeln!(out, "{}", against.headline(shown))?;
+    Ok(against.write_details(shown, out)?)
+}
+
+/// Writes the text of a completion, or of acts that show it.
+fn write_text(
+    form: Form,
+    trace: &Trace,
+    completion: &Completion,
+    name: &str,
+    out: &mut Output,
+    notes: &mut Notes,
+) -> Result<Status, Failure> {
+    if completion.streams().pids().len() > gemshowal::LIMITS.processes as usize {
+        return Err(Failure::TooLong(name.into()));
+    }
+    let is_standard = match form {
+        Form::Acts => {
+            trace.write_acts(out, completion).map_err(|error| Failure::of_acts(error, name))?
+        }
+        Form::Streams | Form::Added => gemshowal::write_streams(out, completion.streams())?,
+    };
+    if !is_standard {
+        notes.say("note: seqaudit doesn't read so much; seqtool check and gemshowal check do");
+    }
+    Ok(Status::Yes)
+}
+
+/// Writes the added events, in sentences.
+fn write_added(
+    completion: &Completion,
+    shown: &Shown<'_>,
+    out: &mut Output,
+) -> Result<(), Failure> {
+    if completion.added() == 0 {
+        writeln!(
+            out,
+            "adds nothing: each event has what it follows. Events that counts alone show aren't \
+             added (gemshowal audit counts them), and a message whose receive isn't reported may \
+             still wait."
+        )?;
+        return Ok(());
+    }
+    let of = match completion.unlisted().len() as u64 {
+        0 => String::new(),
+        unlisted => format!(", with {} that the trace doesn't list", count(unlisted, "process")),
+    };
+    writeln!(out, "adds {}{of}:", count(completion.added(), "event"))?;
+    for (pid, index, event) in gemshowal::added(completion) {
+        writeln!(out, "  {}: {}", shown.event((pid, index)), shown.sentence(event))?;
+    }
+    writeln!(out, "They may have happened, and that is no evidence that they did.")?;
+    Ok(())
+}
+
+/// What a completion adds.
+#[derive(Serialize)]
+#[serde(bound = "")]
+struct Completed<F, I>
+where
+    F: Fn() -> I,
+    I: Iterator,
+    I::Item: Serialize,
+{
+    added: Number,
+    unlisted: Vec<String>,
+    events: Sequence<F>,
+}
+
+/// An added event.
+#[derive(Serialize)]
+struct Added {
+    #[serde(flatten)]
+    place: Place,
+    #[serde(flatten)]
+    fields: Fields,
+    what: String,
+}
+
+fn write_object(
+    completion: &Completion,
+    shown: &Shown<'_>,
+    out: &mut Output,
+) -> Result<(), Failure> {
+    let names = shown.view.names;
+    let added = |(pid, index, event): (Pid, u64, &Event)| Added {
+        place: Place { event: shown.event((pid, index)), ..Place::new(names, (pid, index)) },
+        fields: Fields::new(names, event),
+        what: shown.sentence(event),
+    };
+    let unlisted = completion.unlisted().iter();
+    let completed = Completed {
+        added: Number(completion.added()),
+        unlisted: unlisted.map(|&pid| gemshowal::Text(pid).to_string()).collect(),
+        events: Sequence(|| gemshowal::added(completion).map(added)),
+    };
+    out.report("completed", &completed)
+}

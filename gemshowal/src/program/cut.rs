@@ -1,0 +1,39 @@
+//! The command `cut`: the text of the events that meet conditions.
+
+use crate::args::Cut;
+use crate::audit::open_ends;
+use crate::input::Input;
+use crate::output::{Notes, Output};
+use crate::view::{count, grouped, Kept, View};
+use crate::{Failure, Status};
+
+pub(crate) fn run(
+    args: &Cut,
+    input: &mut Input,
+    out: &mut Output,
+    notes: &mut Notes,
+) -> Result<Status, Failure> {
+    let trace = input.trace()?;
+    let names = input.names(&trace, notes)?;
+    let filter = args.conditions.filter(&trace, &names)?;
+    let mut kept = Kept::new();
+    for row in trace.list(&filter)?.as_ref() {
+        kept.entry(row.pid).or_default().push(row.index);
+    }
+    gemshowal::write_streams(out, trace.part(&kept)?.streams())?;
+    let number: usize = kept.values().map(Vec::len).sum();
+    let open = match open_ends(&View::whole(&trace, &names), &kept)? {
+        None => String::new(),
+        Some([receives, sends]) => format!(
+            "; the sends of {} and the receives of {} are cut off",
+            count(receives, "receive"),
+            count(sends, "send")
+        ),
+    };
+    notes.say(format_args!(
+        "note: {} of {} are kept{open}",
+        grouped(number as u64),
+        count(trace.streams().total(), "event")
+    ));
+    Ok(Status::Yes)
+}

@@ -1,0 +1,140 @@
+//! The command `diff`: what is new, gone or elsewhere in the second of two traces, up to pids and
+//! counts.
+//!
+//! `exact` matches the processes if one renaming may make the one trace of the other, by colours
+//! that are refined round by round. Else `matching` finds which process of the one trace has the
+//! part of which in the other, and why that is believed. `align` says which events of two such
+//! processes go together, and `changes` has the others.
+
+mod align;
+mod changes;
+mod colours;
+mod exact;
+mod groups;
+mod json;
+mod matching;
+mod mates;
+mod pairs;
+mod report;
+mod side;
+mod words;
+
+use crate::args::Diff;
+use crate::input::Input;
+use crate::names::Names;
+use crate::output::{Notes, Output};
+use crate::{Failure, Status};
+use changes::Changes;
+use colours::{Colours, Ranks};
+use gemshowal::Trace;
+use mates::Mate;
+use pairs::Pairs;
+use report::{Moved, Report, Text};
+use side::{Side, Vocabulary};
+
+pub(crate) fn run(
+    args: &Diff,
+    json: bool,
+    input: &mut Input,
+    out: &mut Output,
+    notes: &mut Notes,
+) -> Result<Status, Failure> {
+    let mut other = Input::open(&args.second)?;
+    let (first, second) = (input.trace()?, other.trace()?);
+    let (ones, others) = (input.names(&first, notes)?, other.names(&second, notes)?);
+    let has_terms = has_names(&first, &ones) && has_names(&second, &others);
+    let mut vocabulary = Vocabulary::new(has_terms);
+    let sides =
+        [&Side::new(&first, &ones, &mut vocabulary), &Side::new(&second, &others, &mut vocabulary)];
+    let found = compare(sides, &mates::find(sides, [&ones, &others], has_terms));
+    let texts = [Text::new(input.line_name(), &first, &ones)?, {
+        Text::new(other.line_name(), &second, &others)?
+    }];
+    let report = Report::new(sides, &texts, &found);
+    if json {
+        let result = if report.is_same() { "same" } else { "different" };
+        out.report(result, &self::json::Object::new(&report))?;
+    } else {
+        report.write(out)?;
+    }
+    Ok(if report.is_same() { Status::Yes } else { Status::No })
+}
+
+/// Whether there are names of a trace. Its file has one for each process.
+fn has_names(trace: &Trace, names: &Names) -> bool {
+    trace.streams().pids().iter().any(|&pid| names.about(pid).is_some())
+}
+
+/// Which processes of two traces are the same, and what differs then.
+#[derive(Debug)]
+struct Found {
+    pairs: Pairs,
+    changes: Changes,
+    /// Of traces that are alike but for their counts the first event whose counts moved.
+    moved: Option<Moved>,
+    /// Whether no renaming makes the one trace of the other, whatever was guessed.
+    is_certain: bool,
+}
+
+/// Compares two traces, of which these processes are called alike.
+fn compare(sides: [&Side<'_>; 2], mates: &[Mate]) -> Found {
+    let [first, second] = sides;
+    if first.len() != second.len() || first.total() != second.total() {
+        let (pairs, changes) = best_match(sides, mates);
+        return Found { pairs, changes, moved: None, is_certain: true };
+    }
+    let ranks = sides.map(Ranks::of);
+    if let Some(pairs) = match_alike(sides, Some(&ranks), mates) {
+        let changes = Changes::find(sides, &pairs);
+        let moved = Moved::find(sides, &ranks, &pairs, &changes);
+        return Found { pairs, changes, moved, is_certain: false };
+    }
+    let (pairs, changes) = match_alike(sides, None, mates)
+        .map(|pairs| with_changes(sides, pairs))
+        .filter(|(_, changes)| changes.len() == 0)
+        .unwrap_or_else(|| best_match(sides, mates));
+    let moved = Moved::find(sides, &ranks, &pairs, &changes);
+    Found { pairs, changes, moved, is_certain: true }
+}
+
+/// Matches the processes of two traces of one length if a renaming may make the one of the other:
+/// one that keeps the order of counts, if their ranks are given.
+fn match_alike(sides: [&Side<'_>; 2], ranks: Option<&[Ranks; 2]>, mates: &[Mate]) -> Option<Pairs> {
+    let [first, second] = sides;
+    let [ones, others] = ranks.map_or([None, None], |[ones, others]| [Some(ones), Some(others)]);
+    let colours = [Colours::first(first, ones), Colours::first(second, others)];
+    let [before, after] = &colours;
+    if !before.are_alike(after) {
+        return None;
+    }
+    let pairs = exact::match_exactly(sides, colours, mates)?;
+    if pairs.all().len() == first.len() {
+        return Some(pairs);
+    }
+    let matched: Vec<Mate> =
+        pairs.all().iter().map(|it| (it.first, it.second, it.ground)).collect();
+    Some(matching::match_processes(sides, &matched))
+}
+
+/// The way to match processes that leaves fewest changes: all that are called alike, those alone
+/// that have one name, or none of them. Of several that leave as many it is the first.
+fn best_match(sides: [&Side<'_>; 2], mates: &[Mate]) -> (Pairs, Changes) {
+    let named: Vec<Mate> =
+        mates.iter().filter(|mate| mate.2 == pairs::Ground::Name).copied().collect();
+    let least = changes::least(sides);
+    let mut best = with_changes(sides, matching::match_processes(sides, mates));
+    for (mates, is_other) in [(&named[..], named.len() < mates.len()), (&[], !named.is_empty())] {
+        if best.1.len() > least && is_other {
+            let next = with_changes(sides, matching::match_processes(sides, mates));
+            if next.1.len() < best.1.len() {
+                best = next;
+            }
+        }
+    }
+    best
+}
+
+fn with_changes(sides: [&Side<'_>; 2], pairs: Pairs) -> (Pairs, Changes) {
+    let changes = Changes::find(sides, &pairs);
+    (pairs, changes)
+}

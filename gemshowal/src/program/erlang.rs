@@ -1,0 +1,35 @@
+//! The commands of the Erlang application, which this program hands over to it.
+
+use crate::output;
+use std::env;
+use std::ffi::OsString;
+use std::os::unix::process::CommandExt;
+use std::path::PathBuf;
+use std::process::Command;
+
+/// The command of the application.
+const PROGRAM: &str = "seqaudit-node";
+
+/// Runs the application's command in place of this program. Returns the status only if there is
+/// none to run.
+pub(crate) fn hand_over(word: &str, words: &[OsString]) -> u8 {
+    let Some(program) = find(PROGRAM) else {
+        output::say_red(format_args!(
+            "error: {word} is a command of the Erlang application, and there is no {PROGRAM} beside \
+             this program or on the path: make -C erlang builds it\n"
+        ));
+        return 4;
+    };
+    let reason = Command::new(&program).arg(word).args(words).exec();
+    output::say_red(format_args!("error: {} can't be run: {reason}\n", program.display()));
+    4
+}
+
+/// The program of this name beside the running one, else the first on the path.
+pub(crate) fn find(name: &str) -> Option<PathBuf> {
+    let own = env::current_exe().ok();
+    let beside = own.as_deref().and_then(|path| path.parent()).map(PathBuf::from);
+    let path = env::var_os("PATH").unwrap_or_default();
+    let folders = beside.into_iter().chain(env::split_paths(&path));
+    folders.map(|folder| folder.join(name)).find(|file| file.is_file())
+}

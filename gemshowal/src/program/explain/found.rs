@@ -1,0 +1,200 @@
+//! What is found of acts that aren't a run of the trace.
+
+use super::reasons::{reasons, Reason};
+use super::rerun::Run;
+use super::{line_of, queue::nearest};
+use crate::object::Number;
+use gemshowal::{Act, Came, Event, Kind, OutOfMemory, Pid, State, Text, Token, Trace};
+use serde::Serialize;
+
+/// So many messages of a queue are shown.
+const SHOWN: usize = 10;
+
+/// What is found.
+pub(super) struct Found {
+    /// The process whose event isn't reported.
+    pub(super) pid: Pid,
+    /// The act that reports something else, and what; none if the acts end.
+    pub(super) act: Option<Refused>,
+    /// The event that is due, with its index and its line.
+    pub(super) due: Option<Due>,
+    pub(super) state: Option<State>,
+    pub(super) waiting: Vec<Waiting>,
+    /// How many more messages wait.
+    pub(super) more: u64,
+    /// Why no message is that of the receive which is due.
+    pub(super) missing: Option<String>,
+    /// What would report the event, once the acts end.
+    pub(super) next: Option<Next>,
+}
+
+/// An act that reports something else than is due.
+pub(super) struct Refused {
+    pub(super) number: u64,
+    pub(super) line: Option<u64>,
+    pub(super) act: Act,
+    pub(super) came: Came,
+}
+
+/// An event that is due.
+pub(super) struct Due {
+    pub(super) index: u64,
+    pub(super) line: Option<u64>,
+    pub(super) event: Event,
+}
+
+/// A message that waits.
+pub(super) struct Waiting {
+    pub(super) place: u64,
+    pub(super) from: Pid,
+    pub(super) value: u64,
+    /// The count of its token; 0 without one.
+    pub(super) count: u64,
+    pub(super) act: u64,
+    pub(super) line: Option<u64>,
+    pub(super) is_due: bool,
+}
+
+/// What would report the next event.
+pub(super) struct Next {
+    /// The act that comes nearest to that, and what it would report.
+    pub(super) tried: Option<(Act, Option<Event>)>,
+    pub(super) reasons: Vec<Reason>,
+    pub(super) is_reported: bool,
+}
+
+impl Found {
+    /// At the act of this number, which reports something else.
+    pub(super) fn before(trace: &Trace, acts: &[Act], number: u64) -> Result<Found, OutOfMemory> {
+        let before = acts.get(..number as usize).unwrap_or(acts);
+        let Some(act) = acts.get(number as usize) else {
+            return Found::of(trace, &Run::of(trace.streams(), before, NOBODY)?, NOBODY);
+        };
+        let run = Run::of(trace.streams(), before, act.actor())?;
+        let came = Run::of(trace.streams(), before, act.actor())?.take(act)?;
+        let line = line_of(trace, number)?;
+        let refused = Refused { number, line, act: *act, came };
+        Ok(Found { act: Some(refused), ..Found::of(trace, &run, act.actor())? })
+    }
+
+    /// At the end of the acts, where events of a process are left.
+    pub(super) fn at_end(trace: &Trace, acts: &[Act], pid: Pid) -> Result<Found, OutOfMemory> {
+        let mut run = Run::of(trace.streams(), acts, pid)?;
+        let found = Found::of(trace, &run, pid)?;
+        let Some(event) = run.due(pid) else { return Ok(found) };
+        let missing = run.missing(&event);
+        let reasons = run.state(pid).map(|state| reasons(&state, &event, missing));
+        let tried = match run.act_for(pid, &event) {
+            None => None,
+            Some(act) => match run.take(&act)? {
+                Came::Step(report, _) => Some((act, report)),
+                Came::Stuck => Some((act, None)),
+            },
+        };
+        let is_reported = tried.is_some_and(|(_, report)| report == Some(event));
+        let next = Next { tried, reasons: reasons.unwrap_or_default(), is_reported };
+        Ok(Found { next: Some(next), ..found })
+    }
+
+    /// What a process has in a run, and the event that is due from it.
+    fn of(trace: &Trace, run: &Run<'_>, pid: Pid) -> Result<Found, OutOfMemory> {
+        let lines = trace.lines()?;
+        let index = run.next_index(pid);
+        let event = run.due(pid);
+        let state = run.state(pid);
+        let receive = event.filter(|event| event.kind == Kind::Receive);
+        let is_traced = state.is_some_and(|state| state.is_traced);
+        let nearest = receive.and_then(|event| nearest(run.queue.find(&event)));
+        let is_shown = |place: u64| place < SHOWN as u64 || Some(place) == nearest;
+        let all = run.queue.messages();
+        let waiting = all.filter(|(place, _)| is_shown(*place)).map(|(place, sent)| Waiting {
+            place,
+            from: sent.from,
+            value: sent.value,
+            count: run.queue.count(sent),
+            act: sent.act,
+            line: lines.act_line(sent.act),
+            is_due: is_traced && receive.is_some_and(|event| run.queue.is_due(sent, &event)),
+        });
+        let waiting: Vec<Waiting> = waiting.collect();
+        let more = (run.queue.len() - waiting.len()) as u64;
+        Ok(Found {
+            pid,
+            act: None,
+            due: event.map(|event| Due { index, line: lines.line(pid, index), event }),
+            state,
+            waiting,
+            more,
+            missing: receive.and_then(|event| run.missing(&event)).map(|it| it.to_string()),
+            next: None,
+        })
+    }
+
+    /// How many messages wait.
+    pub(super) fn queued(&self) -> u64 {
+        self.waiting.len() as u64 + self.more
+    }
+
+    /// What is found, for programs.
+    pub(super) fn object(&self) -> Object {
+        let report = |came: Came| match came {
+            Came::Step(report, _) => report.map(|event| Text(&event).to_string()),
+            Came::Stuck => None,
+        };
+        let refused = self.act.as_ref();
+        Object {
+            process: Text(self.pid),
+            act: refused.map(|it| it.number),
+            line: refused.and_then(|it| it.line),
+            text: refused.map(|it| Text(&it.act).to_string()),
+            came: refused.and_then(|it| report(it.came)),
+            due: self.due.as_ref().map(|due| Text(&due.event).to_string()),
+            due_index: self.due.as_ref().map(|due| due.index),
+            due_line: self.due.as_ref().and_then(|due| due.line),
+            token: self.state.and_then(|state| state.token).map(|token| token_words(&token)),
+            clock: self.state.map(|state| Number(state.clock)),
+            last: self.state.map(|state| Number(state.last)),
+            messages: self.queued(),
+            next: self
+                .next
+                .as_ref()
+                .filter(|next| next.is_reported)
+                .and_then(|next| next.tried.as_ref().map(|(act, _)| Text(act).to_string())),
+            reasons: self.next.iter().flat_map(|it| &it.reasons).map(Reason::to_string).collect(),
+        }
+    }
+}
+
+/// A process that no trace lists: asked for it a run has nothing.
+const NOBODY: Pid = Pid::on(0, 0);
+
+/// A token in words.
+pub(super) fn token_words(token: &Token) -> String {
+    let flags = [
+        (token.flags.send, " send"),
+        (token.flags.receive, " receive"),
+        (token.flags.print, " print"),
+    ];
+    let flags: String = flags.iter().filter(|(is_set, _)| *is_set).map(|it| it.1).collect();
+    let (serial, from) = (Text(token.serial), Text(token.from));
+    format!("label {}, flags{flags}, serial {serial}, from {from}", token.label.0)
+}
+
+/// What is found, for programs.
+#[derive(Serialize)]
+pub(super) struct Object {
+    process: Text<Pid>,
+    act: Option<u64>,
+    line: Option<u64>,
+    text: Option<String>,
+    came: Option<String>,
+    due: Option<String>,
+    due_index: Option<u64>,
+    due_line: Option<u64>,
+    token: Option<String>,
+    clock: Option<Number>,
+    last: Option<Number>,
+    messages: u64,
+    next: Option<String>,
+    reasons: Vec<String>,
+}

@@ -1,0 +1,54 @@
+//! The command `explain`: why `check` refuses acts. It makes the run again up to the first act that
+//! reports something else than the trace has, and shows the act, the event that was due, the report
+//! that came, and the actor's state before it with the messages that wait. If events are left at the
+//! end, it shows an act that would report the next one, or why none would.
+
+mod found;
+mod queue;
+mod reasons;
+mod rerun;
+mod text;
+
+use crate::input::Input;
+use crate::output::Output;
+use crate::{Failure, Status};
+use found::Found;
+use gemshowal::{Trace, Verdict};
+use serde::Serialize;
+use std::io::Write;
+
+pub(crate) fn run(json: bool, input: &mut Input, out: &mut Output) -> Result<Status, Failure> {
+    let trace = input.trace()?;
+    let acts = trace.acts().ok_or_else(|| Failure::NoActs(input.line_name().into()))?;
+    let verdict = trace.check()?.unwrap_or(Verdict::Stuck(0));
+    let found = match verdict {
+        Verdict::Yes(_) => None,
+        Verdict::Stuck(number) | Verdict::Differs(number) => {
+            Some(Found::before(&trace, acts, number)?)
+        }
+        Verdict::Left(pid) => Some(Found::at_end(&trace, acts, pid)?),
+    };
+    match (&found, json) {
+        (None, true) => out.report("yes", &Nothing {})?,
+        (None, false) => {
+            writeln!(out, "yes: each process reports exactly its events in a run of these acts")?
+        }
+        (Some(found), true) => out.report("no", &found.object())?,
+        (Some(found), false) => write!(out, "{found}")?,
+    }
+    Ok(if found.is_some() { Status::No } else { Status::Yes })
+}
+
+/// A yes needs no more words.
+#[derive(Serialize)]
+struct Nothing {}
+
+/// The line of an event or an act behind what names it, if it has one.
+fn on_line(line: Option<u64>) -> String {
+    line.map(|line| format!(", line {line}")).unwrap_or_default()
+}
+
+/// How a trace and its acts are numbered.
+fn line_of(trace: &Trace, number: u64) -> Result<Option<u64>, gemshowal::OutOfMemory> {
+    Ok(trace.lines()?.act_line(number))
+}

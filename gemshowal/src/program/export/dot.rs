@@ -1,0 +1,85 @@
+//! A graph of the events in the language of Graphviz: a box for each process with its events, an
+//! edge from each event to the next one of its process, and one from each send to its receive. With
+//! `newrank` an effect is below its cause, whatever box it is in.
+
+use super::scene::{Place, Scene};
+use crate::object::kind_word;
+use crate::output::Output;
+use gemshowal::{Event, Partner, Pid};
+use std::collections::HashMap;
+use std::io::{self, Write};
+
+/// How an edge between a send and its receive is drawn, and one to an end that nobody reported.
+const MESSAGE: &str = " [color=blue]";
+const OPEN_MESSAGE: &str = " [color=blue, style=dashed]";
+
+pub(super) fn write(scene: &Scene<'_>, out: &mut Output) -> io::Result<()> {
+    let lanes: HashMap<Pid, usize> = scene.lanes().into_iter().zip(1..).collect();
+    writeln!(out, "digraph trace {{\n    newrank=true;\n    node [shape=box];")?;
+    for (pid, events) in scene.trace.processes() {
+        if let Some(&lane) = lanes.get(&pid) {
+            write_process(scene, out, lane, pid, events)?;
+        }
+    }
+    for (place, event) in scene.events() {
+        write_message(scene, out, &lanes, place, event)?;
+    }
+    writeln!(out, "}}")
+}
+
+/// Writes the box of a process.
+fn write_process(
+    scene: &Scene<'_>,
+    out: &mut Output,
+    lane: usize,
+    pid: Pid,
+    events: &[Event],
+) -> io::Result<()> {
+    let name = quoted(&scene.names.process(pid));
+    writeln!(out, "    subgraph cluster_{lane} {{\n        label=\"{name}\";")?;
+    let mut before: Option<u64> = None;
+    for (index, event) in (0..).zip(events).filter(|(_, event)| scene.has(event)) {
+        let (kind, content) = (kind_word(event.kind), quoted(&scene.content(event)));
+        let id = format!("e{lane}_{index}");
+        writeln!(out, "        {id} [label=\"{kind} {content}\"];")?;
+        if let Some(before) = before.replace(index) {
+            writeln!(out, "        e{lane}_{before} -> {id};")?;
+        }
+    }
+    writeln!(out, "    }}")
+}
+
+/// Writes the edge of the message that an event received, or that it sent if nobody reported the
+/// receive.
+fn write_message(
+    scene: &Scene<'_>,
+    out: &mut Output,
+    lanes: &HashMap<Pid, usize>,
+    (pid, index): Place,
+    event: &Event,
+) -> io::Result<()> {
+    let lane = |pid: Pid| lanes.get(&pid).copied().unwrap_or(0);
+    let own = lane(pid);
+    let (node, open) = (format!("e{own}_{index}"), format!("u{own}_{index}"));
+    match scene.partner((pid, index), event) {
+        Partner::Nobody | Partner::Receive(..) => Ok(()),
+        Partner::Send(from, sent) => {
+            writeln!(out, "    e{}_{sent} -> {node}{MESSAGE};", lane(from))
+        }
+        Partner::NoReceive => writeln!(
+            out,
+            "    {open} [label=\"no receive reported\", style=dashed];\n    {node} -> \
+             {open}{OPEN_MESSAGE};"
+        ),
+        Partner::NoSend => writeln!(
+            out,
+            "    {open} [label=\"send not reported\", style=dashed];\n    {open} -> \
+             {node}{OPEN_MESSAGE};"
+        ),
+    }
+}
+
+/// A text between quotes.
+fn quoted(text: &str) -> String {
+    text.replace('\\', "\\\\").replace('"', "\\\"")
+}

@@ -1,0 +1,90 @@
+//! What sort of message a term is, in one word: `order` of `{order,apple,3}`. A trace has few of
+//! these, whatever else is in its messages.
+
+use super::calls::{role, Role};
+use super::scene::Scene;
+
+/// The words for a message: what was done by sending it, and what sort it is.
+pub(super) fn sent(scene: &Scene<'_>, value: u64) -> String {
+    let brief = scene.names.brief(value);
+    match (role(scene, value), brief.split_once(' ')) {
+        _ if !scene.has_terms() => "send".into(),
+        (Some(Role::Request(_)), Some((_, inside))) => format!("call {}", sort(inside)),
+        (Some(Role::Reply(_)), Some((_, inside))) => format!("reply {}", sort(inside)),
+        (None, Some(("cast" | "spawn", inside))) => format!("cast {}", sort(inside)),
+        _ => format!("send {}", sort(&brief)),
+    }
+}
+
+/// The words for what a process did with a message.
+pub(super) fn handled(scene: &Scene<'_>, value: u64) -> String {
+    with_sort(scene, "handle", value)
+}
+
+/// The words for a print.
+pub(super) fn printed(scene: &Scene<'_>, value: u64) -> String {
+    with_sort(scene, "print", value)
+}
+
+fn with_sort(scene: &Scene<'_>, word: &str, value: u64) -> String {
+    let brief = scene.names.brief(value);
+    let bare = match brief.split_once(' ') {
+        Some(("call" | "cast" | "reply" | "spawn" | "spawned", inside)) => inside,
+        _ => &brief,
+    };
+    if scene.has_terms() {
+        format!("{word} {}", sort(bare))
+    } else {
+        word.into()
+    }
+}
+
+/// The first atom of a term, or what it is if it doesn't begin with one.
+pub(super) fn sort(term: &str) -> &str {
+    let inside = term.strip_prefix('{').unwrap_or(term);
+    let is_of_atom = |c: char| c.is_alphanumeric() || matches!(c, '_' | '@');
+    let end = inside.find(|c| !is_of_atom(c)).unwrap_or(inside.len());
+    match inside.chars().next() {
+        Some('\'') => quoted(inside).unwrap_or("term"),
+        Some(first) if first.is_lowercase() => inside.get(..end).unwrap_or("term"),
+        Some(first) if first.is_ascii_digit() || first == '-' => "number",
+        Some('"' | '[') => "list",
+        Some('<') if inside.starts_with("<<") => "binary",
+        Some('<') => "pid",
+        Some('#') if inside.starts_with("#{") => "map",
+        _ => "term",
+    }
+}
+
+/// The atom between quotes at the front of a term.
+fn quoted(text: &str) -> Option<&str> {
+    let end = text.get(1..)?.find('\'')?;
+    text.get(1..end + 1)
+}
+
+#[cfg(test)]
+mod tests {
+    use super::sort;
+
+    #[test]
+    fn a_message_is_of_the_sort_of_its_first_atom() {
+        for (term, wanted) in [
+            ("{order,apple,3}", "order"),
+            ("stop", "stop"),
+            ("{'EXIT',<0.1.0>,normal}", "EXIT"),
+            ("{{order,1},2}", "term"),
+            ("17", "number"),
+            ("-3", "number"),
+            ("\"text\"", "list"),
+            ("[1,2]", "list"),
+            ("<<1,2>>", "binary"),
+            ("<0.1.0>", "pid"),
+            ("#{a => 1}", "map"),
+            ("#Ref<0.1.2.3>", "term"),
+            ("", "term"),
+            ("'", "term"),
+        ] {
+            assert_eq!(sort(term), wanted, "{term}");
+        }
+    }
+}

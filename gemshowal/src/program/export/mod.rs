@@ -1,0 +1,92 @@
+//! The command `export`: a trace for other programs that draw.
+//!
+//! What an event pairs with and what it follows is found by the proved libraries. Each format has
+//! one writer here, with names, terms and times if the trace has them.
+
+mod calls;
+mod clock;
+mod dot;
+mod kind;
+mod mermaid;
+mod otlp;
+mod perfetto;
+mod scene;
+mod shiviz;
+mod span;
+mod work;
+
+use crate::args::{Export, Target};
+use crate::input::Input;
+use crate::late::first_late;
+use crate::names::Names;
+use crate::output::{Notes, Output};
+use crate::reason::Against;
+use crate::view::{Shown, View};
+use crate::{Failure, Status};
+use gemshowal::{Finding, Paired, Trace};
+use scene::Scene;
+
+/// A drawing of more messages isn't easily read.
+const READABLE: usize = 300;
+
+pub(crate) fn run(
+    args: &Export,
+    input: &mut Input,
+    out: &mut Output,
+    notes: &mut Notes,
+) -> Result<Status, Failure> {
+    let trace = input.trace()?;
+    let names = input.names(&trace, notes)?;
+    let name = input.line_name();
+    let paired = match Paired::of(trace.streams())? {
+        Ok(paired) => paired,
+        Err(Finding::Unfit(pid, index, reason)) => {
+            return Ok(no(Against::by_audit(pid, index, &reason), &trace, &names, notes));
+        }
+        Err(Finding::Fits(..)) => return Ok(Status::No),
+    };
+    // The order of all events isn't that of each process then. A graph needs no order.
+    if let Some((pid, index, never)) = first_late(&trace).filter(|_| args.target != Target::Dot) {
+        return Ok(no(Some(Against::by_complete(pid, index, never)), &trace, &names, notes));
+    }
+    let label = args.label.as_deref().map(|label| names.find_label(&trace, Some(label)));
+    let scene = Scene::new(&trace, &names, &paired, label.transpose()?)?;
+    if scene.events().next().is_none() {
+        notes.say_no(format_args!("no: {name}: there is no event to be drawn"));
+        return Ok(Status::No);
+    }
+    write(args.target, &scene, name, out, notes)
+}
+
+/// Says on standard error why there is nothing to draw: the output is another program's.
+fn no(against: Option<Against>, trace: &Trace, names: &Names, notes: &mut Notes) -> Status {
+    let view = View::whole(trace, names);
+    if let Some(against) = against {
+        notes.say_no(against.headline(&Shown::reported(&view)));
+    }
+    Status::No
+}
+
+fn write(
+    target: Target,
+    scene: &Scene<'_>,
+    name: &str,
+    out: &mut Output,
+    notes: &mut Notes,
+) -> Result<Status, Failure> {
+    let messages = scene.count_messages();
+    if matches!(target, Target::Mermaid | Target::Dot) && messages > READABLE {
+        notes.say(format_args!(
+            "note: {name}: a drawing of {messages} messages isn't easily read; choose a label \
+             (--label) or a part (gemshowal cut), or take --as perfetto"
+        ));
+    }
+    match target {
+        Target::Mermaid => mermaid::write(scene, out)?,
+        Target::Dot => dot::write(scene, out)?,
+        Target::Perfetto => perfetto::write(scene, out)?,
+        Target::Shiviz => return shiviz::write(scene, name, out, notes),
+        Target::Otlp => return otlp::write(scene, name, out, notes),
+    }
+    Ok(Status::Yes)
+}

@@ -1,0 +1,160 @@
+//! What is drawn of a trace, and what it is called.
+
+use crate::names::Names;
+use gemshowal::{Event, Hop, Hops, Item, Kind, Label, OutOfMemory, Paired, Partner, Pid, Trace};
+
+/// A process and the index of one of its events.
+pub(super) type Place = (Pid, u64);
+
+/// A message is cut behind this number of characters where it is drawn.
+const CHARACTERS: usize = 80;
+
+/// The events of a trace, or those of one of its labels.
+pub(super) struct Scene<'a> {
+    pub(super) trace: &'a Trace,
+    pub(super) names: &'a Names,
+    pub(super) label: Option<Label>,
+    paired: &'a Paired<'a>,
+    hops: Hops<'a>,
+    /// The number of the first event of each process among all events.
+    starts: Vec<usize>,
+    names_labels: bool,
+    has_terms: bool,
+}
+
+impl<'a> Scene<'a> {
+    pub(super) fn new(
+        trace: &'a Trace,
+        names: &'a Names,
+        paired: &'a Paired<'a>,
+        label: Option<Label>,
+    ) -> Result<Scene<'a>, OutOfMemory> {
+        let lengths = trace.processes().map(|(_, events)| events.len());
+        let starts = lengths.scan(0, |next, len| {
+            let start = *next;
+            *next += len;
+            Some(start)
+        });
+        let starts = starts.collect();
+        let mut labels = trace.processes().flat_map(|(_, events)| events).map(|event| event.label);
+        let first = labels.next();
+        let names_labels = label.is_none() && labels.any(|label| Some(label) != first);
+        let hops = paired.hops()?;
+        // The file of terms has each process.
+        let has_terms = trace.streams().pids().iter().any(|&pid| names.about(pid).is_some());
+        Ok(Scene { trace, names, label, paired, hops, starts, names_labels, has_terms })
+    }
+
+    /// Whether an event is drawn.
+    pub(super) fn has(&self, event: &Event) -> bool {
+        self.label.is_none_or(|label| event.label == label)
+    }
+
+    /// The events that are drawn, by process, each with its place.
+    pub(super) fn events(&self) -> impl Iterator<Item = (Place, &'a Event)> + '_ {
+        self.trace.processes().flat_map(|(pid, events)| self.of_process(pid, events))
+    }
+
+    /// The events of a process that are drawn.
+    pub(super) fn of_process<'b>(
+        &'b self,
+        pid: Pid,
+        events: &'a [Event],
+    ) -> impl Iterator<Item = (Place, &'a Event)> + 'b {
+        (0..)
+            .zip(events)
+            .map(move |(index, event)| ((pid, index), event))
+            .filter(|it| self.has(it.1))
+    }
+
+    /// The events that are drawn, each behind what it follows.
+    pub(super) fn in_order(&self) -> Result<Vec<Place>, OutOfMemory> {
+        let order = self.paired.order()?;
+        let reported = order.as_ref().iter().filter_map(|item| match *item {
+            Item::Reported(pid, index) => Some((pid, index)),
+            Item::Hidden(..) => None,
+        });
+        Ok(reported.filter(|&place| self.event(place).is_some_and(|it| self.has(it))).collect())
+    }
+
+    pub(super) fn event(&self, (pid, index): Place) -> Option<&'a Event> {
+        self.trace.streams().events(pid).get(usize::try_from(index).ok()?)
+    }
+
+    /// The number of an event among all events of the trace.
+    pub(super) fn number(&self, (pid, index): Place) -> Option<usize> {
+        let streams = self.trace.streams();
+        let start = self.starts.get(streams.place_of(pid)?)?;
+        (index < streams.len(pid)).then_some(start + index as usize)
+    }
+
+    /// What the event at this place pairs with.
+    pub(super) fn partner(&self, (pid, index): Place, event: &Event) -> Partner {
+        gemshowal::partner_at(self.paired.pairing(), pid, index, event.kind)
+    }
+
+    /// Whether the event at this place is a receive whose send nobody reported.
+    pub(super) fn is_unsent(&self, place: Place, event: &Event) -> bool {
+        matches!(self.partner(place, event), Partner::NoSend)
+    }
+
+    /// What the event at this place follows.
+    pub(super) fn hop(&self, (pid, index): Place) -> Option<Hop> {
+        self.hops.hop(pid, index)
+    }
+
+    /// How many messages are drawn.
+    pub(super) fn count_messages(&self) -> usize {
+        let is_message = |&(place, event): &(Place, &Event)| match event.kind {
+            Kind::Send => true,
+            Kind::Receive => self.is_unsent(place, event),
+            Kind::Print => false,
+        };
+        self.events().filter(is_message).count()
+    }
+
+    /// The processes that an event which is drawn is from or to, by rising pid.
+    pub(super) fn lanes(&self) -> Vec<Pid> {
+        let ends = self.events().flat_map(|(_, event)| [Some(event.from), event.to]);
+        let mut pids: Vec<Pid> = ends.flatten().collect();
+        pids.sort_unstable();
+        pids.dedup();
+        pids
+    }
+
+    /// What an event carries: its term in short, or its value and its counts.
+    pub(super) fn content(&self, event: &Event) -> String {
+        let label = match self.names_labels {
+            true if self.has_terms() => format!(" {}", self.names.label(event.label)),
+            true => format!(" label {}", event.label.0),
+            false => String::new(),
+        };
+        if self.has_terms() {
+            return format!("{}{label}", short(&self.names.brief(event.value)));
+        }
+        format!("{} {}{label}", event.value, gemshowal::Text(event.serial))
+    }
+
+    /// Whether there are terms: a trace without them shows its numbers.
+    pub(super) fn has_terms(&self) -> bool {
+        self.has_terms
+    }
+
+    /// What an event is called.
+    pub(super) fn name(&self, place: Place) -> String {
+        self.names.event(place)
+    }
+
+    /// When an event happened, in nanoseconds after the first one.
+    pub(super) fn time(&self, place: Place) -> Option<i64> {
+        self.names.times()?.of_event(place)
+    }
+}
+
+/// The front of a text.
+pub(super) fn short(text: &str) -> String {
+    match text.char_indices().nth(CHARACTERS) {
+        Some((end, _)) => format!("{}..", text.get(..end).unwrap_or_default()),
+        None => text.into(),
+    }
+}

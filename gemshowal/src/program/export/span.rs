@@ -1,0 +1,219 @@
+//! The spans of OpenTelemetry that a trace tells of.
+//!
+//! A label is one span, from its first event to its last: nothing of it is outside, so that a
+//! message whose send wasn't reported has its place too. Below it are the messages and the work of
+//! processes. What a message follows is what the proved hop says. A span is below the nearest one on
+//! the way back from it that doesn't end before it; the one that it follows directly is linked if it
+//! is below another.
+
+use super::calls::{role, Calls, Role};
+use super::scene::{Place, Scene};
+use super::work::{Work, Works};
+use crate::Failure;
+use gemshowal::{Event, Hop, Kind, Label, Partner};
+use std::collections::BTreeMap;
+
+/// What a span is about.
+#[derive(Clone, Copy, Debug, PartialEq, Eq)]
+pub(super) enum About {
+    /// All events of a label, of which this one is the first.
+    Label(Place),
+    /// The message that was sent here.
+    Message(Place),
+    /// The call whose request was sent here.
+    Call(Place),
+    /// What a process did for the message that it received here.
+    Work(Place),
+    /// The same for the request of a call.
+    Service(Place),
+}
+
+impl About {
+    /// The event that the span is named after.
+    pub(super) fn place(self) -> Place {
+        match self {
+            About::Label(place)
+            | About::Message(place)
+            | About::Call(place)
+            | About::Work(place)
+            | About::Service(place) => place,
+        }
+    }
+}
+
+/// A span, with times in nanoseconds after the first event.
+#[derive(Clone, Copy, Debug)]
+pub(super) struct Span {
+    pub(super) about: About,
+    pub(super) label: Label,
+    pub(super) start: i64,
+    pub(super) end: i64,
+    /// The number of the span that it is below; none of a label.
+    pub(super) parent: Option<u32>,
+    /// The number of the span that it follows directly, unless that is the parent.
+    pub(super) follows: Option<u32>,
+}
+
+/// The spans of a trace, and where its prints belong.
+pub(super) struct Spans<'a> {
+    pub(super) scene: &'a Scene<'a>,
+    pub(super) calls: Calls,
+    works: Works,
+    pub(super) all: Vec<Span>,
+    labels: BTreeMap<u32, u32>,
+    /// For each event the number of the span that it begins.
+    begun: Vec<Option<u32>>,
+    /// The prints with the numbers of their spans.
+    pub(super) prints: Vec<(u32, Place)>,
+}
+
+impl<'a> Spans<'a> {
+    pub(super) fn of(scene: &'a Scene<'a>) -> Result<Spans<'a>, Failure> {
+        let calls = Calls::of(scene);
+        let works = Works::of(scene, &calls);
+        let begun = vec![None; scene.trace.streams().total() as usize];
+        let (all, labels, prints) = (Vec::new(), BTreeMap::new(), Vec::new());
+        let mut spans = Spans { scene, calls, works, all, labels, begun, prints };
+        let order = scene.in_order()?;
+        spans.add_labels(&order);
+        for place in order {
+            if let Some(event) = scene.event(place) {
+                spans.add(place, event);
+            }
+        }
+        spans.prints.sort_by_key(|&(span, _)| span);
+        Ok(spans)
+    }
+
+    /// Adds a span for each label that has an event with a time.
+    fn add_labels(&mut self, order: &[Place]) {
+        for &place in order {
+            let Some((event, time)) = self.scene.event(place).zip(self.scene.time(place)) else {
+                continue;
+            };
+            let next = self.all.len() as u32;
+            let number = *self.labels.entry(event.label.0).or_insert(next);
+            match self.all.get_mut(number as usize) {
+                Some(span) => {
+                    (span.start, span.end) = (span.start.min(time), span.end.max(time));
+                }
+                None => self.all.push(Span {
+                    about: About::Label(place),
+                    label: event.label,
+                    start: time,
+                    end: time,
+                    parent: None,
+                    follows: None,
+                }),
+            }
+        }
+    }
+
+    /// Adds the span that an event begins, if it begins one and there is a time.
+    fn add(&mut self, place: Place, event: &Event) {
+        let times = match event.kind {
+            Kind::Send => self.message(place, event),
+            Kind::Receive => self.work(place, event),
+            Kind::Print => {
+                let span = self.natural_parent(place, event).filter(|_| self.has_time(place));
+                self.prints.extend(span.map(|span| (span, place)));
+                None
+            }
+        };
+        let Some((about, start, end)) = times else { return };
+        let Some(follows) = self.natural_parent(place, event) else { return };
+        let parent = self.that_ends_no_earlier(follows, event.label, end);
+        let follows = Some(follows).filter(|&follows| Some(follows) != parent);
+        let number = self.all.len() as u32;
+        if let Some(begun) = self.scene.number(place).and_then(|it| self.begun.get_mut(it)) {
+            *begun = Some(number);
+        }
+        self.all.push(Span { about, label: event.label, start, end, parent, follows });
+    }
+
+    fn has_time(&self, place: Place) -> bool {
+        self.scene.time(place).is_some()
+    }
+
+    /// The span of a send: to the receive of the reply if that is known, else to the end of the work
+    /// that the message gave. A reply is the end of its call.
+    fn message(&self, place: Place, event: &Event) -> Option<(About, i64, i64)> {
+        let receive = match self.scene.partner(place, event) {
+            Partner::Receive(pid, index) => Some((pid, index)),
+            _ => None,
+        };
+        if receive.is_some_and(|receive| self.calls.request(receive).is_some()) {
+            return None;
+        }
+        let got = receive.and_then(|receive| self.scene.time(receive));
+        let start = self.scene.time(place).or(got)?;
+        let work = receive.and_then(|receive| self.works.at(self.scene, receive));
+        let done = work.and_then(|(_, work)| self.end(work)).or(got);
+        let is_call = matches!(role(self.scene, event.value), Some(Role::Request(_)));
+        let reply = self.calls.reply(place).and_then(|reply| self.scene.time(reply));
+        let about = if is_call { About::Call(place) } else { About::Message(place) };
+        Some((about, start, reply.or(done).unwrap_or(start).max(start)))
+    }
+
+    /// The span of a receive, unless it is that of a reply.
+    fn work(&self, place: Place, event: &Event) -> Option<(About, i64, i64)> {
+        let (_, work) = self.works.at(self.scene, place)?;
+        if work.receive != place {
+            return None;
+        }
+        let end = self.end(work);
+        let start = self.scene.time(place).or(end)?;
+        let is_call = matches!(role(self.scene, event.value), Some(Role::Request(_)));
+        let about = if is_call { About::Service(place) } else { About::Work(place) };
+        Some((about, start, end.unwrap_or(start).max(start)))
+    }
+
+    /// When a process was done with a message: when it replied, or by the last stamp.
+    fn end(&self, work: &Work) -> Option<i64> {
+        let (pid, receive) = work.receive;
+        let last = work.reply.unwrap_or(work.last);
+        self.scene.time((pid, last)).or_else(|| self.scene.time((pid, receive)))
+    }
+
+    /// The span that an event follows directly: a receive that of its message, a stamp that of the
+    /// work, and what has none that of its label.
+    fn natural_parent(&self, place: Place, event: &Event) -> Option<u32> {
+        let before = match self.scene.partner(place, event) {
+            Partner::Send(pid, index) => self.begun((pid, index)),
+            _ => {
+                let work = self.works.at(self.scene, place).filter(|_| event.kind != Kind::Receive);
+                work.and_then(|(_, work)| self.begun(work.receive))
+            }
+        };
+        before.or_else(|| self.labels.get(&event.label.0).copied())
+    }
+
+    /// The span that the event at this place begins.
+    pub(super) fn begun(&self, place: Place) -> Option<u32> {
+        *self.begun.get(self.scene.number(place)?)?
+    }
+
+    /// The nearest span from this one on up that doesn't end before this time, of this label.
+    fn that_ends_no_earlier(&self, from: u32, label: Label, end: i64) -> Option<u32> {
+        let up = |&number: &u32| self.all.get(number as usize)?.parent;
+        let fits = |number: &u32| {
+            let span = self.all.get(*number as usize);
+            span.is_some_and(|span| span.end >= end && span.label == label)
+        };
+        std::iter::successors(Some(from), up)
+            .find(fits)
+            .or_else(|| self.labels.get(&label.0).copied())
+    }
+
+    /// The span of the receive that an event's process had under another label before it.
+    pub(super) fn of_other_label(&self, place: Place) -> Option<u32> {
+        match self.scene.hop(place)? {
+            Hop::OtherLabel(index, _) => self.begun((place.0, index)),
+            _ => None,
+        }
+    }
+
+    pub(super) fn get(&self, number: u32) -> Option<&Span> {
+        self.all.get(number as usize)
+    }
+}

@@ -1,0 +1,103 @@
+//! How a command ends, and why there is no result.
+
+use crate::names;
+use gemshowal::{CertificateError, OutOfMemory};
+use std::io::{self, ErrorKind};
+use thiserror::Error;
+
+/// How a command ended, unless by an error.
+#[derive(Clone, Copy, Debug, PartialEq, Eq)]
+pub(crate) enum Status {
+    Yes = 0,
+    No = 1,
+    /// The text is none of a trace.
+    Faulty = 2,
+    /// Two programs disagree.
+    Differs = 4,
+    /// There is an answer, too long to be read again.
+    Long = 5,
+}
+
+/// The status of a program whose reader has gone, as a shell has it for one that a signal ended.
+pub(crate) const PIPE: u8 = 141;
+
+/// Why there is no result. `{0}` is the input's name.
+#[derive(Debug, Error)]
+pub(crate) enum Failure {
+    #[error("memory ran out")]
+    Memory(#[from] OutOfMemory),
+    #[error("{0} can't be opened: {2}{1}")]
+    Unopened(String, String, #[source] io::Error),
+    #[error("{0} can't be read: {1}")]
+    Unread(String, #[source] io::Error),
+    #[error("{0} has more than {most} bytes", most = gemshowal::LIMITS.bytes)]
+    TooLarge(String),
+    #[error("{0}{1}; see gemshowal lint")]
+    Faulty(String, String),
+    #[error("{0} has no acts: look for some with gemshowal audit --acts")]
+    NoActs(String),
+    #[error(transparent)]
+    Beside(#[from] names::Fault),
+    #[error(transparent)]
+    NotFound(#[from] names::NotFound),
+    #[error("{0} has no times: events need the flag timestamp, and NAME.times beside the trace")]
+    NoTimes(String),
+    #[error("the cut leaves none of {0}: no event has all that the options ask for")]
+    NothingLeft(String),
+    #[error("{0} has a completion, with more acts or processes than are read")]
+    TooLong(String),
+    #[error("the acts that were built don't show the streams of {0}")]
+    Uncertified(String),
+    #[error("{0} can't be written: {1}")]
+    Unkept(String, #[source] io::Error),
+    #[error("{0}")]
+    Program(String),
+    #[error(
+        "the chart has {0} rows, and a drawing takes {1}: make a page (gemshowal page), or cut the \
+         trace"
+    )]
+    TooManyRows(usize, usize),
+    #[error("standard output can't be written: {0}")]
+    Unwritten(#[from] io::Error),
+}
+
+impl Failure {
+    pub(crate) fn status(&self) -> u8 {
+        match self {
+            Failure::TooLarge(_)
+            | Failure::Faulty(..)
+            | Failure::NoActs(_)
+            | Failure::Beside(names::Fault::Wrong { .. }) => Status::Faulty as u8,
+            Failure::NotFound(names::NotFound::Memory(_)) => 4,
+            Failure::NotFound(_) | Failure::NoTimes(_) | Failure::NothingLeft(_) => {
+                Status::No as u8
+            }
+            Failure::TooLong(_) => Status::Long as u8,
+            Failure::Unread(_, reason) if reason.kind() == ErrorKind::InvalidData => {
+                Status::Faulty as u8
+            }
+            Failure::TooManyRows(..) => Status::Long as u8,
+            Failure::Unwritten(reason) if reason.kind() == ErrorKind::BrokenPipe => PIPE,
+            _ => 4,
+        }
+    }
+}
+
+impl Failure {
+    /// Why the acts of a completion of this trace weren't written.
+    pub(crate) fn of_acts(error: CertificateError, name: &str) -> Failure {
+        match error {
+            CertificateError::Io(reason) => reason.into(),
+            CertificateError::Memory(error) => error.into(),
+            CertificateError::TooLong => Failure::TooLong(name.into()),
+            CertificateError::Uncertified => Failure::Uncertified(name.into()),
+        }
+    }
+}
+
+impl From<serde_json::Error> for Failure {
+    /// Objects of ours always have a text, so the writer failed.
+    fn from(error: serde_json::Error) -> Failure {
+        Failure::Unwritten(error.into())
+    }
+}

@@ -1,0 +1,207 @@
+//! An input: standard input, a file, or the file of a trace's name, packed by gzip or not.
+
+use crate::lint;
+use crate::names::{self, Messages, Names};
+use crate::output::Notes;
+use crate::progress::{Counter, Progress};
+use crate::spool::Spool;
+use crate::Failure;
+use flate2::read::MultiGzDecoder;
+use gemshowal::{ReadError, Trace};
+use std::fs::File;
+use std::io::{self, BufReader, Cursor, ErrorKind, IsTerminal, Read, Seek};
+use std::path::{Path, PathBuf};
+
+/// What a packed file begins with.
+const GZIP: &[u8] = b"\x1f\x8b";
+
+/// An input that is open, with the name that messages call it by.
+pub(crate) struct Input {
+    name: String,
+    /// The file, or `-`.
+    path: PathBuf,
+    /// The same file, to be read once more; none of standard input.
+    file: Option<File>,
+    reader: Box<dyn Read>,
+    counter: Counter,
+}
+
+impl Input {
+    /// Opens the file of this path, that of the trace of this name, or standard input for `-`.
+    pub(crate) fn open(path: &Path) -> Result<Input, Failure> {
+        let path = names::trace_file(path);
+        let counter = Counter::default();
+        if path == Path::new("-") {
+            let name = "standard input".to_owned();
+            let reader = unpacked(Box::new(io::stdin().lock()));
+            let reader = reader.map_err(|reason| Failure::Unread(name.clone(), reason))?;
+            return Ok(Input { name, path, file: None, reader, counter });
+        }
+        let name = path.to_string_lossy().into_owned();
+        let opened = File::open(&path).and_then(|file| Ok((file.try_clone()?, file)));
+        let (again, file) = opened
+            .map_err(|reason| Failure::Unopened(on_one_line(&name).into(), hint(&path), reason))?;
+        let reader = unpacked(Box::new(file));
+        let reader = reader.map_err(|reason| Failure::Unread(on_one_line(&name).into(), reason))?;
+        Ok(Input { name, path, file: Some(again), reader, counter })
+    }
+
+    /// These bytes as standard input gives them.
+    #[cfg(test)]
+    pub(crate) fn of_bytes(bytes: &[u8]) -> Input {
+        Input {
+            name: "standard input".into(),
+            path: "-".into(),
+            file: None,
+            reader: Box::new(Cursor::new(bytes.to_vec())),
+            counter: Counter::default(),
+        }
+    }
+
+    /// What messages call it, whole: also with a line break in it.
+    pub(crate) fn name(&self) -> &str {
+        &self.name
+    }
+
+    /// The name on one line: one with a line break would look like another file's.
+    pub(crate) fn line_name(&self) -> &str {
+        on_one_line(&self.name)
+    }
+
+    /// What a command line calls the trace: its name without the extension, if it has files beside.
+    pub(crate) fn word(&self) -> String {
+        let path = self.path.to_string_lossy();
+        path.strip_suffix(".seqtrace").unwrap_or(&path).to_owned()
+    }
+
+    /// What the files beside it say of its trace.
+    pub(crate) fn names(&self, trace: &Trace, notes: &mut Notes) -> Result<Names, Failure> {
+        Ok(Names::beside(&self.path, trace, notes)?)
+    }
+
+    /// The whole texts of messages that the names have cut, for which `is_wanted` is true.
+    pub(crate) fn messages(&self, is_wanted: impl Fn(u64) -> bool) -> Result<Messages, Failure> {
+        Ok(Messages::beside(&self.path, is_wanted)?)
+    }
+
+    /// The name of the trace without its folder.
+    pub(crate) fn title(&self) -> String {
+        let word = self.word();
+        Path::new(&word).file_name().map_or(word.clone(), |name| name.to_string_lossy().into())
+    }
+
+    /// Says on a terminal how much was read, if that takes long.
+    pub(crate) fn watch(&self, is_wanted: bool) -> Option<Progress> {
+        (is_wanted && io::stderr().is_terminal()).then(|| Progress::of(&self.counter))
+    }
+
+    /// The trace that it is the text of.
+    pub(crate) fn trace(&mut self) -> Result<Trace, Failure> {
+        let mut spool = self.file.is_none().then(Spool::default);
+        let read = Trace::read(Kept { input: self, spool: spool.as_mut() });
+        read.map_err(|error| match error {
+            ReadError::Memory(error) => error.into(),
+            ReadError::Io(reason) => self.unread(reason),
+            ReadError::TooLarge => Failure::TooLarge(self.line_name().into()),
+            ReadError::Faulty(fault) => {
+                let text = spool.map_or_else(|| self.again(), Spool::bytes);
+                let words = text.ok().and_then(|text| lint::first_refused(&text));
+                let words = words.unwrap_or_else(|| format!(": {fault}"));
+                Failure::Faulty(self.line_name().into(), words)
+            }
+        })
+    }
+
+    /// All its bytes.
+    pub(crate) fn bytes(&mut self) -> Result<Vec<u8>, Failure> {
+        let mut bytes = Vec::new();
+        let most = gemshowal::LIMITS.bytes;
+        let read = Kept { input: self, spool: None }.take(most + 1).read_to_end(&mut bytes);
+        match read {
+            Err(reason) => Err(self.unread(reason)),
+            Ok(count) if count as u64 > most => Err(Failure::TooLarge(self.line_name().into())),
+            Ok(_) => Ok(bytes),
+        }
+    }
+
+    /// All bytes of a file, from its front.
+    fn again(&mut self) -> io::Result<Vec<u8>> {
+        let mut file = self.file.take().ok_or(ErrorKind::Unsupported)?;
+        file.rewind()?;
+        let mut bytes = Vec::new();
+        unpacked(Box::new(file))?.read_to_end(&mut bytes)?;
+        Ok(bytes)
+    }
+
+    fn unread(&self, reason: io::Error) -> Failure {
+        match reason.kind() {
+            ErrorKind::OutOfMemory => gemshowal::OutOfMemory.into(),
+            _ => Failure::Unread(self.line_name().into(), reason),
+        }
+    }
+}
+
+/// A reader of what this one reads, unpacked if it is packed.
+fn unpacked(mut reader: Box<dyn Read>) -> io::Result<Box<dyn Read>> {
+    let mut front = Vec::new();
+    reader.by_ref().take(GZIP.len() as u64).read_to_end(&mut front)?;
+    let is_packed = front == GZIP;
+    let whole = Cursor::new(front).chain(reader);
+    if is_packed {
+        Ok(Box::new(Unpacking(MultiGzDecoder::new(BufReader::new(whole)))))
+    } else {
+        Ok(Box::new(whole))
+    }
+}
+
+/// Unpacks, and says of an error that it is one of the packing.
+struct Unpacking<R>(MultiGzDecoder<R>);
+
+impl<R: Read> Read for Unpacking<R> {
+    fn read(&mut self, piece: &mut [u8]) -> io::Result<usize> {
+        self.0.read(piece).map_err(|error| match error.kind() {
+            ErrorKind::InvalidInput | ErrorKind::InvalidData | ErrorKind::UnexpectedEof => {
+                io::Error::new(
+                    ErrorKind::InvalidData,
+                    "it is packed by gzip, and damaged or cut short",
+                )
+            }
+            _ => error,
+        })
+    }
+}
+
+/// Reads, counts what is read, and keeps it if that is wanted.
+struct Kept<'a> {
+    input: &'a mut Input,
+    spool: Option<&'a mut Spool>,
+}
+
+impl Read for Kept<'_> {
+    fn read(&mut self, piece: &mut [u8]) -> io::Result<usize> {
+        let taken = self.input.reader.read(piece)?;
+        self.input.counter.count(taken);
+        if let (Some(spool), Some(bytes)) = (&mut self.spool, piece.get(..taken)) {
+            spool.keep(bytes);
+        }
+        Ok(taken)
+    }
+}
+
+/// What to say of a file that isn't there, if another one is.
+fn hint(path: &Path) -> String {
+    let name = path.with_extension("");
+    let is_beside = path.extension().is_some_and(|it| it != "seqtrace");
+    if is_beside && name.with_extension("seqtrace").is_file() {
+        return format!(" (there is a trace of the name {})", name.display());
+    }
+    String::new()
+}
+
+fn on_one_line(name: &str) -> &str {
+    if name.chars().any(char::is_control) {
+        "a file with a control character in its name"
+    } else {
+        name
+    }
+}

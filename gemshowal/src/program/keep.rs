@@ -1,0 +1,17 @@
+//! Files that a command writes besides its result.
+
+use crate::Failure;
+use std::fs::OpenOptions;
+use std::io::Write;
+use std::os::unix::fs::OpenOptionsExt;
+use std::path::Path;
+
+/// The owner alone may read what is written, since it has the contents of messages.
+const OWN: u32 = 0o600;
+
+/// Writes a file. One that is there keeps its mode.
+pub(crate) fn keep(file: &Path, bytes: &[u8]) -> Result<(), Failure> {
+    let opened = OpenOptions::new().write(true).create(true).truncate(true).mode(OWN).open(file);
+    let written = opened.and_then(|mut file| file.write_all(bytes));
+    written.map_err(|reason| Failure::Unkept(file.display().to_string(), reason))
+}

@@ -1,0 +1,380 @@
+//! The mistakes of a text, line by line. Behind a mistake a line is judged as if what was meant above stood there, so that no
+//! mistake is named twice.
+
+use super::form::remedy_of_text;
+use super::grammar::{common, Above, Counts, Expected, NamedPid, Scan, Sort};
+use super::kind::Kind;
+use super::mend::{mends, Ending};
+use super::mistake::{Mistake, Wanted};
+use super::remedy::{remedy_of, remedy_of_front, remedy_of_header, remedy_of_version};
+use super::survey::{process_pid, Survey};
+use super::text::{line_end, lines, Line};
+use gemshowal::LIMITS;
+use std::collections::HashSet;
+
+/// Finds the mistakes of a text, in its order.
+pub(super) fn judge<'a>(text: &'a [u8], mut add: impl FnMut(Mistake<'a>)) {
+    let first = lines(text).next().unwrap_or(Line { number: 1, bytes: b"", is_ended: false });
+    if let Some(remedy) = remedy_of_text(text) {
+        return add(Mistake::new(
+            first,
+            0,
+            Wanted::Words("the header seqtrace 1 or seqtrace 2"),
+            remedy,
+        ));
+    }
+    if line_end(text) == b'\r' {
+        let remedy =
+            "lines end with a carriage return alone, as on old Macs: end each with a newline";
+        add(Mistake::new(first, first.bytes.len(), Wanted::Words("a newline"), remedy).by_fix());
+    }
+    let mut judge = Judge::new(Survey::of(text));
+    for line in lines(text) {
+        judge.take(line);
+        judge.found.drain(..).for_each(&mut add);
+    }
+}
+
+/// A process line above: its pid, as text and by its numbers.
+#[derive(Clone, Copy, Debug)]
+struct Process<'a> {
+    text: &'a str,
+    pid: (u64, u64),
+}
+
+/// What the lines so far say of the next one.
+#[derive(Debug)]
+struct Judge<'a> {
+    survey: Survey<'a>,
+    above: Above,
+    /// The header lets pids of other nodes in, or that it doesn't was named.
+    is_wide: bool,
+    /// The last process line whose pid could be read.
+    last: Option<Process<'a>>,
+    /// The pid of the process above, if it could be read.
+    current: Option<&'a str>,
+    listed: HashSet<(u64, u64)>,
+    /// Pids without a process line that were named.
+    named: HashSet<(u64, u64)>,
+    events: u32,
+    acts: u32,
+    /// The mistakes of the line.
+    found: Vec<Mistake<'a>>,
+}
+
+impl<'a> Judge<'a> {
+    fn new(survey: Survey<'a>) -> Judge<'a> {
+        Judge {
+            survey,
+            above: Above::Nothing,
+            is_wide: false,
+            last: None,
+            current: None,
+            listed: HashSet::new(),
+            named: HashSet::new(),
+            events: 0,
+            acts: 0,
+            found: Vec::new(),
+        }
+    }
+
+    fn take(&mut self, line: Line<'a>) {
+        if self.above == Above::Nothing {
+            self.take_header(line);
+        } else {
+            self.take_line(line);
+        }
+        if !line.is_ended {
+            self.take_end(line);
+        }
+    }
+
+    /// Adds a mistake that a person has to mend.
+    fn add(&mut self, line: Line<'a>, column: usize, wanted: Wanted<'a>, remedy: &'static str) {
+        self.found.push(Mistake::new(line, column, wanted, remedy));
+    }
+
+    /// Adds a mistake that `--fix` mends.
+    fn add_by_fix(
+        &mut self,
+        line: Line<'a>,
+        column: usize,
+        words: &'static str,
+        remedy: &'static str,
+    ) {
+        self.found.push(Mistake::new(line, column, Wanted::Words(words), remedy).by_fix());
+    }
+
+    /// Adds that a line breaks off.
+    fn add_broken(
+        &mut self,
+        line: Line<'a>,
+        column: usize,
+        expected: Expected,
+        remedy: &'static str,
+        is_by_fix: bool,
+    ) {
+        self.found.push(Mistake {
+            is_by_fix,
+            ..Mistake::new(line, column, Wanted::Grammar(expected), remedy)
+        });
+    }
+
+    fn take_header(&mut self, line: Line<'a>) {
+        let mut scan = Scan::new(line.bytes);
+        let Err(expected) = scan.whole(Above::Nothing) else {
+            return self.take_width(line);
+        };
+        let kind = Kind::of(line.bytes);
+        let column = scan.column(false);
+        let is_mended = mends(line.behind_mark(), Above::Nothing);
+        let is_remote = self.survey.is_remote;
+        // What is behind a carriage return is mended as a line of its own.
+        let is_returned = line.bytes.get(column) == Some(&b'\r');
+        let (remedy, is_by_fix) = match kind {
+            Kind::Comment | Kind::Other => {
+                (remedy_of(line.bytes, column, Above::Nothing, expected), is_mended)
+            }
+            Kind::Header if is_mended || is_returned => {
+                (remedy_of_front(line.bytes, column, is_remote), true)
+            }
+            Kind::Header => (remedy_of_version(line.behind_mark(), is_remote), false),
+            _ => (remedy_of_header(is_remote), true),
+        };
+        self.add_broken(line, column, expected, remedy, is_by_fix);
+        match kind {
+            // The header may still come.
+            Kind::Comment | Kind::Other => {}
+            Kind::Header => self.begin(is_remote),
+            _ => {
+                self.begin(is_remote);
+                self.take_line(line);
+            }
+        }
+    }
+
+    /// Goes on below a header, or as if one were there.
+    fn begin(&mut self, is_wide: bool) {
+        self.above = Above::Header;
+        self.is_wide = is_wide;
+    }
+
+    /// Judges whether the header is the one that the pids need.
+    fn take_width(&mut self, line: Line<'a>) {
+        self.begin(line.bytes == b"seqtrace 2");
+        if self.is_wide && !self.survey.is_remote {
+            let remedy = "no pid of a node other than 0 is named, so the header is seqtrace 1";
+            self.add_by_fix(line, line.bytes.len() - 1, "1", remedy);
+        }
+    }
+
+    fn take_line(&mut self, line: Line<'a>) {
+        let mut scan = Scan::new(line.bytes);
+        let read = scan.whole(self.above);
+        if scan.is_remote && !self.is_wide {
+            let remedy = "a bundle that names a pid of another node begins with seqtrace 2";
+            self.add_by_fix(line, scan.column(false), "node 0 under seqtrace 1", remedy);
+            self.is_wide = true;
+        }
+        match read {
+            Ok(sort) => self.take_sort(line, sort, &scan),
+            Err(expected) => {
+                let column = scan.column(self.is_wide);
+                let remedy = remedy_of(line.bytes, column, self.above, expected);
+                self.add_broken(
+                    line,
+                    column,
+                    expected,
+                    remedy,
+                    mends(line.behind_mark(), self.above),
+                );
+                self.pass(line, scan.pids.first());
+            }
+        }
+    }
+
+    /// Passes a line that isn't one of the grammar's, as what it was meant to be.
+    fn pass(&mut self, line: Line<'a>, pid: Option<&NamedPid>) {
+        match (Kind::of(line.bytes), self.above) {
+            (Kind::Process, _) => {
+                self.above = Above::Process;
+                self.current = process_pid(line.bytes);
+                self.last =
+                    self.current.zip(pid).map(|(text, place)| Process { text, pid: place.pid });
+            }
+            (Kind::Event, Above::Header) => {
+                self.above = Above::Process;
+                self.current = None;
+            }
+            (Kind::Acts | Kind::Act, _) => self.above = Above::Acts,
+            (Kind::Header, _) => {
+                self.above = Above::Header;
+                self.last = None;
+            }
+            _ => {}
+        }
+    }
+
+    /// Judges a line that is one of the grammar's.
+    fn take_sort(&mut self, line: Line<'a>, sort: Sort, scan: &Scan<'a>) {
+        match (sort, scan.pids.as_slice()) {
+            (Sort::Acts, _) => self.above = Above::Acts,
+            (Sort::Process, &[pid, ..]) => self.take_process(line, pid),
+            (Sort::Stamp, &[from, ..]) => self.take_event(line, from, scan),
+            (Sort::Receive, &[.., to]) => self.take_event(line, to, scan),
+            (Sort::Act, &[actor, ..]) => self.take_act(line, &[actor]),
+            (Sort::SendAct, pids) => self.take_act(line, pids),
+            _ => {}
+        }
+    }
+
+    /// Judges whether a process line is above the one before.
+    fn take_process(&mut self, line: Line<'a>, place: NamedPid) {
+        self.above = Above::Process;
+        let process = Process { text: place.text(line.bytes), pid: place.pid };
+        let is_new = self.listed.insert(place.pid);
+        match self.last {
+            Some(last) if process.pid <= last.pid => {
+                let column = place.start + rising_bytes(last.pid, process.text);
+                self.add(line, column, Wanted::Above(last.text), RISING);
+            }
+            _ if !is_new => self.add(
+                line,
+                place.start,
+                Wanted::Words("a pid without a process line above"),
+                RISING,
+            ),
+            _ => {}
+        }
+        self.last = Some(process);
+        self.current = Some(process.text);
+        if is_new {
+            self.limit(line, "process", self.listed.len() as u32, LIMITS.processes);
+        }
+    }
+
+    /// Judges an event that the process at this place reports.
+    fn take_event(&mut self, line: Line<'a>, reporter: NamedPid, scan: &Scan<'a>) {
+        let pid = reporter.text(line.bytes);
+        if let Some(current) = self.current.filter(|current| *current != pid) {
+            let column = reporter.start + common(pid.as_bytes(), current.as_bytes());
+            let remedy = "an event stands below the process that reports it: a receive below its to, others below their from";
+            self.add(line, column, Wanted::EventOf(current, pid), remedy);
+        }
+        self.events = self.events.saturating_add(1);
+        self.limit(line, "event", self.events, LIMITS.events);
+        for place in &scan.pids {
+            // Below a process line that can't be read its own process is taken to report.
+            if self.current.is_some() || place.start != reporter.start {
+                self.take_pid(line, *place);
+            }
+        }
+        if let Some(Counts { prev, start, .. }) =
+            scan.counts.filter(|counts| counts.prev >= counts.this)
+        {
+            let remedy =
+                "no run of the machine reports it, since its second count isn't above its first; on a standard node a \
+                          token that was put back, or set by hand, may give such a serial";
+            self.found.push(Mistake {
+                is_read: true,
+                ..Mistake::new(line, start, Wanted::Greater(prev), remedy)
+            });
+        }
+    }
+
+    /// Judges an act for which the pids at these places have to be listed.
+    fn take_act(&mut self, line: Line<'a>, pids: &[NamedPid]) {
+        self.acts = self.acts.saturating_add(1);
+        self.limit(line, "act", self.acts, LIMITS.acts);
+        for place in pids {
+            self.take_pid(line, *place);
+        }
+    }
+
+    /// Judges whether a line of this noun is the first beyond the most that a text has.
+    fn limit(&mut self, line: Line<'a>, noun: &'static str, count: u32, most: u32) {
+        if count == most + 1 {
+            self.add(
+                line,
+                0,
+                Wanted::NoMore(noun, most),
+                "cut the trace: a shorter time, or fewer processes",
+            );
+        }
+    }
+
+    /// Judges whether a pid has a process line; one that has none is named once.
+    fn take_pid(&mut self, line: Line<'a>, place: NamedPid) {
+        let pid = place.text(line.bytes);
+        if self.current == Some(pid) {
+            return;
+        }
+        let Some(count) = self.survey.unlisted_bytes(pid) else { return };
+        if self.named.insert(place.pid) {
+            let remedy = if self.survey.is_cut {
+                "the text may break off before its process line: get the whole of it, or add that line"
+            } else {
+                "add its process line; or, if the text breaks off above that, get the whole of it"
+            };
+            self.add(line, place.start + count, Wanted::Listed(pid), remedy);
+        }
+    }
+
+    /// Judges the end of a text whose last line, which this is, has no newline.
+    fn take_end(&mut self, line: Line<'a>) {
+        let end = line.bytes.len();
+        if let Some(mistake) = self.found.iter_mut().find(|mistake| mistake.column == end) {
+            mistake.remedy = "the text breaks off here: get the whole of it, or leave the line out";
+            mistake.is_by_fix = false;
+            return;
+        }
+        let wanted = "a newline at the end";
+        match Ending::of(line.behind_mark()) {
+            Ending::Whole => self.add_by_fix(
+                line,
+                end,
+                wanted,
+                "each line is ended by a newline, the last one too",
+            ),
+            Ending::Number => {
+                let remedy = "the text may break off within this number: see whether it is whole, and end the line";
+                self.add(line, end, Wanted::Words(wanted), remedy);
+            }
+            Ending::Part => {
+                let remedy =
+                    "the text may break off here: see whether the line is whole, and end it";
+                self.add(line, end, Wanted::Words(wanted), remedy);
+            }
+        }
+    }
+}
+
+const RISING: &str = "list the processes by rising pid, each once";
+
+/// How many bytes of a pid's text some pid above the last one begins with.
+fn rising_bytes(last: (u64, u64), pid: &str) -> usize {
+    (0..pid.len()).find(|&count| greatest_pid(&pid[..=count]) <= last).unwrap_or(pid.len())
+}
+
+/// The greatest pid whose text begins with this.
+fn greatest_pid(front: &str) -> (u64, u64) {
+    let most = u64::from(u16::MAX);
+    match front.trim_start_matches('<').split('.').collect::<Vec<_>>()[..] {
+        [node] => (greatest_from(node), most),
+        [node, number] => (node.parse().unwrap_or(most), greatest_from(number)),
+        [node, number, ..] => (node.parse().unwrap_or(most), number.parse().unwrap_or(most)),
+        [] => (most, most),
+    }
+}
+
+/// The greatest number up to 65,535 whose digits begin with these.
+fn greatest_from(digits: &str) -> u64 {
+    let most = u64::from(u16::MAX);
+    let Ok(value) = digits.parse::<u64>() else { return most };
+    if value == 0 {
+        return 0;
+    }
+    let longest =
+        (0..5).map(|count| 10_u64.pow(count)).rfind(|span| value * span <= most).unwrap_or(1);
+    most.min(value * longest + longest - 1)
+}

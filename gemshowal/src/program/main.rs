@@ -1,0 +1,173 @@
+//! The program `gemshowal`: what a trace says, for people and as JSON.
+//!
+//! What is found comes from the proved libraries, through `gemshowal` (the library); the words are
+//! made here, and nothing of them is proved.
+#![forbid(unsafe_code)]
+
+mod args;
+mod audit;
+mod causes;
+mod chart;
+mod check;
+mod complete;
+mod cut;
+mod diff;
+mod durations;
+mod erlang;
+mod explain;
+mod export;
+mod failure;
+#[cfg(test)]
+mod fuzz;
+mod input;
+mod keep;
+mod late;
+mod lint;
+mod list;
+mod moment;
+mod names;
+mod object;
+mod output;
+mod page;
+mod progress;
+mod reason;
+mod spool;
+mod stats;
+mod svg;
+mod times;
+mod view;
+mod why;
+mod words;
+
+use crate::args::{Args, Command};
+use crate::failure::{Failure, Status, PIPE};
+use crate::input::Input;
+use crate::output::{Headings, Notes, Output};
+use clap::Parser;
+use serde::Serialize;
+use std::io::ErrorKind;
+use std::path::Path;
+use std::process::ExitCode;
+
+/// The status of a command line that isn't understood.
+const USAGE: u8 = 3;
+
+/// An object in place of a result.
+#[derive(Serialize)]
+struct Failed {
+    status: u8,
+    error: String,
+}
+
+/// Does the command on one input.
+fn run_on(
+    command: &Command,
+    input: &mut Input,
+    out: &mut Output,
+    notes: &mut Notes,
+) -> Result<Status, Failure> {
+    let json = command.is_json();
+    let status = match command {
+        Command::Audit(args) => audit::run(args, json, input, out, notes),
+        Command::Check(_) => check::run(json, input, out),
+        Command::Complete(args) => complete::run(args, json, input, out, notes),
+        Command::Cut(args) => cut::run(args, input, out, notes),
+        Command::Explain(_) => explain::run(json, input, out),
+        Command::Lint(args) => lint::run(args, json, input, out, notes),
+        Command::List(args) => list::run(args, json, input, out, notes),
+        Command::Page(args) => page::run(args, input, out, notes),
+        Command::Stats(_) => stats::run(json, input, out, notes),
+        Command::Collect(_) | Command::Watch(_) | Command::Convert(_) => Ok(Status::Yes),
+        Command::Chart(args) => chart::run(args, json, input, out, notes),
+        Command::Diff(args) => diff::run(args, json, input, out, notes),
+        Command::Export(args) => export::run(args, input, out, notes),
+        Command::Times(args) => times::run(args, json, input, out, notes),
+        Command::Why(args) => why::run(args, json, input, out, notes),
+    }?;
+    out.finish()?;
+    Ok(status)
+}
+
+/// Opens an input, and does the command on it. In place of a result JSON has an object too.
+fn run_on_path(
+    command: &Command,
+    path: &Path,
+    headings: &mut Headings,
+    notes: &mut Notes,
+) -> Result<Status, Failure> {
+    let mut opened = Input::open(path);
+    let (name, progress) = match &opened {
+        Ok(input) => (input.name().to_owned(), input.watch(!command.is_quiet())),
+        Err(_) => (path.to_string_lossy().into_owned(), None),
+    };
+    let mut out = headings.output(&name, progress)?;
+    let ended = match &mut opened {
+        Ok(input) => run_on(command, input, &mut out, notes),
+        Err(_) => opened.map(|_| Status::Yes),
+    };
+    let ended = ended.or_else(|failure| report(failure, command.is_json(), &mut out));
+    headings.note(&out);
+    ended
+}
+
+/// Reports a failure as JSON if that is asked for, and returns it.
+fn report(failure: Failure, is_json: bool, out: &mut Output) -> Result<Status, Failure> {
+    out.forget();
+    if is_json && !matches!(failure, Failure::Unwritten(_)) {
+        let failed = Failed { status: failure.status(), error: failure.to_string() };
+        out.report("failed", &failed)?;
+    }
+    out.finish()?;
+    Err(failure)
+}
+
+/// Does the command on one input after the other. The status is that of the worst.
+fn run(command: &Command) -> u8 {
+    let mut status = 0;
+    let several = command.files().len() > 1 && !command.is_json();
+    let mut headings = Headings::new(command.word(), several, command.is_quiet());
+    for path in command.files() {
+        let mut notes = Notes::new(command.is_quiet());
+        let ended = run_on_path(command, path, &mut headings, &mut notes);
+        if ended.as_ref().is_err_and(|failure| failure.status() == PIPE) {
+            return PIPE;
+        }
+        notes.send();
+        match ended {
+            Ok(ended) => status = status.max(ended as u8),
+            Err(failure) => {
+                output::say_red(format_args!("error: {failure}\n"));
+                status = status.max(failure.status());
+                if matches!(failure, Failure::Unwritten(_)) {
+                    break;
+                }
+            }
+        }
+    }
+    status
+}
+
+/// Prints what the reader of the command line says: help, the version, or what it doesn't
+/// understand.
+fn print(error: &clap::Error) -> u8 {
+    match error.print() {
+        Err(reason) if reason.kind() == ErrorKind::BrokenPipe => PIPE,
+        Err(reason) => {
+            output::say_red(format_args!("error: {}\n", Failure::Unwritten(reason)));
+            4
+        }
+        Ok(()) if error.use_stderr() => USAGE,
+        Ok(()) => 0,
+    }
+}
+
+fn main() -> ExitCode {
+    let read = Args::try_parse().and_then(|args| args.command.checked());
+    ExitCode::from(match read {
+        Ok(command) => match command.handed() {
+            Some(args) => erlang::hand_over(command.word(), &args.words),
+            None => run(&command),
+        },
+        Err(error) => print(&error),
+    })
+}

@@ -1,0 +1,101 @@
+//! Times in words. All are whole nanoseconds, as `NAME.times` has them.
+
+use crate::names::Times;
+
+const MICRO: i64 = 1_000;
+const MILLI: i64 = 1_000_000;
+const SECOND: i64 = 1_000_000_000;
+const DAY: i64 = 86_400 * SECOND;
+
+/// So much of a unit is still shown in it: four digits or fewer.
+const FEW: i64 = 10_000;
+
+/// A time with all its microseconds: `0.000350 s`.
+pub(crate) fn seconds(time: i64) -> String {
+    let size = time.unsigned_abs();
+    let (whole, rest) = (size / SECOND.unsigned_abs(), size % SECOND.unsigned_abs());
+    let sign = if time < 0 { "-" } else { "" };
+    format!("{sign}{whole}.{:06} s", rest / MICRO.unsigned_abs())
+}
+
+/// A time in the unit that shows it with few digits: `350 us`.
+pub(crate) fn span(time: i64) -> String {
+    let (size, unit) = match time.unsigned_abs() {
+        size if size < FEW as u64 => (1, "ns"),
+        size if size < (FEW * MICRO) as u64 => (MICRO, "us"),
+        size if size < (FEW * MILLI) as u64 => (MILLI, "ms"),
+        _ => (SECOND, "s"),
+    };
+    format!("{} {unit}", time / size)
+}
+
+/// Times in the unit of the greatest, so that they can be compared at a glance.
+pub(crate) fn spans(times: &[i64]) -> Vec<String> {
+    let greatest = times.iter().map(|time| time.unsigned_abs()).max().unwrap_or(0);
+    let (size, unit) = match greatest {
+        greatest if greatest < FEW as u64 => {
+            return times.iter().map(|time| format!("{time} ns")).collect()
+        }
+        greatest if greatest < (FEW * MICRO) as u64 => (MICRO, "us"),
+        _ => (MILLI, "ms"),
+    };
+    times.iter().map(|&time| format!("{:.3} {unit}", time as f64 / size as f64)).collect()
+}
+
+/// A time since 1970 as RFC 3339 writes it: `2026-11-27T01:22:18.123456Z`.
+pub(crate) fn clock(since_1970: i64) -> String {
+    let (year, month, day) = date(since_1970.div_euclid(DAY));
+    let micros = since_1970.rem_euclid(DAY) / MICRO;
+    let (seconds, micros) = (micros / 1_000_000, micros % 1_000_000);
+    let (hour, minute, second) = (seconds / 3600, seconds / 60 % 60, seconds % 60);
+    format!("{year:04}-{month:02}-{day:02}T{hour:02}:{minute:02}:{second:02}.{micros:06}Z")
+}
+
+/// The date of a day since 1970, by the Gregorian calendar: years are counted from March, so that a
+/// leap day ends one.
+fn date(day: i64) -> (i64, i64, i64) {
+    const FROM_MARCH_0000: i64 = 719_468;
+    const ERA: i64 = 146_097;
+    let day = day + FROM_MARCH_0000;
+    let (era, of_era) = (day.div_euclid(ERA), day.rem_euclid(ERA));
+    let year = (of_era - of_era / 1_460 + of_era / 36_524 - of_era / 146_096) / 365;
+    let of_year = of_era - (365 * year + year / 4 - year / 100);
+    let month = (5 * of_year + 2) / 153;
+    let day = of_year - (153 * month + 2) / 5 + 1;
+    let (month, next) = if month < 10 { (month + 3, 0) } else { (month - 9, 1) };
+    (400 * era + year + next, month, day)
+}
+
+/// When an event happened: by its node's clock, if that is known, and after the first event.
+pub(crate) fn moment(times: &Times, after_first: i64) -> String {
+    let clock = times.begin().and_then(|begin| begin.checked_add(after_first)).map(clock);
+    match clock.as_deref().and_then(|clock| clock.split_once('T')) {
+        Some((_, of_day)) => format!("{of_day} {}", seconds(after_first)),
+        None => seconds(after_first),
+    }
+}
+
+#[cfg(test)]
+mod tests {
+    use super::*;
+
+    #[test]
+    fn times_are_shown_in_their_unit() {
+        assert_eq!(seconds(-1_500_000_000), "-1.500000 s");
+        assert_eq!(seconds(350_999), "0.000350 s");
+        assert_eq!(
+            [9_999, 10_000, 9_999_999, 10_000_000_000].map(span),
+            ["9999 ns", "10 us", "9999 us", "10 s"]
+        );
+        assert_eq!(spans(&[1_500, 20_000]), ["1.500 us", "20.000 us"]);
+        assert_eq!(spans(&[7]), ["7 ns"]);
+    }
+
+    #[test]
+    fn dates_are_those_of_the_calendar() {
+        assert_eq!(clock(0), "1970-01-01T00:00:00.000000Z");
+        assert_eq!(clock(951_782_400 * SECOND), "2000-02-29T00:00:00.000000Z");
+        assert_eq!(clock(1_795_742_538 * SECOND + 123_456_789), "2026-11-27T01:22:18.123456Z");
+        assert_eq!(clock(-SECOND), "1969-12-31T23:59:59.000000Z");
+    }
+}

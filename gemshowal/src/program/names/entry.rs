@@ -1,0 +1,54 @@
+//! The lines of the files beside a trace, and why one of them isn't taken.
+
+use std::fs;
+use std::io::{self, ErrorKind};
+use std::path::{Path, PathBuf};
+use thiserror::Error;
+
+/// Why a file beside a trace wasn't taken.
+#[derive(Debug, Error)]
+pub(crate) enum Fault {
+    /// It is there, and the system doesn't give its bytes.
+    #[error("{} can't be read: {reason}", .file.display())]
+    Unread { file: PathBuf, reason: io::Error },
+    /// One of its lines is none of such a file.
+    #[error("{}, line {line}, isn't {wanted}; seqaudit-node convert writes it anew", .file.display())]
+    Wrong { file: PathBuf, line: usize, wanted: &'static str },
+}
+
+impl Fault {
+    pub(super) fn at(file: &Path, line: usize, wanted: &'static str) -> Fault {
+        Fault::Wrong { file: file.into(), line, wanted }
+    }
+}
+
+/// The text of a file, none if there is no such file.
+pub(super) fn read_text(file: &Path) -> Result<Option<String>, Fault> {
+    let bytes = match fs::read(file) {
+        Ok(bytes) => bytes,
+        Err(reason) if reason.kind() == ErrorKind::NotFound => return Ok(None),
+        Err(reason) => return Err(Fault::Unread { file: file.into(), reason }),
+    };
+    String::from_utf8(bytes).map(Some).map_err(|error| {
+        let valid = &error.as_bytes()[..error.utf8_error().valid_up_to()];
+        Fault::at(file, 1 + valid.iter().filter(|&&byte| byte == b'\n').count(), "text in UTF-8")
+    })
+}
+
+/// The lines behind the first one, which has to be this header, with their numbers.
+pub(super) fn lines<'a>(
+    text: &'a str,
+    file: &Path,
+    header: &'static str,
+) -> Result<impl Iterator<Item = (usize, &'a str)>, Fault> {
+    let mut lines = text.split_terminator('\n').zip(1..).map(|(line, number)| (number, line));
+    match lines.next() {
+        Some((_, first)) if first == header => Ok(lines),
+        _ => Err(Fault::at(file, 1, header)),
+    }
+}
+
+/// A number of decimal digits alone.
+pub(super) fn number(text: &str) -> Option<u64> {
+    text.bytes().all(|byte| byte.is_ascii_digit()).then(|| text.parse().ok())?
+}

@@ -1,0 +1,144 @@
+//! What the numbers of a trace mean, by the files that lie beside `NAME.seqtrace`: `NAME.terms`,
+//! `NAME.facts` and `NAME.times`.
+//!
+//! None of these files is proved to be of the trace, and anybody may have changed them. So a file
+//! with a wrong line is refused, times that can't be of the trace are left out, and a terminal
+//! never gets a control character of theirs.
+
+mod brief;
+mod entry;
+mod facts;
+mod kinds;
+mod messages;
+mod shown;
+mod terms;
+mod times;
+mod which;
+
+pub(crate) use entry::Fault;
+pub(crate) use messages::Messages;
+pub(crate) use times::Times;
+pub(crate) use which::NotFound;
+
+use crate::output::Notes;
+use entry::read_text;
+use gemshowal::{Label, Pid, Text, Trace};
+use std::borrow::Cow;
+use std::path::{Path, PathBuf};
+use terms::Terms;
+
+/// The extension of a trace's text.
+const TRACE: &str = "seqtrace";
+
+/// The file that a word of the command line names: `NAME.seqtrace` if there is one, else the file
+/// of the word itself. `-` is standard input, whatever files there are.
+pub(crate) fn trace_file(word: &Path) -> PathBuf {
+    let named = with_extension(word, TRACE);
+    if word != Path::new("-") && named.is_file() {
+        named
+    } else {
+        word.into()
+    }
+}
+
+/// The path with this behind it, in place of nothing: `order.1` and `terms` give `order.1.terms`.
+fn with_extension(name: &Path, extension: &str) -> PathBuf {
+    let mut file = name.as_os_str().to_owned();
+    file.push(".");
+    file.push(extension);
+    file.into()
+}
+
+/// What is known of a trace besides its events.
+#[derive(Debug, Default)]
+pub(crate) struct Names {
+    terms: Terms,
+    losses: Vec<String>,
+    times: Option<Times>,
+}
+
+impl Names {
+    /// Reads the files beside this file of a trace. A file of another extension than `seqtrace` has
+    /// none, nor has standard input: all is then shown by its numbers.
+    pub(crate) fn beside(file: &Path, trace: &Trace, notes: &mut Notes) -> Result<Names, Fault> {
+        if file.extension().is_none_or(|extension| extension != TRACE) {
+            return Ok(Names::default());
+        }
+        let name = file.with_extension("");
+        let (terms, facts, times) = ("terms", "facts", "times");
+        let [terms, facts, times] =
+            [terms, facts, times].map(|extension| with_extension(&name, extension));
+        Ok(Names {
+            terms: match read_text(&terms)? {
+                Some(text) => Terms::parse(&text, &terms)?,
+                None => {
+                    notes.say(format_args!(
+                        "note: there is no {}, so numbers are shown in place of names",
+                        terms.display()
+                    ));
+                    Terms::default()
+                }
+            },
+            losses: read_text(&facts)?
+                .map_or(Ok(Vec::new()), |text| facts::losses(&text, &facts))?,
+            times: match read_text(&times)? {
+                Some(text) => Times::parse(&text, &times)?.of_trace(trace, &times, notes),
+                None => None,
+            },
+        })
+    }
+
+    /// The short name of a process, its pid if it has none.
+    pub(crate) fn process(&self, pid: Pid) -> Cow<'_, str> {
+        named(self.terms.process(pid).map(|process| &*process.name), || Text(pid).to_string())
+    }
+
+    /// All that is known of a process, if that is anything.
+    pub(crate) fn about(&self, pid: Pid) -> Option<&str> {
+        self.terms.process(pid).map(|process| &*process.about)
+    }
+
+    /// The term of a label, its number if it has none.
+    pub(crate) fn label(&self, label: Label) -> Cow<'_, str> {
+        named(self.terms.label(label), || label.0.to_string())
+    }
+
+    /// The term of a message, `value` and its number if it has none.
+    pub(crate) fn value(&self, value: u64) -> Cow<'_, str> {
+        named(self.terms.value(value), || format!("value {value}"))
+    }
+
+    /// Whether a message has a term.
+    pub(crate) fn has_value(&self, value: u64) -> bool {
+        self.terms.value(value).is_some()
+    }
+
+    /// The same without what every call, cast and reply of OTP's servers has: `call
+    /// {take,apple,3}`.
+    pub(crate) fn brief(&self, value: u64) -> Cow<'_, str> {
+        match self.terms.value(value) {
+            Some(term) => brief::brief(term).map_or(Cow::Borrowed(term), Cow::Owned),
+            None => self.value(value),
+        }
+    }
+
+    /// What an event is called: its process's name, and its number among the events of that.
+    pub(crate) fn event(&self, (pid, index): (Pid, u64)) -> String {
+        format!("{}#{index}", self.process(pid))
+    }
+
+    /// What the trace is known to lack, a sentence each.
+    pub(crate) fn losses(&self) -> &[String] {
+        &self.losses
+    }
+
+    /// When events happened, if that is known.
+    pub(crate) fn times(&self) -> Option<&Times> {
+        self.times.as_ref()
+    }
+}
+
+/// A name as the file has it, or else what is made for it.
+fn named(name: Option<&str>, number: impl FnOnce() -> String) -> Cow<'_, str> {
+    name.map_or_else(|| Cow::Owned(number()), Cow::Borrowed)
+}

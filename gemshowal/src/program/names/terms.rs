@@ -1,0 +1,131 @@
+//! `NAME.terms`: what processes, labels and messages are called. A line is an entry, with tabs
+//! between its parts: `process PID NAME ABOUT`, `label NUMBER TERM` or `value NUMBER TERM`.
+
+use super::entry::{lines, number, Fault};
+use super::shown::escaped;
+use gemshowal::{Label, Pid};
+use std::collections::HashMap;
+use std::path::Path;
+
+const HEADER: &str = "seqaudit terms 1";
+
+/// A process, as the file calls it.
+#[derive(Debug)]
+pub(super) struct Process {
+    pub(super) name: Box<str>,
+    pub(super) about: Box<str>,
+}
+
+/// The entries of the file.
+#[derive(Debug, Default)]
+pub(super) struct Terms {
+    processes: HashMap<Pid, Process>,
+    labels: HashMap<u32, Box<str>>,
+    values: HashMap<u64, Box<str>>,
+}
+
+impl Terms {
+    pub(super) fn parse(text: &str, file: &Path) -> Result<Terms, Fault> {
+        let mut terms = Terms::default();
+        for (number, line) in lines(text, file, HEADER)? {
+            if terms.add(line).is_none() {
+                return Err(Fault::at(
+                    file,
+                    number,
+                    "an entry of NAME.terms that no line before it has",
+                ));
+            }
+        }
+        Ok(terms)
+    }
+
+    /// Adds the entry of a line; none if it isn't one, or a line before it has said the same with
+    /// other words.
+    fn add(&mut self, line: &str) -> Option<()> {
+        let mut parts = line.split('\t');
+        let (kind, of) = (parts.next()?, parts.next()?);
+        let text = escaped(parts.next()?).into_boxed_str();
+        let is_new = match kind {
+            "process" => {
+                let process = Process { name: text, about: escaped(parts.next()?).into() };
+                self.processes.insert(gemshowal::read_pid(of)?, process).is_none()
+            }
+            "label" => self.labels.insert(number(of)?.try_into().ok()?, text).is_none(),
+            "value" => self.values.insert(number(of)?, text).is_none(),
+            _ => false,
+        };
+        (is_new && parts.next().is_none()).then_some(())
+    }
+
+    /// Whether nothing has a name.
+    pub(super) fn is_empty(&self) -> bool {
+        self.processes.is_empty() && self.labels.is_empty() && self.values.is_empty()
+    }
+
+    pub(super) fn process(&self, pid: Pid) -> Option<&Process> {
+        self.processes.get(&pid)
+    }
+
+    pub(super) fn label(&self, label: Label) -> Option<&str> {
+        self.labels.get(&label.0).map(|term| &**term)
+    }
+
+    pub(super) fn value(&self, value: u64) -> Option<&str> {
+        self.values.get(&value).map(|term| &**term)
+    }
+
+    /// The processes of this name, by rising pid.
+    pub(super) fn processes_of(&self, name: &str) -> Vec<Pid> {
+        let named = self.processes.iter().filter(|(_, process)| &*process.name == name);
+        let mut pids: Vec<Pid> = named.map(|(&pid, _)| pid).collect();
+        pids.sort_unstable();
+        pids
+    }
+}
+
+#[cfg(test)]
+mod tests {
+    use super::*;
+
+    fn parsed(entries: &str) -> Result<Terms, String> {
+        let text = format!("seqaudit terms 1\n{entries}");
+        Terms::parse(&text, Path::new("a.terms")).map_err(|fault| fault.to_string())
+    }
+
+    #[test]
+    fn entries_name_processes_labels_and_values() {
+        let terms = parsed(
+            "process\t<0.81.0>\tshop\tprocess <0.81.0>\nlabel\t7\t{order,7}\nvalue\t0\thi\u{7}\n",
+        )
+        .unwrap();
+        assert_eq!(&*terms.process(Pid::on(0, 81)).unwrap().name, "shop");
+        assert_eq!(terms.label(Label(7)), Some("{order,7}"));
+        assert_eq!(terms.value(0), Some("hi\\x{7}"));
+        assert_eq!(terms.value(1), None);
+        assert_eq!(terms.processes_of("shop"), [Pid::on(0, 81)]);
+    }
+
+    #[test]
+    fn wrong_entries_are_refused() {
+        for wrong in [
+            "process\t<0.81.0>\tshop",
+            "process\t0.81.0\tshop\tabout",
+            "process\t<0.81.1>\tshop\tabout",
+            "label\t4294967296\tx",
+            "label\t-1\tx",
+            "value\t+1\tx",
+            "value\t1\tx\ty",
+            "value\t1",
+            "values\t1\tx",
+            "",
+        ] {
+            let text = format!("label\t1\tx\n{wrong}\nvalue\t1\tx\n");
+            assert!(parsed(&text).unwrap_err().starts_with("a.terms, line 3, isn't"), "{wrong}");
+        }
+    }
+
+    #[test]
+    fn an_entry_for_what_has_one_is_refused() {
+        assert!(parsed("value\t1\tx\nvalue\t1\ty\n").unwrap_err().starts_with("a.terms, line 3"));
+    }
+}

@@ -1,0 +1,183 @@
+//! `NAME.times`: when each event happened, in nanoseconds, if its token had a flag for timestamps.
+//! Behind the header a line is one of
+//!
+//! - `begin TIME`: when the first event happened, since 1970; negative if its node told no clock;
+//! - `event PID I TIME`: how much later event I of the process happened;
+//! - `message PID I PID J TIME`: how much later than send I its receive J was reported.
+//!
+//! A message between two nodes may seem to take less than no time, as far as their clocks differ.
+
+use super::entry::{lines, number, Fault};
+use crate::output::Notes;
+use gemshowal::{Event, Kind, Pid, Trace};
+use std::collections::HashMap;
+use std::path::Path;
+
+const HEADER: &str = "seqaudit times 1";
+
+/// A process and the index of one of its events.
+pub(crate) type Place = (Pid, u64);
+
+/// Nanoseconds.
+pub(crate) type Time = i64;
+
+/// When events happened, and how long messages took.
+#[derive(Debug, Default)]
+pub(crate) struct Times {
+    begin: Time,
+    events: HashMap<Place, Time>,
+    /// By the receive its send, and the time between.
+    messages: HashMap<Place, (Place, Time)>,
+}
+
+impl Times {
+    pub(super) fn parse(text: &str, file: &Path) -> Result<Times, Fault> {
+        let mut lines = lines(text, file, HEADER)?;
+        let wrong =
+            |line| Fault::at(file, line, "an entry of NAME.times that no line before it has");
+        let begin = lines
+            .next()
+            .and_then(|(_, line)| time(line.strip_prefix("begin ")?))
+            .ok_or_else(|| wrong(2))?;
+        let mut times = Times { begin, ..Times::default() };
+        for (number, line) in lines {
+            times.add(line).ok_or_else(|| wrong(number))?;
+        }
+        Ok(times)
+    }
+
+    /// Adds the entry of a line; none if it isn't one, or what it is about has a time.
+    fn add(&mut self, line: &str) -> Option<()> {
+        let mut words = line.split(' ');
+        let kind = words.next()?;
+        let first = place(&mut words)?;
+        let is_new = match kind {
+            "event" => self.events.insert(first, time(words.next()?)?).is_none(),
+            "message" => {
+                let receive = place(&mut words)?;
+                self.messages.insert(receive, (first, time(words.next()?)?)).is_none()
+            }
+            _ => false,
+        };
+        (is_new && words.next().is_none()).then_some(())
+    }
+
+    /// The times, unless they are of another trace: one in which an event is gone, or was moved,
+    /// has other events at their places.
+    pub(super) fn of_trace(self, trace: &Trace, file: &Path, notes: &mut Notes) -> Option<Times> {
+        if self.may_be_of(trace) {
+            return Some(self);
+        }
+        notes.say(format_args!(
+            "note: {} is of another trace, so no times are shown",
+            file.display()
+        ));
+        None
+    }
+
+    fn may_be_of(&self, trace: &Trace) -> bool {
+        let event = |&(pid, index): &Place| trace.streams().event(pid, index);
+        self.events.keys().all(|place| event(place).is_some())
+            && self.messages.iter().all(|(receive, (send, _))| {
+                let (send, receive) = (event(send), event(receive));
+                send.zip(receive).is_some_and(|(send, receive)| are_ends(&send, &receive))
+            })
+    }
+
+    /// When the first event happened, since 1970, if its node told.
+    pub(crate) fn begin(&self) -> Option<Time> {
+        (self.begin >= 0).then_some(self.begin)
+    }
+
+    /// How much later than the first one an event happened.
+    pub(crate) fn of_event(&self, place: Place) -> Option<Time> {
+        self.events.get(&place).copied()
+    }
+
+    /// How many events have a time.
+    pub(crate) fn count(&self) -> usize {
+        self.events.len()
+    }
+
+    /// The times of the first event and of the last one; 0 if there are none.
+    pub(crate) fn ends(&self) -> (Time, Time) {
+        let times = || self.events.values().copied();
+        (times().min().unwrap_or(0), times().max().unwrap_or(0))
+    }
+
+    /// The send of a receive, and the time from the one to the other.
+    pub(crate) fn of_message(&self, receive: Place) -> Option<(Place, Time)> {
+        self.messages.get(&receive).copied()
+    }
+}
+
+/// Whether these are the two ends of a message.
+fn are_ends(send: &Event, receive: &Event) -> bool {
+    send.kind == Kind::Send
+        && receive.kind == Kind::Receive
+        && send.from == receive.from
+        && send.label == receive.label
+        && send.serial == receive.serial
+        && send.value == receive.value
+}
+
+fn place<'a>(words: &mut impl Iterator<Item = &'a str>) -> Option<Place> {
+    Some((gemshowal::read_pid(words.next()?)?, number(words.next()?)?))
+}
+
+/// A number, with a minus or without. The least one is none, so that each has its opposite.
+fn time(word: &str) -> Option<Time> {
+    let size = number(word.strip_prefix('-').unwrap_or(word))?;
+    let size = Time::try_from(size).ok()?;
+    Some(if word.starts_with('-') { -size } else { size })
+}
+
+#[cfg(test)]
+mod tests {
+    use super::*;
+
+    const TRACE: &str = "seqtrace 1\nprocess <0.1.0>\n\
+                         {seq_trace,7,{send,{0,1},<0.1.0>,<0.2.0>,5}}\nprocess <0.2.0>\n\
+                         {seq_trace,7,{'receive',{0,1},<0.1.0>,<0.2.0>,5}}\n";
+
+    fn parsed(entries: &str) -> Result<Times, String> {
+        let text = format!("seqaudit times 1\n{entries}");
+        Times::parse(&text, Path::new("a.times")).map_err(|fault| fault.to_string())
+    }
+
+    #[test]
+    fn events_and_messages_have_times() {
+        let times = parsed(
+            "begin 1000\nevent <0.1.0> 0 0\nevent <0.2.0> 0 350\nmessage <0.1.0> 0 <0.2.0> 0 350\n",
+        )
+        .unwrap();
+        assert_eq!(times.begin(), Some(1000));
+        assert_eq!(times.of_event((Pid::on(0, 2), 0)), Some(350));
+        assert_eq!(times.of_event((Pid::on(0, 2), 1)), None);
+        assert_eq!(times.of_message((Pid::on(0, 2), 0)), Some(((Pid::on(0, 1), 0), 350)));
+        assert!(times.may_be_of(&Trace::read(TRACE.as_bytes()).unwrap()));
+    }
+
+    #[test]
+    fn times_of_another_trace_are_told() {
+        let trace = Trace::read(TRACE.as_bytes()).unwrap();
+        assert!(!parsed("begin 0\nevent <0.1.0> 1 0\n").unwrap().may_be_of(&trace));
+        assert!(!parsed("begin 0\nmessage <0.2.0> 0 <0.1.0> 0 5\n").unwrap().may_be_of(&trace));
+    }
+
+    #[test]
+    fn wrong_entries_are_refused() {
+        for wrong in [
+            "event <0.1.0> 0",
+            "event <0.1.0> 0 1 2",
+            "event <0.1.0> 0 x",
+            "event <0.1.0> 0 9223372036854775808",
+            "",
+        ] {
+            let text = format!("begin -5\n{wrong}\n");
+            assert!(parsed(&text).unwrap_err().starts_with("a.times, line 3, isn't"), "{wrong}");
+        }
+        assert!(parsed("event <0.1.0> 0 1\n").unwrap_err().starts_with("a.times, line 2, isn't"));
+        assert_eq!(parsed("begin -5\n").unwrap().begin(), None);
+    }
+}

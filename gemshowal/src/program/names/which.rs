@@ -1,0 +1,128 @@
+//! Which event or label a word of the command line names.
+
+use super::entry::number;
+use super::Names;
+use gemshowal::{Label, OutOfMemory, Pid, Trace};
+use std::collections::BTreeSet;
+use thiserror::Error;
+
+/// So many names are listed, if none is the one that was meant.
+const LISTED: usize = 20;
+
+/// Why no event or label was found.
+#[derive(Debug, Error)]
+pub(crate) enum NotFound {
+    #[error(
+        "{0} isn't the name of an event: write shop#2, '<0.81.0> 2', or the number of its line"
+    )]
+    NoEventName(String),
+    #[error("there is no process {0}; the trace has {1}")]
+    NoProcess(String, String),
+    #[error("several processes are called {0}; write one by its pid: {1}")]
+    SeveralProcesses(String, String),
+    #[error("{0} has no event {1}; {2}")]
+    NoEvent(String, u64, String),
+    #[error("there is no event on line {0}")]
+    NoLine(u64),
+    #[error("there is no label {0}; the trace has {1}")]
+    NoLabel(String, String),
+    #[error("several labels are shown as {0}; write the number of one: {1}")]
+    SeveralLabels(String, String),
+    #[error("the trace has {0} labels; choose one by --label: {1}")]
+    WhichLabel(usize, String),
+    #[error("the trace has no events")]
+    NoEvents,
+    #[error(transparent)]
+    Memory(#[from] OutOfMemory),
+}
+
+impl Names {
+    /// The place of the event that these words name: `shop#2`, `<0.81.0>#2`, `shop 2`, `<0.81.0>
+    /// 2`, or a line of the text.
+    pub(crate) fn find_event(
+        &self,
+        trace: &Trace,
+        words: &[String],
+    ) -> Result<(Pid, u64), NotFound> {
+        let joined = words.join(" ");
+        if let Some(line) = number(&joined) {
+            return trace.place(line)?.ok_or(NotFound::NoLine(line));
+        }
+        let parts = joined.rsplit_once('#').or_else(|| joined.rsplit_once(' '));
+        let found = parts.and_then(|(process, index)| Some((process, number(index)?)));
+        let (process, index) = found.ok_or_else(|| NotFound::NoEventName(joined.clone()))?;
+        let pid = self.find_process(trace, process)?;
+        let count = trace.streams().len(pid);
+        if index < count {
+            return Ok((pid, index));
+        }
+        let has = match count {
+            0 => "it reported none".into(),
+            1 => "it reported one, 0".into(),
+            _ => format!("it reported 0 to {}", count - 1),
+        };
+        Err(NotFound::NoEvent(process.into(), index, has))
+    }
+
+    /// The process of this name or pid.
+    pub(crate) fn find_process(&self, trace: &Trace, word: &str) -> Result<Pid, NotFound> {
+        let listed = trace.streams().pids();
+        let named = self.terms.processes_of(word);
+        match (
+            &named[..],
+            gemshowal::read_pid(word).or_else(|| gemshowal::read_pid(&format!("<{word}>"))),
+        ) {
+            (_, Some(pid)) if listed.contains(&pid) => Ok(pid),
+            ([pid], _) if listed.contains(pid) => Ok(*pid),
+            ([_, _, ..], _) => {
+                let pids = named.iter().map(|&pid| gemshowal::Text(pid).to_string());
+                Err(NotFound::SeveralProcesses(word.into(), few(pids)))
+            }
+            _ => Err(NotFound::NoProcess(
+                word.into(),
+                few(listed.iter().map(|&pid| self.process(pid).into_owned())),
+            )),
+        }
+    }
+
+    /// The label that is shown as this text, but for blanks, or has this number; without a text the
+    /// only label.
+    pub(crate) fn find_label(&self, trace: &Trace, text: Option<&str>) -> Result<Label, NotFound> {
+        let labels: BTreeSet<u32> =
+            trace.processes().flat_map(|(_, events)| events).map(|event| event.label.0).collect();
+        let shown = |labels: &BTreeSet<u32>| {
+            few(labels.iter().map(|&label| self.label(Label(label)).into_owned()))
+        };
+        let Some(text) = text else {
+            return match (labels.first(), labels.len()) {
+                (None, _) => Err(NotFound::NoEvents),
+                (Some(&label), 1) => Ok(Label(label)),
+                (_, count) => Err(NotFound::WhichLabel(count, shown(&labels))),
+            };
+        };
+        let is_meant =
+            |&&label: &&u32| without_blanks(&self.label(Label(label))) == without_blanks(text);
+        let meant: Vec<u32> = labels.iter().filter(is_meant).copied().collect();
+        let numbered = number(text).and_then(|label| u32::try_from(label).ok());
+        match (&meant[..], numbered) {
+            (_, Some(label)) if labels.contains(&label) => Ok(Label(label)),
+            (&[label], _) => Ok(Label(label)),
+            ([], _) => Err(NotFound::NoLabel(text.into(), shown(&labels))),
+            (several, _) => {
+                Err(NotFound::SeveralLabels(text.into(), few(several.iter().map(u32::to_string))))
+            }
+        }
+    }
+}
+
+/// The first ones, and whether there are more.
+fn few(names: impl ExactSizeIterator<Item = String>) -> String {
+    let more = if names.len() > LISTED { ", .." } else { "" };
+    names.take(LISTED).collect::<Vec<_>>().join(", ") + more
+}
+
+/// The text without the blanks that Erlang's syntax doesn't need: those behind a comma, as far as
+/// that is no string.
+fn without_blanks(text: &str) -> String {
+    text.split(", ").map(str::trim).collect::<Vec<_>>().join(",")
+}

@@ -1,0 +1,93 @@
+//! Events and numbers as JSON.
+
+use crate::names::Names;
+use gemshowal::{Event, Kind, Pid, Text};
+use serde::{Serialize, Serializer};
+
+/// The greatest number that every reader of JSON keeps exactly.
+const EXACT: u64 = 1 << 53;
+
+/// A number; one that a reader may round is a string.
+#[derive(Clone, Copy, Debug, PartialEq, Eq)]
+pub(crate) struct Number(pub(crate) u64);
+
+impl Serialize for Number {
+    fn serialize<S: Serializer>(&self, serializer: S) -> Result<S::Ok, S::Error> {
+        if self.0 > EXACT {
+            serializer.collect_str(&self.0)
+        } else {
+            serializer.serialize_u64(self.0)
+        }
+    }
+}
+
+/// A sequence that is made while it is written.
+pub(crate) struct Sequence<F>(pub(crate) F);
+
+impl<F, I> Serialize for Sequence<F>
+where
+    F: Fn() -> I,
+    I: Iterator,
+    I::Item: Serialize,
+{
+    fn serialize<S: Serializer>(&self, serializer: S) -> Result<S::Ok, S::Error> {
+        serializer.collect_seq(self.0())
+    }
+}
+
+/// A process and the index of one of its events, with the event's name.
+#[derive(Clone, Debug, Serialize)]
+pub(crate) struct Place {
+    pub(crate) event: String,
+    pub(crate) pid: Text<Pid>,
+    pub(crate) index: u64,
+}
+
+impl Place {
+    pub(crate) fn new(names: &Names, (pid, index): (Pid, u64)) -> Place {
+        Place { event: names.event((pid, index)), pid: Text(pid), index }
+    }
+}
+
+/// What an event says, in numbers, and with the terms that these stand for if there are some.
+#[derive(Clone, Debug, Serialize)]
+pub(crate) struct Fields {
+    kind: &'static str,
+    label: u32,
+    #[serde(skip_serializing_if = "Option::is_none")]
+    term: Option<String>,
+    prev: Number,
+    this: Number,
+    from: Text<Pid>,
+    #[serde(skip_serializing_if = "Option::is_none")]
+    to: Option<Text<Pid>>,
+    value: Number,
+    #[serde(skip_serializing_if = "Option::is_none")]
+    message: Option<String>,
+}
+
+impl Fields {
+    pub(crate) fn new(names: &Names, event: &Event) -> Fields {
+        let has_terms = names.has_terms();
+        Fields {
+            kind: kind_word(event.kind),
+            label: event.label.0,
+            term: has_terms.then(|| names.label(event.label).into_owned()),
+            prev: Number(event.serial.prev),
+            this: Number(event.serial.this),
+            from: Text(event.from),
+            to: event.to.map(Text),
+            value: Number(event.value),
+            message: has_terms.then(|| names.brief(event.value).into_owned()),
+        }
+    }
+}
+
+/// The word for what an event reports.
+pub(crate) fn kind_word(kind: Kind) -> &'static str {
+    match kind {
+        Kind::Send => "send",
+        Kind::Receive => "receive",
+        Kind::Print => "print",
+    }
+}

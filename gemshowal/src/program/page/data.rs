@@ -1,0 +1,255 @@
+//! What a page knows of a trace: its events, a list for each thing that is known of them.
+
+use crate::causes::{Cause, Causes, Grade, Link};
+use crate::durations::{self, Durations};
+use crate::names::{Messages, Names, Times};
+use crate::words;
+use gemshowal::{Event, Item, Kind, Label, Pid, Premises, Text};
+use serde::Serialize;
+use std::collections::{BTreeMap, BTreeSet, HashMap};
+use std::hash::Hash;
+
+/// So many entries of a table of times are in a page.
+const DURATIONS: usize = 200;
+
+/// So many characters all messages of a page have together: a page is one file that a browser reads
+/// and keeps as a whole, and searches as a whole at each key.
+const CHARACTERS: usize = 32_000_000;
+
+/// Nanoseconds in a microsecond.
+const MICRO: i64 = 1_000;
+
+/// All of it, as the script reads it.
+#[derive(Serialize)]
+pub(super) struct Data {
+    title: String,
+    headline: String,
+    fits: bool,
+    notes: Vec<String>,
+    /// When the first event happened, in microseconds since 1970, if the clock of the node is
+    /// known.
+    begin: Option<i64>,
+    durations: Vec<Table>,
+    /// The length to which messages are cut, if they are.
+    most: Option<usize>,
+    limit: usize,
+    terms: Vec<Term>,
+    /// The number of the only label that is shown at first.
+    only: Option<usize>,
+    lanes: Vec<Lane>,
+    labels: Vec<String>,
+    rows: Rows,
+}
+
+#[derive(Serialize)]
+struct Lane {
+    name: String,
+    pid: Text<Pid>,
+    about: String,
+}
+
+/// How long messages took.
+#[derive(Serialize)]
+struct Table {
+    title: &'static str,
+    /// How many entries are left out.
+    more: usize,
+    entries: Vec<(String, usize, i64, i64, i64)>,
+}
+
+/// A message: what a row shows, the text if that is another, and its length if that is cut.
+#[derive(Serialize)]
+#[serde(untagged)]
+enum Term {
+    Whole([String; 1]),
+    Short([String; 2]),
+    Cut(String, String, usize),
+}
+
+/// The events, a list for each thing that is known of them.
+#[derive(Default, Serialize)]
+struct Rows {
+    lane: Vec<usize>,
+    /// The lane at the other end; -1 of a print.
+    other: Vec<i64>,
+    /// A letter an event: send, receive, print, or hidden, for a send that only its receive tells
+    /// of.
+    kind: String,
+    /// A digit an event: whether it was reported.
+    plain: String,
+    /// A letter an event: follows its send, or a receive; another label, begins, open, or hidden.
+    how: String,
+    /// A sign an event: certain, premise 1, premises 1 and 2, or perhaps.
+    grade: String,
+    label: Vec<usize>,
+    /// The number of the message; -1 if nobody knows it.
+    term: Vec<i64>,
+    serial: Vec<String>,
+    /// What follows the process's name in that of the event.
+    at: Vec<String>,
+    /// The row of the event that it follows, or -1.
+    cause: Vec<i64>,
+    /// Of those that begin another label the row of the last receive.
+    had: BTreeMap<usize, usize>,
+    time: Option<Vec<Option<i64>>>,
+}
+
+/// Things by the number that they have in a list.
+struct Numbers<T>(HashMap<T, usize>);
+
+impl<T: Copy + Eq + Hash> Numbers<T> {
+    fn of(things: impl IntoIterator<Item = T>) -> Numbers<T> {
+        Numbers(things.into_iter().zip(0..).collect())
+    }
+
+    fn get(&self, thing: T) -> Option<usize> {
+        self.0.get(&thing).copied()
+    }
+
+    /// The number, or -1.
+    fn or_none(&self, thing: Option<T>) -> i64 {
+        thing.and_then(|thing| self.get(thing)).map_or(-1, |number| number as i64)
+    }
+}
+
+impl Data {
+    pub(super) fn of(
+        causes: &Causes<'_>,
+        items: &[Item],
+        title: &str,
+        only: Option<Label>,
+        messages: &Messages,
+    ) -> Data {
+        let (names, times) = (causes.names(), causes.names().times());
+        let events: Vec<(Item, Event)> =
+            items.iter().filter_map(|&item| Some((item, causes.event(item)?))).collect();
+        let pids: BTreeSet<Pid> =
+            events.iter().flat_map(|(_, event)| [Some(event.from), event.to]).flatten().collect();
+        let labels: BTreeSet<u32> = events.iter().map(|(_, event)| event.label.0).collect();
+        let values: BTreeSet<u64> =
+            events.iter().filter_map(|&(item, _)| causes.message(item)).collect();
+        let most = messages.most(&values, names, CHARACTERS);
+        let numbers = (Numbers::of(pids.iter().copied()), Numbers::of(labels.iter().copied()));
+        let rows =
+            Rows::of(causes, &events, &numbers.0, &numbers.1, &Numbers::of(values.iter().copied()));
+        Data {
+            title: title.into(),
+            headline: words::headline(causes),
+            fits: causes.never().is_none(),
+            notes: names
+                .losses()
+                .iter()
+                .map(|loss| format!("this trace isn't whole: {loss}"))
+                .collect(),
+            begin: times.and_then(Times::begin).map(|begin| begin / MICRO),
+            durations: times.map_or_else(Vec::new, |times| tables(causes, names, times)),
+            most,
+            limit: CHARACTERS,
+            terms: values.iter().map(|&value| Term::of(value, names, messages, most)).collect(),
+            only: only.and_then(|label| numbers.1.get(label.0)),
+            lanes: pids.iter().map(|&pid| Lane::of(causes, pid)).collect(),
+            labels: labels.iter().map(|&label| names.label(Label(label)).into_owned()).collect(),
+            rows,
+        }
+    }
+}
+
+impl Lane {
+    fn of(causes: &Causes<'_>, pid: Pid) -> Lane {
+        let about = causes.names().about(pid).unwrap_or_default().to_owned();
+        Lane { name: causes.process(pid).into_owned(), pid: Text(pid), about }
+    }
+}
+
+impl Term {
+    fn of(value: u64, names: &Names, messages: &Messages, most: Option<usize>) -> Term {
+        let (brief, whole) = (names.brief(value).into_owned(), messages.text(value, names));
+        let length = whole.chars().count();
+        let cut = |text: &str, most| text.chars().take(most).collect::<String>();
+        match most.filter(|&most| length > most) {
+            Some(most) => Term::Cut(cut(&brief, most), cut(&whole, most), length),
+            None if brief == whole => Term::Whole([brief]),
+            None => Term::Short([brief, whole.into_owned()]),
+        }
+    }
+}
+
+impl Rows {
+    fn of(
+        causes: &Causes<'_>,
+        events: &[(Item, Event)],
+        lanes: &Numbers<Pid>,
+        labels: &Numbers<u32>,
+        values: &Numbers<u64>,
+    ) -> Rows {
+        let places = Numbers::of(events.iter().map(|&(item, _)| item));
+        let times = causes.names().times();
+        let mut rows = Rows { time: times.map(|_| Vec::new()), ..Rows::default() };
+        for (number, &(item, ref event)) in events.iter().enumerate() {
+            let (actor, link) = (causes.actor(item), causes.link(item));
+            let other = event.to.map(|to| if to == actor { event.from } else { to });
+            rows.lane.push(lanes.get(actor).unwrap_or_default());
+            rows.other.push(lanes.or_none(other));
+            rows.kind.push(kind(item, event.kind));
+            rows.plain.push(if causes.reported(item).is_some() { '1' } else { '0' });
+            rows.how.push(how(event.kind, link));
+            rows.grade.push(grade(link.grade));
+            rows.label.push(labels.get(event.label.0).unwrap_or_default());
+            rows.term.push(values.or_none(causes.message(item)));
+            rows.serial.push(format!("{},{}", event.serial.prev, event.serial.this));
+            rows.at.push(causes.number(item));
+            rows.cause.push(places.or_none(link.after()));
+            if let Cause::OtherLabel(had) = link.cause {
+                rows.had.extend(places.get(had).map(|had| (number, had)));
+            }
+            if let (Some(column), Some(times)) = (&mut rows.time, times) {
+                column.push(causes.reported(item).and_then(|place| times.of_event(place)));
+            }
+        }
+        rows
+    }
+}
+
+fn kind(item: Item, kind: Kind) -> char {
+    match (item, kind) {
+        (Item::Hidden(..), _) => 'h',
+        (_, Kind::Send) => 's',
+        (_, Kind::Receive) => 'r',
+        (_, Kind::Print) => 'p',
+    }
+}
+
+fn how(kind: Kind, link: Link) -> char {
+    match link.cause {
+        Cause::After(_) if kind == Kind::Receive => 's',
+        Cause::After(_) => 'r',
+        Cause::OtherLabel(_) => 'l',
+        Cause::Begins => 'b',
+        Cause::BeginsOrUnreported => 'o',
+        Cause::Unknown => 'h',
+    }
+}
+
+fn grade(grade: Grade) -> char {
+    match grade {
+        Grade::Certain | Grade::Under(Premises::Neither) => 'c',
+        Grade::Under(Premises::First) => '1',
+        Grade::Under(Premises::Both) => '2',
+        Grade::Perhaps => 'p',
+    }
+}
+
+fn tables(causes: &Causes<'_>, names: &Names, times: &Times) -> Vec<Table> {
+    let trace = causes.trace();
+    let tables = [
+        ("By processes", durations::by_processes(trace, names, times)),
+        ("By kind of message", durations::by_kind(trace, names, times)),
+    ];
+    let entry = |it: Durations| (it.of, it.count, it.median, it.most, it.greatest);
+    let table = |(title, entries): (&'static str, Vec<Durations>)| Table {
+        title,
+        more: entries.len().saturating_sub(DURATIONS),
+        entries: entries.into_iter().take(DURATIONS).map(entry).collect(),
+    };
+    tables.into_iter().filter(|(_, entries)| !entries.is_empty()).map(table).collect()
+}

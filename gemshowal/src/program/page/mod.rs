@@ -1,0 +1,115 @@
+//! The command `page`: a trace as one HTML file to look at, of all labels, however many rows it
+//! has.
+//!
+//! The page needs no network and takes none: its policy allows its own script and style and nothing
+//! else. What came from the trace is in it as data, in which no character can end the element that
+//! it is in, and the script puts it into the page as text.
+
+mod data;
+mod script;
+
+use crate::args::Page as Args;
+use crate::causes::with_causes;
+use crate::input::Input;
+use crate::keep::keep;
+use crate::output::{Notes, Output};
+use crate::stats::write_unpaired;
+use crate::view::View;
+use crate::{Failure, Status};
+use data::Data;
+use std::collections::hash_map::RandomState;
+use std::fmt::Write as _;
+use std::hash::{BuildHasher, Hasher};
+use std::io::Write;
+
+const FRAME: &str = include_str!("../../../page/page.html");
+const STYLE: &str = include_str!("../../../page/page.css");
+
+pub(crate) fn run(
+    args: &Args,
+    input: &mut Input,
+    out: &mut Output,
+    notes: &mut Notes,
+) -> Result<Status, Failure> {
+    let trace = input.trace()?;
+    let names = input.names(&trace, notes)?;
+    let label = args.label.as_deref().map(|label| names.find_label(&trace, Some(label)));
+    let label = label.transpose()?;
+    let told = with_causes(&trace, &names, |causes| {
+        let items = causes.order()?;
+        let messages = input.messages(|value| names.has_value(value))?;
+        let title = input.title();
+        let data = Data::of(causes, &items, &title, label, &messages);
+        let page = page(&title, &serde_json::to_string(&data)?);
+        match &args.out {
+            Some(file) => keep(file, page.as_bytes())?,
+            None => out.write_all(page.as_bytes())?,
+        }
+        Ok(Status::Yes)
+    })?;
+    told.or_else(|finding| {
+        write_unpaired(false, &View::whole(&trace, &names), &finding, out)?;
+        Ok(Status::No)
+    })
+}
+
+/// The frame with a text for each word between two at signs. Nothing is put into what was put in.
+fn page(title: &str, data: &str) -> String {
+    let (nonce, script, data) = (nonce(), script::joined(), in_element(data));
+    let mut page = String::with_capacity(data.len() + script.len() + STYLE.len() + FRAME.len());
+    for part in FRAME.split('@') {
+        match part {
+            "NONCE" => page.push_str(&nonce),
+            "STYLE" => page.push_str(STYLE),
+            "SCRIPT" => page.push_str(&script),
+            "DATA" => page.push_str(&data),
+            "TITLE" => escape(title, &mut page),
+            part => page.push_str(part),
+        }
+    }
+    page
+}
+
+/// The policy lets a script run that has this word, which nobody knew when the messages were sent.
+fn nonce() -> String {
+    // Each state has random keys of its own.
+    let mut nonce = String::new();
+    for _ in 0..4 {
+        let _ = write!(nonce, "{:016x}", RandomState::new().build_hasher().finish());
+    }
+    nonce
+}
+
+/// JSON as it may stand in an element: only its strings have these characters.
+fn in_element(json: &str) -> String {
+    json.replace('<', "\\u003c").replace('>', "\\u003e").replace('&', "\\u0026")
+}
+
+fn escape(text: &str, page: &mut String) {
+    for c in text.chars() {
+        let _ = match c {
+            'a'..='z' | 'A'..='Z' | '0'..='9' | ' ' | '.' | '_' | '-' => write!(page, "{c}"),
+            _ => write!(page, "&#{};", u32::from(c)),
+        };
+    }
+}
+
+#[cfg(test)]
+mod tests {
+    use super::*;
+
+    #[test]
+    fn what_came_from_a_trace_ends_no_element() {
+        let made = page("</title><b>@DATA@", "{\"title\":\"</script><script>alert(1)\"}");
+        assert!(!made.contains("<b>"));
+        assert_eq!(made.matches("<script").count(), 2);
+        assert_eq!(made.matches("</script").count(), 2);
+        assert_eq!(made.matches("</title").count(), 1);
+        assert!(made.contains("\\u003c/script\\u003e\\u003cscript\\u003ealert(1)"));
+    }
+
+    #[test]
+    fn each_page_has_a_nonce_of_its_own() {
+        assert_ne!(nonce(), nonce());
+    }
+}

@@ -1,0 +1,347 @@
+//! Why no run reports a trace, for an event of it: in sentences, and as JSON.
+//!
+//! Of the causes that a reason can have, the one that fits the trace best comes first: a reset, or
+//! a second run, sets the counters of several processes back, and a token that is put back that of
+//! one. If nothing tells them apart, the most common one comes first.
+
+use crate::object::{Fields, Place as PlaceObject};
+use crate::output::Output;
+use crate::view::{Place, Shown, View};
+use crate::Failure;
+use gemshowal::{Event, Finding, Kind, Never, Pid, Reason, Streams};
+use serde::Serialize;
+use std::collections::{HashMap, HashSet};
+use std::io::{self, Write};
+
+/// A reason why no run without a reset reports a trace.
+#[derive(Clone, Copy, Debug, PartialEq, Eq)]
+enum Why {
+    PrevNotBefore,
+    NotRising,
+    Repeated,
+    Mismatch,
+    Late,
+    Unfounded,
+    TooHigh,
+}
+
+/// An event, the reason against it, and the second event that this may be about.
+#[derive(Clone, Copy, Debug)]
+pub(crate) struct Against {
+    pub(crate) place: Place,
+    why: Why,
+    other: Option<Place>,
+    never: Never,
+}
+
+impl Against {
+    /// What `audit` found of an event, if that is final.
+    pub(crate) fn by_audit(pid: Pid, index: u64, reason: &Reason) -> Option<Against> {
+        let never = match *reason {
+            Reason::PrevNotBefore => Never::PrevNotBefore,
+            Reason::NotRising(index) => Never::NotRising(index),
+            Reason::Repeated(pid, index) => Never::Repeated(pid, index),
+            Reason::Mismatch(pid, index) => Never::Mismatch(pid, index),
+            Reason::Uncaused | Reason::TooWide | Reason::NotReplayed(..) => return None,
+        };
+        Some(Against::by_complete(pid, index, never))
+    }
+
+    /// What `complete` found of an event.
+    pub(crate) fn by_complete(pid: Pid, index: u64, never: Never) -> Against {
+        let (why, other) = match never {
+            Never::PrevNotBefore => (Why::PrevNotBefore, None),
+            Never::NotRising(index) => (Why::NotRising, Some((pid, index))),
+            Never::Repeated(pid, index) => (Why::Repeated, Some((pid, index))),
+            Never::Mismatch(pid, index) => (Why::Mismatch, Some((pid, index))),
+            Never::Late(index) => (Why::Late, Some((pid, index))),
+            Never::Unfounded => (Why::Unfounded, None),
+            Never::TooHigh => (Why::TooHigh, None),
+        };
+        Against { place: (pid, index), why, other, never }
+    }
+
+    /// The same as the libraries return it.
+    pub(crate) fn never(&self) -> Never {
+        self.never
+    }
+
+    /// The word for programs.
+    pub(crate) fn word(&self) -> &'static str {
+        self.why.word()
+    }
+
+    /// Whether a run with a reset may have the trace all the same.
+    pub(crate) fn allows_reset(&self) -> bool {
+        self.why != Why::PrevNotBefore
+    }
+
+    /// The result in a line.
+    pub(crate) fn headline(&self, shown: &Shown<'_>) -> String {
+        let without = if self.allows_reset() { " without a reset" } else { "" };
+        let (event, word) = (shown.event(self.place), self.why.word());
+        format!("doesn't fit: no run{without} reports this trace, because of {event} ({word})")
+    }
+
+    /// The events that it is about.
+    fn events<'a>(&self, shown: &'a Shown<'_>) -> Vec<(Place, Event)> {
+        let places = [Some(self.place), self.other].into_iter().flatten();
+        let with_event = |place: Place| Some((place, shown.streams.event(place.0, place.1)?));
+        places.filter_map(with_event).collect()
+    }
+
+    /// Writes the events, what it means that they don't go together, and what to look at.
+    pub(crate) fn write_details(&self, shown: &Shown<'_>, out: &mut Output) -> io::Result<()> {
+        for (place, event) in self.events(shown) {
+            writeln!(out, "  {}: {}", shown.event(place), shown.sentence(&event))?;
+        }
+        writeln!(out, "What it means: {}", self.why.meaning())?;
+        writeln!(out, "What to look at: {}.", self.look_at(shown))
+    }
+
+    /// The causes that the reason can have, the likeliest first.
+    fn look_at(&self, shown: &Shown<'_>) -> String {
+        let found: Vec<Event> = self.events(shown).into_iter().map(|(_, event)| event).collect();
+        let causes = causes(self.why, &found, shown.streams);
+        causes.into_iter().map(Cause::words).collect::<Vec<_>>().join("; ")
+    }
+
+    /// The fields of a no, with its headline.
+    pub(crate) fn no(&self, shown: &Shown<'_>) -> No {
+        No { headline: self.headline(shown), refused: self.object(shown) }
+    }
+
+    /// The fields of a no for JSON.
+    pub(crate) fn object(&self, shown: &Shown<'_>) -> Refused {
+        let event = |(place, event): (Place, Event)| Found {
+            place: PlaceObject {
+                event: shown.event(place),
+                ..PlaceObject::new(shown.view.names, place)
+            },
+            fields: Fields::new(shown.view.names, &event),
+            what: shown.sentence(&event),
+        };
+        Refused {
+            reason: self.why.word(),
+            found: self.events(shown).into_iter().map(event).collect(),
+            meaning: self.why.meaning(),
+            look_at: self.look_at(shown),
+        }
+    }
+}
+
+/// A no with its headline, as an object has it.
+#[derive(Clone, Debug, Serialize)]
+pub(crate) struct No {
+    headline: String,
+    #[serde(flatten)]
+    refused: Refused,
+}
+
+/// A no about events.
+#[derive(Clone, Debug, Serialize)]
+pub(crate) struct Refused {
+    reason: &'static str,
+    found: Vec<Found>,
+    meaning: &'static str,
+    look_at: String,
+}
+
+/// An event that a no is about.
+#[derive(Clone, Debug, Serialize)]
+struct Found {
+    #[serde(flatten)]
+    place: PlaceObject,
+    #[serde(flatten)]
+    fields: Fields,
+    what: String,
+}
+
+/// Writes why a trace can't be paired.
+pub(crate) fn write_unpaired(
+    json: bool,
+    view: &View<'_>,
+    finding: &Finding,
+    out: &mut Output,
+) -> Result<(), Failure> {
+    let shown = Shown::reported(view);
+    let Finding::Unfit(pid, index, reason) = finding else { return Ok(()) };
+    let Some(against) = Against::by_audit(*pid, *index, reason) else { return Ok(()) };
+    if json {
+        return out.report("never", &against.no(&shown));
+    }
+    writeln!(out, "{}", against.headline(&shown))?;
+    Ok(against.write_details(&shown, out)?)
+}
+
+impl Why {
+    /// The word for programs.
+    fn word(self) -> &'static str {
+        match self {
+            Why::PrevNotBefore => "prevnotbefore",
+            Why::NotRising => "notrising",
+            Why::Repeated => "repeated",
+            Why::Mismatch => "mismatch",
+            Why::Late => "late",
+            Why::Unfounded => "unfounded",
+            Why::TooHigh => "toohigh",
+        }
+    }
+
+    fn meaning(self) -> &'static str {
+        match self {
+            Why::PrevNotBefore => {
+                "the first number of an event's serial isn't below its second, so the counter of \
+                 its process went back behind what the process had received, or the file was \
+                 changed."
+            }
+            Why::NotRising => {
+                "one process stamped both events, and the later one has no higher count: its \
+                 counter went back, or the two are in the wrong order."
+            }
+            Why::Repeated => {
+                "two messages were received that have the same sender and the same count, so the \
+                 sender's counter went back between them, or one message is here twice, or the \
+                 file was changed."
+            }
+            Why::Mismatch => {
+                "what was received isn't what its sender sent with this count: so these are two \
+                 messages, and the sender's counter went back between them, or the file was \
+                 changed."
+            }
+            Why::Late => {
+                "the process had received a message with this count or a higher one before, and a \
+                 process counts on from the highest count that it has received: so its counter \
+                 went back between the two, or they are in the wrong order, or the file was \
+                 changed."
+            }
+            Why::Unfounded => {
+                "by its serial the event follows nothing, but the process that sent or printed it \
+                 had received a message of a trace before, or had sent or printed something that \
+                 follows one."
+            }
+            Why::TooHigh => "the event counts higher than a counter can.",
+        }
+    }
+}
+
+/// What may be behind a trace that doesn't fit.
+#[derive(Clone, Copy, Debug, PartialEq, Eq)]
+enum Cause {
+    PutBack,
+    PutBackEarly,
+    SetByHand,
+    Reset,
+    ResetBefore,
+    TwoRuns,
+    CollectedTwice,
+    OtherOrder,
+    Changed,
+    WrongProcess,
+}
+
+impl Cause {
+    fn words(self) -> &'static str {
+        match self {
+            Cause::PutBack => {
+                "a token that set_token/1 put back (Old = seq_trace:set_token([]), .., \
+                 seq_trace:set_token(Old)) would explain it: that moves the counter of a standard \
+                 node back to what the token had"
+            }
+            Cause::PutBackEarly => {
+                "a token that set_token/1 put back before anything was sent with it would explain \
+                 it: that sets the counter of a standard node to 0"
+            }
+            Cause::SetByHand => "a token's serial that was set by hand",
+            Cause::Reset => "seq_trace:reset_trace/0 between the two",
+            Cause::ResetBefore => "seq_trace:reset_trace/0 before the event",
+            Cause::TwoRuns => "files of two runs converted as one",
+            Cause::CollectedTwice => {
+                "events that were collected twice, by a second tracer or by files of the same run"
+            }
+            Cause::OtherOrder => {
+                "events of one process that are in another order than they happened in"
+            }
+            Cause::Changed => "a file that was changed",
+            Cause::WrongProcess => {
+                "sends to aliases and names, which may be taken for sends to the wrong process \
+                 (NAME.notes)"
+            }
+        }
+    }
+}
+
+/// The causes that a reason about these events can have, the likeliest first.
+fn causes(why: Why, found: &[Event], streams: &Streams) -> Vec<Cause> {
+    use Cause::*;
+    let went_back = || match went_back_of(streams) {
+        Several::Many => [Reset, TwoRuns, PutBack],
+        _ => [PutBack, TwoRuns, Reset],
+    };
+    let in_turn = |first: &[Cause], last: &[Cause]| [first, &went_back(), last].concat();
+    match (why, found) {
+        (Why::PrevNotBefore, _) => vec![PutBackEarly, Changed, SetByHand],
+        (Why::NotRising, _) => in_turn(&[], &[OtherOrder]),
+        (Why::Repeated, [one, other]) if one == other => {
+            in_turn(&[CollectedTwice], &[WrongProcess, Changed])
+        }
+        (Why::Repeated, _) => in_turn(&[], &[Changed, CollectedTwice, WrongProcess]),
+        (Why::Mismatch, [one, other]) if other.to.is_some() && one.to != other.to => {
+            in_turn(&[WrongProcess, Changed], &[])
+        }
+        (Why::Mismatch, _) => in_turn(&[Changed, WrongProcess], &[]),
+        (Why::Late, [first, ..]) if follows_earlier(first, streams) => {
+            vec![OtherOrder, PutBack, TwoRuns, Reset, Changed]
+        }
+        (Why::Late, _) if went_back_of(streams) == Several::None => {
+            vec![Changed, Reset, TwoRuns, OtherOrder, PutBack]
+        }
+        (Why::Late, _) => vec![Reset, TwoRuns, OtherOrder, PutBack, Changed],
+        (Why::Unfounded, _) => vec![PutBack, Changed, TwoRuns, ResetBefore],
+        (Why::TooHigh, _) => vec![Changed, SetByHand],
+    }
+}
+
+/// How many there are.
+#[derive(Clone, Copy, Debug, PartialEq, Eq)]
+enum Several {
+    None,
+    One,
+    Many,
+}
+
+/// How many processes used a count twice, or a lower one after a higher, as their own events or the
+/// receives of what they sent show it.
+fn went_back_of(streams: &Streams) -> Several {
+    let mut fallen = HashSet::new();
+    let mut received = HashMap::new();
+    for &pid in streams.pids() {
+        let mut last = None;
+        for event in streams.events(pid) {
+            let this = event.serial.this;
+            if event.kind == Kind::Receive {
+                if received.insert((event.from, this), ()).is_some() {
+                    fallen.insert(event.from);
+                }
+            } else {
+                if last.is_some_and(|last| this <= last) {
+                    fallen.insert(pid);
+                }
+                last = Some(this);
+            }
+        }
+    }
+    match fallen.len() {
+        0 => Several::None,
+        1 => Several::One,
+        _ => Several::Many,
+    }
+}
+
+/// Whether a stamp follows a message that its process received before, as it does in another place,
+/// or with a token that was put back.
+fn follows_earlier(stamp: &Event, streams: &Streams) -> bool {
+    let is_cause =
+        |event: &Event| event.kind == Kind::Receive && event.serial.this == stamp.serial.prev;
+    streams.events(stamp.from).iter().any(is_cause)
+}

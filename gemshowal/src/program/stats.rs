@@ -1,0 +1,244 @@
+//! The command `stats`: how many events and messages a trace has, by process, by pair of processes
+//! and by label.
+
+use crate::input::Input;
+use crate::names::Names;
+use crate::object::Number;
+use crate::output::{Notes, Output};
+use crate::reason::write_unpaired;
+use crate::view::View;
+use crate::{Failure, Status};
+use gemshowal::{Event, Hop, Hops, Kind, Label, Paired, Pairing, Partner, Pid, Text, Trace};
+use serde::Serialize;
+use std::collections::{BTreeMap, HashMap};
+use std::io::{self, Write};
+
+pub(crate) fn run(
+    json: bool,
+    input: &mut Input,
+    out: &mut Output,
+    notes: &mut Notes,
+) -> Result<Status, Failure> {
+    let trace = input.trace()?;
+    let names = input.names(&trace, notes)?;
+    let paired = match Paired::of(trace.streams())? {
+        Ok(paired) => paired,
+        Err(finding) => {
+            write_unpaired(json, &View::whole(&trace, &names), &finding, out)?;
+            return Ok(Status::No);
+        }
+    };
+    let stats = Stats {
+        processes: trace
+            .processes()
+            .map(|(pid, events)| Process::of(pid, events, &names))
+            .collect(),
+        pairs: pairs(&trace, paired.pairing(), &names),
+        labels: Depths::of(&trace, paired.hops()?).labels(&names),
+    };
+    if json {
+        out.report("counted", &stats)?;
+    } else {
+        stats.write(out)?;
+    }
+    Ok(Status::Yes)
+}
+
+/// The counts of a trace.
+#[derive(Serialize)]
+struct Stats {
+    processes: Vec<Process>,
+    pairs: Vec<Pair>,
+    labels: Vec<LabelStats>,
+}
+
+#[derive(Serialize)]
+struct Process {
+    process: String,
+    pid: Text<Pid>,
+    sends: u64,
+    receives: u64,
+    prints: u64,
+    /// Of each send and print the counts between the greatest count of the events before and its
+    /// own, summed.
+    skipped: Number,
+}
+
+/// The messages from one process to another.
+#[derive(Serialize)]
+struct Pair {
+    from: String,
+    to: String,
+    from_pid: Text<Pid>,
+    to_pid: Text<Pid>,
+    messages: u64,
+    unreceived: u64,
+    unsent: u64,
+}
+
+#[derive(Serialize)]
+struct LabelStats {
+    label: u32,
+    term: String,
+    events: u64,
+    /// The messages on the longest way.
+    depth: u64,
+    /// The most messages at one depth.
+    width: u64,
+}
+
+impl Stats {
+    fn write(&self, out: &mut Output) -> io::Result<()> {
+        for Process { process, sends, receives, prints, skipped, .. } in &self.processes {
+            writeln!(
+                out,
+                "process {process}: sends {sends}, receives {receives}, prints {prints}, counts \
+                 skipped {}",
+                skipped.0
+            )?;
+        }
+        for Pair { from, to, messages, unreceived, unsent, .. } in &self.pairs {
+            writeln!(
+                out,
+                "messages from {from} to {to}: {messages}, without a reported receive \
+                 {unreceived}, without a reported send {unsent}"
+            )?;
+        }
+        for LabelStats { term, events, depth, width, .. } in &self.labels {
+            writeln!(out, "label {term}: events {events}, depth {depth}, width {width}")?;
+        }
+        Ok(())
+    }
+}
+
+impl Process {
+    fn of(pid: Pid, events: &[Event], names: &Names) -> Process {
+        let number = |kind| events.iter().filter(|event| event.kind == kind).count() as u64;
+        let (mut clock, mut skipped) = (0_u64, 0_u64);
+        for event in events {
+            let this = event.serial.this;
+            if event.kind != Kind::Receive {
+                skipped = skipped.saturating_add(this.saturating_sub(clock).saturating_sub(1));
+            }
+            clock = clock.max(this);
+        }
+        Process {
+            process: names.process(pid).into_owned(),
+            pid: Text(pid),
+            sends: number(Kind::Send),
+            receives: number(Kind::Receive),
+            prints: number(Kind::Print),
+            skipped: Number(skipped),
+        }
+    }
+}
+
+/// The messages by sender and receiver, of which at least one end was reported. One that both ends
+/// reported is counted at its send.
+fn pairs(trace: &Trace, pairing: &Pairing, names: &Names) -> Vec<Pair> {
+    let mut pairs = BTreeMap::<_, [u64; 3]>::new();
+    for (pid, events) in trace.processes() {
+        for (event, index) in events.iter().zip(0..) {
+            let Some(to) = event.to else { continue };
+            let [messages, unreceived, unsent] = pairs.entry((event.from, to)).or_default();
+            let other = match gemshowal::partner_at(pairing, pid, index, event.kind) {
+                Partner::Nobody | Partner::Send(..) => continue,
+                Partner::Receive(..) => None,
+                Partner::NoReceive => Some(unreceived),
+                Partner::NoSend => Some(unsent),
+            };
+            *messages += 1;
+            if let Some(count) = other {
+                *count += 1;
+            }
+        }
+    }
+    let pair = |((from, to), [messages, unreceived, unsent]): (_, [u64; 3])| Pair {
+        from: names.process(from).into_owned(),
+        to: names.process(to).into_owned(),
+        from_pid: Text(from),
+        to_pid: Text(to),
+        messages,
+        unreceived,
+        unsent,
+    };
+    pairs.into_iter().map(pair).collect()
+}
+
+/// How deep each message is on its way: one more than the message whose receive its send follows.
+struct Depths<'a> {
+    trace: &'a Trace,
+    hops: Hops<'a>,
+    /// The depth of each send, by process and index.
+    sent: HashMap<Pid, Vec<u64>>,
+    /// How many messages of a label are at a depth.
+    widths: HashMap<(u32, u64), u64>,
+}
+
+impl<'a> Depths<'a> {
+    /// The sends are taken by rising counts: what a send follows has a lower count.
+    fn of(trace: &'a Trace, hops: Hops<'a>) -> Depths<'a> {
+        let sent = trace.processes().map(|(pid, events)| (pid, vec![0; events.len()])).collect();
+        let mut depths = Depths { trace, hops, sent, widths: HashMap::new() };
+        let mut sends = Vec::new();
+        for (pid, events) in trace.processes() {
+            for (event, index) in events.iter().zip(0_u64..) {
+                match event.kind {
+                    Kind::Send => sends.push((event.serial.this, pid, index)),
+                    Kind::Receive if depths.hops.hop(pid, index) == Some(Hop::Unsent) => {
+                        *depths.widths.entry((event.label.0, 1)).or_default() += 1;
+                    }
+                    Kind::Receive | Kind::Print => {}
+                }
+            }
+        }
+        sends.sort_unstable();
+        for (_, pid, index) in sends {
+            depths.send(pid, index);
+        }
+        depths
+    }
+
+    fn send(&mut self, pid: Pid, index: u64) {
+        let Some(event) = self.trace.streams().event(pid, index) else { return };
+        let depth = match self.hops.hop(pid, index) {
+            Some(Hop::After(receive) | Hop::AfterOneLabel(receive)) => {
+                1 + self.received(pid, receive)
+            }
+            _ => 1,
+        };
+        if let Some(own) = self.sent.get_mut(&pid).and_then(|own| own.get_mut(index as usize)) {
+            *own = depth;
+        }
+        *self.widths.entry((event.label.0, depth)).or_default() += 1;
+    }
+
+    /// The depth of the message of a receive; one that nobody reported to be sent begins a way.
+    fn received(&self, pid: Pid, index: u64) -> u64 {
+        match self.hops.hop(pid, index) {
+            Some(Hop::Sent(from, send)) => {
+                let own = self.sent.get(&from).and_then(|own| own.get(send as usize));
+                own.copied().unwrap_or(1)
+            }
+            _ => 1,
+        }
+    }
+
+    /// What there is of each label.
+    fn labels(self, names: &Names) -> Vec<LabelStats> {
+        let mut labels = BTreeMap::<u32, (u64, u64, u64)>::new();
+        for event in self.trace.processes().flat_map(|(_, events)| events) {
+            labels.entry(event.label.0).or_default().0 += 1;
+        }
+        for ((label, depth), number) in self.widths {
+            let (_, deepest, widest) = labels.entry(label).or_default();
+            *deepest = (*deepest).max(depth);
+            *widest = (*widest).max(number);
+        }
+        let stats = |(label, (events, depth, width))| {
+            let term = names.label(Label(label)).into_owned();
+            LabelStats { label, term, events, depth, width }
+        };
+        labels.into_iter().map(stats).collect()
+    }
+}

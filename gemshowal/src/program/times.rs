@@ -1,0 +1,316 @@
+//! The command `times`: how long messages and labels took, and what the last event of a label
+//! waited for.
+
+use crate::args::Times as Args;
+use crate::causes::{with_causes, Causes, Grade};
+use crate::chart::short;
+use crate::durations::{self, Durations, LabelTime};
+use crate::input::Input;
+use crate::moment::{clock, seconds, span, spans};
+use crate::names::{Names, Times};
+use crate::output::{Notes, Output};
+use crate::view::{count, Place};
+use crate::words;
+use crate::{Failure, Status};
+use gemshowal::{Item, Kind, Label, Trace};
+use serde::Serialize;
+use std::io::{self, Write};
+
+/// So many entries of a table are printed; as JSON there are all of them.
+const LISTED: usize = 20;
+
+/// The characters of a cell.
+const CELL: usize = 40;
+
+/// What the times mean.
+const MEANING: &str =
+    "A message takes from its send until its receiver took it: waiting in the mailbox is in that.";
+
+pub(crate) fn run(
+    args: &Args,
+    json: bool,
+    input: &mut Input,
+    out: &mut Output,
+    notes: &mut Notes,
+) -> Result<Status, Failure> {
+    let trace = input.trace()?;
+    let names = input.names(&trace, notes)?;
+    let Some(times) = names.times().filter(|times| times.count() > 0) else {
+        return Err(Failure::NoTimes(input.line_name().into()));
+    };
+    let label =
+        args.label.as_deref().map(|label| names.find_label(&trace, Some(label))).transpose()?;
+    let tables = Tables::of(&trace, &names, times);
+    let path = match label {
+        None => None,
+        Some(label) => with_causes(&trace, &names, |causes| Path::to_last(causes, times, label))?
+            .ok()
+            .flatten(),
+    };
+    if json {
+        out.report("timed", &Told { tables: &tables, path: &path })?;
+        return Ok(Status::Yes);
+    }
+    tables.write(&names, out)?;
+    match (&path, label) {
+        (Some(path), Some(label)) => path.write(&names, label, out)?,
+        (None, Some(label)) => {
+            writeln!(
+                out,
+                "what the last event of label {} waited for isn't known",
+                names.label(label)
+            )?;
+        }
+        _ => {}
+    }
+    Ok(Status::Yes)
+}
+
+/// What is said of all messages and labels.
+#[derive(Serialize)]
+struct Tables {
+    #[serde(skip)]
+    summary: String,
+    /// When the first event was, in UTC.
+    first: Option<String>,
+    unit: &'static str,
+    by_processes: Vec<Entry>,
+    by_kind: Vec<Entry>,
+    labels: Vec<LabelEntry>,
+}
+
+/// How long messages of a kind took.
+#[derive(Serialize)]
+struct Entry {
+    of: String,
+    count: usize,
+    median: i64,
+    percent_99: i64,
+    greatest: i64,
+    /// The receive of the slowest.
+    slowest: String,
+}
+
+/// How long a label took.
+#[derive(Serialize)]
+struct LabelEntry {
+    label: String,
+    events: usize,
+    took: i64,
+    first: i64,
+}
+
+impl Tables {
+    fn of(trace: &Trace, names: &Names, times: &Times) -> Tables {
+        let entry = |found: Durations| Entry {
+            of: found.of,
+            count: found.count,
+            median: found.median,
+            percent_99: found.most,
+            greatest: found.greatest,
+            slowest: names.event(found.slowest),
+        };
+        let label = |found: LabelTime| LabelEntry {
+            label: names.label(found.label).into_owned(),
+            events: found.events,
+            took: found.took,
+            first: found.first,
+        };
+        let entries = |found: Vec<Durations>| found.into_iter().map(entry).collect();
+        Tables {
+            summary: summary(trace, times),
+            first: times.begin().map(clock),
+            unit: "ns",
+            by_processes: entries(durations::by_processes(trace, names, times)),
+            by_kind: entries(durations::by_kind(trace, names, times)),
+            labels: durations::by_label(trace, times).into_iter().map(label).collect(),
+        }
+    }
+
+    fn write(&self, names: &Names, out: &mut Output) -> io::Result<()> {
+        names
+            .losses()
+            .iter()
+            .try_for_each(|loss| writeln!(out, "this trace isn't whole: {loss}"))?;
+        writeln!(out, "{}", self.summary)?;
+        writeln!(out, "{MEANING}")?;
+        if self.by_processes.is_empty() {
+            writeln!(out, "no message has a time for both its send and its receive")?;
+        } else {
+            write_entries(out, "by processes", &self.by_processes)?;
+            write_entries(out, "by kind of message", &self.by_kind)?;
+        }
+        let took = spans(&self.labels.iter().map(|label| label.took).collect::<Vec<_>>());
+        let rows = self.labels.iter().zip(took).map(|(label, took)| {
+            vec![label.label.clone(), label.events.to_string(), took, seconds(label.first)]
+        });
+        write_table(out, &["slowest labels", "events", "took", "from"], rows.collect())
+    }
+}
+
+/// Over which time the events stretch, and how long messages took, in a line.
+pub(crate) fn summary(trace: &Trace, times: &Times) -> String {
+    let took = durations::all(trace, times);
+    let messages = match took.last() {
+        None => String::new(),
+        Some(&slowest) => format!(
+            "; the median message took {}, the slowest {} ({})",
+            span(took.get((took.len() - 1) / 2).copied().unwrap_or(slowest)),
+            span(slowest),
+            count(took.len() as u64, "message")
+        ),
+    };
+    let before = match took.iter().filter(|&&took| took < 0).count() {
+        0 => "",
+        _ => "; some seem to take less than no time, since the clocks of two nodes differ",
+    };
+    let begin = times.begin().map(|begin| format!("; the first event was at {}", clock(begin)));
+    let (first, last) = times.ends();
+    let stretch = span(last.saturating_sub(first));
+    format!(
+        "{stretch} from the first event to the last{messages}{before}{}",
+        begin.unwrap_or_default()
+    )
+}
+
+fn write_entries(out: &mut Output, title: &str, entries: &[Entry]) -> io::Result<()> {
+    let column = |time: fn(&Entry) -> i64| spans(&entries.iter().map(time).collect::<Vec<_>>());
+    let (median, most) = (column(|entry| entry.median), column(|entry| entry.percent_99));
+    let greatest = column(|entry| entry.greatest);
+    let times = median.into_iter().zip(most).zip(greatest);
+    let rows = entries.iter().zip(times).map(|(entry, ((median, most), greatest))| {
+        vec![
+            entry.of.clone(),
+            entry.count.to_string(),
+            median,
+            most,
+            greatest,
+            entry.slowest.clone(),
+        ]
+    });
+    write_table(out, &[title, "count", "median", "99 %", "greatest", "which"], rows.collect())
+}
+
+/// Writes a table whose first column is on the left; the others are as wide as they have to be.
+fn write_table(out: &mut Output, titles: &[&str], rows: Vec<Vec<String>>) -> io::Result<()> {
+    let more = rows.len().saturating_sub(LISTED);
+    let titles = titles.iter().map(|title| (*title).to_owned()).collect();
+    let shown: Vec<Vec<String>> = std::iter::once(titles)
+        .chain(rows.into_iter().take(LISTED))
+        .map(|row| row.iter().map(|cell| short(cell, CELL)).collect())
+        .collect();
+    let width = |column: usize| {
+        shown.iter().filter_map(|row| row.get(column)).map(|cell| cell.chars().count()).max()
+    };
+    for row in &shown {
+        for (cell, column) in row.iter().zip(0..) {
+            let width = width(column).unwrap_or(0);
+            if column == 0 {
+                write!(out, "{cell:width$}")?;
+            } else {
+                write!(out, "  {cell:>width$}")?;
+            }
+        }
+        writeln!(out)?;
+    }
+    if more > 0 {
+        writeln!(out, "  and {more} more")?;
+    }
+    Ok(())
+}
+
+/// What the last event of a label follows, from where that begins.
+#[derive(Serialize)]
+struct Path {
+    steps: Vec<Step>,
+}
+
+/// An event of a path.
+#[derive(Serialize)]
+struct Step {
+    event: String,
+    what: String,
+    /// How long after the step before it came, if both have a time.
+    after: Option<i64>,
+    /// Whether that is the way of a message.
+    is_way: bool,
+    /// Whether it is known that it follows the step before.
+    is_perhaps: bool,
+}
+
+impl Path {
+    /// The path to the last event of a label with a time.
+    fn to_last(causes: &Causes<'_>, times: &Times, label: Label) -> Result<Option<Path>, Failure> {
+        let Some(last) = last_event(causes.trace(), times, label) else { return Ok(None) };
+        let mut items = vec![(causes.item(last), Grade::Certain)];
+        while let Some(&(item, _)) = items.last() {
+            let link = causes.link(item);
+            match link.after() {
+                Some(before) => items.push((before, link.grade)),
+                None => break,
+            }
+        }
+        let time = |item: Item| times.of_event(causes.reported(item)?);
+        let behind = items
+            .iter()
+            .skip(1)
+            .map(|&(item, grade)| (Some(item), grade))
+            .chain([(None, Grade::Certain)]);
+        let steps = items.iter().zip(behind).map(|(&(item, _), (before, grade))| Step {
+            event: causes.name(item),
+            what: words::named(causes, item),
+            after: before.and_then(|before| time(item)?.checked_sub(time(before)?)),
+            is_way: causes.event(item).is_some_and(|event| event.kind == Kind::Receive),
+            is_perhaps: grade == Grade::Perhaps,
+        });
+        let mut steps: Vec<Step> = steps.collect();
+        steps.reverse();
+        Ok(Some(Path { steps }))
+    }
+
+    fn write(&self, names: &Names, label: Label, out: &mut Output) -> io::Result<()> {
+        let sum = |is_way| {
+            self.steps
+                .iter()
+                .filter(|step| step.is_way == is_way)
+                .filter_map(|step| step.after)
+                .sum()
+        };
+        let (ways, waits): (i64, i64) = (sum(true), sum(false));
+        let are_known = self.steps.iter().skip(1).all(|step| step.after.is_some());
+        let sums = if are_known {
+            format!(" ({} from send to receive, {} in processes)", span(ways), span(waits))
+        } else {
+            String::new()
+        };
+        writeln!(out, "what the last event of label {} waited for{sums}:", names.label(label))?;
+        for (step, number) in self.steps.iter().zip(0..) {
+            let after = match (step.after, number) {
+                (_, 0) => String::new(),
+                (None, _) => "?".into(),
+                (Some(time), _) => span(time),
+            };
+            let perhaps = if step.is_perhaps { "perhaps until " } else { "" };
+            writeln!(out, "{after:>10}  {perhaps}{}", step.what)?;
+        }
+        Ok(())
+    }
+}
+
+/// The event of a label that has the latest time.
+fn last_event(trace: &Trace, times: &Times, label: Label) -> Option<Place> {
+    let places = trace.processes().flat_map(|(pid, events)| {
+        let of_label =
+            events.iter().zip(0_u64..).filter(move |(event, _)| event.label.0 == label.0);
+        of_label.map(move |(_, index)| (pid, index))
+    });
+    places.filter_map(|place| Some((times.of_event(place)?, place))).max().map(|(_, place)| place)
+}
+
+/// All of it as JSON.
+#[derive(Serialize)]
+struct Told<'a> {
+    #[serde(flatten)]
+    tables: &'a Tables,
+    path: &'a Option<Path>,
+}

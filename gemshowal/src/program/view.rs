@@ -1,0 +1,211 @@
+//! A trace, or a part of one, with what its events are called: an event keeps its number in the
+//! whole trace, whatever is cut off.
+
+use crate::names::Names;
+use gemshowal::{Completion, Event, Kind, Pid, Streams, Trace};
+use std::borrow::Cow;
+use std::collections::{BTreeMap, HashMap};
+
+/// So many characters of a message are in a sentence.
+const CHARACTERS: usize = 80;
+
+/// A process and the index of one of its events.
+pub(crate) type Place = (Pid, u64);
+
+/// Of each process the indices of the events that a part has.
+pub(crate) type Kept = BTreeMap<Pid, Vec<u64>>;
+
+/// The number of an event in the whole trace; of one that nobody reported the number of the event
+/// that it comes before, and which one it is of those there.
+#[derive(Clone, Copy, Debug)]
+struct Number {
+    at: u64,
+    which: Option<u64>,
+}
+
+/// A trace or a part of one, and what its numbers mean.
+pub(crate) struct View<'a> {
+    pub(crate) trace: &'a Trace,
+    pub(crate) names: &'a Names,
+    /// The numbers in the whole trace, unless these are the indices.
+    numbers: Option<HashMap<Pid, Vec<u64>>>,
+    /// Whether it was cut on purpose, so that what isn't here may have been reported.
+    pub(crate) is_cut: bool,
+}
+
+impl<'a> View<'a> {
+    /// All of a trace.
+    pub(crate) fn whole(trace: &'a Trace, names: &'a Names) -> View<'a> {
+        View { trace, names, numbers: None, is_cut: false }
+    }
+
+    /// A part of this one, which has these of its events.
+    pub(crate) fn part<'b>(&self, part: &'b Trace, kept: &Kept, is_cut: bool) -> View<'b>
+    where
+        'a: 'b,
+    {
+        let numbers = kept.iter().map(|(&pid, indices)| {
+            (pid, indices.iter().map(|&index| self.number(pid, index)).collect())
+        });
+        View { trace: part, names: self.names, numbers: Some(numbers.collect()), is_cut }
+    }
+
+    /// The number of an event in the whole trace.
+    pub(crate) fn number(&self, pid: Pid, index: u64) -> u64 {
+        let Some(numbers) = &self.numbers else { return index };
+        let own = numbers.get(&pid).map_or(&[][..], |own| own);
+        // An index behind the last one is behind the last number.
+        own.get(index as usize)
+            .copied()
+            .unwrap_or_else(|| own.last().map_or(index, |last| last + 1))
+    }
+
+    /// The events for which `is_in` is true; of processes without one none is listed.
+    pub(crate) fn kept(&self, is_in: impl Fn(Pid, u64, &Event) -> bool) -> Kept {
+        let own = |(pid, events): (Pid, &[Event])| {
+            let chosen = events.iter().zip(0..).filter(|&(event, index)| is_in(pid, index, event));
+            (pid, chosen.map(|(_, index)| index).collect())
+        };
+        self.trace
+            .processes()
+            .map(own)
+            .filter(|(_, kept): &(_, Vec<u64>)| !kept.is_empty())
+            .collect()
+    }
+}
+
+/// The events that are shown: those of a view, or of its completion.
+pub(crate) struct Shown<'a> {
+    pub(crate) streams: &'a Streams,
+    pub(crate) view: &'a View<'a>,
+    completion: Option<&'a Completion>,
+    numbers: HashMap<Pid, Vec<Number>>,
+}
+
+impl<'a> Shown<'a> {
+    /// The events of a view.
+    pub(crate) fn reported(view: &'a View<'a>) -> Shown<'a> {
+        let streams = view.trace.streams();
+        Shown { streams, view, completion: None, numbers: HashMap::new() }
+    }
+
+    /// Those and the ones that a completion adds.
+    pub(crate) fn completed(view: &'a View<'a>, completion: &'a Completion) -> Shown<'a> {
+        let streams = completion.streams();
+        let numbers = streams.pids().iter().map(|&pid| (pid, numbered(view, completion, pid)));
+        Shown { streams, view, completion: Some(completion), numbers: numbers.collect() }
+    }
+
+    /// Whether somebody reported the event at this place.
+    pub(crate) fn is_reported(&self, (pid, index): Place) -> bool {
+        self.completion.is_none_or(|completion| completion.told(pid, index) == Some(true))
+    }
+
+    /// The processes that the trace doesn't list.
+    pub(crate) fn unlisted(&self) -> &[Pid] {
+        self.completion.map_or(&[], |completion| completion.unlisted())
+    }
+
+    /// Which of these a process is; none if the trace lists it.
+    pub(crate) fn stranger(&self, pid: Pid) -> Option<usize> {
+        self.unlisted().binary_search(&pid).ok()
+    }
+
+    pub(crate) fn processes(&self) -> impl Iterator<Item = (Pid, &'a [Event])> {
+        let streams = self.streams;
+        streams.pids().iter().map(|&pid| (pid, streams.events(pid)))
+    }
+
+    /// What a process is called.
+    pub(crate) fn process(&self, pid: Pid) -> Cow<'_, str> {
+        match self.stranger(pid) {
+            None => self.view.names.process(pid),
+            Some(_) if self.unlisted().len() == 1 => "a process that the trace doesn't list".into(),
+            Some(at) => format!("a process that the trace doesn't list {}", at + 1).into(),
+        }
+    }
+
+    /// What an event is called.
+    pub(crate) fn event(&self, (pid, index): Place) -> String {
+        let number = self.numbers.get(&pid).and_then(|numbers| numbers.get(index as usize));
+        let number = number.copied();
+        let number =
+            number.unwrap_or_else(|| Number { at: self.view.number(pid, index), which: None });
+        match number.which {
+            None => format!("{}#{}", self.process(pid), number.at),
+            Some(which) => format!("{}#{}~{which}", self.process(pid), number.at),
+        }
+    }
+
+    /// What happened at an event, in a sentence.
+    pub(crate) fn sentence(&self, event: &Event) -> String {
+        self.sentence_of(event, &short(&self.view.names.brief(event.value)))
+    }
+
+    /// The same of an event whose message nobody knows.
+    pub(crate) fn sentence_of_unknown(&self, event: &Event) -> String {
+        self.sentence_of(event, "an unknown message")
+    }
+
+    fn sentence_of(&self, event: &Event, message: &str) -> String {
+        let from = self.process(event.from);
+        let to = event.to.map_or(Cow::Borrowed(""), |to| self.process(to));
+        let happened = match event.kind {
+            Kind::Send => format!("{from} sends {message} to {to}"),
+            Kind::Receive => format!("{to} receives {message} from {from}"),
+            Kind::Print => format!("{from} prints {message}"),
+        };
+        let (prev, this) = (event.serial.prev, event.serial.this);
+        format!(
+            "{happened}, serial {{{prev},{this}}}, label {}",
+            self.view.names.label(event.label)
+        )
+    }
+}
+
+/// The numbers of a process's events in a completion.
+fn numbered(view: &View<'_>, completion: &Completion, pid: Pid) -> Vec<Number> {
+    let (mut reported, mut added) = (0, 0);
+    let number = |index| {
+        if completion.told(pid, index) == Some(true) {
+            let at = view.number(pid, reported);
+            (reported, added) = (reported + 1, 0);
+            Number { at, which: None }
+        } else {
+            added += 1;
+            Number { at: view.number(pid, reported), which: Some(added) }
+        }
+    };
+    (0..completion.streams().len(pid)).map(number).collect()
+}
+
+/// The text, or its first characters.
+fn short(text: &str) -> Cow<'_, str> {
+    match text.char_indices().nth(CHARACTERS) {
+        None => text.into(),
+        Some((end, _)) => format!("{}..", text.get(..end).unwrap_or_default()).into(),
+    }
+}
+
+/// A number with commas between thousands.
+pub(crate) fn grouped(number: u64) -> String {
+    let digits = number.to_string();
+    let mut grouped = String::new();
+    for (at, digit) in digits.char_indices() {
+        if at > 0 && (digits.len() - at) % 3 == 0 {
+            grouped.push(',');
+        }
+        grouped.push(digit);
+    }
+    grouped
+}
+
+/// How many of a thing there are, in words.
+pub(crate) fn count(number: u64, thing: &str) -> String {
+    match (number, thing) {
+        (1, _) => format!("1 {thing}"),
+        (_, "process") => format!("{} processes", grouped(number)),
+        (_, "jump of a counter") => format!("{} jumps of counters", grouped(number)),
+        _ => format!("{} {thing}s", grouped(number)),
+    }
+}

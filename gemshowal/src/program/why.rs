@@ -1,0 +1,256 @@
+//! The command `why`: what an event follows, and so on back, or what follows it.
+
+use crate::args::Why;
+use crate::causes::{with_causes, Cause, Causes, Grade, Link};
+use crate::input::Input;
+use crate::object::{kind_word, Number};
+use crate::output::{Notes, Output};
+use crate::reason::write_unpaired;
+use crate::view::View;
+use crate::words;
+use crate::{Failure, Status};
+use gemshowal::{Item, OutOfMemory, Pid, Premises, Text};
+use serde::Serialize;
+use std::collections::HashMap;
+use std::io::{self, Write};
+
+/// So many hops are shown by blanks too: more would move a line off the screen.
+const INDENT: usize = 16;
+
+pub(crate) fn run(
+    args: &Why,
+    json: bool,
+    input: &mut Input,
+    out: &mut Output,
+    notes: &mut Notes,
+) -> Result<Status, Failure> {
+    let trace = input.trace()?;
+    let names = input.names(&trace, notes)?;
+    let place = names.find_event(&trace, &args.event)?;
+    let told = with_causes(&trace, &names, |causes| {
+        let way = if args.effects {
+            Way::forth(causes, causes.item(place), args)?
+        } else {
+            Way::back(causes, causes.item(place), args)
+        };
+        if json {
+            let result = if causes.never().is_some() { "never" } else { "found" };
+            out.report(result, &way.object(causes)?)?;
+        } else {
+            way.write(causes, out)?;
+        }
+        Ok(Status::Yes)
+    })?;
+    told.or_else(|finding| {
+        write_unpaired(json, &View::whole(&trace, &names), &finding, out)?;
+        Ok(Status::No)
+    })
+}
+
+/// An event on the way back from another, or in the tree of what follows it.
+struct Step {
+    /// How many hops it is from the first event.
+    depth: usize,
+    item: Item,
+    link: Link,
+}
+
+/// The events that are found from one, which comes first.
+struct Way {
+    is_back: bool,
+    steps: Vec<Step>,
+}
+
+impl Way {
+    /// The event and what it follows, up to so many hops. Each hop leads to a lower count, or from
+    /// a receive to its send, so it ends.
+    fn back(causes: &Causes<'_>, first: Item, args: &Why) -> Way {
+        let mut steps = Vec::new();
+        let mut next = Some(first);
+        while let Some(item) = next.filter(|_| (steps.len() as u64) < args.most()) {
+            let link = causes.link(item);
+            next = parent(&link, args.across);
+            steps.push(Step { depth: steps.len(), item, link });
+        }
+        Way { is_back: true, steps }
+    }
+
+    /// The event, and behind each event those that follow it.
+    fn forth(causes: &Causes<'_>, first: Item, args: &Why) -> Result<Way, Failure> {
+        let mut children: HashMap<Item, Vec<Item>> = HashMap::new();
+        for item in causes.order()? {
+            if let Some(parent) = parent(&causes.link(item), args.across) {
+                children.entry(parent).or_default().push(item);
+            }
+        }
+        let mut steps = Vec::new();
+        let mut waiting = vec![(0, first)];
+        while let Some((depth, item)) = waiting.pop() {
+            steps.push(Step { depth, item, link: causes.link(item) });
+            if (depth as u64) + 1 < args.most() {
+                let below = children.remove(&item).unwrap_or_default();
+                waiting.extend(below.into_iter().rev().map(|item| (depth + 1, item)));
+            }
+        }
+        Ok(Way { is_back: false, steps })
+    }
+
+    /// The grades of what is said. The first event of a tree is there whatever it follows.
+    fn grades(&self) -> impl Iterator<Item = Grade> + '_ {
+        let first = usize::from(!self.is_back);
+        self.steps.iter().skip(first).map(|step| step.link.grade)
+    }
+
+    fn write(&self, causes: &Causes<'_>, out: &mut Output) -> io::Result<()> {
+        if causes.never().is_some() {
+            writeln!(out, "{}", words::headline(causes))?;
+        }
+        if self.is_back {
+            self.write_back(causes, out)?;
+        } else {
+            self.write_forth(causes, out)?;
+        }
+        words::premises(self.grades()).iter().try_for_each(|line| writeln!(out, "{line}"))
+    }
+
+    fn write_back(&self, causes: &Causes<'_>, out: &mut Output) -> io::Result<()> {
+        let mut grade = None;
+        for step in &self.steps {
+            let (because, behind) = grade.map_or(("", ""), words::because);
+            let (named, at) = (words::named(causes, step.item), words::at(causes, step.item));
+            let label = match grade {
+                None => format!(", label {}", words::label(causes, step.item)),
+                Some(_) => String::new(),
+            };
+            writeln!(out, "{because}{named}{label}{at}{behind}")?;
+            grade = Some(step.link.grade);
+        }
+        let Some(last) = self.steps.last() else { return Ok(()) };
+        writeln!(out, "{}", words::ending(causes, last.item, last.link))
+    }
+
+    fn write_forth(&self, causes: &Causes<'_>, out: &mut Output) -> io::Result<()> {
+        for step in &self.steps {
+            let (depth, item) = (step.depth, step.item);
+            let (named, at) = (words::named(causes, item), words::at(causes, item));
+            let (perhaps, behind) = match step.link.grade {
+                _ if depth == 0 => ("", ""),
+                Grade::Perhaps => ("perhaps ", ""),
+                Grade::Under(premises) => ("", words::numbers(premises)),
+                Grade::Certain => ("", ""),
+            };
+            writeln!(
+                out,
+                "{depth} {:indent$}{perhaps}{named}{at}{behind}",
+                "",
+                indent = depth.min(INDENT)
+            )?;
+        }
+        Ok(())
+    }
+
+    fn object(&self, causes: &Causes<'_>) -> Result<Told, Failure> {
+        let found = self.steps.iter().map(|step| Found::of(causes, step).transpose());
+        let events = found.flatten().collect::<Result<_, _>>()?;
+        let direction = if self.is_back { "back" } else { "forth" };
+        Ok(Told {
+            headline: words::headline(causes),
+            direction,
+            events,
+            rests_on: words::premises(self.grades()),
+        })
+    }
+}
+
+/// The event that is next on the way back.
+fn parent(link: &Link, across: bool) -> Option<Item> {
+    match link.cause {
+        Cause::After(item) => Some(item),
+        Cause::OtherLabel(item) if across => Some(item),
+        _ => None,
+    }
+}
+
+/// The events that were found, as JSON.
+#[derive(Serialize)]
+pub(crate) struct Told {
+    direction: &'static str,
+    headline: String,
+    events: Vec<Found>,
+    rests_on: Vec<&'static str>,
+}
+
+/// An event that was found.
+#[derive(Serialize)]
+struct Found {
+    depth: usize,
+    event: String,
+    /// Its process, its number there and its line, unless nobody reported it.
+    pid: Option<Text<Pid>>,
+    index: Option<u64>,
+    line: Option<u64>,
+    kind: &'static str,
+    label: String,
+    from: String,
+    to: Option<String>,
+    prev: Number,
+    this: Number,
+    /// The message, if one of its ends was reported.
+    message: Option<String>,
+    /// Nanoseconds after the first event.
+    at: Option<i64>,
+    cause: &'static str,
+    after: Option<String>,
+    grade: &'static str,
+    premises: &'static [u8],
+}
+
+impl Found {
+    fn of(causes: &Causes<'_>, step: &Step) -> Result<Option<Found>, OutOfMemory> {
+        let names = causes.names();
+        let Some(event) = causes.event(step.item) else { return Ok(None) };
+        let place = causes.reported(step.item);
+        let line = place.map(|(pid, index)| causes.trace().line(pid, index)).transpose()?.flatten();
+        let (cause, after) = cause(causes, step.link);
+        let (grade, premises) = grade(step.link.grade);
+        Ok(Some(Found {
+            depth: step.depth,
+            event: causes.name(step.item),
+            pid: place.map(|(pid, _)| Text(pid)),
+            index: place.map(|(_, index)| index),
+            line,
+            kind: kind_word(event.kind),
+            label: names.label(event.label).into_owned(),
+            from: causes.process(event.from).into_owned(),
+            to: event.to.map(|to| causes.process(to).into_owned()),
+            prev: Number(event.serial.prev),
+            this: Number(event.serial.this),
+            message: causes.message(step.item).map(|value| names.value(value).into_owned()),
+            at: names.times().zip(place).and_then(|(times, place)| times.of_event(place)),
+            cause,
+            after,
+            grade,
+            premises,
+        }))
+    }
+}
+
+/// The word for a cause, and the event that it names.
+fn cause(causes: &Causes<'_>, link: Link) -> (&'static str, Option<String>) {
+    match link.cause {
+        Cause::After(item) => ("after", Some(causes.name(item))),
+        Cause::OtherLabel(item) => ("other_label", Some(causes.name(item))),
+        Cause::Begins => ("begins", None),
+        Cause::BeginsOrUnreported => ("begins_or_unreported", None),
+        Cause::Unknown => ("unknown", None),
+    }
+}
+
+fn grade(grade: Grade) -> (&'static str, &'static [u8]) {
+    match grade {
+        Grade::Certain | Grade::Under(Premises::Neither) => ("certain", &[]),
+        Grade::Under(Premises::First) => ("premises", &[1]),
+        Grade::Under(Premises::Both) => ("premises", &[1, 2]),
+        Grade::Perhaps => ("perhaps", &[]),
+    }
+}

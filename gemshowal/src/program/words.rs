@@ -1,0 +1,175 @@
+//! The sentences that `why`, charts, pages and times have in common: what an event is, what it
+//! follows, how sure that is, and on what it rests. Each is in one place here.
+
+use crate::causes::{Cause, Causes, Grade, Link};
+use crate::moment::moment;
+use crate::reason::Against;
+use crate::view::{count, Shown, View};
+use gemshowal::{Item, Kind, Premises};
+
+/// Of which runs all is said.
+const RUNS: &str = "this holds in each run without a reset that reports the trace";
+/// On what a sentence with the first premise rests.
+const FIRST: &str = "(1) if each receive of a token was reported";
+/// On what a sentence with the second premise rests too.
+const SECOND: &str = "(2) if no process cleared or lost its token, began again and reported an \
+                      earlier label again";
+/// How a standard node differs from the runs that are meant.
+const NODE: &str = "on a standard node (2) belongs to each (1), and behind a spawn or a token put \
+                    back neither is enough";
+/// What is meant by perhaps.
+const PERHAPS: &str =
+    "perhaps: it is so in the run that gemshowal complete finds, and another may \
+                       have something else there";
+/// What an event is, as `post#1 printed {parcel,apple,3}`.
+pub(crate) fn named(causes: &Causes<'_>, item: Item) -> String {
+    format!("{} {}{}", causes.name(item), deed(causes, item), unreported(causes, item))
+}
+
+/// What is said behind an event that nobody reported.
+fn unreported(causes: &Causes<'_>, item: Item) -> &'static str {
+    if causes.reported(item).is_some() {
+        ""
+    } else {
+        ", which wasn't reported"
+    }
+}
+
+/// What its process did, as `sent call {take,apple,3} to stock`.
+fn deed(causes: &Causes<'_>, item: Item) -> String {
+    let Some(event) = causes.event(item) else { return "did nothing".into() };
+    let message = message(causes, item);
+    match (event.kind, event.to) {
+        (Kind::Send, Some(to)) => format!("sent {message} to {}", causes.process(to)),
+        (Kind::Receive, _) => format!("received {message} from {}", causes.process(event.from)),
+        (Kind::Send | Kind::Print, _) => format!("printed {message}"),
+    }
+}
+
+/// The message of an event in short.
+pub(crate) fn message(causes: &Causes<'_>, item: Item) -> String {
+    match causes.message(item) {
+        Some(value) => causes.names().brief(value).into_owned(),
+        None => "an unknown message".into(),
+    }
+}
+
+/// The label of an event as it is called.
+pub(crate) fn label(causes: &Causes<'_>, item: Item) -> String {
+    causes.label(item).map(|label| causes.names().label(label).into_owned()).unwrap_or_default()
+}
+
+/// What an event follows, in a few words behind it: `after shop#1`.
+pub(crate) fn follows(causes: &Causes<'_>, item: Item, link: Link) -> String {
+    let perhaps = if link.grade == Grade::Perhaps { "perhaps " } else { "" };
+    match link.cause {
+        Cause::After(cause) => {
+            let unreported = unreported(causes, cause);
+            format!("{perhaps}after {}{unreported}", causes.name(cause))
+        }
+        Cause::OtherLabel(had) => format!(
+            "{perhaps}begins label {} here, or set it on its token; it had last received {} of \
+             label {}",
+            label(causes, item),
+            causes.name(had),
+            label(causes, had)
+        ),
+        Cause::Begins => format!("{perhaps}begins here"),
+        Cause::BeginsOrUnreported => {
+            "begins here, or follows a message whose receive wasn't reported".into()
+        }
+        Cause::Unknown => "nothing is known of what it follows".into(),
+    }
+}
+
+/// What stands in front of an event that another one follows, and behind it.
+pub(crate) fn because(grade: Grade) -> (&'static str, &'static str) {
+    match grade {
+        Grade::Certain => ("because ", ""),
+        Grade::Under(premises) => ("because ", numbers(premises)),
+        Grade::Perhaps => ("perhaps because ", ""),
+    }
+}
+
+/// The numbers of premises, behind what rests on them.
+pub(crate) fn numbers(premises: Premises) -> &'static str {
+    match premises {
+        Premises::Neither => "",
+        Premises::First => " (1)",
+        Premises::Both => " (1, 2)",
+    }
+}
+
+/// The end of a chain of causes.
+pub(crate) fn ending(causes: &Causes<'_>, item: Item, link: Link) -> String {
+    let name = causes.name(item);
+    let perhaps = if link.grade == Grade::Perhaps { "perhaps " } else { "" };
+    match link.cause {
+        Cause::After(cause) => format!("{name} follows {}", causes.name(cause)),
+        Cause::OtherLabel(had) => format!(
+            "{name} {perhaps}begins label {}, or its process set that on its token; it had last \
+             received {} of label {}{}",
+            label(causes, item),
+            causes.name(had),
+            label(causes, had),
+            match link.grade {
+                Grade::Under(premises) => numbers(premises),
+                Grade::Certain | Grade::Perhaps => "",
+            }
+        ),
+        Cause::Begins => format!("{name} {perhaps}begins this chain"),
+        Cause::BeginsOrUnreported => {
+            format!("{name} begins this chain, or follows a message whose receive wasn't reported")
+        }
+        Cause::Unknown => format!("nothing is known of what {name} follows"),
+    }
+}
+
+/// On what sentences of these grades rest, a line each.
+pub(crate) fn premises(grades: impl Iterator<Item = Grade>) -> Vec<&'static str> {
+    let (mut first, mut second, mut perhaps) = (false, false, false);
+    for grade in grades {
+        first |= matches!(grade, Grade::Under(_));
+        second |= grade == Grade::Under(Premises::Both);
+        perhaps |= grade == Grade::Perhaps;
+    }
+    let lines = [(true, RUNS), (first, FIRST), (second, SECOND), (first, NODE), (perhaps, PERHAPS)];
+    lines.into_iter().filter(|&(is_used, _)| is_used).map(|(_, line)| line).collect()
+}
+
+/// When a reported event happened, behind what it is.
+pub(crate) fn at(causes: &Causes<'_>, item: Item) -> String {
+    let times = causes.names().times().zip(causes.reported(item));
+    let time = times.and_then(|(times, place)| Some(moment(times, times.of_event(place)?)));
+    time.map(|time| format!(", at {time}")).unwrap_or_default()
+}
+
+/// Whether a run has the trace, and what is added to it, in a line.
+pub(crate) fn headline(causes: &Causes<'_>) -> String {
+    if let Some((pid, index, never)) = causes.never() {
+        let view = View::whole(causes.trace(), causes.names());
+        return Against::by_complete(pid, index, never).headline(&Shown::reported(&view));
+    }
+    let own = causes.trace().streams();
+    let events = count(own.total(), "event");
+    let processes = count(own.pids().len() as u64, "process");
+    let added = causes.added();
+    let certain = (added.certain > 0).then(|| count(added.certain, "send"));
+    let sends = (added.sends > 0).then(|| count(added.sends, "send"));
+    let receives = (added.receives > 0).then(|| count(added.receives, "receive"));
+    let probable: Vec<String> = sends.into_iter().chain(receives).collect();
+    let probable = (!probable.is_empty()).then(|| format!("probably {}", probable.join(" and ")));
+    let added: Vec<String> = certain.into_iter().chain(probable).collect();
+    let with = if added.is_empty() { "" } else { ", with " };
+    let behind = if added.is_empty() { "" } else { " that nobody reported" };
+    format!("fits: {events} of {processes}{with}{}{behind}", added.join(" and "))
+}
+
+/// What a chart's sentences rest on, if on anything.
+pub(crate) fn chart_note(grades: impl Iterator<Item = Grade>) -> Option<&'static str> {
+    let is_under = |grade| matches!(grade, Grade::Under(_));
+    grades.into_iter().any(is_under).then_some(
+        "note: what a send or print follows holds if its process reported each receive of a token \
+         and began no label twice; gemshowal why says of which event that is needed",
+    )
+}
