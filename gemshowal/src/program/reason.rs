@@ -84,7 +84,7 @@ impl Against {
     }
 
     /// The events that it is about.
-    fn events<'a>(&self, shown: &'a Shown<'_>) -> Vec<(Place, Event)> {
+    fn events(&self, shown: &Shown<'_>) -> Vec<(Place, Event)> {
         let places = [Some(self.place), self.other].into_iter().flatten();
         let with_event = |place: Place| Some((place, shown.streams.event(place.0, place.1)?));
         places.filter_map(with_event).collect()

@@ -6,7 +6,7 @@
 
 use super::side::{Side, NOBODY};
 use gemshowal::Serial;
-use std::collections::HashSet;
+use std::collections::{HashMap, HashSet};
 
 /// One number for two, as SplitMix64 makes it.
 pub(super) fn mix(one: u64, other: u64) -> u64 {
@@ -16,7 +16,7 @@ pub(super) fn mix(one: u64, other: u64) -> u64 {
     mixed ^ (mixed >> 31)
 }
 
-/// How many counts of a trace are below each.
+/// The counts of a trace, each once, rising.
 #[derive(Debug)]
 pub(super) struct Ranks(Vec<u64>);
 
@@ -31,68 +31,17 @@ impl Ranks {
         Ranks(counts)
     }
 
-    /// The ranks of both counts.
-    pub(super) fn of_serial(&self, serial: Serial) -> (u64, u64) {
-        (self.of_count(serial.prev), self.of_count(serial.this))
-    }
-
-    fn of_count(&self, count: u64) -> u64 {
-        self.0.partition_point(|&other| other < count) as u64
+    /// How many counts are below both.
+    pub(super) fn of_serial(&self, serial: Serial) -> [u64; 2] {
+        let below = |count| self.0.partition_point(|&other| other < count) as u64;
+        [below(serial.prev), below(serial.this)]
     }
 }
 
-/// The colours of the processes of a trace.
-#[derive(Clone, Debug)]
-pub(super) struct Colours(pub(super) Vec<u64>);
-
-impl Colours {
-    /// By their own events, with the ranks of their counts if these are given.
-    pub(super) fn first(side: &Side<'_>, ranks: Option<&Ranks>) -> Colours {
-        let mut named = vec![(NOBODY, 0); side.len()];
-        Colours((0..side.len()).map(|it| first_colour(side, ranks, it, &mut named)).collect())
-    }
-
-    pub(super) fn get(&self, place: usize) -> u64 {
-        self.0.get(place).copied().unwrap_or(0)
-    }
-
-    pub(super) fn set(&mut self, place: usize, colour: u64) {
-        if let Some(old) = self.0.get_mut(place) {
-            *old = colour;
-        }
-    }
-
-    /// Those of one round more.
-    pub(super) fn refined(&self, side: &Side<'_>) -> Colours {
-        let mut told = vec![0_u64; self.0.len()];
-        let mut own = Vec::with_capacity(self.0.len());
-        for (place, &colour) in self.0.iter().enumerate() {
-            let mut next = colour;
-            for (index, &peer) in side.peers(place).iter().enumerate() {
-                if let Some(sum) = told.get_mut(peer as usize) {
-                    *sum = sum.wrapping_add(mix(colour, index as u64));
-                    next = mix(next, self.get(peer as usize));
-                }
-            }
-            own.push(next);
-        }
-        Colours(own.into_iter().zip(told).map(|(own, told)| mix(own, told)).collect())
-    }
-
-    /// How many different colours there are.
-    pub(super) fn count(&self) -> usize {
-        self.0.iter().collect::<HashSet<_>>().len()
-    }
-
-    /// Whether another trace has each colour as often.
-    pub(super) fn are_alike(&self, other: &Colours) -> bool {
-        let sorted = |colours: &Colours| {
-            let mut colours = colours.0.clone();
-            colours.sort_unstable();
-            colours
-        };
-        sorted(self) == sorted(other)
-    }
+/// The colours by the processes' own events, with the ranks of their counts if these are given.
+pub(super) fn first_colours(side: &Side<'_>, ranks: Option<&Ranks>) -> Vec<u64> {
+    let mut named = vec![(NOBODY, 0); side.len()];
+    (0..side.len()).map(|place| first_colour(side, ranks, place, &mut named)).collect()
 }
 
 /// The colour of a process by its own events: which of them have the same process at the other end,
@@ -107,11 +56,8 @@ fn first_colour(
     let events = side.events(place).iter().zip(side.items(place)).zip(side.peers(place));
     let mut colour = 0;
     for (index, ((event, &item), &peer)) in (0..).zip(events) {
-        colour = mix(colour, item.into());
-        if let Some(ranks) = ranks {
-            let (prev, this) = ranks.of_serial(event.serial);
-            colour = mix(mix(colour, prev), this);
-        }
+        let ranks = ranks.map_or([0, 0], |ranks| ranks.of_serial(event.serial));
+        colour = [item.into(), ranks[0], ranks[1]].into_iter().fold(colour, mix);
         if let Some((by, first)) = named.get_mut(peer as usize) {
             if *by != place as u32 {
                 (*by, *first) = (place as u32, index);
@@ -120,4 +66,87 @@ fn first_colour(
         }
     }
     colour
+}
+
+/// The colours of one round more.
+pub(super) fn refined(side: &Side<'_>, colours: &[u64]) -> Vec<u64> {
+    let mut told = vec![0_u64; colours.len()];
+    let mut own = Vec::with_capacity(colours.len());
+    for (place, &colour) in colours.iter().enumerate() {
+        let mut next = colour;
+        for (index, &peer) in side.peers(place).iter().enumerate() {
+            if let Some(sum) = told.get_mut(peer as usize) {
+                *sum = sum.wrapping_add(mix(colour, index as u64));
+                next = mix(next, colours.get(peer as usize).copied().unwrap_or(0));
+            }
+        }
+        own.push(next);
+    }
+    own.into_iter().zip(told).map(|(own, told)| mix(own, told)).collect()
+}
+
+/// The colours with those of all processes of each one's part taken in.
+pub(super) fn with_parts(colours: &[u64], parts: &mut Parts) -> Vec<u64> {
+    let mut sums = HashMap::<usize, u64>::new();
+    for (place, &colour) in colours.iter().enumerate() {
+        let sum = sums.entry(parts.end(place)).or_default();
+        *sum = sum.wrapping_add(mix(colour, 1));
+    }
+    let mut sum = |place| sums.get(&parts.end(place)).copied().unwrap_or(0);
+    colours.iter().enumerate().map(|(place, &colour)| mix(colour, sum(place))).collect()
+}
+
+/// How many different colours there are.
+pub(super) fn count(colours: &[u64]) -> usize {
+    colours.iter().collect::<HashSet<_>>().len()
+}
+
+/// Whether two traces have each colour as often as the other.
+pub(super) fn are_alike(ones: &[u64], others: &[u64]) -> bool {
+    let [ones, others] = [ones, others].map(|colours| {
+        let mut sorted = colours.to_vec();
+        sorted.sort_unstable();
+        sorted
+    });
+    ones == others
+}
+
+/// The parts of a trace between which no message goes: for each process another one of its part, or
+/// itself; the last one on the way is that of the part.
+#[derive(Debug)]
+pub(super) struct Parts(Vec<u32>);
+
+impl Parts {
+    /// Each process is a part.
+    pub(super) fn apart(side: &Side<'_>) -> Parts {
+        Parts((0..side.len() as u32).collect())
+    }
+
+    pub(super) fn of(side: &Side<'_>) -> Parts {
+        let mut parts = Parts::apart(side);
+        for place in 0..side.len() {
+            for &peer in side.peers(place).iter().filter(|&&peer| peer != NOBODY) {
+                let (from, to) = (parts.end(place), parts.end(peer as usize));
+                if let Some(next) = parts.0.get_mut(from) {
+                    *next = to as u32;
+                }
+            }
+        }
+        parts
+    }
+
+    /// The process at which the way from this one ends. It makes the way shorter.
+    pub(super) fn end(&mut self, mut place: usize) -> usize {
+        let next = |parts: &Parts, place| parts.0.get(place).map_or(place, |&next| next as usize);
+        loop {
+            let (one, beyond) = (next(self, place), next(self, next(self, place)));
+            if beyond == one {
+                return one;
+            }
+            if let Some(next) = self.0.get_mut(place) {
+                *next = beyond as u32;
+            }
+            place = beyond;
+        }
+    }
 }

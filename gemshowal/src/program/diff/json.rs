@@ -1,39 +1,23 @@
-//! What is said of two traces as JSON: one object.
+//! What is said of two traces as JSON.
 
-use super::changes::Change;
-use super::pairs::Ground;
+use super::pairs::{Ground, Pair};
 use super::report::{Line, Report};
 use super::words::{Row, Sums};
-use crate::object::{Fields, Place};
+use crate::object::{Fields, Place, Sequence};
 use gemshowal::{Pid, Text};
-use serde::{Serialize, Serializer};
+use serde::Serialize;
 
 /// Two traces with what differs.
 #[derive(Serialize)]
-pub(super) struct Object<'a> {
+struct Object<'a, P, C> {
     /// The name of the second trace.
     other: &'a str,
-    /// Whether that holds however processes are matched. All that is the same is compared.
+    /// Whether the result holds however processes are matched. All that is the same is compared.
     certain: bool,
     #[serde(flatten)]
     sums: Sums,
-    #[serde(serialize_with = "matches")]
-    processes: &'a Report<'a>,
-    #[serde(serialize_with = "changes")]
-    changes: &'a Report<'a>,
-}
-
-impl<'a> Object<'a> {
-    pub(super) fn new(report: &'a Report<'a>) -> Object<'a> {
-        let [_, second] = report.texts;
-        Object {
-            other: second.name,
-            certain: report.is_same() || report.found.is_certain,
-            sums: report.sums(),
-            processes: report,
-            changes: report,
-        }
-    }
+    processes: P,
+    changes: C,
 }
 
 /// Two processes that are matched.
@@ -45,22 +29,6 @@ struct Matched {
     guess: bool,
     /// Whether there may be fewer changes than are told.
     coarse: bool,
-}
-
-/// The processes that are matched, by rising pid of the first trace's.
-fn matches<S: Serializer>(report: &&Report<'_>, serializer: S) -> Result<S::Ok, S::Error> {
-    let [first, _] = report.sides;
-    let pairs = (0..first.len()).filter_map(|place| report.found.pairs.of_first(place));
-    serializer.collect_seq(pairs.filter_map(|pair| {
-        let (one, other) = report.pids(pair)?;
-        Some(Matched {
-            process: Text(one),
-            is: Text(other),
-            because: pair.ground,
-            guess: pair.ground.is_guess(),
-            coarse: report.is_coarse(pair),
-        })
-    }))
 }
 
 /// A process or an event that differs.
@@ -75,9 +43,13 @@ enum Difference {
         change: &'static str,
         #[serde(flatten)]
         row: Placed,
-        /// Where it is in the second trace.
-        #[serde(skip_serializing_if = "Option::is_none")]
-        now: Option<Placed>,
+    },
+    /// One that is in both traces.
+    Both {
+        change: &'static str,
+        #[serde(flatten)]
+        row: Placed,
+        now: Placed,
     },
 }
 
@@ -93,38 +65,58 @@ struct Placed {
 
 impl From<Row<'_>> for Placed {
     fn from(row: Row<'_>) -> Placed {
-        Placed {
-            line: row.line,
-            place: Place::new(row.trace.names, row.place),
-            event: Fields::new(row.trace.names, row.event),
-        }
+        let names = row.trace.names;
+        let (place, event) = (Place::new(names, row.place), Fields::new(names, row.event));
+        Placed { line: row.line, place, event }
     }
 }
 
-/// All that differs.
-fn changes<S: Serializer>(report: &&Report<'_>, serializer: S) -> Result<S::Ok, S::Error> {
-    let lines = report.lines();
-    let told = lines.iter().filter_map(|line| match *line {
-        Line::Matched(_) => None,
-        Line::Gone(pid) => Some(Difference::Process { change: "gone process", pid: Text(pid) }),
-        Line::New(pid) => Some(Difference::Process { change: "new process", pid: Text(pid) }),
-        Line::First(change) => first(report, change),
-        Line::Second(change) => {
-            let row = report.row(1, change.process, change.index)?;
-            Some(Difference::Event { change: "new", row: row.into(), now: None })
-        }
-    });
-    let moved = report.moved().map(|(row, now, _)| Difference::Event {
-        change: "counts",
-        row: row.into(),
-        now: Some(now.into()),
-    });
-    serializer.collect_seq(told.chain(moved))
+/// All that is said: the processes that are matched, by rising pid of the first trace's, and then
+/// what differs.
+pub(super) fn object<'a>(report: &'a Report<'a>) -> impl Serialize + 'a {
+    let ([first, _], [_, second]) = (report.sides, report.texts);
+    let pairs = move || (0..first.len()).filter_map(|place| report.found.pairs.of_first(place));
+    Object {
+        other: second.name,
+        certain: report.is_same() || report.found.is_certain,
+        sums: report.sums(),
+        processes: Sequence(move || pairs().filter_map(|pair| matched(report, pair))),
+        changes: Sequence(move || {
+            let told = report.lines().into_iter().filter_map(|line| difference(report, line));
+            told.chain(report.moved().map(|(row, now, _)| Difference::Both {
+                change: "counts",
+                row: row.into(),
+                now: now.into(),
+            }))
+        }),
+    }
 }
 
-fn first(report: &Report<'_>, change: &Change) -> Option<Difference> {
-    let (row, now) = report.rows(change)?;
-    let now = now.map(|(now, _)| Placed::from(now));
-    let change = if now.is_some() { "elsewhere" } else { "gone" };
-    Some(Difference::Event { change, row: row.into(), now })
+fn matched(report: &Report<'_>, pair: Pair) -> Option<Matched> {
+    let (process, is) = report.pids(pair)?;
+    Some(Matched {
+        process: Text(process),
+        is: Text(is),
+        because: pair.ground,
+        guess: pair.ground.is_guess(),
+        coarse: report.is_coarse(pair),
+    })
+}
+
+fn difference(report: &Report<'_>, line: Line<'_>) -> Option<Difference> {
+    Some(match line {
+        Line::Matched(_) => return None,
+        Line::Gone(pid) => Difference::Process { change: "gone process", pid: Text(pid) },
+        Line::New(pid) => Difference::Process { change: "new process", pid: Text(pid) },
+        Line::First(change) => match report.rows(change)? {
+            (row, None) => Difference::Event { change: "gone", row: row.into() },
+            (row, Some((now, _))) => {
+                Difference::Both { change: "elsewhere", row: row.into(), now: now.into() }
+            }
+        },
+        Line::Second(change) => {
+            let row = report.row(1, change.process, change.index)?;
+            Difference::Event { change: "new", row: row.into() }
+        }
+    })
 }

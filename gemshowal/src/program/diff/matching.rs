@@ -1,55 +1,113 @@
-//! Which processes of two traces have the same part, if no renaming makes the one of the other.
+//! Which processes of two traces have the same part.
 //!
-//! First come those that are called alike, if that is wanted; then those that no other process is
-//! like, from all events to the first one; then several that are like each other, in the order in
+//! If one renaming may make the one trace of the other, each process is matched with one of the same
+//! colour. If several have it, the first one that is free is a guess; in each part of the trace only
+//! one is made before the colours are refined anew, so that whatever follows from it is known.
+//!
+//! Else those come first that are called alike, if that is wanted; then those that no other process
+//! is like, from all events to the first one; then several that are like each other, in the order in
 //! which they first report something. The processes at the other ends of messages that are alike
 //! are matched as soon as both ends of one are, so that of alike workers each is the one that the
 //! same message went to.
 
 use super::align::{align, Budget};
-use super::colours::mix;
-use super::groups::Groups;
-use super::pairs::{Ground, Pairs};
+use super::colours::{are_alike, count, mix, refined, with_parts, Parts};
+use super::pairs::{Ground, Pairs, Which};
 use super::side::{Side, NOBODY};
+use std::collections::{HashMap, HashSet, VecDeque};
 
 /// How many hops of messages a key looks beyond the process.
 const HOPS: usize = 4;
 
+/// The rounds of colours for each two traces, and how many events and processes the rounds beyond
+/// these may look at.
+const ROUNDS: usize = 8;
+const LOOKS: usize = 1_000_000;
+const MOST_ROUNDS: usize = 10_000;
+
+/// The places of two processes that are called alike, and by what.
+pub(super) type Mate = (usize, usize, Ground);
+
+/// Matches the processes of two traces so that one renaming may make the one of the other; none if
+/// the colours exclude each renaming.
+pub(super) fn by_renaming(
+    sides: [&Side<'_>; 2],
+    colours: [Vec<u64>; 2],
+    mates: &[Mate],
+) -> Option<Pairs> {
+    let looks = sides[0].total() + sides[0].len();
+    let mut rounds = (ROUNDS + LOOKS / looks.max(1)).min(MOST_ROUNDS);
+    let mut parts = sides.map(Parts::of);
+    let mut search = Search::new(sides, colours);
+    search.refine(&mut rounds);
+    search.first.keys = with_parts(&search.first.keys, &mut parts[0]);
+    search.second.keys = with_parts(&search.second.keys, &mut parts[1]);
+    if !are_alike(&search.first.keys, &search.second.keys) {
+        return None;
+    }
+    search.match_only(Ground::Events, Ground::Events);
+    while search.pairs.all().len() < sides[0].len() {
+        let matched = search.pairs.all().len();
+        search.guess(mates, &mut parts, Ground::Several);
+        if rounds == 0 || search.pairs.all().len() == matched {
+            parts = sides.map(Parts::apart);
+            search.guess(mates, &mut parts, Ground::Several);
+            break;
+        }
+        search.mark_pairs();
+        search.refine(&mut rounds);
+        search.match_only(Ground::Message, Ground::Message);
+    }
+    Some(search.pairs)
+}
+
 /// Matches the processes of two traces, these to begin with.
-pub(super) fn match_processes(
-    [first, second]: [&Side<'_>; 2],
-    mates: &[(usize, usize, Ground)],
-) -> Pairs {
-    let budget = Budget::of(first.total() + second.total());
-    let pairs = Pairs::new(first.len(), second.len());
-    let mut search = Search { first, second, pairs, followed: 0, budget };
+pub(super) fn by_keys(sides: [&Side<'_>; 2], mates: &[Mate]) -> Pairs {
+    let mut search = Search::new(sides, [Vec::new(), Vec::new()]);
     for &(one, other, ground) in mates {
         search.pairs.add(one, other, ground);
     }
-    search.follow();
-    if search.pairs.all().len() < first.len().min(second.len()) {
-        search.match_by_keys();
-        search.match_silent();
+    search.follow(Ground::Message);
+    if search.pairs.all().len() == sides[0].len().min(sides[1].len()) {
+        return search.pairs;
     }
+    search.first.order.retain(|&place| !sides[0].items(place).is_empty());
+    search.second.order.retain(|&place| !sides[1].items(place).is_empty());
+    let keys: Vec<_> = all_keys(sides[0]).into_iter().zip(all_keys(sides[1])).collect();
+    for ((ones, ground), (others, _)) in &keys {
+        (search.first.keys, search.second.keys) = (ones.clone(), others.clone());
+        search.match_only(*ground, Ground::Message);
+    }
+    let mut apart = sides.map(Parts::apart);
+    for ((ones, ground), (others, _)) in keys {
+        (search.first.keys, search.second.keys) = (ones, others);
+        let ground = if ground == Ground::Events { Ground::Several } else { ground };
+        search.guess(&[], &mut apart, ground);
+    }
+    search.match_silent();
     search.pairs
 }
 
-/// What may tell the part of each process of a trace: a number that alike ones have in common.
-type Keys = Vec<u64>;
-
-/// All keys of a trace, those that tell most first, each with what it tells.
-fn all_keys(side: &Side<'_>) -> Vec<(Keys, Ground)> {
+/// All keys of a trace, those that tell most first, each with what it tells: numbers that alike
+/// processes have in common.
+fn all_keys(side: &Side<'_>) -> Vec<(Vec<u64>, Ground)> {
     let of_all =
         |key: fn(&Side<'_>, usize) -> u64| (0..side.len()).map(|it| key(side, it)).collect();
-    let further = |known: &Keys| {
-        Some((0..side.len()).map(|place| key_of_events(side, place, known)).collect::<Keys>())
+    let further = |known: &Vec<u64>| {
+        Some((0..side.len()).map(|place| key_of_events(side, place, known)).collect())
     };
     let hops = std::iter::successors(further(&Vec::new()), further).take(1 + HOPS);
     let mut keys: Vec<_> = hops.map(|keys| (keys, Ground::Events)).collect();
     keys.reverse();
-    keys.push((of_all(key_of_kinds), Ground::Kinds));
-    keys.push((of_all(key_of_first), Ground::First));
-    keys.push((of_all(key_of_first_kind), Ground::FirstKind));
+    let kinds = |side: &Side<'_>, place| {
+        side.events(place).iter().fold(1, |key, event| mix(key, event.kind as u64))
+    };
+    let first = |side: &Side<'_>, place| side.items(place).first().map_or(0, |&it| it.into());
+    let first_kind =
+        |side: &Side<'_>, place| side.events(place).first().map_or(0, |event| event.kind as u64);
+    keys.push((of_all(kinds), Ground::Kinds));
+    keys.push((of_all(first), Ground::First));
+    keys.push((of_all(first_kind), Ground::FirstKind));
     keys
 }
 
@@ -62,125 +120,189 @@ fn key_of_events(side: &Side<'_>, place: usize, known: &[u64]) -> u64 {
     })
 }
 
-/// The key of the kinds of all events.
-fn key_of_kinds(side: &Side<'_>, place: usize) -> u64 {
-    side.events(place).iter().fold(1, |key, event| mix(key, event.kind as u64))
+/// The processes of each key, in an order.
+struct Groups(HashMap<u64, VecDeque<usize>>);
+
+impl Groups {
+    /// The process of this key, if there is one alone.
+    fn only(&self, key: u64) -> Option<usize> {
+        let group = self.0.get(&key).filter(|group| group.len() == 1)?;
+        group.front().copied()
+    }
+
+    /// Takes the next process of this key.
+    fn take(&mut self, key: u64) -> Option<usize> {
+        self.0.get_mut(&key)?.pop_front()
+    }
 }
 
-/// The key of the first event.
-fn key_of_first(side: &Side<'_>, place: usize) -> u64 {
-    side.items(place).first().map_or(0, |&item| item.into())
+/// A trace with what its processes are matched by.
+struct Half<'a> {
+    side: &'a Side<'a>,
+    which: Which,
+    order: Vec<usize>,
+    keys: Vec<u64>,
 }
 
-/// The key of the first event's kind.
-fn key_of_first_kind(side: &Side<'_>, place: usize) -> u64 {
-    side.events(place).first().map_or(0, |event| event.kind as u64)
+impl Half<'_> {
+    fn key(&self, place: usize) -> u64 {
+        self.keys.get(place).copied().unwrap_or(0)
+    }
+
+    /// The free processes by their keys.
+    fn groups(&self, pairs: &Pairs) -> Groups {
+        let mut groups = HashMap::<u64, VecDeque<usize>>::new();
+        for &place in self.order.iter().filter(|&&place| pairs.is_free(self.which, place)) {
+            groups.entry(self.key(place)).or_default().push_back(place);
+        }
+        Groups(groups)
+    }
+
+    /// The events of a process, each with the number of the pair that the process at its other end
+    /// is in. So a message to a process that is matched goes with one to its partner alone.
+    fn known_items(&self, place: usize, pairs: &Pairs) -> Vec<u64> {
+        self.side.items_with(place, |peer| pairs.number(self.which, peer as usize))
+    }
+
+    /// The process at this place, unless it is matched or its part has a guess.
+    fn is_open(&self, place: usize, pairs: &Pairs, guessed: &mut Guessed<'_>) -> bool {
+        pairs.is_free(self.which, place) && !guessed.ends.contains(&guessed.parts.end(place))
+    }
+}
+
+/// The parts of a trace of which a process was guessed, each by the process at its end.
+struct Guessed<'a> {
+    parts: &'a mut Parts,
+    ends: HashSet<usize>,
 }
 
 /// The matching under way.
-#[derive(Debug)]
 struct Search<'a> {
-    first: &'a Side<'a>,
-    second: &'a Side<'a>,
+    first: Half<'a>,
+    second: Half<'a>,
     pairs: Pairs,
     /// How many pairs were followed.
     followed: usize,
     budget: Budget,
 }
 
-impl Search<'_> {
-    fn match_by_keys(&mut self) {
-        let keys: Vec<_> = all_keys(self.first).into_iter().zip(all_keys(self.second)).collect();
-        let (order, others) = (self.first.order(), self.second.order());
-        let reports = |side: &Side<'_>, place: &usize| !side.items(*place).is_empty();
-        let order: Vec<_> = order.into_iter().filter(|it| reports(self.first, it)).collect();
-        let others: Vec<_> = others.into_iter().filter(|it| reports(self.second, it)).collect();
-        for ((ones_keys, ground), (others_keys, _)) in &keys {
-            let (ones, others) = self.groups([&order, &others], [ones_keys, others_keys]);
-            self.match_only(&order, ones_keys, &ones, &others, *ground);
-        }
-        for ((ones_keys, ground), (others_keys, _)) in &keys {
-            let (_, others) = self.groups([&order, &others], [ones_keys, others_keys]);
-            self.match_in_order(&order, ones_keys, others, ground.of_several());
+impl<'a> Search<'a> {
+    fn new([first, second]: [&'a Side<'a>; 2], [ones, others]: [Vec<u64>; 2]) -> Search<'a> {
+        let half =
+            |side: &'a Side<'a>, which, keys| Half { side, which, order: side.order(), keys };
+        Search {
+            first: half(first, Which::First, ones),
+            second: half(second, Which::Second, others),
+            pairs: Pairs::new(first.len(), second.len()),
+            followed: 0,
+            budget: Budget::of(first.total() + second.total()),
         }
     }
 
-    /// The free processes of both traces by their keys.
-    fn groups(&self, orders: [&[usize]; 2], keys: [&Keys; 2]) -> (Groups, Groups) {
-        let [ones, others] = orders;
-        let [first, second] = keys.map(|keys| |place: usize| Some((*keys.get(place)?, place)));
-        let free = ones.iter().copied().filter(|&it| self.pairs.is_free_in_first(it));
-        let free_others = others.iter().copied().filter(|&it| self.pairs.is_free_in_second(it));
-        (Groups::new(free.filter_map(first)), Groups::new(free_others.filter_map(second)))
+    /// Refines the colours until no process more is told apart.
+    fn refine(&mut self, rounds: &mut usize) {
+        let mut colours = count(&self.first.keys);
+        while colours < self.first.side.len() && *rounds > 0 {
+            *rounds -= 1;
+            self.first.keys = refined(self.first.side, &self.first.keys);
+            self.second.keys = refined(self.second.side, &self.second.keys);
+            let now = count(&self.first.keys);
+            if now <= colours {
+                return;
+            }
+            colours = now;
+        }
+    }
+
+    /// Gives each process that is matched a colour that the other one alone has.
+    fn mark_pairs(&mut self) {
+        for (pair, number) in self.pairs.all().iter().zip(0..) {
+            let one = self.first.keys.get_mut(pair.first);
+            if let Some((one, other)) = one.zip(self.second.keys.get_mut(pair.second)) {
+                (*one, *other) = (mix(number, 0), mix(number, 0));
+            }
+        }
     }
 
     /// Matches the processes whose key no other has, and follows their messages.
-    fn match_only(
-        &mut self,
-        order: &[usize],
-        keys: &Keys,
-        ones: &Groups,
-        others: &Groups,
-        ground: Ground,
-    ) {
-        for key in order.iter().filter_map(|&place| keys.get(place)) {
-            if let (Some(one), Some(other)) = (ones.only(*key), others.only(*key)) {
+    fn match_only(&mut self, ground: Ground, of_message: Ground) {
+        let (ones, others) = (self.first.groups(&self.pairs), self.second.groups(&self.pairs));
+        for &place in &self.first.order {
+            let key = self.first.key(place);
+            if let Some((one, other)) = ones.only(key).zip(others.only(key)) {
                 self.pairs.add(one, other, ground);
             }
         }
-        self.follow();
+        self.follow(of_message);
     }
 
-    /// Matches processes of one key in their order, and follows the messages of each.
-    fn match_in_order(&mut self, order: &[usize], keys: &Keys, mut others: Groups, ground: Ground) {
-        for &place in order {
-            let Some(&key) = keys.get(place).filter(|_| self.pairs.is_free_in_first(place)) else {
-                continue;
-            };
-            let free = std::iter::from_fn(|| others.take(key));
-            if let Some(other) = { free }.find(|&other| self.pairs.is_free_in_second(other)) {
-                self.pairs.add(place, other, ground);
-                self.follow();
+    /// Matches processes of one key, one in each part, and follows the messages of each: first those
+    /// that are called alike, and then in the order of both.
+    fn guess(&mut self, mates: &[Mate], parts: &mut [Parts; 2], ground: Ground) {
+        let [ones, others] = parts;
+        let mut ones = Guessed { parts: ones, ends: HashSet::new() };
+        let mut others = Guessed { parts: others, ends: HashSet::new() };
+        for &(one, other, _) in mates {
+            if self.first.key(one) == self.second.key(other)
+                && self.first.is_open(one, &self.pairs, &mut ones)
+            {
+                self.guess_pair(one, other, [&mut ones, &mut others], ground);
             }
+        }
+        let mut groups = self.second.groups(&self.pairs);
+        for place in self.first.order.clone() {
+            while self.first.is_open(place, &self.pairs, &mut ones) {
+                let Some(other) = groups.take(self.first.key(place)) else { break };
+                self.guess_pair(place, other, [&mut ones, &mut others], ground);
+            }
+        }
+    }
+
+    /// Guesses that an open process of the first trace is this one, if it is open too.
+    fn guess_pair(
+        &mut self,
+        one: usize,
+        other: usize,
+        [ones, others]: [&mut Guessed<'_>; 2],
+        ground: Ground,
+    ) {
+        if self.second.is_open(other, &self.pairs, others) {
+            ones.ends.insert(ones.parts.end(one));
+            others.ends.insert(others.parts.end(other));
+            self.pairs.add(one, other, ground);
+            self.follow(Ground::Message);
         }
     }
 
     /// Matches the processes that report nothing, and that no matched one tells of, in their order.
     fn match_silent(&mut self) {
-        let is_silent = |side: &Side<'_>, place: &usize| side.items(*place).is_empty();
-        let ones = (0..self.first.len())
-            .filter(|it| is_silent(self.first, it) && self.pairs.is_free_in_first(*it));
-        let others = (0..self.second.len())
-            .filter(|it| is_silent(self.second, it) && self.pairs.is_free_in_second(*it));
-        let silent: Vec<_> = ones.zip(others).collect();
-        for (one, other) in silent {
+        let silent = |half: &Half<'_>| {
+            let is_silent = |&place: &usize| half.side.items(place).is_empty();
+            let all = (0..half.side.len()).filter(is_silent);
+            all.filter(|&place| self.pairs.is_free(half.which, place)).collect::<Vec<_>>()
+        };
+        let (ones, others) = (silent(&self.first), silent(&self.second));
+        for (one, other) in ones.into_iter().zip(others) {
             self.pairs.add(one, other, Ground::Silent);
         }
     }
 
     /// Matches the processes at the other ends of the messages of pairs that weren't followed yet.
-    fn follow(&mut self) {
+    fn follow(&mut self, ground: Ground) {
         while let Some(&pair) = self.pairs.all().get(self.followed) {
             self.followed += 1;
-            let (ones, others) = (self.first.peers(pair.first), self.second.peers(pair.second));
-            let first = known_items(self.first, pair.first, |it| self.pairs.number_of_first(it));
-            let second =
-                known_items(self.second, pair.second, |it| self.pairs.number_of_second(it));
+            let first = self.first.known_items(pair.first, &self.pairs);
+            let second = self.second.known_items(pair.second, &self.pairs);
+            let ones = self.first.side.peers(pair.first);
+            let others = self.second.side.peers(pair.second);
             for run in align(&first, &second, &mut self.budget).runs {
                 let peers = ones.iter().skip(run.first).zip(others.iter().skip(run.second));
                 for (&one, &other) in peers.take(run.len) {
                     if one != NOBODY && other != NOBODY {
-                        self.pairs.add(one as usize, other as usize, Ground::Message);
+                        self.pairs.add(one as usize, other as usize, ground);
                     }
                 }
             }
         }
     }
-}
-
-/// The events of a process, each with the number of the pair that the process at its other end is
-/// in. So a message to a process that is matched goes together with one to its partner alone.
-fn known_items(side: &Side<'_>, place: usize, number: impl Fn(usize) -> u32) -> Vec<u64> {
-    let events = side.items(place).iter().zip(side.peers(place));
-    events.map(|(&item, &peer)| u64::from(item) << 32 | u64::from(number(peer as usize))).collect()
 }

@@ -1,12 +1,10 @@
 //! Processes of two traces that are called alike: by one name, or by one pid.
 
+use super::matching::Mate;
 use super::pairs::Ground;
 use super::side::{term, Side};
 use crate::names::Names;
 use std::collections::HashMap;
-
-/// The places of two processes that are called alike, and by what.
-pub(super) type Mate = (usize, usize, Ground);
 
 /// The processes that are called alike. Those with one name come first.
 pub(super) fn find(sides: [&Side<'_>; 2], names: [&Names; 2], has_names: bool) -> Vec<Mate> {

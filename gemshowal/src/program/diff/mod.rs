@@ -1,16 +1,13 @@
 //! The command `diff`: what is new, gone or elsewhere in the second of two traces, up to pids and
 //! counts.
 //!
-//! `exact` matches the processes if one renaming may make the one trace of the other, by colours
-//! that are refined round by round. Else `matching` finds which process of the one trace has the
-//! part of which in the other, and why that is believed. `align` says which events of two such
-//! processes go together, and `changes` has the others.
+//! `matching` finds which process of the one trace has the part of which in the other, and why that
+//! is believed: by `colours`, if one renaming may make the one trace of the other. `align` says which
+//! events of two such processes go together, and `changes` has the others.
 
 mod align;
 mod changes;
 mod colours;
-mod exact;
-mod groups;
 mod json;
 mod matching;
 mod mates;
@@ -25,9 +22,9 @@ use crate::names::Names;
 use crate::output::{Notes, Output};
 use crate::{Failure, Status};
 use changes::Changes;
-use colours::{Colours, Ranks};
+use colours::{are_alike, first_colours, Ranks};
 use gemshowal::Trace;
-use mates::Mate;
+use matching::Mate;
 use pairs::Pairs;
 use report::{Moved, Report, Text};
 use side::{Side, Vocabulary};
@@ -53,7 +50,7 @@ pub(crate) fn run(
     let report = Report::new(sides, &texts, &found);
     if json {
         let result = if report.is_same() { "same" } else { "different" };
-        out.report(result, &self::json::Object::new(&report))?;
+        out.report(result, &self::json::object(&report))?;
     } else {
         report.write(out)?;
     }
@@ -102,18 +99,16 @@ fn compare(sides: [&Side<'_>; 2], mates: &[Mate]) -> Found {
 fn match_alike(sides: [&Side<'_>; 2], ranks: Option<&[Ranks; 2]>, mates: &[Mate]) -> Option<Pairs> {
     let [first, second] = sides;
     let [ones, others] = ranks.map_or([None, None], |[ones, others]| [Some(ones), Some(others)]);
-    let colours = [Colours::first(first, ones), Colours::first(second, others)];
-    let [before, after] = &colours;
-    if !before.are_alike(after) {
+    let colours = [first_colours(first, ones), first_colours(second, others)];
+    if !are_alike(&colours[0], &colours[1]) {
         return None;
     }
-    let pairs = exact::match_exactly(sides, colours, mates)?;
+    let pairs = matching::by_renaming(sides, colours, mates)?;
     if pairs.all().len() == first.len() {
         return Some(pairs);
     }
-    let matched: Vec<Mate> =
-        pairs.all().iter().map(|it| (it.first, it.second, it.ground)).collect();
-    Some(matching::match_processes(sides, &matched))
+    let matched = pairs.all().iter().map(|pair| (pair.first, pair.second, pair.ground));
+    Some(matching::by_keys(sides, &matched.collect::<Vec<Mate>>()))
 }
 
 /// The way to match processes that leaves fewest changes: all that are called alike, those alone
@@ -122,10 +117,10 @@ fn best_match(sides: [&Side<'_>; 2], mates: &[Mate]) -> (Pairs, Changes) {
     let named: Vec<Mate> =
         mates.iter().filter(|mate| mate.2 == pairs::Ground::Name).copied().collect();
     let least = changes::least(sides);
-    let mut best = with_changes(sides, matching::match_processes(sides, mates));
+    let mut best = with_changes(sides, matching::by_keys(sides, mates));
     for (mates, is_other) in [(&named[..], named.len() < mates.len()), (&[], !named.is_empty())] {
         if best.1.len() > least && is_other {
-            let next = with_changes(sides, matching::match_processes(sides, mates));
+            let next = with_changes(sides, matching::by_keys(sides, mates));
             if next.1.len() < best.1.len() {
                 best = next;
             }

@@ -3,6 +3,13 @@
 use super::side::NOBODY;
 use serde::Serialize;
 
+/// Which of the two traces.
+#[derive(Clone, Copy, Debug, PartialEq, Eq)]
+pub(super) enum Which {
+    First,
+    Second,
+}
+
 /// Why two processes are taken for the same.
 #[derive(Clone, Copy, Debug, PartialEq, Eq, Serialize)]
 #[serde(rename_all = "snake_case")]
@@ -31,14 +38,6 @@ impl Ground {
     /// Whether two processes of different parts may well be taken for the same on this ground.
     pub(super) fn is_guess(self) -> bool {
         !matches!(self, Ground::Name | Ground::Pid | Ground::Events)
-    }
-
-    /// The ground if other processes are alike in the same.
-    pub(super) fn of_several(self) -> Ground {
-        match self {
-            Ground::Events => Ground::Several,
-            other => other,
-        }
     }
 }
 
@@ -72,38 +71,29 @@ impl Pairs {
         &self.all
     }
 
-    /// The number of the pair of a process of the first trace, or `NOBODY`.
-    pub(super) fn number_of_first(&self, place: usize) -> u32 {
-        self.first.get(place).copied().unwrap_or(NOBODY)
+    /// The number of the pair of a process, or `NOBODY`.
+    pub(super) fn number(&self, which: Which, place: usize) -> u32 {
+        let numbers = match which {
+            Which::First => &self.first,
+            Which::Second => &self.second,
+        };
+        numbers.get(place).copied().unwrap_or(NOBODY)
     }
 
-    /// The same of the second trace.
-    pub(super) fn number_of_second(&self, place: usize) -> u32 {
-        self.second.get(place).copied().unwrap_or(NOBODY)
+    /// Whether a process is in no pair.
+    pub(super) fn is_free(&self, which: Which, place: usize) -> bool {
+        self.number(which, place) == NOBODY
     }
 
     /// The pair of a process of the first trace.
     pub(super) fn of_first(&self, place: usize) -> Option<Pair> {
-        self.all.get(self.number_of_first(place) as usize).copied()
-    }
-
-    /// Whether a process of the first trace is in no pair.
-    pub(super) fn is_free_in_first(&self, place: usize) -> bool {
-        self.number_of_first(place) == NOBODY
-    }
-
-    /// The same of the second trace.
-    pub(super) fn is_free_in_second(&self, place: usize) -> bool {
-        self.number_of_second(place) == NOBODY
+        self.all.get(self.number(Which::First, place) as usize).copied()
     }
 
     /// Matches two processes, unless one of them is in a pair.
     pub(super) fn add(&mut self, first: usize, second: usize, ground: Ground) {
-        let (Some(one), Some(other)) = (self.first.get_mut(first), self.second.get_mut(second))
-        else {
-            return;
-        };
-        if *one == NOBODY && *other == NOBODY {
+        let free = self.first.get_mut(first).zip(self.second.get_mut(second));
+        if let Some((one @ &mut NOBODY, other @ &mut NOBODY)) = free {
             (*one, *other) = (self.all.len() as u32, self.all.len() as u32);
             self.all.push(Pair { first, second, ground });
         }

@@ -3,7 +3,7 @@
 
 use super::changes::{are_alike, Change};
 use super::colours::Ranks;
-use super::pairs::{Pair, Pairs};
+use super::pairs::{Pair, Pairs, Which};
 use super::side::Side;
 use super::words::{sentence, Difference, Row, Sums};
 use super::{Changes, Found};
@@ -35,7 +35,7 @@ impl<'a> Text<'a> {
 pub(super) struct Moved {
     pair: Pair,
     index: usize,
-    ranks: [(u64, u64); 2],
+    ranks: [[u64; 2]; 2],
     /// How many such events there are.
     count: usize,
 }
@@ -137,7 +137,7 @@ impl<'a> Report<'a> {
             }
         }
         for (place, &pid) in second.pids().iter().enumerate() {
-            if pairs.is_free_in_second(place) {
+            if pairs.is_free(Which::Second, place) {
                 lines.push(Line::New(pid));
                 add_in_order(&mut lines, &[], of_process(&changes.second, place));
             }

@@ -140,6 +140,13 @@ impl<'a> Side<'a> {
         self.range(place).and_then(|range| self.items.get(range)).unwrap_or_default()
     }
 
+    /// The items of a process, each with what the function makes of the place of the process at the
+    /// other end.
+    pub(super) fn items_with(&self, place: usize, of_peer: impl Fn(u32) -> u32) -> Vec<u64> {
+        let events = self.items(place).iter().zip(self.peers(place));
+        events.map(|(&item, &peer)| u64::from(item) << 32 | u64::from(of_peer(peer))).collect()
+    }
+
     /// The items of all events.
     pub(super) fn all_items(&self) -> &[Item] {
         &self.items

@@ -62,7 +62,7 @@ pub(super) enum Difference {
     /// first trace.
     OtherEnd,
     /// The ranks of its counts.
-    Ranks([(u64, u64); 2]),
+    Ranks([[u64; 2]; 2]),
 }
 
 impl Display for Difference {
@@ -72,7 +72,7 @@ impl Display for Difference {
             Difference::OtherEnd => f.write_str(
                 "; the place is the same, but the processes at its other end aren't matched",
             ),
-            Difference::Ranks([(prev, this), (prev_now, this_now)]) => write!(
+            Difference::Ranks([[prev, this], [prev_now, this_now]]) => write!(
                 f,
                 "; the ranks of its counts were {{{prev},{this}}} and are {{{prev_now},{this_now}}}"
             ),

@@ -15,6 +15,9 @@ pub(super) enum Role<'a> {
 
 /// What a message is in a call; none if it is of none, or there are no terms.
 pub(super) fn role<'a>(scene: &Scene<'a>, value: u64) -> Option<Role<'a>> {
+    if !scene.has_terms() {
+        return None;
+    }
     // A term that the trace's file has is borrowed.
     let Cow::Borrowed(term) = scene.names.value(value) else { return None };
     if let Some(caller) = term.strip_prefix("{'$gen_call',{") {
@@ -42,9 +45,6 @@ pub(super) struct Calls {
 impl Calls {
     pub(super) fn of(scene: &Scene<'_>) -> Calls {
         let mut calls = Calls::default();
-        if !scene.has_terms() {
-            return calls;
-        }
         for (pid, events) in scene.trace.processes() {
             let mut open = HashMap::new();
             for (place, event) in scene.of_process(pid, events) {

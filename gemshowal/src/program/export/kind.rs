@@ -6,9 +6,11 @@ use super::scene::Scene;
 
 /// The words for a message: what was done by sending it, and what sort it is.
 pub(super) fn sent(scene: &Scene<'_>, value: u64) -> String {
+    if !scene.has_terms() {
+        return "send".into();
+    }
     let brief = scene.names.brief(value);
     match (role(scene, value), brief.split_once(' ')) {
-        _ if !scene.has_terms() => "send".into(),
         (Some(Role::Request(_)), Some((_, inside))) => format!("call {}", sort(inside)),
         (Some(Role::Reply(_)), Some((_, inside))) => format!("reply {}", sort(inside)),
         (None, Some(("cast" | "spawn", inside))) => format!("cast {}", sort(inside)),
@@ -27,16 +29,15 @@ pub(super) fn printed(scene: &Scene<'_>, value: u64) -> String {
 }
 
 fn with_sort(scene: &Scene<'_>, word: &str, value: u64) -> String {
+    if !scene.has_terms() {
+        return word.into();
+    }
     let brief = scene.names.brief(value);
     let bare = match brief.split_once(' ') {
         Some(("call" | "cast" | "reply" | "spawn" | "spawned", inside)) => inside,
         _ => &brief,
     };
-    if scene.has_terms() {
-        format!("{word} {}", sort(bare))
-    } else {
-        word.into()
-    }
+    format!("{word} {}", sort(bare))
 }
 
 /// The first atom of a term, or what it is if it doesn't begin with one.

@@ -18,7 +18,7 @@ pub(super) fn write(scene: &Scene<'_>, out: &mut Output) -> Result<(), Failure> 
     let diagram = Diagram { scene, lanes, overtaken: overtaken(scene, &order) };
     writeln!(out, "sequenceDiagram")?;
     for (pid, number) in scene.lanes().into_iter().zip(1..) {
-        writeln!(out, "    participant P{number} as {}", plain(&scene.names.process(pid)))?;
+        writeln!(out, "    participant P{number} as {}", called(scene, pid))?;
     }
     let is_unsent =
         |&place: &Place| scene.event(place).is_some_and(|event| scene.is_unsent(place, event));
@@ -67,15 +67,14 @@ impl Diagram<'_> {
                 writeln!(out, "    Note over P{from}: print {content}")
             }
             Partner::Nobody | Partner::Receive(..) => {
-                let to =
-                    event.to.map(|to| plain(&self.scene.names.process(to))).unwrap_or_default();
+                let to = event.to.map(|to| called(self.scene, to)).unwrap_or_default();
                 writeln!(out, "    Note over P{from}: sends {content} to {to}")
             }
             Partner::NoReceive => {
                 writeln!(out, "    P{from}-xP{to}: {content} (no receive reported)")
             }
             Partner::NoSend => {
-                let from = plain(&self.scene.names.process(event.from));
+                let from = called(self.scene, event.from);
                 writeln!(out, "    U->>P{to}: {content} from {from}")
             }
             Partner::Send(pid, sent) if self.overtaken.contains(&(pid, sent)) => {
@@ -88,6 +87,13 @@ impl Diagram<'_> {
     fn lane(&self, pid: Pid) -> usize {
         self.lanes.get(&pid).copied().unwrap_or(0)
     }
+}
+
+/// The name of a process, or its pid without the angle brackets.
+fn called(scene: &Scene<'_>, pid: Pid) -> String {
+    let name = scene.names.process(pid);
+    let bare = name.strip_prefix('<').and_then(|name| name.strip_suffix('>'));
+    plain(bare.unwrap_or(&name))
 }
 
 /// A text without the characters that end a text or a line there: these are written by their

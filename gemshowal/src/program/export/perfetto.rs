@@ -34,7 +34,7 @@ pub(super) fn write(scene: &Scene<'_>, out: &mut Output) -> Result<(), Failure> 
         of_process.entry(request.0).or_default().push((request.1, reply.1));
     }
     let mut writer = Writer { scene, clock, out, is_first: true };
-    write!(writer.out, "{{\"displayTimeUnit\":\"ns\",\"traceEvents\":[\n")?;
+    writeln!(writer.out, "{{\"displayTimeUnit\":\"ns\",\"traceEvents\":[")?;
     let lanes = (1..).zip(scene.trace.processes().filter(|(_, events)| !events.is_empty()));
     let mut nodes = BTreeMap::new();
     for (thread, (pid, events)) in lanes {
@@ -93,7 +93,7 @@ impl Writer<'_> {
     /// Writes a trace event on a line.
     fn write(&mut self, event: &impl Serialize) -> Result<(), Failure> {
         if !std::mem::take(&mut self.is_first) {
-            write!(self.out, ",\n")?;
+            writeln!(self.out, ",")?;
         }
         self.out.value(event)
     }

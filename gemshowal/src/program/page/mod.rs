@@ -13,7 +13,7 @@ use crate::causes::with_causes;
 use crate::input::Input;
 use crate::keep::keep;
 use crate::output::{Notes, Output};
-use crate::stats::write_unpaired;
+use crate::reason::write_unpaired;
 use crate::view::View;
 use crate::{Failure, Status};
 use data::Data;
