@@ -10,13 +10,16 @@ is_removal=
 [ $# = 1 ] || { echo "usage: ./install.sh [--remove] FOLDER" >&2; exit 2; }
 to=$(realpath -m "$1")
 cd "$here"
-# The application's command finds its modules where it lies itself, and the programs in a folder bin beside it.
+# The application's command finds its modules where it lies itself, and the programs in a folder bin
+# beside it.
 application=$to/lib/gemshowal
 
 if [ -n "$is_removal" ]; then
     for program in seqaudit seqtool gemshowal seqaudit-node; do
-        rm -f "$to/bin/$program" "$to/share/man/man1/$program.1" "$to/share/zsh/site-functions/_$program" \
-            "$to/share/bash-completion/completions/$program" "$to/share/fish/vendor_completions.d/$program.fish"
+        rm -f "$to/bin/$program" "$to/share/man/man1/$program.1" \
+            "$to/share/bash-completion/completions/$program" \
+            "$to/share/zsh/site-functions/_$program" \
+            "$to/share/fish/vendor_completions.d/$program.fish"
     done
     rm -f "$to/share/man/man5/seqtrace.5"
     rm -rf "$application"
@@ -30,7 +33,10 @@ for program in seqaudit seqtool gemshowal; do
         [ ! -e "$built" ] || { programs+=("$built") && break; }
     done
 done
-[ ${#programs[@]} -gt 0 ] || { echo "Nothing was built yet: 'make rust' builds plain Rust, 'make program' what is proved." >&2; exit 1; }
+if [ ${#programs[@]} = 0 ]; then
+    echo "Nothing was built yet: 'make rust' builds plain Rust, 'make program' what is proved." >&2
+    exit 1
+fi
 install -D -t "$to/bin" "${programs[@]}"
 install -D -m 644 -t "$to/share/man/man1" man/*.1
 install -d "$to/share/man/man5"
@@ -44,7 +50,7 @@ if [ -e erlang/ebin/seqaudit_node.beam ]; then
     programs+=(erlang/seqaudit-node)
 else
     rm -f "$to/share/man/man1/seqaudit-node.1"
-    echo "seqaudit-node isn't installed: make -C erlang builds it, and needs erlc (Debian's erlang-base)."
+    echo "seqaudit-node isn't installed: make -C erlang builds it (erlc is in Debian's erlang-base)"
 fi
 completions/write "$to/share" "${programs[@]}"
 echo "In $to: ${programs[*]##*/}, their man pages and completions."

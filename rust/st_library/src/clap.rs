@@ -1,18 +1,13 @@
-//! Command lines. The words are read by the registry's `clap`, whose texts differ from version to version; theirs are those
-//! of clap 4.6. An unknown name of an argument has no value here as with theirs, and ends no program.
+//! Command lines. The words are read by the registry's `clap`; what it would say of them isn't asked for. An unknown name of an
+//! argument has no value here as with theirs, and ends no program.
 
 use crate::alloc::{AllocError, Global};
 use crate::convert::AsStr;
-use crate::io;
-use crate::rt::Eprint;
-use ::clap::builder::{PossibleValuesParser, RangedI64ValueParser, RangedU64ValueParser, ValueParser};
+use ::clap::builder::{RangedI64ValueParser, ValueParser};
 use std::any::Any;
 use std::marker::PhantomData;
 
-pub use ::clap::{ArgAction, value_parser};
-
-/// What the version says behind its number: these programs have the proved sources, and aren't the proved programs.
-const NOT_PROVED: &str = "(plain Rust, not proved)";
+pub use ::clap::value_parser;
 
 /// Why words couldn't be read.
 pub mod error {
@@ -21,48 +16,27 @@ pub mod error {
     pub enum ErrorKind {
         /// Memory ran out. Rust's clap has no such kind: it ends the program.
         OutOfMemory,
-        /// A value isn't one of its argument's.
-        ValueValidation,
-        /// Any other, among them a wish for the help text or the version.
+        /// Any other, among them a wish for the help text.
         Other,
     }
 }
 
-/// Why words couldn't be read, or the text that they asked for.
+/// Why words couldn't be read.
 #[derive(Debug)]
 pub struct Error {
-    /// Clap's own; none if memory ran out.
-    inner: Option<::clap::Error>,
+    kind: error::ErrorKind,
 }
 
 impl Error {
     /// As theirs, of fewer kinds.
     pub fn kind(&self) -> error::ErrorKind {
-        use ::clap::error::ErrorKind;
-        match self.inner.as_ref().map(::clap::Error::kind) {
-            None => error::ErrorKind::OutOfMemory,
-            Some(ErrorKind::ValueValidation) => error::ErrorKind::ValueValidation,
-            Some(_) => error::ErrorKind::Other,
-        }
-    }
-
-    /// Whether the text belongs on standard error. As theirs.
-    pub fn use_stderr(&self) -> bool {
-        self.inner.as_ref().map_or(true, ::clap::Error::use_stderr)
-    }
-
-    /// Prints the text to standard output or standard error. As theirs; if nobody reads it, the program ends.
-    pub fn print<R: Eprint>(&self, _: &R) -> io::Result<()> {
-        match &self.inner {
-            None => Ok(()),
-            Some(error) => io::or_end(error.print()),
-        }
+        self.kind
     }
 }
 
 impl From<AllocError> for Error {
     fn from(_: AllocError) -> Error {
-        Error { inner: None }
+        Error { kind: error::ErrorKind::OutOfMemory }
     }
 }
 
@@ -72,22 +46,8 @@ pub trait IntoParser {
     fn into_parser(self) -> ValueParser;
 }
 
-/// One of these texts.
-impl IntoParser for &[&'static str] {
-    fn into_parser(self) -> ValueParser {
-        PossibleValuesParser::new(self.iter().copied()).into()
-    }
-}
-
 /// A number.
 impl IntoParser for RangedI64ValueParser<u32> {
-    fn into_parser(self) -> ValueParser {
-        self.into()
-    }
-}
-
-/// A number.
-impl IntoParser for RangedU64ValueParser<u64> {
     fn into_parser(self) -> ValueParser {
         self.into()
     }
@@ -125,21 +85,6 @@ impl<'a> Arg<'a> {
     }
 
     /// As theirs.
-    pub fn short(self, name: char) -> Arg<'a> {
-        self.with(|arg| arg.short(name))
-    }
-
-    /// As theirs.
-    pub fn num_args<R: Into<::clap::builder::ValueRange>>(self, range: R) -> Arg<'a> {
-        self.with(|arg| arg.num_args(range))
-    }
-
-    /// As theirs.
-    pub fn help(self, text: &'a str) -> Arg<'a> {
-        self.with(|arg| arg.help(text.to_string()))
-    }
-
-    /// As theirs.
     pub fn required(self, required: bool) -> Arg<'a> {
         self.with(|arg| arg.required(required))
     }
@@ -147,16 +92,6 @@ impl<'a> Arg<'a> {
     /// As theirs.
     pub fn value_parser<P: IntoParser>(self, parser: P) -> Arg<'a> {
         self.with(|arg| arg.value_parser(parser.into_parser()))
-    }
-
-    /// As theirs.
-    pub fn action(self, action: ArgAction) -> Arg<'a> {
-        self.with(|arg| arg.action(action))
-    }
-
-    /// As theirs.
-    pub fn default_value(self, text: &'a str) -> Arg<'a> {
-        self.with(|arg| arg.default_value(text.to_string()))
     }
 }
 
@@ -170,36 +105,6 @@ impl<'a> Command<'a> {
     }
 
     /// As theirs.
-    pub fn about(self, text: &'a str) -> Command<'a> {
-        self.with(|command| command.about(text.to_string()))
-    }
-
-    /// As theirs.
-    pub fn after_help(self, text: &'a str) -> Command<'a> {
-        self.with(|command| command.after_help(text.to_string()))
-    }
-
-    /// Adds to the version that these programs aren't proved.
-    pub fn version(self, text: &'a str) -> Command<'a> {
-        self.with(|command| command.version(format!("{text} {NOT_PROVED}")))
-    }
-
-    /// As theirs.
-    pub fn subcommand_required(self, required: bool) -> Command<'a> {
-        self.with(|command| command.subcommand_required(required))
-    }
-
-    /// As theirs.
-    pub fn disable_help_subcommand(self, disabled: bool) -> Command<'a> {
-        self.with(|command| command.disable_help_subcommand(disabled))
-    }
-
-    /// As theirs.
-    pub fn bin_name(self, name: &'a str) -> Result<Command<'a>, AllocError> {
-        Ok(self.with(|command| command.bin_name(name)))
-    }
-
-    /// As theirs.
     pub fn arg(self, arg: Arg<'a>) -> Result<Command<'a>, AllocError> {
         Ok(self.with(|command| command.arg(arg.inner)))
     }
@@ -209,22 +114,11 @@ impl<'a> Command<'a> {
         Ok(self.with(|outer| outer.subcommand(command.inner)))
     }
 
-    /// An error of this kind with a text of the caller's. As theirs.
-    pub fn error(&mut self, kind: error::ErrorKind, text: &str) -> Result<Error, AllocError> {
-        use ::clap::error::ErrorKind;
-        let kind = match kind {
-            error::ErrorKind::OutOfMemory => return Err(AllocError),
-            error::ErrorKind::ValueValidation => ErrorKind::ValueValidation,
-            error::ErrorKind::Other => ErrorKind::InvalidValue,
-        };
-        Ok(Error { inner: Some(self.inner.error(kind, text)) })
-    }
-
     /// The command that the words name, the program's name first. As theirs.
     pub fn try_get_matches_from<S: AsStr>(self, words: &'a [S]) -> Result<ArgMatches<'a>, Error> {
         match self.inner.try_get_matches_from(words.iter().map(|word| word.as_str().to_string())) {
             Ok(matches) => Ok(ArgMatches::of(matches)),
-            Err(error) => Err(Error { inner: Some(error) }),
+            Err(_) => Err(Error { kind: error::ErrorKind::Other }),
         }
     }
 }
@@ -251,23 +145,5 @@ impl<'a> ArgMatches<'a> {
     /// An argument's value. Theirs parses the text again, and this copies what was parsed.
     pub fn get_one<T: Any + Clone + Send + Sync>(&self, id: &str) -> Option<T> {
         self.inner.try_get_one::<T>(id).ok().flatten().cloned()
-    }
-
-    /// Whether an argument without a value was given. As theirs.
-    pub fn get_flag(&self, id: &str) -> bool {
-        self.get_one::<bool>(id).unwrap_or(false)
-    }
-
-    /// An argument's text. Theirs borrows it from the words; here it is a copy that stays until the program ends.
-    pub fn get_str(&self, id: &str) -> Option<&'a str> {
-        let text = self.get_one::<String>(id)?;
-        Some(Box::leak(text.into_boxed_str()))
-    }
-
-    /// An argument's texts. As `get_str`, copies.
-    pub fn get_strs(&self, id: &str) -> Option<&[&'a str]> {
-        let texts = self.inner.try_get_many::<String>(id).ok().flatten()?;
-        let texts: std::vec::Vec<&'a str> = texts.map(|text| &*Box::leak(text.clone().into_boxed_str())).collect();
-        Some(Box::leak(texts.into_boxed_slice()))
     }
 }

@@ -5,23 +5,6 @@ use crate::io;
 use crate::rt::HostRuntime;
 use crate::vec::Vec;
 
-/// Why a variable has no text. Theirs has `OutOfMemory` too.
-#[derive(Clone, Copy, Debug, PartialEq, Eq)]
-pub enum VarError {
-    /// There is no such variable.
-    NotPresent,
-    /// It isn't UTF-8.
-    NotUnicode,
-}
-
-/// The text of a variable. As theirs.
-pub fn var(_: &HostRuntime, name: &str) -> Result<String, VarError> {
-    std::env::var(name).map_err(|error| match error {
-        std::env::VarError::NotPresent => VarError::NotPresent,
-        std::env::VarError::NotUnicode(_) => VarError::NotUnicode,
-    })
-}
-
 /// The words.
 #[derive(Debug)]
 pub struct Args {

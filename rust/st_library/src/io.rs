@@ -54,7 +54,7 @@ fn was_open(_: usize) -> Result<()> {
 
 /// Ends the program if nobody reads its output any more, as `head` doesn't once it has its lines: silently, and with the
 /// status that shells report of a program that the signal SIGPIPE ended.
-pub(crate) fn or_end<T>(written: Result<T>) -> Result<T> {
+fn or_end<T>(written: Result<T>) -> Result<T> {
     const ENDED_BY_SIGPIPE: i32 = 141;
     if written.as_ref().is_err_and(|error| error.kind() == ErrorKind::BrokenPipe) {
         std::process::exit(ENDED_BY_SIGPIPE);
@@ -114,20 +114,6 @@ impl Write for Stdout {
     }
 }
 
-/// Standard error. As theirs.
-#[derive(Debug)]
-pub struct Stderr;
-
-impl Write for Stderr {
-    fn write(&mut self, piece: &[u8]) -> Result<usize> {
-        std::io::stderr().write(piece)
-    }
-
-    fn flush(&mut self) -> Result<()> {
-        std::io::stderr().flush()
-    }
-}
-
 /// A list takes all bytes, at its end. As theirs.
 impl Write for crate::vec::Vec<u8> {
     fn write(&mut self, piece: &[u8]) -> Result<usize> {
@@ -139,23 +125,5 @@ impl Write for crate::vec::Vec<u8> {
 
     fn flush(&mut self) -> Result<()> {
         Ok(())
-    }
-}
-
-/// What may be a terminal. As theirs.
-pub trait IsTerminal {
-    /// Whether a person reads it.
-    fn is_terminal(&self) -> bool;
-}
-
-impl IsTerminal for Stdout {
-    fn is_terminal(&self) -> bool {
-        std::io::IsTerminal::is_terminal(&std::io::stdout())
-    }
-}
-
-impl IsTerminal for Stderr {
-    fn is_terminal(&self) -> bool {
-        std::io::IsTerminal::is_terminal(&std::io::stderr())
     }
 }

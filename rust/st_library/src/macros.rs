@@ -18,12 +18,6 @@ macro_rules! panic {
     ($rt:expr; $($rest:tt)*) => {{ let _ = &$rt; ::std::panic!($($rest)*) }};
 }
 
-/// Returns an error if the line can't be written, as theirs.
-#[macro_export]
-macro_rules! eprintln {
-    ($rt:expr; $($rest:tt)*) => { $crate::rt::Eprint::eprintln($rt, &::std::format!($($rest)*)) };
-}
-
 /// A list of n copies, or of these items. As theirs.
 #[macro_export]
 macro_rules! vec {

@@ -3,7 +3,7 @@
 pub use crate::boxed::Box;
 pub use crate::iter::CollectIn;
 pub use crate::process::Expect;
-pub use crate::rt::{AllocGlobal, Eprint, HostRuntime};
+pub use crate::rt::{AllocGlobal, HostRuntime};
 pub use crate::slice::{ArraySlice, SliceSort};
 pub use crate::vec::Vec;
 // Before Rust 1.87 `from_utf8` is the module's alone.

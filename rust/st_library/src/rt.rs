@@ -1,7 +1,7 @@
 //! The runtime: what a function may do beside computing, each right a trait.
 
 use crate::alloc::Global;
-use crate::io::{self, Stderr, Stdin, Stdout};
+use crate::io::{Stdin, Stdout};
 
 /// Theirs can't be made by the program, so that only what `main` hands out may be done. Here it is an empty value.
 #[derive(Clone, Copy, Debug, Default)]
@@ -22,11 +22,6 @@ impl HostRuntime {
     pub fn stdout(&self) -> Stdout {
         Stdout
     }
-
-    /// Standard error. As theirs.
-    pub fn stderr(&self) -> Stderr {
-        Stderr
-    }
 }
 
 /// The right to allocate memory.
@@ -37,24 +32,8 @@ pub trait AllocGlobal {
     }
 }
 
-/// The right to write to standard error.
-pub trait Eprint {
-    /// Writes a value. As theirs.
-    fn eprint<D: std::fmt::Display>(&self, value: D) -> io::Result<()> {
-        use io::Write;
-        write!(Stderr, "{value}")
-    }
-
-    /// Writes a line. As theirs.
-    fn eprintln(&self, line: &str) -> io::Result<()> {
-        use io::Write;
-        writeln!(Stderr, "{line}")
-    }
-}
-
 /// The right to open files.
 pub trait Files {}
 
 impl AllocGlobal for HostRuntime {}
-impl Eprint for HostRuntime {}
 impl Files for HostRuntime {}

@@ -153,16 +153,6 @@ where
     })
 }
 
-/// Starts a thread that needn't be waited for. Theirs returns the work if none can be started, and here that is the reason.
-pub fn spawn<R, T, F>(_: &R, work: F) -> io::Result<std::thread::JoinHandle<T>>
-where
-    R: Threads,
-    F: FnOnce() -> T + Send + 'static,
-    T: Send + 'static,
-{
-    std::thread::Builder::new().spawn(work)
-}
-
 /// Waits so long. As theirs.
 pub fn sleep<R: Clock>(_: &R, duration: Duration) {
     std::thread::sleep(duration);
