@@ -240,13 +240,20 @@ node_names(Words) ->
                         "reaches either")
     end.
 
-trigger(#{"--trigger" := Functions, "--label" := [Label | _]} = Options) ->
-    #{functions => [read(fun seqaudit_calls:function/1, Function) || Function <- lists:reverse(Functions)],
-      label => label(Label), times => is_map_key("--times", Options),
-      calls => case Options of
-                   #{"--calls" := [Calls | _]} -> read(fun seqaudit_calls:limit/1, Calls);
-                   #{} -> infinity
-               end};
+trigger(#{"--trigger" := Functions, "--label" := [Word | _]} = Options) ->
+    Calls = case Options of
+                #{"--calls" := [Most | _]} -> read(fun seqaudit_calls:limit/1, Most);
+                #{} -> infinity
+            end,
+    Trigger = #{times => is_map_key("--times", Options), calls => Calls},
+    Read = fun(Each) -> [read(Each, Function) || Function <- lists:reverse(Functions)] end,
+    case read(fun seqaudit_calls:label/1, Word) of
+        {term, Label} ->
+            Trigger#{functions => Read(fun seqaudit_calls:function/1), label => Label};
+        {expression, Label, Numbered} ->
+            Labelled = fun(Function) -> seqaudit_calls:labelled(Function, Label) end,
+            Trigger#{functions => Read(Labelled), label => Word, numbered => Numbered}
+    end;
 trigger(Options) when is_map_key("--trigger", Options); is_map_key("--label", Options) ->
     throw("--trigger and --label go together");
 trigger(#{"--times" := _}) ->
@@ -263,16 +270,6 @@ read(Read, Word) ->
         {error, Text} -> throw(Text)
     end.
 
-label(Word) ->
-    case erl_scan:string(Word ++ ".") of
-        {ok, Tokens, _} ->
-            case erl_parse:parse_term(Tokens) of
-                {ok, Label} -> Label;
-                {error, _} -> throw(Word ++ " isn't an Erlang term")
-            end;
-        {error, _, _} -> throw(Word ++ " isn't an Erlang term")
-    end.
-
 collect({error, Reason}, _Start, _How) ->
     failed(?SYSTEM, seqaudit_reach:format_error(Reason));
 collect(ok, Start, {Wait, Unload}) ->
@@ -282,7 +279,10 @@ collect(ok, Start, {Wait, Unload}) ->
          || {Node, Folder} <- seqaudit_trace:folders()],
         _ = seqaudit_signals:wait(Asked, Wait),
         Folders = seqaudit_trace:folders(),
-        written(seqaudit_trace:stop(), fun(Reason) -> not_written(Reason, Folders) end)
+        Stopped = seqaudit_trace:stop(),
+        Status = written(Stopped, fun(Reason) -> not_written(Reason, Folders) end),
+        io:put_chars(never_fitted(Stopped, Start)),
+        Status
     end).
 
 %% Nobody can call stop once more when this node has ended, so it is said where the events are.
@@ -315,23 +315,43 @@ started(#{nodes := Nodes} = Start, Unload, Do) ->
             failed(?SYSTEM, seqaudit_trace:format_error(Reason))
     end.
 
+%% No call that the trigger fits was made, or the process that made one did nothing after it.
+never_fitted({ok, #{events := 0}}, #{trigger := #{functions := _} = Trigger}) ->
+    ["  no call set a token that was used: none of ", called(Trigger), " was made meanwhile, or its process sent, "
+     "received and printed nothing after it\n"];
+never_fitted(_Stopped, _Start) ->
+    "".
+
 how_long(infinity) -> "until Ctrl-C";
 how_long(Milliseconds) -> io_lib:format("for ~b s", [Milliseconds div 1000]).
 
-advice(#{trigger := #{functions := Functions, calls := Calls}}) ->
+advice(#{trigger := #{calls := Calls} = Trigger}) ->
     io_lib:format("; ~tscalls of ~ts set the token~n",
                   [case Calls of
                        infinity -> "";
                        {Most, second} -> io_lib:format("in each second the first ~b ", [Most]);
                        Most -> io_lib:format("the first ~b ", [Most])
                    end,
-                   lists:join(", ", [io_lib:format("~ts:~ts/~b~ts", [Module, Function, Arity, conditions(Clauses)])
-                                     || {{Module, Function, Arity}, Clauses} <- Functions])]);
+                   called(Trigger)]);
 advice(_) ->
     "; set tokens there, as with\n  seqaudit_trace:with_trace(17, fun() -> .. end).\n".
 
-conditions([{'_', []}]) -> "";
-conditions(_) -> " that its condition allows".
+called(#{functions := Functions}) ->
+    lists:join(", ", [io_lib:format("~ts:~ts/~b~ts", [Module, Function, Arity, conditions(Clauses)])
+                      || {{Module, Function, Arity}, Clauses} <- Functions]).
+
+conditions(Clauses) ->
+    case lists:all(fun(Clause) -> element(2, Clause) =:= [] andalso is_any(element(1, Clause)) end, Clauses) of
+        true -> "";
+        false -> " that its condition allows"
+    end.
+
+is_any('_') -> true;
+is_any(Head) ->
+    Variables = [Argument || Argument <- Head, Argument =/= '_'],
+    Variables =:= lists:usort(Variables)
+        andalso lists:all(fun(Argument) -> is_atom(Argument) andalso lists:prefix("$", atom_to_list(Argument)) end,
+                          Variables).
 
 written({ok, #{events := Events, processes := Processes, notes := Notes, files := Files}}, _) ->
     io:format("~ts of ~ts: ~ts~n", [seqaudit_explain:count(Events, "event"),

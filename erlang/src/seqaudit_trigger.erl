@@ -5,7 +5,9 @@
 %% traced for a process that is linked with the caller: whatever ends that takes the tracing off, and nobody else's.
 %%
 %% How many calls may set a token is counted in the node's trace control word, which match specifications can read and
-%% set. Calls on several schedulers at once may read the same number, so as many more than allowed may do so.
+%% set. So each call can have a label with its number. Calls on several schedulers at once may read the same number: as
+%% many more than allowed may then set a token, and these have one label. Behind the last call that may, the trace of a
+%% process that has a token ends where it calls again.
 -module(seqaudit_trigger).
 
 -export([is_valid/1, pull/1, tick/1, release/1, format_error/2]).
@@ -20,12 +22,19 @@
 -define(ASKED, 1_000).
 -define(SECOND_MS, 1_000).
 
--type clause() :: {Head :: '_' | [term()], Guards :: [term()]}.
-%% What the arguments have to be, as in a match specification.
+%% Of calls in a second so many bits of the word count them; the others number the second.
+-define(SECOND_BITS, 12).
+-define(MOST_IN_SECOND, (1 bsl ?SECOND_BITS - 1)).
+-define(WORD, 16#FFFF_FFFF).
+
+-type clause() :: {Head :: '_' | [term()], Guards :: [term()]}
+                | {Head :: [term()], Guards :: [term()], Label :: term()}.
+%% What the arguments have to be, as in a match specification; and the label as an expression in its body, if it isn't
+%% that of the trigger.
 
 -type trigger() :: #{function => mfa(), functions => [{mfa(), [clause()]}], label := term(), times := boolean(),
-                     calls => infinity | pos_integer() | {pos_integer(), second}}.
-%% Whoever calls one of these functions gets a token with this label: `function' by any call of it, of `functions' by
+                     calls => infinity | pos_integer() | {pos_integer(), second}, numbered => boolean()}.
+%% `numbered' says whether the labels of clauses have the number of the call (`get_tcw'). Whoever calls one of these functions gets a token with this label: `function' by any call of it, of `functions' by
 %% those that one of the clauses matches; `times': whether the events have timestamps; `calls': how many calls may set
 %% a token, in all or in a second.
 
@@ -33,6 +42,7 @@
                  tracer :: pid(),
                  session :: default | term(),
                  calls :: infinity | pos_integer() | {pos_integer(), second},
+                 counts :: boolean(),
                  since :: integer(),
                  on = true :: boolean()}).
 
@@ -53,7 +63,7 @@ is_function_with_clauses({{M, F, A}, Clauses}) ->
 is_function_with_clauses(_) -> false.
 
 is_limit(infinity) -> true;
-is_limit({Calls, second}) -> is_limit(Calls) andalso Calls =/= infinity;
+is_limit({Calls, second}) -> is_limit(Calls) andalso Calls =< ?MOST_IN_SECOND;
 is_limit(Calls) -> is_integer(Calls) andalso Calls > 0.
 
 functions(#{functions := Functions}) when is_list(Functions) -> Functions;
@@ -64,15 +74,16 @@ functions(_) -> [].
 -spec pull(trigger()) -> {ok, pulled()} | {error, {trigger, term()}}.
 pull(Trigger) ->
     Calls = maps:get(calls, Trigger, infinity),
-    Functions = [{Function, specification(Clauses, Trigger, Calls)} || {Function, Clauses} <- functions(Trigger)],
+    Counts = Calls =/= infinity orelse maps:get(numbered, Trigger, false),
+    Functions = [{Function, specification(Clauses, Trigger, Calls, Counts)} || {Function, Clauses} <- functions(Trigger)],
     _ = [code:ensure_loaded(Module) || {{Module, _, _}, _} <- Functions],
     HasSessions = has_sessions(),
     Others = [Reason || not HasSessions, Reason <- in_use([Function || {Function, _} <- Functions])],
-    case Others ++ word_in_use(Calls) of
+    case Others ++ word_in_use(Counts) of
         [] ->
             Tracer = spawn_link(fun() -> receive stop -> ok end end),
             set(#pulled{functions = Functions, tracer = Tracer, session = session(HasSessions, Tracer), calls = Calls,
-                        since = erlang:monotonic_time(millisecond)});
+                        counts = Counts, since = erlang:monotonic_time(millisecond)});
         [Reason | _] ->
             {error, {trigger, Reason}}
     end.
@@ -113,18 +124,26 @@ set_pattern(Function, Specification, #pulled{session = Session}) ->
 trace_all(#pulled{session = default, tracer = Tracer}) -> erlang:trace(all, true, [call, {tracer, Tracer}]);
 trace_all(#pulled{session = Session}) -> apply(trace, process, [Session, all, true, [call]]).
 
-%% The clauses in turn, each with the condition that fewer calls than allowed set a token.
-specification(Clauses, #{label := Label, times := Times}, Calls) ->
-    Flags = [send, 'receive', print] ++ [strict_monotonic_timestamp || Times],
-    Tokens = [{set_seq_token, label, {const, Label}} | [{set_seq_token, Flag, true} || Flag <- Flags]],
-    {Condition, Count} = case most(Calls) of
-                             infinity -> {[], []};
-                             Most -> {[{'<', {get_tcw}, Most}], [{set_tcw, {'+', {get_tcw}, 1}}]}
-                         end,
-    [{Head, Guards ++ Condition, Count ++ Tokens ++ [{message, false}]} || {Head, Guards} <- Clauses].
+%% The clauses in turn, each with the condition that fewer calls than allowed set a token; and each with what becomes of
+%% a token if no more are allowed.
+specification(Clauses, #{times := Times} = Trigger, Calls, Counts) ->
+    Flags = [send, 'receive', print],
+    Times1 = [{set_seq_token, strict_monotonic_timestamp, true} || Times],
+    Count = [{set_tcw, {'+', {get_tcw}, 1}} || Counts],
+    [{Head, Guards ++ allowed(Calls),
+      Count ++ [{set_seq_token, label, Label} | [{set_seq_token, Flag, true} || Flag <- Flags]] ++ Times1
+          ++ [{message, false}]}
+     || Clause <- Clauses, {Head, Guards, Label} <- [with_label(Clause, Trigger)]]
+        ++ [{element(1, Clause), element(2, Clause) ++ [{is_seq_trace}],
+             [{set_seq_token, Flag, false} || Flag <- Flags] ++ [{message, false}]}
+            || Calls =/= infinity, Clause <- Clauses].
 
-most({Calls, second}) -> Calls;
-most(Calls) -> Calls.
+with_label({_, _, _} = Clause, _Trigger) -> Clause;
+with_label({Head, Guards}, #{label := Label}) -> {Head, Guards, {const, Label}}.
+
+allowed(infinity) -> [];
+allowed({Calls, second}) -> [{'<', {'band', {get_tcw}, ?MOST_IN_SECOND}, Calls}];
+allowed(Calls) -> [{'<', {get_tcw}, Calls}].
 
 %% What of somebody else's tracing is in the way. Patterns that a killed collector left have no effect.
 in_use(Functions) ->
@@ -169,32 +188,28 @@ owner(Tracer) when is_pid(Tracer), node(Tracer) =:= node() ->
 owner(Tracer) ->
     {lists:flatten(io_lib:format("~0tp", [Tracer])), none}.
 
-word_in_use(infinity) -> [];
-word_in_use(_) -> [{word_in_use, Word} || Word <- [erlang:system_info(trace_control_word)], Word =/= 0].
+word_in_use(false) -> [];
+word_in_use(true) -> [{word_in_use, Word} || Word <- [erlang:system_info(trace_control_word)], Word =/= 0].
 
-%% @doc To be called a few times a second: a new second allows new calls, and once all calls were made none is traced.
+%% @doc To be called a few times a second: a new second allows new calls.
 -spec tick(pulled()) -> pulled().
-tick(#pulled{on = false} = Pulled) -> Pulled;
-tick(#pulled{calls = infinity} = Pulled) -> Pulled;
-tick(#pulled{calls = {_, second}, since = Since} = Pulled) ->
+tick(#pulled{on = true, calls = {_, second}, since = Since} = Pulled) ->
     Now = erlang:monotonic_time(millisecond),
     case Now - Since >= ?SECOND_MS of
         true ->
-            _ = erlang:system_flag(trace_control_word, 0),
+            Second = (erlang:system_info(trace_control_word) bsr ?SECOND_BITS) + 1,
+            _ = erlang:system_flag(trace_control_word, (Second bsl ?SECOND_BITS) band ?WORD),
             Pulled#pulled{since = Now};
         false -> Pulled
     end;
-tick(#pulled{calls = Calls} = Pulled) ->
-    case erlang:system_info(trace_control_word) >= Calls of
-        true -> take_off(Pulled);
-        false -> Pulled
-    end.
+tick(Pulled) ->
+    Pulled.
 
 %% @doc Calls set no token any more. Those that are set stay.
 -spec release(pulled()) -> ok.
-release(#pulled{calls = Calls} = Pulled) ->
+release(#pulled{counts = Counts} = Pulled) ->
     _ = take_off(Pulled),
-    _ = Calls =:= infinity orelse erlang:system_flag(trace_control_word, 0),
+    _ = Counts andalso erlang:system_flag(trace_control_word, 0),
     ok.
 
 %% A function that somebody else has begun to trace meanwhile keeps their match specification.
