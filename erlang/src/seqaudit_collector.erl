@@ -371,8 +371,10 @@ stray(State) ->
     _ = seq_trace:set_token([]),
     go_on(State#state{strays = State#state.strays + 1}).
 
-%% Only the first end is one.
-ended(Why, #state{ended = no} = State) -> State#state{ended = {Why, erlang:universaltime()}};
+%% Only the first end is one. Whoever waits at the owner's node hears of it at once; nobody waits for that message.
+ended(Why, #state{ended = no, owner_node = Owner} = State) ->
+    _ = erlang:send({seqaudit_sight, Owner}, {ended, node(), Why}, [noconnect, nosuspend]),
+    State#state{ended = {Why, erlang:universaltime()}};
 ended(_Why, State) -> State.
 
 %% If the collector itself is the tracer, it writes the event.

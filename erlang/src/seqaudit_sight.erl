@@ -1,5 +1,5 @@
-%% @doc Says at once what happens to the nodes that are traced: that one can't be reached any more, that it is back, or
-%% that its collector is gone.
+%% @doc Says at once what happens to the nodes that are traced: that one can't be reached any more, that it is back, that
+%% its collector is gone, or that it collects no more, as on a disk that is full.
 -module(seqaudit_sight).
 
 -export([keep/2, again/2, stop/1]).
@@ -12,6 +12,7 @@
 -spec keep([node()], fun((string()) -> term())) -> sight().
 keep(Nodes, Say) ->
     spawn_link(fun() ->
+                       true = register(?MODULE, self()),
                        ok = net_kernel:monitor_nodes(true, [{node_type, all}]),
                        look(maps:from_list([{monitored(Node), Node} || Node <- Nodes]), Nodes, Say)
                end).
@@ -26,8 +27,9 @@ again(Sight, Node) ->
 -spec stop(sight()) -> ok.
 stop(Sight) ->
     unlink(Sight),
+    Monitor = monitor(process, Sight),
     exit(Sight, kill),
-    ok.
+    receive {'DOWN', Monitor, process, _, _} -> ok end.
 
 monitored(Node) -> monitor(process, {seqaudit_collector, Node}).
 
@@ -41,6 +43,9 @@ look(Collectors, Nodes, Say) ->
             {Node, Others} = maps:take(Monitor, Collectors),
             _ = Say(gone(Node, Reason)),
             look(Others, Nodes, Say);
+        {ended, Node, Why} ->
+            _ = Say(ended(Node, Why)),
+            look(Collectors, Nodes, Say);
         {again, Node} ->
             Others = maps:filter(fun(_, Other) -> Other =/= Node end, Collectors),
             look(Others#{monitored(Node) => Node}, Nodes, Say);
@@ -55,6 +60,12 @@ look(Collectors, Nodes, Say) ->
         _ ->
             look(Collectors, Nodes, Say)
     end.
+
+ended(Node, {disk, Reason}) ->
+    text("~ts: node ~ts collects no more, as the trace file couldn't be written (~0tp); what came before is there",
+         [now_text(), Node, Reason]);
+ended(Node, Why) ->
+    text("~ts: node ~ts collects no more (~0tP); what came before is there", [now_text(), Node, Why, 10]).
 
 gone(Node, noconnection) ->
     text("~ts: node ~ts can't be reached any more; if it still runs, collecting goes on there for a minute",
