@@ -642,9 +642,9 @@ closed(#state{by = closed} = State) ->
 closed(#state{by = {port, Port}} = State) ->
     Monitor = monitor(port, Port),
     Written = written(Port),
-    _ = (catch erlang:port_control(Port, $f, "")),
+    _ = try erlang:port_control(Port, $f, "") catch error:_ -> gone end,
     unlink(Port),
-    _ = (catch port_close(Port)),
+    _ = try port_close(Port) catch error:_ -> gone end,
     Closed = State#state{by = closed, written = Written},
     receive
         {'DOWN', Monitor, port, _, normal} -> Closed;

@@ -25,8 +25,9 @@
 %% What is known of a collection. Later facts take the place of earlier ones; of `processes' they
 %% are added.
 
--type about() :: #{name => atom(), call => mfa()}.
-%% What is known of a process: its registered name and its initial call.
+-type about() :: #{name => atom(), call => mfa(), caller => pid()}.
+%% What is known of a process: its registered name, its initial call, and for whom a task of Elixir
+%% works.
 
 %% @doc Makes the folder, in the one that is named or the system's for temporary files.
 -spec create(file:filename() | default) -> {ok, file:filename()} | {error, term()}.
@@ -142,11 +143,14 @@ about(Pid) ->
 named([]) -> #{};
 named(Name) -> #{name => Name}.
 
-called({proc_lib, init_p, _}, Pid) -> maps:from_list([{call, Call} || Call <- proc_lib_call(Pid)]);
-called(Call, _Pid) -> #{call => Call}.
-
-proc_lib_call(Pid) ->
+called({proc_lib, init_p, _}, Pid) ->
     case process_info(Pid, dictionary) of
-        {dictionary, Dictionary} -> [Call || {'$initial_call', Call} <- Dictionary];
-        undefined -> []
-    end.
+        {dictionary, Dictionary} ->
+            maps:from_list([{call, Call} || {'$initial_call', Call} <- Dictionary]
+                           ++ [{caller, Caller} || {'$callers', [Caller | _]} <- Dictionary,
+                                                   is_pid(Caller)]);
+        undefined ->
+            #{}
+    end;
+called(Call, _Pid) ->
+    #{call => Call}.

@@ -157,7 +157,8 @@ put_on(#state{off = no} = State) ->
 put_on(#state{port = Port} = State) ->
     %% The disk may be slow, so it is waited for while the tracer is off. The port may be gone.
     _ = noted(pause_ended(State)),
-    _ = seq_trace:get_system_tracer() =:= false andalso (catch seq_trace:set_system_tracer(Port)),
+    _ = seq_trace:get_system_tracer() =:= false
+        andalso try seq_trace:set_system_tracer(Port) catch error:_ -> gone end,
     pause_ended(State).
 
 pause_ended(#state{off = no} = State) ->

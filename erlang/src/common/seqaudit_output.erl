@@ -24,7 +24,7 @@ open(Closed) ->
     Opened = [spawn_link(fun() -> open(File, Closed) end) || File <- [1, 2]],
     [Output, Errors] = Opened,
     true = group_leader(Output, self()),
-    _ = (catch unregister(standard_error)),
+    _ = try unregister(standard_error) catch error:badarg -> none end,
     true = register(standard_error, Errors),
     ok.
 
@@ -82,8 +82,12 @@ closed(stop, _) ->
 closed(halt, epipe) ->
     halt(?BROKEN_PIPE, [{flush, false}]);
 closed(halt, Reason) ->
-    _ = (catch io:format(standard_error, "seqaudit-node: the output can't be written: ~ts~n",
-                         [file:format_error(Reason)])),
+    _ = try
+            io:format(standard_error, "seqaudit-node: the output can't be written: ~ts~n",
+                      [file:format_error(Reason)])
+        catch
+            _:_ -> unsaid
+        end,
     halt(?SYSTEM).
 
 reply({put_chars, Encoding, Characters}, Port) ->

@@ -47,7 +47,8 @@
       | #{node := node(), lost := term()}.
 %% One node's events with what its collector counted; `lost' means that the collector went down.
 
--type about() :: #{name => binary(), call => seqaudit_external:encoded()}.
+-type about() :: #{name => binary(), call => seqaudit_external:encoded(),
+                   caller => seqaudit_external:encoded()}.
 -type facts() :: #{node => binary(), collector => seqaudit_external:encoded(),
                    processes => [{seqaudit_external:encoded(), about()}],
                    lost | ended | split | where => seqaudit_external:encoded(),
@@ -394,7 +395,10 @@ read_about(Info) ->
             [maps:from_list([{name, Name} || #{<<"name">> := Value} <- [Pairs],
                                              {atom, Name} <- [seqaudit_external:view(Value)]]
                             ++ [{call, Call} || #{<<"call">> := Call} <- [Pairs],
-                                                [_, _, _] <- [seqaudit_external:tuple(Call)]])]
+                                                [_, _, _] <- [seqaudit_external:tuple(Call)]]
+                            ++ [{caller, Caller} || #{<<"caller">> := Caller} <- [Pairs],
+                                                    {process, _, _, _}
+                                                        <- [seqaudit_external:view(Caller)]])]
     end.
 
 %% @doc Goes through collections that are terms already.

@@ -567,9 +567,9 @@ list(<<?LIST, Length:32, Rest/binary>>) ->
 list(_) -> [].
 
 %% @doc What is known of a process as a term.
--spec about_term(seqaudit_events:about()) -> #{name => term(), call => term()}.
+-spec about_term(seqaudit_events:about()) -> #{name | call | caller => term()}.
 about_term(About) ->
-    maps:map(fun(name, Name) -> to_term(atom(Name)); (call, Call) -> to_term(Call) end, About).
+    maps:map(fun(name, Name) -> to_term(atom(Name)); (_, Term) -> to_term(Term) end, About).
 
 %% @doc The outermost part of the first term of these bytes: what its elements are read from, or the
 %% whole leaf. Behind a tag of a newer release nothing can be read.

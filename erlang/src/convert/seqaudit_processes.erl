@@ -137,4 +137,5 @@ kind({name, Name, _}) -> ["name ", seqaudit_terms:atom(Name)].
 
 known(About) ->
     [[", registered as ", seqaudit_terms:atom(Name)] || #{name := Name} <- [About]]
-        ++ [[", started by ", seqaudit_terms:call(Call)] || #{call := Call} <- [About]].
+        ++ [[", started by ", seqaudit_terms:call(Call)] || #{call := Call} <- [About]]
+        ++ [[", for ", seqaudit_terms:encoded(Caller)] || #{caller := Caller} <- [About]].
