@@ -43,8 +43,8 @@ application(Release) ->
     ok = filelib:ensure_dir(Home ++ "/"),
     Parts = [[filename:join(seqaudit_audits:home(), Part), $\s]
              || Part <- ["src", "demo", "priv", "Makefile", "seqaudit-node"]],
-    {0, _} = shell(Release, ["cp -r ", Parts, Home, " && make -s -C ", Home, " all && erlc -o ", Home,
-                             "/ebin ", Home, "/demo/shop.erl"]),
+    {0, _} = shell(Release, ["cp -r ", Parts, Home, " && make -s -C ", Home, " all && erlc -o ",
+                             Home, "/ebin ", Home, "/demo/shop.erl"]),
     Home.
 
 %% A node whose shop gets an order under a token ten times a second.
