@@ -4,7 +4,7 @@
 -export([captures_test_/0, equal_terms_test/0, numbers_test/0, parties_test/0, aliases_test/0,
          reset_aliases_test/0, ambiguous_aliases_test/0,
          repeated_names_test/0,
-         counts_test/0, limits_test/0, many_processes_test_/0,
+         callers_test/0, counts_test/0, limits_test/0, many_processes_test_/0,
          lost_test/0, hostile_test_/0, hostile_trace_test_/0, hostile_process_test_/0,
          text_test/0, text_faults_test/0, external_test/0, trace_file_test/0,
          damaged_event_test/0]).
@@ -138,6 +138,19 @@ repeated_names_test() ->
     [{_, _}, {_, _}, {_, _}] =
         [binary:match(iolist_to_binary(Terms), Name)
          || Name <- [<<"\tsrv <0.30.0>\t">>, <<"\tsrv <0.31.0>\t">>, <<"\tother\t">>]].
+
+%% A task of Elixir is told by the process for which it works.
+callers_test() ->
+    Task = proc_lib:spawn(fun() ->
+        _ = put('$callers', [self()]),
+        receive stop -> ok end
+    end),
+    seqaudit_test_nodes:until(fun() -> is_map_key(caller, seqaudit_spool:about(Task)) end),
+    #{terms := Terms} =
+        seqaudit_convert:convert([#{node => node(), processes => #{Task => seqaudit_spool:about(Task)},
+                                    events => [{seq_trace, 1, {print, {0, 1}, Task, [], x}}]}]),
+    exit(Task, kill),
+    {_, _} = binary:match(iolist_to_binary(Terms), iolist_to_binary([", for ", pid_to_list(Task), "\n"])).
 
 %% What is no event is counted.
 counts_test() ->

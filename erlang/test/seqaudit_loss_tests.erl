@@ -3,7 +3,7 @@
 
 -export([net_split_test_/0, killed_node_test_/0, out_of_reach_test_/0, killed_collector_test_/0,
          killed_leader_test_/0, lost_owner_test_/0, stray_calls_test_/0, other_disk_test_/0,
-         late_events_test/0, written_over_test/0, broken_port_test/0, broken_disk_test_/0, stray_tokens_test_/0,
+         late_events_test/0, written_over_test/0, broken_port_test/0, told_at_once_test/0, broken_disk_test_/0, stray_tokens_test_/0,
          own_events_test/0, late_names_test_/0,
          refused_options_test/0,
          unread_test_/0]).
@@ -225,6 +225,21 @@ written_over() ->
 %% A trace file that can't be written any more, as on a full disk, ends the collecting with a note.
 broken_port_test() ->
     seqaudit_test_nodes:on_port("broken_port", fun broken_port/0).
+
+%% Whoever waits for the trace hears at once that a disk is full.
+told_at_once_test() ->
+    true = register(seqaudit_sight, self()),
+    try
+        ok = seqaudit_trace:start(#{name => seqaudit_audits:file("told_at_once"), port => false}),
+        Collector = whereis(seqaudit_collector),
+        {links, Links} = process_info(Collector, links),
+        [Writer] = [Pid || Pid <- Links, process_info(Pid, priority) =:= {priority, high}],
+        Collector ! {seqaudit_scribe, Writer, enospc},
+        receive {ended, Node, {disk, enospc}} when Node =:= node() -> ok after 30_000 -> error(not_told) end,
+        {ok, _} = seqaudit_trace:stop()
+    after
+        unregister(seqaudit_sight)
+    end.
 
 broken_port() ->
     Name = seqaudit_audits:file("broken_port"),

@@ -83,7 +83,7 @@ xref_test_() ->
 
 %% Each function that another module may call says what it does, or that it is private.
 documented_test() ->
-    Sources = filelib:wildcard(filename:join([seqaudit_audits:home(), "src", "*.erl"])),
+    Sources = filelib:wildcard(filename:join([seqaudit_audits:home(), "src", "*", "*.erl"])),
     true = length(Sources) > 30,
     case code:which(epp_dodger) of
         non_existing -> io:format(user, "documented: skipped, it needs syntax_tools (erlang-syntax-tools)~n", []);

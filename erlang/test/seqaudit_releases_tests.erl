@@ -1,5 +1,6 @@
-%% Commands and nodes of all releases of OTP that are here, in all pairs: each collects, sets tokens by calls, and
-%% watches. `make -C erlang releases' fetches those of Debian; SEQAUDIT_OTPS may name the folders of others' programs.
+%% Commands and nodes of all releases of OTP that are here, in all pairs: each collects, sets tokens
+%% by calls, and watches. `make -C erlang releases' fetches those of Debian; SEQAUDIT_OTPS may name
+%% the folders of others' programs.
 -module(seqaudit_releases_tests).
 
 -export([pairs_test_/0, without_compiler_test/0]).
@@ -11,26 +12,28 @@
 pairs_test_() ->
     case releases() of
         [_] ->
-            fun() -> io:format(user, "pairs of releases: skipped, no other release is here (make -C erlang releases)~n",
+            fun() -> io:format(user, "pairs of releases: skipped, no other release is here (make "
+                                     "-C erlang releases)~n",
                                [])
             end;
         Releases ->
             {timeout, 900, fun() ->
                 Applications = [{Release, application(Release)} || Release <- Releases],
-                Nodes = [{Release, node(Release, Application)} || {Release, Application} <- Applications],
+                Nodes = [{Release, node(Release, Application)}
+                         || {Release, Application} <- Applications],
                 try
                     [pair(Command, Application, Node)
                      || {Command, Application} <- Applications, Node <- Nodes]
                 after
-                    [port_close(Port) || {_, {_, Port}} <- Nodes]
+                    [stop(Port) || {_, {_, Port}} <- Nodes]
                 end
             end}
     end.
 
 %% The release that runs this, by the folder of its `erl', and those of Debian that were fetched.
 releases() ->
-    Fetched = filelib:wildcard(filename:join([seqaudit_audits:tests_of_node(), "otp", "*", "root", "usr", "lib", "erlang",
-                                              "bin"])),
+    Fetched = filelib:wildcard(filename:join(seqaudit_audits:tests_of_node(),
+                                             "otp/*/root/usr/lib/erlang/bin")),
     Named = string:lexemes(os:getenv("SEQAUDIT_OTPS", ""), ":"),
     [filename:dirname(os:find_executable("erl")) | case Named of [] -> Fetched; _ -> Named end].
 
@@ -38,9 +41,10 @@ releases() ->
 application(Release) ->
     Home = seqaudit_audits:file("releases/" ++ integer_to_list(erlang:phash2(Release))),
     ok = filelib:ensure_dir(Home ++ "/"),
-    {0, _} = shell(Release, ["cp -r ", [[filename:join(seqaudit_audits:home(), Part), $\s]
-                                        || Part <- ["src", "demo", "priv", "Makefile", "seqaudit-node"]], Home,
-                             " && make -s -C ", Home, " all && erlc -o ", Home, "/ebin ", Home, "/demo/shop.erl"]),
+    Parts = [[filename:join(seqaudit_audits:home(), Part), $\s]
+             || Part <- ["src", "demo", "priv", "Makefile", "seqaudit-node"]],
+    {0, _} = shell(Release, ["cp -r ", Parts, Home, " && make -s -C ", Home, " all && erlc -o ",
+                             Home, "/ebin ", Home, "/demo/shop.erl"]),
     Home.
 
 %% A node whose shop gets an order under a token ten times a second.
@@ -48,18 +52,28 @@ node(Release, Application) ->
     Name = "seqaudit_r" ++ os:getpid() ++ "_" ++ filename:basename(Application) ++ "@localhost",
     Order = "fun Order() -> seq_trace:set_token(label, {order, 1}), "
             "[seq_trace:set_token(Flag, true) || Flag <- [send, receive, print, timestamp]], "
-            "shop:order(apple, 1), seq_trace:set_token([]), shop:order(apple, 1), timer:sleep(100), Order() end",
+            "shop:order(apple, 1), seq_trace:set_token([]), shop:order(apple, 1), "
+            "timer:sleep(100), Order() end",
     Port = open_port({spawn_executable, filename:join(Release, "erl")},
-                     [{args, ["-noinput", "-sname", Name, "-setcookie", ?COOKIE, "-pa", filename:join(Application, "ebin"),
-                              "-eval", lists:flatten(["shop:start(), (", string:replace(Order, "receive", "'receive'"),
+                     [{args, ["-noinput", "-sname", Name, "-setcookie", ?COOKIE, "-pa",
+                              filename:join(Application, "ebin"),
+                              "-eval", lists:flatten(["shop:start(), (",
+                                                      string:replace(Order, "receive", "'receive'"),
                                                       ")()."])]},
                       stderr_to_stdout, exit_status]),
     {Name, Port}.
 
+%% A node doesn't end with its port.
+stop(Port) ->
+    {os_pid, Pid} = erlang:port_info(Port, os_pid),
+    [] = os:cmd("kill " ++ integer_to_list(Pid)).
+
 pair(Command, Application, {Release, {Node, _}}) ->
-    Name = filename:join(Application, filename:basename(filename:dirname(filename:dirname(Release)))),
+    Name = filename:join(Application,
+                         filename:basename(filename:dirname(filename:dirname(Release)))),
     Run = fun(Words) ->
-                  shell(Command, ["timeout ", integer_to_list(?BEGUN_S), $\s, Application, "/seqaudit-node ", Words,
+                  shell(Command, ["timeout ", integer_to_list(?BEGUN_S), $\s, Application,
+                                  "/seqaudit-node ", Words,
                                   " --node ", Node, " -o ", Name, " --unload"])
           end,
     begun(Run, 5),
@@ -69,7 +83,8 @@ pair(Command, Application, {Release, {Node, _}}) ->
     nomatch = binary:match(Collected, <<"convert left out">>),
     {0, Triggered} = Run("collect --trigger shop:order/2 --label call --seconds 1"),
     true = element(1, events(Triggered)) >= 11,
-    {_, Watched} = shell(Command, ["timeout -s INT 6 ", Application, "/seqaudit-node watch --every 1 --node ", Node,
+    {_, Watched} = shell(Command, ["timeout -s INT 6 ", Application,
+                                   "/seqaudit-node watch --every 1 --node ", Node,
                                    " -o ", Name, ".watch --unload"]),
     [{_, _} = binary:match(Watched, Word)
      || Word <- [<<"period 1: ">>, <<"period 2: ">>, <<" events ">>]],
@@ -89,9 +104,11 @@ events(Said) ->
     {binary_to_integer(Events), binary_to_integer(Processes)}.
 
 shell(Release, Words) ->
-    seqaudit_test_shell:run(Words, [{"PATH", Release ++ ":" ++ os:getenv("PATH")}, {"SEQAUDIT_COOKIE", ?COOKIE}]).
+    seqaudit_test_shell:run(Words, [{"PATH", Release ++ ":" ++ os:getenv("PATH")},
+                                    {"SEQAUDIT_COOKIE", ?COOKIE}]).
 
-%% A node of another release that has no compiler gets the modules as they are, and the command says so if it can't
+%% A node of another release that has no compiler gets the modules as they are, and the command says
+%% so if it can't
 %% load them.
 without_compiler_test() ->
     here = seqaudit_load:from(node(), erlang:system_info(otp_release)),

@@ -1,11 +1,14 @@
-%% Services that spawn under their tokens: counters wrap, and what the spawner reports of a new process may come late.
+%% Services that spawn under their tokens: counters wrap, and what the spawner reports of a new
+%% process may come late.
 -module(seqaudit_spawns_tests).
 
--export([requests_are_whole_test_/0, births_come_first_test/0, only_births_move_test/0, answers_test/0, signs_test/0,
+-export([requests_are_whole_test_/0, births_come_first_test/0, only_births_move_test/0,
+         answers_test/0, signs_test/0,
          wrapped_is_not_judged_test_/0, children_that_spawn_test_/0]).
 
-%% Each request runs in a process of its own, calls the server, waits for a task that calls it, and calls it again: 21
-%% events with its print. Nothing is left out, by either tracer, whatever the counters are.
+%% Each request runs in a process of its own, calls the server, waits for a task that calls it, and
+%% calls it again: 21 events with its print. Nothing is left out, by either tracer, whatever the
+%% counters are.
 requests_are_whole_test_() ->
     [{timeout, 60, {text(Requests, Port), fun() -> requests_are_whole(Requests, Port) end}}
      || Requests <- [20, 300], Port <- [true, false]].
@@ -27,14 +30,16 @@ requests_are_whole(Requests, Port) ->
     [] = [Events0 || [First | _] = Events0 <- maps:values(Streams), kind(First) =:= <<"send">>,
                      length(Events0) =< 6].
 
-%% `audit' says that counters have wrapped, and nothing else: neither a reset nor a lost event is a reason.
+%% `audit' says that counters have wrapped, and nothing else: neither a reset nor a lost event is a
+%% reason.
 wrapped_is_not_judged_test_() ->
     {timeout, 60, fun() ->
         Name = seqaudit_audits:file("wrapped"),
         {ok, _} = served(Name, 60, #{}),
         {2, Said} = run(["audit", Name]),
         {0, _} = binary:match(Said, <<"not judged as a whole: counters have wrapped">>),
-        [] = [Word || Word <- [<<"reset">>, <<"doesn't fit">>, <<"nobody reported">>, <<"mistake">>, <<"damaged">>],
+        [] = [Word || Word <- [<<"reset">>, <<"doesn't fit">>, <<"nobody reported">>, <<"mistake">>,
+                               <<"damaged">>],
                       binary:match(Said, Word) =/= nomatch],
         {Status, Each} = run(["audit", Name, "--each-label"]),
         2 = Status,
@@ -44,7 +49,8 @@ wrapped_is_not_judged_test_() ->
         true = list_to_integer(Fit) >= 10
     end}.
 
-%% Processes that spawn one child each at once: the spawners' reports come late if the tracer is a process.
+%% Processes that spawn one child each at once: the spawners' reports come late if the tracer is a
+%% process.
 children_that_spawn_test_() ->
     {timeout, 60, fun() ->
         Name = seqaudit_audits:file("children"),
@@ -72,17 +78,20 @@ births_come_first_test() ->
     Expected = [<<"'receive'">>, <<"send">>, <<"print">>],
     [Expected = kinds("<0.31.0>", Order)
      || Order <- [[Request, Received, Reply, Answer, Own], [Request, Own, Received, Reply, Answer],
-                  [Request, Own, Reply, Received, Answer], [Request, Received, Own, Answer, Reply]]].
+                  [Request, Own, Reply, Received, Answer], [Request, Received, Own, Answer,
+                                                            Reply]]].
 
 %% A message that only looks like one of a spawn stays where it came.
 only_births_move_test() ->
-    {[Request, {_, _, {_, _, _, Child, Message}}, _, _, Own], Parent, Child} = birth({erlang, apply, 2}),
+    {[Request, {_, _, {_, _, _, Child, Message}}, _, _, Own], Parent, Child} =
+        birth({erlang, apply, 2}),
     Forwarder = pid(40),
     Forwarded = {seq_trace, 1, {'receive', {7, 8}, Forwarder, Child, Message}},
     [<<"print">>, <<"'receive'">>] = kinds("<0.31.0>", [Request, Own, Forwarded]),
     true = is_pid(Parent).
 
-%% The reply that `spawn' waits for is an answer; that of `spawn_request' is a receive. Only a text of version 3 says so.
+%% The reply that `spawn' waits for is an answer; that of `spawn_request' is a receive. Only a text
+%% of version 3 says so.
 answers_test() ->
     Kinds = fun(Call, Change) ->
                     {Events, _, _} = birth(Call),
@@ -127,7 +136,8 @@ converted(Events) ->
 streams(Text) ->
     [_ | Processes] = binary:split(Text, <<"process ">>, [global]),
     maps:from_list([{Pid, Lines} || Process <- Processes,
-                                    [Pid | Lines] <- [binary:split(Process, <<"\n">>, [global, trim_all])]]).
+                                    [Pid | Lines] <- [binary:split(Process, <<"\n">>,
+                                                                   [global, trim_all])]]).
 
 kind(Line) ->
     {match, [Kind]} = re:run(Line, "^\\{seq_trace,[0-9]+,\\{([^,]*),", [{capture, [1], binary}]),
@@ -151,7 +161,8 @@ request(Server, Number) ->
         user = gen_server:call(Server, user),
         Self = self(),
         {Task, Monitor} = spawn_monitor(fun() ->
-            receive {Self, Reference} -> Self ! {Reference, gen_server:call(Server, {row, Number})} end
+            receive {Self, Reference} ->
+                Self ! {Reference, gen_server:call(Server, {row, Number})} end
         end),
         Task ! {Self, Monitor},
         receive {Monitor, Row} -> demonitor(Monitor, [flush]), Row end,
@@ -159,7 +170,8 @@ request(Server, Number) ->
     end).
 
 run([Command | Words]) ->
-    Said = os:cmd(lists:flatten([filename:join(seqaudit_audits:home(), "seqaudit-node"), $\s, Command,
+    Said = os:cmd(lists:flatten([filename:join(seqaudit_audits:home(), "seqaudit-node"), $\s,
+                                 Command,
                                  [[$\s, $', Word, $'] || Word <- Words], "; echo status $?"])),
     Text = unicode:characters_to_binary(Said),
     {match, [Status]} = re:run(Text, "status ([0-9]+)\n$", [{capture, [1], list}]),

@@ -2,7 +2,7 @@
 -module(seqaudit_trigger_tests).
 
 -export([beside_dbg_test_/0, session_test_/0, ends_its_own_test/0, conditions_test/0, several_functions_test/0,
-         calls_test/0,
+         calls_test/0, calls_of_a_loop_test/0, label_of_each_call_test/0, label_words_test/0,
          calls_in_a_second_test_/0, control_word_test/0, words_test/0]).
 %% Called by name.
 -export([ordered/1, order/1, loop/1, begin_dbg/0, counted/0]).
@@ -136,13 +136,45 @@ several_functions_test() ->
     [{traced, false} = erlang:trace_info({?MODULE, Function, 1}, traced) || Function <- [ordered, order]],
     false = is_pulled().
 
-%% Only the first calls set a token, and once they were made none is traced any more.
+%% Only the first calls set a token.
 calls_test() ->
     [1, 2, 3] = triggered(#{function => {?MODULE, ordered, 1}, calls => 3}, fun() ->
-        [called(ordered, N) || N <- lists:seq(1, 20)],
-        seqaudit_test_nodes:until(fun() -> not is_pulled() end)
+        [called(ordered, N) || N <- lists:seq(1, 20)]
     end),
+    false = is_pulled(),
     0 = erlang:system_info(trace_control_word).
+
+%% A process that calls again and again keeps its token, and its trace ends where it calls once more than is allowed.
+calls_of_a_loop_test() ->
+    [1, 2, 3] = triggered(#{function => {?MODULE, ordered, 1}, calls => 3}, fun() ->
+        {_, Monitor} = spawn_monitor(fun() -> [begin ?MODULE:ordered(N), timer:sleep(20) end || N <- lists:seq(1, 30)] end),
+        receive {'DOWN', Monitor, process, _, normal} -> ok end
+    end),
+    false = is_pulled().
+
+%% Each call has a label with its number or its arguments, also where so many are allowed in a second.
+label_of_each_call_test() ->
+    Labels = fun(Function, Label, Calls) ->
+                     {ok, {expression, Expression, Numbered}} = seqaudit_calls:label(Label),
+                     {ok, Labelled} = seqaudit_calls:labelled(Function, Expression),
+                     labelled(#{functions => [Labelled], label => Label, numbered => Numbered, calls => Calls})
+             end,
+    Name = "seqaudit_trigger_tests:ordered",
+    [{1, a}, {2, b}, {3, a}] = Labels(Name ++ "/1", "_", infinity),
+    [{1, a}, {2, b}] = Labels(Name ++ "/1", "_", 2),
+    [{a, a}, {b, b}, {a, a}] = Labels(Name ++ "(What)", "What", infinity),
+    [{a, a}, {a, a}] = Labels(Name ++ "(What) when What =/= b", "What", infinity),
+    [{N, a}, {M, b}, {_, a}] = Labels(Name ++ "/1", "_", {4_000, second}),
+    true = N =/= M,
+    0 = erlang:system_info(trace_control_word).
+
+labelled(Trigger) ->
+    Name = seqaudit_audits:file("labelled"),
+    ok = seqaudit_trace:start(#{name => Name, trigger => Trigger#{times => false}}),
+    [called(ordered, What) || What <- [a, b, a]],
+    {ok, _} = seqaudit_trace:stop(),
+    {ok, [#{events := Events}]} = seqaudit_events:read(Name ++ ".events"),
+    [{Label, What} || {seq_trace, Label, {print, _, _, _, {ordered, What}}} <- Events].
 
 calls_in_a_second_test_() ->
     {timeout, 60, fun() ->
@@ -179,6 +211,14 @@ words_test() ->
     {ok, 10} = seqaudit_calls:limit("10"),
     {ok, {5, second}} = seqaudit_calls:limit("5/s"),
     [{error, _} = seqaudit_calls:limit(Word) || Word <- ["0", "-1", "ten", "10/m", "0/s"]],
+    ok.
+
+label_words_test() ->
+    {ok, {term, {order, 7}}} = seqaudit_calls:label("{order, 7}"),
+    {ok, {expression, _, true}} = seqaudit_calls:label("_"),
+    [{error, _} = seqaudit_calls:label(Word) || Word <- ["{order", "", "a, b", "f(x)", "{order, _}", "{order, N}"]],
+    {ok, {expression, Unbound, false}} = seqaudit_calls:label("N"),
+    {error, _} = seqaudit_calls:labelled("shop:order/2", Unbound),
     ok.
 
 %% What was printed under the tokens that these calls set.

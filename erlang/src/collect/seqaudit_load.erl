@@ -1,0 +1,78 @@
+%% @doc Loads modules on another node, whichever release of OTP it runs.
+%%
+%% What the compiler of one release writes, another one may refuse. So a node of another release
+%% than this one compiles the modules itself, from the forms that they have as debug information;
+%% nothing of that touches its disk. A node of the same release loads them as they are, and so does
+%% one without a compiler, which works where it is newer and still takes them.
+-module(seqaudit_load).
+
+-export([on/2, from/2]).
+
+%% A busy node takes a while to compile a module of some hundred lines.
+-define(REMOTE_MS, 60_000).
+
+-type reason() :: {load | load_elsewhere, module(), term()} | {no_forms, module()}.
+
+%% @doc Loads these modules there, but those of which the very same is loaded already.
+-spec on(node(), [module()]) -> ok | {error, reason()}.
+on(Node, Modules) ->
+    try
+        From = from(Node, erpc:call(Node, erlang, system_info, [otp_release], ?REMOTE_MS)),
+        lists:foreach(fun(Module) -> load(From, Node, Module) end, Modules)
+    catch
+        throw:Reason -> {error, Reason}
+    end.
+
+%% @doc Whether modules for this node are those that run here, or it compiles them.
+-spec from(node(), Release :: string()) -> here | compiled | other_release.
+from(Node, Release) ->
+    case Release =:= erlang:system_info(otp_release) of
+        true -> here;
+        false ->
+            case erpc:call(Node, code, ensure_loaded, [compile], ?REMOTE_MS) of
+                {module, compile} -> compiled;
+                {error, _} -> other_release
+            end
+    end.
+
+load(From, Node, Module) ->
+    {Binary, File} = code(From, Node, Module),
+    There = try erpc:call(Node, Module, module_info, [md5], ?REMOTE_MS)
+            catch error:{exception, undef, _} -> none
+            end,
+    %% Only the release that compiled a module can be sure to read it.
+    {ok, {Module, Here}} = case From of
+                               compiled -> erpc:call(Node, beam_lib, md5, [Binary], ?REMOTE_MS);
+                               _ -> beam_lib:md5(Binary)
+                           end,
+    Here =:= There orelse load(From, Node, Module, File, Binary).
+
+load(From, Node, Module, File, Binary) ->
+    case erpc:call(Node, code, load_binary, [Module, File, Binary], ?REMOTE_MS) of
+        {module, Module} -> ok;
+        {error, Reason} when From =:= other_release -> throw({load_elsewhere, Module, Reason});
+        {error, Reason} -> throw({load, Module, Reason})
+    end.
+
+code(compiled, Node, Module) ->
+    {_, File} = beam(Module),
+    case erpc:call(Node, compile, noenv_forms, [forms(Module), [binary, return_errors]],
+                   ?REMOTE_MS) of
+        {ok, Module, Binary} -> {Binary, File};
+        {ok, Module, Binary, _Warnings} -> {Binary, File};
+        {error, Reason, _} -> throw({load, Module, Reason});
+        error -> throw({load, Module, compile})
+    end;
+code(_, _Node, Module) ->
+    beam(Module).
+
+beam(Module) ->
+    {Module, Binary, File} = code:get_object_code(Module),
+    {Binary, File}.
+
+forms(Module) ->
+    {Binary, _} = beam(Module),
+    case beam_lib:chunks(Binary, [abstract_code]) of
+        {ok, {Module, [{abstract_code, {raw_abstract_v1, Forms}}]}} -> Forms;
+        _ -> throw({no_forms, Module})
+    end.

@@ -1,0 +1,223 @@
+%% @doc Cuts collected events at a moment when no message is under way, so that what comes before
+%% and what comes behind can be audited by themselves.
+%%
+%% Each file has the events of one node in their order. Such a moment is a number of first events of
+%% each, so that whatever is sent in them is received in them, and the other way round. The last
+%% such moment is taken, if it is in the second half of each file. Messages that were sent in the
+%% first half and not received at all are taken to wait for ever. Of a message whose send isn't
+%% there nothing is known, so it is under way nowhere.
+-module(seqaudit_quiet).
+
+-export([cut/3]).
+
+-define(EVENT, 0).
+-define(COLLECTION, 2).
+-define(FACTS, 3).
+%% So often the moment is moved before a message that is under way.
+-define(MOVES, 1_000).
+
+%% Where an event is: the number of its file and its place among the events there.
+-type place() :: {pos_integer(), non_neg_integer()}.
+
+%% What a collection has behind the moment: the entry that begins it, what is known of its node and
+%% its processes, and its events, the last first.
+-record(later, {collection :: iodata(),
+                facts = #{} :: #{binary() => seqaudit_external:encoded()},
+                processes = #{} :: #{seqaudit_external:encoded() => seqaudit_external:encoded()},
+                events = [] :: [binary()]}).
+
+%% @doc Writes the events before the moment and those behind it, each with what is known of the
+%% node. `none' if there is no such moment; then nothing is written.
+-spec cut([file:filename()], [file:filename()], [file:filename()]) -> ok | none | {error, term()}.
+cut(Files, Before, Behind) ->
+    case read(Files, []) of
+        {ok, Read} ->
+            case moment(Read) of
+                none -> none;
+                Counts -> written(lists:zip(lists:zip(Files, Counts), lists:zip(Before, Behind)))
+            end;
+        {error, Reason} ->
+            {error, Reason}
+    end.
+
+written([]) -> ok;
+written([{{File, Count}, {Before, Behind}} | Others]) ->
+    case split(File, Count, Before, Behind) of
+        ok -> written(Others);
+        {error, Reason} -> {error, Reason}
+    end.
+
+%% How many events each file has, and where messages were sent and received.
+read([], Read) ->
+    {Counts, Messages} = lists:unzip(lists:reverse(Read)),
+    Ends = lists:foldl(fun({Number, Places}, Known) ->
+                               lists:foldl(fun({End, Key, Place},
+                                               Sum) -> put_end(End, Key, {Number, Place}, Sum) end,
+                                           Known, Places)
+                       end, #{}, lists:enumerate(Messages)),
+    {ok, {Counts, maps:values(Ends)}};
+read([File | Files], Read) ->
+    Item = fun({event, Event}, {Place, Places}) -> {Place + 1, message(Event, Place) ++ Places};
+              (_, Known) -> Known
+           end,
+    case seqaudit_events:fold(File, Item, {0, []}) of
+        {ok, Found} -> read(Files, [Found | Read]);
+        {error, Reason} -> {error, Reason}
+    end.
+
+%% The places come from the last to the first, of the last file first.
+-spec put_end(sent | received, binary(), place(), #{binary() => {[place()], [place()]}}) ->
+          #{binary() => {[place()], [place()]}}.
+put_end(End, Key, Place, Ends) ->
+    {Sent, Received} = maps:get(Key, Ends, {[], []}),
+    Ends#{Key => case End of
+                     sent -> {[Place | Sent], Received};
+                     received -> {Sent, [Place | Received]}
+                 end}.
+
+%% A process stamps a count once, so that and the label say which message it is, unless a token is
+%% put back: then several may have both.
+message(Event, Place) ->
+    try
+        [_, Label, Info | _] = seqaudit_external:tuple(Event),
+        [Kind, Serial, From | _] = seqaudit_external:tuple(Info),
+        [{End, erlang:md5([Label, Serial, From]), Place}
+         || End <- message_end(seqaudit_external:view(Kind))]
+    catch
+        error:{badmatch, _} -> []
+    end.
+
+message_end({atom, <<"send">>}) -> [sent];
+message_end({atom, <<"receive">>}) -> [received];
+message_end(_) -> [].
+
+%% The numbers of first events, moved back until nothing is under way.
+moment({Counts, Messages}) ->
+    Half = [Count div 2 || Count <- Counts],
+    Pairs = lists:append([pairs(lists:sort(Sent), lists:sort(Received))
+                          || {Sent, Received} <- Messages]),
+    Known = [{Sent, Received} || {{Number, Place} = Sent, Received} <- Pairs,
+                                 Received =/= none orelse Place >= lists:nth(Number, Half)],
+    moved(list_to_tuple(Counts), list_to_tuple(Half), Known, ?MOVES).
+
+%% Each send with its receive. Of several messages that are alike the first that is received at a
+%% node is the first that was sent: which it is makes no difference there. If they are received at
+%% several nodes, all of them are under way from the first send to the last receive.
+-spec pairs([place()], [place()]) -> [{place(), place() | none}].
+pairs([], _Received) ->
+    [];
+pairs(Sent, []) ->
+    [{Send, none} || Send <- Sent];
+pairs([First | _] = Sent, [Received | _] = All) ->
+    case lists:usort([Number || {Number, _} <- All]) of
+        [_] -> in_turn(Sent, All);
+        _ -> [{First, Receive} || Receive <- All] ++ [{Send, Received} || Send <- Sent]
+                 ++ [{Send, none} || Send <- lists:nthtail(min(length(Sent), length(All)), Sent)]
+    end.
+
+in_turn([], _Received) -> [];
+in_turn([Send | Sent], [Receive | Received]) -> [{Send, Receive} | in_turn(Sent, Received)];
+in_turn(Sent, []) -> [{Send, none} || Send <- Sent].
+
+moved(_Ends, _Half, _Messages, 0) ->
+    none;
+moved(Ends, Half, Messages, Moves) ->
+    case lists:foldl(fun move/2, Ends, Messages) of
+        Ends -> tuple_to_list(Ends);
+        Earlier ->
+            Pairs = lists:zip(tuple_to_list(Earlier), tuple_to_list(Half)),
+            case lists:all(fun({End, Least}) -> End >= Least end, Pairs) of
+                true -> moved(Earlier, Half, Messages, Moves - 1);
+                false -> none
+            end
+    end.
+
+move({Sent, Received}, Ends) ->
+    case {is_before(Sent, Ends), is_before(Received, Ends)} of
+        {true, false} -> end_at(Sent, Ends);
+        {false, true} -> end_at(Received, Ends);
+        {_, _} -> Ends
+    end.
+
+is_before(none, _Ends) -> false;
+is_before({Number, Place}, Ends) -> Place < element(Number, Ends).
+
+end_at({Number, Place}, Ends) -> setelement(Number, Ends, Place).
+
+%% What is known of the collection as a whole, as how many bytes came, goes with the first part; the
+%% clock of its node, and what the processes are called that the part names, with both. So what is
+%% left of one period to the next doesn't grow.
+split(File, Count, Before, Behind) ->
+    Open = fun(Name) -> seqaudit_events:open(filename:rootname(Name)) end,
+    case {file:read_file(File), Open(Before), Open(Behind)} of
+        {{ok, Bytes}, {ok, First}, {ok, Second}} ->
+            [_, Entries] = binary:split(Bytes, <<"\n">>),
+            {Former, Later} = entries(Entries, Count, [], []),
+            _ = {ok, ok} = {seqaudit_events:append(First, Former),
+                            seqaudit_events:append(Second, later(Later, []))},
+            case {seqaudit_events:close(First), seqaudit_events:close(Second)} of
+                {ok, ok} -> ok;
+                {{error, Reason}, _} -> {error, {file, Before, Reason}};
+                {_, {error, Reason}} -> {error, {file, Behind, Reason}}
+            end;
+        {{error, Reason}, _, _} -> {error, {file, File, Reason}};
+        {_, {error, Reason}, _} -> {error, Reason};
+        {_, _, {error, Reason}} -> {error, Reason}
+    end.
+
+%% The entries before the moment as they are, and what is behind it of each collection, the last
+%% first.
+entries(<<?EVENT, Size:32, Event:Size/binary, Rest/binary>>, 0, Former,
+        [#later{events = Events} = Last | Later]) ->
+    entries(Rest, 0, Former, [Last#later{events = [Event | Events]} | Later]);
+entries(<<?EVENT, Size:32, Event:Size/binary, Rest/binary>>, Count, Former, Later) ->
+    entries(Rest, Count - 1, [[<<?EVENT, Size:32>>, Event] | Former], Later);
+entries(<<?COLLECTION, Size:32, Facts:Size/binary, Rest/binary>>, Count, Former, Later) ->
+    Entry = [<<?COLLECTION, Size:32>>, Facts],
+    entries(Rest, Count, [Entry | Former], [#later{collection = Entry} | Later]);
+entries(<<?FACTS, Size:32, Facts:Size/binary, Rest/binary>>, Count, Former, [Last | Later]) ->
+    entries(Rest, Count, [[<<?FACTS, Size:32>>, Facts] | Former], [learned(Facts, Last) | Later]);
+entries(Rest, _Count, Former, Later) ->
+    {lists:reverse([Rest | Former]), Later}.
+
+%% They stay bytes: this Erlang needn't have the atoms in them.
+learned(Bytes, #later{facts = Facts, processes = Processes} = Later) ->
+    case seqaudit_external:read(Bytes) of
+        {ok, Term} ->
+            Pairs = case seqaudit_external:pairs(Term) of other -> #{}; Known -> Known end,
+            New = seqaudit_external:map(maps:get(<<"processes">>, Pairs, <<>>)),
+            Later#later{facts = maps:merge(Facts, maps:with([<<"node">>, <<"clock">>,
+                                                             <<"collector">>], Pairs)),
+                        processes = maps:merge(Processes, maps:from_list(New))};
+        error ->
+            Later
+    end.
+
+%% The collections that have events behind the moment, and the last one, which goes on.
+later([], Done) -> Done;
+later([#later{events = []} | Others], [_ | _] = Done) -> later(Others, Done);
+later([#later{collection = Collection, facts = Facts, processes = Processes,
+              events = Events} | Others], Done) ->
+    Named = maps:from_keys(lists:append([parties(Event) || Event <- Events]), []),
+    Own = maps:to_list(maps:filter(fun(Pid, _) -> is_map_key(seqaudit_external:view(Pid),
+                                                             Named) end, Processes)),
+    Kept = [{seqaudit_external:atom(Key), Value} || {Key, Value} <- maps:to_list(Facts)]
+        ++ [{seqaudit_external:atom(<<"processes">>), map(Own)}],
+    Term = <<131, (map(Kept))/binary>>,
+    later(Others, [Collection, <<?FACTS, (byte_size(Term)):32>>, Term,
+                   [[<<?EVENT, (byte_size(Event)):32>>, Event]
+                    || Event <- lists:reverse(Events)] | Done]).
+
+map(Pairs) ->
+    iolist_to_binary([<<116, (length(Pairs)):32>> | [[Key, Value] || {Key, Value} <- Pairs]]).
+
+%% Who sent and who received it.
+parties(Bytes) ->
+    try
+        {ok, Event} = seqaudit_external:read(Bytes),
+        [_, _, Info | _] = seqaudit_external:tuple(Event),
+        [_, _, From, To | _] = seqaudit_external:tuple(Info),
+        [seqaudit_external:view(Party) || Party <- [From, To]]
+    catch
+        error:{badmatch, _} -> []
+    end.

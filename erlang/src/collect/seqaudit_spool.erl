@@ -1,0 +1,156 @@
+%% @doc A folder of a traced node to which its events go as they come.
+%%
+%% It has wrapped files of a trace port (`events0.trace' and so on: `&lt;&lt;0, Size:32, Term>>' is
+%% an event, `&lt;&lt;1, Count:32>>' events that the port dropped) and a file of facts, a term each.
+%% The folder's name is long and random, and only its owner may enter. Whoever sees that name sees
+%% the folder: so a collection is read from the disk if that is shared, also when the node is gone.
+-module(seqaudit_spool).
+
+-export([create/1, base/1, note/2, files/1, read/3, remove/1, about/1, entry/1]).
+-export_type([facts/0, about/0]).
+
+-define(SUFFIX, ".trace").
+-define(FACTS, "facts").
+%% An entry of facts in a file of events; events and drops are as a trace port writes them.
+-define(FACTS_ENTRY, 3).
+
+-type facts() :: #{node => node(), collector => pid(), since => calendar:datetime(),
+                   clock => {TimeOffset :: integer(), PerSecond :: pos_integer()},
+                   by => port | process, bytes => pos_integer(),
+                   processes => #{pid() => about()}, written => non_neg_integer(),
+                   dropped => non_neg_integer(), own => non_neg_integer(),
+                   strays => non_neg_integer(), tracer => put_back | taken | gone,
+                   pauses => seqaudit_watch:pauses(), ended => {term(), calendar:datetime()},
+                   atom() => term()}.
+%% What is known of a collection. Later facts take the place of earlier ones; of `processes' they
+%% are added.
+
+-type about() :: #{name => atom(), call => mfa(), caller => pid()}.
+%% What is known of a process: its registered name, its initial call, and for whom a task of Elixir
+%% works.
+
+%% @doc Makes the folder, in the one that is named or the system's for temporary files.
+-spec create(file:filename() | default) -> {ok, file:filename()} | {error, term()}.
+create(default) ->
+    create(os:getenv("TMPDIR", "/tmp"));
+create(Parent) ->
+    Random = [io_lib:format("~2.16.0b", [Byte]) || <<Byte>> <= crypto_bytes()],
+    Folder = filename:absname(filename:join(Parent, lists:flatten(["seqaudit_", Random]))),
+    case file:make_dir(Folder) of
+        ok ->
+            case file:change_mode(Folder, 8#700) of
+                ok -> {ok, Folder};
+                {error, Reason} -> {error, {file, Folder, Reason}}
+            end;
+        {error, Reason} ->
+            {error, {file, Folder, Reason}}
+    end.
+
+%% A node may lack the application crypto.
+crypto_bytes() ->
+    State = rand:seed_s(exsss),
+    {Bytes, _} = rand:bytes_s(8, State),
+    erlang:md5([Bytes, term_to_binary({node(), self(), make_ref(), os:system_time(),
+                                       os:getpid()})]).
+
+%% @doc What the names of the files of events begin with, and how they end.
+-spec base(file:filename()) -> {file:filename(), string()}.
+base(Folder) ->
+    {filename:join(Folder, "events"), ?SUFFIX}.
+
+%% @doc Adds facts. The caller alone waits for the disk, and not the node's file server, which
+%% others need.
+-spec note(file:filename(), facts()) -> ok | {error, term()}.
+note(Folder, Facts) ->
+    file:write_file(filename:join(Folder, ?FACTS), entry(Facts), [append, raw]).
+
+%% @doc Facts as they are in a file.
+-spec entry(facts()) -> iolist().
+entry(Facts) ->
+    Term = term_to_binary(Facts),
+    [<<?FACTS_ENTRY, (byte_size(Term)):32>>, Term].
+
+%% @doc The files of the folder: facts first, then the events in the order in which they came. The
+%% port writes the files in a circle of numbers, one of which is always free; the oldest file is the
+%% one behind the free number.
+-spec files(file:filename()) -> {ok, [{file:filename(), non_neg_integer()}]} | {error, term()}.
+files(Folder) ->
+    case file:list_dir(Folder) of
+        {ok, Names} ->
+            Numbers = lists:sort([Number || Name <- Names, Number <- number(Name)]),
+            {Base, Suffix} = base(Folder),
+            Events = [Base ++ integer_to_list(Number) ++ Suffix || Number <- from_oldest(Numbers)],
+            {ok, [{File, Size} || File <- [filename:join(Folder, ?FACTS) | Events],
+                                  Size <- size_of(File)]};
+        {error, Reason} ->
+            {error, {file, Folder, Reason}}
+    end.
+
+number("events" ++ Rest) ->
+    case string:to_integer(Rest) of
+        {Number, ?SUFFIX} when is_integer(Number), Number >= 0 -> [Number];
+        _ -> []
+    end;
+number(_) ->
+    [].
+
+from_oldest(Numbers) ->
+    {Newer, Older} = lists:splitwith(fun({Place, Number}) -> Place =:= Number end,
+                                     lists:zip(lists:seq(0, length(Numbers) - 1), Numbers)),
+    [Number || {_, Number} <- Older ++ Newer].
+
+size_of(File) ->
+    case filelib:is_regular(File) of
+        true -> [filelib:file_size(File)];
+        false -> []
+    end.
+
+%% @doc A piece of a file of the folder.
+-spec read(file:filename(), non_neg_integer(), pos_integer()) ->
+          {ok, binary()} | eof | {error, term()}.
+read(File, Offset, Size) ->
+    case file:open(File, [read, raw, binary]) of
+        {ok, Device} ->
+            try file:pread(Device, Offset, Size)
+            after file:close(Device)
+            end;
+        {error, Reason} ->
+            {error, {file, File, Reason}}
+    end.
+
+%% @doc Removes the folder with all that this module and the port put there.
+-spec remove(file:filename()) -> ok | {error, term()}.
+remove(Folder) ->
+    case files(Folder) of
+        {ok, Files} ->
+            lists:foreach(fun({File, _}) -> file:delete(File) end, Files),
+            file:del_dir(Folder);
+        {error, Reason} ->
+            {error, Reason}
+    end.
+
+%% @doc What the processes of this node are called. A process that was made by `proc_lib' has in its
+%% dictionary what was really called.
+-spec about(pid()) -> about().
+about(Pid) ->
+    case process_info(Pid, [registered_name, initial_call]) of
+        [{registered_name, Name}, {initial_call, Call}] ->
+            maps:merge(named(Name), called(Call, Pid));
+        undefined ->
+            #{}
+    end.
+
+named([]) -> #{};
+named(Name) -> #{name => Name}.
+
+called({proc_lib, init_p, _}, Pid) ->
+    case process_info(Pid, dictionary) of
+        {dictionary, Dictionary} ->
+            maps:from_list([{call, Call} || {'$initial_call', Call} <- Dictionary]
+                           ++ [{caller, Caller} || {'$callers', [Caller | _]} <- Dictionary,
+                                                   is_pid(Caller)]);
+        undefined ->
+            #{}
+    end;
+called(Call, _Pid) ->
+    #{call => Call}.

@@ -1,0 +1,174 @@
+%% @doc What `seqaudit-node --help' prints, and the help of each command.
+-module(seqaudit_help).
+
+-export([all/0, version/0, usage/1, of_command/1]).
+
+%% @doc The commands, a line each.
+-spec all() -> string().
+all() ->
+    "usage: seqaudit-node COMMAND ..\n"
+    "Traces running Erlang nodes, and audits, draws and explains the traces.\n\n"
+    "  collect   traces nodes, and writes what they report to files\n"
+    "  watch     traces nodes, and audits what came period by period\n"
+    "  convert   makes a trace from files of events\n"
+    "  audit     says whether the events of a trace fit together, and what is missing\n"
+    "  chart     prints the messages of a trace, or draws them\n"
+    "  why       says what caused an event, or what it caused\n"
+    "  times     says how long messages and labels took\n\n"
+    "`seqaudit-node COMMAND --help' has the options of each, and `seqaudit-node --version' says "
+    "which versions\n"
+    "these are.\n" ++ statuses().
+
+%% @doc The version of the application.
+-spec version() -> string().
+version() ->
+    File = filename:join(filename:dirname(code:which(?MODULE)), "seqaudit.app"),
+    case file:consult(File) of
+        {ok, [{application, seqaudit, Keys}]} -> proplists:get_value(vsn, Keys);
+        {error, _} -> "of an unknown version"
+    end.
+
+%% @doc How a command is called.
+-spec usage(string()) -> string().
+usage(Command) ->
+    {Usage, _} = text(Command),
+    lists:append(["usage: seqaudit-node ", Usage, "\n`seqaudit-node ", Command,
+                  " --help' has the options.\n"]).
+
+%% @doc The whole help of a command.
+-spec of_command(string()) -> string().
+of_command(Command) ->
+    {Usage, About} = text(Command),
+    lists:append(["usage: seqaudit-node ", Usage, "\n", About, statuses()]).
+
+statuses() ->
+    "\nStatus: 0 all is done, or the trace fits\n"
+    "        1 the trace doesn't fit, or it can't be decided, or it has no events; or what you ask "
+    "for isn't in it\n"
+    "        2 a file can't be understood, or is too large\n"
+    "        3 the command line can't be understood\n"
+    "        4 a file, a node or a program is missing or fails\n".
+
+text("collect") ->
+    {"collect --node NAME@HOST .. -o NAME [OPTION ..]",
+     "Traces nodes until Ctrl-C, or for some seconds, and writes NAME.events and what convert "
+     "makes of it.\n\n"
+     "  --node NAME@HOST    a node to trace; several times for several nodes\n"
+     "  -o NAME             the name of the files, without extension\n"
+     "  --seconds SECONDS   end after this time, if Ctrl-C doesn't come before\n\n"
+     "  --trigger MODULE:FUNCTION/ARITY --label TERM\n"
+     "                      whoever calls this function gets a token with this label, until the "
+     "end;\n"
+     "                      else the program sets tokens, or you do on the node:\n"
+     "                      seqaudit_trace:with_trace(TERM, fun() -> .. end)\n"
+     "  --trigger 'MODULE:FUNCTION(A, B) when A > B'\n"
+     "                      only if the arguments are so; several times for several functions\n"
+     "  --label _           a label for each call, its number; or one of its arguments, as by\n"
+     "                      --trigger 'shop:order(_, Id)' --label Id\n"
+     "  --calls CALLS       only so many first calls, or with /s behind the number so many in each "
+     "second; then\n"
+     "                      the trace of a process that calls again ends there\n"
+     "  --times             give that token a flag for timestamps\n"
+     "  --reset             take all tokens off first, so that all counters begin at 0\n\n"
+     "  --bytes BYTES       the most that each node's files may have, 268435456 if this isn't "
+     "given;\n"
+     "                      then new events replace the oldest ones\n"
+     "  --limit EVENTS      keep only the first so many events of each node\n"
+     "  --folder FOLDER     each node makes the folder of its files in this one, or in that for "
+     "temporary\n"
+     "                      files if this isn't given\n"
+     "  --unload            at the end take the modules off the nodes that were loaded there\n"
+     "  --take-over         if the node is still traced for a command that was killed, end that "
+     "now; its\n"
+     "                      events stay in its folder there\n\n"
+     "  --cookie-file FILE  read the cookie from a file; else it comes from the variable "
+     "SEQAUDIT_COOKIE, or\n"
+     "                      as for erl from ERL_FLAGS or ~/.erlang.cookie\n"
+     "  --cookie COOKIE     the cookie, but all users of this machine can see it here\n\n"
+     "The variable ERL_FLAGS has options of erl, as for TLS: -proto_dist inet_tls "
+     "-ssl_dist_optfile FILE\n"};
+text("watch") ->
+    {"watch --node NAME@HOST .. --every SECONDS -o NAME [OPTION ..]",
+     "Traces nodes until Ctrl-C, and audits what came period by period, a line for each. A period "
+     "that fits is\n"
+     "thrown away; one that doesn't is kept as NAME.NUMBER, and so are the ones before and after "
+     "it. The period\n"
+     "that runs at the end isn't audited. Status 0 if all fitted.\n\n"
+     "  --every SECONDS     the length of a period; each is cut at its last moment without a "
+     "message under way,\n"
+     "                      if there is one in its second half\n"
+     "  --keep PERIODS      how many periods stay, 100 if this isn't given; then the oldest are "
+     "removed\n\n"
+     "The other options are those of collect, except --seconds and --limit.\n"};
+text("convert") ->
+    {"convert FILE .. -o NAME",
+     "Makes a trace from files of events: NAME.seqtrace; NAME.terms, what its numbers mean; "
+     "NAME.messages,\n"
+     "the whole texts of long messages; NAME.notes and NAME.facts, what was decided or left out; "
+     "and\n"
+     "NAME.times, if the events have timestamps.\n\n"
+     "  FILE                a NAME.events, the folder of a collector, term_to_binary of a list of "
+     "events,\n"
+     "                      a trace file of dbg or ttb, or events as text, as io:format(\"~p~n\", "
+     "[Event]) prints\n"
+     "                      them, at the beginning of a line or behind what a log puts in front; "
+     "other lines of\n"
+     "                      a log are counted and passed over. There must be an event of seq_trace "
+     "in it, if no\n"
+     "                      collector wrote it\n"
+     "  -o NAME             the name of the trace\n"};
+text("audit") ->
+    {"audit NAME [OPTION ..]",
+     "Says whether the events of a trace fit together, and what is missing. The run that shows it "
+     "is kept\n"
+     "in NAME.answer, which `seqaudit check' confirms.\n\n"
+     "  --whole             print all events and the acts of the run as well\n"
+     "  --parts             if resets divide the trace, print all that was found out of each part\n"
+     "  --each-label        audit the events of each label by themselves, side by side, with a "
+     "line for each; no\n"
+     "                      NAME.answer is kept\n"
+     "  --json              print the outcome as JSON; with --each-label a line for each label. "
+     "`unreported' has\n"
+     "                      the events that are known by others or were found to complete the "
+     "trace, `unreceived'\n"
+     "                      the sends whose receive another event probably follows\n"
+         ++ cuts(label)};
+text("chart") ->
+    {"chart NAME [--label TERM] [OPTION ..]\n       seqaudit-node chart NAME --html FILE [OPTION "
+     "..]\n"
+     "       seqaudit-node chart NAME --mermaid FILE | --perfetto FILE | --otlp FILE [OPTION ..]",
+     "Prints the messages of a label, with what caused each, and draws them; or makes a page of "
+     "all labels.\n\n"
+     "  --label TERM        the label; a trace with one label needs none\n"
+     "  --svg FILE          draw it, for a document, up to 2,000 rows\n"
+     "  --html FILE         make a page for a browser, with all labels; it needs no --label\n"
+     "  --mermaid FILE      write a sequence diagram of Mermaid, up to 500 events\n"
+     "  --perfetto FILE     write a trace for Perfetto or chrome://tracing; it needs times\n"
+     "  --otlp FILE         write OpenTelemetry's JSON, a span for each message below its cause; "
+     "it needs times\n"
+     "                      These three take the one label, or all without --label.\n"
+         ++ cuts(no_label)};
+text("why") ->
+    {"why NAME PROCESS#NUMBER [OPTION ..]",
+     "Says what caused an event, back to where the trace begins.\n\n"
+     "  PROCESS#NUMBER      the event, by its name in audits and charts, as shop#2; or --event "
+     "PROCESS#NUMBER\n"
+     "  --effects           say what the event caused instead\n"
+     "  --json              print the events as JSON\n" ++ cuts(label)};
+text("times") ->
+    {"times NAME [OPTION ..]",
+     "Says how long messages took, by pair of processes and by kind of message, and how long "
+     "labels took; the\n"
+     "slowest first. It needs NAME.times.\n\n"
+     "  --label TERM        this label alone, and what its last event waited for, step by step\n"
+     "  --json              print all of it as JSON, times in nanoseconds\n" ++ cuts(no_label)}.
+
+cuts(Label) ->
+    "\nTo look at a part of the trace:\n" ++
+     lists:append(["  --label TERM        events with this label; several times for several "
+                   "labels\n"
+                   || Label =:= label]) ++
+     "  --process NAME      events of this process; several times for several processes\n"
+     "  --from SECONDS, --to SECONDS\n"
+     "                      events of this time, counted from the first event; it needs "
+     "NAME.times\n".

@@ -1,0 +1,111 @@
+%% @doc Where a command writes: standard output and standard error, in UTF-8 whatever the locale is,
+%% with control characters escaped.
+%%
+%% If whoever reads is gone, as `head' is once it has its lines, the command ends quietly, as others
+%% do that a signal ends then. Erlang's own processes for these files would take the whole system
+%% down, with a crash dump.
+-module(seqaudit_output).
+
+-export([open/1, flush/0]).
+
+%% What shells report of a command that such a signal ended: 128 and the signal's number.
+-define(BROKEN_PIPE, 141).
+-define(SYSTEM, 4).
+-define(DRAIN_MS, 5).
+
+-type closed() :: halt | stop.
+%% What happens when nobody reads any more: the command halts, or it is asked to stop, as by a
+%% signal.
+
+%% @doc From now on what the caller, and whoever it starts, writes to its group leader and to
+%% `standard_error' goes there.
+-spec open(closed()) -> ok.
+open(Closed) ->
+    Opened = [spawn_link(fun() -> open(File, Closed) end) || File <- [1, 2]],
+    [Output, Errors] = Opened,
+    true = group_leader(Output, self()),
+    _ = try unregister(standard_error) catch error:badarg -> none end,
+    true = register(standard_error, Errors),
+    ok.
+
+%% @doc Waits until all that was written has gone out.
+-spec flush() -> ok.
+flush() ->
+    _ = [begin
+             Flushed = monitor(process, Output),
+             Output ! {flush, self(), Flushed},
+             receive
+                 {Flushed, ok} -> demonitor(Flushed, [flush]);
+                 {'DOWN', Flushed, process, _, _} -> true
+             end
+         end || Output <- [group_leader(), whereis(standard_error)]],
+    ok.
+
+open(File, Closed) ->
+    process_flag(trap_exit, true),
+    serve(open_port({fd, File, File}, [out, binary]), Closed).
+
+serve(Port, Closed) ->
+    receive
+        {io_request, From, ReplyAs, Request} ->
+            From ! {io_reply, ReplyAs, reply(Request, Port)},
+            serve(Port, Closed);
+        {'EXIT', Port, Reason} ->
+            ok = closed(Closed, Reason),
+            serve(none, Closed);
+        {flush, From, Flushed} ->
+            Now = case drained(Port) of
+                      ok -> Port;
+                      {gone, Reason} ->
+                          ok = closed(Closed, Reason),
+                          none
+                  end,
+            From ! {Flushed, ok},
+            serve(Now, Closed);
+        {'EXIT', _, Reason} ->
+            exit(Reason)
+    end.
+
+%% What the file hasn't taken yet is held by the port.
+drained(none) -> ok;
+drained(Port) ->
+    case erlang:port_info(Port, queue_size) of
+        {queue_size, 0} -> ok;
+        _ ->
+            receive {'EXIT', Port, Reason} -> {gone, Reason}
+            after ?DRAIN_MS -> drained(Port)
+            end
+    end.
+
+closed(stop, _) ->
+    seqaudit_signals:output_closed();
+closed(halt, epipe) ->
+    halt(?BROKEN_PIPE, [{flush, false}]);
+closed(halt, Reason) ->
+    _ = try
+            io:format(standard_error, "seqaudit-node: the output can't be written: ~ts~n",
+                      [file:format_error(Reason)])
+        catch
+            _:_ -> unsaid
+        end,
+    halt(?SYSTEM).
+
+reply({put_chars, Encoding, Characters}, Port) ->
+    write(unicode:characters_to_binary(Characters, Encoding), Port);
+reply({put_chars, Encoding, Module, Function, Arguments}, Port) ->
+    write(unicode:characters_to_binary(apply(Module, Function, Arguments), Encoding), Port);
+reply({requests, Requests}, Port) ->
+    lists:foldl(fun(Request, _) -> reply(Request, Port) end, ok, Requests);
+reply({setopts, _}, _Port) -> ok;
+reply(getopts, _Port) -> [{binary, false}, {encoding, unicode}];
+reply(_, _Port) -> {error, enotsup}.
+
+%% Once the port is closed what is written is lost.
+write(_, none) -> ok;
+write(Bytes, Port) when is_binary(Bytes) ->
+    try port_command(Port, seqaudit_shown:escaped(Bytes)) of
+        true -> ok
+    catch
+        error:badarg -> ok
+    end;
+write(_, _Port) -> {error, put_chars}.

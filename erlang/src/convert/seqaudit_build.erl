@@ -1,0 +1,341 @@
+%% @doc Takes collected events in, one by one, in little memory.
+%%
+%% An event becomes a record of a fixed size in one binary: numbers for its label, parties and
+%% message, its serial and its time. The terms themselves are in tables, each once. So a million
+%% events take some tens of megabytes beside their different messages. Some events make a part, in
+%% which terms have numbers of their own. A part may be made in another process, and given the
+%% numbers of the tables there; only giving them goes from part to part.
+-module(seqaudit_build).
+
+-include("seqaudit_packed.hrl").
+
+-export([new/0, item/2, context/1, part/2, add/2, number/2, renumber/2, append/2, fold/3]).
+-export_type([build/0, packed/0, collected/0, context/0, found/0, numbers/0]).
+
+%% The greatest count that the text of a bundle has, and the least that a node shows.
+-define(GREATEST, 16#FFFF_FFFF_FFFF_FFFF).
+-define(LEAST, -(1 bsl 59)).
+-define(NANOSECONDS, 1_000_000_000).
+-define(NOWHERE, <<"nonode@nohost">>).
+%% So many entries of each kind that are no events are shown, and so many characters of each.
+-define(SAMPLES, 3).
+-define(SHOWN, 80).
+
+-type packed() :: binary().
+%% Records of events, one behind the other.
+
+-type collected() :: #{node => binary(), facts => seqaudit_events:facts(),
+                       dropped => non_neg_integer(), left => non_neg_integer(), left_at => string(),
+                       own => non_neg_integer(), passed => {Lines :: pos_integer(),
+                                                            First :: string()}}.
+%% A collection without its events.
+
+-type build() :: #build{}.
+
+-type home() :: binary() | unknown.
+
+-opaque context() :: {home(), seqaudit_external:encoded() | none, {integer(), pos_integer()}}.
+%% What events are read by: where they were collected, by which process, and what its clock means.
+
+-record(part, {home :: home(),
+               own :: seqaudit_external:encoded() | none,
+               clock :: {integer(), pos_integer()},
+               packed = <<>> :: packed(),
+               actors = seqaudit_numbers:few() :: seqaudit_numbers:few(),
+               others = seqaudit_numbers:few() :: seqaudit_numbers:few(),
+               labels = seqaudit_numbers:few() :: seqaudit_numbers:few(),
+               values = seqaudit_numbers:few() :: seqaudit_numbers:few(),
+               known = #{} :: #{seqaudit_external:encoded() => seqaudit_events:about()},
+               counts = #{} :: #{atom() => non_neg_integer()},
+               samples = #{} :: #{atom() => [string()]},
+               own_events = 0 :: non_neg_integer()}).
+
+%% Some events, with numbers of their own for their terms.
+
+-record(found, {home :: home(),
+                actors :: [seqaudit_external:encoded()],
+                others :: [seqaudit_external:encoded()],
+                labels :: [seqaudit_external:encoded()],
+                values :: [seqaudit_external:encoded()],
+                known :: #{seqaudit_external:encoded() => seqaudit_events:about()},
+                counts :: #{atom() => non_neg_integer()},
+                samples :: #{atom() => [string()]},
+                own_events :: non_neg_integer()}).
+
+-opaque found() :: #found{}.
+%% What a part has beside its records: above all its terms, in the order of their numbers there.
+
+-opaque numbers() :: {Actors :: tuple(), Others :: tuple(), Labels :: tuple(), Values :: tuple()}.
+%% The numbers of a part's terms in the tables, by their numbers in the part.
+
+%% @doc Nothing taken in yet. The tables end with the process that makes them.
+-spec new() -> build().
+new() ->
+    #build{actors = seqaudit_numbers:new(), others = seqaudit_numbers:new(),
+           labels = seqaudit_numbers:new(), values = seqaudit_numbers:new()}.
+
+%% @doc Goes through the records.
+-spec fold(fun((tuple(), Acc) -> Acc), Acc, packed()) -> Acc.
+fold(Do, Acc, <<?PACKED(Kind, Label, Prev, This, From, To, Value, Time), Rest/binary>>) ->
+    fold(Do, Do({Kind, Label, Prev, This, From, To, Value, Time}, Acc), Rest);
+fold(_Do, Acc, <<>>) ->
+    Acc.
+
+%% @doc What the next events are read by.
+-spec context(build()) -> context().
+context(#build{home = Home, own = Own, clock = Clock}) ->
+    {Home, Own, Clock}.
+
+%% @doc These events alone, packed.
+-spec part([binary()], context()) -> {packed(), found()}.
+part(Events, {Home, Own, Clock}) ->
+    Part = lists:foldl(fun take/2, #part{home = Home, own = Own, clock = Clock}, Events),
+    {Part#part.packed,
+     #found{home = Part#part.home, known = Part#part.known, counts = Part#part.counts,
+            samples = Part#part.samples, own_events = Part#part.own_events,
+            actors = seqaudit_numbers:terms(Part#part.actors),
+            others = seqaudit_numbers:terms(Part#part.others),
+            labels = seqaudit_numbers:terms(Part#part.labels),
+            values = seqaudit_numbers:terms(Part#part.values)}}.
+
+%% @doc Takes a part in.
+-spec add({packed(), found()}, build()) -> build().
+add({Packed, Found}, Build) ->
+    {Numbers, Numbered} = number(Found, Build),
+    append(renumber(Packed, Numbers), Numbered).
+
+%% @doc Takes in what a part has beside its records. Every term gets the number that it gets if the
+%% events come one by one.
+-spec number(found(), build()) -> {numbers(), build()}.
+number(Found, Build) ->
+    Numbers = {numbers(Found#found.actors, Build#build.actors),
+               numbers(Found#found.others, Build#build.others),
+               numbers(Found#found.labels, Build#build.labels), numbers(Found#found.values,
+                                                                        Build#build.values)},
+    Added = Build#build{home = Found#found.home,
+                        known = maps:merge(Found#found.known, Build#build.known),
+                        counts = maps:merge_with(fun(_, Before, More) -> Before + More end,
+                                                 Build#build.counts, Found#found.counts),
+                        samples = maps:merge_with(fun(_, Before,
+                                                      More) -> first_samples(More ++ Before) end,
+                                                  Build#build.samples, Found#found.samples)},
+    case Found#found.own_events of
+        0 -> {Numbers, Added};
+        Own -> {Numbers, add(own, Own, Added)}
+    end.
+
+numbers(Terms, Table) ->
+    list_to_tuple(seqaudit_numbers:numbers(Terms, Table)).
+
+%% @doc The records of a part with the numbers of the tables.
+-spec renumber(packed(), numbers()) -> packed().
+renumber(Packed, {Actors, Others, Labels, Values}) ->
+    Parties = {Actors, Others},
+    << <<?PACKED(Kind, (element(Label + 1, Labels)), Prev, This,
+                 (renumbered(From, Parties)), (renumbered(To, Parties)),
+                 (element(Value + 1, Values)), Time)>>
+       || <<?PACKED(Kind, Label, Prev, This, From, To, Value, Time)>> <= Packed >>.
+
+%% @doc Puts records behind those that are there.
+-spec append(packed(), build()) -> build().
+append(Records, #build{packed = Packed} = Build) ->
+    Build#build{packed = <<Packed/binary, Records/binary>>}.
+
+renumbered(?NOBODY, _) -> ?NOBODY;
+renumbered(Party, {_, Others})
+  when Party >= ?OTHER -> ?OTHER bor element(Party - ?OTHER + 1, Others);
+renumbered(Party, {Actors, _}) -> element(Party + 1, Actors).
+
+%% @doc Takes one item of a file in.
+-spec item(seqaudit_events:item(), build()) -> build().
+item(collection, #build{collections = Before} = Build) ->
+    Build#build{collections = [#{facts => #{}} | Before], home = unknown, own = none,
+                clock = {0, ?NANOSECONDS}};
+item({facts, Facts}, #build{collections = [Now | Before], known = Known} = Build) ->
+    Kept = maps:merge(maps:get(facts, Now), maps:remove(processes, Facts)),
+    Build#build{collections = [Now#{facts => Kept} | Before],
+                known = lists:foldl(fun learn/2, Known, maps:get(processes, Facts, [])),
+                home = maps:get(node, Kept, Build#build.home),
+                own = maps:get(collector, Kept, none),
+                clock = maps:get(clock, Kept, Build#build.clock)};
+item({dropped, Count}, Build) ->
+    add(dropped, Count, Build);
+item({left, Bytes}, Build) ->
+    add(left, Bytes, Build);
+item({left, Bytes, Where}, Build) ->
+    know(left_at, Where, add(left, Bytes, Build));
+item({passed, Lines, First}, Build) ->
+    know(passed, {Lines, First}, Build);
+item(stray, #build{counts = Counts} = Build) ->
+    Build#build{counts = more(strays, Counts)};
+item({stray, Where, Term}, #build{counts = Counts, samples = Samples} = Build) ->
+    Kind = stray_kind(Term),
+    Build#build{counts = more(Kind, Counts),
+                samples = sampled(Kind, [Where, ": ", shown(Term)], Samples)};
+item({event, Bytes}, Build) ->
+    add(part([Bytes], context(Build)), Build).
+
+%% What is asked last is best, but a name that a process had stays.
+learn({Pid, About}, Known) ->
+    maps:update_with(Pid, fun(Before) -> maps:merge(Before, About) end, About, Known).
+
+add(What, Count, #build{collections = [Now | Before]} = Build) ->
+    Build#build{collections = [Now#{What => maps:get(What, Now, 0) + Count} | Before]}.
+
+know(What, Value, #build{collections = [Now | Before]} = Build) ->
+    Build#build{collections = [Now#{What => Value} | Before]}.
+
+more(What, Counts) -> Counts#{What => maps:get(What, Counts, 0) + 1}.
+
+count(What, #part{counts = Counts} = Part) -> Part#part{counts = more(What, Counts)}.
+
+%% An entry that is no event. One that begins as those of seq_trace do is something that the trace
+%% lacks.
+stray(Bytes, #part{samples = Samples} = Part) ->
+    Kind = stray_kind(Bytes),
+    (count(Kind, Part))#part{samples = case Samples of
+                                           #{Kind := [_, _, _]} -> Samples;
+                                           #{} -> sampled(Kind, shown(Bytes), Samples)
+                                       end}.
+
+stray_kind(Bytes) ->
+    case seqaudit_external:tuple(Bytes) of
+        [First | _] ->
+            case seqaudit_external:view(First) of
+                {atom, <<"seq_trace">>} -> no_events;
+                _ -> strays
+            end;
+        _ -> strays
+    end.
+
+sampled(Kind, Text, Samples) ->
+    Samples#{Kind => first_samples([lists:flatten(Text) | maps:get(Kind, Samples, [])])}.
+
+%% The first ones are at the end.
+first_samples(Samples) -> lists:nthtail(max(0, length(Samples) - ?SAMPLES), Samples).
+
+%% Its letters may be none.
+shown(Bytes) ->
+    try seqaudit_terms:short(seqaudit_terms:encoded(Bytes), ?SHOWN)
+    catch error:_ -> "an entry that can't be printed"
+    end.
+
+%% An event of a part.
+take(Bytes, Part) ->
+    case seqaudit_external:event(Bytes) of
+        {ok, Event} ->
+            case event(Event, Part) of
+                stray -> stray(Bytes, Part);
+                Taken -> Taken
+            end;
+        other ->
+            stray(Bytes, Part);
+        Unread ->
+            count(Unread, Part)
+    end.
+
+event({_, _, {Prev, This}, _, _, _, _}, _Part)
+  when Prev > ?GREATEST; This > ?GREATEST; Prev < ?LEAST; This < ?LEAST ->
+    stray;
+event({_, _, _, From, To, _, _} = Event, #part{home = unknown} = Part) ->
+    event(Event, Part#part{home = home(From, To)});
+event({print, _, _, From, _, _, _} = Event, Part) ->
+    place(Event, party(From, Part), none, Part);
+event({_, _, _, From, To, _, _} = Event, Part) ->
+    place(Event, party(From, Part), party(To, Part), Part).
+
+%% Events that don't say where they were collected were so where their first process lives.
+home(From, To) ->
+    case [Node || Party <- [From, To], Node <- node_of(seqaudit_external:view(Party))] of
+        [Node | _] -> Node;
+        [] -> ?NOWHERE
+    end.
+
+node_of({process, Node, _, _}) -> [Node];
+node_of({first, Process, _}) -> node_of(seqaudit_external:view(Process));
+node_of(_) -> [].
+
+%% A name without a node is one of the node that reports it. `ttb' writes a process as a triple, in
+%% which is what it is called.
+party(<<88, _/binary>> = Process, _Part) -> {actor, Process, none};
+party(Bytes, #part{home = Home}) ->
+    case seqaudit_external:view(Bytes) of
+        {port, _, _} -> {actor, Bytes, none};
+        {reference, _, _} -> {other, Bytes, none};
+        {name, _, _} -> {other, Bytes, none};
+        {atom, Name} -> {other, seqaudit_external:name(Name, Home), none};
+        {first, First, Info} -> party_of_ttb(seqaudit_external:view(First), First, Info);
+        other -> stray
+    end.
+
+party_of_ttb({Kind, _, _, _}, First, Info) when Kind =:= process -> {actor, First, Info};
+party_of_ttb({port, _, _}, First, _Info) -> {actor, First, none};
+party_of_ttb(_, _, _) -> stray.
+
+place(_Event, From, To, _Part) when From =:= stray; To =:= stray ->
+    stray;
+place(_Event, {_, Own, _}, _To, #part{own = Own} = Part) ->
+    Part#part{own_events = Part#part.own_events + 1};
+place(_Event, _From, {_, Own, _}, #part{own = Own} = Part) ->
+    Part#part{own_events = Part#part.own_events + 1};
+place({Kind, Label0, {Prev, This}, _, _, Message, Time0}, From0, To0, Part0) ->
+    Part = called(To0, called(From0, Part0)),
+    {From, Actors0, Others0} = index(From0, Part#part.actors, Part#part.others),
+    {To, Actors, Others} = index(To0, Actors0, Others0),
+    {Label, Labels} = seqaudit_numbers:number_few(Label0, Part#part.labels),
+    {Value, Values} = seqaudit_numbers:number_few(Message, Part#part.values),
+    Time = time(Time0, Part),
+    Packed = <<(Part#part.packed)/binary,
+               ?PACKED((kind(Kind)), Label, Prev, This, From, To, Value, Time)>>,
+    Placed = Part#part{packed = Packed, actors = Actors, others = Others, labels = Labels,
+                       values = Values},
+    case Time of
+        ?NO_TIME -> Placed;
+        _ -> count(timestamps, Placed)
+    end.
+
+kind(send) -> ?SEND;
+kind('receive') -> ?RECEIVE;
+kind(print) -> ?PRINT.
+
+index(none, Actors, Others) ->
+    {?NOBODY, Actors, Others};
+index({actor, Bytes, _}, Actors, Others) ->
+    {Number, More} = seqaudit_numbers:number_few(Bytes, Actors),
+    {Number, More, Others};
+index({other, Bytes, _}, Actors, Others) ->
+    {Number, More} = seqaudit_numbers:number_few(Bytes, Others),
+    {?OTHER bor Number, Actors, More}.
+
+%% What ttb's triple says a process is called.
+called({actor, Pid, Info}, #part{known = Known} = Part)
+  when Info =/= none, not is_map_key(Pid, Known) ->
+    About = case {seqaudit_external:view(Info), seqaudit_external:tuple(Info)} of
+                {{atom, Name}, _} -> #{name => binary:copy(Name)};
+                {_, [_, _, _]} -> #{call => binary:copy(Info)};
+                _ -> #{}
+            end,
+    Part#part{known = Known#{binary:copy(Pid) => About}};
+called(_, Part) ->
+    Part.
+
+%% Nanoseconds since 1970, if the collection says what the node's clock means; else since some
+%% instant of that node.
+time(none, _Part) ->
+    ?NO_TIME;
+time(Time, #part{clock = {Offset, Second}}) ->
+    Value = case seqaudit_external:tuple(Time) of
+                other -> seqaudit_external:number(Time);
+                Parts -> [seqaudit_external:number(Part) || Part <- Parts]
+            end,
+    case Value of
+        Native when is_integer(Native) -> in_range((Native + Offset) * ?NANOSECONDS div Second);
+        [Native, Unique] when is_integer(Native), is_integer(Unique) ->
+            in_range((Native + Offset) * ?NANOSECONDS div Second);
+        [Mega, Seconds, Micro] when is_integer(Mega), is_integer(Seconds), is_integer(Micro) ->
+            in_range(((Mega * 1_000_000 + Seconds) * 1_000_000 + Micro) * 1_000);
+        _ -> ?NO_TIME
+    end.
+
+in_range(Time) when Time > ?NO_TIME, Time < -?NO_TIME -> Time;
+in_range(_) -> ?NO_TIME.

@@ -1,0 +1,692 @@
+%% @doc Terms of a file as bytes of the external term format, which are never made into terms.
+%%
+%% A file of events may be damaged, or written by an enemy. `binary_to_term/1' would make atoms of
+%% what it says, and of a small file terms that fill the memory. So a term stays the bytes that it
+%% is, without the version byte in front. They are walked once, with a counter and no stack, and put
+%% into one form: equal terms have equal bytes, whichever release of OTP wrote them. The only
+%% exceptions are maps in 1,000 others or more: they keep the order in which their node wrote the
+%% pairs.
+-module(seqaudit_external).
+
+-export([read/1, take/1, from_term/1, to_term/1, atom/1, name/2, view/1, event/1, tuple/1,
+         pairs/1, map/1, list/1, number/1, call/1, about_term/1, part/1, characters/3, request/1]).
+-export_type([encoded/0, view/0, event/0]).
+
+-define(VERSION, 131).
+-define(RECORD, 67).
+-define(NEW_FLOAT, 70).
+-define(BIT_BINARY, 77).
+-define(NEW_PID, 88).
+-define(NEW_PORT, 89).
+-define(NEWER_REFERENCE, 90).
+-define(SMALL_INTEGER, 97).
+-define(INTEGER, 98).
+-define(FLOAT, 99).
+-define(ATOM, 100).
+-define(REFERENCE, 101).
+-define(PORT, 102).
+-define(PID, 103).
+-define(SMALL_TUPLE, 104).
+-define(LARGE_TUPLE, 105).
+-define(NIL, 106).
+-define(STRING, 107).
+-define(LIST, 108).
+-define(BINARY, 109).
+-define(SMALL_BIG, 110).
+-define(LARGE_BIG, 111).
+-define(NEW_FUN, 112).
+-define(EXPORT, 113).
+-define(NEW_REFERENCE, 114).
+-define(SMALL_ATOM, 115).
+-define(MAP, 116).
+-define(ATOM_UTF8, 118).
+-define(SMALL_ATOM_UTF8, 119).
+-define(V4_PORT, 120).
+%% A tag that no release has that was tried is that of a newer one.
+-define(IS_KNOWN(Tag), Tag =:= ?RECORD; Tag =:= ?NEW_FLOAT; Tag =:= ?BIT_BINARY; Tag >= ?NEW_PID,
+        Tag =< ?NEWER_REFERENCE;
+        Tag >= ?SMALL_INTEGER, Tag =< ?MAP; Tag >= ?ATOM_UTF8, Tag =< ?V4_PORT).
+
+%% So many pairs of a map are sorted as a list, which takes far more memory than their bytes; larger
+%% maps are merged of parts that are.
+-define(SORTED_PAIRS, 10_000).
+%% Maps that are so many maps deep have their pairs sorted. Each copies what is in it, and a file
+%% could have millions, one in another.
+-define(SORTED_DEPTH, 1_000).
+%% What the one form of a fun has for its size, which Erlang doesn't look at, and for a process.
+-define(NO_SIZE, 0).
+-define(NO_PROCESS, ?NEW_PID, ?ATOM, 0:16, 0:96).
+%% An atom has at most this many characters.
+-define(ATOM_CHARACTERS, 255).
+%% Whole numbers of more bytes are printed as their size.
+-define(PRINTED_BIG, 500).
+%% Stands in a list of terms for one that this Erlang can't have, since it lacks one of its atoms.
+-define(OPAQUE, '$seqaudit external').
+
+-type encoded() :: binary().
+%% A whole term in its one form.
+
+-type view() :: {process, Node :: binary(), Number :: non_neg_integer(),
+                 Serial :: non_neg_integer()}
+              | {port, Node :: binary(), Number :: non_neg_integer()}
+              | {reference, Node :: binary(), [non_neg_integer()]}
+              | {name, Name :: binary(), Node :: binary()}
+              | {atom, Name :: binary()}
+              | {first, encoded(), encoded()}
+              | other.
+%% What a place for a process may hold: one of these, or `ttb''s triple of it (`first': the
+%% process, and what `ttb' knows of it).
+
+-type event() :: {send | 'receive' | print, Label :: encoded(),
+                  {Prev :: integer(), This :: integer()},
+                  From :: encoded(), To :: encoded(), Message :: encoded(),
+                  Time :: encoded() | none}.
+
+%% @doc The term that these bytes are, with the version byte in front and nothing behind.
+-spec read(binary()) -> {ok, encoded()} | error.
+read(<<?VERSION, Bytes/binary>>) ->
+    case take(Bytes) of
+        {ok, Term, <<>>} -> {ok, Term};
+        _ -> error
+    end;
+read(_) ->
+    error.
+
+%% @doc The first term of these bytes, and what follows it.
+-spec take(binary()) -> {ok, encoded(), binary()} | error.
+take(Bytes) ->
+    try one(Bytes) of
+        {Term, Rest} -> {ok, Term, Rest}
+    catch
+        throw:damaged -> error;
+        throw:{newer, _} -> error
+    end.
+
+%% @doc The bytes of a term of this Erlang.
+-spec from_term(term()) -> encoded().
+from_term({?OPAQUE, Term}) when is_binary(Term) -> Term;
+from_term(Term) ->
+    {ok, Encoded} = read(term_to_binary(Term)),
+    Encoded.
+
+%% @doc The term, if this Erlang has all of its atoms; no atom is made.
+-spec to_term(encoded()) -> term().
+to_term(Encoded) ->
+    try
+        binary_to_term(<<?VERSION, Encoded/binary>>, [safe])
+    catch
+        error:badarg -> {?OPAQUE, Encoded}
+    end.
+
+%% @doc The bytes of an atom of this name, which is UTF-8 of at most 255 characters.
+-spec atom(binary()) -> encoded().
+atom(Name) ->
+    case is_ascii(Name) of
+        true -> <<?ATOM, (byte_size(Name)):16, Name/binary>>;
+        false -> <<?ATOM_UTF8, (byte_size(Name)):16, Name/binary>>
+    end.
+
+%% @doc The bytes of a registered name of a node.
+-spec name(binary(), binary()) -> encoded().
+name(Name, Node) ->
+    <<?SMALL_TUPLE, 2, (atom(Name))/binary, (atom(Node))/binary>>.
+
+%% A term in its one form already, as OTP 25 writes nearly all, is a part of the bytes that are
+%% there.
+one(Bytes) ->
+    case skip(Bytes, 1) of
+        seldom ->
+            walk(Bytes, 1, 0, <<>>);
+        Left ->
+            Size = byte_size(Bytes) - Left,
+            <<Term:Size/binary, Rest/binary>> = Bytes,
+            {Term, Rest}
+    end.
+
+%% How many bytes are left behind so many terms, or that one of them isn't in its one form. The
+%% walks count the terms that are still to come, so that a deep term needs no stack. What a length
+%% says is taken from the bytes that are there, and nothing is made for it in advance.
+skip(<<Rest/binary>>, 0) -> byte_size(Rest);
+skip(<<?SMALL_INTEGER, _, Rest/binary>>, Left) -> skip(Rest, Left - 1);
+skip(<<?INTEGER, _:32, Rest/binary>>, Left) -> skip(Rest, Left - 1);
+skip(<<?ATOM, Size:16, Rest/binary>>, Left) -> skip_ascii(Rest, Size, 0, Left);
+skip(<<?SMALL_TUPLE, Arity, Rest/binary>>, Left) -> skip(Rest, Left - 1 + Arity);
+skip(<<?NIL, Rest/binary>>, Left) -> skip(Rest, Left - 1);
+skip(<<?STRING, Size:16, _:Size/binary, Rest/binary>>, Left) -> skip(Rest, Left - 1);
+skip(<<?LIST, Length:32, Rest/binary>>, Left) -> skip(Rest, Left + Length);
+skip(<<?BINARY, Size:32, _:Size/binary, Rest/binary>>, Left) -> skip(Rest, Left - 1);
+skip(<<?NEW_PID, ?ATOM, Size:16, Rest/binary>>, Left) -> skip_ascii(Rest, Size, 12, Left);
+skip(<<?NEWER_REFERENCE, Words:16, ?ATOM, Size:16, Rest/binary>>, Left) when Words =< 5 ->
+    skip_ascii(Rest, Size, 4 + 4 * Words, Left);
+skip(<<?SMALL_BIG, Size, _, _:Size/binary, Rest/binary>>, Left) -> skip(Rest, Left - 1);
+skip(<<?NEW_FLOAT, _:64, Rest/binary>>, Left) -> skip(Rest, Left - 1);
+skip(<<?MAP, Pairs:32, Rest/binary>>, Left) when Pairs < 2 -> skip(Rest, Left - 1 + 2 * Pairs);
+skip(<<_/binary>>, _) -> seldom.
+
+%% Behind a name of so many bytes come as many more that mean no matter. Four bytes at once are what
+%% Erlang reads fastest.
+skip_ascii(<<Four:32, Rest/binary>>, Size, More, Left)
+  when Size >= 4, Four band 16#80808080 =:= 0 ->
+    skip_ascii(Rest, Size - 4, More, Left);
+skip_ascii(<<Two:16, Rest/binary>>, Size, More, Left) when Size >= 2, Two band 16#8080 =:= 0 ->
+    skip_ascii(Rest, Size - 2, More, Left);
+skip_ascii(<<C, Rest/binary>>, Size, More, Left) when Size > 0, C < 128 ->
+    skip_ascii(Rest, Size - 1, More, Left);
+skip_ascii(<<Rest/binary>>, 0, More, Left) ->
+    skip_bytes(Rest, More, Left);
+skip_ascii(<<_/binary>>, _Size, _More, _Left) ->
+    seldom.
+
+%% The first three lengths are those of an atom, a process and a reference.
+skip_bytes(<<Rest/binary>>, 0, Left) -> skip(Rest, Left - 1);
+skip_bytes(<<_:12/binary, Rest/binary>>, 12, Left) -> skip(Rest, Left - 1);
+skip_bytes(<<_:16/binary, Rest/binary>>, 16, Left) -> skip(Rest, Left - 1);
+skip_bytes(<<_:4/binary, Rest/binary>>, More, Left)
+  when More >= 4 -> skip_bytes(Rest, More - 4, Left);
+skip_bytes(<<_/binary>>, _More, _Left) -> seldom.
+
+walk(<<Rest/binary>>, 0, _Depth, Done) ->
+    {Done, Rest};
+walk(<<?SMALL_INTEGER, N, Rest/binary>>, Left, Depth, Done) ->
+    walk(Rest, Left - 1, Depth, <<Done/binary, ?SMALL_INTEGER, N>>);
+walk(<<?ATOM, Size:16, Name:Size/binary, Rest/binary>>, Left, Depth, Done) ->
+    Atom = latin1_atom(Name),
+    walk(Rest, Left - 1, Depth, <<Done/binary, Atom/binary>>);
+walk(<<?SMALL_ATOM_UTF8, Size, Name:Size/binary, Rest/binary>>, Left, Depth, Done) ->
+    Atom = utf8_atom(Name),
+    walk(Rest, Left - 1, Depth, <<Done/binary, Atom/binary>>);
+walk(<<?SMALL_TUPLE, Arity, Rest/binary>>, Left, Depth, Done) ->
+    walk(Rest, Left - 1 + Arity, Depth, <<Done/binary, ?SMALL_TUPLE, Arity>>);
+walk(<<?NIL, Rest/binary>>, Left, Depth, Done) ->
+    walk(Rest, Left - 1, Depth, <<Done/binary, ?NIL>>);
+walk(<<?LIST, Length:32, Rest/binary>>, Left, Depth, Done) ->
+    walk(Rest, Left + Length, Depth, <<Done/binary, ?LIST, Length:32>>);
+walk(<<?INTEGER, N:32, Rest/binary>>, Left, Depth, Done) ->
+    walk(Rest, Left - 1, Depth, <<Done/binary, ?INTEGER, N:32>>);
+walk(<<?BINARY, Size:32, Bytes:Size/binary, Rest/binary>>, Left, Depth, Done) ->
+    walk(Rest, Left - 1, Depth, <<Done/binary, ?BINARY, Size:32, Bytes/binary>>);
+walk(<<?STRING, Size:16, Bytes:Size/binary, Rest/binary>>, Left, Depth, Done) ->
+    walk(Rest, Left - 1, Depth, <<Done/binary, ?STRING, Size:16, Bytes/binary>>);
+walk(<<?SMALL_BIG, Size, Bytes:(Size + 1)/binary, Rest/binary>>, Left, Depth, Done) ->
+    walk(Rest, Left - 1, Depth, <<Done/binary, ?SMALL_BIG, Size, Bytes/binary>>);
+walk(<<?NEW_FLOAT, Bytes:8/binary, Rest/binary>>, Left, Depth, Done) ->
+    walk(Rest, Left - 1, Depth, <<Done/binary, ?NEW_FLOAT, Bytes/binary>>);
+walk(<<Bytes/binary>>, Left, Depth, Done) ->
+    walk_other(Bytes, Left, Depth, Done).
+
+%% The same where the first term is a map, a large tuple, a fun, or one that has its node's name in
+%% it.
+walk_other(<<?MAP, Pairs:32, Rest/binary>>, Left, Depth, Done)
+  when Pairs > 1, Depth < ?SORTED_DEPTH ->
+    {Sorted, After} = sorted_pairs(Pairs, Rest, Depth + 1),
+    walk(After, Left - 1, Depth, <<Done/binary, ?MAP, Pairs:32, Sorted/binary>>);
+walk_other(<<?MAP, Pairs:32, Rest/binary>>, Left, Depth, Done) ->
+    walk(Rest, Left - 1 + 2 * Pairs, Depth, <<Done/binary, ?MAP, Pairs:32>>);
+walk_other(<<?LARGE_TUPLE, Arity:32, Rest/binary>>, Left, Depth, Done) ->
+    walk(Rest, Left - 1 + Arity, Depth, <<Done/binary, ?LARGE_TUPLE, Arity:32>>);
+%% A native record of OTP 29: its module and name, the names of its fields, and their values.
+walk_other(<<?RECORD, Fields:32, Flag, Rest/binary>>, Left, Depth, Done) ->
+    walk(Rest, Left + 1 + 2 * Fields, Depth, <<Done/binary, ?RECORD, Fields:32, Flag>>);
+walk_other(<<?EXPORT, Rest/binary>>, Left, Depth, Done) ->
+    walk(Rest, Left + 2, Depth, <<Done/binary, ?EXPORT>>);
+walk_other(<<?NEW_FUN, _Size:32, Fixed:21/binary, Free:32, Rest0/binary>>, Left, Depth, Done) ->
+    {Module, Rest1} = take_atom(Rest0),
+    {Index, Rest2} = take_integer(Rest1),
+    {Unique, Rest3} = take_integer(Rest2),
+    Rest = behind_process(Rest3),
+    walk(Rest, Left - 1 + Free, Depth,
+         <<Done/binary, ?NEW_FUN, ?NO_SIZE:32, Fixed/binary, Free:32, Module/binary, Index/binary,
+           Unique/binary,
+           ?NO_PROCESS>>);
+walk_other(<<Bytes/binary>>, Left, Depth, Done) ->
+    {Term, Rest} = without_parts(Bytes),
+    walk(Rest, Left - 1, Depth, <<Done/binary, Term/binary>>).
+
+without_parts(<<?NEW_PID, Rest/binary>>) ->
+    with_node(Rest, 12, fun(Node, Numbers) -> <<?NEW_PID, Node/binary, Numbers/binary>> end);
+without_parts(<<?NEWER_REFERENCE, Words:16, Rest/binary>>) when Words =< 5 ->
+    with_node(Rest, 4 + 4 * Words,
+              fun(Node, Numbers) ->
+                  <<?NEWER_REFERENCE, Words:16, Node/binary, Numbers/binary>> end);
+without_parts(Bytes) ->
+    seldom(Bytes).
+
+%% What is seldom written, and what only older releases write.
+seldom(<<?V4_PORT, Rest0/binary>>) ->
+    with_node(Rest0, 12, fun(Node, Numbers) -> <<?V4_PORT, Node/binary, Numbers/binary>> end);
+seldom(<<?NEW_PORT, Rest0/binary>>) ->
+    with_node(Rest0, 8, fun(Node, Numbers) -> <<?V4_PORT, Node/binary, 0:32, Numbers/binary>> end);
+seldom(<<?PORT, Rest0/binary>>) ->
+    with_node(Rest0, 5, fun(Node, <<Id:32, Creation>>) ->
+                                <<?V4_PORT, Node/binary, Id:64, Creation:32>>
+                        end);
+seldom(<<?PID, Rest0/binary>>) ->
+    with_node(Rest0, 9, fun(Node, <<Numbers:8/binary, Creation>>) ->
+                                <<?NEW_PID, Node/binary, Numbers/binary, Creation:32>>
+                        end);
+seldom(<<?REFERENCE, Rest0/binary>>) ->
+    with_node(Rest0, 5, fun(Node, <<Id:32, Creation>>) ->
+                                <<?NEWER_REFERENCE, 1:16, Node/binary, Creation:32, Id:32>>
+                        end);
+seldom(<<?NEW_REFERENCE, Words:16, Rest0/binary>>) when Words =< 5 ->
+    with_node(Rest0, 1 + 4 * Words,
+              fun(Node, <<Creation, Ids/binary>>) ->
+                      <<?NEWER_REFERENCE, Words:16, Node/binary, Creation:32, Ids/binary>>
+              end);
+seldom(<<?LARGE_BIG, Size:32, Bytes:(Size + 1)/binary, Rest/binary>>) ->
+    {<<?LARGE_BIG, Size:32, Bytes/binary>>, Rest};
+seldom(<<?BIT_BINARY, Size:32, Bits, Bytes:Size/binary, Rest/binary>>) when Bits >= 1, Bits =< 8 ->
+    {<<?BIT_BINARY, Size:32, Bits, Bytes/binary>>, Rest};
+seldom(<<?FLOAT, Text:31/binary, Rest/binary>>) ->
+    [Digits | _] = binary:split(Text, <<0>>),
+    try {<<?NEW_FLOAT, (binary_to_float(Digits)):64/float>>, Rest}
+    catch error:badarg -> throw(damaged)
+    end;
+seldom(<<Tag, _/binary>> = Bytes) when ?IS_KNOWN(Tag) ->
+    take_atom(Bytes);
+seldom(<<Tag, _/binary>>) ->
+    throw({newer, Tag});
+seldom(<<>>) ->
+    throw(damaged).
+
+with_node(Bytes, Size, Make) ->
+    {Node, Rest0} = take_atom(Bytes),
+    case Rest0 of
+        <<Numbers:Size/binary, Rest/binary>> -> {Make(Node, Numbers), Rest};
+        _ -> throw(damaged)
+    end.
+
+take_atom(<<?ATOM, Size:16, Name:Size/binary, Rest/binary>>) -> {latin1_atom(Name), Rest};
+take_atom(<<?SMALL_ATOM, Size, Name:Size/binary, Rest/binary>>) -> {latin1_atom(Name), Rest};
+take_atom(<<?SMALL_ATOM_UTF8, Size, Name:Size/binary, Rest/binary>>) -> {utf8_atom(Name), Rest};
+take_atom(<<?ATOM_UTF8, Size:16, Name:Size/binary, Rest/binary>>) -> {utf8_atom(Name), Rest};
+take_atom(_) -> throw(damaged).
+
+take_integer(<<?SMALL_INTEGER, N, Rest/binary>>) -> {<<?SMALL_INTEGER, N>>, Rest};
+take_integer(<<?INTEGER, N:32, Rest/binary>>) -> {<<?INTEGER, N:32>>, Rest};
+take_integer(_) -> throw(damaged).
+
+behind_process(<<?NEW_PID, Rest/binary>>) -> behind_numbers(take_atom(Rest), 12);
+behind_process(<<?PID, Rest/binary>>) -> behind_numbers(take_atom(Rest), 9);
+behind_process(_) -> throw(damaged).
+
+behind_numbers({_Node, Bytes}, Size) ->
+    case Bytes of
+        <<_:Size/binary, Rest/binary>> -> Rest;
+        _ -> throw(damaged)
+    end.
+
+latin1_atom(Name) when byte_size(Name) > ?ATOM_CHARACTERS -> throw(damaged);
+latin1_atom(Name) ->
+    case is_ascii(Name) of
+        true -> atom(Name);
+        false -> atom(unicode:characters_to_binary(Name, latin1))
+    end.
+
+utf8_atom(Name) ->
+    case is_ascii(Name) orelse is_utf8(Name, ?ATOM_CHARACTERS) of
+        true -> atom(Name);
+        false -> throw(damaged)
+    end.
+
+is_ascii(<<Four:32, Rest/binary>>) when Four band 16#80808080 =:= 0 -> is_ascii(Rest);
+is_ascii(<<C, Rest/binary>>) when C < 128 -> is_ascii(Rest);
+is_ascii(Rest) -> Rest =:= <<>>.
+
+is_utf8(<<>>, _Left) -> true;
+is_utf8(<<_/utf8, Rest/binary>>, Left) when Left > 0 -> is_utf8(Rest, Left - 1);
+is_utf8(_, _) -> false.
+
+sorted_pairs(Pairs, Bytes, Depth) when Pairs =< ?SORTED_PAIRS ->
+    {Sorted, Rest} = sorted(Pairs, Bytes, Depth, []),
+    {iolist_to_binary([[Key, Value] || {Key, Value} <- Sorted]), Rest};
+sorted_pairs(Pairs, Bytes, Depth) ->
+    {Runs, Rest} = runs(Pairs, Bytes, Depth, []),
+    {<< <<Pair/binary>> || <<Size:32, _:32, Pair:Size/binary>> <= merged(Runs) >>, Rest}.
+
+sorted(0, Rest, _Depth, Pairs) ->
+    {lists:sort(Pairs), Rest};
+sorted(Left, Bytes, Depth, Pairs) ->
+    {Key, Rest0} = part(Bytes, Depth),
+    {Value, Rest} = part(Rest0, Depth),
+    sorted(Left - 1, Rest, Depth, [{Key, Value} | Pairs]).
+
+%% Sorted parts of the pairs, each pair behind its size and that of its key.
+runs(0, Rest, _Depth, Runs) ->
+    {Runs, Rest};
+runs(Left, Bytes, Depth, Runs) ->
+    Count = min(Left, ?SORTED_PAIRS),
+    {Sorted, Rest} = sorted(Count, Bytes, Depth, []),
+    Run = << <<(byte_size(Key) + byte_size(Value)):32, (byte_size(Key)):32, Key/binary,
+               Value/binary>>
+             || {Key, Value} <- Sorted >>,
+    runs(Left - Count, Rest, Depth, [Run | Runs]).
+
+merged([Run]) -> Run;
+merged(Runs) -> merged(by_twos(Runs)).
+
+by_twos([One, Other | Runs]) -> [merge(One, Other, <<>>) | by_twos(Runs)];
+by_twos(Runs) -> Runs.
+
+merge(<<>>, Other, Done) -> <<Done/binary, Other/binary>>;
+merge(One, <<>>, Done) -> <<Done/binary, One/binary>>;
+merge(<<Size:32, KeySize:32, Pair:Size/binary, Rest/binary>> = One,
+      <<OtherSize:32, OtherKey:32, OtherPair:OtherSize/binary, OtherRest/binary>> = Other, Done) ->
+    case binary:part(Pair, 0, KeySize) =< binary:part(OtherPair, 0, OtherKey) of
+        true -> merge(Rest, Other, <<Done/binary, Size:32, KeySize:32, Pair/binary>>);
+        false -> merge(One, OtherRest, <<Done/binary, OtherSize:32, OtherKey:32, OtherPair/binary>>)
+    end.
+
+part(Bytes, Depth) ->
+    case skip(Bytes, 1) of
+        seldom ->
+            {Term, Rest} = walk(Bytes, 1, Depth, <<>>),
+            {binary:copy(Term), Rest};
+        Left ->
+            Size = byte_size(Bytes) - Left,
+            <<Term:Size/binary, Rest/binary>> = Bytes,
+            {Term, Rest}
+    end.
+
+%% @doc What replaces a process.
+-spec view(encoded()) -> view().
+view(<<?NEW_PID, Rest0/binary>>) ->
+    {Node, <<Number:32, Serial:32, _Creation:32>>} = atom_name(Rest0),
+    {process, Node, Number, Serial};
+view(<<?V4_PORT, Rest0/binary>>) ->
+    {Node, <<Number:64, _Creation:32>>} = atom_name(Rest0),
+    {port, Node, Number};
+view(<<?NEWER_REFERENCE, _:16, Rest0/binary>>) ->
+    {Node, <<_Creation:32, Ids/binary>>} = atom_name(Rest0),
+    {reference, Node, lists:reverse([Id || <<Id:32>> <= Ids])};
+view(<<?SMALL_TUPLE, 2, Rest0/binary>>) ->
+    case atom_name(Rest0) of
+        {Name, Rest} ->
+            case atom_name(Rest) of
+                {Node, <<>>} -> {name, Name, Node};
+                _ -> other
+            end;
+        none -> other
+    end;
+view(<<?SMALL_TUPLE, 3, Rest/binary>>) ->
+    {First, After} = one(Rest),
+    {Info, _Node} = one(After),
+    {first, First, Info};
+view(Bytes) ->
+    case atom_name(Bytes) of
+        {Name, <<>>} -> {atom, Name};
+        _ -> other
+    end.
+
+atom_name(<<?ATOM, Size:16, Name:Size/binary, Rest/binary>>) -> {Name, Rest};
+atom_name(<<?ATOM_UTF8, Size:16, Name:Size/binary, Rest/binary>>) -> {Name, Rest};
+atom_name(_) -> none.
+
+%% @doc The event that the bytes of a term are; `other' if they are another term, and `newer' if a
+%% tag in them is of a release of OTP that is newer than this application.
+-spec event(binary()) -> {ok, event()} | other | newer | damaged.
+event(Bytes) ->
+    try event_of(Bytes)
+    catch
+        throw:damaged -> damaged;
+        throw:{newer, _} -> newer
+    end.
+
+%% OTP 25 and 27 write short atoms with another tag.
+event_of(<<?SMALL_TUPLE, Arity, ?ATOM, 9:16, "seq_trace", Rest/binary>> = Bytes)
+  when Arity =:= 3; Arity =:= 4 ->
+    event_of(Rest, Arity, Bytes);
+event_of(<<?SMALL_TUPLE, Arity, ?SMALL_ATOM_UTF8, 9, "seq_trace", Rest/binary>> = Bytes)
+  when Arity =:= 3; Arity =:= 4 ->
+    event_of(Rest, Arity, Bytes);
+event_of(Bytes) ->
+    other(Bytes).
+
+event_of(Rest0, Arity, Bytes) ->
+    {Label, Rest1} = one(Rest0),
+    case Rest1 of
+        <<?SMALL_TUPLE, 5, ?ATOM, Size:16, Kind:Size/binary, Rest/binary>> ->
+            event_body(event_kind(Kind), Rest, Arity, Label, Bytes);
+        <<?SMALL_TUPLE, 5, ?SMALL_ATOM_UTF8, Size, Kind:Size/binary, Rest/binary>> ->
+            event_body(event_kind(Kind), Rest, Arity, Label, Bytes);
+        _ ->
+            other(Bytes)
+    end.
+
+event_kind(<<"send">>) -> send;
+event_kind(<<"receive">>) -> 'receive';
+event_kind(<<"print">>) -> print;
+event_kind(_) -> none.
+
+event_body(Kind, <<?SMALL_TUPLE, 2, Rest0/binary>>, Arity, Label, Bytes) when Kind =/= none ->
+    {Prev, Rest1} = count(Rest0),
+    {This, Rest2} = count(Rest1),
+    {From, Rest3} = one(Rest2),
+    {To, Rest4} = one(Rest3),
+    {Message, Time} = message(Arity, Rest4),
+    case Prev =:= other orelse This =:= other of
+        true -> other(Bytes);
+        false -> {ok, {Kind, Label, {Prev, This}, From, To, Message, Time}}
+    end;
+event_body(_Kind, _, _Arity, _Label, Bytes) ->
+    other(Bytes).
+
+%% Nobody knows where a term of a newer release ends, so such a message has all bytes that are left,
+%% and no time.
+message(Arity, Bytes) ->
+    try one(Bytes) of
+        {Message, Rest} -> {Message, time(Arity, Rest)}
+    catch
+        throw:{newer, _} -> {Bytes, none}
+    end.
+
+%% A number of a serial: a node shows the lowest 60 bits of its counters with their sign.
+count(<<?SMALL_INTEGER, N, Rest/binary>>) -> {N, Rest};
+count(<<?INTEGER, N:32/signed, Rest/binary>>) -> {N, Rest};
+count(<<?SMALL_BIG, Size, Sign, N:Size/little-unit:8, Rest/binary>>) -> {signed(Sign, N), Rest};
+count(Bytes) ->
+    {_, Rest} = one(Bytes),
+    {other, Rest}.
+
+other(Bytes) ->
+    case one(Bytes) of
+        {_, <<>>} -> other;
+        _ -> damaged
+    end.
+
+time(3, <<>>) -> none;
+time(4, Bytes) ->
+    case one(Bytes) of
+        {Time, <<>>} -> Time;
+        _ -> throw(damaged)
+    end;
+time(_, _) -> throw(damaged).
+
+%% @doc The whole number of at most 64 bits that this is.
+-spec number(encoded()) -> integer() | other.
+number(<<?SMALL_INTEGER, N>>) -> N;
+number(<<?INTEGER, N:32/signed>>) -> N;
+number(<<?SMALL_BIG, Size, 0, N:Size/little-unit:8>>) when Size =< 8 -> N;
+number(<<?SMALL_BIG, Size, 1, N:Size/little-unit:8>>) when Size =< 8 -> -N;
+number(_) -> other.
+
+%% @doc The function that a triple of its module, name and arity means.
+-spec call(encoded()) -> {Module :: binary(), Function :: binary(), Arity :: integer()} | other.
+call(Term) ->
+    case tuple(Term) of
+        [First, Second, Third] ->
+            case {view(First), view(Second), number(Third)} of
+                {{atom, Module}, {atom, Function}, Arity}
+                  when is_integer(Arity) -> {Module, Function, Arity};
+                _ -> other
+            end;
+        _ -> other
+    end.
+
+%% @doc The elements of a tuple.
+-spec tuple(encoded()) -> [encoded()] | other.
+tuple(<<?SMALL_TUPLE, Arity, Rest/binary>>) -> elements(Arity, Rest);
+tuple(<<?LARGE_TUPLE, Arity:32, Rest/binary>>) -> elements(Arity, Rest);
+tuple(_) -> other.
+
+elements(0, <<>>) -> [];
+elements(Left, Bytes) ->
+    {Element, Rest} = one(Bytes),
+    [Element | elements(Left - 1, Rest)].
+
+%% @doc The keys of a map, which are atoms, with their values. A pair with another key isn't among
+%% them.
+-spec pairs(encoded()) -> #{binary() => encoded()} | other.
+pairs(<<?MAP, Pairs:32, Rest/binary>>) -> pairs(Pairs, Rest, #{});
+pairs(_) -> other.
+
+pairs(0, _Rest, Done) -> Done;
+pairs(Left, Bytes, Done) ->
+    {Key, Rest0} = one(Bytes),
+    {Value, Rest} = one(Rest0),
+    case atom_name(Key) of
+        {Name, <<>>} -> pairs(Left - 1, Rest, Done#{Name => Value});
+        _ -> pairs(Left - 1, Rest, Done)
+    end.
+
+%% @doc The pairs of a map.
+-spec map(encoded()) -> [{encoded(), encoded()}].
+map(<<?MAP, Pairs:32, Rest/binary>>) -> map(Pairs, Rest);
+map(_) -> [].
+
+map(0, _Rest) -> [];
+map(Left, Bytes) ->
+    {Key, Rest0} = one(Bytes),
+    {Value, Rest} = one(Rest0),
+    [{Key, Value} | map(Left - 1, Rest)].
+
+%% @doc The elements of a list.
+-spec list(encoded()) -> [encoded()].
+list(<<?LIST, Length:32, Rest/binary>>) ->
+    lists:droplast(elements(Length + 1, Rest));
+list(_) -> [].
+
+%% @doc What is known of a process as a term.
+-spec about_term(seqaudit_events:about()) -> #{name | call | caller => term()}.
+about_term(About) ->
+    maps:map(fun(name, Name) -> to_term(atom(Name)); (_, Term) -> to_term(Term) end, About).
+
+%% @doc The outermost part of the first term of these bytes: what its elements are read from, or the
+%% whole leaf. Behind a tag of a newer release nothing can be read.
+-spec part(encoded()) -> {tuple | list | map, non_neg_integer(), binary()}
+                       | {record, Module :: binary(), Name :: binary(), Fields :: [binary()],
+                          binary()}
+                       | {string, binary(), binary()} | {leaf, term(),
+                                                         binary()} | {newer, Tag :: byte()}.
+part(<<?SMALL_TUPLE, Arity, Rest/binary>>) -> {tuple, Arity, Rest};
+part(<<?LARGE_TUPLE, Arity:32, Rest/binary>>) -> {tuple, Arity, Rest};
+part(<<?LIST, Length:32, Rest/binary>>) -> {list, Length, Rest};
+part(<<?STRING, Size:16, Bytes:Size/binary, Rest/binary>>) -> {string, Bytes, Rest};
+part(<<?MAP, Pairs:32, Rest/binary>>) -> {map, Pairs, Rest};
+part(<<?RECORD, Count:32, _Flag, Rest0/binary>>) ->
+    {[Module, Name | Fields], Rest} = atoms(2 + Count, Rest0, []),
+    {record, Module, Name, Fields, Rest};
+part(<<?NIL, Rest/binary>>) -> {leaf, nil, Rest};
+part(<<?SMALL_INTEGER, N, Rest/binary>>) -> {leaf, {integer, N}, Rest};
+part(<<?INTEGER, N:32/signed, Rest/binary>>) -> {leaf, {integer, N}, Rest};
+part(<<?ATOM, Size:16, Name:Size/binary, Rest/binary>>) -> {leaf, {atom, Name}, Rest};
+part(<<?NEW_PID, ?ATOM, Size:16, _:Size/binary, _:12/binary, Rest/binary>> = Bytes) ->
+    {leaf, {process, binary:part(Bytes, 0, byte_size(Bytes) - byte_size(Rest))}, Rest};
+part(<<?NEWER_REFERENCE, Words:16, ?ATOM, Size:16, _:Size/binary, _Creation:32, Rest0/binary>>) ->
+    {Ids, Rest} = ids(Words, Rest0, []),
+    {leaf, {reference, Ids}, Rest};
+part(<<?EXPORT, Rest/binary>>) ->
+    {Module, Rest0} = one(Rest),
+    {Function, Rest1} = one(Rest0),
+    {Arity, After} = one(Rest1),
+    {leaf, {export, <<?SMALL_TUPLE, 3, Module/binary, Function/binary, Arity/binary>>}, After};
+part(Bytes) ->
+    try one(Bytes) of
+        {Leaf, Rest} -> {leaf, leaf(Leaf), Rest}
+    catch
+        throw:{newer, Tag} -> {newer, Tag}
+    end.
+
+%% The names of so many atoms.
+atoms(0, Rest, Names) ->
+    {lists:reverse(Names), Rest};
+atoms(Left, Bytes, Names) ->
+    {Atom, Rest} = take_atom(Bytes),
+    {Name, <<>>} = atom_name(Atom),
+    atoms(Left - 1, Rest, [Name | Names]).
+
+%% The numbers of a reference, last first, as Erlang prints them.
+ids(0, Rest, Ids) -> {Ids, Rest};
+ids(Left, <<Id:32, Rest/binary>>, Ids) -> ids(Left - 1, Rest, [Id | Ids]).
+
+leaf(<<?SMALL_BIG, Size, Sign, N:Size/little-unit:8>>) -> {integer, signed(Sign, N)};
+leaf(<<?LARGE_BIG, Size:32, Sign, N:Size/little-unit:8>>) when Size =< ?PRINTED_BIG ->
+    {integer, signed(Sign, N)};
+leaf(<<?LARGE_BIG, Size:32, _/binary>>) -> {large_integer, Size};
+leaf(<<?NEW_FLOAT, Float/float>>) -> {float, Float};
+leaf(<<?BINARY, _:32, Bytes/binary>>) -> {bits, Bytes};
+leaf(<<?BIT_BINARY, Size:32, Bits, Bytes/binary>>) when Size > 0 ->
+    Whole = 8 * (Size - 1) + Bits,
+    <<Bitstring:Whole/bitstring, _/bitstring>> = Bytes,
+    {bits, Bitstring};
+leaf(<<?NEW_FUN, _:32, _Arity, _:16/binary, Index:32, _Free:32, Rest0/binary>>) ->
+    try
+        {Module, Rest1} = take_atom(Rest0),
+        {Name, <<>>} = atom_name(Module),
+        {_OldIndex, Rest2} = one(Rest1),
+        {Unique, _} = one(Rest2),
+        {function, Name, Index, number(Unique)}
+    of
+        {function, _, _, other} -> other;
+        Function -> Function
+    catch
+        throw:damaged -> other
+    end;
+leaf(Bytes) ->
+    case view(Bytes) of
+        {atom, Name} -> {atom, Name};
+        {process, _, _, _} -> {process, Bytes};
+        {port, _, Number} -> {port, Number};
+        {reference, _, Ids} -> {reference, Ids};
+        _ -> other
+    end.
+
+signed(0, N) -> N;
+signed(_, N) -> -N.
+
+%% @doc The first characters of a list, if all of these are printable and the list is no longer
+%% or goes on.
+-spec characters(non_neg_integer(), binary(), pos_integer()) -> {ok, string()} | other.
+characters(Length, Elements, Most) ->
+    characters(min(Length, Most), Length > Most, Elements, []).
+
+characters(0, true, _Rest, Done) -> printable(lists:reverse(Done));
+characters(0, false, <<?NIL, _/binary>>, Done) -> printable(lists:reverse(Done));
+characters(Left, Longer, <<?SMALL_INTEGER, C, Rest/binary>>, Done) when Left > 0 ->
+    characters(Left - 1, Longer, Rest, [C | Done]);
+characters(Left, Longer, <<?INTEGER, C:32, Rest/binary>>, Done) when Left > 0, C =< 16#10FFFF ->
+    characters(Left - 1, Longer, Rest, [C | Done]);
+characters(_, _, _, _) -> other.
+
+printable(Characters) ->
+    case Characters =/= [] andalso io_lib:printable_unicode_list(Characters) of
+        true -> {ok, Characters};
+        false -> other
+    end.
+
+%% @doc The process and the alias of a request of `gen_server' and its kin, which the reply goes to.
+-spec request(encoded()) -> {Owner :: encoded(), Alias :: encoded()} | none.
+request(<<?SMALL_TUPLE, 3, ?ATOM, 9:16, "$gen_call", ?SMALL_TUPLE, 2, Rest/binary>>) ->
+    {Owner, Tag} = one(Rest),
+    case Tag of
+        <<?LIST, 1:32, ?ATOM, 5:16, "alias", Alias/binary>> -> {Owner, alias_in(Alias)};
+        <<?LIST, _:32, ?LIST, 1:32, ?ATOM, 5:16, "alias", Alias/binary>> ->
+            {Owner, alias_in(Alias)};
+        _ -> none
+    end;
+request(_) ->
+    none.
+
+alias_in(Bytes) ->
+    {Alias, _} = one(Bytes),
+    Alias.

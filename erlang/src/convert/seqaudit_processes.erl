@@ -1,0 +1,141 @@
+%% @doc Gives each party of a trace a process of the bundle, and a name that people read.
+%%
+%% A process keeps its number: `<0.80.0>' of the only node stays `<0.80.0>'. Nodes are numbered from
+%% 0 by name, so that a process has one number from whichever node it is seen. If another process
+%% has the number (after 32,768 spawns Erlang counts on in the pid's last number) or it is above
+%% 65,535, and for what is no process, a number is taken that nobody has, from 65,535 downwards.
+-module(seqaudit_processes).
+
+-export([number/1, further_nodes/1, is_own/2, home/1, spell/1, name/3, what/2]).
+-export_type([party/0, pid_number/0, numbers/0]).
+
+-define(GREATEST, 65_535).
+
+-type party() :: seqaudit_external:encoded().
+%% Who sends or receives, by its bytes: a process, a port, an alias that nothing resolves, or a name
+%% with its node.
+
+-type pid_number() :: {Node :: 0..?GREATEST, Number :: 0..?GREATEST}.
+-type numbers() :: #{party() => pid_number()}.
+
+%% @doc The numbers of the parties, which are given in the order of their first events. A party that
+%% no number is left for has none.
+-spec number([party()]) -> numbers().
+number(Parties) ->
+    Names = lists:usort([home(Party) || Party <- Parties]),
+    Nodes = maps:from_list(lists:zip(lists:sublist(Names, ?GREATEST + 1),
+                                     lists:seq(0, min(length(Names) - 1, ?GREATEST)))),
+    Here = [Party || Party <- Parties, is_map_key(home(Party), Nodes)],
+    {Own, Rest} = own_numbers(lists:usort([{maps:get(Node, Nodes), {Number, Serial}, Pid}
+                                           || Pid <- Here,
+                                              {process, Node, Number, Serial} <- [view(Pid)]])),
+    Others = [Party || Party <- Here, element(1, view(Party)) =/= process],
+    Wanting = Rest ++ [{maps:get(home(Party), Nodes), Party} || Party <- Others],
+    {Numbers, _} = lists:foldl(fun free_number/2, {Own, {taken(Own), #{}, length(Names)}}, Wanting),
+    Numbers.
+
+%% @doc The node numbers that aren't the first of their node, with its name.
+-spec further_nodes([{pid_number(), party()}]) -> [{Node :: 0..?GREATEST, Name :: binary()}].
+further_nodes(Listed) ->
+    Homes = maps:from_list([{Node, Party} || {{Node, _}, Party} <- Listed]),
+    {Further, _} = lists:foldl(fun({Node, Party}, {Found, Names}) ->
+                                       Name = home(Party),
+                                       {[{Node, Name} || is_map_key(Name, Names)]
+                                        ++ Found, Names#{Name => Node}}
+                               end, {[], #{}}, lists:sort(maps:to_list(Homes))),
+    lists:reverse(Further).
+
+%% The first process with a number in range keeps it; the others are left over.
+own_numbers(Sorted) ->
+    {Own, Rest, _} =
+        lists:foldl(fun({Node, {Number, _}, Pid}, {Own, Rest, Taken}) ->
+                            Wanted = {Node, Number},
+                            case Number > ?GREATEST orelse is_map_key(Wanted, Taken) of
+                                true -> {Own, [{Node, Pid} | Rest], Taken};
+                                false -> {Own#{Pid => Wanted}, Rest, Taken#{Wanted => Pid}}
+                            end
+                    end, {#{}, [], #{}}, Sorted),
+    {Own, lists:reverse(Rest)}.
+
+taken(Numbers) ->
+    maps:from_list([{Number, Party} || {Party, Number} <- maps:to_list(Numbers)]).
+
+%% `Next' has where the free numbers of a node go on, and `Further' is the first node number that no
+%% node has.
+free_number({Node, Party}, {Numbers, {Taken, Next, Further}}) ->
+    {At, From} = maps:get(Node, Next, {Node, ?GREATEST}),
+    case free(At, From, Taken) of
+        none when Further > ?GREATEST ->
+            {Numbers, {Taken, Next#{Node => {At, -1}}, Further}};
+        none ->
+            free_number({Node, Party},
+                        {Numbers, {Taken, Next#{Node => {Further, ?GREATEST}}, Further + 1}});
+        N ->
+            {Numbers#{Party => {At, N}}, {Taken, Next#{Node => {At, N - 1}}, Further}}
+    end.
+
+free(_Node, N, _Taken) when N < 0 -> none;
+free(Node, N, Taken) when is_map_key({Node, N}, Taken) -> free(Node, N - 1, Taken);
+free(_Node, N, _Taken) -> N.
+
+%% @doc The name of a party's node.
+-spec home(party()) -> binary().
+home(Party) ->
+    case view(Party) of
+        {name, _, Node} -> Node;
+        Other -> element(2, Other)
+    end.
+
+%% @doc Whether the party is a process that kept its number.
+-spec is_own(party(), pid_number()) -> boolean().
+is_own(Party, {_, Number}) ->
+    case view(Party) of
+        {process, _, Number, _} -> true;
+        _ -> false
+    end.
+
+%% A party may also be given as a term of this Erlang.
+view(Party) when is_binary(Party) -> seqaudit_external:view(Party);
+view(Party) -> seqaudit_external:view(seqaudit_external:from_term(Party)).
+
+%% @doc A pid of the bundle in its one spelling.
+-spec spell(pid_number()) -> string().
+spell({Node, Number}) ->
+    "<" ++ integer_to_list(Node) ++ "." ++ integer_to_list(Number) ++ ".0>".
+
+%% @doc A short name for people: the registered name, else what was called first and the number.
+%% `Many' says whether there are several nodes, and the name is to say which one is meant.
+-spec name({party(), pid_number()}, seqaudit_events:about(), boolean()) -> string().
+name({Party, Number}, About, Many) ->
+    case {view(Party), About} of
+        {_, #{name := Name}} -> seqaudit_terms:atom(Name) ++ on(Party, Many);
+        {_, #{call := Call}} -> called(seqaudit_terms:call(Call), Number);
+        {{name, Name, _}, _} -> seqaudit_terms:atom(Name) ++ on(Party, true);
+        {{port, _, _}, _} -> "port " ++ spell(Number);
+        {{reference, _, _}, _} -> "alias " ++ spell(Number);
+        {_, _} -> spell(Number)
+    end.
+
+%% That a process was spawned with a fun says nothing.
+called("erlang:apply/2", Number) -> spell(Number);
+called(Call, Number) -> Call ++ " " ++ spell(Number).
+
+on(_Party, false) -> "";
+on(Party, true) -> " on " ++ seqaudit_terms:plain(home(Party)).
+
+%% @doc All that is known of a party, in words.
+-spec what(party(), seqaudit_events:about()) -> iolist().
+what(Party, About) ->
+    [kind(view(Party)), " of node ", seqaudit_terms:plain(home(Party)), known(About)].
+
+kind({process, _, Number, Serial}) -> io_lib:format("process <0.~b.~b>", [Number, Serial]);
+kind({port, _, Number}) -> io_lib:format("port #Port<0.~b>", [Number]);
+kind({reference, _, Ids}) ->
+    ["alias #Ref<0.", lists:join($., [integer_to_list(Id) || Id <- Ids]),
+     "> of an unknown process"];
+kind({name, Name, _}) -> ["name ", seqaudit_terms:atom(Name)].
+
+known(About) ->
+    [[", registered as ", seqaudit_terms:atom(Name)] || #{name := Name} <- [About]]
+        ++ [[", started by ", seqaudit_terms:call(Call)] || #{call := Call} <- [About]]
+        ++ [[", for ", seqaudit_terms:encoded(Caller)] || #{caller := Caller} <- [About]].

@@ -1,0 +1,163 @@
+%% @doc The events by which OTP spawns a process: where they belong in its stream, and which
+%% receives are answers.
+%%
+%% `spawn' reports two events for the process that it makes: the receive of the request, and the
+%% send of the reply. The spawner makes them, and they stay in its buffer for a while, so a tracer
+%% that is a process may get them behind events of the new process. They are always that process's
+%% first two events, and go there.
+%%
+%% The reply is an answer if its receiver spawned by `spawn' and its kin, which wait for it: its
+%% next event is the receive of the reply, and it keeps its token. The reply to `spawn_request', and
+%% that of another node, is an ordinary message.
+-module(seqaudit_spawns).
+
+-include("seqaudit_packed.hrl").
+
+-export([read/1, births_first/4, has_wrapped/2, is_answer/4]).
+-export_type([spawns/0]).
+
+%% What a value is. The rest of its number is a hash of the process that has to be its sender.
+-define(OTHER_MESSAGE, 0).
+-define(REQUEST, 1).
+-define(ASYNCHRONOUS_REQUEST, 2).
+-define(REMOTE_REQUEST, 3).
+-define(REPLY, 4).
+-define(KINDS, 8).
+%% So many values are taken from their table at once.
+-define(AT_ONCE, 1_000).
+%% An answer moves the counter to 16 T + 15. From this T on that is more than the 59 bits which a
+%% serial shows without a minus.
+-define(LEAST_TO_WRAP, (1 bsl 55)).
+
+-opaque spawns() :: atomics:atomics_ref().
+%% What each value is, by its number.
+
+%% @doc Looks the messages through for those by which OTP spawns.
+-spec read(seqaudit_numbers:table()) -> spawns().
+read(Values) ->
+    Size = seqaudit_numbers:size(Values),
+    Spawns = atomics:new(Size + 1, []),
+    Read = fun(First) ->
+                   Terms = seqaudit_numbers:part(First, ?AT_ONCE, Values),
+                   [atomics:put(Spawns, Number + 1, Spawn)
+                    || {Number, Term} <- lists:enumerate(First, Terms),
+                       Spawn <- [seen(Term)], Spawn =/= ?OTHER_MESSAGE],
+                   ok
+           end,
+    ok = seqaudit_workers:fold([fun() -> Read(First) end
+                                || First <- lists:seq(0, Size - 1, ?AT_ONCE)],
+                               fun(ok, ok) -> ok end, ok),
+    Spawns.
+
+%% A message with a term of a newer release can't be read behind that.
+seen(Term) ->
+    try message(Term)
+    catch throw:_ -> ?OTHER_MESSAGE
+    end.
+
+message(<<104, 8, 100, 13:16, "spawn_request", _/binary>> = Term) ->
+    [_, _Reference, Parent, _Leader, Call, _Options, _Tag, _Arguments] =
+        seqaudit_external:tuple(Term),
+    case seqaudit_external:call(Call) of
+        {<<"erts_internal">>, <<"spawn_init">>, 1} -> sent_by(Parent, ?ASYNCHRONOUS_REQUEST);
+        _ -> sent_by(Parent, ?REQUEST)
+    end;
+message(<<104, 6, 100, 13:16, "spawn_request", _/binary>> = Term) ->
+    [_, _Reference, Parent | _] = seqaudit_external:tuple(Term),
+    sent_by(Parent, ?REMOTE_REQUEST);
+message(<<104, 4, 100, 11:16, "spawn_reply", _/binary>> = Term) ->
+    [_, _Reference, Result, Child] = seqaudit_external:tuple(Term),
+    case seqaudit_external:view(Result) of
+        {atom, <<"ok">>} -> sent_by(Child, ?REPLY);
+        _ -> ?OTHER_MESSAGE
+    end;
+message(_) ->
+    ?OTHER_MESSAGE.
+
+sent_by(Process, Kind) -> erlang:phash2(Process) * ?KINDS + Kind.
+
+%% What an event's message is. One that another process sends on is no spawn.
+kind(From, Value, Actors, Spawns) ->
+    case atomics:get(Spawns, Value + 1) of
+        ?OTHER_MESSAGE ->
+            ?OTHER_MESSAGE;
+        Spawn when From < ?OTHER ->
+            Kind = Spawn rem ?KINDS,
+            case sent_by(element(From + 1, Actors), Kind) of
+                Spawn -> Kind;
+                _ -> ?OTHER_MESSAGE
+            end;
+        _ ->
+            ?OTHER_MESSAGE
+    end.
+
+%% @doc The places of each process's events, with those of its birth first.
+-spec births_first(#{non_neg_integer() => binary()}, seqaudit_build:packed(), tuple(), spawns()) ->
+          #{non_neg_integer() => binary()}.
+births_first(Streams, Packed, Actors, Spawns) ->
+    Shares = seqaudit_workers:shares(Packed, fun(Part, First) -> births(Part, First, Actors, Spawns,
+                                                                        #{}) end),
+    Births = lists:foldl(fun(Later, Earlier) ->
+                                 maps:merge_with(fun(_, One, Other) -> maps:merge(Other, One) end,
+                                                 Earlier, Later)
+                         end, #{}, Shares),
+    maps:map(fun(Process, Places) ->
+                     case Births of
+                         #{Process := Birth} -> first(birth(Birth), Places);
+                         #{} -> Places
+                     end
+             end, Streams).
+
+%% Of each process the first places of what may be its birth.
+births(<<?PACKED(Kind, _L, _P, _T, From, To, Value, _Time), Rest/binary>>, Place, Actors, Spawns,
+       Births) ->
+    case {Kind, Kind =/= ?PRINT andalso kind(From, Value, Actors, Spawns)} of
+        {?SEND, ?REPLY} ->
+            births(Rest, Place + 1, Actors, Spawns, birth(From, reply, Place, Births));
+        {?RECEIVE, ?REMOTE_REQUEST} ->
+            births(Rest, Place + 1, Actors, Spawns, birth(To, remote, Place, Births));
+        {?RECEIVE, Request} when Request =:= ?REQUEST; Request =:= ?ASYNCHRONOUS_REQUEST ->
+            births(Rest, Place + 1, Actors, Spawns, birth(To, request, Place, Births));
+        _ -> births(Rest, Place + 1, Actors, Spawns, Births)
+    end;
+births(<<>>, _Place, _Actors, _Spawns, Births) ->
+    Births.
+
+birth(Process, What, Place, Births) ->
+    Known = maps:get(Process, Births, #{}),
+    Births#{Process => maps:merge(#{What => Place}, Known)}.
+
+%% Another node's spawn has more events, and they come in order.
+birth(#{remote := _}) -> [];
+birth(Birth) -> [Place || What <- [request, reply], #{What := Place} <- [Birth]].
+
+first(Birth, Places) ->
+    Begin = << <<Place:32>> || Place <- Birth >>,
+    case Places of
+        <<Begin:(byte_size(Begin))/binary, _/binary>> -> Places;
+        _ -> << Begin/binary, << <<Place:32>> || <<Place:32>> <= Places,
+                                not lists:member(Place, Birth) >>/binary >>
+    end.
+
+%% @doc Whether a counter has passed what a serial shows without a minus.
+-spec has_wrapped(seqaudit_build:packed(), spawns()) -> boolean().
+has_wrapped(Packed, Spawns) ->
+    lists:member(true, seqaudit_workers:shares(Packed, fun(Part, _) -> wraps(Part, Spawns) end)).
+
+wraps(<<?PACKED(_K, _L, Prev, This, _F, _O, _V, _Time), _/binary>>, _Spawns)
+  when Prev < 0; This < 0 -> true;
+wraps(<<?PACKED(?RECEIVE, _L, _P, This, _F, _O, Value, _Time), Rest/binary>>, Spawns)
+  when This >= ?LEAST_TO_WRAP ->
+    atomics:get(Spawns, Value + 1) rem ?KINDS =:= ?REPLY orelse wraps(Rest, Spawns);
+wraps(<<_:?PACKED_SIZE/binary, Rest/binary>>, Spawns) -> wraps(Rest, Spawns);
+wraps(<<>>, _Spawns) -> false.
+
+%% @doc Whether an event is the answer of a spawn, by the event that comes before it in its
+%% process's stream.
+-spec is_answer(binary(), binary(), tuple(), spawns()) -> boolean().
+is_answer(<<?PACKED(?SEND, _, _, _, Parent, Child, Request, _)>>,
+          <<?PACKED(?RECEIVE, _, _, _, Child, Parent, Reply, _)>>, Actors, Spawns) ->
+    kind(Parent, Request, Actors, Spawns) =:= ?REQUEST
+        andalso kind(Child, Reply, Actors, Spawns) =:= ?REPLY;
+is_answer(_Before, _Event, _Actors, _Spawns) ->
+    false.
