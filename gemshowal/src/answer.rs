@@ -2,7 +2,7 @@
 
 use crate::device::Sink;
 use crate::{Act, Completion, Event, Finding, OutOfMemory, Pid, Reason, Text, Trace};
-use std::collections::{BTreeMap, BTreeSet};
+use std::collections::{BTreeMap, HashSet};
 use std::fmt::{self, Display, Formatter};
 use std::io::{self, Write};
 use thiserror::Error;
@@ -123,14 +123,18 @@ impl Trace {
         let places = kept.iter().flat_map(|(&pid, indices)| indices.iter().map(move |&i| (pid, i)));
         let event = |(pid, index): (Pid, u64)| Some((pid, self.streams().event(pid, index)?));
         let events: Vec<(Pid, Event)> = places.filter_map(event).collect();
-        let mut listed: BTreeSet<Pid> = kept.keys().copied().collect();
-        listed
-            .extend(events.iter().flat_map(|(_, event)| [event.from].into_iter().chain(event.to)));
+        let mut named: HashSet<Pid> = kept.keys().copied().collect();
+        for (_, event) in &events {
+            named.insert(event.from);
+            named.extend(event.to);
+        }
+        let mut listed: Vec<Pid> = named.into_iter().collect();
+        listed.sort_unstable();
         Trace::of_events(listed, &events)
     }
 
     /// The trace of these events, by processes that rise and include all that an event names.
-    fn of_events(listed: BTreeSet<Pid>, events: &[(Pid, Event)]) -> Result<Trace, OutOfMemory> {
+    fn of_events(listed: Vec<Pid>, events: &[(Pid, Event)]) -> Result<Trace, OutOfMemory> {
         let mut draft = st_core::Draft::new(crate::Global);
         for pid in listed {
             draft.open(pid).map_err(|_| OutOfMemory)?;

@@ -6,8 +6,9 @@ use crate::names::Names;
 use crate::object::{kind_word, Fields, Number, Place, Sequence};
 use crate::output::{Notes, Output};
 use crate::{Failure, Status};
-use gemshowal::{Kind, Pairing, Partner, Row, Text};
+use gemshowal::{Kind, Pairing, Partner, Pid, Row, Text};
 use serde::Serialize;
+use std::fmt::{self, Display, Formatter};
 use std::io::{self, Write};
 
 pub(crate) fn run(
@@ -43,23 +44,38 @@ fn partner(pairing: Option<&Pairing>, row: &Row) -> Partner {
 
 fn write_row(out: &mut Output, row: &Row, partner: Partner, names: &Names) -> io::Result<()> {
     let event = &row.event;
-    let (name, label) = (names.event((row.pid, row.index)), names.label(event.label));
     let (kind, serial) = (kind_word(event.kind), Text(event.serial));
-    let message = names.brief(event.value);
-    write!(out, "{}: {name}  {kind:<8} {label} {serial} {message}", row.line)?;
+    let process = |pid| Called(names, pid);
+    write!(out, "{}: {}#{}  {kind:<8} ", row.line, process(row.pid), row.index)?;
+    if names.has_terms() {
+        write!(out, "{} {serial} {}", names.label(event.label), names.brief(event.value))?;
+    } else {
+        write!(out, "{} {serial} value {}", event.label.0, event.value)?;
+    }
     match (event.kind, event.to) {
-        (Kind::Send, Some(to)) => write!(out, " to {}", names.process(to))?,
-        (Kind::Receive, _) => write!(out, " from {}", names.process(event.from))?,
+        (Kind::Send, Some(to)) => write!(out, " to {}", process(to))?,
+        (Kind::Receive, _) => write!(out, " from {}", process(event.from))?,
         _ => {}
     }
     match partner {
-        Partner::Receive(pid, index) => {
-            writeln!(out, ", received as {}", names.event((pid, index)))
-        }
-        Partner::Send(pid, index) => writeln!(out, ", sent as {}", names.event((pid, index))),
+        Partner::Receive(pid, index) => writeln!(out, ", received as {}#{index}", process(pid)),
+        Partner::Send(pid, index) => writeln!(out, ", sent as {}#{index}", process(pid)),
         Partner::NoReceive => writeln!(out, ", no receive reported"),
         Partner::NoSend => writeln!(out, ", its send wasn't reported"),
         Partner::Nobody => writeln!(out),
+    }
+}
+
+/// What a process is called, without a copy of that: there may be millions of rows.
+struct Called<'a>(&'a Names, Pid);
+
+impl Display for Called<'_> {
+    fn fmt(&self, f: &mut Formatter<'_>) -> fmt::Result {
+        if self.0.has_terms() {
+            f.write_str(&self.0.process(self.1))
+        } else {
+            Text(self.1).fmt(f)
+        }
     }
 }
 

@@ -5,7 +5,6 @@ use crate::names::Times;
 use crate::view::{count, grouped, Kept, View};
 use crate::Failure;
 use gemshowal::{Label, OutOfMemory, Partner, Pid};
-use std::collections::HashSet;
 
 /// The events that are asked for; none if all are.
 pub(super) fn kept(region: &Region, view: &View<'_>, name: &str) -> Result<Option<Kept>, Failure> {
@@ -68,14 +67,15 @@ pub(super) fn note(view: &View<'_>, kept: &Kept) -> Result<String, OutOfMemory> 
 /// How many receives and sends have their other end cut off, if the trace can be paired.
 pub(crate) fn open(view: &View<'_>, kept: &Kept) -> Result<Option<[u64; 2]>, OutOfMemory> {
     let Ok(pairing) = view.trace.pair()? else { return Ok(None) };
-    let places: HashSet<(Pid, u64)> =
-        kept.iter().flat_map(|(&pid, own)| own.iter().map(move |&index| (pid, index))).collect();
+    let is_kept =
+        |pid: Pid, index: u64| kept.get(&pid).is_some_and(|own| own.binary_search(&index).is_ok());
+    let places = kept.iter().flat_map(|(&pid, own)| own.iter().map(move |&index| (pid, index)));
     let mut open = [0, 0];
-    for &(pid, index) in &places {
+    for (pid, index) in places {
         let Some(event) = view.trace.streams().event(pid, index) else { continue };
         match gemshowal::partner_at(&pairing, pid, index, event.kind) {
-            Partner::Send(pid, index) if !places.contains(&(pid, index)) => open[0] += 1,
-            Partner::Receive(pid, index) if !places.contains(&(pid, index)) => open[1] += 1,
+            Partner::Send(pid, index) if !is_kept(pid, index) => open[0] += 1,
+            Partner::Receive(pid, index) if !is_kept(pid, index) => open[1] += 1,
             _ => {}
         }
     }

@@ -45,10 +45,11 @@ pub(super) fn write(
         return no_times(name, "no event has a time, which spans need", notes);
     }
     let writer = Writer { spans: &spans, begin };
+    let mut line = Vec::new();
     write!(out, "{{\"resourceSpans\":[")?;
     for (number, (service, of)) in writer.services().iter().enumerate() {
         write!(out, "{}", if number == 0 { "" } else { "," })?;
-        writer.write_service(out, service, of)?;
+        writer.write_service(out, &mut line, service, of)?;
     }
     writeln!(out, "]}}")?;
     Ok(Status::Yes)
@@ -80,15 +81,22 @@ impl Writer<'_> {
         services
     }
 
-    fn write_service(&self, out: &mut Output, name: &str, of: &[u32]) -> Result<(), Failure> {
-        let resource = Resource { attributes: [attribute("service.name", name)] };
+    fn write_service(
+        &self,
+        out: &mut Output,
+        line: &mut Vec<u8>,
+        name: &str,
+        of: &[u32],
+    ) -> Result<(), Failure> {
         write!(out, "{{\"resource\":")?;
-        out.value(&resource)?;
+        out.value(&Resource { attributes: [attribute("service.name", name)] })?;
         write!(out, ",\"scopeSpans\":[{{\"scope\":{{\"name\":\"gemshowal\"}},\"spans\":[")?;
         let spans = of.iter().filter_map(|&number| Some((number, self.spans.get(number)?)));
         for (first, (number, span)) in spans.enumerate() {
-            write!(out, "{}", if first == 0 { "" } else { "," })?;
-            out.value(&self.span(number, span))?;
+            line.clear();
+            line.extend(b",".iter().filter(|_| first > 0));
+            serde_json::to_writer(&mut *line, &self.span(number, span))?;
+            out.write_all(line)?;
         }
         write!(out, "]}}]}}")?;
         Ok(())
@@ -143,6 +151,8 @@ impl Writer<'_> {
         let (scene, place) = (self.spans.scene, span.about.place());
         let mut all = vec![attribute("erlang.label", scene.names.label(event.label))];
         if matches!(span.about, About::Label(_)) {
+            all.push(attribute("seqaudit.premise_1", FIRST));
+            all.push(attribute("seqaudit.premise_2", SECOND));
             return all;
         }
         all.push(attribute("erlang.message", short(&scene.names.value(event.value))));
@@ -151,9 +161,11 @@ impl Writer<'_> {
         all.push(attribute("erlang.pid", Text(place.0)));
         all.push(attribute("seqaudit.event", scene.name(place)));
         let partner = scene.partner(place, event);
-        all.push(flag("seqaudit.send_reported", !matches!(partner, Partner::NoSend)));
-        let is_received = event.kind == Kind::Receive || matches!(partner, Partner::Receive(..));
-        all.push(flag("seqaudit.receive_reported", is_received));
+        match partner {
+            Partner::NoSend => all.push(flag("seqaudit.send_reported", false)),
+            Partner::NoReceive => all.push(flag("seqaudit.receive_reported", false)),
+            _ => {}
+        }
         if let Some(hop) = scene.hop(place).filter(|_| event.kind == Kind::Send) {
             all.push(attribute("seqaudit.follows", follows(scene, place, hop)));
             all.extend(premises(hop).map(|words| attribute("seqaudit.premises", words)));
@@ -242,15 +254,17 @@ fn follows(scene: &Scene<'_>, (pid, _): Place, hop: Hop) -> String {
     }
 }
 
-/// What a hop rests on, besides that there was no reset.
+/// On what a hop rests, besides that there was no reset.
+const FIRST: &str = "each receive of a token was reported";
+const SECOND: &str =
+    "no process cleared or lost its token, began again and reported an earlier label again";
+
+/// The numbers of the premises of a hop.
 fn premises(hop: Hop) -> Option<&'static str> {
     match hop.premises() {
         Premises::Neither => None,
-        Premises::First => Some("each receive of a token was reported"),
-        Premises::Both => Some(
-            "each receive of a token was reported, and no process cleared or lost its token, began \
-             again and reported an earlier label again",
-        ),
+        Premises::First => Some("1"),
+        Premises::Both => Some("1, 2"),
     }
 }
 

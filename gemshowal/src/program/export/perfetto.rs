@@ -12,8 +12,9 @@ use super::work::Works;
 use crate::object::kind_word;
 use crate::output::Output;
 use crate::Failure;
-use gemshowal::{Event, Partner, Pid, Text};
+use gemshowal::{Event, Partner, Pid, Serial, Text};
 use serde::Serialize;
+use std::borrow::Cow;
 use std::collections::BTreeMap;
 use std::io::Write;
 
@@ -33,7 +34,7 @@ pub(super) fn write(scene: &Scene<'_>, out: &mut Output) -> Result<(), Failure> 
     for (request, reply) in calls.all() {
         of_process.entry(request.0).or_default().push((request.1, reply.1));
     }
-    let mut writer = Writer { scene, clock, out, is_first: true };
+    let mut writer = Writer { scene, clock, out, line: Vec::new() };
     writeln!(writer.out, "{{\"displayTimeUnit\":\"ns\",\"traceEvents\":[")?;
     let lanes = (1..).zip(scene.trace.processes().filter(|(_, events)| !events.is_empty()));
     let mut nodes = BTreeMap::new();
@@ -46,6 +47,7 @@ pub(super) fn write(scene: &Scene<'_>, out: &mut Output) -> Result<(), Failure> 
         let lane = Lane { pid, thread };
         writer.write_process(lane, events, enclosing(&works, pid, calls))?;
     }
+    writer.out.write_all(&writer.line)?;
     writeln!(writer.out, "\n]}}")?;
     Ok(())
 }
@@ -86,16 +88,19 @@ struct Writer<'a> {
     scene: &'a Scene<'a>,
     clock: Clock,
     out: &'a mut Output,
-    is_first: bool,
+    /// The trace event before, which isn't written yet.
+    line: Vec<u8>,
 }
 
 impl Writer<'_> {
     /// Writes a trace event on a line.
     fn write(&mut self, event: &impl Serialize) -> Result<(), Failure> {
-        if !std::mem::take(&mut self.is_first) {
-            writeln!(self.out, ",")?;
+        if !self.line.is_empty() {
+            self.line.extend_from_slice(b",\n");
+            self.out.write_all(&self.line)?;
+            self.line.clear();
         }
-        self.out.value(event)
+        Ok(serde_json::to_writer(&mut self.line, event)?)
     }
 
     /// Writes what the node of a process is called.
@@ -158,7 +163,7 @@ impl Writer<'_> {
             tid: lane.thread,
             ts: self.micros(start - around),
             dur: self.micros(end + len - start + 2.0 * around),
-            args: self.args((lane.pid, slice.first), event),
+            args: Args { event: self.scene.name((lane.pid, slice.first)), ..Args::default() },
         })
     }
 
@@ -184,7 +189,7 @@ impl Writer<'_> {
             tid: lane.thread,
             ts: self.micros(ts),
             dur: self.micros(dur),
-            args: self.args(place, event),
+            args: args(scene, place, event),
         })?;
         let has_other_end = |other| self.clock.at(scene, other).is_some();
         let (ph, sent) = match scene.partner(place, event) {
@@ -204,22 +209,21 @@ impl Writer<'_> {
         let micros = if self.clock.is_measured { time / 1_000.0 } else { time };
         (micros * 10_000.0).round() / 10_000.0
     }
+}
 
-    /// What else the trace tells of an event. A reader of JSON may round numbers, so they are strings.
-    fn args(&self, (pid, index): Place, event: &Event) -> Args {
-        let (scene, names) = (self.scene, self.scene.names);
-        let partner = scene.partner((pid, index), event);
-        Args {
-            event: scene.name((pid, index)),
-            label: names.label(event.label).into_owned(),
-            serial: Text(event.serial).to_string(),
-            value: event.value.to_string(),
-            message: scene.has_terms().then(|| names.value(event.value).into_owned()),
-            from: event.to.map(|_| names.process(event.from).into_owned()),
-            to: event.to.map(|to| names.process(to).into_owned()),
-            receive: matches!(partner, Partner::NoReceive).then_some("not reported"),
-            send: matches!(partner, Partner::NoSend).then_some("not reported"),
-        }
+/// What else the trace tells of an event. A reader of JSON may round numbers, so they are strings.
+fn args<'a>(scene: &'a Scene<'_>, place: Place, event: &Event) -> Args<'a> {
+    let (names, partner) = (scene.names, scene.partner(place, event));
+    Args {
+        event: scene.name(place),
+        label: Some(names.label(event.label)),
+        serial: Some(Text(event.serial)),
+        value: Some(event.value.to_string()),
+        message: scene.has_terms().then(|| names.value(event.value)),
+        from: event.to.map(|_| names.process(event.from)),
+        to: event.to.map(|to| names.process(to)),
+        receive: matches!(partner, Partner::NoReceive).then_some("not reported"),
+        send: matches!(partner, Partner::NoSend).then_some("not reported"),
     }
 }
 
@@ -251,7 +255,7 @@ impl<'a> Named<'a> {
 }
 
 #[derive(Serialize)]
-struct Slice {
+struct Slice<'a> {
     ph: &'static str,
     name: String,
     cat: &'static str,
@@ -259,21 +263,25 @@ struct Slice {
     tid: u64,
     ts: f64,
     dur: f64,
-    args: Args,
+    args: Args<'a>,
 }
 
-#[derive(Serialize)]
-struct Args {
+/// What an event says; of a slice around several the name of the first one alone.
+#[derive(Default, Serialize)]
+struct Args<'a> {
     event: String,
-    label: String,
-    serial: String,
-    value: String,
     #[serde(skip_serializing_if = "Option::is_none")]
-    message: Option<String>,
+    label: Option<Cow<'a, str>>,
     #[serde(skip_serializing_if = "Option::is_none")]
-    from: Option<String>,
+    serial: Option<Text<Serial>>,
     #[serde(skip_serializing_if = "Option::is_none")]
-    to: Option<String>,
+    value: Option<String>,
+    #[serde(skip_serializing_if = "Option::is_none")]
+    message: Option<Cow<'a, str>>,
+    #[serde(skip_serializing_if = "Option::is_none")]
+    from: Option<Cow<'a, str>>,
+    #[serde(skip_serializing_if = "Option::is_none")]
+    to: Option<Cow<'a, str>>,
     #[serde(skip_serializing_if = "Option::is_none")]
     receive: Option<&'static str>,
     #[serde(skip_serializing_if = "Option::is_none")]
