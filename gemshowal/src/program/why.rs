@@ -11,7 +11,6 @@ use crate::words;
 use crate::{Failure, Status};
 use gemshowal::{Item, OutOfMemory, Pid, Premises, Text, Trace};
 use serde::Serialize;
-use std::collections::HashMap;
 use std::io::{self, Write};
 
 /// So many hops are shown by blanks too: more would move a line off the screen.
@@ -82,19 +81,14 @@ impl Way {
 
     /// The event, and behind each event those that follow it.
     fn forth(causes: &Causes<'_>, first: Item, args: &Why) -> Result<Way, Failure> {
-        let mut children: HashMap<Item, Vec<Item>> = HashMap::new();
-        for item in causes.order()? {
-            if let Some(parent) = parent(&causes.link(item), args.across) {
-                children.entry(parent).or_default().push(item);
-            }
-        }
+        let children = Children::of(causes, args.across)?;
         let mut steps = Vec::new();
         let mut waiting = vec![(0, first)];
         while let Some((depth, item)) = waiting.pop() {
             steps.push(Step { depth, item, link: causes.link(item) });
             if (depth as u64) + 1 < args.most() {
-                let below = children.remove(&item).unwrap_or_default();
-                waiting.extend(below.into_iter().rev().map(|item| (depth + 1, item)));
+                let below = children.of_parent(item).iter().rev();
+                waiting.extend(below.map(|&(_, _, item)| (depth + 1, item)));
             }
         }
         Ok(Way { is_back: false, steps })
@@ -178,6 +172,28 @@ impl Way {
             events,
             rests_on: words::premises(self.grades()),
         })
+    }
+}
+
+/// The events that follow others directly, by what they follow and then in the order of all: each
+/// with that event and its rank in the order.
+struct Children(Vec<(Item, usize, Item)>);
+
+impl Children {
+    fn of(causes: &Causes<'_>, across: bool) -> Result<Children, OutOfMemory> {
+        let ranked = causes.order()?.into_iter().zip(0..);
+        let mut children: Vec<_> = ranked
+            .filter_map(|(item, rank)| Some((parent(&causes.link(item), across)?, rank, item)))
+            .collect();
+        children.sort_unstable();
+        Ok(Children(children))
+    }
+
+    fn of_parent(&self, item: Item) -> &[(Item, usize, Item)] {
+        let first = self.0.partition_point(|&(parent, ..)| parent < item);
+        let own = self.0.get(first..).unwrap_or_default();
+        let count = own.iter().take_while(|&&(parent, ..)| parent == item).count();
+        own.get(..count).unwrap_or_default()
     }
 }
 

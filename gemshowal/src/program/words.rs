@@ -103,19 +103,19 @@ pub(crate) fn numbers(premises: Premises) -> &'static str {
 /// The end of a chain of causes.
 pub(crate) fn ending(causes: &Causes<'_>, item: Item, link: Link) -> String {
     let name = causes.name(item);
-    let perhaps = if link.grade == Grade::Perhaps { "perhaps " } else { "" };
+    let (perhaps, behind) = match link.grade {
+        Grade::Certain => ("", ""),
+        Grade::Under(premises) => ("", numbers(premises)),
+        Grade::Perhaps => ("perhaps ", ""),
+    };
     match link.cause {
-        Cause::After(cause) => format!("{name} follows {}", causes.name(cause)),
+        Cause::After(cause) => format!("{name} {perhaps}follows {}{behind}", causes.name(cause)),
         Cause::OtherLabel(had) => format!(
             "{name} {perhaps}begins label {}, or its process set that on its token; it had last \
-             received {} of label {}{}",
+             received {} of label {}{behind}",
             label(causes, item),
             causes.name(had),
-            label(causes, had),
-            match link.grade {
-                Grade::Under(premises) => numbers(premises),
-                Grade::Certain | Grade::Perhaps => "",
-            }
+            label(causes, had)
         ),
         Cause::Begins => format!("{name} {perhaps}begins this chain"),
         Cause::BeginsOrUnreported => {
