@@ -1,12 +1,13 @@
 //! Which processes of two traces have the same part.
 //!
-//! If one renaming may make the one trace of the other, each process is matched with one of the same
-//! colour. If several have it, the first one that is free is a guess; in each part of the trace only
-//! one is made before the colours are refined anew, so that whatever follows from it is known.
+//! If one renaming may make the one trace of the other, each process is matched with one of the
+//! same colour. If several have it, the first one that is free is a guess; in each part of the
+//! trace only one is made before the colours are refined anew, so that whatever follows from it is
+//! known.
 //!
 //! Else those come first that are called alike, if that is wanted; then those that no other process
-//! is like, from all events to the first one; then several that are like each other, in the order in
-//! which they first report something. The processes at the other ends of messages that are alike
+//! is like, from all events to the first one; then several that are like each other, in the order
+//! in which they first report something. The processes at the other ends of messages that are alike
 //! are matched as soon as both ends of one are, so that of alike workers each is the one that the
 //! same message went to.
 
@@ -236,8 +237,8 @@ impl<'a> Search<'a> {
         self.follow(of_message);
     }
 
-    /// Matches processes of one key, one in each part, and follows the messages of each: first those
-    /// that are called alike, and then in the order of both.
+    /// Matches processes of one key, one in each part, and follows the messages of each: first
+    /// those that are called alike, and then in the order of both.
     fn guess(&mut self, mates: &[Mate], parts: &mut [Parts; 2], ground: Ground) {
         let [ones, others] = parts;
         let mut ones = Guessed { parts: ones, ends: HashSet::new() };

@@ -2,8 +2,8 @@
 //! counts.
 //!
 //! `matching` finds which process of the one trace has the part of which in the other, and why that
-//! is believed: by `colours`, if one renaming may make the one trace of the other. `align` says which
-//! events of two such processes go together, and `changes` has the others.
+//! is believed: by `colours`, if one renaming may make the one trace of the other. `align` says
+//! which events of two such processes go together, and `changes` has the others.
 
 mod align;
 mod changes;

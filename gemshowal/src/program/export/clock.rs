@@ -3,10 +3,10 @@
 use super::scene::{Place, Scene};
 use gemshowal::{Kind, OutOfMemory, Partner};
 
-/// Where there are no times: twice the rank of an event's count among all counts, and one more for a
-/// receive, whose send has the same count. If that isn't later than the event before in its process,
-/// or than its send, it is one more than the later of them: a receive may have a lower count than
-/// what its process did before.
+/// Where there are no times: twice the rank of an event's count among all counts, and one more for
+/// a receive, whose send has the same count. If that isn't later than the event before in its
+/// process, or than its send, it is one more than the later of them: a receive may have a lower
+/// count than what its process did before.
 ///
 /// Where there are: nanoseconds after the first event, and at least one more than the event before
 /// in its process, so that two of one time are still told apart.

@@ -2,8 +2,8 @@
 //! message, in the order of all events.
 //!
 //! An arrow is at the place of its receive. If the sender did something else in between, the send
-//! has a note at its own place, and the arrow is dotted. So of each process the lines of the diagram
-//! tell its events in their order.
+//! has a note at its own place, and the arrow is dotted. So of each process the lines of the
+//! diagram tell its events in their order.
 
 use super::scene::{Place, Scene};
 use crate::output::Output;

@@ -2,9 +2,9 @@
 //!
 //! A label is one span, from its first event to its last: nothing of it is outside, so that a
 //! message whose send wasn't reported has its place too. Below it are the messages and the work of
-//! processes. What a message follows is what the proved hop says. A span is below the nearest one on
-//! the way back from it that doesn't end before it; the one that it follows directly is linked if it
-//! is below another.
+//! processes. What a message follows is what the proved hop says. A span is below the nearest one
+//! on the way back from it that doesn't end before it; the one that it follows directly is linked
+//! if it is below another.
 
 use super::calls::{role, Calls, Role};
 use super::scene::{Place, Scene};
@@ -135,8 +135,8 @@ impl<'a> Spans<'a> {
         self.scene.time(place).is_some()
     }
 
-    /// The span of a send: to the receive of the reply if that is known, else to the end of the work
-    /// that the message gave. A reply is the end of its call.
+    /// The span of a send: to the receive of the reply if that is known, else to the end of the
+    /// work that the message gave. A reply is the end of its call.
     fn message(&self, place: Place, event: &Event) -> Option<(About, i64, i64)> {
         let receive = match self.scene.partner(place, event) {
             Partner::Receive(pid, index) => Some((pid, index)),
