@@ -61,7 +61,7 @@ export const causeText = row => {
            l: perhaps + "begins label " + visible(labels[rows.label[row]]) + " here, or set it on its token"
               + (had === undefined ? "" : "; it had last received " + eventName(had) + " of label "
                  + visible(labels[rows.label[had]])),
-           b: perhaps + "begins here", o: "begins here, or follows a message whose receive wasn't reported",
+           b: perhaps + "begins here", o: perhaps + "begins here, or follows a message whose receive wasn't reported",
            h: "nothing is known of what it follows" }[rows.how[row]] + PREMISES[rows.grade[row]]
     + (isPlain(row) || rows.kind[row] === "h" ? "" : " (this event wasn't reported)");
 };

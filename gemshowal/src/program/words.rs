@@ -76,7 +76,7 @@ pub(crate) fn follows(causes: &Causes<'_>, item: Item, link: Link) -> String {
         ),
         Cause::Begins => format!("{perhaps}begins here"),
         Cause::BeginsOrUnreported => {
-            "begins here, or follows a message whose receive wasn't reported".into()
+            format!("{perhaps}begins here, or follows a message whose receive wasn't reported")
         }
         Cause::Unknown => "nothing is known of what it follows".into(),
     }
@@ -119,7 +119,10 @@ pub(crate) fn ending(causes: &Causes<'_>, item: Item, link: Link) -> String {
         ),
         Cause::Begins => format!("{name} {perhaps}begins this chain"),
         Cause::BeginsOrUnreported => {
-            format!("{name} begins this chain, or follows a message whose receive wasn't reported")
+            format!(
+                "{name} {perhaps}begins this chain, or follows a message whose receive wasn't \
+                 reported"
+            )
         }
         Cause::Unknown => format!("nothing is known of what {name} follows"),
     }
