@@ -59,7 +59,7 @@ install: ## copies the programs that were built, the proved ones first, man page
 uninstall: ## removes from PREFIX what install copied there (at once)
 	@./install.sh --remove '$(DESTDIR)$(PREFIX)'
 
-# The parts that come after the proofs run side by side if there are processors enough.
+# The parts that come after the proofs run side by side if there are processors enough; those that build much come last.
 PARTS_AT_ONCE = $(shell test $$(nproc) -ge 4 && nproc || echo 1)
 
 # Repeats at the end what was skipped, and why.
@@ -71,7 +71,8 @@ test: ## the merge gate: all proofs from nothing, the wrong bodies of must-fail/
 gate: layout layers clauses plan tables
 	rt ci
 	@if command -v erl >/dev/null; then $(MAKE) --no-print-directory -C erlang compiled; fi
-	@$(MAKE) --no-print-directory -j$(PARTS_AT_ONCE) --output-sync=target test-kit test-program test-erlang test-conformance test-rust test-readme test-coq
+	@$(MAKE) --no-print-directory -j$(PARTS_AT_ONCE) --output-sync=target test-program test-erlang test-conformance test-rust
+	@$(MAKE) --no-print-directory -j$(PARTS_AT_ONCE) --output-sync=target test-kit test-readme test-coq
 
 # The gate tries the wrong bodies that tell most.
 wrong-bodies: ## tries all wrong bodies (an hour or more, after program)

@@ -3,12 +3,11 @@
 
 mod clocks;
 mod counts;
+#[cfg(test)]
+mod tests;
 mod tokens;
 mod walk;
 mod way;
-
-#[cfg(test)]
-mod tests;
 
 pub use walk::given;
 pub use way::Way;

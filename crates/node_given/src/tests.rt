@@ -2,7 +2,7 @@
 
 ghost use Rattle.std.specs.Prelude.{◌≡◌};
 
-use crate::{given, Way};
+use crate::{Way, given};
 use node_machine::Seen;
 use st_core::{Kind, Label, Serial};
 
