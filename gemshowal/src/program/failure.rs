@@ -1,7 +1,7 @@
 //! How a command ends, and why there is no result.
 
 use crate::names;
-use gemshowal::{CertificateError, OutOfMemory};
+use gemshowal::{CertificateError, CompleteError, OutOfMemory};
 use std::io::{self, ErrorKind};
 use thiserror::Error;
 
@@ -26,6 +26,8 @@ pub(crate) const PIPE: u8 = 141;
 pub(crate) enum Failure {
     #[error("memory ran out")]
     Memory(#[from] OutOfMemory),
+    #[error("the completion that was built isn't one")]
+    Uncompleted,
     #[error("{0} can't be opened: {2}{1}")]
     Unopened(String, String, #[source] io::Error),
     #[error("{0} can't be read: {1}")]
@@ -93,6 +95,15 @@ impl Failure {
             CertificateError::Memory(error) => error.into(),
             CertificateError::TooLong => Failure::TooLong(name.into()),
             CertificateError::Uncertified => Failure::Uncertified(name.into()),
+        }
+    }
+}
+
+impl From<CompleteError> for Failure {
+    fn from(error: CompleteError) -> Failure {
+        match error {
+            CompleteError::Memory(error) => error.into(),
+            CompleteError::Uncompleted => Failure::Uncompleted,
         }
     }
 }

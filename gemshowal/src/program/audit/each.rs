@@ -8,7 +8,7 @@ use crate::object::Sequence;
 use crate::output::Output;
 use crate::view::{count, grouped, Kept, View};
 use crate::{Failure, Status};
-use gemshowal::{Label, OutOfMemory};
+use gemshowal::{Label, CompleteError};
 use serde::Serialize;
 use std::collections::BTreeMap;
 use std::io::Write;
@@ -80,7 +80,7 @@ fn audited(
     label: u32,
     kept: &Kept,
     sums: &mut Sums,
-) -> Result<(String, Part), OutOfMemory> {
+) -> Result<(String, Part), CompleteError> {
     let trace = auditor.view.trace.part(kept)?;
     let view = auditor.view.part(&trace, kept, true);
     let outcome = Outcome::of(&trace)?;

@@ -19,7 +19,7 @@ use crate::output::{Notes, Output};
 use crate::times::summary;
 use crate::view::{Kept, Place, View};
 use crate::{Failure, Status};
-use gemshowal::{OutOfMemory, Trace};
+use gemshowal::{CompleteError, OutOfMemory, Trace};
 use missing::Missing;
 use sentences::{write_losses, Sentences};
 use std::fs::File;
@@ -133,7 +133,7 @@ impl Auditor<'_> {
     }
 
     /// All that is found of the trace: of one that doesn't fit whether copies or resets explain it.
-    fn audited<'a>(&self, outcome: &'a Outcome) -> Result<Audited<'a>, OutOfMemory> {
+    fn audited<'a>(&self, outcome: &'a Outcome) -> Result<Audited<'a>, CompleteError> {
         let shown = outcome.shown(self.view);
         let missing = outcome.missing(&shown)?;
         let mut audited = Audited { outcome, missing, copies: Vec::new(), parts: Vec::new() };
@@ -147,7 +147,7 @@ impl Auditor<'_> {
     }
 
     /// The events without which a run has the trace, as they are copies of others.
-    fn copies(&self) -> Result<Vec<(Place, Place)>, OutOfMemory> {
+    fn copies(&self) -> Result<Vec<(Place, Place)>, CompleteError> {
         let copies = outcome::copies(self.view);
         if copies.is_empty() {
             return Ok(copies);
@@ -159,7 +159,7 @@ impl Auditor<'_> {
     }
 
     /// The parts between which resets may have been, each audited by itself.
-    fn parts(&self) -> Result<Vec<Part>, OutOfMemory> {
+    fn parts(&self) -> Result<Vec<Part>, CompleteError> {
         let audited = |(kept, trace): (Kept, Trace)| {
             let outcome = Outcome::of(&trace)?;
             Ok(Part { kept, trace, outcome })

@@ -3,7 +3,7 @@
 use super::missing::Missing;
 use crate::reason::Against;
 use crate::view::{Place, Shown, View};
-use gemshowal::{Answer, AuditError, Completion, Event, Fits, OutOfMemory, Paired, Trace};
+use gemshowal::{Answer, AuditError, CompleteError, Completion, Event, Fits, OutOfMemory, Paired, Trace};
 use std::collections::HashMap;
 
 /// What is found of a trace.
@@ -26,10 +26,10 @@ pub(crate) enum Said {
 impl Outcome {
     /// Looks for a run. Counts that begin high are replaced by their ranks, and what needs events
     /// that nobody reported is completed.
-    pub(crate) fn of(trace: &Trace) -> Result<Outcome, OutOfMemory> {
+    pub(crate) fn of(trace: &Trace) -> Result<Outcome, CompleteError> {
         match gemshowal::audit(trace) {
             Ok(fits) => return Ok(Outcome { said: Said::Fits(fits), ranked: None }),
-            Err(AuditError::Memory(error)) => return Err(error),
+            Err(AuditError::Memory(error)) => return Err(error.into()),
             Err(AuditError::Unfit(unfit)) => {
                 if let Some(against) = Against::by_audit(unfit.pid, unfit.index, &unfit.reason) {
                     return Ok(Outcome { said: Said::Never(against), ranked: None });
@@ -40,7 +40,7 @@ impl Outcome {
         if is_other {
             match gemshowal::audit(&ranked) {
                 Ok(fits) => return Ok(Outcome { said: Said::Fits(fits), ranked: Some(ranked) }),
-                Err(AuditError::Memory(error)) => return Err(error),
+                Err(AuditError::Memory(error)) => return Err(error.into()),
                 Err(AuditError::Unfit(_)) => {}
             }
         }
