@@ -139,7 +139,9 @@ impl Chance {
 
 /// The examples that are small.
 fn examples() -> Vec<Vec<u8>> {
-    let folder = Path::new(env!("CARGO_MANIFEST_DIR")).join("../examples");
+    // The package may be built in its own folder, or in the workspace that a script writes.
+    let folders = Path::new(env!("CARGO_MANIFEST_DIR")).ancestors().map(|it| it.join("examples"));
+    let folder = folders.into_iter().find(|it| it.join("order.seqtrace").exists()).unwrap();
     let mut paths: Vec<_> =
         fs::read_dir(folder).unwrap().map(|entry| entry.unwrap().path()).collect();
     paths.sort();
