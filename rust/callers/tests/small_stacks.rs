@@ -15,7 +15,7 @@ const AMPLE: usize = 64 << 20;
 const PROCESSES: usize = 400;
 const MESSAGES: usize = 10_000;
 /// More bytes than a command writes here.
-const ROOM: usize = 16 << 20;
+const ROOM: usize = 64 << 20;
 
 /// Of streams alone, as the words of the command line.
 const OF_STREAMS: &str = "
