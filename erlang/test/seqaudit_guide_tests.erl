@@ -1,17 +1,11 @@
 %% What docs/ERLANG.md and docs/ERLANG-REFERENCE.md quote is what the commands print of the traces that the first tells how
-%% to collect; and what README.md quotes is what they print of examples/.
+%% to collect.
 -module(seqaudit_guide_tests).
 
--export([guide_test_/0, readme_test_/0]).
-
-%% Whatever program was built last.
--define(UNPROVED, <<" (by programs without proofs)">>).
+-export([guide_test_/0]).
 
 guide_test_() ->
     with_programs("the guide", fun guide/1).
-
-readme_test_() ->
-    with_programs("the README", fun readme/1).
 
 with_programs(What, Test) ->
     {timeout, 240, fun() ->
@@ -20,37 +14,6 @@ with_programs(What, Test) ->
             _ -> io:format(user, "~ts: skipped, the programs aren't built~n", [What])
         end
     end}.
-
-%% Its commands are run where there is nothing but its examples, and its picture is what one of them draws.
-readme(Programs) ->
-    Top = filename:dirname(seqaudit_audits:home()),
-    Folder = seqaudit_audits:file("readme"),
-    _ = file:del_dir_r(Folder),
-    ok = filelib:ensure_dir(filename:join([Folder, "examples", "x"])),
-    [{ok, _} = file:copy(File, filename:join([Folder, "examples", filename:basename(File)]))
-     || Pattern <- ["*.txt", "*.seqtrace", "*.terms", "*.facts", "*.notes"],
-        File <- filelib:wildcard(filename:join([Top, "examples", Pattern]))],
-    {ok, Readme} = file:read_file(filename:join(Top, "README.md")),
-    Quoted = quoted(binary:split(Readme, <<"\n">>, [global])),
-    [true = lists:any(fun({Command, _}) -> string:find(Command, Part) =/= nomatch end, Quoted)
-     || Part <- ["seqaudit-node audit", "seqaudit-node chart", "seqaudit audit", "seqtool complete"]],
-    [same(Command, Said, Folder, Programs) || {Command, Said} <- Quoted],
-    {match, Rows} = re:run(Readme, "^\\|[^|]*\\| `(\\w+)` \\|([^|]*)\\|$",
-                           [global, multiline, {capture, all_but_first, binary}]),
-    5 = length(Rows),
-    [said_of(Name, What, Folder, Programs) || [Name, What] <- Rows],
-    [Picture, Picture] = [begin
-                              {ok, Drawing} = file:read_file(filename:join(Where)),
-                              binary:replace(Drawing, ?UNPROVED, <<>>)
-                          end || Where <- [[Folder, "shop.svg"], [Top, "docs", "shop.svg"]]].
-
-%% Each sentence that the table of what goes wrong quotes is what the command says of the trace beside it.
-said_of(Name, What, Folder, Programs) ->
-    Command = [seqaudit_test_shell:node_command(), " audit examples/", Name],
-    {_, Said} = seqaudit_test_shell:run(["cd ", Folder, " && ", Command], Programs),
-    {match, Quoted} = re:run(What, "`([^`]*)`", [global, {capture, all_but_first, binary}]),
-    Proved = seqaudit_test_shell:as_proved(Said),
-    [] = [{Quote, Name, Proved} || [Quote] <- Quoted, binary:match(Proved, Quote) =:= nomatch].
 
 guide(Programs) ->
     Folder = seqaudit_audits:file("guide"),

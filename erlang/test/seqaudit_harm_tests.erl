@@ -213,7 +213,7 @@ collect_errors_test_() ->
                                   {"--node a@h --seconds 0", <<"--seconds can't be 0">>},
                                   {"--node a@h --trigger shop --label 1", <<"shop isn't a function">>},
                                   {"--node a@h --trigger shop:order/2", <<"--trigger and --label go together">>},
-                                  {"--node a@h --trigger a:b/1 --label '{x'", <<"{x isn't an Erlang term">>},
+                                  {"--node a@h --trigger a:b/1 --label '{x'", <<"{x can't be a label; it is an Erlang term">>},
                                   {"--node a@h --times", <<"--times goes with --trigger">>},
                                   {"--node a@h --frobnicate", <<"collect has no option --frobnicate">>}]],
         {3, Small} = run([node_command(), " collect --node nobody@localhost --cookie c --bytes 10 -o ", Name], []),

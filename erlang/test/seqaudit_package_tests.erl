@@ -3,7 +3,7 @@
 
 -export([rebar3_test_/0, metadata_test/0, release_test/0, xref_test_/0, documented_test/0, unload_test_/0]).
 
-%% rebar3 compiles, tests, makes the pages of the modules and the escript, with nothing from the network.
+%% rebar3 compiles, makes the pages of the modules and the escript, with nothing from the network.
 %% The escript does from another folder what the command does: it collects, converts, audits and makes a page.
 rebar3_test_() ->
     {timeout, 600, fun() ->
@@ -21,7 +21,7 @@ packaged(Rebar, Folder) ->
                                       "--exclude=test/ebin rebar.config seqaudit-node src priv test | tar -x -C ",
                                       Folder]),
     [{0, _} = seqaudit_test_shell:run(["cd ", Folder, " && HOME=", Folder, " ", Rebar, " ", Words])
-     || Words <- ["compile", "xref", "eunit", "edoc", "as escript escriptize"]],
+     || Words <- ["compile", "xref", "edoc", "as escript escriptize"]],
     true = filelib:is_regular(filename:join([Folder, "doc", "index.html"])),
     Command = filename:join([Folder, "_build", "escript", "bin", "seqaudit-node"]),
     {0, <<"usage: seqaudit-node COMMAND", _/binary>>} = seqaudit_test_shell:run(["cd / && ", Command, " --help"]),

@@ -523,11 +523,23 @@ call(Term) ->
         _ -> other
     end.
 
-%% @doc The elements of a tuple.
+%% @doc The elements of a tuple; `other' if it isn't one, or if one of them can't be read.
 -spec tuple(encoded()) -> [encoded()] | other.
-tuple(<<?SMALL_TUPLE, Arity, Rest/binary>>) -> elements(Arity, Rest);
-tuple(<<?LARGE_TUPLE, Arity:32, Rest/binary>>) -> elements(Arity, Rest);
+tuple(<<?SMALL_TUPLE, Arity, Rest/binary>>) -> read_elements(Arity, Rest);
+tuple(<<?LARGE_TUPLE, Arity:32, Rest/binary>>) -> read_elements(Arity, Rest);
 tuple(_) -> other.
+
+read_elements(Arity, Bytes) ->
+    unless_unreadable(fun() -> elements(Arity, Bytes) end, other).
+
+%% A message with a term of a newer release is kept with all bytes that follow it, so its parts may
+%% not be readable.
+unless_unreadable(Read, Otherwise) ->
+    try Read()
+    catch
+        throw:damaged -> Otherwise;
+        throw:{newer, _} -> Otherwise
+    end.
 
 elements(0, <<>>) -> [];
 elements(Left, Bytes) ->
@@ -537,7 +549,8 @@ elements(Left, Bytes) ->
 %% @doc The keys of a map, which are atoms, with their values. A pair with another key isn't among
 %% them.
 -spec pairs(encoded()) -> #{binary() => encoded()} | other.
-pairs(<<?MAP, Pairs:32, Rest/binary>>) -> pairs(Pairs, Rest, #{});
+pairs(<<?MAP, Pairs:32, Rest/binary>>) ->
+    unless_unreadable(fun() -> pairs(Pairs, Rest, #{}) end, other);
 pairs(_) -> other.
 
 pairs(0, _Rest, Done) -> Done;
@@ -551,7 +564,7 @@ pairs(Left, Bytes, Done) ->
 
 %% @doc The pairs of a map.
 -spec map(encoded()) -> [{encoded(), encoded()}].
-map(<<?MAP, Pairs:32, Rest/binary>>) -> map(Pairs, Rest);
+map(<<?MAP, Pairs:32, Rest/binary>>) -> unless_unreadable(fun() -> map(Pairs, Rest) end, []);
 map(_) -> [].
 
 map(0, _Rest) -> [];
@@ -563,7 +576,7 @@ map(Left, Bytes) ->
 %% @doc The elements of a list.
 -spec list(encoded()) -> [encoded()].
 list(<<?LIST, Length:32, Rest/binary>>) ->
-    lists:droplast(elements(Length + 1, Rest));
+    unless_unreadable(fun() -> lists:droplast(elements(Length + 1, Rest)) end, []);
 list(_) -> [].
 
 %% @doc What is known of a process as a term.
@@ -596,16 +609,22 @@ part(<<?NEWER_REFERENCE, Words:16, ?ATOM, Size:16, _:Size/binary, _Creation:32, 
     {Ids, Rest} = ids(Words, Rest0, []),
     {leaf, {reference, Ids}, Rest};
 part(<<?EXPORT, Rest/binary>>) ->
-    {Module, Rest0} = one(Rest),
-    {Function, Rest1} = one(Rest0),
-    {Arity, After} = one(Rest1),
-    {leaf, {export, <<?SMALL_TUPLE, 3, Module/binary, Function/binary, Arity/binary>>}, After};
+    try export(Rest)
+    catch
+        throw:{newer, Tag} -> {newer, Tag}
+    end;
 part(Bytes) ->
     try one(Bytes) of
         {Leaf, Rest} -> {leaf, leaf(Leaf), Rest}
     catch
         throw:{newer, Tag} -> {newer, Tag}
     end.
+
+export(Bytes) ->
+    {Module, Rest0} = one(Bytes),
+    {Function, Rest1} = one(Rest0),
+    {Arity, Rest} = one(Rest1),
+    {leaf, {export, <<?SMALL_TUPLE, 3, Module/binary, Function/binary, Arity/binary>>}, Rest}.
 
 %% The names of so many atoms.
 atoms(0, Rest, Names) ->
@@ -677,15 +696,18 @@ printable(Characters) ->
 %% @doc The process and the alias of a request of `gen_server' and its kin, which the reply goes to.
 -spec request(encoded()) -> {Owner :: encoded(), Alias :: encoded()} | none.
 request(<<?SMALL_TUPLE, 3, ?ATOM, 9:16, "$gen_call", ?SMALL_TUPLE, 2, Rest/binary>>) ->
-    {Owner, Tag} = one(Rest),
+    unless_unreadable(fun() -> called(Rest) end, none);
+request(_) ->
+    none.
+
+called(Bytes) ->
+    {Owner, Tag} = one(Bytes),
     case Tag of
         <<?LIST, 1:32, ?ATOM, 5:16, "alias", Alias/binary>> -> {Owner, alias_in(Alias)};
         <<?LIST, _:32, ?LIST, 1:32, ?ATOM, 5:16, "alias", Alias/binary>> ->
             {Owner, alias_in(Alias)};
         _ -> none
-    end;
-request(_) ->
-    none.
+    end.
 
 alias_in(Bytes) ->
     {Alias, _} = one(Bytes),

@@ -417,7 +417,7 @@ atom_text(Name) ->
 quoted_atom(Name) ->
     case needs_quotes_alone(Name) of
         true -> <<$', Name/binary, $'>>;
-        false -> quoted(unicode:characters_to_list(Name), $')
+        false -> quoted(name_characters(Name), $')
     end.
 
 needs_quotes_alone(<<C, Rest/binary>>)
@@ -456,13 +456,20 @@ is_reserved(<<"when">>) -> true;
 is_reserved(<<"xor">>) -> true;
 is_reserved(_) -> false.
 
+%% A damaged file can name an atom in bytes that aren't UTF-8; they are read as Latin-1.
+name_characters(Name) ->
+    case unicode:characters_to_list(Name) of
+        Characters when is_list(Characters) -> Characters;
+        _ -> binary_to_list(Name)
+    end.
+
 quoted(Characters, Quote) -> unicode:characters_to_binary(io_lib:write_string(Characters, Quote)).
 
 formatted(Format, Values) -> unicode:characters_to_binary(io_lib:format(Format, Values)).
 
 is_plain(<<C, Rest/binary>>) when ?IS_SMALL_ASCII(C) -> is_in_atom(Rest);
 is_plain(<<First/utf8, Rest/binary>>) -> ?IS_SMALL(First) andalso is_in_atom(Rest);
-is_plain(<<>>) -> false.
+is_plain(_) -> false.
 
 is_in_atom(<<C, Rest/binary>>) when ?IS_SMALL_ASCII(C) -> is_in_atom(Rest);
 is_in_atom(<<C/utf8, Rest/binary>>) when ?IS_SMALL(C); ?IS_IN_ATOM(C) -> is_in_atom(Rest);
