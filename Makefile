@@ -12,7 +12,7 @@ CODE := crates.txt .ci/quick .ci/quick-clang $(filter %.rt,$(SOURCES))
 # The tests' judges assert: Python must not leave assertions out.
 unexport PYTHONOPTIMIZE
 
-.PHONY: help quick try program demo install uninstall test gate wrong-bodies layout layers clauses plan docs tables test-kit test-program test-erlang test-conformance test-rust test-readme test-coq rust dist bench hostile clean distclean
+.PHONY: help quick try program demo install uninstall test gate wrong-bodies layout layers clauses planned plan docs tables test-kit test-program test-erlang test-conformance test-rust test-readme test-coq rust dist bench hostile clean distclean
 .DELETE_ON_ERROR:
 
 help:
@@ -68,7 +68,7 @@ test: ## the merge gate: all proofs from nothing, the wrong bodies of must-fail/
 	@mkdir -p bin; set -o pipefail; $(MAKE) --no-print-directory gate 2>&1 | tee bin/test.log; status=$$?; \
 	echo; grep -E '\bskipped\b' bin/test.log | sort -u || echo 'Nothing was skipped.'; exit $$status
 
-gate: layout layers clauses plan tables
+gate: layout layers clauses planned plan tables
 	rt ci
 	@if command -v erl >/dev/null; then $(MAKE) --no-print-directory -C erlang compiled; fi
 	@$(MAKE) --no-print-directory -j$(PARTS_AT_ONCE) --output-sync=target test-program test-erlang test-conformance test-rust
@@ -90,8 +90,11 @@ layers: ## looks what each crate cites of the others, and for names that two hav
 clauses: ## looks for functions without a clause (1 second)
 	@.ci/clauses
 
+planned: ## compares the public calls with those that were planned (1 second)
+	@tests/planned/compare
+
 plan: ## plans builds of made-up crates, as make program plans the real one (1 second)
-	@.ci/prove --self-test
+	@tests/build_plan
 
 docs: ## writes into the pages what the sources decide: limits, crates, counts, the functions of CALLING.md (1 second)
 	@.ci/tables
