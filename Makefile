@@ -124,7 +124,7 @@ test-program: ## the programs that were built last: examples/, random traces, a 
 	@tests/seqaudit $(BUILT)
 	@tests/demo-seqtool $(BUILT_TOOL)
 	@tests/worked-cases $(BUILT_TOOL) worked-seqtool
-	@if command -v python3 >/dev/null; then tests/seqtool $(BUILT_TOOL) && tests/completions/small.py $(BUILT_TOOL) 2000 && tests/node_law.py && tests/hostile --tool $(BUILT_TOOL) $(BUILT) $(FAULTS); \
+	@if command -v python3 >/dev/null; then tests/surroundings $(BUILT) $(BUILT_TOOL) && tests/seqtool $(BUILT_TOOL) && tests/completions/small.py $(BUILT_TOOL) 2000 && tests/node_law.py && tests/hostile --tool $(BUILT_TOOL) $(BUILT) $(FAULTS); \
 	else echo "There is no python3 here: seqtool's words, its small streams and the faults are skipped."; fi
 
 # Traces of a real Erlang node, if there is one, by the program that was built last.

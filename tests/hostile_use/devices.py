@@ -57,7 +57,8 @@ def sinks_fail(program, name):
         yield expect(f"{called} is a full disk", Answer(4, b""), program.run(words, given, stdout=full))
     source, sink = os.pipe()
     os.close(source)
-    yield expect(f"{called} is a pipe without a reader", Answer(4, b""), program.run(words, given, stdout=sink))
+    # A shell says 141 of a program that the signal SIGPIPE ended, as `head` ends others.
+    yield expect(f"{called} is a pipe without a reader", Answer(141, b""), program.run(words, given, stdout=sink))
     os.close(sink)
     for place in range(len(right) + 1):
         # Without the signal SIGXFSZ, which `trap` has ignored, a write past the limit is an error.

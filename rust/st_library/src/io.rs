@@ -52,16 +52,6 @@ fn was_open(_: usize) -> Result<()> {
     Ok(())
 }
 
-/// Ends the program if nobody reads its output any more, as `head` doesn't once it has its lines: silently, and with the
-/// status that shells report of a program that the signal SIGPIPE ended.
-fn or_end<T>(written: Result<T>) -> Result<T> {
-    const ENDED_BY_SIGPIPE: i32 = 141;
-    if written.as_ref().is_err_and(|error| error.kind() == ErrorKind::BrokenPipe) {
-        std::process::exit(ENDED_BY_SIGPIPE);
-    }
-    written
-}
-
 /// Standard input. Theirs reads the file as it is; here Rust's buffer is between, which a large piece passes by.
 #[derive(Debug)]
 pub struct Stdin;
@@ -75,7 +65,7 @@ impl Read for Stdin {
     }
 }
 
-/// Standard output. As theirs, it writes each piece at once; if nobody reads it, the program ends (`or_end`).
+/// Standard output. As theirs, it writes each piece at once.
 #[derive(Debug)]
 pub struct Stdout;
 
@@ -98,14 +88,14 @@ fn output() -> Result<&'static std::fs::File> {
 impl Write for Stdout {
     #[cfg(unix)]
     fn write(&mut self, piece: &[u8]) -> Result<usize> {
-        or_end(output()?.write(piece))
+        output()?.write(piece)
     }
 
     #[cfg(not(unix))]
     fn write(&mut self, piece: &[u8]) -> Result<usize> {
         let mut out = std::io::stdout().lock();
-        let taken = or_end(out.write(piece))?;
-        or_end(out.flush())?;
+        let taken = out.write(piece)?;
+        out.flush()?;
         Ok(taken)
     }
 
