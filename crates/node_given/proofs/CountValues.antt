@@ -1,4 +1,4 @@
--- What the sums of the walk come to modulo the sizes of counters and serials.
+-- The sums of the walk, modulo the sizes of counters and serials.
 use Rattle.std.proofs.Common.{◌≡◌, ℕ, ◌+◌, ◌-◌, ◌^◌, ◌%◌, ◌<◌, refl, arith, ◌∙◌, ap}
 use Rattle.std.proofs.Math.Nat.{mod-eq_of_lt}
 use Rattle.std.proofs.Math.Pow.{mod-mod-pow}

@@ -1,4 +1,4 @@
--- What the tests of the walk say of a stamp.
+-- The tests of the walk decide what gives a stamp.
 use Rattle.std.proofs.Common.{◌≡◌, ◌≢◌, ℕ, ◌<◌, ◌≤◌, ◌^◌, ◌⊎◌, ◌||◌, max, cond, Bool, true, false}
 use Rattle.std.proofs.Common.{zero, suc, get_or, length, take, Some, ◌+◌, List, [], ◌∷◌, ◌++◌}
 use Rattle.std.proofs.Common.{Result, Ok, Err, OnOk, inl, inr, refl, arith, sym, ◌∙◌, ap, subst}
@@ -130,7 +130,7 @@ ends_split (e ∷ d ∷ es) is =
       taken = rest.taken;
     }
 
--- last behind events that end in a receive is its count
+-- last after events that end in a receive is its count
 last_taken : (es front : List Seen) (receive : Seen) → es ≡ front ++ receive ∷ []
     → takes receive ≡ true → last_behind 0 es ≡ receive.serial.this
 last_taken es front receive split taken =
@@ -172,7 +172,7 @@ lowered_clock es e token clock fit low fits next =
     let once = count_once n clock below fits (sym count ∙ sym next) in
     omega arith
 
--- a token that was held and leads there beside the receive was held before it
+-- a token that was held and leads there with the receive was held before it
 before_receive : (front : List Seen) (receive : Seen) (token : Serial) → takes receive ≡ true
     → receive.serial.this < token.this → IsAmong (tokens (front ++ receive ∷ [])) token
     → IsAmong (tokens front) token

@@ -1,4 +1,4 @@
--- What the ways say of runs, by the laws of the node.
+-- The ways hold in runs, by the laws of the node.
 use Rattle.std.proofs.Common.{◌≡◌, ℕ, ◌≤◌, true, false, List, [], arith, length, take, Some, sym}
 use Rattle.std.proofs.Common.{◌∙◌, ap, subst}
 use Rattle.std.specs.List.{slice_get}

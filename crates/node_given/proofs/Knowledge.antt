@@ -1,4 +1,4 @@
--- What is known behind events, with one event more.
+-- The knowledge after events, with one event more.
 use Rattle.std.proofs.Common.{◌≡◌, ℕ, ◌<◌, ◌^◌, ◌==◌, ◌&&◌, max, not, cond, Bool, true, false}
 use Rattle.std.proofs.Common.{List, [], ◌∷◌, ◌++◌, map, inl, inr, refl, arith, sym, ◌∙◌, ap, subst}
 use Rattle.std.specs.List.{filter}

@@ -47,7 +47,7 @@ found xs prev this true count before o same is old =
     inl (λ i. record { prev = prevs i; this = counts i })
 found xs prev this false count before o same is old = inr (old is)
 
--- tables before and behind a serial more
+-- tables before and after a serial more
 pub noted : (xs : List Serial) (prev this : ℕ) (t u : Tokens) → AreTokens xs t
     → ((q : ℕ × ℕ) → contains same_pair u.serials q
     ≡ cond (same_pair (prev, this) q) true (contains same_pair t.serials q))

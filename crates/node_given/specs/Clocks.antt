@@ -11,13 +11,13 @@ abbrev pub leads_elsewhere : ℕ → ℕ → Seen → ℕ → Bool
 leads_elsewhere lift last e k =
     is_next (max k lift) last e && not (next_clock (max k lift) == clock_put_back e)
 
--- the clocks behind a stamp, each of them once
+-- the clocks after a stamp, each of them once
 abbrev pub clocks_by_stamp : ℕ → ℕ → Seen → List ℕ → List ℕ
 clocks_by_stamp lift last e ks =
     map (λ k. next_clock (max k lift)) (filter (leads_elsewhere lift last e) ks)
     ++ clock_put_back e ∷ []
 
--- these clocks, lifted, are those behind the events in all ways to read them
+-- these clocks, lifted, are those after the events in all ways to read them
 pub record AreClocks (ks : List ℕ) (lift : ℕ) (es : List Seen) : Type 0 where
   pub sound : (k : ℕ) → IsAmong ks k
       → (r : Reading) × IsAmong (readings es) r × (r.clock ≡ max k lift)

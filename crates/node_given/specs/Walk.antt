@@ -1,4 +1,4 @@
--- What the walk says of each event, and what it knows behind events.
+-- The walk's result for each event, and its knowledge after events.
 use Rattle.std.specs.Prelude.{◌≡◌, ℕ, ◌<◌, ◌^◌, Bool, true, false, List, [], ◌∷◌}
 use Rattle.std.specs.List.{AllByRecursion}
 use Rattle.st_core.specs.declared.types.Serial.{Serial}
@@ -25,7 +25,7 @@ pub record IsPutBackNow (es : List Seen) (e : Seen) (token : Serial) : Type 0 wh
   pub prev : token.prev ≡ e.serial.prev
   pub count : e.serial.this ≡ stamp_count token.this
 
--- what gives the event e behind these events. A put-back is named only for a stamp that goes on in
+-- what gives the event e after these events. A put-back is named only for a stamp that goes on in
 -- no way to read the events
 abbrev pub IsWay : List Seen → Seen → Way → Type 0
 IsWay es e way.Receive = is_receipt e ≡ true
@@ -48,7 +48,7 @@ ends_in_take [] = false
 ends_in_take (e ∷ []) = takes e
 ends_in_take (e ∷ d ∷ es) = ends_in_take (d ∷ es)
 
--- what the walk knows behind events
+-- what the walk knows after events
 pub record IsKnown (es : List Seen) (ks : List ℕ) (lift last : ℕ) (taking : Bool)
     (t : Tokens) : Type 0 where
   pub clocks_are : AreClocks ks lift es

@@ -1,4 +1,4 @@
-//! The clocks behind the last stamp of a process, in all ways to read its events.
+//! The clocks after the last stamp of a process, in all ways to read its events.
 //!
 //! They have the stamp's count in common, and differ only in the four bits that a serial hides: so
 //! there are few. As long as no clock has passed 60 bits there is one.
@@ -24,7 +24,7 @@ pub(crate) fn some_goes_on(clocks: &[u64], lift: u64, last: u64, stamp: Seen) ->
     false
 }
 
-/// The clocks behind a stamp: those that went on, and that which a put-back leads to.
+/// The clocks after a stamp: those that went on, and that which a put-back leads to.
 pub(crate) fn behind_stamp(
     alloc: Global,
     clocks: &[u64],

@@ -51,7 +51,7 @@ pub(crate) fn last_of_answer(count: u64) -> u64
     clock_of_answer(count) % SERIAL_END
 }
 
-/// The clock behind a stamp before which a token was put back.
+/// The clock after a stamp before which a token was put back.
 pub(crate) fn clock_after_put_back(stamp: Seen) -> u64
     ensures { result ≡ clock_put_back stamp }
 {

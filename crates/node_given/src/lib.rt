@@ -1,4 +1,5 @@
-//! What gives each stamp of a process that ran on a standard node, by one walk over its events.
+//! Finds what gives each stamp of a process that ran on a standard node, by one walk over its
+//! events.
 #![tactic(auto)]
 
 mod clocks;

@@ -1,4 +1,4 @@
-//! What no contract says: that `given` returns.
+//! Tests that `given` returns, which no contract says.
 
 ghost use Rattle.std.specs.Prelude.{◌≡◌};
 

@@ -26,11 +26,11 @@ use node_machine::Seen;
 use st_core::{Kind, Serial};
 use std::alloc::{AllocError, Global};
 
-/// What is known behind some events of a process.
+/// The knowledge after some events of a process.
 #[derive(Drop)]
 pub(crate) struct Walk {
     alloc: Global,
-    /// The clocks behind the last stamp or answer, in all ways to read the events.
+    /// The clocks after the last stamp or answer, in all ways to read the events.
     clocks: Vec<u64>,
     /// The greatest count that was received since, to which it lifts the clocks.
     lift: u64,
@@ -89,7 +89,7 @@ impl Walk {
         Some(Serial { prev, this: clock })
     }
 
-    /// What gives a stamp.
+    /// Returns what gives a stamp.
     fn way(&self, stamp: Seen) -> Way
         requires { stamp.serial.this < 2 ^ 60 }
         ensures { (es : List SeenValue) → is_receipt stamp ≡ false
@@ -186,11 +186,11 @@ impl Walk {
     }
 }
 
-/// What gives each event of one process, in order, if it ran on a standard node. In a serial a
-/// count is the number from 0 to 2^60 - 1 that has its bits.
+/// Finds what gives each event of one process, in order, if it ran on a standard node. In a serial
+/// a count is the number from 0 to 2^60 - 1 that has its bits.
 ///
 /// In each run in which these are its events, and it reported each stamp and each receive of a
-/// token, it put back at least as many tokens as are named, each of them behind the stamp before
+/// token, it put back at least as many tokens as are named, each of them after the stamp before
 /// that for which it is named. If a stamp is ungiven, it put back one that wasn't its own.
 pub fn given(alloc: Global, events: &[Seen]) -> Result<Vec<Way>, AllocError>
     requires { AreFit events.now }

@@ -1,4 +1,4 @@
-//! What gives an event.
+//! The way in which an event is given.
 
 use st_core::Serial;
 
@@ -7,11 +7,11 @@ use st_core::Serial;
 pub enum Way {
     /// It is a receive.
     Receive,
-    /// It goes on from the counts behind the events.
+    /// It goes on from the counts after the events.
     Plain,
-    /// This token, which the process had before or can have made, was put back right before it.
+    /// A token that the process had before, or can have made, was put back right before the stamp.
     PutBack(Serial),
-    /// This token was put back right before the receive before it, which brought its prev.
+    /// A token was put back right before the receive before the stamp, which brought its prev.
     Lowered(Serial),
     /// No token that the process had gives it.
     Ungiven,

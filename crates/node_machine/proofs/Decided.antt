@@ -62,7 +62,7 @@ leads_by (u ∷ ts) back e is = elim (or_parts (is_next (clock_behind u.this bac
       | inr later ↦ let found = leads_by ts back e later in (found.0, inr found.1, found.2)
     ]
 
--- a token put back behind some front, as a test
+-- a token put back after some front, as a test
 put_true : (front back : List Seen) (e : Seen) → are_taken back ≡ true
     → leads (tokens front) back e ≡ true
     → put_back_gives front back e ≡ true

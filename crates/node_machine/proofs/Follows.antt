@@ -228,7 +228,7 @@ module _ (all : List Seen) where
     lifted : clock ≡ answer_count answer.serial.this
     count : serial_count (answer_count answer.serial.this) ≡ last
 
-  -- behind these events a process with these counts has a token of this serial and label, whose
+  -- after these events a process with these counts has a token of this serial and label, whose
   -- origin is this: the counts lead to the token's successor, or the token came with the last
   -- event, or it was made or labelled since the last event, or kept in an answer
   record IsInForce (es : List Seen) (clock last : ℕ) (x : Serial) (label : Label)
@@ -487,7 +487,7 @@ module _ (all : List Seen) where
         silently c.silent (λ u is.
         subst (λ (y : Token). InForce es m y now) (same_Some c.token u (sym c.back.token ∙ is)) here)
 
-    -- behind an act that reported a send
+    -- after an act that reported a send
     next_just : Carries es rest held l m told before now → (e : Seen) → told ≡ Some e
         → is_receipt e ≡ false
         → (u : Token) → m.token ≡ Some u → JustStamped (es ++ option_to_list told) u.label now

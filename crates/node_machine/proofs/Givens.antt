@@ -69,7 +69,7 @@ told_same es l m same told = record {
 
 -- ONE ACT
 
--- last behind a stamp is its prev
+-- last after a stamp is its prev
 pub stamp_last : (es : List Seen) (l m : LocalState) (e : Seen) → IsStamp l m e
     → m.last ≡ last_behind 0 (es ++ e ∷ [])
 stamp_last es l m e stamp =
@@ -101,7 +101,7 @@ stamp_plain es l m e stamp plain =
       last_is = stamp_last es l m e stamp;
     }
 
--- a stamp behind a put-back
+-- a stamp after a put-back
 pub stamp_back : (es : List Seen) (l m : LocalState) (e : Seen) → IsStamp l m e
     → FitsSerial l.clock
     → IsStraight (es ++ e ∷ []) m.clock m.last

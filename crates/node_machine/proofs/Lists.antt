@@ -1,4 +1,4 @@
--- What holds of each member of a list, and which lists have it.
+-- Facts about each member of a list, and which lists have it.
 use Rattle.std.proofs.Common.{◌⊎◌, List, [], ◌∷◌, ◌++◌, inl, inr, subst}
 use Rattle.std.specs.List.{AllByRecursion}
 use Rattle.node_machine.specs.Premises.{IsAmong}

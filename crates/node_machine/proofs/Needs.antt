@@ -76,7 +76,7 @@ stamp_read es spent l m e stamp now =
       }
     ]
 
--- what is spent behind an act, by the token that it puts back
+-- what is spent after an act, by the token that it puts back
 abbrev counted : Option Token → ℕ → ℕ
 counted None spent = spent
 counted (Some t) spent = 1 + spent
@@ -125,7 +125,7 @@ next_read es spent None l m (Some e) (inr (inr answer)) now = record {
   );
 }
 
--- a way to read events with at most so many put-backs
+-- a way to read events with at most n put-backs
 abbrev ReadsWithin : List Seen → ℕ → Type 0
 ReadsWithin es n = (r : Reading) × IsAmong (readings es) r × (r.put_backs ≤ n)
 

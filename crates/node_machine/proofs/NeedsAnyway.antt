@@ -1,5 +1,5 @@
 -- Whatever is stamped unreported: a stamp with another prev than the last before it had a token put
--- back behind the reported stamp before it.
+-- back after the reported stamp before it.
 use Rattle.std.proofs.Common.{◌≡◌, ℕ, ◌+◌, ◌⊎◌, ◌&&◌, ◌==◌, ◌≤◌, true, false, cond, List, [], ◌∷◌}
 use Rattle.std.proofs.Common.{◌++◌}
 use Rattle.std.proofs.Common.{Option, Some, None, is_some, option_to_list, inl, inr, refl, arith}
@@ -52,7 +52,7 @@ next_no_need last e is prev =
     ap (λ b. cond b 0 (cond (e.serial.prev == last) 0 1)) is
     ∙ ap (λ b. cond b 0 1) (eq-eqb e.serial.prev last prev)
 
--- an act with what it needs, and what is to spare behind it
+-- an act with what it needs, and what is to spare after it
 record IsPaid (spare last : ℕ) (back : Option Token) (m : LocalState)
     (report : Option Seen) : Type 0 where
   more : ℕ

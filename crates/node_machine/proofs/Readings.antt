@@ -97,7 +97,7 @@ some_reading es =
     let start : Reading = record { clock = 0; put_backs = 0 } in
     some_from 0 es (start ∷ []) start (inl refl)
 
--- a clock that fits a serial is behind a stamp what the reading with a put-back says
+-- a clock that fits a serial is after a stamp what the reading with a put-back says
 pub clock_fits : (clock : ℕ) (e : Seen) → FitsSerial clock → e.serial.this ≡ stamp_count clock
     → next_clock clock ≡ clock_put_back e
 clock_fits clock e fits count = elim (cases_order (clock + 1) (2 ^ 60)) [

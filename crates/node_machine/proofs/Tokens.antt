@@ -1,4 +1,4 @@
--- The serials that events show as held, and the counts behind them, with one more event.
+-- The serials that events show as held, and the counts after them, with one more event.
 use Rattle.std.proofs.Common.{◌≡◌, ℕ, ◌⊎◌, max, not, Bool, true, false, cond, List, [], ◌∷◌, ◌++◌}
 use Rattle.std.proofs.Common.{inl, inr, refl, sym, ◌∙◌, ap, subst}
 use Rattle.std.proofs.lemmas.Bool.{and_parts}

@@ -32,7 +32,7 @@ abbrev pub all_home : List TokenOrigin
 all_home = Home ∷ Home ∷ Home ∷ Home ∷ Home ∷ Home ∷ []
 
 -- A run through the wrap: a process puts back a token whose count is next to the greatest, and
--- sends twice to another, which prints behind each receive.
+-- sends twice to another, which prints after each receive.
 abbrev pub sender : Pid
 sender = record { node = 0; number = 2 }
 
@@ -51,7 +51,7 @@ wraps = Common (act.Tracer printer true) ∷ Common (act.Restore sender greatest
     ∷ Common (act.Print printer 6) ∷ Common (act.Send sender printer 7)
     ∷ Common (act.Receive printer want.First) ∷ Common (act.Print printer 8) ∷ []
 
--- what the printer's serials show: behind the greatest count comes 0, and its clock, which that
+-- what the printer's serials show: after the greatest count comes 0, and its clock, which that
 -- lifted above all counts, isn't lowered by a receive of 0
 abbrev pub wrapped_serials : List Serial
 wrapped_serials = record { prev = 0; this = 2 ^ 60 - 1 } ∷ record { prev = 2 ^ 60 - 1; this = 0 }

@@ -1,4 +1,4 @@
--- What the events of one process say of its next stamp: which serials the tokens that they show
+-- The evidence of one process's events for its next stamp: which serials the tokens that they show
 -- give.
 use Rattle.std.specs.Prelude.{◌≡◌, ◌⊎◌, ℕ, ◌+◌, ◌==◌, ◌&&◌, ◌||◌, not, Bool, true, false, List, []}
 use Rattle.std.specs.Prelude.{◌∷◌, ◌++◌, length, if◌then◌else◌}
@@ -31,7 +31,7 @@ abbrev pub tokens : List Seen → List Serial
 tokens [] = fresh 0 ∷ []
 tokens (e ∷ es) = shown e ++ tokens es
 
--- these counts are there behind the events if nothing was put back since the last stamp, or an
+-- these counts are there after the events if nothing was put back since the last stamp, or an
 -- answer came since
 pub record IsStraight (es : List Seen) (clock last : ℕ) : Type 0 where
   pub reading : Reading
@@ -39,8 +39,8 @@ pub record IsStraight (es : List Seen) (clock last : ℕ) : Type 0 where
   pub clock_is : clock ≡ reading.clock
   pub last_is : last ≡ last_behind 0 es
 
--- these counts are there behind the events, if a token that the process held was put back right
--- behind the front ones, and only receives came since, which took a token. If none came, the next
+-- these counts are there after the events, if a token that the process held was put back right
+-- after the front ones, and only receives came since, which took a token. If none came, the next
 -- stamp is that token's successor (again, or fresh); else the receives brought last on, and the
 -- clock only from the token's count (lowered)
 pub record IsPutBack (es : List Seen) (clock last : ℕ) : Type 0 where
@@ -53,7 +53,7 @@ pub record IsPutBack (es : List Seen) (clock last : ℕ) : Type 0 where
   pub clock_is : clock ≡ clock_behind token.this back
   pub last_is : last ≡ last_behind token.prev back
 
--- the stamp e is given by the events before it: it goes on from counts that are there behind them
+-- the stamp e is given by the events before it: it goes on from counts that are there after them
 pub record IsGiven (es : List Seen) (e : Seen) : Type 0 where
   pub clock : ℕ
   pub count : e.serial.this ≡ stamp_count clock
@@ -84,7 +84,7 @@ put_back_gives front (d ∷ back) e =
 abbrev pub is_given : List Seen → Seen → Bool
 is_given es e = some_reading_gives es e || put_back_gives [] es e
 
--- a token was put back at one of these places behind the last stamp of these events, and behind the
+-- a token was put back at one of these places after the last stamp of these events, and after the
 -- last answer
 pub record IsMet (places : List ℕ) (es : List Seen) : Type 0 where
   pub front : List Seen
@@ -93,7 +93,7 @@ pub record IsMet (places : List ℕ) (es : List Seen) : Type 0 where
   pub receives : AllByRecursion (λ e. takes e ≡ true) back
   pub place : IsAmong places (length front)
 
--- how many stamps among these events have another prev than the last behind the events before them
+-- how many stamps among these events have another prev than the last after the events before them
 abbrev pub strange_prevs_from : ℕ → List Seen → ℕ
 strange_prevs_from last [] = 0
 strange_prevs_from last (e ∷ es) =

@@ -1,5 +1,5 @@
 -- The standard node as a machine. A set on no token, a token that is put back, and the answer that
--- `spawn` waits for move other counts than the manual says, and counts begin again at 0 behind the
+-- `spawn` waits for move other counts than the manual says, and counts begin again at 0 after the
 -- greatest. All else is as in the machine of the manual.
 --
 -- The clock is a counter. Last is kept as a serial shows it, since its upper bits are compared with

@@ -1,4 +1,4 @@
--- What a stamp's token came from in a run of the node, and what the events of its process say of
+-- The origin of a stamp's token in a run of the node, and what the events of its process say of
 -- that.
 use Rattle.std.specs.Prelude.{◌≡◌, ◌⊎◌, ℕ, ◌<◌, ◌≤◌, suc, Bool, true, false, List, [], ◌∷◌, ◌++◌}
 use Rattle.std.specs.Prelude.{length, max, take}
@@ -122,8 +122,8 @@ origins_told (a ∷ acts) (o ∷ os) (h ∷ hs) p =
 abbrev pub told_send : Outcome → Bool
 told_send o = option_map_or (λ e. kind_eq e.kind kind.Send) o.report false
 
--- each answer that p reports comes right behind an act of p that reported a send: its request. This
--- is of the acts behind one of p that did
+-- each answer that p reports comes right after an act of p that reported a send: its request. This
+-- is of the acts after one of p that did
 abbrev pub AnswersComeNext : Pid → Bool → List NodeAct → List Outcome → Type 0
 AnswersComeNext p sent [] os = Unit {0}
 AnswersComeNext p sent (a ∷ acts) [] = Unit {0}
@@ -164,7 +164,7 @@ pub record IsSuccessor (receive : Bool) (es : List Seen) (i k : ℕ) : Type 0 wh
   pub prev : event.serial.prev ≡ stamp.serial.prev
   pub count : stamp.serial.this ≡ stamp_count event.serial.this
 
--- the event at index k is a stamp, an answer is right behind it, and then the stamp at index i,
+-- the event at index k is a stamp, an answer is right after it, and then the stamp at index i,
 -- which has its label and goes on from the answer's count
 pub record IsAnsweredAt (es : List Seen) (i k : ℕ) : Type 0 where
   pub stamp : Seen
@@ -180,7 +180,7 @@ pub record IsAnsweredAt (es : List Seen) (i k : ℕ) : Type 0 where
   pub prev : serial_count (answer_count answer.serial.this) ≡ stamp.serial.prev
   pub count : stamp.serial.this ≡ stamp_count (answer_count answer.serial.this)
 
--- behind the front events the process may have given its token the stamp's label: right before the
+-- after the front events the process may have given its token the stamp's label: right before the
 -- stamp, or then the stamp is the successor of a token that was held up to there
 pub record IsAtHome (es : List Seen) (i : ℕ) : Type 0 where
   pub stamp : Seen

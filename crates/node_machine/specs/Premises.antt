@@ -1,4 +1,4 @@
--- What a run has to keep to for its streams to tell of the tokens of a process.
+-- The premises on a run under which its streams tell of the tokens of a process.
 use Rattle.std.specs.Prelude.{◌≡◌, ◌⊎◌, ℕ, ◌+◌, Bool, true, false, ◌&&◌, List, [], ◌∷◌, ◌++◌}
 use Rattle.std.specs.Prelude.{length, Option, Some, None}
 use Rattle.std.specs.Prelude.{if◌then◌else◌, is_some, IsSome, option_map, option_to_list}

@@ -17,23 +17,23 @@ is_receipt e = kind_eq e.kind kind.Receive
 abbrev pub count_taken : Seen → ℕ
 count_taken e = if e.answer then serial_count (answer_count e.serial.this) else e.serial.this
 
--- the last behind an event: what a receive leaves, a stamp's prev
+-- the last after an event: what a receive leaves, a stamp's prev
 abbrev pub last_by : Seen → ℕ
 last_by e = if is_receipt e then count_taken e else e.serial.prev
 
--- the last behind events, from this one, if no token is put back behind the last stamp
+-- the last after events, from this one, if no token is put back after the last stamp
 abbrev pub last_behind : ℕ → List Seen → ℕ
 last_behind last [] = last
 last_behind last (e ∷ es) = last_behind (last_by e) es
 
 -- CLOCK
 
--- the clock behind a receive, from this one: the greater of the clock and the count, unsigned; an
+-- the clock after a receive, from this one: the greater of the clock and the count, unsigned; an
 -- answer brings its own
 abbrev pub clock_by : Seen → ℕ → ℕ
 clock_by e clock = if e.answer then answer_count e.serial.this else max clock e.serial.this
 
--- the clock behind receives
+-- the clock after receives
 abbrev pub clock_behind : ℕ → List Seen → ℕ
 clock_behind clock [] = clock
 clock_behind clock (e ∷ es) = clock_behind (clock_by e clock) es
@@ -42,8 +42,8 @@ clock_behind clock (e ∷ es) = clock_behind (clock_by e clock) es
 abbrev pub is_next : ℕ → ℕ → Seen → Bool
 is_next clock last e = e.serial.this == stamp_count clock && e.serial.prev == last
 
--- the clock behind a stamp, if a token was put back since the stamp before it and no answer came
--- since: the clock before the stamp had the 60 bits of a serial, so behind it only the greatest of
+-- the clock after a stamp, if a token was put back since the stamp before it and no answer came
+-- since: the clock before the stamp had the 60 bits of a serial, so after it only the greatest of
 -- them can lead to 2^60, which a serial shows as 0
 abbrev pub clock_put_back : Seen → ℕ
 clock_put_back e = if e.serial.this == 0 then 2 ^ 60 else e.serial.this
@@ -62,7 +62,7 @@ going_on r = record r { clock = next_clock r.clock }
 abbrev pub put_back_before : Seen → Reading → Reading
 put_back_before e r = record { clock = clock_put_back e; put_backs = r.put_backs + 1 }
 
--- the ways to read a stamp more, behind this last
+-- the ways to read a stamp more, after this last
 abbrev pub stamp_readings : ℕ → Seen → Reading → List Reading
 stamp_readings last e r =
     (if is_next r.clock last e then going_on r ∷ [] else []) ++ put_back_before e r ∷ []
@@ -85,7 +85,7 @@ readings es = readings_from 0 es (record { clock = 0; put_backs = 0 } ∷ [])
 abbrev pub NeedsAtLeast : List Seen → ℕ → Type 0
 NeedsAtLeast es n = AllByRecursion (λ r. n ≤ r.put_backs) (readings es)
 
--- however the events are read, the stamp e doesn't go on from the counts behind them
+-- however the events are read, the stamp e doesn't go on from the counts after them
 abbrev pub NeedsPutBack : List Seen → Seen → Type 0
 NeedsPutBack es e =
     AllByRecursion (λ r. is_next r.clock (last_behind 0 es) e ≡ false) (readings es)

@@ -25,7 +25,7 @@ abbrev pub lasts : List Seen → List ℕ
 lasts [] = 0 ∷ []
 lasts (e ∷ es) = lasts_shown e ++ lasts es
 
--- plainly: it goes on from the counts behind the events, in some way to read them
+-- plainly: it goes on from the counts after the events, in some way to read them
 pub record IsPlainly (es : List Seen) (e : Seen) : Type 0 where
   pub reading : Reading
   pub reads : IsAmong (readings es) reading

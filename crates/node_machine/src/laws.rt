@@ -1,6 +1,6 @@
-//! What streams say of a standard node in all its runs without a reset, as contracts of functions
-//! that do nothing: each clause is a theorem over the definitions of `specs/`, and a proof that
-//! calls the function may use it.
+//! The facts that streams show of a standard node in all its runs without a reset, as contracts of
+//! functions that do nothing: each clause is a theorem over the definitions of `specs/`, and a
+//! proof that calls the function may use it.
 
 ghost use Rattle.std.specs.Prelude.{◌≡◌, ◌≢◌, ◌≤◌, ℕ, true, false, map, List, [], ◌∷◌, Some};
 ghost use Rattle.std.specs.Prelude.{slice_get, take};
@@ -52,7 +52,7 @@ pub fn each_need_is_a_put_back()
 {}
 
 /// And a stamp that doesn't go on from the counts before it, however the events before it are read,
-/// has a put-back of its own: before it, and behind the stamp before it.
+/// has a put-back of its own: before it, and after the stamp before it.
 pub fn each_need_has_its_put_back()
     ensures { (pids : List Pid) (acts : List NodeAct) (os : List Outcome)
         → node_run pids acts ≡ Some os → NoNodeReset acts → (p : Pid)
@@ -96,7 +96,7 @@ pub fn each_strange_prev_is_a_put_back()
         → strange_prevs (seen_stream acts os p) ≤ put_backs p acts }
 {}
 
-/// What is given is so in one of four ways: plainly, again, fresh or lowered.
+/// A stamp is given in one of four ways: plainly, again, fresh or lowered.
 pub fn four_ways_give_a_stamp()
     ensures { (es : List Seen) (e : Seen)
         → (IsGiven es e → IsInSomeWay es e) × (IsInSomeWay es e → IsGiven es e) }
@@ -108,7 +108,7 @@ pub fn what_is_given_is_decided()
         × (is_given es e ≡ true → IsGiven es e) }
 {}
 
-/// What the laws ask of a run can be kept together, and a put-back can be needed: here is one such
+/// A run can keep to all that the laws ask, and a put-back can be needed: here is one such
 /// run.
 pub fn a_run_keeps_to_all_of_it()
     ensures { (os : List Outcome) × (node_run (printer ∷ []) prints_again ≡ Some os)

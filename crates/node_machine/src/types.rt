@@ -1,11 +1,11 @@
-//! What is seen of an event, and one way to read events.
+//! An event as its process's stream shows it, and one way to read events.
 
 use st_core::{Kind, Label, Serial};
 
-/// What is seen of an event of one process.
+/// An event of one process, as its stream shows it.
 #[derive(Clone, Copy, Debug, PartialEq, Eq)]
 pub struct Seen {
-    /// What it reports.
+    /// The kind of the report.
     pub kind: Kind,
     /// The label of its token.
     pub label: Label,
@@ -20,7 +20,7 @@ pub struct Seen {
 /// One way to read the events of a process.
 #[derive(Clone, Copy, Debug, PartialEq, Eq)]
 pub struct Reading {
-    /// The clock behind the events, with the bits that a serial hides.
+    /// The clock after the events, with the bits that a serial hides.
     pub clock: u64,
     /// How many tokens the process put back.
     pub put_backs: u64,

@@ -1,6 +1,6 @@
 -- An event is directly below another exactly if its hop leads there. A receive, since its send
 -- names it as it names its send. A stamp, since the receive that its hop names is directly before
--- its row, so that the stamp is in the row behind that receive; and the row of a stamp in it goes
+-- its row, so that the stamp is in the row after that receive; and the row of a stamp in it goes
 -- back to the receive.
 use Rattle.std.proofs.Common.{◌≡◌, ℕ, ◌+◌, ◌-◌, ◌≤◌, ◌==◌, ◌||◌, zero, suc, Bool, true, false, cond, List, [], ◌∷◌}
 use Rattle.std.proofs.Common.{◌++◌, take, drop, Option, Some, None, option_and_then, slice_get, get_or, option_to_list}
@@ -277,7 +277,7 @@ module _ (streams : List Stream) (across : Bool) where
 
   -- ALL THAT FOLLOWS IS BELOW
 
-  -- a stamp is in the row behind the receive that is directly before its row
+  -- a stamp is in the row after the receive that is directly before its row
   in_row_behind : (es : List Event) (i : ℕ) (e : Event) (j : ℕ) (x : IsReceivedBefore es
       (row_start e.serial.prev es i) j
       e.serial.prev) → slice_get es i ≡ Some e → is_stamp e ≡ true → (m : ℕ) → j + 1 + m ≡ i
@@ -473,7 +473,7 @@ module _ (streams : List Stream) (across : Bool) where
       (events_of streams p) i))
       (hop_to_send (source_of streams e)))) receives
 
-  -- the row of a stamp that is in the row behind a receive begins there
+  -- the row of a stamp that is in the row after a receive begins there
   row_begins : (p : Pid) (j : ℕ) (d : Event) (m : ℕ) (e : Event) → event_at streams p j ≡ Some d
       → is_receive d ≡ true
       → slice_get (row_ahead d.serial.this (drop (j + 1) (events_of streams p))) m ≡ Some e
@@ -518,7 +518,7 @@ module _ (streams : List Stream) (across : Bool) where
             ∙ wanted_leads across test (p, j) asked
       ]
 
-  -- a stamp of the row behind a receive leads to it
+  -- a stamp of the row after a receive leads to it
   row_leads : (p : Pid) (j : ℕ) (d : Event) (m : ℕ) (e : Event) → event_at streams p j ≡ Some d
       → is_receive d ≡ true
       → slice_get (row_ahead d.serial.this (drop (j + 1) (events_of streams p))) m ≡ Some e

@@ -1,6 +1,6 @@
--- What a hop claims is true. Of a receive, since its count names the send that it took, whether
--- that was reported or not. Of a stamp, since what its process's events tell of its origin is true,
--- and the receive directly before its row is the last one.
+-- The claim of a hop is true: for a receive, since its count names the send that it took, whether
+-- that was reported or not; for a stamp, since its process's events tell the truth about its
+-- origin, and the receive directly before its row is the last one.
 use Rattle.std.proofs.Common.{◌≡◌, ◌≢◌, ℕ, ◌+◌, ◌==◌, ◌&&◌, ◌⊎◌, Bool, true, false, cond, List, [], length}
 use Rattle.std.proofs.Common.{take, Option, Some, None, option_and_then, inl, inr, refl, sym, ◌∙◌, ap, subst}
 use Rattle.std.specs.List.{slice_get}
@@ -174,7 +174,7 @@ module _ (top : ℕ) (pids : List Pid) (acts : List Act) (os : List Outcome)
   abbrev IsClaimed : Hop → Type 0
   IsClaimed back = Hold pids acts os p (premises_of back) → Claims pids acts os p i e n back
 
-  -- if the receive at j has another label, p set that of event i behind it
+  -- if the receive at j has another label, p set that of event i after it
   set_behind : (j : ℕ) (d : Event) → slice_get es j ≡ Some d → ¬ (d.label ≡ e.label)
       → BeginsAfter acts os p j from ⊎ FollowsEvent acts os p j from → (k : ℕ)
       → from ≡ Some (Follows k)

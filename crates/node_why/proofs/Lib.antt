@@ -11,5 +11,5 @@ pub mod Ways
 pub mod Trees
 pub mod Claims
 pub mod Children
--- What proofs of the crates above may cite.
+-- Lemmas that proofs of the crates above may cite.
 pub mod ForCallers

@@ -1,4 +1,4 @@
--- What is between an index and a later one decides where the row begins that goes up to the later
+-- The events between an index and a later one decide where the row begins that goes up to the later
 -- one: nothing but sends and prints of one prev, back to the first event that is none.
 use Rattle.std.proofs.Common.{◌≡◌, ◌≢◌, ℕ, ◌+◌, ◌<◌, ◌≤◌, ◌&&◌, ◌==◌, zero, suc, Bool, true, false, cond, List, [], ◌∷◌}
 use Rattle.std.proofs.Common.{◌++◌, length, take, Option, Some, None, inl, inr, refl, sym, ◌∙◌, ap, arith}
@@ -196,7 +196,7 @@ row_at prev [] rest all x less = absurd (omega arith)
 row_at prev (e ∷ row) rest all zero less = (e, refl, all.0)
 row_at prev (e ∷ row) rest all (suc x) less = row_at prev row rest all.1 x (omega arith)
 
--- the row behind a front
+-- the row after a front
 pub row_behind : (prev : ℕ) (front row rest : List Event) → AreInRow prev row
     → IsRowBetween prev (front ++ (row ++ rest)) (length front) (length front + length row)
 row_behind prev [] row rest all x low high = row_at prev row rest all x (omega arith)
@@ -204,7 +204,7 @@ row_behind prev (e ∷ front) row rest all zero low high = absurd (omega arith)
 row_behind prev (e ∷ front) row rest all (suc x) low high =
     row_behind prev front row rest all x (omega arith) (omega arith)
 
--- the event behind a front
+-- the event after a front
 pub event_behind : (front rest : List Event) (e : Event)
     → slice_get (front ++ (e ∷ rest)) (length front) ≡ Some e
 event_behind [] rest e = refl
@@ -212,7 +212,7 @@ event_behind (x ∷ front) rest e = event_behind front rest e
 
 -- WHAT A ROW SAYS
 
--- behind where the row begins there is nothing but it
+-- after where the row begins there is nothing but it
 pub row_between : (prev : ℕ) (es : List Event) (i : ℕ)
     → IsRowBetween prev es (row_start prev es i) i
 row_between prev es zero = λ x low high. absurd (omega arith)

@@ -1,6 +1,6 @@
--- What waits comes to what is left of the tree, if the last one that waits is the next: taking it
--- off adds it to what was found, and its children, the last one first, come to what is below it. A
--- tree with one more level is longer by one than those of its children, so the loop ends.
+-- The places that wait come to the rest of the tree, if the last one that waits is the next: taking
+-- it off adds it to what was found, and its children, the last one first, come to what is below it.
+-- A tree with one more level is longer by one than those of its children, so the loop ends.
 use Rattle.std.proofs.Common.{◌≡◌, ℕ, ◌+◌, ◌-◌, ◌<◌, ◌≤◌, ◌==◌, ◌||◌, suc, Bool, true, false, cond}
 use Rattle.std.proofs.Common.{List, [], ◌∷◌, ◌++◌, length, map, drop, drop-cons, get_or, reverse}
 use Rattle.std.proofs.Common.{refl, sym, ◌∙◌, ap, arith, append_assoc}
@@ -113,7 +113,7 @@ module _ (all : Bool) (p : Pid) (label : Label) (first depth : ℕ) where
   abbrev pub behind : ℕ → List Event → List Node
   behind k row = reverse (map (λ x. node depth x) (places_of all p label (first + k) (drop k row)))
 
-  -- those from an index on are those behind it, and its own if it is wanted
+  -- those from an index on are those after it, and its own if it is wanted
   one_before : (row : List Event) (k : ℕ) (d : Event) → k < length row → (b : Bool)
       → (let e : Event = get_or row k d in all || e.label.0 == label.0) ≡ b
       → behind k row ≡ behind (suc k) row ++ cond b (node depth (p, first + k) ∷ []) []

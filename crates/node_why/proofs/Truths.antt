@@ -1,4 +1,4 @@
--- What events tell of a stamp's origin is true, by the account of its process: the row goes back to
+-- Events tell the truth about a stamp's origin, by the account of its process: the row goes back to
 -- the origin's act at least, and no further than a receive that was reported.
 use Rattle.std.proofs.Common.{◌≡◌, ◌≢◌, ℕ, ◌+◌, ◌<◌, ◌≤◌, ◌⊎◌, ◌==◌, zero, suc, Bool, true, false, cond, List, [], ◌∷◌}
 use Rattle.std.proofs.Common.{◌++◌, length, take, drop, Option, Some, None, option_and_then, option_to_list, inl, inr}

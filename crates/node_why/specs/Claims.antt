@@ -1,6 +1,6 @@
--- What the sentence of a hop claims of a run: `seqtool_commands` has the sentences, and each definition here
--- is one of them in the machine's words. Nothing of counts is in it, and of streams only where an
--- event is.
+-- The claim of a hop's sentence about a run: `seqtool_commands` has the sentences, and each
+-- definition here is one of them in the machine's words. Nothing of counts is in it, and of streams
+-- only where an event is.
 use Rattle.std.specs.Prelude.{◌≡◌, ℕ, ◌⊎◌, List, Option, Some, None, slice_get}
 use Rattle.st_core.specs.declared.types.Pid.{Pid}
 use Rattle.st_core.specs.declared.types.Label.{Label}
@@ -64,14 +64,14 @@ module _ (pids : List Pid) (acts : List Act) (os : List Outcome) (p : Pid) where
   Claims i e n hop.BeginsOrUnreported =
       IsBeginning (origin pids acts os p n) ⊎ FollowsUnreported os (origin pids acts os p n)
 
-  -- The premises. (1): p reports each receive of a token. (2): p never clears or loses its token and
-  -- begins again under the label of an event that it reported before.
+  -- The premises. (1): p reports each receive of a token. (2): p never clears or loses its token
+  -- and begins again under the label of an event that it reported before.
   abbrev pub Hold : Premises → Type 0
   Hold premises.Neither = Unit {0}
   Hold premises.First = ReportsReceives pids acts os p
   Hold premises.Both = ReportsReceives pids acts os p × NeverBeginsAgain pids acts os p
 
--- What the hop claims of event i of p is true in every run without a reset that shows the streams
+-- The hop's claim about event i of p is true in every run without a reset that shows the streams
 -- and in which the premises hold that the hop names.
 abbrev pub IsTrueHop : List Stream → Pid → ℕ → Event → Hop → Type 0
 IsTrueHop streams p i e back = (top : ℕ) (acts : List Act) (shows : Shows top streams acts)

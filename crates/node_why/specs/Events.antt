@@ -1,4 +1,4 @@
--- What the events of one process tell of the origin of its send or print at an index.
+-- The evidence of one process's events for the origin of its send or print at an index.
 use Rattle.std.specs.Prelude.{ℕ, ◌==◌, ◌&&◌, zero, suc, nat_lt, Bool, true, false, not, List}
 use Rattle.std.specs.Prelude.{Option, Some, None, if◌then◌else◌, slice_get, take}
 use Rattle.st_core.specs.declared.types.Kind.TheVariants as kind
@@ -42,7 +42,7 @@ origin_evidence_by prev above None =
     if above then what.Unreported
     else (if prev == 0 then what.Begins else what.BeginsOrUnreported)
 
--- what these events tell of a send or print with this prev behind the first i of them
+-- what these events tell of a send or print with this prev after the first i of them
 abbrev pub origin_evidence : ℕ → List Event → ℕ → Evidence
 origin_evidence prev es i = let k = row_start prev es i in
     origin_evidence_by prev (has_above prev es k) (receive_before prev es k)

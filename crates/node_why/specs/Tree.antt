@@ -1,4 +1,4 @@
--- What follows an event, and what follows that: a tree, in which each event is below the one that
+-- The tree of an event's followers, in which each event is below the one that
 -- its hop leads back to.
 use Rattle.std.specs.Prelude.{ℕ, ◌+◌, ◌==◌, ◌||◌, zero, suc, Bool, List, [], ◌∷◌, ◌++◌, drop, take}
 use Rattle.std.specs.Prelude.{None, Some, if◌then◌else◌, option_to_list}
@@ -26,7 +26,7 @@ places_of all p label i (e ∷ es) =
     (if all || e.label.0 == label.0 then (p, i) ∷ [] else []) ++ places_of all p label (i + 1) es
 
 -- what follows event e, which is event i of p, directly: the receive of a send; the sends and
--- prints of the row behind a receive, those of another label only over changes of label; of a print
+-- prints of the row after a receive, those of another label only over changes of label; of a print
 -- nothing
 abbrev pub children_of : List Stream → Bool → Pid → ℕ → Event → List (Pid × ℕ)
 children_of streams across p i e = elim e.kind [
@@ -43,7 +43,7 @@ children streams across x = elim (event_at streams x.0 x.1) [
   | Some e ↦ children_of streams across x.0 x.1 e
 ]
 
--- so many levels of the tree from this place down: the place, and then what is below it
+-- n levels of the tree from this place down: the place, and then what is below it
 abbrev pub tree : List Stream → Bool → ℕ → ℕ → Pid × ℕ → List Node
 tree streams across zero depth x = []
 tree streams across (suc n) depth x =

@@ -1,4 +1,4 @@
--- What is true of an origin in a run, if events tell this of it.
+-- The truth about an origin in a run that events tell.
 use Rattle.std.specs.Prelude.{◌≡◌, ℕ, ◌<◌, ◌⊎◌, zero, suc, List, Option, Some, None, length}
 use Rattle.std.specs.Prelude.{if◌then◌else◌, slice_get, take, option_and_then}
 use Rattle.st_core.specs.declared.types.Pid.{Pid}

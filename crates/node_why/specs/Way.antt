@@ -25,11 +25,11 @@ abbrev pub next_at : List Stream → Bool → Pid × ℕ → Option (Pid × ℕ)
 next_at streams across x =
     option_and_then (λ e. next_of across x.0 (hop_of streams x.0 x.1 e)) (event_at streams x.0 x.1)
 
--- a place so many hops from the first one
+-- a place n hops from the first one
 abbrev pub node : ℕ → Pid × ℕ → Node
 node depth x = record { depth = depth; place = x }
 
--- so many places from this one on, as far as the hops lead, of which the first is so many hops from
+-- n places from this one on, as far as the hops lead, of which the first is k hops from
 -- where the way began
 abbrev pub way : List Stream → Bool → ℕ → ℕ → Option (Pid × ℕ) → List Node
 way streams across zero depth at = []

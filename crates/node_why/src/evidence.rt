@@ -1,6 +1,6 @@
 //! Evidence of an origin.
 
-/// What the events of a process tell of the origin of one of its sends or prints, in every run
+/// The evidence of a process's events for the origin of one of its sends or prints, in every run
 /// without a reset that reports them.
 #[derive(Clone, Copy, Debug, PartialEq, Eq)]
 pub enum Evidence {

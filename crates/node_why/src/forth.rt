@@ -1,4 +1,4 @@
-//! What follows an event: the tree of all that leads back to it.
+//! The tree of all events that lead back to one.
 
 ghost use Rattle.std.specs.Prelude.{◌≡◌, ◌==◌, ◌||◌, ◌+◌, ◌<◌, ◌^◌, ◌++◌, IfOk, OnOk, length, map, reverse};
 ghost use Rattle.std.specs.Prelude.{option_to_list};
@@ -26,7 +26,8 @@ fn is_wanted(all: bool, label: Label, event: &Event) -> bool
     all || event.label.0 == label.0
 }
 
-/// Adds the events of a process from this index on, the last one first: those of this label, or all.
+/// Adds the events of a process from this index on, the last one first: those of this label, or
+/// all.
 fn add_row(
     waiting: &mut Vec<Node>,
     depth: u64,
@@ -95,7 +96,7 @@ fn add_children(
     }
 }
 
-/// All that follows the event at a place, as far as the reach goes: the place, and behind each place
+/// All that follows the event at a place, as far as the reach goes: the place, and after each place
 /// what is below it. Fails only if memory runs out. Its time grows as the number of nodes does.
 pub fn tree(
     alloc: Global,

@@ -5,7 +5,7 @@ ghost use Rattle.node_why.specs.Hops.{premises_of};
 
 use st_core::{Label, Pid};
 
-/// What an event follows, as far as the events tell.
+/// The origin of an event, as far as the events tell.
 #[derive(Clone, Copy, Debug, PartialEq, Eq)]
 pub enum Hop {
     /// A receive: the send at this place.
@@ -27,20 +27,20 @@ pub enum Hop {
     BeginsOrUnreported,
 }
 
-/// What a hop rests on, besides that there was no reset.
+/// The premises of a hop, besides that there was no reset.
 #[derive(Clone, Copy, Debug, PartialEq, Eq)]
 pub enum Premises {
     /// Nothing.
     Neither,
     /// That its process reported each receive of a token.
     First,
-    /// That, and that its process sent or printed under no label that it had reported before, once its
-    /// token was cleared, or a message without one took it away, and it began again.
+    /// That, and that its process sent or printed under no label that it had reported before, once
+    /// its token was cleared, or a message without one took it away, and it began again.
     Both,
 }
 
 impl Hop {
-    /// What the hop rests on.
+    /// Returns the premises of the hop.
     pub fn premises(self) -> Premises
         ensures { result ≡ premises_of self }
     {

@@ -1,6 +1,6 @@
-//! What events tell of origins in all runs without a reset, and what hops claim, as contracts of
-//! functions that do nothing: each clause is a theorem over the definitions of `specs/`, and a proof
-//! that calls the function may use it.
+//! The evidence of events for origins in all runs without a reset, and the claims of hops, as
+//! contracts of functions that do nothing: each clause is a theorem over the definitions of
+//! `specs/`, and a proof that calls the function may use it.
 
 ghost use Rattle.std.specs.Prelude.{◌≡◌, ◌≢◌, ◌≤◌, ◌⊎◌, ℕ, List, MatchOption, None, Some};
 ghost use Rattle.std.specs.Prelude.{slice_get, take, Bool};
@@ -51,7 +51,7 @@ pub fn another_count_shows_a_beginning()
 
 /// A beginning leaves the clock as the next prev: so if a stamp's origin is one, no event of its
 /// process before the row of sends and prints with its prev has a greater count than that prev.
-/// This holds whatever is reported.
+/// It holds whatever is reported.
 pub fn a_beginning_has_no_greater_count_before_its_row()
     ensures { (top : ℕ) (pids : List Pid) (acts : List Act) (os : List Outcome)
         → run top pids acts ≡ Some os → NoReset acts → (p : Pid) (i n m : ℕ) (e : Event)
@@ -61,7 +61,7 @@ pub fn a_beginning_has_no_greater_count_before_its_row()
         ≤ e.serial.prev }
 {}
 
-/// What the events of a process tell of the origin of its stamp is true, whatever is reported.
+/// The events of a process tell the truth about the origin of its stamp, whatever is reported.
 pub fn told_is_true()
     ensures { (top : ℕ) (pids : List Pid) (acts : List Act) (os : List Outcome)
         → run top pids acts ≡ Some os → NoReset acts → (p : Pid) (i n : ℕ) (e : Event)
@@ -101,7 +101,7 @@ pub fn another_label_was_set()
         → SetsLabelBetween acts p m n e.label }
 {}
 
-/// Of a receive: a reported stamp of its sender with its count is the very send that it took.
+/// For a receive, a reported stamp of its sender with its count is the very send that it took.
 pub fn a_count_names_the_send()
     ensures { (top : ℕ) (pids : List Pid) (acts : List Act) (os : List Outcome)
         → run top pids acts ≡ Some os → NoReset acts → (r s : ℕ) (follows : IsFollowing acts os r s)
@@ -109,7 +109,7 @@ pub fn a_count_names_the_send()
         → f.kind ≢ kind.Receive → f.serial.this ≡ follows.event.serial.this → m ≡ s }
 {}
 
-/// What the hop back from an event claims is true in every run without a reset that shows the
+/// The claim of the hop back from an event is true in every run without a reset that shows the
 /// streams and in which the premises hold that the hop names.
 pub fn hops_are_true()
     ensures { (streams : List Stream) (p : Pid) (i : ℕ) (e : Event) → event_at streams p i ≡ Some e

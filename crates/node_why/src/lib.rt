@@ -1,4 +1,4 @@
-//! What an event follows: the origin of a stamp in a run, what the events of its process tell of it,
+//! Causes by origin: the origin of a stamp in a run, what the events of its process tell of it,
 //! and the hops from event to event that a trace tells of, back and forth.
 #![tactic(auto)]
 

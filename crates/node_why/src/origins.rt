@@ -111,7 +111,7 @@ fn is_above(count: u64, greatest: &[u64], first: usize) -> bool
     count_at(greatest, first - 1) > count
 }
 
-/// The same of a process's first events.
+/// Looks for a greater count among a process's first events.
 fn has_above(
     streams: &Streams,
     greatest: &[Sequence<u64>],
@@ -243,7 +243,8 @@ impl<'a> Origins<'a> {
         self.pairing.receiver(pid, index)
     }
 
-    /// What its process's events tell of this send or print, which is the event at this place.
+    /// Returns the evidence of the process's events for this send or print, which is the event at
+    /// this place.
     fn evidence(&self, pid: Pid, index: u64, event: &Event) -> Evidence
         requires { slice_get (events_of self.now pid) index ≡ Some event.now }
         ensures { result ≡ origin_evidence event.now.serial.prev (events_of self.now pid) index }
@@ -268,7 +269,7 @@ impl<'a> Origins<'a> {
         self.find_hop(pid, index, event)
     }
 
-    /// The same, by the event's kind.
+    /// Finds the hop by the event's kind.
     fn find_hop(&self, pid: Pid, index: u64, event: &Event) -> Hop
         requires { slice_get (events_of self.now pid) index ≡ Some event.now }
         ensures { result ≡ hop_of self.now pid index event.now }

@@ -1,4 +1,4 @@
-//! What one process's events tell of the origin of a send or print: `node_why` has the definitions.
+//! The evidence of one process's events for the origin of a send or print.
 
 ghost use Rattle.std.specs.Prelude.{◌≡◌, ◌-◌, ◌<◌, ◌≤◌, IfOk, Some, length, slice_get};
 ghost use Rattle.std.specs.List.{prefix_len};

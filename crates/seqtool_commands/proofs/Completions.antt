@@ -1,5 +1,5 @@
--- A text is its parts, one behind the other. Each text begins with a line, so none is empty; and what
--- was told has no line.
+-- A text is its parts, one after the other. Each text begins with a line, so none is empty; and
+-- what was told has no line.
 use Rattle.std.proofs.Common.{◌≡◌, ℕ, zero, suc, ◌+◌, ◌<◌, Bool, true, false, List, [], ◌∷◌, ◌++◌, length, map}
 use Rattle.std.proofs.Common.{Some, refl, sym, ◌∙◌, ap, arith, append_assoc, codes, decimal, if◌then◌else◌}
 use Rattle.std.proofs.Common.{subst, Result, Ok, Err}
@@ -40,7 +40,7 @@ module _ {S T E : Type 0} (puts : S → List ℕ → S → Type 0) (failed : S �
       subst (λ (t : List ℕ). WritesText puts failed t a c r) same
       (finishes puts failed parts c y r some went flushed over)
 
-  -- the device failed behind some of them
+  -- the device failed after some of them
   pub fails_as : {a b : S} (r : Result T E) → IsErr r → WritesPart puts failed parts a b
       → WritesText puts failed text a b r
   fails_as (Ok v) is part = absurd cc

@@ -1,4 +1,5 @@
--- What the parts of a command say adds up to what the command owes: the bytes that were read go with each answer.
+-- The parts of a command together do what the command owes: the bytes that were read go with each
+-- answer.
 use Rattle.st_text.specs.Limits.{greater}
 use Rattle.st_text.specs.Text.{Contents}
 use Rattle.lack_laws.specs.Renumbering.{renumbered_streams}

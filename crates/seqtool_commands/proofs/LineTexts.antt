@@ -1,4 +1,4 @@
--- The lines behind the header are those of each process in order, so the line of an event is found
+-- The lines after the header are those of each process in order, so the line of an event is found
 -- by passing the processes before it. The lines of acts are no event's.
 use Rattle.std.proofs.Common.{◌≡◌, ℕ, ◌+◌, ◌-◌, ◌<◌, ◌≤◌, zero, suc, nat_lt, true, false, cond, List, [], ◌∷◌, ◌++◌}
 use Rattle.std.proofs.Common.{length, map, Option, Some, None, slice_get, refl, sym, ◌∙◌, ap, arith, append_assoc, inl}
@@ -28,7 +28,7 @@ event_line [] rest i e at = absurd (none-some e at)
 event_line (x ∷ es) rest zero e at = ap (λ y. Some (lines.Event y)) (same_Some x e at)
 event_line (x ∷ es) rest (suc i) e at = event_line es rest i e at
 
--- behind the events of a process
+-- after the events of a process
 passed : (es : List Event) (rest : List Line) (k : ℕ)
     → slice_get (event_lines es ++ rest) (length es + k)
     ≡ slice_get rest k
@@ -105,7 +105,7 @@ act_in [] n a at = absurd (none-some a at)
 act_in (x ∷ acts) zero a at = ap (λ y. Some (lines.Act y)) (same_Some x a at)
 act_in (x ∷ acts) (suc n) a at = act_in acts n a at
 
--- behind all processes
+-- after all processes
 record IsBehind (first : ℕ) (streams : List Stream) (tail : List Line) : Type 0 where
   low : first ≤ line_behind first streams
   tail_at : (k : ℕ) → slice_get (flat_map process_lines streams ++ tail)
@@ -213,7 +213,7 @@ placed_here first s streams k e at =
       },
     )
 
--- one of those behind it
+-- one of those after it
 placed_behind : (first : ℕ) (s : Stream) (streams : List Stream) (k : ℕ) (e : Event)
     → IsRising (pids_of (s ∷ streams))
     → length s.events ≤ k → Placed (first + length s.events + 1) streams (k - length s.events) e

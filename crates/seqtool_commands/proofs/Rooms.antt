@@ -1,5 +1,5 @@
--- Texts go one behind the other, since the texts of the numbers below one are those of the numbers up to any of them
--- and of the others.
+-- Texts go one after the other, since the texts of the numbers below one are those of the numbers
+-- up to any of them and of the others.
 use Rattle.std.proofs.Common.{◌≡◌, ℕ, zero, suc, ◌+◌, ◌<◌, Bool, List, [], ◌++◌, sym, ap, subst, ◌∙◌, append_assoc, inl}
 use Rattle.std.proofs.Common.{inr, arith, add-one}
 use Rattle.std.proofs.lemmas.Bool.{cases_lt}

@@ -1,4 +1,4 @@
--- What the parts of the command say adds up to what it owes: the bytes that were read go with each
+-- The parts of the command together do what it owes: the bytes that were read go with each
 -- answer.
 use Rattle.std.proofs.Common.{◌≡◌}
 use Rattle.std.specs.Prelude.{None}

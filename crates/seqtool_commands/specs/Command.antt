@@ -1,4 +1,4 @@
--- What each command comes to, from its reader to its writer, within the greater limits.
+-- Each command, from its reader to its writer, within the greater limits.
 use Rattle.std.specs.Prelude.{◌≡◌, ℕ}
 use Rattle.st_commands.specs.Command.{ReaderCall, WriterCall, Owes, Tells}
 use Rattle.st_commands.specs.Checked.{IsChecked}
@@ -24,7 +24,7 @@ abbrev pub tool_version : Output
 tool_version = record { text = ended_line (tool_version_words); status = 0 }
 
 module _ {R W : Type 0} (reader : ReaderCall R) (writer : WriterCall W) where
-  -- `complete` has a third answer beside yes and no: too long, which is status 5
+  -- `complete` has a third answer besides yes and no: too long, which is status 5
   pub record DoesComplete (form : Form) (status : ℕ) : Type 0 where
     pub performed : Performs greater reader writer
         (IsOutputOfComplete form) (MeansCompleted form) MeansNever status

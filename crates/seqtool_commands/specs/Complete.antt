@@ -1,4 +1,4 @@
--- What `complete` makes of bytes: what the streams that they spell lack, or why no run without a
+-- The result of `complete` on bytes: what the streams that they spell lack, or why no run without a
 -- reset has them, whatever processes report nothing. The acts in the input are ignored.
 use Rattle.std.specs.Prelude.{◌≡◌, ℕ, ◌<◌, ◌≤◌, ◌+◌, false, List, [], ◌∷◌, ◌++◌, Option, Some, None}
 use Rattle.std.specs.Prelude.{codes, decimal, length, if◌then◌else◌}
@@ -81,8 +81,8 @@ text_of_status text status = record { text = text; status = status }
 abbrev pub long : Output
 long = text_of_status (ended_line (codes "long")) 5
 
--- they have one, and of the acts that were built none are accepted, though the reader takes the number
--- that surely suffices
+-- they have one, and of the acts that were built none are accepted, though the reader takes the
+-- number that surely suffices
 abbrev pub uncertified : Output
 uncertified = text_of_status (ended_line (codes "fault certificate")) 4
 
@@ -170,8 +170,8 @@ pub record MeansCompleted (f : Form) (bytes : List ℕ) (out : Output) : Type 0 
   pub told : told_streams completed.wholes ≡ with_silent streams completed.unlisted
   -- and with all its events no send and no receive is missing
   pub lacks : LacksNothing top (all_streams completed.wholes)
-  -- each event that isn't told is needed: a send is received, a receive gives its count to the event
-  -- right behind it or has only such events behind it, and no print is added
+  -- each event that isn't told is needed: a send is received, a receive gives its count to the
+  -- event right after it or has only such events after it, and no print is added
   pub needed : AreAdditionsNeeded completed.wholes
   -- the text is that of the streams with these acts, or of all events, or of those that were added
   pub text : out.text ≡ completed_text f streams completed acts

@@ -1,10 +1,11 @@
--- What public contracts cite: which task the words of a command line ask for, and what each task owes.
+-- The definitions of public contracts: which task the words of a command line ask for, and what
+-- each task owes.
 pub mod Words
 pub mod Command
--- Of `complete` and `renumber`.
+-- For `complete` and `renumber`.
 pub mod Renumber
 pub mod Complete
--- Of `why`: the words of a line, what it writes, and what that means.
+-- For `why`: the words of a line, the output, and its meaning.
 pub mod WhyWords
 pub mod Why
 pub mod WhyMeaning

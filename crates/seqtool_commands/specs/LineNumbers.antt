@@ -5,7 +5,7 @@ use Rattle.st_core.specs.declared.types.Pid.{Pid}
 use Rattle.st_core.specs.Pid.{pid_eq}
 use Rattle.st_core.specs.Run.{Stream}
 
--- the same if the first event of these streams is on the line `first`: behind the events of a
+-- the same if the first event of these streams is on the line `first`: after the events of a
 -- process come the next process and its events
 abbrev pub line_from : ℕ → List Stream → Pid → ℕ → Option ℕ
 line_from first [] p i = None

@@ -69,7 +69,7 @@ added_at wholes p i =
     if_untold (option_map (λ m. m.told) (slice_get (marked_of wholes p) i))
     (place_line (codes "added ") p i (event_at (all_streams wholes) p i))
 
--- the texts of the numbers below n, one behind the other
+-- the texts of the numbers below n, one after the other
 abbrev pub up_to : (ℕ → List ℕ) → ℕ → List ℕ
 up_to text zero = []
 up_to text (suc n) = up_to text n ++ text n

@@ -1,4 +1,4 @@
--- What `renumber` makes of bytes: the bundle of the streams that they spell, with each count
+-- The result of `renumber` on bytes: the bundle of the streams that they spell, with each count
 -- replaced by its rank. The acts in the input are ignored.
 use Rattle.std.specs.Prelude.{◌≡◌, ℕ, ◌≤◌, List, Option, Some, None}
 use Rattle.st_core.specs.declared.types.Act.{Act}

@@ -1,5 +1,5 @@
--- What `why` makes of bytes: the way back from an event of the streams that they spell, or the tree
--- of what follows it, a line for each event, or why there is none. The acts in the input are
+-- The result of `why` on bytes: the way back from an event of the streams that they spell, or the
+-- tree of what follows it, a line for each event, or why there is none. The acts in the input are
 -- ignored.
 use Rattle.std.specs.Prelude.{◌≡◌, ℕ, List, [], ◌++◌, Option, Some, None, IsSome, codes}
 use Rattle.std.specs.List.{flat_map}

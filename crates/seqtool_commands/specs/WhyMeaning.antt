@@ -1,4 +1,4 @@
--- What a yes and a no of `why` mean, each as one record of plain facts, in the words of the
+-- The meaning of a yes and a no of `why`, each as one record of plain facts, in the words of the
 -- machine.
 use Rattle.std.specs.Prelude.{◌≡◌, ℕ, List, ◌++◌, Option, Some, None, IsSome, codes}
 use Rattle.std.specs.List.{flat_map}

@@ -29,7 +29,7 @@ abbrev pub located_words : List Stream → Pid → ℕ → List ℕ
 located_words streams p i = place_words p i ++ codes ", line "
     ++ decimal (line_number_at streams p i)
 
--- how far an event of a tree is from the first one: a number, and so many spaces, up to 16
+-- how far an event of a tree is from the first one: a number, and as many spaces, up to 16
 abbrev pub depth_words : Direction → ℕ → List ℕ
 depth_words direction.Back depth = []
 depth_words direction.Forth depth =

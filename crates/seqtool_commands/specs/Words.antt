@@ -17,7 +17,7 @@ use Rattle.seqtool_commands.specs.declared.words.Task.TheVariants as task
 abbrev pub Word : Type 0
 Word = List ℕ
 
--- the words behind this one, if they begin with it
+-- the words after this one, if they begin with it
 abbrev pub words_behind : Word → List Word → Option (List Word)
 words_behind word [] = None
 words_behind word (w ∷ rest) = if bytes_eq w word then Some rest else None
@@ -30,12 +30,12 @@ form_named w =
     else (if bytes_eq w (codes "streams") then Some form.Streams
     else (if bytes_eq w (codes "acts") then Some form.Acts else None))
 
--- the form that words behind `--as` begin with
+-- the form that words after `--as` begin with
 abbrev pub named_form : List Word → Option (Form × List Word)
 named_form [] = None
 named_form (w ∷ rest) = option_map (λ f. (f, rest)) (form_named w)
 
--- the form that words begin with, and the words behind it: the added events, if they name none
+-- the form that words begin with, and the words after it: the added events, if they name none
 abbrev pub form_asked : List Word → Option (Form × List Word)
 form_asked words = elim (words_behind (codes "--as") words) [
   | None ↦ Some (form.Added, words)
@@ -48,7 +48,7 @@ form_asked words = elim (words_behind (codes "--as") words) [
 abbrev pub label_reach : Reach
 label_reach = record { most = 18446744073709551615; across = false }
 
--- the direction that words begin with, and the words behind it: back, if they name none
+-- the direction that words begin with, and the words after it: back, if they name none
 abbrev pub direction_asked : List Word → Direction × List Word
 direction_asked words = elim (words_behind (codes "--effects") words) [
   | None ↦ (direction.Back, words)
@@ -58,7 +58,7 @@ direction_asked words = elim (words_behind (codes "--effects") words) [
 abbrev pub question_about : Pid → ℕ → Direction × List Word → Question × List Word
 question_about p i way = (record { place = (p, i); direction = way.0; reach = label_reach }, way.1)
 
--- the question that words begin with, and the words behind it
+-- the question that words begin with, and the words after it
 abbrev pub question_asked : List Word → Option (Question × List Word)
 question_asked [] = None
 question_asked (p ∷ []) = None
@@ -68,7 +68,7 @@ question_asked (p ∷ i ∷ rest) =
 
 -- ---- all commands
 
--- the task of the command of this name, of whose own words these begin with, and the words behind
+-- the task of the command of this name, of whose own words these begin with, and the words after
 abbrev pub task_named : Word → List Word → Option (Task × List Word)
 task_named name words =
     if bytes_eq name (codes "check") then Some (task.Check, words)

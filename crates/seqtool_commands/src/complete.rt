@@ -182,7 +182,7 @@ pub fn run_complete<H: Threads + Sync, R: ByteSource, W: ByteSink>(
         (call W.ByteSink writer.old writer.new)
         (IsOutputOfComplete form) (MeansCompleted form) MeansNever result }
 
-    // What a completion that is too long means, in the machine's own words.
+    // The meaning of a completion that is too long, in the machine's own words.
     ensures long { result ≡ 5 → Says greater (call R.ByteSource reader.old reader.new)
         (call W.ByteSink writer.old writer.new) (MeansLong form) }
 {

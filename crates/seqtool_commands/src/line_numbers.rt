@@ -15,12 +15,13 @@ use std::marker::Model;
 /// The line of the first process's first event: the header and the process are above it.
 const FIRST: u64 = 3;
 
-/// The line of the next process's first event, if that of this one is here and it has so many.
+/// Returns the line of the next process's first event, if that of this one is here and it has this
+/// many.
 fn first_behind(first: u64, events: u64) -> Result<u64, AllocError>
     ensures value { IfOk result (λ next. next ≡ first + events + 1) }
     ensures fits { IfOk result (λ next. next < 2 ^ 64) }
 {
-    // No memory holds so many events that their lines leave the range.
+    // The lines of all events that memory holds stay in the range.
     first
         .checked_add(events)
         .and_then(|last| last.checked_add(1))

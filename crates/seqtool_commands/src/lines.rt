@@ -1,4 +1,5 @@
-//! The lines that are written alone, through a buffer on the stack, so that writing takes no memory.
+//! The lines that are written alone, through a buffer on the stack, so that writing takes no
+//! memory.
 
 ghost use Rattle.std.specs.Prelude.{◌≡◌, ◌<◌, ◌+◌, ◌++◌, codes};
 ghost use Rattle.arrayvec.specs.ArrayVec.{array_vec_len};
@@ -13,7 +14,7 @@ use st_chart::put_place_after;
 use st_core::Pid;
 use st_text::{Buffer, TextLine, put_bytes, put_numbered, put_pid};
 
-/// What the version's line says. A build that isn't proved adds that.
+/// The line of the version. A build that isn't proved says so.
 const VERSION: &str = "seqtool 1.0.0";
 
 /// A line that is written alone.
@@ -25,15 +26,15 @@ pub(crate) enum OutputLine {
     Uncertified,
     /// No reason holds of the streams, and what was built doesn't complete them.
     Uncompleted,
-    /// So many events were added.
+    /// The number of events that were added.
     Added(u64),
     /// Why the event at this place rules out a run without a reset.
     Never(Pid, u64, Never),
-    /// This process takes part in the completion, and the streams don't list it.
+    /// A process of the completion that the streams don't list.
     Unlisted(Pid),
     /// There is no event at this place.
     NoEvent(Pid, u64),
-    /// What the lines of `why` rest on.
+    /// The premises of the lines of `why`.
     Premises,
     /// How the program is called.
     Usage,

@@ -20,7 +20,7 @@ use st_chart::put_place;
 use st_core::{Event, Kind, Label, Pid};
 use st_text::{Buffer, put_bytes, put_number, put_serial};
 
-/// So many hops from the first event are shown by spaces too: more would move the line off the
+/// The hops from the first event that spaces show too: more would move the line off the
 /// screen, and a chain of a million events would take as many spaces squared.
 const INDENT: u64 = 16;
 

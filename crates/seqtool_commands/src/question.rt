@@ -1,4 +1,4 @@
-//! What is asked: about which event, which way to go from it, and how far.
+//! The question of `why`: about which event, which way to go from it, and how far.
 
 use node_why::Reach;
 use st_core::Pid;
@@ -12,7 +12,7 @@ pub enum Direction {
     Forth,
 }
 
-/// What `why` is asked.
+/// The question to `why`.
 #[derive(Clone, Copy)]
 pub struct Question {
     /// The process of the event, and its index there, counted from 0.

@@ -34,7 +34,7 @@ pub fn run_renumber<R: ByteSource, W: ByteSink>(alloc: Global, reader: &mut R, w
     ensures told { Tells (call W.ByteSink writer.old writer.new)
         (Owes greater (call R.ByteSource reader.old reader.new) IsRenumbered) result }
 
-    // What that says of renumbered streams and of faulty input, in the machine's own words.
+    // The meaning of renumbered streams and of faulty input, in the machine's own words.
     ensures renumbered { result ≡ 0 → Says greater (call R.ByteSource reader.old reader.new)
         (call W.ByteSink writer.old writer.new) MeansRenumbered }
     ensures refused { result ≡ 2 → Says greater (call R.ByteSource reader.old reader.new)

@@ -116,8 +116,8 @@ fn answer_streams<W: ByteSink>(
 /// Reads a bundle within the greater limits and writes the event that is asked about, what it
 /// follows or what follows it, and so on as far as the reach goes, with what that rests on and
 /// status 0. If there is no such event, or the streams can't be paired, it writes that with status
-/// 1. Faulty input is 2; running out of memory, and a reader or a writer that fails, are 4. Its time
-/// grows as the size of the input does.
+/// 1. Faulty input is 2; running out of memory, and a reader or a writer that fails, are 4. Its
+/// time grows as the size of the input does.
 pub fn run_why<R: ByteSource, W: ByteSink>(
     alloc: Global,
     reader: &mut R,
@@ -127,7 +127,7 @@ pub fn run_why<R: ByteSource, W: ByteSink>(
     ensures told { Tells (call W.ByteSink writer.old writer.new)
         (Owes greater (call R.ByteSource reader.old reader.new) (IsWhy question)) result }
 
-    // What that says of an event that is there, and of a no, in the machine's own words.
+    // The meaning of an event that is there, and of a no, in the machine's own words.
     ensures found { result ≡ 0 → Says greater (call R.ByteSource reader.old reader.new)
         (call W.ByteSink writer.old writer.new) (MeansTold question) }
     ensures untold { result ≡ 1 → Says greater (call R.ByteSource reader.old reader.new)

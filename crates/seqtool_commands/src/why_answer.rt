@@ -1,4 +1,4 @@
-//! What is written of an event that is there: a line for each event that is found from it.
+//! The answer of `why` for an event that is there: a line for each event that is found from it.
 
 ghost use Rattle.std.specs.Prelude.{◌≡◌, ◌++◌, IfOk};
 ghost use Rattle.std.specs.List.{flat_map};
@@ -79,7 +79,7 @@ fn write_answer<W: ByteSink>(
     write_line(writer, buffer, OutputLine::Premises)
 }
 
-/// The same, all of it.
+/// Writes the whole answer.
 pub(crate) fn send_answer<W: ByteSink>(
     writer: &mut W,
     trace: &NumberedOrigins<'_>,

@@ -28,7 +28,7 @@ pub enum Task {
     Why(Question),
 }
 
-/// The words behind this one, if they begin with it.
+/// The words after this one, if they begin with it.
 fn words_behind<'a, S: AsStr>(word: &str, words: &'a [S]) -> Option<&'a [S]>
     ensures { option_map (λ rest. map S.text rest.now) result
         ≡ words_behind word.now (map S.text words.now) }
@@ -55,7 +55,7 @@ fn form_named(name: &str) -> Option<Form>
     None
 }
 
-/// The form that words behind `--as` begin with, and the words behind it.
+/// The form that words after `--as` begin with, and the words after it.
 fn named_form<S: AsStr>(words: &[S]) -> Option<(Form, &[S])>
     ensures { option_map (λ x. (x.0, map S.text x.1.now)) result ≡ named_form (map S.text words.now) }
 {
@@ -68,7 +68,7 @@ fn named_form<S: AsStr>(words: &[S]) -> Option<(Form, &[S])>
     }
 }
 
-/// The form that words begin with, and the words behind it.
+/// The form that words begin with, and the words after it.
 fn form_asked<S: AsStr>(words: &[S]) -> Option<(Form, &[S])>
     ensures { option_map (λ x. (x.0, map S.text x.1.now)) result ≡ form_asked (map S.text words.now) }
 {
@@ -78,7 +78,7 @@ fn form_asked<S: AsStr>(words: &[S]) -> Option<(Form, &[S])>
     }
 }
 
-/// The direction that words begin with, and the words behind it.
+/// The direction that words begin with, and the words after it.
 fn direction_asked<S: AsStr>(words: &[S]) -> (Direction, &[S])
     ensures { (result.0, map S.text result.1.now) ≡ direction_asked (map S.text words.now) }
 {
@@ -88,7 +88,7 @@ fn direction_asked<S: AsStr>(words: &[S]) -> (Direction, &[S])
     }
 }
 
-/// The question that words begin with, and the words behind it.
+/// The question that words begin with, and the words after it.
 fn question_asked<S: AsStr>(words: &[S]) -> Option<(Question, &[S])>
     ensures { option_map (λ x. (x.0, map S.text x.1.now)) result
         ≡ question_asked (map S.text words.now) }
@@ -109,7 +109,7 @@ fn question_asked<S: AsStr>(words: &[S]) -> Option<(Question, &[S])>
     }
 }
 
-/// The task of the command of this name, by the words behind it, and the words that are left.
+/// The task of the command of this name, by the words after it, and the words that are left.
 fn task_named<'a, S: AsStr>(name: &str, words: &'a [S]) -> Option<(Task, &'a [S])>
     ensures { option_map (λ x. (x.0, map S.text x.1.now)) result
         ≡ task_named name.now (map S.text words.now) }

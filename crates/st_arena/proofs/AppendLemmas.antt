@@ -31,7 +31,7 @@ module _ {T : Type 0} (old new : ℕ → Option (Node T)) (ends : Ends) (key : �
       vacant_apart old new ends key chain change.key place change.was_vacant within
       (sym (below place within) ∙ same ∙ ap row is ∙ at_end)
 
-  -- the new node joins the chain behind its last
+  -- the new node joins the chain after its last
   pub append_chain : IsChain new after row
   append_chain =
       record {
@@ -99,7 +99,7 @@ module _ {T : Type 0} (old new : ℕ → Option (Node T)) (ends : Ends) (key : �
             ];
       }
     where
-      -- a node with one behind it is not the last
+      -- a node with one after it is not the last
       not_last : (place : ℕ) → suc place < ends.len → key place ≢ ends.last
       not_last place before same = apart_from_last (ends.len) place refl before same
         where

@@ -1,5 +1,5 @@
--- If one list changes, all others stay, since no two lists share a node: each fact on all lists is one on the list
--- that changed beside one on slots that did not.
+-- If one list changes, all others stay, since no two lists share a node: each fact on all lists is
+-- one on the list that changed, and one on slots that did not.
 use Rattle.std.proofs.Common.{◌≡◌, ◌≢◌, ℕ, zero, suc, ◌+◌, ◌<◌, ◌≤◌, cond, eqb, List, [], ◌∷◌, length, get_or}
 use Rattle.std.proofs.Common.{map, set, Option, sum_by, refl, sym, ap, ◌∙◌, inl, inr, arith}
 use Rattle.std.proofs.lemmas.Bool.{cases_lt, cases_eq, eq-eqb, ne_eqb, cond-true, cond-false}
@@ -53,7 +53,8 @@ with_row-other key list row other differs = cond-false (eqb other list) row (key
 
 module _ {T : Type 0} (old new : ℕ → Option (Node T)) (ends : List Ends) (count capacity : ℕ)
     (sound : AreChains old ends count capacity) (list : ℕ) (in_range : list < length ends) (after : Ends) where
-  -- where one list's chain becomes another, and the nodes of all other lists stay, all is sound still
+  -- where one list's chain becomes another, and the nodes of all other lists stay, all is sound
+  -- still
   pub sound_with : (row : ℕ → ℕ) (new_count new_capacity : ℕ) → IsChain new after row
       → ((other place : ℕ) → other ≢ list → place < len_of (ends_at ends other)
       → SameAt old new (sound.key other place))

@@ -23,7 +23,7 @@ sum-split marks n m =
     let back = ap sum (drop-take n m marks) in
     omega (arith, whole, front, back)
 
--- so many marks are so many live slots at most
+-- a list of marks has at most as many live slots as marks
 pub rank-most : (marks : List ℕ) → AreMarks marks → (n : ℕ) → sum (take n marks) ≤ n
 rank-most marks bits zero = let none : sum (take 0 marks) ≡ 0 = refl in omega (arith, none)
 rank-most [] bits (suc n) = let none : sum (take (suc n) []) ≡ 0 = refl in omega (arith, none)
@@ -33,7 +33,7 @@ rank-most (x ∷ xs) bits (suc n) =
     let one : x ≤ 1 = bits zero in
     omega (arith, rest, here, one)
 
--- the slot behind a dead one has the same rank
+-- the slot after a dead one has the same rank
 rank-dead : (marks : List ℕ) (slot : ℕ) → get_or marks slot 0 ≡ 0 → sum (take (suc slot) marks) ≡ sum (take slot marks)
 rank-dead [] zero dead = refl
 rank-dead [] (suc slot) dead = refl
@@ -48,7 +48,7 @@ rank-dead (x ∷ xs) (suc slot) dead =
     let there = sum_by-cons (λ n. n) x (take (suc slot) xs) in
     omega (arith, rest, here, there)
 
--- a front of so many has no more
+-- a front of that length has no more
 pub front-short : (xs : List ℕ) (count : ℕ) → length (take count xs) ≤ count
 front-short xs zero = omega arith
 front-short [] (suc count) = omega arith
@@ -180,7 +180,7 @@ module _ (marks old new : List ℕ) (height block slot was mark : ℕ) (of : Are
       }
 
 -- ---- new slots, the first of which are live
--- behind the live slots the rank is their number
+-- after the live slots the rank is their number
 rank_past_new : (live dead slot : ℕ) → live ≤ slot → sum (take slot (replicate live 1 ++ replicate dead 0)) ≡ live
 rank_past_new live dead slot past =
     let at_end = new_rank live dead live (omega arith) in

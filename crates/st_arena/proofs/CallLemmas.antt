@@ -1,5 +1,5 @@
--- What a closure that computes a test or a function made of a list place by place is what the test or the function
--- makes of the whole list.
+-- A closure that computes a test or a function makes of a list, place by place, what the test or
+-- the function makes of the whole list.
 use Rattle.std.proofs.Common.{◌≡◌, ℕ, zero, suc, ◌<◌, Bool, true, false, ltb, List, [], ◌∷◌, length, get_or}
 use Rattle.std.proofs.Common.{map, Option, Some, None, IfSome, IfNone, slice_get, refl, sym, ap, ◌∙◌, arith}
 use Rattle.std.specs.List.{AllZip, position}

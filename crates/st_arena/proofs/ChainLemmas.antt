@@ -1,5 +1,5 @@
--- A chain has an item under each of its keys, which are apart: so a list has as many items as its ends say, and
--- keeps them if the slots of its keys stay.
+-- A chain has an item under each of its keys, which are apart: so a list has as many items as its
+-- ends say, and keeps them if the slots of its keys stay.
 use Rattle.std.proofs.Common.{◌≡◌, ◌≢◌, ℕ, zero, suc, ◌+◌, ◌<◌, false, List, [], ◌∷◌, length, get_or, drop, Option}
 use Rattle.std.proofs.Common.{Some, None, IsSome, is_some, unwrap_or, slice_get, refl, sym, ap, ◌∙◌, inl, inr, arith}
 use Rattle.std.proofs.lemmas.Bool.{cases_lt}
@@ -83,7 +83,7 @@ module _ {T : Type 0} (slots : ℕ → Option (Node T)) (ends : Ends) (key : ℕ
       sym (unwrap_or-slice_get (values_of slots ends) place default)
       ∙ ap (λ item. unwrap_or item default) (get-values_of place within)
 
-  -- so many steps from the first node lead to the node at that place
+  -- that many steps from the first node lead to the node at that place
   pub key_after-first : (place : ℕ) → place < ends.len → key_after slots ends.first place ≡ key place
   key_after-first zero within = chain.first within
   key_after-first (suc place) within =
@@ -95,7 +95,7 @@ module _ {T : Type 0} (slots : ℕ → Option (Node T)) (ends : Ends) (key : ℕ
 
 -- the same facts by steps from the first node, for code that knows no place's key
 module _ {T : Type 0} (slots : ℕ → Option (Node T)) (ends : Ends) (chained : IsChained slots ends) where
-  -- so many steps lead to the key of that place
+  -- that many steps lead to the key of that place
   step_is : (place : ℕ) → place < ends.len → key_after slots ends.first place ≡ chained.key place
   step_is place within = key_after-first slots ends chained.key chained.chain place within
 
@@ -109,7 +109,7 @@ module _ {T : Type 0} (slots : ℕ → Option (Node T)) (ends : Ends) (chained :
       get-values_of slots ends chained.key chained.chain place within
       ∙ ap (λ k. value_in (slots k)) (sym (step_is place within))
 
-  -- the last node is so many steps from the first
+  -- the last node is that many steps from the first
   pub last_after : (place : ℕ) → suc place ≡ ends.len → ends.last ≡ key_after slots ends.first place
   last_after place is = chained.chain.last place is ∙ sym (step_is place (omega arith))
 
@@ -138,7 +138,7 @@ module _ {T : Type 0} (slots : ℕ → Option (Node T)) (ends : Ends) (chained :
         ∙ ap (λ k. previous_key (slots k)) (is_there ∙ ap (key_after slots ends.first) (sym is))
         ∙ previous_after before (omega arith)
 
-    -- and its next that at the place behind
+    -- and its next that at the place after
     front_is : suc place < ends.len → node.next ≡ key_after slots ends.first (suc place)
     front_is more = sym (ap next_key is_node) ∙ ap (λ k. next_key (slots k)) is_there
 
@@ -156,7 +156,7 @@ module _ {T : Type 0} (slots : ℕ → Option (Node T)) (ends : Ends) (chained :
               absurd (omega arith),
         )
 
-    -- the node behind it is there, and is another
+    -- the node after it is there, and is another
     pub front_there : suc place < ends.len → IsSome (slots node.next) × (node.next ≢ key)
     front_there more = (
       rw (front_is more) (held_after (suc place) more),

@@ -33,11 +33,11 @@ module _ {T : Type 0} (old now new : ℕ → Option (Node T)) (ends : Ends) (cha
           absurd (omega arith)
 
   module _ (node : Node T) (is_node : now key ≡ Some node) where
-    -- and leads to the one behind it
+    -- and leads to the one after it
     pub change_next : node.next ≡ key_after old ends.first (suc count)
     change_next = sym (ap next_key is_node) ∙ so_far.next_stay key ∙ ap (λ k. next_key (old k)) is_there
 
-    -- with one more item changed, so many and one are
+    -- with one more item changed, one more than before are
     pub change_more : (value : T) → SetsItem now new key value → R node.value value
         → ChangesItems old new R ends.first (suc count)
     change_more value change related =
@@ -90,7 +90,7 @@ module _ {T : Type 0} (old now new : ℕ → Option (Node T)) (ends : Ends) (cha
 module _ {T : Type 0} (old new : ℕ → Option (Node T)) (ends : List Ends) (count capacity : ℕ)
     (sound : AreChains old ends count capacity) (list : ℕ) (in_range : list < length ends) (R : T → T → Type 0)
     (change : ChangesItems old new R (ends_at ends list).first (len_of (ends_at ends list))) where
-  -- so many steps lead to the key of that place
+  -- that many steps lead to the key of that place
   change_steps : (place : ℕ) → place < len_of (ends_at ends list)
       → key_after old (ends_at ends list).first place ≡ sound.key list place
   change_steps place within = key_after-first old (ends_at ends list) (sound.key list) (sound.chain list) place within

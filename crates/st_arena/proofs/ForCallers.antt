@@ -1,7 +1,7 @@
--- The lemmas that proofs of the crates above may cite, on ranks in a list of marks and on a queue kept in slots. They
--- hold by the definitions alone; nothing here speaks of the tree.
+-- The lemmas that proofs of the crates above may cite, on ranks in a list of marks and on a queue
+-- kept in slots. They hold by the definitions alone; nothing here speaks of the tree.
 
--- ---- ranks in one list of marks: they grow with the slot, and by one behind each live slot
+-- ---- ranks in one list of marks: they grow with the slot, and by one after each live slot
 pub use Rattle.st_arena.proofs.RankLemmas.{rank-le, rank-live}
 -- ---- after one mark is written
 pub use Rattle.st_arena.proofs.RankLemmas.{rank_before_mark, rank_behind_mark}
@@ -9,7 +9,7 @@ pub use Rattle.st_arena.proofs.RankLemmas.{rank_before_mark, rank_behind_mark}
 pub use Rattle.st_arena.proofs.RankLemmas.{new_live, new_mark_live, new_mark_dead, new_rank}
 -- ---- a queue in slots
 pub use Rattle.st_arena.proofs.QueueLemmas.{kept-get, kept-take, kept-put, kept-map_Some}
--- ---- slots, and the ranks kept beside them
+-- ---- slots and their ranks
 pub use Rattle.st_arena.proofs.QueueLemmas.{ranks_room, rank-before, live-kept, marked_dead, live_item}
 pub use Rattle.st_arena.proofs.QueueLemmas.{ranks-take, ranks-put, ranks-new}
 pub use Rattle.st_arena.proofs.QueueLemmas.{selected_inside, selected_item, selected_take}

@@ -1,5 +1,5 @@
--- The keys of a list's nodes, place by place: they follow the links, so they stay where the links do, and one list's
--- change changes the keys of that list alone.
+-- The keys of a list's nodes, place by place: they follow the links, so they stay where the links
+-- do, and one list's change changes the keys of that list alone.
 use Rattle.std.proofs.Common.{◌≡◌, ◌≢◌, ℕ, zero, suc, ◌+◌, ◌<◌, ◌≤◌, List, [], ◌∷◌, ◌++◌, length, get_or, set, map}
 use Rattle.std.proofs.Common.{Option, Some, None, IfSome, remove, slice_get, refl, sym, ap, ◌∙◌, inl, inr, arith}
 use Rattle.std.proofs.Common.{Result, Ok, Err, false}
@@ -32,7 +32,7 @@ module _ {T : Type 0} (slots : ℕ → Option (Node T)) where
       let rest = length-keys count first in
       omega (arith, rest, length_push (keys slots count first) (key_after slots first count))
 
-  -- the key at a place is that so many steps on
+  -- the key at a place is the one that many steps on
   pub get_or-keys : (count first place default : ℕ) → place < count
       → get_or (keys slots count first) place default ≡ key_after slots first place
   get_or-keys zero first place default inside = absurd (omega (arith, inside))
@@ -49,7 +49,7 @@ module _ {T : Type 0} (slots : ℕ → Option (Node T)) where
             ∙ ap (key_after slots first) (sym here)
       ]
 
--- what has so many numbers, at each place the key there, is the list of keys
+-- a list of that length with the key at each place is the list of keys
 pub keys_are : {T : Type 0} (slots : ℕ → Option (Node T)) (count first : ℕ) (found : List ℕ) → length found ≡ count
     → ((place default : ℕ) → place < count → get_or found place default ≡ key_after slots first place)
     → found ≡ keys slots count first

@@ -1,5 +1,5 @@
--- What the code read as the ends of a list (`found`) are its ends, so what holds of the chain of each list holds of
--- the one that a call names.
+-- The code read the ends of a list (`found`) from their table, so a fact about the chain of each
+-- list holds of the one that a call names.
 use Rattle.std.proofs.Common.{◌≡◌, ℕ, zero, suc, ◌+◌, ◌<◌, ◌≤◌, List, [], ◌∷◌, ◌++◌, length, get_or, map, set}
 use Rattle.std.proofs.Common.{Option, Some, None, IsSome, IfSome, remove, slice_get, refl, sym, ap, ◌∙◌, arith}
 use Rattle.std.specs.List.{AllZip}

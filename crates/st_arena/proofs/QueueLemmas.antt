@@ -1,4 +1,5 @@
--- A queue in slots: a slot's rank is its item's place in the queue, since both count the live slots before it.
+-- A queue in slots: a slot's rank is its item's place in the queue, since both count the live slots
+-- before it.
 use Rattle.std.proofs.Common.{◌≡◌, ◌+◌, ◌-◌, ◌<◌, ◌≤◌, ℕ, zero, suc, List, [], ◌∷◌, ◌++◌, length, take, set, get_or}
 use Rattle.std.proofs.Common.{map, Option, Some, None, slice_get, refl, sym, ap, ◌∙◌, arith}
 use Rattle.std.proofs.lemmas.List.{length-append, length-replicate}
@@ -51,7 +52,7 @@ module _ {T : Type 0} where
   marks-map_Some [] = refl
   marks-map_Some (x ∷ xs) = ap (λ t. 1 ∷ t) (marks-map_Some xs)
 
-  -- the marks of slots and of so many spare ones behind them
+  -- the marks of slots, and those of the spare ones after them
   abbrev with_spare : List (Option T) → ℕ → List ℕ
   with_spare slots spare = marks slots ++ replicate spare 0
 

@@ -1,5 +1,5 @@
--- Ranks in a list of marks: a rank is a sum of the marks before a slot, so it grows by one behind each live slot and
--- stays behind each dead one.
+-- Ranks in a list of marks: a rank is a sum of the marks before a slot, so it grows by one after
+-- each live slot and stays after each dead one.
 use Rattle.std.proofs.Common.{◌≡◌, ◌+◌, ◌<◌, ◌≤◌, ℕ, zero, suc, List, [], ◌∷◌, ◌++◌, length, take, set, get_or}
 use Rattle.std.proofs.Common.{refl, ap, arith}
 use Rattle.std.proofs.lemmas.List.{take-set-le}
@@ -19,7 +19,7 @@ rank-le (x ∷ xs) (suc slot) (suc later) le =
     let there = sum_by-cons (λ n. n) x (take later xs) in
     omega (arith, rest, here, there)
 
--- the slot behind a live one has the next rank
+-- the slot after a live one has the next rank
 pub rank-live : (marks : List ℕ) (slot : ℕ) → get_or marks slot 0 ≡ 1
     → sum (take (suc slot) marks) ≡ suc (sum (take slot marks))
 rank-live [] slot live = absurd (omega (arith, live))
@@ -40,7 +40,7 @@ pub rank_before_mark : (marks : List ℕ) (slot mark at : ℕ) → at ≤ slot
     → sum (take at (set marks slot mark)) ≡ sum (take at marks)
 rank_before_mark marks slot mark at before = ap sum (take-set-le at marks slot mark before)
 
--- behind it, they change as the mark does
+-- after it, they change as the mark does
 pub rank_behind_mark : (marks : List ℕ) (slot mark at : ℕ) → slot < at → slot < length marks
     → get_or marks slot 0 + sum (take at (set marks slot mark)) ≡ mark + sum (take at marks)
 rank_behind_mark [] slot mark at behind inside = absurd (omega (arith, inside))

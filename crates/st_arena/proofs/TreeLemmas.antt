@@ -52,7 +52,7 @@ within counts height tree level start place low is inside =
     let le = wide-le level height low in
     omega (arith, len, le, is, inside)
 
--- what the climb adds keeps the sum within what so many blocks count
+-- the climb keeps the sum within the number of slots in this many blocks
 pub rank-fits : (counts : List ℕ) (height : ℕ) → IsTree counts height → (size block sum start place : ℕ)
     → size ≡ wide height → block < size → sum + sums (count_at counts) start place ≡ sums (count_at counts) size block
     → 0 < place → sum + count_at counts (start + place - 1) ≤ block * 64
@@ -79,7 +79,8 @@ sums-up counts height tree level start place low is inside =
     (omega (arith, two, inside, le))
     tree.inner)
 
--- one level down, the same slots are before the node's first child, and its children count what it counts
+-- one level down, the same slots are before the node's first child, and its children count what it
+-- counts
 pub down : (counts : List ℕ) (height : ℕ) → IsTree counts height → (level start place : ℕ) → level < height
     → start ≡ wide level → place < start
     → (sums (count_at counts) start place ≡ sums (count_at counts) (start + start) (place + place))
@@ -95,7 +96,7 @@ down counts height tree level start place low is inside =
       rw (← two) here,
     )
 
--- the node so many levels down, first children all the way
+-- the node this many levels down, first children all the way
 reach : ℕ → ℕ → ℕ
 reach zero node = node
 reach (suc deep) node = reach deep (node + node)
@@ -121,7 +122,7 @@ module _ (counts : List ℕ) (height from : ℕ) (adds : AddsUpFrom (count_at co
       let is : wide height + leaf ≡ node = omega (arith, past) in
       rw (← is) (leaves leaf (omega (arith, inside, past)))
 
-  -- a node so many levels above the leaves counts 64 times as many as are below it at most
+  -- a node this many levels above the leaves counts at most 64 times the leaves below it
   bound-by : (deep node : ℕ) → 0 < node → from ≤ node → node < wide height + wide height
       → wide height ≤ reach deep node → count_at counts node ≤ wide deep * 64
   unfolding reach

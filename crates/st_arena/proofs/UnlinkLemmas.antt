@@ -1,4 +1,5 @@
--- A take: the node leaves the chain of its list, which its neighbours close, and all other lists stay.
+-- A take: the node leaves the chain of its list, which its neighbours close, and all other lists
+-- stay.
 use Rattle.std.proofs.Common.{◌≡◌, ◌≢◌, ℕ, zero, suc, ◌+◌, ◌<◌, ◌≤◌, cond, ltb, List, [], length, get_or, map}
 use Rattle.std.proofs.Common.{set, Option, remove, refl, sym, ap, ◌∙◌, inl, inr, arith, unwrap_or}
 use Rattle.std.proofs.lemmas.Bool.{cases_lt, lt-ltb, le-ltb, cond-true, cond-false, cases_order}
@@ -25,11 +26,12 @@ module _ {T : Type 0} (old new : ℕ → Option (Node T)) (ends : Ends) (key : �
   back_key : (before : ℕ) → suc before ≡ place → previous_key (old gone) ≡ key before
   back_key before is = ap (λ k. previous_key (old k)) (is_there ∙ ap key (sym is)) ∙ chain.previous before (omega arith)
 
-  -- and the one at the place behind as its next
+  -- and the one at the place after as its next
   front_key : suc place < ends.len → next_key (old gone) ≡ key (suc place)
   front_key more = ap (λ k. next_key (old k)) is_there ∙ chain.next place more
 
-  -- of the nodes that stay, only the one before the place has a new next, and only the one behind it a new previous
+  -- of the nodes that stay, only the one before the place has a new next, and only the one after it
+  -- a new previous
   next_kept : (other : ℕ) → other < ends.len → other ≢ place → suc other ≢ place
       → next_key (new (key other)) ≡ next_key (old (key other))
   next_kept other inside differs not_before =
@@ -54,7 +56,7 @@ module _ {T : Type 0} (old new : ℕ → Option (Node T)) (ends : Ends) (key : �
   unlink_same_below other before =
       rw (below other before) (change.items_stay (key other) (not_gone other (omega arith) (omega arith)))
 
-  -- and those behind it what the ones a place further held
+  -- and those after it what the ones a place further held
   unlink_same_above : (other : ℕ) → place ≤ other → suc other < ends.len
       → value_in (new (row other)) ≡ value_in (old (key (suc other)))
   unlink_same_above other behind inside =

@@ -1,4 +1,4 @@
--- What a contract sees of a `Lists`: lists and numbers alone.
+-- A `Lists` as contracts see it: lists and numbers alone.
 use Rattle.std.specs.Prelude.{ℕ, List, [], slice_index_or, refl}
 use Rattle.std.specs.Coded.{Coded, code_by, coded×, coded_ℕ, coded_list}
 

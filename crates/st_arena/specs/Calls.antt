@@ -1,4 +1,4 @@
--- What a contract says of a closure that is called at the items of a list.
+-- Closures that are called at the items of a list, as contracts speak of them.
 -- `answers item answer` says that a call at the item may give the answer.
 use Rattle.std.specs.Prelude.{◌≡◌, ℕ, ◌<◌, Bool, true, false, List, Some, slice_get}
 

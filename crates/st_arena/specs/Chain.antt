@@ -39,7 +39,7 @@ pub record Turns {T : Type 0} (R : T → T → Type 0) (old new : Option T) : Ty
 
 -- from here on, `slots` gives what is under a key
 module _ {T : Type 0} (slots : ℕ → Option (Node T)) where
-  -- the values of so many nodes in a row, from a key on
+  -- the values of n nodes in a row, from a key on
   abbrev pub values_from : ℕ → ℕ → List T
   values_from zero key = []
   values_from (suc count) key = option_map_or (λ node. node.value ∷ values_from count node.next) (slots key) []
@@ -48,12 +48,12 @@ module _ {T : Type 0} (slots : ℕ → Option (Node T)) where
   abbrev pub values_of : Ends → List T
   values_of ends = values_from ends.len ends.first
 
-  -- the key so many steps after this one
+  -- the key n steps after this one
   abbrev pub key_after : ℕ → ℕ → ℕ
   key_after first zero = first
   key_after first (suc steps) = next_key (slots (key_after first steps))
 
-  -- the keys of so many nodes in a row, from a key on
+  -- the keys of n nodes in a row, from a key on
   abbrev pub keys : ℕ → ℕ → List ℕ
   keys zero first = []
   keys (suc count) first = keys count first ++ key_after first count ∷ []
@@ -126,7 +126,7 @@ module _ {T : Type 0} (old new : ℕ → Option (Node T)) where
     pub items_stay : (other : ℕ) → other ≢ key → value_in (new other) ≡ value_in (old other)
     pub changed : value_in (new key) ≡ Some item
 
-  -- a list with these ends got one node more, behind its last one, and has the ends `after`
+  -- a list with these ends got one node more, after its last one, and has the ends `after`
   pub record Appends (ends after : Ends) (item : T) : Type 0 where
     pub key : ℕ
     pub was_vacant : old key ≡ None

@@ -1,7 +1,7 @@
 -- A queue that is kept in slots, for callers' proofs.
 pub mod Queue
--- What public contracts cite: what is seen of the lists, and of the closures that are called at
--- their items.
+-- The definitions of public contracts: the lists as contracts see them, and the closures that are
+-- called at their items.
 pub mod Arena
 pub mod Calls
 -- For the parts alone: the blocks of marks, and the tree of counts.

@@ -6,7 +6,7 @@ use Rattle.std.specs.Prelude.{◌≡◌, ◌≢◌, ℕ, zero, suc, ◌+◌, ◌
 abbrev pub count_at : List ℕ → ℕ → ℕ
 count_at counts node = slice_index_or counts node 0
 
--- the counts of so many nodes in a row, added up
+-- the sum of the counts of n nodes in a row
 abbrev pub sums : (ℕ → ℕ) → ℕ → ℕ → ℕ
 sums f from zero = 0
 sums f from (suc count) = sums f from count + f (from + count)
@@ -23,8 +23,8 @@ AddsUpFrom f from leaves =
     → f node ≡ f (node + node) + f (suc (node + node))
 
 -- All sums hold, and there are as many nodes as on all levels, and one that is not used. A leaf
--- counts the live slots of a block, which are 64 at most; and so few are the leaves that no count is
--- too great for its type.
+-- counts the live slots of a block, which are 64 at most; and so few are the leaves that no count
+-- is too great for its type.
 pub record IsTree (counts : List ℕ) (height : ℕ) : Type 0 where
   pub len : length counts ≡ wide (suc height)
   pub inner : (node : ℕ) → 0 < node → node < wide height

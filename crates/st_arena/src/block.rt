@@ -4,7 +4,7 @@ ghost use Rattle.std.specs.Prelude.{◌≡◌, ◌<◌, length, take, slice_inde
 ghost use Rattle.std.specs.List.{sum};
 ghost use Rattle.st_arena.specs.Blocks.{AreMarks};
 
-/// So many slots are counted together: as many as a line of the processor's cache has bytes. So a
+/// The slots that are counted together: as many as a line of the processor's cache has bytes. So a
 /// search waits for memory once there, and the tree above is small.
 pub(crate) const BLOCK: usize = 64;
 
@@ -20,7 +20,7 @@ pub(crate) fn count(marks: &[u8]) -> u64
     live
 }
 
-/// The place of the live slot before which so many live slots are.
+/// Returns the place of the live slot with this many live slots before it.
 pub(crate) fn place_of(marks: &[u8], wanted: u64) -> usize
     requires marks { AreMarks marks.now }
     requires there { wanted < sum marks.now }

@@ -10,7 +10,7 @@ use crate::block::{BLOCK, count, place_of};
 use crate::tree::{add_up, count_down, count_up, rank_in, select_in};
 use std::alloc::{AllocError, Global};
 
-/// The marks of so many slots, the first of which are live.
+/// Makes the marks of this many slots, the first of which are live.
 pub(crate) fn new_marks(alloc: Global, slots: usize, live: usize) -> Result<Vec<u8>, AllocError>
     requires { live ≤ slots }
     ensures { IfOk result (λ marks. marks.items
@@ -22,7 +22,7 @@ pub(crate) fn new_marks(alloc: Global, slots: usize, live: usize) -> Result<Vec<
     Ok(marks)
 }
 
-/// The leaves of a new tree, behind as many nodes that count nothing yet.
+/// Makes the leaves of a new tree, after as many nodes that count nothing yet.
 fn new_leaves(alloc: Global, size: usize, live: usize) -> Result<Vec<u64>, AllocError>
     requires few { size ≤ 2 ^ 53 }
     requires within { live / 64 < size }
@@ -37,7 +37,7 @@ fn new_leaves(alloc: Global, size: usize, live: usize) -> Result<Vec<u64>, Alloc
     Ok(counts)
 }
 
-/// The tree over so many blocks, of whose slots the first are live.
+/// Makes the tree over this many blocks, of whose slots the first are live.
 pub(crate) fn new_counts(
     alloc: Global,
     size: usize,
@@ -72,7 +72,7 @@ pub(crate) fn live_before(
     rank_in(counts, size, height, block) + count(&marks[block * BLOCK..slot])
 }
 
-/// The live slot before which so many live slots are.
+/// Returns the live slot with this many live slots before it.
 pub(crate) fn live_slot(
     marks: &[u8],
     counts: &[u64],

@@ -13,9 +13,9 @@ ghost use Rattle.st_arena.specs.Chain.{Appends, Unlinks, ChangesItems};
 use crate::node::{Ends, NONE, Node, set_next, set_previous, set_value};
 use slab::Slab;
 
-/// In a list of at most so many items a search from both ends looks at more items than one from the
-/// front alone, since most that are looked for lie near the front. And one from the front can't take
-/// long there.
+/// The length up to which a search from both ends looks at more items than one from the
+/// front alone, since most that are looked for lie near the front. And one from the front can't
+/// take long there.
 const FEW: u64 = 512;
 
 /// The key of the node at a place, found from the nearer end.
@@ -207,7 +207,7 @@ pub(crate) fn any_answered<T, F: Fn(&T) -> bool>(
     }
 }
 
-/// The same, from both ends at once.
+/// Searches as `answered_from` does, from both ends at once.
 fn answered_from_ends<T, F: Fn(&T) -> bool>(
     nodes: &Slab<Node<T>>,
     ends: Ends,

@@ -23,7 +23,7 @@ const FAR: u64 = 256;
 /// A list with fewer nodes loses its ladder. That is so few that no walk in it is far.
 const SHORT: u64 = 256;
 
-/// So many places from either end a walk costs less than the ladder does.
+/// The places from either end up to which a walk costs less than the ladder.
 const NEAR: u64 = 8;
 
 /// A ladder with fewer live slots than this part of all is made anew, so that its memory is bounded

@@ -11,7 +11,7 @@ use slab::Slab;
 /// list's length says where it ends.
 pub(crate) const NONE: usize = usize::MAX;
 
-/// A value of some list, and the keys of the nodes beside it in that list.
+/// A value of some list, and the keys of its neighbours in that list.
 #[derive(Drop)]
 pub(crate) struct Node<T> {
     pub value: T,

@@ -40,7 +40,7 @@ impl Ranks {
     ghost use Rattle.std.specs.Prelude.{IfNone};
     ghost use Rattle.std.specs.List.{sum};
 
-    /// At least so many slots, the first `live` of them live and all others dead. They are in
+    /// At least this many slots, the first `live` of them live and all others dead. They are in
     /// blocks of 64, of which there are as many as a power of two.
     pub fn new(alloc: Global, slots: usize, live: usize) -> Result<Ranks, AllocError>
         requires within { live ≤ slots }
@@ -84,7 +84,7 @@ impl Ranks {
         live_before(&self.marks, &self.counts, self.size, self.height, slot)
     }
 
-    /// The live slot before which so many live slots are, if there is one.
+    /// Returns the live slot with this many live slots before it, if there is one.
     pub fn select(&self, rank: u64) -> Option<usize>
         ensures in_range { IfSome result (λ slot. slot < length self.now) }
         ensures live { IfSome result (λ slot. slice_index_or self.now slot 0 ≡ 1) }
@@ -131,7 +131,7 @@ impl Ranks {
 ghost use Rattle.std.specs.Prelude.{◌≡◌, ◌+◌, ◌≤◌, ◌^◌};
 ghost use Rattle.st_arena.specs.Tree.{wide};
 
-// The size of the least tree over so many blocks, and its height.
+// Returns the size of the least tree over this many blocks, and its height.
 fn size_over(blocks: usize) -> (usize, usize)
     requires few { blocks ≤ 2 ^ 52 + 1 }
     ensures room { blocks ≤ result.0 }

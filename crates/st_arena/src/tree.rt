@@ -39,8 +39,8 @@ pub(crate) fn rank_in(counts: &[u64], size: usize, height: usize, block: usize) 
     sum
 }
 
-/// The block with the live slot before which so many live slots are, and how many of these are in
-/// the block.
+/// Returns the block of the live slot with this many live slots before it, and how many of these
+/// are in the block.
 pub(crate) fn select_in(counts: &[u64], size: usize, height: usize, wanted: u64) -> (usize, u64)
     requires tree { IsTree counts.now height }
     requires size { size ≡ wide height }

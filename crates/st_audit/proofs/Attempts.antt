@@ -1,5 +1,6 @@
--- Acts are tried up to the first that has no step: after acts that ran it is the first of the later ones, and what
--- comes after it isn't tried. So calls in a row had the outcome of their acts in a row.
+-- Acts are tried up to the first that has no step: after acts that ran it is the first of the later
+-- ones, and what comes after it isn't tried. So calls in a row had the outcome of their acts in a
+-- row.
 use Rattle.std.proofs.Common.{◌≡◌, ℕ, Bool, true, false, List, [], ◌∷◌, ◌++◌, Option, Some, None, option_map}
 use Rattle.std.proofs.Common.{option_and_then, Result, Ok, Err, append_assoc, refl, sym, ◌∙◌, ap, subst}
 use Rattle.std.proofs.lemmas.List.{append-nil}
@@ -200,7 +201,7 @@ then_performed {top} xs ys old mid new one two = record {
 
 -- ONE CALL AFTER THE OTHER
 
--- acts that halt have the same outcome with others behind them
+-- acts that halt have the same outcome with others after them
 pub halts_before : {top : ℕ} {T U : Type 0} (one : T → List Outcome → Type 0) (two : U → List Outcome → Type 0)
     (xs ys : List Act) (old : Construction top) (h : Halt) (new : Construction top)
     → Meets one (acts_turn top old.world xs) old (Err h) new

@@ -1,5 +1,5 @@
--- What acts do to clocks and last counts: an act other than a reset moves those of its actor alone, and none that comes
--- before a stamp lets the clock fall.
+-- Acts move clocks and last counts so: an act other than a reset moves those of its actor alone,
+-- and none that comes before a stamp lets the clock fall.
 use Rattle.std.proofs.Common.{◌≡◌, ℕ, ◌+◌, ◌-◌, ◌≤◌, ◌==◌, ◌&&◌, nat_lt, zero, suc, Bool, true, false, cond, List, []}
 use Rattle.std.proofs.Common.{◌∷◌, ◌++◌, Option, Some, None, refl, sym, ◌∙◌, ap, subst, arith, if◌then◌else◌}
 use Rattle.std.specs.List.{AllByRecursion}

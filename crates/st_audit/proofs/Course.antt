@@ -1,5 +1,5 @@
--- The course of the items, from one item to the next: the construction is where the items so far led, so
--- the outcome of the next one decides how the course goes on, or where it ends.
+-- The course of the items, from one item to the next: the construction is where the items so far
+-- led, so the outcome of the next one decides how the course goes on, or where it ends.
 use Rattle.std.proofs.Common.{◌≡◌, ℕ, ◌+◌, ◌-◌, ◌<◌, ◌≤◌, ◌==◌, zero, suc, false, List, [], ◌∷◌, ◌++◌}
 use Rattle.std.proofs.Common.{take, drop, length, get_or, Option, Some, None, option_map, slice_get}
 use Rattle.std.proofs.Common.{unwrap_or, refl, sym, ◌∙◌, ap, arith}
@@ -45,7 +45,7 @@ tracers_first : (streams : List Stream) (xs : List Item) → 0 < length xs
 tracers_first streams [] some = absurd (omega arith)
 tracers_first streams (x ∷ xs) some = refl
 
--- the course from where the construction is, with so many items done
+-- the course from where the construction is, with n items done
 abbrev pub IsOnCourse : ℕ → List Stream → List Item → ℕ → State → List Act → Type 0
 IsOnCourse top streams xs n s acts = end_of top streams xs
     ≡ course top streams (last_place xs) s (earlier_of streams (take n xs)) acts (moves streams (drop n xs))

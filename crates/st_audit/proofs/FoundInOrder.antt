@@ -1,5 +1,5 @@
--- What `append` met at an item is the next turn of the course of all items. So the construction is on that
--- course behind the item, or the course ends there as the item was refused or stopped.
+-- `append` takes at an item the next turn of the course of all items. So the construction is
+-- on that course after the item, or the course ends there as the item was refused or stopped.
 use Rattle.std.proofs.Common.{◌≡◌, ℕ, ◌+◌, ◌<◌, List, Some, Ok, Err, Result, get_or, length, slice_get, take, refl}
 use Rattle.std.proofs.Common.{subst}
 use Rattle.std.proofs.lemmas.Option.{slice_get-get_or}

@@ -1,5 +1,5 @@
--- What runs under one greatest clock runs the same under a greater one: only a stamp looks at it, and only to see that
--- the clock is below.
+-- Acts that run under one greatest clock run alike under a greater one: only a stamp looks at it,
+-- and only to see that the clock is below.
 use Rattle.std.proofs.Common.{◌≡◌, ℕ, ◌+◌, ◌≤◌, nat_lt, Bool, true, false, cond, List, [], ◌∷◌}
 use Rattle.std.proofs.Common.{Option, Some, None, is_some, option_map, option_and_then, refl, sym, ◌∙◌, ap, arith}
 use Rattle.std.proofs.lemmas.Bool.{ltb-true, lt-ltb}

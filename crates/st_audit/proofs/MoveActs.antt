@@ -1,4 +1,4 @@
--- What the acts of a move are, by the kind of its event, and that they end with its own.
+-- The acts of a move, by the kind of its event; they end with its own.
 use Rattle.std.proofs.Common.{◌≡◌, ℕ, Bool, true, false, cond, List, [], ◌∷◌, ◌++◌, Option, Some, None, option_map}
 use Rattle.std.proofs.Common.{option_to_list, position, refl, sym, ◌∙◌, ap}
 use Rattle.std.proofs.lemmas.Option.{same_Some, none-some}
@@ -94,7 +94,7 @@ only None false e h = refl
 only (Some x) true e h = ap (λ (x : Event). Some x) (cc)
 only (Some x) false e h = absurd (cc)
 
--- acts that ran with one more behind them
+-- acts that ran with one more after them
 pub record LastStep (top : ℕ) (s : State) (xs : List Act) (a : Act) (os : List Outcome) : Type 0 where
   pub front : List Outcome
   pub end : Outcome

@@ -1,5 +1,6 @@
--- What an item's acts do to the counts: those of its own process become what its move makes of them, and no others
--- move. For a stamp that is told its report says so, for another the clock before it, for a receive its message.
+-- An item's acts change counts so: those of its own process become what its move makes of them, and
+-- no others move. For a stamp that is told its report says so, for another the clock before it, for
+-- a receive its message.
 use Rattle.std.proofs.Common.{◌≡◌, ℕ, ◌+◌, ◌<◌, ◌≤◌, ◌⊎◌, inl, inr, max, true, false, not, ◌&&◌, ◌==◌, List, Option}
 use Rattle.std.proofs.Common.{Some, None, nat_lt, refl, sym, ◌∙◌, ap, subst, arith, get_or, option_and_then, position}
 use Rattle.std.proofs.lemmas.Bool.{and_parts, eqb-true, false≢true, ltb-false}

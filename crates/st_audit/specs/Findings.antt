@@ -1,4 +1,4 @@
--- What the auditor's findings mean.
+-- The meaning of the auditor's findings.
 use Rattle.std.specs.Prelude.{◌≡◌, ℕ, List, Option, Some, None, IsSome}
 use Rattle.st_core.specs.declared.types.Act.{Act}
 use Rattle.st_core.specs.Laws.{NoReset}

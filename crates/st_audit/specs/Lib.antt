@@ -1,5 +1,5 @@
--- What public contracts cite: what is found, over the reasons of `st_plan`, and the construction by
--- which it is found.
+-- The definitions of public contracts: findings, over the reasons of `st_plan`, and the
+-- construction by which it is found.
 pub mod Findings
 pub mod Construction
 -- For the parts alone: the state of `src/construction.rt`.

@@ -70,12 +70,12 @@ pub record IsSoFar {top : ℕ} (streams : List Stream) (earlier : List Move)
   pub listed : length c.told.items ≡ length streams
   pub told : AreTold streams earlier c.told.items
 
--- so many events of p were told
+-- n events of p were told
 abbrev pub IsCountedAs : List Stream → List ℕ → Pid → ℕ → Type 0
 IsCountedAs streams counts p n =
     (k : ℕ) → slice_get (pids_of streams) k ≡ Some p → slice_get counts k ≡ Some n
 
--- p, at its place, had told so many events and told one more, and no other process did
+-- p, at its place, had told n events and told one more, and no other process did
 pub record TellsOne (streams : List Stream) (p : Pid) (i : ℕ) (old new : List ℕ) : Type 0 where
   pub place : ℕ
   pub is_place : slice_get (pids_of streams) place ≡ Some p
@@ -97,7 +97,7 @@ missing_count x s = s.this - 1 - x.clock
 abbrev pub is_uncaused : Start → Serial → Bool
 is_uncaused x s = not (s.prev == x.last) && nat_lt s.prev x.clock
 
--- so many more, if so many were skipped before, are too many
+-- this many more, after those that were skipped before, are too many
 abbrev pub is_too_wide : ℕ → ℕ → Bool
 is_too_wide skipped more = nat_lt most_skipped more || nat_lt most_skipped_in_all (more + skipped)
 
@@ -169,7 +169,7 @@ marked_turn marks m (Through acts os) =
 marked_turn marks m (Stopped acts) = Stopped acts
 marked_turn marks m (Refused r) = Refused r
 
--- the outcome of a reported event, if its process told so many before
+-- the outcome of a reported event, if its process told n before
 abbrev pub report_turn : {top : ℕ} → List Stream → Marks → Construction top → ℕ → Move → Turn
 report_turn streams marks c n m =
     if elim m.item [ item.Reported p i ↦ not (n == i) | item.Hidden p i ↦ false ] then Stopped []

@@ -46,7 +46,7 @@ pub fn unfit_by(fault: PairFault) -> Option<Finding>
     }
 }
 
-/// What is found by the verdict of the acts that were built up to the event at this place.
+/// Makes the finding from the verdict of the acts that were built up to the event at this place.
 fn finding_by(acts: Sequence<Act>, verdict: Verdict, place: (Pid, u64)) -> Finding
     ensures { (top : ℕ) (streams : List Stream) →
         IsVerdict top streams acts (verdict_of verdict) →
@@ -58,7 +58,7 @@ fn finding_by(acts: Sequence<Act>, verdict: Verdict, place: (Pid, u64)) -> Findi
     }
 }
 
-/// What the checker makes of these acts.
+/// Lets the checker judge these acts.
 fn judge<const TOP: u64>(
     alloc: Global,
     streams: &Streams,
@@ -73,8 +73,8 @@ fn judge<const TOP: u64>(
     Ok(finding_by(acts, verdict, place))
 }
 
-/// What is found by acts that were built for each item, of which this place is the last one's. If
-/// they were compared all the way, their verdict is known.
+/// Makes the finding from acts that were built for each item; the place is that of the last item.
+/// If they were compared all the way, their verdict is known.
 fn finding_at_end<const TOP: u64>(
     alloc: Global,
     streams: &Streams,
@@ -91,7 +91,7 @@ fn finding_at_end<const TOP: u64>(
     }
 }
 
-/// What is found of streams without events: the checker accepts no acts.
+/// Makes the finding of streams without events: the checker accepts no acts.
 fn finding_of_nothing<const TOP: u64>(
     alloc: Global,
     streams: &Streams,
@@ -110,7 +110,7 @@ fn finding_of_nothing<const TOP: u64>(
     }
 }
 
-/// What is found of streams that pairing accepts, with the items in their order.
+/// Makes the finding of streams that pairing accepts, with the items in their order.
 fn finding_in_order<const TOP: u64>(
     alloc: Global,
     streams: &Streams,
@@ -151,7 +151,7 @@ fn finding_in_order<const TOP: u64>(
     finding_at_end::<TOP>(alloc, streams, acts, comparison, end.place())
 }
 
-/// What is found of streams.
+/// Makes the finding of streams.
 fn finding_of<const TOP: u64>(
     rt: &(impl Threads + Sync),
     alloc: Global,

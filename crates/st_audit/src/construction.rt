@@ -84,7 +84,7 @@ fn missing_count(start: &Start, serial: Serial) -> u64
     serial.this.saturating_sub(1).saturating_sub(start.clock)
 }
 
-/// How many are missing in all with so many more; none if these are too many.
+/// Returns how many are missing in all with this many more; none if these are too many.
 fn with_skipped(skipped: u64, more: u64) -> Option<u64>
     ensures { result ≡ (if is_too_wide skipped more then None else Some (more + skipped)) }
 {
@@ -277,7 +277,7 @@ impl<const TOP: u64> Construction<TOP> {
         Ok(outcome)
     }
 
-    /// The same for acts in a row.
+    /// Performs acts in a row.
     fn perform_all(&mut self, streams: &Streams, plan: &[Act]) -> Result<(), Halt>
         requires { IsMatched streams.now self.old }
         ensures exact { Meets SaysNothing (acts_turn TOP self.old.world plan.now)
@@ -292,7 +292,7 @@ impl<const TOP: u64> Construction<TOP> {
         Ok(())
     }
 
-    /// What the process has now; none if it isn't there.
+    /// Returns the state of the process, if it is there.
     fn start(&self, pid: Pid) -> Option<Start>
         ensures { result ≡ option_map (λ r. start_of r.local) (process self.now.world pid) }
     {

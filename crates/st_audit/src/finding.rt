@@ -1,12 +1,12 @@
-//! What the auditor returns.
+//! The results of the auditor.
 
 use st_check::Verdict;
 use st_core::{Act, Pid, Sequence};
 use thiserror::Error;
 
-/// Why no certificate was found, for the event at the place that a finding names. The reasons are in
-/// the order in which they are tried: first the four of pairing, each over all events, before any act
-/// is looked for, and then the others, item by item (own profile).
+/// Why no certificate was found, for the event at the place that a finding names. The reasons are
+/// in the order in which they are tried: first the four of pairing, each over all events, before
+/// any act is looked for, and then the others, item by item (own profile).
 #[derive(Debug, Drop)]
 pub enum Reason {
     /// The serial of the event doesn't rise: its prev isn't less than its this.
@@ -27,7 +27,7 @@ pub enum Reason {
     NotReplayed(Sequence<Act>, Verdict),
 }
 
-/// What the auditor found.
+/// The finding of the auditor.
 #[derive(Debug, Drop)]
 pub enum Finding {
     /// A certificate that the checker accepts: its acts, and for each reported receive the numbers

@@ -1,4 +1,4 @@
-//! What is left of an audit if memory runs out.
+//! An audit after memory ran out.
 
 use crate::helpers::streams_at_last;
 use st_audit::{AuditFault, Finding, audit};

@@ -1,4 +1,4 @@
-//! What is left of chains if memory runs out.
+//! Chains after memory ran out.
 
 use crate::helpers::{same, streams_at_last};
 use st_chain::{Causes, Chains};
@@ -27,14 +27,14 @@ fn a_chain_without_memory_may_be_asked_again(rt: HostRuntime) {
     same(&rt, &back.as_slice(), &[(p31(), 0), (p30(), 0)].as_slice());
 }
 
-/// The same over the causes.
+/// Walks back over the causes.
 fn way_by_causes(alloc: Global, streams: &Streams) -> Option<Vec<(Pid, u64)>> {
     let pairing = pair(alloc, streams).ok()?;
     let causes = Causes::new(alloc, streams, &pairing).ok()?;
     causes.back(p31(), 0).ok()
 }
 
-/// The same of causes.
+/// Asserts for causes what the test above does for chains.
 #[test]
 fn a_way_back_without_memory_may_be_asked_again(rt: HostRuntime) {
     let alloc = rt.alloc();

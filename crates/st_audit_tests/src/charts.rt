@@ -1,4 +1,4 @@
-//! What is left of a chart if memory runs out.
+//! A chart after memory ran out.
 
 use crate::helpers::{same, sink_at_last, streams_at_last};
 use st_chain::Causes;

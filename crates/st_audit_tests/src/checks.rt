@@ -24,7 +24,7 @@ fn pair_count(alloc: Global, streams: &Streams, acts: &[Act]) -> Result<Option<u
     }
 }
 
-/// What a replay reports, and how many replies it gives, of acts that have a run.
+/// Replays acts that have a run, and returns the streams and the number of replies.
 fn replayed(alloc: Global, acts: &[Act]) -> Result<Option<(Streams, usize)>, ReplayFault> {
     match replay::<MOST>(alloc, &[p30(), p31()], acts)? {
         Replayed::Ran(streams, replies) => Ok(Some((streams, replies.len()))),
@@ -40,7 +40,7 @@ fn report_count(alloc: Global, acts: &[Act]) -> Result<Option<u64>, ReplayFault>
     }
 }
 
-/// So many traced sends, each received at once.
+/// Makes this many traced sends, each received at once.
 fn exchanges(alloc: Global, count: u64) -> Result<Vec<Act>, AllocError> {
     let mut acts = Vec::new(alloc);
     acts.push(Act::Tracer(p30(), true))?;

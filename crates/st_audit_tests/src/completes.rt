@@ -80,7 +80,7 @@ fn a_completion_without_memory_may_be_asked_again(rt: HostRuntime) {
     same(&rt, &completion.added(), &3);
 }
 
-/// The same of a reason that there is none.
+/// Asserts it for a reason that there is none.
 #[test]
 fn a_reason_without_memory_may_be_asked_again(rt: HostRuntime) {
     let alloc = rt.alloc();
@@ -92,7 +92,7 @@ fn a_reason_without_memory_may_be_asked_again(rt: HostRuntime) {
     assert!(rt; matches!(answer, Ok(Answer::Never(_, 0, Never::Unfounded))));
 }
 
-/// The same of a completion's acts.
+/// Asserts it for a completion's acts.
 #[test]
 fn a_certificate_without_memory_may_be_asked_again(rt: HostRuntime) {
     let alloc = rt.alloc();

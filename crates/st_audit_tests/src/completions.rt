@@ -10,7 +10,7 @@ use std::test::Fail;
 /// How many messages were received.
 const RECEIVES: u64 = 100_000;
 
-/// 31 received so many messages of 30, whose sends nobody reported.
+/// Makes the stream of 31, which received this many messages of 30, whose sends nobody reported.
 fn receives_of_hidden_sends(alloc: Global) -> Result<Streams, Fail> {
     let mut draft = Draft::new(alloc);
     draft.open(p30())?;

@@ -1,4 +1,4 @@
-//! What the tests of several modules take.
+//! Helpers of several modules' tests.
 
 use st_core::{MemorySink, MemorySource, Streams};
 use st_text::read;
@@ -26,7 +26,7 @@ pub(crate) fn streams_at_last(rt: &impl Abort, alloc: Global, text: &str) -> Str
     }
 }
 
-/// A sink for so many bytes. If memory runs out, the second try succeeds.
+/// Makes a sink for this many bytes. If memory runs out, the second try succeeds.
 pub(crate) fn sink_at_last(rt: &impl Abort, alloc: Global, room: usize) -> MemorySink {
     match MemorySink::new(alloc, room, None) {
         Ok(sink) => sink,

@@ -1,4 +1,4 @@
-//! What is left of small counts if memory runs out.
+//! Small counts after memory ran out.
 
 use crate::helpers::{same, streams_at_last};
 use lack_needs::renumbered;

@@ -1,4 +1,4 @@
-//! What is left of an order if memory runs out.
+//! An order after memory ran out.
 
 use crate::helpers::{same, streams_at_last};
 use st_core::Streams;

@@ -1,4 +1,4 @@
-//! What is left of a pairing if memory runs out.
+//! A pairing after memory ran out.
 
 use crate::helpers::{same, streams_at_last};
 use st_pair::{PairFault, Source, pair};

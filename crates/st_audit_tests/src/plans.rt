@@ -1,4 +1,4 @@
-//! What is left of a plan if memory runs out.
+//! A plan after memory ran out.
 
 use st_core::{Act, Label, Serial};
 use st_plan::{QUIET, Start, ready};
@@ -6,7 +6,7 @@ use st_samples::p30;
 use std::alloc::{AllocError, Global};
 use std::test::Fail;
 
-/// What a process does whose clock is at 2, so that it gets to 5.
+/// Plans the acts of a process whose clock is at 2, so that it gets to 5.
 fn plan_of(alloc: Global) -> Result<Vec<Act>, AllocError> {
     let start = Start {
         token: None,

@@ -1,4 +1,4 @@
--- What is found for one event more, and one process more.
+-- One event more, and one process more, extend the backs.
 use Rattle.std.proofs.Common.{◌≡◌, ℕ, ◌+◌, zero, suc, List, [], ◌∷◌, ◌++◌, map, drop, get_or, Option, None}
 use Rattle.std.proofs.Common.{Some, slice_get, option_and_then, sym, ◌∙◌, ap, arith, append_assoc, Bool, true, cond}
 use Rattle.std.proofs.lemmas.Option.{same_Some}

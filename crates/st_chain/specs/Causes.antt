@@ -1,4 +1,4 @@
--- What each event follows.
+-- The cause of each event.
 use Rattle.std.specs.Prelude.{◌≡◌, ℕ, ◌+◌, ◌*◌, ◌==◌, ◌&&◌, zero, suc, not, List, [], ◌∷◌, Option}
 use Rattle.std.specs.Prelude.{Some, None, if◌then◌else◌, slice_get, option_map}
 use Rattle.st_core.specs.declared.types.Pid.{Pid}

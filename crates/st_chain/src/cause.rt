@@ -2,7 +2,7 @@
 
 use st_core::Pid;
 
-/// What an event follows.
+/// The cause of an event.
 #[derive(Clone, Copy, Debug, PartialEq, Eq)]
 pub enum Cause {
     /// The event at this place, a process and an index in its stream counted from 0: the send of a

@@ -21,7 +21,7 @@ use st_pair::{Pairing, Source};
 use std::alloc::{AllocError, Global};
 use std::marker::Model;
 
-/// What is kept at an index.
+/// Returns the cause at an index.
 fn back_at(list: &[Option<u64>], index: u64) -> Option<u64>
     ensures { result ≡ option_and_then (λ x. x) (slice_get list.now index) }
 {
@@ -92,7 +92,7 @@ impl<'a> Causes<'a> {
         })
     }
 
-    /// What the event at this place follows; none if there is no event. Takes no memory.
+    /// Returns the cause of the event at this place; none if there is no event. Takes no memory.
     pub fn cause(&self, pid: Pid, index: u64) -> Option<Cause>
         ensures { result ≡ cause_at self.now pid index }
     {

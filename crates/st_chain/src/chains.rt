@@ -15,7 +15,7 @@ use std::alloc::{AllocError, Global};
 use std::marker::Model;
 
 /// The chains of streams and the causes of their events. A contract sees it as the streams. It
-/// borrows them and their pairing, and keeps 48 bytes an event, 16 of them for its cause, beside
+/// borrows them and their pairing, and keeps 48 bytes an event, 16 of them for its cause, besides
 /// what it takes to find the list of a process and a label. Who asks for causes alone needs only
 /// `Causes`.
 #[derive(Drop)]
@@ -69,7 +69,7 @@ impl<'a> Chains<'a> {
         self.table.chain(ChainKey { pid, label })
     }
 
-    /// What the event at this place follows; none if there is no event. Takes no memory.
+    /// Returns the cause of the event at this place; none if there is no event. Takes no memory.
     pub fn cause(&self, pid: Pid, index: u64) -> Option<Cause>
         ensures { result ≡ cause_at self.now pid index }
     {

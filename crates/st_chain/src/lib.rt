@@ -1,4 +1,4 @@
-//! What caused what: the chain of each process and label, the cause of each event, and the way back
+//! Causes: the chain of each process and label, the cause of each event, and the way back
 //! from an event over its causes.
 //!
 //! The cause of a receive is its send, which `st_pair` has found. The cause of a send or print is

@@ -18,7 +18,7 @@ use Rattle.st_chart.specs.declared.charted_item.ChartedItem.{ChartedItem}
 use Rattle.st_chart.specs.Chart.{is_at, is_end, mark}
 use Rattle.st_chart.specs.Parts.{bars, HasNoEndBeforeLast}
 
--- ---- bars one behind the other
+-- ---- bars one after the other
 
 pub bars_flat : (n : ℕ) → flat_map (λ t. t) (replicate n (codes "   |")) ≡ bars n
 bars_flat zero = refl
@@ -31,7 +31,7 @@ bars_then (suc m) n =
     append_assoc (codes "   |") (bars m) (bars n) ∙ ap (λ (t : List ℕ). codes "   |" ++ t) (bars_then m n)
     ∙ ap bars next
 
--- all of them, if so many are left
+-- all of them, if that many are left
 pub bars_whole : (count left : ℕ) → left ≤ count → bars (count - left) ++ bars left ≡ bars count
 bars_whole count left within =
     let all : count - left + left ≡ count = omega (arith, within) in

@@ -1,5 +1,5 @@
--- Two lists of pids that rise have the same pids in common, whichever of the two is gone through. So the processes that
--- are listed among the ends are the ends among those that are listed.
+-- Two lists of pids that rise have the same pids in common, whichever of the two is gone through.
+-- So the processes that are listed among the ends are the ends among those that are listed.
 use Rattle.std.proofs.Common.{◌≡◌, ℕ, zero, suc, ◌+◌, ◌<◌, Bool, true, false, ◌&&◌, ◌||◌, ◌==◌, List, [], ◌∷◌, filter}
 use Rattle.std.proofs.Common.{cond, length, get_or, Result, Ok, Err, is_ok, refl, sym, ap, ◌∙◌, arith}
 use Rattle.std.specs.declared.cmp.Ordering.{Ordering}
@@ -45,7 +45,7 @@ two_of false true false = refl
 two_of false false true = refl
 two_of false false false = refl
 
--- whether a set that had old has p, behind a is put in and then b
+-- whether a set that had old has p, after a is put in and then b
 pub both_noted : (a b p : Pid) (old one two : Bool) → one ≡ cond (is_eq (pid_cmp a p)) true old
     → two ≡ cond (is_eq (pid_cmp b p)) true one → two ≡ (old || (pid_eq a p || pid_eq b p))
 both_noted a b p old one two first second =

@@ -1,5 +1,5 @@
--- No lane but those of an event's from and to is an end of it: so if the lanes are cut behind these two, no part has an
--- end before its last lane.
+-- No lane but those of an event's from and to is an end of it: so if the lanes are cut after these
+-- two, no part has an end before its last lane.
 use Rattle.std.proofs.Common.{◌≡◌, ◌≢◌, ℕ, ◌+◌, ◌-◌, ◌<◌, ◌≤◌, ◌||◌, Bool, true, false, inl, inr}
 use Rattle.std.proofs.Common.{List, [], ◌∷◌, length, take, drop, get_or, Option, Some, None, min, max}
 use Rattle.std.proofs.Common.{refl, sym, ap, subst, ◌∙◌, arith, cond, filter}
@@ -130,7 +130,7 @@ only_ends e ps m n from to i d below apart other =
     by None nowhere = refl
     by (Some q) nowhere = nowhere i d below other
 
--- cut behind the event's from and its to, whichever comes first
+-- cut after the event's from and its to, whichever comes first
 pub cut_at_ends : (e : Event) (ps : List Pid) (m n low high : ℕ) → low ≡ min m n → high ≡ max m n → m ≤ length ps
     → n ≤ length ps → IsNoOther (Some e.from) ps m → IsNoOther e.to ps n → AreCutAtEnds e ps low high
 cut_at_ends e ps m n low high lower higher m_within n_within from to =

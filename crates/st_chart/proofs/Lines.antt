@@ -1,4 +1,5 @@
--- The lines go one behind the other: those of the lanes by their numbers, and those of the items that have the label.
+-- The lines go one after the other: those of the lanes by their numbers, and those of the items
+-- that have the label.
 use Rattle.std.proofs.Common.{◌≡◌, ℕ, ◌+◌, ◌<◌, List, [], ◌∷◌, ◌++◌, length, take, drop, get_or, arith}
 use Rattle.std.proofs.Common.{refl, sym, ap, subst, ◌∙◌, append_assoc, Bool, Option, Some, None}
 use Rattle.std.specs.List.{flat_map, cons_option}
@@ -13,7 +14,7 @@ use Rattle.st_chart.specs.declared.charted_item.ChartedItem.{ChartedItem}
 use Rattle.st_chart.specs.Chart.{charted_of, all_charted, item_line, lane_line, lane_lines}
 use Rattle.st_chart.specs.Parts.{line_in}
 
--- lanes behind lanes are numbered on
+-- lanes after lanes are numbered on
 pub lanes_then : (k : ℕ) (ps qs : List Pid)
     → lane_lines k (ps ++ qs) ≡ lane_lines k ps ++ lane_lines (k + length ps) qs
 lanes_then k [] qs = ap (λ n. lane_lines n qs) (let e : k ≡ k + 0 = omega arith in e)

@@ -1,4 +1,5 @@
--- The marks of all lanes are those of the three parts into which the lanes are cut, one behind the other.
+-- The marks of all lanes are those of the three parts into which the lanes are cut, one after the
+-- other.
 use Rattle.std.proofs.Common.{◌≡◌, ℕ, List, ◌++◌, take, drop, sym, ap, ◌∙◌}
 use Rattle.std.specs.List.{flat_map}
 use Rattle.std.proofs.lemmas.List.{take-append-drop}

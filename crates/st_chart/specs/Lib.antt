@@ -1,6 +1,6 @@
--- What public contracts cite: the text of a report, the text of a chart, and how writing a chart
--- ends. `Words` has what both texts share, and `Room` how much room a place or an item takes in a
--- buffer.
+-- The definitions of public contracts: the text of a report, the text of a chart, and how writing a
+-- chart ends. `Words` has what both texts share, and `Room` how much room a place or an item takes
+-- in a buffer.
 pub mod Words
 pub mod Report
 pub mod Chart

@@ -21,7 +21,7 @@ abbrev pub line_in : List Stream → Label → List Stream → List Pid → Item
 line_in streams label caused ps x =
     elim (charted_of streams label x) [ None ↦ [] | Some c ↦ item_line caused ps c ]
 
--- the marks of so many lanes, none of which is an end
+-- the marks of n lanes, none of which is an end
 abbrev pub bars : ℕ → List ℕ
 bars zero = []
 bars (suc n) = codes "   |" ++ bars n
@@ -37,7 +37,7 @@ abbrev pub HasNoEndBeforeLast : Event → List Pid → Type 0
 HasNoEndBeforeLast e ps = (others : List Pid) (last : Pid) → ps ≡ others ++ last ∷ []
     → list_any (is_end e) others ≡ false
 
--- lanes that are cut behind the m-th and behind the n-th: no part has an end before its last lane
+-- lanes that are cut after the m-th and after the n-th: no part has an end before its last lane
 pub record AreCutAtEnds (e : Event) (ps : List Pid) (m n : ℕ) : Type 0 where
   pub rise : m ≤ n
   pub within : n ≤ length ps

@@ -1,4 +1,4 @@
--- What a sheet draws: the line of an item, and the whole chart.
+-- The drawing of a sheet: the line of an item, and the whole chart.
 use Rattle.std.specs.Prelude.{ℕ, List}
 use Rattle.st_order.specs.declared.item.Item.{Item}
 use Rattle.st_chart.specs.declared.sheet.Sheet.{Sheet}

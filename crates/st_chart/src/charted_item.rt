@@ -1,4 +1,4 @@
-//! What a chart shows.
+//! An item of a chart.
 
 ghost use Rattle.std.specs.Prelude.{◌≡◌, false};
 ghost use Rattle.std.specs.Option.{option_map_or};

@@ -25,7 +25,7 @@ use st_order::Item;
 use st_text::{Buffer, Device, put_bytes, put_number, put_pid};
 use std::alloc::Global;
 
-/// In so many lanes the marks are written faster one by one than in runs.
+/// The number of lanes up to which marks are written faster one by one than in runs.
 const FEW: usize = 8;
 
 /// Appends the line that names the label.
@@ -88,7 +88,7 @@ fn write_each_mark<W: ByteSink>(
     Ok(())
 }
 
-/// Writes the bars of so many lanes, a run of them at a time.
+/// Writes the bars of this many lanes, a run of them at a time.
 fn write_bars<W: ByteSink>(writer: &mut W, page: &mut Page, count: usize) -> Result<(), Device>
     ensures { Draws W.ByteSink (bars count) writer.old writer.new page.old page.new result }
 {

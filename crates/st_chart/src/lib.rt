@@ -1,4 +1,4 @@
-//! What the program shows of collected streams: the report of what the auditor found, and the chart
+//! The pictures of collected streams: the report of what the auditor found, and the chart
 //! of one label, a picture in text of which message caused which.
 //!
 //! Both are defined byte for byte in `specs/`. A report is written through a buffer on the stack, a

@@ -15,13 +15,13 @@ use st_core::{Kind, Pid};
 use st_order::Item;
 use st_text::{Buffer, put_bytes, put_number, put_serial};
 
-/// So many lanes get their bars at once, which take 1,024 bytes.
+/// The lanes that get their bars at once, which take 1,024 bytes.
 pub(crate) const RUN: usize = 256;
 
 /// The bars of a run.
 static BARS: [[u8; 4]; RUN] = [*b"   |"; RUN];
 
-/// The bars of so many lanes.
+/// Returns the bars of this many lanes.
 pub(crate) fn bars_of(count: usize) -> &'static [u8]
     requires { count ≤ 256 }
     ensures { result.now ≡ bars count }

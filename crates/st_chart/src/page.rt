@@ -1,4 +1,4 @@
-//! What a chart is written on: bytes that wait for the writer, on the heap, so that a chart of many
+//! The page of a chart: bytes that wait for the writer, on the heap, so that a chart of many
 //! lanes goes out in few large pieces.
 
 ghost use Rattle.std.specs.Prelude.{◌≡◌, [], OnOk};
@@ -8,11 +8,11 @@ use st_core::ByteSink;
 use st_text::{Buffer, Device, put_all};
 use std::alloc::Global;
 
-/// So many bytes go out at once, as many as a pipe takes. Whole pages of the system's memory, since
-/// a file takes parts of a page more slowly.
+/// The bytes that go out at once, as many as a pipe takes: whole pages of the system's memory,
+/// since a file takes parts of a page more slowly.
 const PIECE: usize = 65_536;
 
-/// What waits for the writer, and room to make a line in.
+/// The bytes that wait for the writer, and room to make a line in.
 #[derive(Drop)]
 pub(crate) struct Page {
     pub(crate) waits: Vec<u8>,
@@ -42,7 +42,7 @@ pub(crate) fn turn<W: ByteSink>(writer: &mut W, waits: &mut Vec<u8>) -> Result<(
     Ok(())
 }
 
-/// Puts bytes behind those that wait. If there is no memory for them, all are written.
+/// Puts bytes after those that wait. If there is no memory for them, all are written.
 fn keep<W: ByteSink>(writer: &mut W, waits: &mut Vec<u8>, bytes: &[u8]) -> Result<(), Device>
     ensures { WritesOn W.puts W.failed bytes.now writer.old writer.new
         waits.old.items waits.new.items result }
@@ -56,7 +56,7 @@ fn keep<W: ByteSink>(writer: &mut W, waits: &mut Vec<u8>, bytes: &[u8]) -> Resul
     }
 }
 
-/// Puts bytes behind those that wait, and writes a piece that they fill.
+/// Puts bytes after those that wait, and writes a piece that they fill.
 pub(crate) fn put_on<W: ByteSink>(
     writer: &mut W,
     waits: &mut Vec<u8>,

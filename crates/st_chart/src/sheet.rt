@@ -3,7 +3,7 @@
 use st_chain::Causes;
 use st_core::{Label, Pid, Streams};
 
-/// What a chart's lines are drawn from.
+/// The lanes and the streams from which a chart's lines are drawn.
 #[derive(Drop)]
 pub(crate) struct Sheet<'a> {
     pub(crate) streams: &'a Streams,

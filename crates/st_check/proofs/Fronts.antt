@@ -1,10 +1,10 @@
--- What follows a front of a list is at the length of the front.
+-- The item after a front of a list is at the length of the front.
 use Rattle.std.proofs.Common.{◌≡◌, List, [], ◌∷◌, ◌++◌, length, Some, refl, sym, ◌∙◌, ap, append_assoc}
 use mathlib.Core.List.{IsPrefix}
 use Rattle.std.specs.List.{slice_get}
 use Rattle.std.proofs.lemmas.Option.{same_Some, none-some}
 
--- the element behind a front
+-- the element after a front
 pub slice_get_behind : {A : Type 0} (xs zs : List A) → slice_get (xs ++ zs) (length xs) ≡ slice_get zs 0
 slice_get_behind [] zs = refl
 slice_get_behind (x ∷ xs) zs = slice_get_behind xs zs

@@ -1,4 +1,5 @@
--- What one more act does to what is kept; the act of a number comes right after the acts before it.
+-- One more act changes what is kept as the definitions say; the act of a number comes right after
+-- the acts before it.
 use Rattle.std.proofs.Common.{◌≡◌, ℕ, ◌+◌, ◌<◌, ◌⊎◌, false, List, [], ◌∷◌, ◌++◌, length, map, take, get_or, Option}
 use Rattle.std.proofs.Common.{Some, None, is_some, option_and_then, refl, sym, ◌∙◌, ap, subst}
 use Rattle.std.proofs.Common.{arith, inl, inr, length-take-le, if◌then◌else◌}

@@ -1,4 +1,5 @@
--- Pids that rise are apart, so a list beside them that differs for one pid alone differs at its place alone.
+-- Pids that rise are apart, so a list with an item for each that differs for one pid alone differs
+-- at its place alone.
 use Rattle.std.proofs.Common.{◌≡◌, ℕ, ◌<◌, zero, suc, false, cond, List, [], ◌∷◌, length, map, get_or, set, Some}
 use Rattle.std.proofs.Common.{None, option_map, refl, ◌∙◌, ap, subst, arith}
 use Rattle.std.specs.List.{AllByRecursion, slice_get}

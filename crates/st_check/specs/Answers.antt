@@ -1,4 +1,4 @@
--- What the checker's and the replay's results mean.
+-- The meaning of the checker's and the replay's results.
 use Rattle.std.specs.Prelude.{◌≡◌, ℕ, ◌+◌, ◌<◌, List, length, map, take, Some, None, IsSome, All}
 use Rattle.st_core.specs.declared.types.Pid.{Pid}
 use Rattle.st_core.specs.declared.types.Act.{Act}

@@ -1,4 +1,4 @@
--- What public contracts cite: the results, what is kept while acts pass, and the laws.
+-- The definitions of public contracts: the results, what is kept while acts pass, and the laws.
 pub mod Answers
 pub mod Progress
 pub mod Laws

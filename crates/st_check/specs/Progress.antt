@@ -1,4 +1,4 @@
--- What is kept while acts pass, by the checker or by whoever compares acts that it steps itself.
+-- The state while acts pass, of the checker or of whoever compares acts that it steps itself.
 use Rattle.std.specs.Prelude.{◌≡◌, ℕ, ◌+◌, ◌<◌, ◌≤◌, IsSome, slice_get, List, [], ◌∷◌, length, map}
 use Rattle.std.specs.Prelude.{slice_set, slice_index, slice_index_or, remove, Option, Some, None}
 use Rattle.st_core.specs.declared.types.Pid.{Pid}

@@ -1,4 +1,4 @@
--- What a replay records while acts have a run. For the contracts of its parts alone: what it
+-- The record of a replay as long as acts have a run. For the contracts of its parts alone: what it
 -- returns is in `Answers`.
 use Rattle.std.specs.Prelude.{◌≡◌, ℕ, Bool, List, [], map, Some, if◌then◌else◌}
 use Rattle.st_core.specs.declared.types.Pid.{Pid}

@@ -22,7 +22,7 @@ pub fn check<const TOP: u64>(
 ) -> Result<Verdict, CheckFault>
     ensures verdict { IfOk result (λ v. IsVerdict TOP streams.now acts.now (verdict_of v)) }
 
-    // What every run keeps, of the run that a yes is about.
+    // The laws of every run, for the run that a yes is about.
     ensures follows { IfOk result (λ v. FollowsAll TOP streams.now acts.now (verdict_of v)) }
     ensures paired { IfOk result (λ v. PairsAll TOP streams.now acts.now (verdict_of v)) }
     ensures rises { IfOk result (λ v. RisesOnYes streams.now (verdict_of v)) }

@@ -22,8 +22,8 @@ use st_core::{Act, Event, Pid, Sequence, Streams};
 use st_world::Outcome;
 use std::alloc::{AllocError, Global};
 
-/// What is kept of acts that pass, beside the world that they lead to. Whoever steps a world anyway
-/// has the verdict of `check` by it, without a second world.
+/// The comparison of acts that pass with the streams, without the world. Whoever steps a world
+/// anyway has the verdict of `check` by it, without a second world.
 #[derive(Drop)]
 pub struct Comparison {
     /// How many events each process reported, in the order of the streams.

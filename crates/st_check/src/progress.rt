@@ -12,7 +12,7 @@ use st_core::{Act, Streams};
 use st_world::{StepFault, World};
 use std::alloc::{AllocError, Global};
 
-/// What is kept while acts pass.
+/// The state of a check while acts pass.
 #[derive(Drop)]
 pub(crate) struct Progress<const TOP: u64> {
     /// The state that the acts lead to.

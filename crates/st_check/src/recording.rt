@@ -15,19 +15,19 @@ use st_core::{Act, AddFault, Draft, Event, OpenFault, Pid, Reply, Sequence};
 use st_world::{NewFault, StepFault, World};
 use std::alloc::{AllocError, Global};
 
-/// What is recorded while acts have a run.
+/// The record of acts as long as they have a run.
 #[derive(Drop)]
 struct Recording<const TOP: u64> {
     /// The state that the acts lead to.
     world: World<TOP>,
-    /// What each process reported.
+    /// The streams that the processes reported.
     streams: Draft,
-    /// What each act replied, if that is kept.
+    /// The reply of each act, if replies are kept.
     replies: Sequence<Reply>,
 }
 
-/// What the acts report and reply in their run from zero clocks over these processes, if they have
-/// one.
+/// Returns the reports and replies of the acts in their run from zero clocks over these processes,
+/// if they have one.
 pub fn replay<const TOP: u64>(
     alloc: Global,
     pids: &[Pid],
@@ -37,13 +37,13 @@ pub fn replay<const TOP: u64>(
     ensures rising { OnOk result (IsRising pids.now) }
     ensures fault { IfErr result (IsReplayFault pids.now) }
 
-    // What every run keeps.
+    // The laws of every run.
     ensures rises { IfOk result RisesOnRun }
 {
     record_run::<TOP>(alloc, pids, acts, true)
 }
 
-/// What the acts report in that run: [`replay`] without the replies, which take 40 bytes an act.
+/// Returns the reports alone: [`replay`] without the replies, which take 40 bytes an act.
 pub fn reports<const TOP: u64>(
     alloc: Global,
     pids: &[Pid],
@@ -53,7 +53,7 @@ pub fn reports<const TOP: u64>(
     ensures rising { OnOk result (IsRising pids.now) }
     ensures fault { IfErr result (IsReplayFault pids.now) }
 
-    // What every run keeps.
+    // The laws of every run.
     ensures rises { IfOk result ReportsRise }
 {
     match record_run::<TOP>(alloc, pids, acts, false)? {
@@ -62,7 +62,7 @@ pub fn reports<const TOP: u64>(
     }
 }
 
-/// What the acts report in their run, and what they reply if that is kept.
+/// Returns the reports of the acts in their run, and their replies if these are kept.
 fn record_run<const TOP: u64>(
     alloc: Global,
     pids: &[Pid],

@@ -1,4 +1,4 @@
-//! What the checker and the replay return.
+//! The results of the checker and of the replay.
 
 use st_core::{Pid, Reply, Sequence, Streams};
 use thiserror::Error;
@@ -6,10 +6,10 @@ use thiserror::Error;
 /// Whether acts are a certificate of streams. Acts are numbered from 0.
 #[derive(Debug, Drop)]
 pub enum Verdict {
-    /// This act has no step: its process or its receiver isn't there, or a clock is full. All acts
-    /// before it pass.
+    /// The act with this number has no step: its process or its receiver isn't there, or a clock is
+    /// full. All acts before it pass.
     Stuck(u64),
-    /// This act has a step that reports something else than the next event of its actor's stream.
+    /// The act with this number reports something else than the next event of its actor's stream.
     /// All acts before it pass.
     Differs(u64),
     /// All acts pass, and this is the least process with events left.
@@ -32,16 +32,16 @@ pub enum CheckFault {
 pub enum Replayed {
     /// The acts have a run: what each process reported in it, and each act's reply.
     Ran(Streams, Sequence<Reply>),
-    /// This act is the first that has no step.
+    /// The number of the first act that has no step.
     Stuck(u64),
 }
 
-/// What acts that are replayed report.
+/// The reports of acts that are replayed.
 #[derive(Debug, Drop)]
 pub enum Reports {
     /// The acts have a run: what each process reported in it.
     Ran(Streams),
-    /// This act is the first that has no step.
+    /// The number of the first act that has no step.
     Stuck(u64),
 }
 

@@ -96,7 +96,7 @@ module _ (name : Text) where
       ∷ (name ∷ codes "check" ∷ codes "--label" ∷ codes "17" ∷ [], None)
       ∷ []
 
-  -- What `clap`'s reader of integers makes of labels. A plus and zeros may be in front, and the
+  -- `clap`'s reader of integers reads labels so: a plus and zeros may be in front, and the
   -- label may follow `=`, and then a minus may be before a zero. More than the greatest label, no
   -- digits at all, a word that begins with a minus, and the option twice ask for nothing.
   chart_labels : map (λ line. task_asked line.0) chart_lines ≡ map (λ line. line.1) chart_lines

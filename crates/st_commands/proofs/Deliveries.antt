@@ -1,4 +1,4 @@
--- What the parts of a command say adds up to what the command owes: the bytes that were read go
+-- The parts of a command together do what the command owes: the bytes that were read go
 -- with each answer.
 use Rattle.std.proofs.Common.{◌≡◌, ◌≢◌, ℕ, ◌<◌, ◌≤◌, false, List, length, refl, sym, subst, ◌∙◌, inl, inr, arith}
 use Rattle.std.proofs.lemmas.Option.{same_Some}

@@ -1,6 +1,6 @@
--- What was driven is a record of the scripts, and a record says what status 0 means. An act of a
--- text that is refused stands for a stray process alone: its actor and receiver are listed, and a
--- text has fewer acts than clocks and ranks have counts.
+-- The result of `drive` is a record of the scripts, and a record says what status 0 means. An act
+-- of a text that is refused stands for a stray process alone: its actor and receiver are listed,
+-- and a text has fewer acts than clocks and ranks have counts.
 use Rattle.std.proofs.Common.{◌≡◌, ℕ, ◌*◌, ◌<◌, ◌≤◌, true, List, [], ◌∷◌, length, map, refl, sym}
 use Rattle.std.proofs.Common.{subst, arith, Some, slice_get}
 use Rattle.std.specs.Prelude.{All, zip, count_by}
@@ -36,7 +36,7 @@ use Rattle.st_commands.proofs.Deliveries.{WasRead, owes_bundle}
 
 -- ---- the scripts of few acts hold few acts
 
--- so many acts at most in each of the scripts
+-- at most n acts in each of the scripts
 acts_below : (ps : List Pid) (xs : List Act) → acts_in (scripts_of ps xs) ≤ length ps * length xs
 acts_below [] xs = omega arith
 acts_below (p ∷ ps) xs =

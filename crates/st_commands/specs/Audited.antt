@@ -1,5 +1,5 @@
--- What `audit` makes of bytes: the report of what is found of the streams that they spell, or why
--- they spell none. The acts in the input are ignored.
+-- The result of `audit` on bytes: the report of what is found of the streams that they spell, or
+-- why they spell none. The acts in the input are ignored.
 use Rattle.std.specs.Prelude.{◌≡◌, ℕ, List, Option, Some}
 use Rattle.std.specs.Option.{ForSome}
 use Rattle.st_core.specs.declared.types.Act.{Act}

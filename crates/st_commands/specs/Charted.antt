@@ -1,5 +1,5 @@
--- What `chart` makes of bytes: the chart of one label of the streams that they spell, or why there
--- is none. The acts in the input are ignored.
+-- The result of `chart` on bytes: the chart of one label of the streams that they spell, or why
+-- there is none. The acts in the input are ignored.
 use Rattle.std.specs.Prelude.{◌≡◌, ℕ, true, false, List, ◌++◌, Option, Some, None, codes}
 use Rattle.std.specs.List.{list_any}
 use Rattle.st_core.specs.declared.types.Label.{Label}

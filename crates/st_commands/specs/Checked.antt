@@ -1,4 +1,4 @@
--- What `check` makes of bytes: the verdict of the streams and acts that they spell, or why they
+-- The result of `check` on bytes: the verdict of the streams and acts that they spell, or why they
 -- spell none. The limits are those of the reader.
 use Rattle.std.specs.Prelude.{◌≡◌, ℕ, List, Option, Some, None}
 use Rattle.st_core.specs.declared.types.Act.{Act}

@@ -1,4 +1,4 @@
--- What a call of a command does to its reader and its writer: it reads all bytes, writes their
+-- A call of a command on its reader and its writer: it reads all bytes, writes their
 -- output, and returns its status.
 use Rattle.std.specs.Prelude.{◌≡◌, ℕ, ◌+◌, ◌≤◌, true, false, List, length, ◌⊎◌, Some, None}
 use Rattle.st_core.specs.declared.device.sink.ByteSink.{Ghosts as SinkOf}

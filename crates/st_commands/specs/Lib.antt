@@ -1,4 +1,4 @@
--- What public contracts cite, from the outputs to what they mean.
+-- The definitions of public contracts, from the outputs to their meaning.
 pub mod Output
 pub mod Checked
 pub mod Audited

@@ -1,6 +1,6 @@
--- What a yes and a no of each command mean, each as one record of plain facts, in the words of the
--- machine. The limits are those of the reader: how many bytes, processes, events and acts a text
--- may have.
+-- The meaning of a yes and a no of each command, each as one record of plain facts, in the words of
+-- the machine. The limits are those of the reader: how many bytes, processes, events and acts a
+-- text may have.
 use Rattle.std.specs.Prelude.{◌≡◌, ℕ, true, false, List, ◌++◌, Option, Some, None, IsSome, All, codes, filter}
 use Rattle.std.specs.List.{flat_map, list_any}
 use Rattle.std.specs.Option.{ForSome}
@@ -232,8 +232,8 @@ pub record Says (limits : Limits) {R W : Type 0} (reader : ReaderCall R) (writer
   pub writes : Writes writer.device.puts writer.device.failed output.text writer.old writer.new
   pub means : Means bytes output
 
--- What a call of a command comes to: an output that it owes of the bytes was delivered; and a yes,
--- which is status 0, and a no, which is status 1, each mean something.
+-- A call of a command delivers an output that it owes for the bytes; and a yes,
+-- which is status 0, and a no, which is status 1, mean what the command's records say.
 pub record Performs (limits : Limits) {R W : Type 0} (reader : ReaderCall R) (writer : WriterCall W)
     (IsOutput Yes No : List ℕ → Output → Type 0) (status : ℕ) : Type 0 where
   pub told : Tells writer (Owes limits reader IsOutput) status

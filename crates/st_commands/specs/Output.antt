@@ -1,4 +1,4 @@
--- What the program writes and returns: a text of whole lines, and an exit status (own profile).
+-- The output of the program: a text of whole lines, and an exit status (own profile).
 -- The status is 0 for a yes or a run, 1 for a no, 2 for a faulty input, 3 for a faulty command
 -- line, and 4 if memory runs out or a device fails.
 use Rattle.std.specs.Prelude.{ℕ, List, Some, ◌++◌, codes, decimal}

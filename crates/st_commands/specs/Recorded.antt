@@ -1,4 +1,4 @@
--- What `drive` makes of bytes: the bundle of one run in which each process makes its own of the
+-- The result of `drive` on bytes: the bundle of one run in which each process makes its own of the
 -- acts that they spell, in order, or that there is none, or why they spell no acts. The events in
 -- the input are ignored.
 use Rattle.std.specs.Prelude.{◌≡◌, ℕ, List, ◌++◌, Some, map, codes, decimal}

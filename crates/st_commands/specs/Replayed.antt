@@ -1,4 +1,4 @@
--- What `replay` makes of bytes: the bundle of what the acts that they spell report, or the act
+-- The result of `replay` on bytes: the bundle of what the acts that they spell report, or the act
 -- without a step, or why they spell none. The events in the input are ignored.
 use Rattle.std.specs.Prelude.{◌≡◌, ℕ, List, ◌++◌, Some, codes, decimal}
 use Rattle.st_core.specs.declared.types.Pid.{Pid}

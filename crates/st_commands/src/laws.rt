@@ -1,4 +1,4 @@
-//! What the outputs of the commands mean. The functions do nothing: their contracts are the
+//! The meaning of the commands' outputs. The functions do nothing: their contracts are the
 //! laws.
 
 ghost use Rattle.std.specs.Prelude.{◌≤◌};
@@ -48,8 +48,8 @@ pub fn unfit_means()
     ensures { UnfitMeans }
 {}
 
-/// The audit writes a certificate if the bytes spell streams of which no reason holds, or which some
-/// run without a reset reported as all of itself.
+/// The audit writes a certificate if the bytes spell streams of which no reason holds, or which
+/// some run without a reset reported as all of itself.
 pub fn certain_traces_fit()
     ensures { CertainTracesFit }
 {
@@ -84,8 +84,8 @@ pub fn an_answer()
     a_verdict();
 }
 
-/// Bytes have one output at most of the check, of the audit, of the replay and of each label's chart,
-/// so whoever knows the bytes that were read knows which output is owed.
+/// Bytes have one output at most of the check, of the audit, of the replay and of each label's
+/// chart, so whoever knows the bytes that were read knows which output is owed.
 pub fn one_answer()
     ensures check { (limits : Limits) → HasOneOutput (IsChecked limits) }
     ensures audit { (limits : Limits) → HasOneOutput (IsAudited limits) }

@@ -40,7 +40,7 @@ pub(crate) enum OutputLine {
     ActFault(Pid, u64),
     /// A thread couldn't be started.
     ThreadFault,
-    /// What the threads left isn't one run.
+    /// The pieces that the threads left aren't one run.
     JoinFault,
     /// How the program is called.
     Usage,

@@ -50,7 +50,7 @@ pub fn run<H: AllocGlobal + Threads + Wait + Sync, S: AsStr, R: ByteSource, W: B
     ensures told { Tells (call W.ByteSink writer.old writer.new)
         (OwesFor standard (call R.ByteSource reader.old reader.new) (map S.text words.now)) result }
 
-    // What a yes and a no of the command mean that the words ask for.
+    // The meaning of a yes and a no of the command that the words ask for.
     ensures means { (task : Task) → task_asked (map S.text words.now) ≡ Some task → result < 2 →
         PerformsBy standard (call R.ByteSource reader.old reader.new)
         (call W.ByteSink writer.old writer.new) task result }

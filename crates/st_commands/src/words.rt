@@ -39,7 +39,7 @@ pub enum Refusal {
     Usage,
 }
 
-/// What `clap` is told of `chart`: its label is a number of 32 bits, and has to be given.
+/// Describes `chart` to `clap`: its label is a number of 32 bits, and has to be given.
 fn chart_line<'a>(alloc: Global) -> Result<Command<'a>, AllocError>
     ensures { IfOk result (λ command. app_of command ≡ chart_line) }
 {
@@ -51,7 +51,7 @@ fn chart_line<'a>(alloc: Global) -> Result<Command<'a>, AllocError>
     Ok(chart)
 }
 
-/// What `clap` is told of the command line.
+/// Describes the command line to `clap`.
 fn command_line<'a>(alloc: Global) -> Result<Command<'a>, AllocError>
     ensures { IfOk result (λ command. app_of command ≡ command_line) }
 {

@@ -1,4 +1,4 @@
--- Rows are only appended, and so is what is kept beside them: each row keeps its entry.
+-- Rows are only appended, and so are the lists that they refer to: each row keeps its entry.
 use Rattle.std.proofs.Common.{◌≡◌, ℕ, ◌+◌, ◌-◌, List, [], ◌∷◌, ◌++◌, length, Some, refl, sym, ap, ◌∙◌, arith, suc, ◌≤◌}
 use Rattle.std.proofs.Common.{⊎_elim, subst}
 use Rattle.std.specs.Prelude.{slice_get, slice_index_or}
@@ -41,7 +41,7 @@ grown_length {T} xs xs' grown =
     let long : length xs' ≡ length xs + 1 = ap (λ (zs : List T). length zs) more.1
     ∙ length-append xs (more.0 ∷ []) in omega (arith, long)) grown
 
--- ---- what is kept beside the rows
+-- ---- the lists that rows refer to
 
 -- the calls, the acts under a token, and what is apart
 record Beside : Type 0 where
@@ -92,7 +92,7 @@ stays_placed b b' (content.Call i) more placed = let most = more.calls in omega 
 stays_placed b b' (content.Traced i) more placed = let most = more.traced in omega (arith, placed, most)
 stays_placed b b' (content.Apart i) more placed = let most = more.apart in omega (arith, placed, most)
 
--- the rows have their places beside
+-- the rows refer to places that are there
 abbrev FitBeside : Beside → List Row → Type 0
 FitBeside b rows = HavePlaces (length b.calls) (length b.traced) (length b.apart) rows
 
@@ -123,7 +123,7 @@ placed_push b (x ∷ rows) r placed one = (placed.0, placed_push b rows r placed
 
 -- ---- both
 
--- what is kept beside the rows grew by one item at most in each list
+-- the lists that rows refer to grew by one item at most each
 record HaveGrown (calls calls' : List (Act × Reply)) (traced traced' : List TracedAct) (apart apart' : List Unranked)
     : Type 0 where
   pub calls_grown : HasGrown calls calls'

@@ -31,11 +31,11 @@ call_in whole (brief.Whole i) = slice_index_or whole i no_call
 abbrev pub calls_in : List Brief → List (Act × Reply) → List (Act × Reply)
 calls_in briefs whole = map (call_in whole) briefs
 
--- the call at a place, if there are so many
+-- the call at a place, if there is one
 abbrev pub call_at : List (Act × Reply) → ℕ → Act × Reply
 call_at calls i = slice_index_or calls i no_call
 
--- what a brief form says has a place among so many calls that are kept whole
+-- the place of a brief form is below the number of calls that are kept whole
 abbrev pub IsBriefPlaced : ℕ → Brief → Type 0
 IsBriefPlaced n (brief.Whole i) = i < n
 IsBriefPlaced n b = Unit {0}

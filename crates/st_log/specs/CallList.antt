@@ -1,4 +1,4 @@
--- What contracts see of calls that are kept.
+-- Kept calls, as contracts see them.
 use Rattle.std.specs.Prelude.{ℕ, List}
 use Rattle.st_core.specs.declared.types.Act.{Act}
 use Rattle.st_core.specs.declared.types.Reply.{Reply}

@@ -1,4 +1,4 @@
--- What contracts see of a log: entries by their places, and the last rank; and which acts are of a
+-- A log as contracts see it: entries by their places, and the last rank; and which acts are of a
 -- whole node.
 use Rattle.std.specs.Prelude.{ℕ, Bool, true, false, List, [], ◌∷◌, None, slice_index_or}
 use Rattle.st_core.specs.declared.types.Act.{Act}
@@ -22,7 +22,7 @@ no_entry = record {
   carried = None;
 }
 
--- the entry at a place of a log, if there are so many
+-- the entry at a place of a log, if there is one
 abbrev pub entry_at : List Entry → ℕ → Entry
 entry_at es i = slice_index_or es i no_entry
 

@@ -1,4 +1,4 @@
--- What the public contracts cite: what contracts see of a log and of calls.
+-- The definitions of public contracts: a log and calls, as contracts see them.
 pub mod Entries
 pub mod CallList
 -- For the parts alone: how calls and entries are kept.

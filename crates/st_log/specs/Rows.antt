@@ -45,7 +45,7 @@ row_entry calls traced apart r = with_rank r.rank (without_rank_in calls traced 
 abbrev pub entries_of : List (Act × Reply) → List TracedAct → List Unranked → List Row → List Entry
 entries_of calls traced apart rows = map (row_entry calls traced apart) rows
 
--- what the content says has a place among so many calls, so many acts under a token, or so many
+-- the place of the content is below the number of calls, of acts under a token, or of
 -- entries that are apart
 abbrev pub HasPlace : ℕ → ℕ → ℕ → Content → Type 0
 HasPlace calls traced apart (content.Call i) = i < calls
@@ -53,7 +53,7 @@ HasPlace calls traced apart (content.Traced i) = i < traced
 HasPlace calls traced apart (content.Apart i) = i < apart
 HasPlace calls traced apart c = Unit {0}
 
--- the content says all of the entry but its rank, whatever is kept beside the rows
+-- the content says all of the entry but its rank, whatever the lists hold
 pub record IsAll (e : Entry) (c : Content) : Type 0 where
   pub says : (calls : List (Act × Reply)) (traced : List TracedAct) (apart : List Unranked)
       → without_rank_in calls traced apart c ≡ without_rank e

@@ -14,7 +14,7 @@ use st_core::{Act, Pid, Reply, Want};
 use std::alloc::{AllocError, Global};
 use std::marker::Model;
 
-/// So many calls can be kept, since the place of one takes 32 bits.
+/// The most calls: the place of one takes 32 bits.
 const MOST_CALLS: usize = 4_294_967_295;
 
 /// The greatest place of a queue that a brief form can say, in 32 bits.
@@ -32,20 +32,20 @@ pub enum Brief {
     /// A receive of the first process that took the first message, from the second and of this
     /// value.
     First(Pid, Pid, u64),
-    /// The same, of a receive from the second process.
+    /// A receive from the second process.
     From(Pid, Pid, u64),
-    /// The same, of a receive of this value.
+    /// A receive of this value.
     Value(Pid, Pid, u64),
-    /// The same, of a receive from the second process and of this value.
+    /// A receive from the second process, of this value.
     Both(Pid, Pid, u64),
     /// A receive of the first process by this place, which took a message from the second and of
     /// this value.
     Place(Pid, u32, Pid, u64),
-    /// What is at this place among the calls that are kept whole.
+    /// The call at this place among those that are kept whole.
     Whole(u32),
 }
 
-// So many bytes does a frequent call take in a seat.
+// A frequent call takes 24 bytes in a seat.
 const _: () = prove!(size_of::<Brief>() == 24);
 
 /// Acts with what they returned, in order. A send, a receive or a print takes 24 bytes if its act
@@ -54,7 +54,7 @@ const _: () = prove!(size_of::<Brief>() == 24);
 pub struct CallLog {
     briefs: Vec<Brief>,
     whole: Vec<(Act, Reply)>,
-    // For so many more calls there is room in both, whatever they are.
+    // The calls for which there is room in both lists, whatever they are.
     reserved: usize,
 }
 
@@ -76,8 +76,8 @@ impl Model for CallLog {
 }
 
 impl CallLog {
-    /// No calls, with room for so many. Fails if memory runs out, or if there are more than can be
-    /// kept.
+    /// Makes an empty list of calls, with room for this many. Fails if memory runs out, or if there
+    /// are more than can be kept.
     pub fn with_capacity(alloc: Global, capacity: usize) -> Result<CallLog, AllocError>
         ensures calls { IfOk result (λ c. c.calls ≡ []) }
         ensures room { IfOk result (λ c. c.spare ≡ capacity) }
@@ -106,7 +106,7 @@ impl CallLog {
         self.briefs.is_empty()
     }
 
-    /// The call at this place, counted from 0, if there are so many.
+    /// Returns the call at this place, counted from 0, if there is one.
     pub fn get(&self, place: usize) -> Option<(Act, Reply)>
         ensures { result ≡ slice_get self.now.calls place }
     {
@@ -304,7 +304,7 @@ impl Brief {
     }
 
     /// Whether the call is seen to be that of another form, if these are the calls that are kept
-    /// whole beside each.
+    /// whole next to each.
     fn is_seen_same(self, whole: &[(Act, Reply)], other: Brief, others: &[(Act, Reply)]) -> bool
         requires placed { IsBriefPlaced (length whole.now) self }
         requires other { IsBriefPlaced (length others.now) other }

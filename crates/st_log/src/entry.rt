@@ -1,8 +1,8 @@
-//! What a log keeps. A plain value.
+//! The entry of a log. A plain value.
 
 use st_core::{Act, Event, Reply, Token};
 
-/// What each process that an act touches keeps of it in its log.
+/// The record of an act in the log of each process that it touches.
 #[derive(Clone, Copy, Debug, PartialEq, Eq)]
 pub struct Entry {
     /// One more than the greatest rank that was in the logs of the processes that the act
@@ -10,9 +10,9 @@ pub struct Entry {
     pub rank: u64,
     /// The act.
     pub act: Act,
-    /// What it returned to its actor.
+    /// The reply to the actor.
     pub reply: Reply,
-    /// What its actor reported, if it did.
+    /// The event that the actor reported, if it did.
     pub report: Option<Event>,
     /// The token of the message that a send sent, if it had one. No other act carries one.
     pub carried: Option<Token>,

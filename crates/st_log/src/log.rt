@@ -19,11 +19,11 @@ use st_core::{Act, Event, Pid, Reply};
 use std::alloc::{AllocError, Global};
 use std::marker::Model;
 
-/// Among so many entries a rank is looked for one after another, since the processor fetches those
-/// ahead; only past them by halves.
+/// The number of entries up to which a rank is looked for one after another: the processor fetches
+/// those ahead; only past them by halves.
 const NEAR: usize = 64;
 
-/// So many entries can be kept in one form, since a row has 32 bits for the place of one.
+/// The most entries of one form: a row has 32 bits for the place of an entry.
 const MOST_PLACES: usize = 4_294_967_295;
 
 /// The entries of the acts that touched one process, in order. One of a reset or a tracer change
@@ -36,7 +36,7 @@ pub struct Log {
     calls: CallLog,
     traced: Vec<TracedAct>,
     apart: Vec<Unranked>,
-    // For so many more entries there is room in all, whatever is logged.
+    // The entries for which there is room in all lists, whatever is logged.
     reserved: usize,
 }
 
@@ -59,8 +59,8 @@ impl Model for Log {
 }
 
 impl Log {
-    /// An empty log with room for so many entries. Fails if memory runs out, or if there are more
-    /// than can be apart.
+    /// Makes an empty log with room for this many entries. Fails if memory runs out, or if there
+    /// are more than can be apart.
     pub fn with_capacity(alloc: Global, capacity: usize) -> Result<Log, AllocError>
         ensures entries { IfOk result (λ log. log.entries ≡ []) }
         ensures room { IfOk result (λ log. log.spare ≡ capacity) }
@@ -91,7 +91,7 @@ impl Log {
         self.rows.is_empty()
     }
 
-    /// The entry at this place, counted from 0, if there are so many.
+    /// Returns the entry at this place, counted from 0, if there is one.
     pub fn get(&self, place: usize) -> Option<Entry>
         ensures { result ≡ slice_get self.now.entries place }
     {
@@ -164,7 +164,7 @@ impl Log {
         content.is_wide(&self.calls, self.traced.as_slice(), self.apart.as_slice())
     }
 
-    /// What the act of the entry at this place returned.
+    /// Returns the reply of the entry at this place.
     pub fn reply_at(&self, place: usize) -> Reply
         requires { place < length self.now.entries }
         ensures { result ≡ (entry_at self.now.entries place).reply }
@@ -173,7 +173,7 @@ impl Log {
         content.reply(&self.calls, self.traced.as_slice(), self.apart.as_slice())
     }
 
-    /// What the actor of the entry at this place reported, if it did.
+    /// Returns the event that the entry at this place reported, if it did.
     pub fn report_at(&self, place: usize) -> Option<Event>
         requires { place < length self.now.entries }
         ensures { result ≡ (entry_at self.now.entries place).report }
@@ -274,7 +274,7 @@ impl Log {
     }
 }
 
-/// What a row says of the entry. If that isn't all of it, the rest is kept in the smallest form
+/// Makes the row of an entry. If a row doesn't say all of it, the rest is kept in the smallest form
 /// that says it.
 fn keep_content(
     calls: &mut CallLog,

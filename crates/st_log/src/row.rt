@@ -20,16 +20,16 @@ use st_core::{Act, Event, Pid, Reply, Token};
 pub struct Row {
     /// The entry's rank.
     pub rank: u64,
-    /// What else the entry says.
+    /// The rest of the entry.
     pub content: Content,
 }
 
-// So many bytes, and at most as many again as room to grow, are what an act of a node takes at each
+// An act of a node takes these bytes, and at most as many again as room to grow, at each
 // of its processes.
 const _: () = prove!(size_of::<Row>() == 16);
 
-/// What an entry says beside its rank: of an act of a whole node all of it, of any other where it
-/// is.
+/// The content of an entry without its rank: for an act of a whole node all of it, for any other
+/// where it is.
 #[derive(Clone, Copy)]
 pub enum Content {
     /// A reset by this process, which returned `Done`.
@@ -39,9 +39,9 @@ pub enum Content {
     Tracer(Pid, bool, bool),
     /// The call at this place, which wasn't reported and carried no token.
     Call(u32),
-    /// What the form at this place says of an act under a token.
+    /// An act under a token, in the form at this place.
     Traced(u32),
-    /// What is at this place among the entries that are kept apart.
+    /// The entry at this place among those that are kept apart.
     Apart(u32),
 }
 
@@ -50,16 +50,16 @@ pub enum Content {
 pub struct Unranked {
     /// The act.
     pub act: Act,
-    /// What it returned to its actor.
+    /// The reply to the actor.
     pub reply: Reply,
-    /// What its actor reported, if it did.
+    /// The event that the actor reported, if it did.
     pub report: Option<Event>,
     /// The token of the message that a send sent, if it had one.
     pub carried: Option<Token>,
 }
 
-/// What a row says of an entry beside its rank, if that is all of it: of a reset and of a tracer
-/// change.
+/// Makes the content of a row without its rank, if it says all of the entry: for a reset and a
+/// tracer change.
 pub fn content_of(entry: &Entry) -> Option<Content>
     ensures { IfSome result (IsAll entry.now) }
 {
@@ -133,7 +133,7 @@ impl Content {
         }
     }
 
-    /// What the entry's act returned, of the same.
+    /// Returns the entry's reply; the lists are those of `entry`.
     pub fn reply(self, calls: &CallLog, traced: &[TracedAct], apart: &[Unranked]) -> Reply
         requires { HasPlace (length calls.now.calls) (length traced.now) (length apart.now) self }
         ensures { result ≡ (without_rank_in calls.now.calls traced.now apart.now self).reply }
@@ -147,7 +147,8 @@ impl Content {
         }
     }
 
-    /// What the entry's actor reported, of the same. No call among the calls was reported.
+    /// Returns the event that the entry reported, if it did; the lists are those of `entry`. No
+    /// call among the calls was reported.
     pub fn report(self, calls: &CallLog, traced: &[TracedAct], apart: &[Unranked]) -> Option<Event>
         requires { HasPlace (length calls.now.calls) (length traced.now) (length apart.now) self }
         ensures { result ≡ (without_rank_in calls.now.calls traced.now apart.now self).report }
@@ -173,7 +174,7 @@ impl Unranked {
         }
     }
 
-    /// What the entry says beside its rank.
+    /// Takes the rank off an entry.
     pub fn of(entry: &Entry) -> Unranked
         ensures { result ≡ without_rank entry.now }
     {

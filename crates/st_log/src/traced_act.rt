@@ -18,22 +18,22 @@ pub enum TracedAct {
     /// A send from the first to the second process that wasn't reported. It carried the token of
     /// these flags, this label and this serial, which its sender stamped.
     Send(Flags, Label, Pid, Pid, u64, Serial),
-    /// The same, of a send that was reported.
+    /// A send that was reported.
     ReportedSend(Flags, Label, Pid, Pid, u64, Serial),
     /// A print that was reported.
     Print(Pid, Label, u64, Serial),
     /// A receive of the first process that took the first message, from the second and of this
     /// value, and was reported.
     First(Pid, Label, Pid, u64, Serial),
-    /// The same, of a receive from the second process.
+    /// A receive from the second process.
     From(Pid, Label, Pid, u64, Serial),
-    /// The same, of a receive of this value.
+    /// A receive of this value.
     Value(Pid, Label, Pid, u64, Serial),
-    /// The same, of a receive from the second process and of this value.
+    /// A receive from the second process, of this value.
     Both(Pid, Label, Pid, u64, Serial),
 }
 
-// So many bytes does such an act take in each log, beside its row.
+// An act under a token takes 40 bytes in each log, and its row.
 const _: () = prove!(size_of::<TracedAct>() == 40);
 
 /// The form of the entry without its rank, if it has one that says all of it.

@@ -1,4 +1,4 @@
-//! What the tests of several modules take.
+//! Helpers of several modules' tests.
 
 use st_core::MemorySink;
 use std::alloc::Global;
@@ -11,12 +11,12 @@ pub(crate) fn same<T: PartialEq + Debug>(rt: &impl Abort, found: &T, wanted: &T)
     assert_eq!(rt; found, wanted);
 }
 
-/// The same of what is at a place, which is told.
+/// Asserts that two values are equal, and tells the place.
 pub(crate) fn same_at<T: PartialEq + Debug>(rt: &impl Abort, place: u64, found: &T, wanted: &T) {
     assert_eq!(rt; found, wanted, "at {place}");
 }
 
-/// A sink for so many bytes. If memory runs out, the second try succeeds.
+/// Makes a sink for this many bytes. If memory runs out, the second try succeeds.
 pub(crate) fn sink_at_last(rt: &impl Abort, alloc: Global, room: usize) -> MemorySink {
     match MemorySink::new(alloc, room, None) {
         Ok(sink) => sink,

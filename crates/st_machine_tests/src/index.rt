@@ -1,4 +1,4 @@
-//! An index beside a queue of three messages.
+//! An index and a queue of three messages.
 
 ghost use Rattle.std.specs.Prelude.{◌≡◌, ◌+◌, ◌<◌, IfOk};
 ghost use Rattle.st_mail.specs.Index.{IsIndex, keys_of, room};

@@ -64,7 +64,7 @@ fn two_at_last(alloc: Global) -> Result<Lists<u64>, AllocError>
     }
 }
 
-// Adds an item to list 1, which has so many. If memory runs out the item comes back, nothing has
+// Adds an item to list 1, which has this many. If memory runs out the item comes back, nothing has
 // changed, and the second try succeeds.
 fn push_at_last<R: Abort>(rt: &R, lists: &mut Lists<u64>, item: u64)
     requires { 1 < length lists.old.lists }
@@ -91,7 +91,7 @@ fn a_push_without_memory_leaves_all_lists(rt: HostRuntime) -> Result<(), Fail> {
     Ok(())
 }
 
-/// Pushes the items 0, 1 and so on, so many of them, on list 1.
+/// Pushes this many items, 0, 1 and so on, on list 1.
 fn fill<R: Abort>(rt: &R, lists: &mut Lists<u64>, count: u64)
     requires { 1 < length lists.old.lists }
     ensures { length lists.new.lists ≡ length lists.old.lists }

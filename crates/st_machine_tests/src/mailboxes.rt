@@ -1,4 +1,4 @@
-//! What is left of mailboxes if memory runs out.
+//! Mailboxes after memory ran out.
 
 ghost use Rattle.std.specs.Prelude.{◌≡◌, ◌<◌, length, IfOk};
 
@@ -29,7 +29,7 @@ fn two_at_last(alloc: Global) -> Result<Mailboxes, AllocError>
     }
 }
 
-/// Puts a message into mailbox 1, which has so many. If memory runs out, nothing has changed, and
+/// Puts a message into mailbox 1, which has this many. If memory runs out, nothing has changed, and
 /// the second try succeeds.
 fn put_at_last(rt: &impl Abort, mail: &mut Mailboxes, count: u64)
     requires { 1 < length mail.old.boxes }

@@ -1,4 +1,4 @@
-//! What a read returns if memory runs out, and that the same read succeeds afterwards. That is seen
+//! Reads for which memory runs out, and which succeed afterwards. That is seen
 //! if `rt try --test --fail-alloc N` fails the N-th allocation.
 
 use crate::helpers::{same, sink_at_last};

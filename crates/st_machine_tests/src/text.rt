@@ -8,7 +8,7 @@ use std::alloc::{AllocError, Global};
 use std::process::Abort;
 use std::test::Fail;
 
-/// Puts the line at the end so many times.
+/// Puts the line at the end n times.
 fn put_lines(text: &mut Vec<u8>, line: &str, times: u64) -> Result<(), AllocError> {
     for _ in 0..times {
         text.extend_from_slice(line.as_bytes())?;

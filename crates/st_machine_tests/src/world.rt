@@ -157,7 +157,7 @@ fn send_at_last(rt: &impl Abort, world: &mut World<9>, clock: u64) {
     same(rt, &told, &outcome_done());
 }
 
-// What is left if memory runs out is seen if this test runs with an allocation that fails.
+// Shows what is left if memory runs out, if it runs with an allocation that fails.
 #[test]
 fn a_step_without_memory_leaves_the_world(rt: HostRuntime) -> Result<(), Fail> {
     let mut world = two_at_last(&rt, rt.alloc())?;

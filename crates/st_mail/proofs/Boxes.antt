@@ -1,5 +1,5 @@
--- Counts and stored lists are read and written box by box, so what holds of one wiped front holds of the box that a
--- call names, and all others stay.
+-- Counts and stored lists are read and written box by box, so what holds of one wiped front holds
+-- of the box that a call names, and all others stay.
 use Rattle.std.proofs.Common.{◌≡◌, ℕ, zero, suc, ◌+◌, ◌<◌, ◌≤◌, Bool, false, List, [], ◌∷◌, ◌++◌, length, map}
 use Rattle.std.proofs.Common.{drop, get_or, set, remove, replicate, Option, None, Some, option_map, position, slice_get}
 use Rattle.std.proofs.Common.{refl, sym, ◌∙◌, ap, arith}
@@ -185,7 +185,7 @@ module _ (counts : List ℕ) (stored : List (List Message)) (fronts : AreFronts 
       shorter : length (remove list k) + 1 ≡ length list
       shorter = length-remove list k (slice_get_within list k m there)
 
-      -- a message behind the front is taken
+      -- a message after the front is taken
       pub taken_behind : count ≤ k
           → fronts_wiped counts (set stored i (remove list k)) ≡ set boxes i (remove (queue_in boxes i) k)
       taken_behind behind =

@@ -1,5 +1,5 @@
--- A wiped front differs from what is stored in its tokens alone, message by message: so each change and each look at
--- the queue is one at what is stored, at the same place.
+-- A wiped front differs from what is stored in its tokens alone, message by message: so each change
+-- and each look at the queue is one at what is stored, at the same place.
 use Rattle.std.proofs.Common.{◌≡◌, ℕ, zero, suc, ◌+◌, ◌<◌, ◌≤◌, Bool, true, false, cond, List, [], ◌∷◌, ◌++◌}
 use Rattle.std.proofs.Common.{length, map, drop, remove, Option, None, Some, option_map, position, slice_get}
 use Rattle.std.proofs.Common.{refl, sym, ◌∙◌, ap, arith}
@@ -26,7 +26,7 @@ get-wiped (suc n) k [] below = refl
 get-wiped (suc n) zero (m ∷ ms) below = refl
 get-wiped (suc n) (suc k) (m ∷ ms) below = get-wiped n k ms (omega arith)
 
--- behind it a message is as it is stored
+-- after it a message is as it is stored
 pub get-kept : (n k : ℕ) (ms : List Message) → n ≤ k → slice_get (front_wiped n ms) k ≡ slice_get ms k
 get-kept zero k ms behind = refl
 get-kept (suc n) zero ms behind = absurd (omega arith)
@@ -42,7 +42,7 @@ wipe_all zero (m ∷ ms) = ap (λ rest. untraced m ∷ rest) (wipe_all zero ms)
 wipe_all (suc n) [] = refl
 wipe_all (suc n) (m ∷ ms) = ap (λ rest. untraced m ∷ rest) (wipe_all n ms)
 
--- a message comes behind the front
+-- a message comes after the front
 pub front-push : (n : ℕ) (ms : List Message) (last : Message) → n ≤ length ms
     → front_wiped n (ms ++ last ∷ []) ≡ front_wiped n ms ++ last ∷ []
 front-push zero ms last within = refl
@@ -59,7 +59,7 @@ remove-wiped zero (suc k) ms within = absurd (omega arith)
 remove-wiped (suc n) (suc k) [] within = refl
 remove-wiped (suc n) (suc k) (m ∷ ms) within = ap (λ rest. untraced m ∷ rest) (remove-wiped n k ms (omega arith))
 
--- one leaves from behind it
+-- one leaves from after it
 pub remove-kept : (n k : ℕ) (ms : List Message) → n ≤ k
     → front_wiped n (remove ms k) ≡ remove (front_wiped n ms) k
 remove-kept zero k ms behind = refl
@@ -115,7 +115,7 @@ module _ (test : Option Token → Bool) (fails : test None ≡ false) where
       let next : i + 1 + n ≡ i + suc n = omega arith in
       rw fails (skipped (i + 1) n ms ∙ ap (λ j. position_from of j (drop n ms)) next)
 
-  -- finds its place behind the front
+  -- finds its place after the front
   pub position-skips : (n : ℕ) (ms : List Message)
       → position of (front_wiped n ms) ≡ option_map (λ k. n + k) (position of (drop n ms))
   position-skips n ms =

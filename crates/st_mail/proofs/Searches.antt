@@ -1,4 +1,5 @@
--- The first slot from some slot on that passes a test has the first item that passes it, from that slot's place on.
+-- The first slot from some slot on that passes a test has the first item that passes it, from that
+-- slot's place on.
 use Rattle.std.proofs.Common.{◌≡◌, ℕ, zero, suc, ◌+◌, ◌-◌, ◌≤◌, Bool, true, false, cond, List, [], ◌∷◌, drop, length}
 use Rattle.std.proofs.Common.{Option, Some, None, option_map, position, refl, sym, ap, ◌∙◌, arith}
 use Rattle.std.specs.List.{position_from}
@@ -7,7 +8,7 @@ use Rattle.st_mail.specs.KeyedSlots.{IsFirst}
 use Rattle.st_mail.specs.Slots.{item_at, passes}
 use Rattle.st_arena.specs.Queue.{kept, before}
 
--- what is first behind slot 0, as slots are counted from slot 1 on
+-- what is first after slot 0, as slots are counted from slot 1 on
 record Shift (test : ℕ → Bool) (start : ℕ) (found : Option ℕ) : Type 0 where
   behind : Option ℕ
   is : found ≡ option_map suc behind
@@ -64,7 +65,7 @@ module _ {T : Type 0} (test : T → Bool) where
   here item slots (Some zero) first is = refl
   here item slots (Some (suc s)) first is = absurd (cc (first.0.2 0 (omega arith) (omega arith), is))
 
-  -- the item in front passes, or the search goes on behind it
+  -- the item in front passes, or the search goes on after it
   by_test : (b : Bool) (n : ℕ) (item : T) (slots : List (Option T)) (found : Option ℕ) → test item ≡ b
       → IsFirst (passes_in (Some item ∷ slots)) 0 found
       → ((behind : Option ℕ) → IsFirst (passes_in slots) 0 behind

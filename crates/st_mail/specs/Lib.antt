@@ -1,7 +1,8 @@
--- What public contracts cite: what the index says of a queue, and by which keys.
+-- The definitions of public contracts: the index of a queue, and its keys.
 pub mod Index
 pub mod Keys
--- What public contracts cite: mailboxes as lists of messages, and the actor's part of an act.
+-- The definitions of public contracts: mailboxes as lists of messages, and the actor's part of an
+-- act.
 pub mod Mail
 pub mod Actor
 -- For the parts alone: slots, and the keys that they have.

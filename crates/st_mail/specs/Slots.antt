@@ -1,4 +1,4 @@
--- What the slots of a queue have.
+-- The slots of a queue.
 use Rattle.std.specs.Prelude.{ℕ, Bool, false, List, Option, Some, None, slice_index_or}
 
 module _ {T : Type 0} where

@@ -1,4 +1,4 @@
-//! What an act does to its actor: to what that process keeps for tracing, and to its queue. Nothing
+//! The actor's part of an act: its tracing state and its queue. Nothing
 //! here knows of other processes: a send's message goes to its receiver by the caller's hand, and
 //! what a reset or a tracer change does to a process is `st_core`'s.
 
@@ -57,7 +57,7 @@ pub fn event(
     }
 }
 
-/// What a process keeps after a send or a print: stamped if it has a token. Fails if the clock is
+/// Stamps a send or a print if the process has a token. Fails if the clock is
 /// at `TOP`.
 pub fn stamp<const TOP: u64>(me: Pid, local: &Local<TOP>) -> Result<Local<TOP>, ClockFull>
     ensures stamp { result_ok result ≡ stamp_any TOP me local.now }

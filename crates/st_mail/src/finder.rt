@@ -1,4 +1,5 @@
-//! How the messages of one queue are found: by a walk, or by an index of what long walks looked for.
+//! How the messages of one queue are found: by a walk, or by an index of what long walks looked
+//! for.
 
 ghost use Rattle.std.specs.Prelude.{◌≡◌, ◌≤◌, ◌↔◌, ◌++◌, [], ◌∷◌, List, Some, IfSome, length, remove, true};
 ghost use Rattle.std.specs.Prelude.{slice_get};
@@ -15,14 +16,14 @@ use std::alloc::{AllocError, Global};
 /// message that joins and leaves the queue.
 const SHORT_WALK: u64 = 256;
 
-/// An index is made once walks have passed so many messages for each one of the queue: to make it
+/// The messages that walks pass, for each one of the queue, before an index is made: to make it
 /// takes about as long.
 const WALKS_AN_INDEX: u64 = 16;
 
 /// A walk that looked for a message by this key.
 #[derive(Clone, Copy)]
 pub(crate) struct Walk {
-    /// What it asked of each message.
+    /// The question to each message.
     pub(crate) key: Key,
     /// How many messages it passed.
     pub(crate) passed: u64,
@@ -58,7 +59,7 @@ impl Search {
         }
     }
 
-    /// The walk to the message that lay at this place, before so many others.
+    /// A walk to the message that lay at this place of a queue of this length.
     fn to_place(self, place: u64, others: u64, message: &Message) -> Option<Walk>
         ensures { IfSome result (λ walk. walk.passed ≤ place) }
     {
@@ -124,7 +125,7 @@ impl Finder {
     ghost use Rattle.st_mail.specs.Keys.{has};
     ghost use Rattle.st_mail.specs.Found.{Finds, IsFinder};
 
-    /// What finds the messages of a queue in which nobody has walked.
+    /// Finds the messages of a queue in which nobody has walked yet.
     pub(crate) fn new() -> Finder
         ensures { (queue : List Message) → Finds result queue }
     {

@@ -32,8 +32,8 @@ pub struct Index {
 impl Index {
     ghost use Rattle.st_mail.specs.Index.{IsIndexOf, IsIndex, room, bears_stamp, keys_of};
 
-    /// An index of the empty queue by these keys, with room for at least so many messages. Fails if
-    /// memory runs out.
+    /// Makes an index of the empty queue by these keys, with room for at least this many messages.
+    /// Fails if memory runs out.
     pub fn new(alloc: Global, slots: usize, keys: Keys) -> Result<Index, AllocError>
         ensures empty { IfOk result (λ index. IsIndexOf index []) }
         ensures keys { IfOk result (λ index. keys_of index ≡ keys) }

@@ -1,9 +1,9 @@
-//! What an index finds messages by.
+//! The keys by which an index finds messages.
 
 ghost use Rattle.std.specs.Prelude.{◌≡◌};
 ghost use Rattle.st_mail.specs.Keys.{has, with_key};
 
-/// What a search asks of a message.
+/// The question that a search asks of a message.
 #[derive(Clone, Copy, Debug, PartialEq, Eq)]
 pub enum Key {
     /// Its value.

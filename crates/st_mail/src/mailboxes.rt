@@ -144,7 +144,7 @@ impl Mailboxes {
         }
     }
 
-    /// This place, if a message lies there.
+    /// Returns the place if a message lies there.
     fn within(&self, mailbox: usize, place: u64) -> Option<u64>
         requires { mailbox < length self.now.boxes }
         ensures { result ≡ (if nat_lt place (length (queue_in self.now.boxes mailbox))
@@ -216,9 +216,9 @@ impl Mailboxes {
             .find_stamp(mailbox, from, this, self.wiped[mailbox])
     }
 
-    /// The same if no two messages of the mailbox have such a token. It is looked for from both
-    /// ends at once, so that a reply at the end of a long queue is found as soon as the oldest
-    /// message.
+    /// Finds what `place_of` finds, if no two messages of the mailbox have this stamp. It looks
+    /// from both ends at once, so that a reply at the end of a long queue is found as soon as the
+    /// oldest message.
     pub fn place_of_one(&self, mailbox: usize, from: Pid, this: u64) -> Option<u64>
         requires within { mailbox < length self.now.boxes }
         requires one { PassesOnce (λ m. bears_stamp from this m.token)

@@ -1,13 +1,13 @@
-//! What an act tells, beside what it changes. A plain value.
+//! The outcome of an act, without its changes. A plain value.
 
 use st_core::{Event, Reply};
 
-/// What came of an act.
+/// The outcome of an act.
 #[derive(Clone, Copy, Debug, PartialEq, Eq)]
 pub struct Outcome {
-    /// What the act replies to its actor.
+    /// The reply to the actor.
     pub reply: Reply,
-    /// What the system tracer gets, if the act is reported.
+    /// The event that the system tracer gets, if the act is reported.
     pub report: Option<Event>,
     /// The place in its queue from which a receive took its message, the oldest at place 0.
     pub place: Option<u64>,

@@ -24,7 +24,7 @@ use std::marker::Model;
 pub(crate) struct Queues {
     alloc: Global,
     lists: Lists<Message>,
-    // Of each list, how its messages are found.
+    // For each list, how its messages are found.
     finders: Vec<Finder>,
 }
 

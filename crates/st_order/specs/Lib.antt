@@ -1,4 +1,4 @@
--- What happened by streams, in one order, by label, and in each process. Public contracts cite
+-- The items of streams, in one order, by label, and in each process. Public contracts cite
 -- these four.
 pub mod Items
 pub mod Order

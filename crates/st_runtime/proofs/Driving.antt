@@ -1,5 +1,5 @@
--- A record of joined pieces is that of driven scripts: the seats hold the scripts, and each seat's calls are in the
--- run in their order. A worker's refusal is one of an act of its script.
+-- A record of joined pieces is that of driven scripts: the seats hold the scripts, and each seat's
+-- calls are in the run in their order. A worker's refusal is one of an act of its script.
 use Rattle.std.proofs.Common.{◌≡◌, ◌≢◌, ℕ, zero, suc, ◌<◌, ◌≤◌, Bool, true, false, cond, List, [], ◌∷◌, ◌++◌, length}
 use Rattle.std.proofs.Common.{map, None, refl, sym, ◌∙◌, ap, subst, arith}
 use Rattle.std.specs.List.{AllZip, zip}
@@ -136,7 +136,7 @@ driven top ranks pieces r pids scripts ends even rising of_pids of_seats worked 
 
 -- ---- a worker's refusal
 
--- the job beside an ending
+-- the job of an ending
 job_at : (pids : List Pid) (ts : List Job) (es : List Ending) (k : ℕ) (e : Ending) → AllZip (IsWorked pids) ts es
     → slice_get es k ≡ Some e → (t : Job) × ((slice_get ts k ≡ Some t) × IsWorked pids t e)
 job_at pids [] [] k e worked at = absurd (cc)
@@ -150,7 +150,7 @@ job_at pids (t ∷ ts) (d ∷ ds) (suc k) e worked at = job_at pids ts ds k e wo
 abbrev AllOwn : List Pid → Job → Type 0
 AllOwn pids t = All (IsOwn pids t.0) t.1
 
--- jobs beside endings without a refusal are done
+-- jobs whose endings have no refusal are done
 own_before : (pids : List Pid) (ts : List Job) (es : List Ending) (k : ℕ) → AllZip (IsWorked pids) ts es
     → All (λ (e : Ending). e.fault ≡ None) (take k es) → All (AllOwn pids) (take k ts)
 own_before pids ts es zero worked none = All-nil (AllOwn pids)

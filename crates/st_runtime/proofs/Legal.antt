@@ -1,5 +1,5 @@
--- What a legal entry leaves is what the machine's step leaves: the actor's part tells the same there, and what reaches
--- another process is the same by the carried token.
+-- A legal entry leaves the state that the machine's step leaves: the actor's part tells the same
+-- there, and what reaches another process is the same by the carried token.
 use Rattle.std.proofs.Common.{◌≡◌, ℕ, Bool, true, false, cond, Some, refl, sym, ◌∙◌, ap}
 use Rattle.std.specs.Prelude.{MatchBool}
 use Rattle.std.proofs.lemmas.Option.{same_Some}
@@ -31,7 +31,8 @@ own_of_part top r e m mine part =
     ap (λ p. pid_eq p (actor e.act)) mine ∙ pid_eq-same (actor e.act) in
     on_true (pid_eq r.pid (actor e.act)) _ _ is part.part
 
--- what the step's actor has done in an entry: it is there, its part is this, and it alone has its pid
+-- what the step's actor has done in an entry: it is there, its part is this, and it alone has its
+-- pid
 pub record IsDone (top : ℕ) (e : Entry) (before : Process) (done : Acted) : Type 0 where
   pub mine : before.pid ≡ actor e.act
   pub acts : acted top before e.act ≡ Some done

@@ -1,5 +1,5 @@
--- What a call on lent processes found for its result excludes what it finds for the others: so each refusal comes
--- exactly if its reason holds.
+-- The findings for one result of a call on lent processes exclude those for the others: so each
+-- refusal comes exactly if its reason holds.
 use Rattle.std.proofs.Common.{◌≡◌, ℕ, ◌+◌, ◌≤◌, true, false, max, List, [], ◌∷◌, Option, Some, option_map}
 use Rattle.std.proofs.Common.{refl, sym, ◌∙◌, ap, subst, arith}
 use Rattle.std.specs.Prelude.{◌↔◌, IfOk, IfErr, OnErr, IsSome, Result, Ok, Err}

@@ -1,4 +1,4 @@
--- What the step calls and the calls of a system need.
+-- The lemmas for the step calls and the calls of a system.
 pub mod LentLemmas
 pub mod LogLemmas
 pub mod PartLemmas
@@ -20,6 +20,6 @@ pub mod NodeLemmas
 pub mod Seated
 pub mod FitLemmas
 pub mod JoinLemmas
--- What workers leave.
+-- The endings of workers.
 pub mod Workers
 pub mod Driving

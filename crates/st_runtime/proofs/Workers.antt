@@ -1,4 +1,4 @@
--- What became of each job is what its worker's promise says.
+-- Each job ends as its worker's promise says.
 use Rattle.std.proofs.Common.{◌≡◌, ℕ, suc, ◌<◌, List, [], ◌∷◌, length, map, get_or, take, reverse, refl, ap, subst}
 use Rattle.std.proofs.Common.{arith, ◌++◌, ◌≢◌, ◌↔◌, ◌∙◌, sym, Bool, true, false, Result, Ok, Err, Option, Some, IfOk}
 use Rattle.std.specs.Prelude.{All, slice_get}

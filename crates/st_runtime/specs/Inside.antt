@@ -1,4 +1,4 @@
--- What a Pcb keeps inside, and what each of its steps does to it.
+-- The inside of a Pcb, and how each of its steps changes it.
 use Rattle.std.specs.Prelude.{◌≡◌, ℕ, ◌+◌, List, [], ◌∷◌, ◌++◌, length}
 use Rattle.st_core.specs.declared.types.Pid.{Pid}
 use Rattle.st_core.specs.declared.types.Message.{Message}

@@ -1,5 +1,5 @@
--- What the threads did is one run: the entries of pieces that fit, merged by rank, are a run of the
--- machine.
+-- The acts of the threads are one run: the entries of pieces that fit, merged by rank, are a run of
+-- the machine.
 use Rattle.std.specs.Prelude.{◌≡◌, ℕ, ◌<◌, ◌⊎◌, List, [], ◌∷◌, ◌++◌, map, if◌then◌else◌}
 use Rattle.std.specs.Prelude.{option_to_list, All, AllPairs, Contains, Some}
 use Rattle.st_core.specs.declared.types.Pid.{Pid}

@@ -106,7 +106,7 @@ pub record IsLogged (top : ℕ) (xs : List Control) (r : Record) : Type 0 where
 abbrev pub referred : Bor Logged × ℕ → Entry
 referred r = entry_at r.0.now.entries r.1
 
--- the log has so many entries
+-- the log has n entries
 abbrev pub IsThere : Bor Logged × ℕ → Type 0
 IsThere r = r.1 < length r.0.now.entries
 

@@ -1,7 +1,7 @@
--- What the public contracts cite: what an entry does to a process and what a log gives it; what
--- contracts see of a process under its lock, of calls and of a seat, and what is done with them;
--- whom an act in a system needs; and the outcome of a system that ran: pieces that fit, the one
--- run that they tell of, and scripts that are driven.
+-- The definitions of public contracts: what an entry does to a process and what a log gives it;
+-- what contracts see of a process under its lock, of calls and of a seat, and what is done with
+-- them; whom an act in a system needs; and the outcome of a system that ran: pieces that fit, the
+-- one run that they tell of, and scripts that are driven.
 pub mod Logs
 pub mod Pcb
 pub mod Lent

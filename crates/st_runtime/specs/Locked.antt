@@ -1,4 +1,4 @@
--- What is told of an act under its locks, of which nothing is known but what their types keep.
+-- An act under its locks, of which nothing is known but what their types keep.
 use Rattle.std.specs.Prelude.{◌≡◌, ◌<◌, ◌≤◌, ◌↔◌, ℕ, Bool, List, Option, None, IfSome, Result, Ok, Err, IfOk, OnErr}
 use Rattle.st_core.specs.Step.{actor, receiver}
 use Rattle.st_runtime.specs.Lent.{AreSame, FindsClockFull, FindsRankFull}
@@ -26,8 +26,8 @@ abbrev pub wide_reply : Act → Bool → Reply
 wide_reply (act.Tracer p b) was = reply.Was was
 wide_reply a was = reply.Done
 
--- the entry of an act of a whole node, if so far its logs go up to this rank, and its actor, once it was
--- met, was traced or not
+-- the entry of an act of a whole node, if so far its logs go up to this rank, and its actor, once
+-- it was met, was traced or not
 pub record IsWideEntry (ranks last : ℕ) (was : Option Bool) (a : Act) (e : Entry) : Type 0 where
   pub act : e.act ≡ a
   pub above : last < e.rank
@@ -40,7 +40,7 @@ pub record IsWideEntry (ranks last : ℕ) (was : Option Bool) (a : Act) (e : Ent
 abbrev pub AreFor : Act → Control → Control → Type 0
 AreFor a from to = (from.process.pid ≡ actor a) × (to.process.pid ≡ receiver a)
 
--- What an act returns on the processes that its locks held, if they are its own: a step or the
+-- The result of an act on the processes that its locks held, if they are its own: a step or the
 -- reason that there is none. If they aren't, neither a full clock nor a full rank is found.
 pub record IsHeldStep (top ranks : ℕ) (a : Act) (AreOwn : Type 0) (before after : List Control)
     (r : Result Reply ActFault)

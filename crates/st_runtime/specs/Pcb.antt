@@ -1,4 +1,4 @@
--- What contracts see of a process under its lock, and what the calls on lent ones do.
+-- A process under its lock as contracts see it, and the calls on lent ones.
 use Rattle.std.specs.Prelude.{◌≡◌, ◌≢◌, ℕ, ◌+◌, ◌≤◌, Bool, true, false, List, [], ◌∷◌, ◌++◌, map, max, Option, Some}
 use Rattle.st_core.specs.declared.types.Pid.{Pid}
 use Rattle.st_core.specs.declared.types.Act.{Act}

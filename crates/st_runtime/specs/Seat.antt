@@ -1,4 +1,4 @@
--- What contracts see of a seat.
+-- A seat as contracts see it.
 use Rattle.std.specs.Prelude.{List, []}
 use Rattle.st_core.specs.declared.types.Pid.{Pid}
 use Rattle.st_core.specs.declared.types.Act.{Act}

@@ -1,4 +1,4 @@
--- What a worker thread is given, and what it leaves.
+-- The job of a worker thread, and its end.
 use Rattle.std.specs.Prelude.{◌≡◌, ℕ, List, map, length, Option, Some, None, MatchOption, IfSome, All, take, slice_get}
 use Rattle.std.specs.List.{AllZip}
 use Rattle.st_core.specs.declared.types.Pid.{Pid}

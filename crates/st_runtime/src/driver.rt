@@ -39,9 +39,9 @@ pub fn drive<const TOP: u64, const RANKS: u64, R: Threads + Wait + Sync, G: Gate
     drive_on::<TOP, RANKS, R, G>(rt, alloc, pids, scripts, gate, WORKER_STACK)
 }
 
-/// The same, each thread with a stack of so many bytes. An act of a whole node takes up to two
-/// kilobytes of it for each process of the node (`System::act`), and a thread whose stack is too
-/// small ends the program.
+/// Does what `drive` does, each thread with a stack of this many bytes. An act of a whole node
+/// takes up to two kilobytes of it for each process of the node (`System::act`), and a thread whose
+/// stack is too small ends the program.
 pub fn drive_on<const TOP: u64, const RANKS: u64, R: Threads + Wait + Sync, G: Gate + Sync>(
     rt: &R,
     alloc: Global,

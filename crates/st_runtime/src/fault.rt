@@ -78,10 +78,10 @@ pub enum DriveFault {
     /// Memory ran out, in a worker's act or in the join too.
     #[error("no memory")]
     Memory,
-    /// This act of this process's script was refused, and its worker stopped there. No process
-    /// before it has an act in its script that is another's or that names an unknown process; that
-    /// none met a full clock or rank is only tested. A `ClockFull` or `RankFull` that so few acts
-    /// can't lead to is a `Stray` here.
+    /// The act with this number in this process's script was refused, and its worker stopped there.
+    /// No process before it has an act in its script that is another's or that names an unknown
+    /// process; that none met a full clock or rank is only tested. A `ClockFull` or `RankFull` that
+    /// so few acts can't lead to is a `Stray` here.
     #[error("an act of a script was refused")]
     Act(Pid, u64, ActFault),
     /// The pieces don't fit, which no call leaves.

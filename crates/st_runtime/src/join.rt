@@ -47,7 +47,7 @@ pub fn join_pieces<const TOP: u64, const RANKS: u64>(
     Ok(run_of_logs(alloc, pieces.processes.as_slice())?)
 }
 
-/// The same of pieces that are given away, by several threads. Their seats, which hold each act
+/// Joins pieces that are given away, by several threads. Their seats, which hold each act
 /// once more, are let go before the logs are merged.
 pub(crate) fn join_given<const TOP: u64, const RANKS: u64, R: Threads + Sync>(
     rt: &R,
@@ -122,7 +122,7 @@ fn run_of_logs<const TOP: u64, const RANKS: u64>(
     })
 }
 
-/// The same. The acts, the replies and the streams are read out by a thread each.
+/// Makes the run with a thread each for the acts, the replies and the streams.
 fn run_by_threads<const TOP: u64, const RANKS: u64, R: Threads + Sync>(
     rt: &R,
     alloc: Global,

@@ -65,7 +65,7 @@ impl<const TOP: u64, const RANKS: u64> Pcb<TOP, RANKS> {
         Pcb::with_room(alloc, pid, 0)
     }
 
-    /// The same, with room for this many entries. Fails if memory runs out.
+    /// Makes a process with room for this many entries. Fails if memory runs out.
     pub(crate) fn with_room(alloc: Global, pid: Pid, room: usize) -> Result<Self, AllocError>
         ensures process { IfOk result (λ x. x.process ≡ zero_process pid) }
         ensures log { IfOk result (λ x. x.log ≡ []) }
@@ -98,7 +98,7 @@ impl<const TOP: u64, const RANKS: u64> Pcb<TOP, RANKS> {
         &self.log
     }
 
-    /// What it keeps for tracing.
+    /// The tracing state of the process.
     pub fn local(&self) -> &Local<TOP>
         ensures { result.now ≡ self.now.process.local }
     {

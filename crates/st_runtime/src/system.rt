@@ -69,7 +69,7 @@ impl<const TOP: u64, const RANKS: u64> System<TOP, RANKS> {
         System::open_for(alloc, pids, &[])
     }
 
-    /// The same, with room for what these scripts bring the logs and the seats.
+    /// Opens a system with room for the entries of these scripts in logs and seats.
     pub(crate) fn open_for(
         alloc: Global,
         pids: &[Pid],
@@ -390,7 +390,7 @@ fn open_system<const TOP: u64, const RANKS: u64>(
     Ok((System { pids: own, locks }, seats))
 }
 
-/// A lock for each pid. The process that it holds has room for so many entries.
+/// Makes a lock for each pid. The process that it holds has room for this many entries.
 fn fresh_locks<const TOP: u64, const RANKS: u64>(
     alloc: Global,
     pids: &[Pid],

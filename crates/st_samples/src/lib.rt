@@ -1,4 +1,4 @@
-//! What the tests of several crates take: texts of bundles, and two processes.
+//! Samples for the tests of several crates: texts of bundles, and two processes.
 //!
 //! A text that the tests of one crate alone take is there. So do the helpers that assert, even
 //! if two crates have the same: they end the process, and only tests may.

@@ -3,7 +3,7 @@
 use st_commands::{Refusal, read_words};
 use std::test::Fail;
 
-// So many aren't out of memory.
+// A count that memory holds.
 #[test]
 fn a_hundred_thousand_words_are_told_the_usage(rt: HostRuntime) -> Result<(), Fail> {
     let words = vec![in rt.alloc(); "check"; 100_000]?;

@@ -1,4 +1,4 @@
-//! What the tests of several modules take.
+//! Helpers of several modules' tests.
 
 use st_core::Pid;
 use std::alloc::Global;
@@ -23,7 +23,7 @@ pub(crate) fn same<T: PartialEq + Debug>(rt: &impl Abort, found: &T, wanted: &T)
     assert_eq!(rt; found, wanted);
 }
 
-/// The same of what is at a place, which is told.
+/// Asserts that two values are equal, and tells the place.
 pub(crate) fn same_at<T: PartialEq + Debug>(rt: &impl Abort, place: u64, found: &T, wanted: &T) {
     assert_eq!(rt; found, wanted, "at {place}");
 }

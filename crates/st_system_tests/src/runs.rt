@@ -1,6 +1,6 @@
-//! What threads did, seen from outside: scripts that busy one another are driven, and `check` says
-//! that their record is one run. That it is one, with each script in it, is a clause of `drive`;
-//! that it is driven is none.
+//! The acts of threads, seen from outside: scripts that busy one another are driven, and `check`
+//! says that their record is one run. That it is one, with each script in it, is a clause of
+//! `drive`; that it is driven is none.
 
 mod meetings;
 mod scripts;
@@ -79,7 +79,7 @@ fn four_scripts_of_fifty_acts_are_one_run_each_time(rt: HostRuntime) -> Result<(
     Ok(())
 }
 
-// One on each node. No clause says that there is memory for so many.
+// One on each node. No clause says that there is memory for all of them.
 #[test]
 fn two_scripts_of_fifty_thousand_acts_are_one_run(rt: HostRuntime) -> Result<(), Fail> {
     let places = Places {

@@ -15,7 +15,7 @@ use std::alloc::{AllocError, Global};
 use std::process::Abort;
 use std::sync::Wait;
 
-/// An empty list with room for so many.
+/// Makes an empty list with room for this many.
 fn room_at_last<T>(alloc: Global, count: usize) -> Result<Vec<T>, AllocError>
     ensures { IfOk result (λ v. v.items ≡ []) }
 {

@@ -105,7 +105,7 @@ fn a_way_back_of_a_hundred_thousand_events_is_charted(rt: HostRuntime) -> Result
     Ok(())
 }
 
-/// So many processes, and prints of each.
+/// The processes, and the prints of each.
 const PROCESSES: u16 = 1_000;
 
 const PRINTS: u16 = 100;

@@ -16,7 +16,7 @@ const MANY: usize = 100_000;
 
 type Great = System<{ u64::MAX }, { u64::MAX }>;
 
-/// Makes the act so many times.
+/// Makes the act this many times.
 fn make_many<R: Wait + Abort>(
     rt: &R,
     system: &Great,
@@ -43,7 +43,8 @@ fn pieces_of<R: Abort>(
     }
 }
 
-/// Makes the act of 30 so many times beside 31, and asserts that the record has all of them.
+/// Makes the act of 30 this many times while 31 acts too, and asserts that the record has all of
+/// them.
 fn assert_joined<R: Wait + Abort>(
     rt: &R,
     alloc: Global,

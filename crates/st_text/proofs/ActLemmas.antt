@@ -115,7 +115,7 @@ token_again t rest fits =
       pid_again t.from _ fits.from,
     )
 
--- ---- acts, each behind its word
+-- ---- acts, each after its word
 
 pub act_takes : (bytes : List ℕ) (x : Act × List ℕ) → parse_act bytes ≡ Some x
     → Takes act FitsAct bytes x

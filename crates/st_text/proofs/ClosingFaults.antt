@@ -1,5 +1,5 @@
--- The lines are in the order of the streams and acts that are kept, so that the first that names an unlisted pid is
--- read off them.
+-- The lines are in the order of the streams and acts that are kept, so that the first that names an
+-- unlisted pid is read off them.
 use Rattle.std.proofs.Common.{◌≡◌, ℕ, ◌+◌, ◌<◌, Bool, true, false, not, cond, ◌&&◌, ◌||◌, List, [], ◌∷◌, ◌++◌, length}
 use Rattle.std.proofs.Common.{map, Option, Some, None, refl, sym, ap, subst, ◌∙◌, append_assoc, arith}
 use Rattle.std.specs.Prelude.{position, is_some, option_to_list}
@@ -127,7 +127,7 @@ some_event : (all : List Stream) (es : List Event) (i : ℕ) → position (λ e.
 some_event all [] i e = absurd cc
 some_event all (x ∷ es) i e = x
 
--- the next streams' place, behind a stream without one
+-- the next streams' place, after a stream without one
 apart : (x p : Pid) (ps : List Pid) → AllByRecursion (IsBelow x) ps → is_among ps p ≡ true → pid_eq x p ≡ false
 apart x p [] below e = absurd cc
 apart x p (q ∷ ps) below e = by (pid_eq q p) refl e (apart x p ps below.1)

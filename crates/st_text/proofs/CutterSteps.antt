@@ -1,5 +1,5 @@
--- More bytes add to the unfinished line, and a newline ends it: so a cutter goes from what it took to what it took and
--- the piece.
+-- More bytes add to the unfinished line, and a newline ends it: so a cutter goes from what it took
+-- to what it took and the piece.
 use Rattle.std.proofs.Common.{◌≡◌, ℕ, zero, suc, ◌+◌, ◌<◌, ◌≤◌, Bool, true, false, eqb, ◌||◌, List, [], ◌∷◌, ◌++◌}
 use Rattle.std.proofs.Common.{length, map, take, drop, get_or, drop-cons, Option, Some, None, refl, sym, ap, subst}
 use Rattle.std.proofs.Common.{◌∙◌, append_assoc, inl, inr, arith}
@@ -392,7 +392,7 @@ grows_by limits bytes piece done xs more parts whole h = by h
     by (inl w) = EndsLine (from_done w) some
     by (inr k) = kept k
 
--- behind a newline nothing is unfinished
+-- after a newline nothing is unfinished
 pub line_whole : (bytes done xs : List ℕ) → 0 < length (cut (bytes ++ (done ++ (xs ++ 10 ∷ [])))).1
     → done ++ (xs ++ 10 ∷ []) ≡ []
 line_whole bytes done xs some =

@@ -1,4 +1,5 @@
--- Digits one after the other: each is the byte behind those that were read, and they end where no digit is in front.
+-- Digits one after the other: each is the byte after those that were read, and they end where no
+-- digit is in front.
 use Rattle.std.proofs.Common.{◌≡◌, ℕ, ◌+◌, ◌*◌, ◌^◌, ◌<◌, ◌≤◌, Bool, true, false, cond, List, ◌∷◌, ◌++◌}
 use Rattle.std.proofs.Common.{length, get_or, take, drop, Some, None, refl, sym, ap, subst, ◌∙◌, inl, inr, arith}
 use Rattle.std.proofs.Common.{add-one, length-drop, drop-cons}
@@ -22,7 +23,7 @@ pub record HasRead (bytes rest : List ℕ) (n : ℕ) : Type 0 where
   pub small : n < 2 ^ 64
   pub value : n ≡ worth count bytes
 
--- the byte behind the first ones
+-- the byte after the first ones
 record Next (bytes : List ℕ) (count b : ℕ) (more : List ℕ) : Type 0 where
   pub inside : count < length bytes
   pub here : get_or bytes count 0 ≡ b

@@ -105,7 +105,7 @@ ends_again k x rest fits =
       place_again k x.1 _ fits.1,
     )
 
--- ---- the whole event, behind its first word
+-- ---- the whole event, after its first word
 
 abbrev pub event_rest : Event → List ℕ
 event_rest e =

@@ -228,7 +228,7 @@ unfolding fault_within first_fault line_fault unknown_from line_of parse_line nu
     parse_restore parse_tracer parse_alone parse_act parse_rare digits
 second_acts = refl
 
--- no process behind it
+-- no process after it
 process_behind_acts :
     fault_within standard
     (codes "seqtrace 1\nacts\nprocess <0.30.0>\n") ≡ Some (faults.Line 3)

@@ -1,5 +1,6 @@
--- Bytes without a fault are the text of a bundle: each good line adds a process, an event or an act to what the lines
--- before it spell, and if no pid is unlisted at the end, what was added up is a bundle.
+-- Bytes without a fault are the text of a bundle: each good line adds a process, an event or an act
+-- to what the lines before it spell, and if no pid is unlisted at the end, what was added up is a
+-- bundle.
 use Rattle.std.proofs.Common.{◌≡◌, ℕ, ◌+◌, ◌<◌, ◌≤◌, Bool, true, false, not, ◌&&◌, ◌||◌, cond, eqb, nat_lt}
 use Rattle.std.proofs.Common.{List, [], ◌∷◌, ◌++◌, length, map, Option, Some, None, refl, sym, ap, subst, ◌∙◌}
 use Rattle.std.proofs.Common.{append_assoc, arith}
@@ -242,7 +243,7 @@ add_line limits ls g (lines.Event e) p = add_event limits ls g e p
 add_line limits ls g lines.Acts p = add_word limits ls g p
 add_line limits ls g (lines.Act a) p = add_act limits ls g a p
 
--- lines without a fault behind good ones
+-- lines without a fault after good ones
 record GoOn (ls : List Line) (rs : List (Option Line)) : Type 0 where
   more : List Line
   says : rs ≡ map Some more

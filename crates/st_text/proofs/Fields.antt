@@ -77,7 +77,7 @@ made {spell} {Fit} {whole} e s fits =
 pub none_left : {A P : Type 0} {y : A} → ◌≡◌ {A = Option A} None (Some y) → P
 none_left e = absurd cc
 
--- ---- the parts of a spelling one behind the other, as a reader meets them
+-- ---- the parts of a spelling one after the other, as a reader meets them
 
 pub three_parts : (a b c rest : List ℕ) → (a ++ b ++ c) ++ rest ≡ a ++ (b ++ (c ++ rest))
 three_parts a b c rest = simp append_assoc

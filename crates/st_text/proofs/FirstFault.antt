@@ -1,5 +1,5 @@
--- The fault of lines is that of the first faulty one, and an unlisted pid's line is the first such: both are found by
--- going through the lines from the front.
+-- The fault of lines is that of the first faulty one, and an unlisted pid's line is the first such:
+-- both are found by going through the lines from the front.
 use Rattle.std.proofs.Common.{◌≡◌, ℕ, ◌+◌, Bool, true, false, cond, List, [], ◌∷◌, ◌++◌, map, Option, Some, None, refl}
 use Rattle.std.proofs.Common.{sym, ap, ◌∙◌, append_assoc, arith}
 use Rattle.std.proofs.lemmas.List.{append-nil}
@@ -11,7 +11,7 @@ use Rattle.st_text.specs.declared.fault.ReadFault.TheVariants as faults
 use Rattle.st_text.specs.Fault.{line_fault, first_fault, first_of, is_unknown, unknown_from}
 use Rattle.st_text.specs.Laws.{FailsFirst, IsFirstUnknown}
 
--- the first faulty line behind good ones
+-- the first faulty line after good ones
 record Fails (limits : Limits) (ls : List Line) (rs : List (Option Line)) (f : ReadFault) : Type 0 where
   before : List Line
   here : Option Line

@@ -1,4 +1,5 @@
--- The lines of a bundle within the limits have no fault: each passes the tests behind those before it.
+-- The lines of a bundle within the limits have no fault: each passes the tests after those before
+-- it.
 use Rattle.std.proofs.Common.{◌≡◌, ℕ, ◌+◌, ◌-◌, ◌≤◌, Bool, true, false, not, ◌||◌, cond, leb, List, [], ◌∷◌, ◌++◌}
 use Rattle.std.proofs.Common.{length, map, Option, Some, None, refl, sym, ap, subst, ◌∙◌, append_assoc, arith}
 use Rattle.std.specs.List.{list_any, flat_map, count_by, AllByRecursion, slice_get}

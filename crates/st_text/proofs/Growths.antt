@@ -1,4 +1,4 @@
--- What a list holds after it grew, and what holds if memory ran out, by what the call returned.
+-- A list after it grew, or after memory ran out, by the result of the call.
 use Rattle.std.proofs.Common.{◌≡◌, ℕ, true, false, cond, List}
 use Rattle.std.specs.Prelude.{Result, Ok, Err, OnErr}
 use Rattle.std.specs.Result.{is_ok, is_err}

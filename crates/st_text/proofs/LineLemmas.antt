@@ -92,7 +92,7 @@ line_again (lines.Act a) rest fits stops = rw (no_word a rest) (rw (act_again a 
     no_word (acts.Reset p) rest = refl
     no_word (acts.Tracer p b) rest = refl
 
--- What a line says is spelled so.
+-- A line that is read is spelled as it is written.
 pub line_takes : (bytes : List ℕ) (l : Line) → line_of bytes ≡ Some l → (bytes ≡ line l) × Fits l
 unfolding line_of
 line_takes bytes l e =
@@ -103,7 +103,7 @@ line_takes bytes l e =
     let whole : bytes ≡ line x.0 = t.split.parts ∙ ap (λ (r : List ℕ). line x.0 ++ r) none ∙ append-nil (line x.0) in
     subst (λ (k : Line). (bytes ≡ line k) × Fits k) (same_Some x.0 l g.1) (whole, t.fits)
 
--- What is spelled so is what the line says.
+-- A line that is spelled is read as itself.
 pub line_is : (l : Line) → Fits l → line_of (line l) ≡ Some l
 unfolding line_of
 line_is l fits =

@@ -1,4 +1,5 @@
--- Pids rise, so that each stream is the one that its pid finds; and if no act fails the test each passes.
+-- Pids rise, so that each stream is the one that its pid finds; and if no act fails the test each
+-- passes.
 use Rattle.std.proofs.Common.{◌≡◌, ℕ, ◌+◌, Bool, true, false, not, ◌&&◌, cond, List, [], ◌∷◌, ◌++◌, Option, Some, None}
 use Rattle.std.proofs.Common.{refl, sym, ap, ◌∙◌}
 use Rattle.std.specs.Prelude.{position}
@@ -55,7 +56,7 @@ events_behind : (s : Stream) (rest : List Stream) (p : Pid) → pid_eq s.pid p �
 unfolding found
 events_behind s rest p e = let at : stream_of (s ∷ rest) p ≡ stream_of rest p = rw e refl in ap found at
 
--- the other streams are found behind the first
+-- the other streams are found after the first
 behind : (s : Stream) (rest ss : List Stream) → AllByRecursion (IsBelow s.pid) (pids_of ss)
     → AllByRecursion (λ r. events_of rest r.pid ≡ r.events) ss
     → AllByRecursion (λ r. events_of (s ∷ rest) r.pid ≡ r.events) ss

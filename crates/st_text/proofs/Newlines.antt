@@ -73,7 +73,7 @@ pub none_of : (o p : Option ReadFault) → first_of o p ≡ None → (o ≡ None
 none_of None p e = (refl, e)
 none_of (Some f) p e = absurd cc
 
--- one more line behind good ones
+-- one more line after good ones
 pub fault_push : (limits : Limits) (ls more : List Line) (r : Option Line)
     → first_fault limits ls (map Some more) ≡ None
     → first_fault limits ls (map Some more ++ r ∷ []) ≡ line_fault limits (ls ++ more) r

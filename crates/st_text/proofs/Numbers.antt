@@ -112,7 +112,7 @@ more_digits bytes i le lt is =
           absurd (cc (ap (λ (k : ℕ). is_ascii_digit (get_or bytes k 0)) same))
     ]
 
--- a digit behind the first i
+-- a digit after the first i
 pub record Further (bytes : List ℕ) (i b : ℕ) : Type 0 where
   pub within : i + 1 ≤ digits_len bytes
   pub low : 48 ≤ b

@@ -1,4 +1,5 @@
--- What was written and what waits are what was to be written: so each part goes on where the one before stopped.
+-- The bytes written and those that wait are together the text so far: so each part goes on where
+-- the one before stopped.
 use Rattle.std.proofs.Common.{◌≡◌, ℕ, ◌+◌, ◌<◌, ◌≤◌, Bool, false, List, [], ◌∷◌, ◌++◌, length, map, take, drop, get_or}
 use Rattle.std.proofs.Common.{refl, sym, ap, subst, ◌∙◌, append_assoc, inl, inr, arith}
 use Rattle.std.specs.List.{flat_map}
@@ -116,7 +117,7 @@ pub on_err : {S T E : Type 0} {puts : S → List ℕ → S → Type 0} {failed :
 on_err t x y (Ok v) is h = absurd cc
 on_err t x y (Err e) is h = h
 
--- room was made, and then the text was put behind what waits
+-- room was made, and then the text was put after what waits
 pub room_then : {S : Type 0} (puts : S → List ℕ → S → Type 0) (failed : S → Bool) (text : List ℕ) {a b : S}
     {x y z : List ℕ}
     → Goes puts failed [] a b x y → z ≡ y ++ text → Goes puts failed text a b x z

@@ -18,8 +18,8 @@ abbrev pub IsReadResult : Limits → List ℕ → Result Bundle ReadFault → Ty
 IsReadResult limits bytes (Ok b) = Reads limits bytes (contents b)
 IsReadResult limits bytes (Err f) = fault_within limits bytes ≡ Some f
 
--- The same, or Memory. That too many bytes are TooLarge even then is said where they are counted
--- (`Ends` of Reads).
+-- The result above, or Memory. That too many bytes are TooLarge even then is said where they are
+-- counted (`Ends` of Reads).
 abbrev pub IsReadResultOrMemory : Limits → List ℕ → Result Bundle ReadFault → Type 0
 IsReadResultOrMemory limits bytes (Ok b) = Reads limits bytes (contents b)
 IsReadResultOrMemory limits bytes (Err faults.Memory) = Unit {0}

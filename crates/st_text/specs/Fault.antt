@@ -1,5 +1,5 @@
 -- The refusal of bytes that are no text of a bundle, told from all the bytes and their lines.
--- In order: too many bytes; the first faulty line; bytes behind the last newline, or none at all; a
+-- In order: too many bytes; the first faulty line; bytes after the last newline, or none at all; a
 -- needless header 2; the first line that names an unlisted pid.
 use Rattle.std.specs.Prelude.{ℕ, ◌+◌, ◌-◌, Bool, true, false, not, ◌&&◌, ◌||◌, List, [], ◌∷◌, ◌++◌, length, map, Option}
 use Rattle.std.specs.Prelude.{Some, None, nat_lt, nat_le, ◌==◌, if◌then◌else◌, option_to_list}
@@ -19,12 +19,12 @@ use Rattle.st_text.specs.Text.{is_remote}
 
 -- ---- the lines of bytes
 
--- the byte before the first line, or before what is behind the last newline if there is no line
+-- the byte before the first line, or before what is after the last newline if there is no line
 abbrev pub onto_first : ℕ → List (List ℕ) → List ℕ → List (List ℕ) × List ℕ
 onto_first b [] tail = ([], b ∷ tail)
 onto_first b (l ∷ ls) tail = ((b ∷ l) ∷ ls, tail)
 
--- the lines, each ended by a newline, and the bytes behind the last newline
+-- the lines, each ended by a newline, and the bytes after the last newline
 abbrev pub cut : List ℕ → List (List ℕ) × List ℕ
 cut [] = ([], [])
 cut (b ∷ bytes) = if b == 10 then ([] ∷ (cut bytes).0, (cut bytes).1)
@@ -62,14 +62,14 @@ has_acts ls = list_any is_acts ls
 abbrev pub last_of : {A : Type 0} → List A → Option A
 last_of xs = slice_get xs (length xs - 1)
 
--- ---- the faults of one line behind good ones
+-- ---- the faults of one line after good ones
 
 -- the test of the last process before, if there is one
 abbrev pub last_passes : (Pid → Bool) → Option Pid → Bool
 last_passes test None = false
 last_passes test (Some q) = test q
 
--- whether the line may come behind a header, by whether acts have begun and by the last process
+-- whether the line may come after a header, by whether acts have begun and by the last process
 abbrev pub may_follow : Bool → Option Pid → Line → Bool
 may_follow begun last (lines.Header b) = false
 may_follow begun last (lines.Process p) = not begun
@@ -109,7 +109,7 @@ is_one_too_many limits processes events acts (lines.Event e) = nat_le limits.eve
 is_one_too_many limits processes events acts (lines.Act a) = nat_le limits.acts acts
 is_one_too_many limits processes events acts l = false
 
--- the fault of a line behind good ones, by its number n
+-- the fault of a line after good ones, by its number n
 abbrev pub fault_behind : Limits → ℕ → List Line → Line → Option ReadFault
 fault_behind limits n ls l =
     if not (may_stand ls l) then Some (faults.Line n)
@@ -127,7 +127,7 @@ abbrev pub first_of : {A : Type 0} → Option A → Option A → Option A
 first_of (Some x) o = Some x
 first_of None o = o
 
--- the fault of the first faulty line, of these behind good ones
+-- the fault of the first faulty line, of these after good ones
 unfoldable pub first_fault : Limits → List Line → List (Option Line) → Option ReadFault
 first_fault limits ls [] = None
 first_fault limits ls (None ∷ more) = line_fault limits ls None
@@ -142,7 +142,7 @@ said [] = []
 said (None ∷ more) = said more
 said (Some l ∷ more) = l ∷ said more
 
--- bytes behind the last newline, or no bytes at all
+-- bytes after the last newline, or no bytes at all
 abbrev pub truncated : List ℕ → Option ReadFault
 truncated bytes = if length (cut bytes).1 == 0
     && not (length (cut bytes).0 == 0) then None else Some faults.Truncated

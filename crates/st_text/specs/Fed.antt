@@ -1,4 +1,4 @@
--- What a feed knows of the bytes that it was fed, however they were cut into pieces.
+-- The knowledge of a feed: all bytes that it was fed, however they were cut into pieces.
 use Rattle.std.specs.Prelude.{◌≡◌, ℕ, ◌<◌, ◌≤◌, Bool, true, false, List, length, Option, Some, None, Result, Ok, Err}
 use Rattle.st_text.specs.declared.fault.ReadFault.{ReadFault}
 use Rattle.st_text.specs.declared.fault.ReadFault.TheVariants as faults

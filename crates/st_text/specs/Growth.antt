@@ -27,7 +27,7 @@ pub record EndsWithin (limits : Limits) (bytes : List ℕ) : Type 0 where
   pub good : first_fault limits [] (sayings bytes) ≡ None
   pub some : 0 < length (cut bytes).1
 
--- Behind these bytes, the piece has something to keep: a line that ends in it, the bytes that it
+-- After these bytes, the piece has something to keep: a line that ends in it, the bytes that it
 -- adds to an unfinished line, or those of its own unfinished line.
 pub data Grows (limits : Limits) (bytes piece : List ℕ) : Type 0 where
   KeepsLine : (front back : List ℕ) → piece ≡ front ++ back → EndsKept limits (bytes ++ front)

@@ -1,4 +1,4 @@
--- What a text is, which fault it has, what is returned and written for it, and the laws of that:
+-- A text, its fault, what is returned and written for it, and the laws of that:
 -- each promise of a public contract rests on these modules alone.
 pub mod Spelling
 pub mod Range

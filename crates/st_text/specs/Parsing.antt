@@ -1,4 +1,4 @@
--- What the bytes of one line say, computed from the front. That this is the spelling read
+-- The meaning of one line's bytes, computed from the front. That this is the spelling read
 -- backwards, and nothing more, is proved: what is read is spelled so, and what is spelled so is
 -- read.
 use Rattle.std.specs.Prelude.{ℕ, Bool, true, false, ◌&&◌, List, [], ◌∷◌, length, take, drop, Option, Some, None}
@@ -41,7 +41,7 @@ abbrev pub on_some : {A B : Type 0} → Option A → (A → Option B) → Option
 on_some (Some x) f other = f x
 on_some None f other = other
 
--- what f reads behind the word, if the bytes begin with it, else other
+-- what f reads after the word, if the bytes begin with it, else other
 abbrev pub begins : {A : Type 0} → List ℕ → List ℕ → (List ℕ → Option A) → Option A → Option A
 begins word bytes f other = on_some (after word bytes) f other
 
@@ -119,7 +119,7 @@ parse_ends kind bytes = do
   q ← parse_place kind a
   Some ((p.0, q.0), q.1)
 
--- an event behind `{seq_trace,`
+-- an event after `{seq_trace,`
 unfoldable pub parse_event : List ℕ → Option (Event × List ℕ)
 parse_event bytes = do
   h ← parse_head bytes
@@ -143,7 +143,7 @@ parse_event bytes = do
 
 -- ---- acts
 
--- a pid and the space behind it
+-- a pid and the space after it
 unfoldable pub parse_actor : List ℕ → Option (Pid × List ℕ)
 parse_actor bytes = do
   p ← parse_pid bytes

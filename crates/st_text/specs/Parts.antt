@@ -1,4 +1,4 @@
--- What the parts of the reader keep and hand on. No promise of a public contract rests on it:
+-- The states of the reader's parts. No promise of a public contract rests on them:
 -- `IsFed` alone names what a feed keeps, and who uses a feed needn't know what that is. A module
 -- for each file of the code that needs words.
 pub mod Words

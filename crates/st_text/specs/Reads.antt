@@ -1,4 +1,4 @@
--- What the reader returns of a source: it depends on the bytes that its calls gave in a row,
+-- The result of reading a source: it depends on the bytes that its calls gave in a row,
 -- whatever else the source tells.
 use Rattle.std.specs.Prelude.{◌≡◌, ℕ, ◌+◌, ◌≤◌, Bool, true, false, List, ◌++◌, length, Result, Err}
 use Rattle.st_core.specs.Device.{InARow}

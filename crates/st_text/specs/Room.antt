@@ -15,11 +15,11 @@ line_room = 256
 abbrev pub buffer_room : ℕ
 buffer_room = piece_room + line_room
 
--- the buffer has room for so many bytes more
+-- the buffer has room for n bytes more
 abbrev pub HasRoom : ℕ → ArrayVec ℕ → Type 0
 HasRoom room buffer = array_vec_len buffer + room ≤ buffer_room
 
--- the text was put behind what waited, and took at most so much room
+-- the text was put after what waited, and took at most this much room
 pub record Puts (room : ℕ) (text : List ℕ) (old new : ArrayVec ℕ) : Type 0 where
   pub items : new.items ≡ old.items ++ text
   pub len : array_vec_len new ≤ array_vec_len old + room

@@ -24,7 +24,7 @@ pub record Contents : Type 0 where
   pub streams : List Stream
   pub acts : Option (List Act)
 
--- streams, and acts behind a reference if there are any
+-- streams, and acts after a reference if there are any
 abbrev pub parts : List Stream → Option (Bor (List Act)) → Contents
 parts streams acts = record { streams = streams; acts = option_map (λ a. a.now) acts }
 
@@ -70,7 +70,7 @@ abbrev pub act_lines : Option (List Act) → List Line
 act_lines None = []
 act_lines (Some list) = lines.Acts ∷ map lines.Act list
 
--- all lines behind the header
+-- all lines after the header
 abbrev pub body : Contents → List Line
 body c = flat_map process_lines c.streams ++ act_lines c.acts
 

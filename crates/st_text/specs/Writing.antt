@@ -1,4 +1,4 @@
--- What a writer hands to a sink, through a buffer of bytes that wait.
+-- The bytes that a writer hands to a sink, through a buffer of bytes that wait.
 use Rattle.std.specs.Prelude.{◌≡◌, ℕ, ◌<◌, length, Bool, true, false, List, ◌++◌, Result, MatchResult}
 use Rattle.st_core.specs.Device.{InARow}
 

@@ -19,7 +19,7 @@ use crate::step::Step;
 use st_core::{Act, Draft, Event, Pid, Sequence};
 use std::alloc::Global;
 
-/// What the lines so far came to. Its counts are within the limits of its calls, and each limit is
+/// The bundle of the lines so far. Its counts are within the limits of its calls, and each limit is
 /// a `u32`.
 #[derive(Debug, Drop)]
 pub(crate) struct BundleBuilder {
@@ -70,7 +70,7 @@ fn is_out_of_order(last: Option<Pid>, pid: Pid) -> bool
 impl BundleBuilder {
     ghost use Rattle.st_text.specs.Parts.Builder.{IsBuilt, Takes, TakesLine};
 
-    /// Behind the header. Takes no memory.
+    /// Takes a line after the header. Takes no memory.
     pub(crate) fn new(alloc: Global, wide: bool) -> BundleBuilder
         ensures { IsBuilt result (lines.Header wide ∷ []) }
     {

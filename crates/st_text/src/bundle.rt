@@ -65,7 +65,7 @@ fn first_unlisted(streams: &Streams, acts: &[Act]) -> Option<usize>
     )
 }
 
-/// The same of acts or none.
+/// Finds the first act with an unlisted pid, if there are acts.
 fn unlisted_act(streams: &Streams, acts: &Option<Sequence<Act>>) -> Option<usize>
     ensures { result ≡ unlisted_act streams.now acts.now }
 {

@@ -32,7 +32,7 @@ pub(crate) struct Cutter {
     pub(crate) tail: Vec<u8>,
     /// The unfinished line is longer than any line, and isn't kept.
     pub(crate) long: bool,
-    /// What the lines came to; nothing before the header.
+    /// The bundle of the lines so far; none before the header.
     pub(crate) builder: Option<BundleBuilder>,
     /// The fault of the first faulty line. Later bytes aren't looked at.
     pub(crate) fault: Option<ReadFault>,
@@ -74,8 +74,8 @@ fn pass_on(
     }
 }
 
-/// What a line that began in an earlier piece says once the rest of it is there, and the place for
-/// the next one. No line is longer than the longest, so a longer one says nothing.
+/// Reads a line that began in an earlier piece, once the rest of it is there, and returns the place
+/// for the next one. No line is longer than the longest, so a longer one says nothing.
 fn whole_line(long: bool, tail: &mut Vec<u8>, rest: &[u8]) -> Result<Option<Line>, AllocError>
     requires { vec_len tail.old ≤ longest }
     ensures said { (t : List ℕ) → IsTail long tail.old.items t

@@ -32,7 +32,7 @@ pub fn fault_is_first()
     ensures unknown { UnknownIsFirst }
 {}
 
-/// What is written of a bundle within the limits is read as that bundle.
+/// Says that the text of a bundle within the limits is read as that bundle.
 pub fn written_is_read()
     ensures { WrittenIsRead }
 {}

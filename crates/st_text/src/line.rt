@@ -10,7 +10,7 @@ use crate::events::parse_event;
 use crate::words::{after, parse_pid};
 use st_core::{Act, Event, Pid};
 
-/// What a line says.
+/// The meaning of a line.
 #[derive(Clone, Copy, Debug, PartialEq, Eq)]
 pub enum Line {
     /// The header: true for `seqtrace 2`.
@@ -58,7 +58,7 @@ fn parse_line(bytes: &[u8]) -> Option<(Line, &[u8])>
     parse_rare(bytes)
 }
 
-/// What a line says, all of it, without its newline.
+/// Reads a whole line, without its newline.
 #[tactic(auto, unfolding(crate::specs::Parsing::line_of))]
 pub(crate) fn read_line(bytes: &[u8]) -> Option<Line>
     ensures { result ≡ line_of bytes.now }

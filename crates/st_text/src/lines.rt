@@ -14,7 +14,7 @@ use crate::sink::{Device, flush, make_room};
 use crate::spell::{Buffer, put_act, put_bytes, put_event, put_pid};
 use st_core::{Act, ByteSink, Event};
 
-/// What is written as one line.
+/// A value that is written as one line.
 pub trait TextLine: Copy {
     // The line without its newline.
     ghost words: { Self → List ℕ };

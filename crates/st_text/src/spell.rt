@@ -12,7 +12,7 @@ ghost use Rattle.st_text.specs.Room.{component_room, want_room, flags_room, toke
 use arrayvec::ArrayVec;
 use st_core::{Act, Component, Event, Flags, Kind, Label, Pid, Serial, Token, Want};
 
-/// So many bytes are written at once: whole pages of the system's memory, since a file takes parts
+/// The bytes that are written at once: whole pages of the system's memory, since a file takes parts
 /// of a page more slowly.
 pub(crate) const PIECE: usize = 8192;
 
@@ -150,7 +150,7 @@ fn put_label(buffer: &mut Buffer, label: Label)
     put_number(buffer, u64::from(label.0));
 }
 
-/// Appends a pid with words before it and behind it.
+/// Appends a pid with words before it and after it.
 fn put_pid_between(buffer: &mut Buffer, before: &[u8], pid: Pid, behind: &[u8])
     requires { HasRoom (length before.now + length behind.now + pid_room) buffer.old }
     ensures { Puts (length before.now + length behind.now + pid_room)

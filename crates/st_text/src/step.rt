@@ -1,8 +1,8 @@
-//! What a line leads to.
+//! The next step of the reader after a line.
 
 use crate::fault::ReadFault;
 
-/// What a line leads to.
+/// The next step of the reader after a line.
 #[derive(Clone, Copy, Debug, PartialEq, Eq)]
 pub(crate) enum Step {
     /// It is good.

@@ -1,4 +1,4 @@
-//! What comes back if memory runs out, and that the next try may succeed. A test shows something
+//! Refusals if memory runs out, after which the next try may succeed. A test shows something
 //! only if an allocation fails: `rt try --test --fail-alloc N` fails the N-th of each.
 
 use super::{MANY, print};

@@ -21,7 +21,7 @@ use std::thread::{Promise, Threads};
 /// processes (`System::act`), of which an input of the program has up to 1,024.
 pub const WORKER_STACK: usize = 2_097_152;
 
-/// What a worker is given: a seat through which no act was made yet, and the acts to make.
+/// The job of a worker: a seat through which no act was made yet, and the acts to make.
 #[derive(Drop)]
 pub struct Job {
     seat: Seat,
@@ -40,7 +40,7 @@ impl Model for Job {
     ghost invariant = { λ t. t.seat.mine ≡ [] };
 }
 
-/// What a worker leaves: its seat, and the refusal at which it stopped, if it met one.
+/// The end of a worker: its seat, and the refusal at which it stopped, if it met one.
 #[derive(Drop)]
 pub struct Ending {
     pub seat: Seat,
@@ -65,7 +65,7 @@ pub fn jobs_of(
     Ok(jobs)
 }
 
-/// What the worker of this job in this system leaves.
+/// A worker with its job in this system.
 #[derive(Drop)]
 struct Leaves<const TOP: u64, const RANKS: u64> {
     system: Snapshot<System<TOP, RANKS>>,
@@ -76,8 +76,8 @@ impl<const TOP: u64, const RANKS: u64> Promise<Option<Ending>> for Leaves<TOP, R
     ghost kept_by = { λ p left. LeavesEnding p.system.value p.job.value left };
 }
 
-/// All workers at once, each in a thread of its own with a stack of so many bytes. If a thread
-/// can't be started, those that were started stop at their next act, and are waited for.
+/// Runs all workers at once, each in a thread of its own with a stack of this many bytes. If a
+/// thread can't be started, those that were started stop at their next act, and are waited for.
 ///
 /// Fails with `Thread`, else with `Memory`; but with `Memory` at once if there is no room for the
 /// threads.
@@ -128,7 +128,7 @@ pub fn work_all<const TOP: u64, const RANKS: u64, R: Threads + Wait + Sync, G: G
     )
 }
 
-/// What the workers left, if none was told to stop; else why they were.
+/// Returns the endings of the workers, if none was told to stop; else why they were.
 fn all_ended(alloc: Global, left: Vec<Option<Ending>>) -> Result<Vec<Ending>, DriveFault>
     ensures ok { IfOk result (λ v. map (λ end. Some end) v.items ≡ left.items) }
     ensures err { IfErr result IsOwnFault }
@@ -161,7 +161,7 @@ fn work<const TOP: u64, const RANKS: u64, R: Wait, G: Gate>(
     play_from_end(rt, system, gate, stop, seat, acts)
 }
 
-/// The same, of a seat and the script's acts, the last of which comes first. Their memory is let go
+/// Makes the acts of a script through a seat, the last of which comes first. Their memory is let go
 /// as they are made, since what they leave takes as much.
 fn play_from_end<const TOP: u64, const RANKS: u64, R: Wait, G: Gate>(
     rt: &R,

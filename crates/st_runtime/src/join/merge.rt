@@ -17,7 +17,7 @@ use std::alloc::{AllocError, Global};
 use std::marker::Model;
 use std::thread::{Threads, join};
 
-/// An entry that stays at its place in its log. Its rank is beside, so that the sort fetches no
+/// An entry that stays at its place in its log, with its rank, so that the sort fetches no
 /// entry.
 #[derive(Drop)]
 struct Ranked<'a> {
@@ -76,7 +76,7 @@ pub fn merge_logs<const TOP: u64, const RANKS: u64>(
     drop_ranks(alloc, all)
 }
 
-/// The same entries, without their ranks beside them.
+/// Takes the ranks off the entries.
 fn drop_ranks<'a>(alloc: Global, all: Vec<Ranked<'a>>) -> Result<Vec<Reference<'a>>, AllocError>
     ensures entries { IfOk result (λ v. map referred v.items ≡ all.entry.items) }
     ensures there { IfOk result (λ v. All IsThere v.items) }
@@ -128,7 +128,7 @@ fn act_of(reference: &Reference<'_>) -> Act
     log.act_at(place)
 }
 
-/// What the act of the entry that is referred to returned.
+/// Returns the reply of the entry that is referred to.
 fn reply_of(reference: &Reference<'_>) -> Reply
     requires { IsThere reference.now }
     ensures { result ≡ (referred reference.now).reply }
@@ -149,7 +149,7 @@ pub fn acts_of(alloc: Global, entries: &[Reference<'_>]) -> Result<Vec<Act>, All
     Ok(acts)
 }
 
-/// What the acts of entries returned.
+/// Returns the replies of entries.
 pub fn replies_of(alloc: Global, entries: &[Reference<'_>]) -> Result<Vec<Reply>, AllocError>
     requires { All IsThere entries.now }
     ensures { IfOk result (λ v. v.items ≡ map (λ r. (referred r).reply) entries.now) }

@@ -1,14 +1,14 @@
-//! What the threads did, as one run.
+//! The acts of the threads, as one run.
 
 use st_core::{Act, Reply, Sequence, Streams};
 
 /// One run of the machine from the zero state.
 #[derive(Debug, Drop)]
 pub struct Record {
-    /// What each process reported.
+    /// The streams that the processes reported.
     pub streams: Streams,
     /// The acts, by rising rank and then actor.
     pub acts: Sequence<Act>,
-    /// What each returned to its actor.
+    /// The replies to the actors.
     pub replies: Sequence<Reply>,
 }

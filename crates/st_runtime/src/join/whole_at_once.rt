@@ -68,7 +68,7 @@ fn are_seen_settled<const TOP: u64, const RANKS: u64>(
     }
 }
 
-/// The same, with room for a place in each log.
+/// Checks the same with room for a place in each log.
 fn are_settled<const TOP: u64, const RANKS: u64>(
     processes: &[Pcb<TOP, RANKS>],
     places: &mut [usize],

@@ -7,7 +7,7 @@ ghost use Rattle.st_runtime.specs.System.{is_stamping};
 
 use st_core::{Act, Pid, Reply};
 
-/// Who has to be there beside the actor: a send's receiver.
+/// The process that has to be there besides the actor: a send's receiver.
 pub fn receiver_of(act: &Act) -> Pid
     ensures { result ≡ receiver act.now }
 {
@@ -25,7 +25,7 @@ pub fn receiver_of(act: &Act) -> Pid
     }
 }
 
-/// What an act of a whole node returns to an actor that was traced or not.
+/// Returns the reply to an act of a whole node, whose actor was traced or not.
 pub fn wide_reply(act: &Act, was: bool) -> Reply
     ensures { result ≡ wide_reply act.now was }
 {

@@ -1,4 +1,4 @@
-//! What an act does to one process, on what it keeps for tracing and on its queue, which is the one
+//! The parts of acts that touch one process: its tracing state and its queue, which is the one
 //! mailbox of its own.
 
 ghost use Rattle.std.specs.Prelude.{◌≡◌, true, length, Some, IfOk, OnOk, OnErr};
@@ -56,7 +56,7 @@ pub fn receive_one<const TOP: u64>(
     receive(me, local, queue, 0, want)
 }
 
-/// What an act of the whole node does to a process of it.
+/// Does the part of an act of a whole node that touches one process of it.
 pub fn reach<const TOP: u64>(me: Pid, local: &mut Local<TOP>, queue: &mut Mailboxes, act: &Act)
     requires one_box { length queue.old.boxes ≡ 1 }
     requires fit { QueueFits TOP (queue_in queue.old.boxes 0) }

@@ -1,4 +1,4 @@
-//! What an act of a whole node finds under the locks that it takes, one after the other.
+//! The findings of an act of a whole node under the locks that it takes, one after the other.
 
 ghost use Rattle.std.specs.Prelude.{◌≡◌, ◌≢◌, ◌+◌, ◌≤◌, ◌↔◌, ◌⊎◌, true, false, max, Some, None};
 ghost use Rattle.std.specs.Prelude.{Err, IfOk, IfSome, IsSome};
@@ -11,7 +11,7 @@ use crate::pcb::acts::wide_reply;
 use st_core::{Act, Pid};
 use st_log::Entry;
 
-/// What was found under the locks so far.
+/// The findings under the locks so far.
 #[derive(Clone, Copy)]
 pub struct Found {
     /// Who acts.

@@ -3,7 +3,7 @@
 use st_core::{Act, Component, Flags, Label, Pid, Sequence, Serial, Token, Want};
 use std::alloc::{AllocError, Global};
 
-/// Where the processes of a run are: so many on each of so many nodes, from 0 on.
+/// The places of a run's processes: a number on each of a number of nodes, from 0 on.
 #[derive(Clone, Copy)]
 pub(super) struct Places {
     pub nodes: u16,
@@ -23,7 +23,7 @@ pub(super) fn processes(alloc: Global, places: Places) -> Result<Vec<Pid>, Alloc
     Ok(pids)
 }
 
-/// A script of so many acts for each of these processes.
+/// Makes a script of this many acts for each of these processes.
 pub(super) fn scripts(
     alloc: Global,
     pids: &[Pid],
@@ -56,7 +56,7 @@ fn busy_act(me: Pid, places: Places, n: u64) -> Act {
     }
 }
 
-/// The same, of an act that touches no whole node. Half of them are sends and receives.
+/// Makes an act that touches no whole node. Half of them are sends and receives.
 fn busy_lone_act(me: Pid, places: Places, n: u64) -> Act {
     let drawn = mixed_number(me, n);
     let other = Pid::on(

@@ -18,7 +18,7 @@ use std::test::Fail;
 /// How many there are of anything, as a length.
 const LENGTH: usize = 100_000;
 
-/// Pushes so many items on the last list.
+/// Pushes this many items on the last list.
 fn push_many(lists: &mut Lists<u64>) -> Result<(), Fail>
     requires { 99999 < length lists.old.lists }
     ensures { length lists.new.lists ≡ length lists.old.lists }
@@ -50,7 +50,7 @@ fn stamped_message(this: u64) -> Message {
     }
 }
 
-/// Puts so many messages into the last mailbox.
+/// Puts this many messages into the last mailbox.
 fn put_many(mail: &mut Mailboxes) -> Result<(), Fail>
     requires { 99999 < length mail.old.boxes }
     ensures { length mail.new.boxes ≡ length mail.old.boxes }
@@ -75,7 +75,7 @@ fn a_hundred_thousand_mailboxes_take_as_many_messages(rt: HostRuntime) -> Result
     Ok(())
 }
 
-/// 30 sends so many messages with its token to 31.
+/// Sends this many messages with its token from 30 to 31.
 fn send_many(rt: &impl Abort, world: &mut World<{ u64::MAX }>) {
     assert!(rt;
         world

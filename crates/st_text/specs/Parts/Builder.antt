@@ -1,4 +1,4 @@
--- What a text under way has come to: the lines from the header on, all good, and what is kept of
+-- A text under way: the lines from the header on, all good, and what is kept of
 -- them.
 use Rattle.std.specs.Prelude.{◌≡◌, Bool, true, List, [], ◌∷◌, ◌++◌, length, Option, Some, None, is_some}
 use Rattle.std.specs.List.{count_by, list_any}
@@ -16,7 +16,7 @@ use Rattle.st_text.specs.Fault.{pids, last_of, has_acts, is_event, is_act, is_wi
 use Rattle.st_text.specs.Growth.{is_kept_line}
 use Rattle.st_text.specs.Parts.Counts.{acts_len}
 
--- the lines of a header and what is behind it
+-- the lines of a header and what is after it
 abbrev pub so_far : Bool → List Stream → Option (List Act) → List Line
 so_far wide streams acts = lines.Header wide ∷ body (record { streams = streams; acts = acts })
 

@@ -1,4 +1,4 @@
--- What the functions of `cutter.rt` tell of the lines so far and of the unfinished line.
+-- The lines so far and the unfinished line, as the functions of `cutter.rt` tell of them.
 use Rattle.std.specs.Prelude.{◌≡◌, ℕ, ◌<◌, ◌==◌, Bool, true, false, List, [], ◌∷◌, ◌++◌, length, Option, Some, None}
 use Rattle.std.specs.List.{AllByRecursion}
 use Rattle.st_text.specs.declared.line.Line.{Line}

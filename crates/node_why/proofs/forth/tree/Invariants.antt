@@ -1,4 +1,4 @@
--- What was found and what waits come to the whole tree.
+-- The places found and those that wait come to the whole tree.
 use Rattle.std.proofs.Common.{◌≡◌, ◌++◌, length, reverse}
 use Rattle.std.specs.List.{flat_map}
 use Rattle.node_why.specs.Tree.{tree}

@@ -1,4 +1,4 @@
--- Each stream adds its own behind those of the streams before it.
+-- Each stream adds its own after those of the streams before it.
 use Rattle.std.proofs.Common.{◌∙◌}
 use Rattle.node_why.specs.Kept.{row_starts}
 use Rattle.st_pair.proofs.ForCallers.{process_passed}

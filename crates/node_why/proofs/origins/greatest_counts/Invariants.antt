@@ -1,4 +1,4 @@
--- What was found so far with what is left comes to all.
+-- The counts found so far and those that are left come to all.
 use Rattle.std.proofs.Common.{◌≡◌, ◌++◌, drop}
 use Rattle.node_why.specs.Kept.{greatest_from}
 use Rattle.node_why.proofs.origins.greatest_counts.Given as goal

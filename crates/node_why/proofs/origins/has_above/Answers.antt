@@ -1,4 +1,4 @@
--- What is kept at a process's place are its greatest counts, and a process that isn't listed has no
+-- The greatest counts of a process are kept at its place, and a process that isn't listed has no
 -- events.
 use Rattle.std.proofs.Common.{◌∙◌}
 use Rattle.st_core.specs.Streams.{events_of}

@@ -1,4 +1,4 @@
--- What is kept at a process's place are the starts of its rows, and a process that isn't listed has
+-- The starts of a process's rows are kept at its place, and a process that isn't listed has
 -- no event.
 use Rattle.std.proofs.Common.{◌∙◌}
 use Rattle.st_core.specs.Streams.{events_of}

@@ -1,5 +1,5 @@
--- What was found so far with what is left comes to all, and the last start is that of the event
--- before.
+-- The rows found so far and those that are left come to all, and the last start is that of the
+-- event before.
 use Rattle.std.proofs.Common.{◌≡◌, ◌++◌, ◌-◌, ◌<◌, Some, drop, slice_get}
 use Rattle.st_core.specs.declared.types.Event.{Event}
 use Rattle.node_why.specs.Events.{row_start}

@@ -1,4 +1,4 @@
--- Each turn writes the line of the next event behind those before, if it has one.
+-- Each turn writes the line of the next event after those before, if it has one.
 use Rattle.std.proofs.Common.{length, ◌∙◌, ap, arith}
 use Rattle.st_core.specs.Streams.{events_of}
 use Rattle.st_plan.specs.Marks.{all_streams}

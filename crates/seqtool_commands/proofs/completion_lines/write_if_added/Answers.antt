@@ -1,4 +1,4 @@
--- What was told has no line.
+-- An event that was told has no line.
 use Rattle.std.proofs.Common.{get_or, sym, ◌∙◌, true, false}
 use Rattle.st_pair.proofs.ForCallers.{at_get_or, blank}
 use Rattle.st_text.proofs.ForCallers.{goes_still}

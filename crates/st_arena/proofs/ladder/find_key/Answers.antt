@@ -1,4 +1,4 @@
--- What the ladder holds at the place is the key there.
+-- The ladder holds at the place the key of the node there.
 use Rattle.std.proofs.Common.{◌∙◌, sym}
 use Rattle.slab.specs.Slab.{get}
 use Rattle.st_arena.proofs.LadderLemmas.{ladder_key}

@@ -1,4 +1,4 @@
--- What holds of the finding that the streams determine holds of what is found.
+-- The streams determine the finding, so its clauses hold of what is returned.
 use Rattle.std.proofs.lemmas.Result.{IfOk-weaker}
 use Rattle.st_audit.proofs.Certificates.{certain_streams_fit}
 use Rattle.st_audit.proofs.DeterminedFinding.{hands_on}

@@ -1,4 +1,5 @@
--- A stream's events go behind those of the streams before it, so that in the end each list is its key's chain.
+-- A stream's events go after those of the streams before it, so that in the end each list is its
+-- key's chain.
 use Rattle.std.proofs.Common.{ℕ, List, ◌++◌, sym, ◌∙◌, ap, append-nil}
 use Rattle.st_arena.specs.Arena.{list_at}
 use Rattle.st_chain.proofs.Parts.{list_passed, parts_are, parts_end}

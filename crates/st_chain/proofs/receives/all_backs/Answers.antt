@@ -1,4 +1,4 @@
--- Each stream adds its own backs behind those of the streams before it.
+-- Each stream adds its own backs after those of the streams before it.
 use Rattle.std.proofs.Common.{◌∙◌}
 use Rattle.st_pair.proofs.ForCallers.{process_passed}
 use Rattle.st_chain.proofs.receives.all_backs.Goals as goal

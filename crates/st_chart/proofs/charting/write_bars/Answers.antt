@@ -1,4 +1,4 @@
--- Each turn puts a run of bars behind those before.
+-- Each turn puts a run of bars after those before.
 use Rattle.std.proofs.Common.{◌≡◌, ◌-◌, ◌≤◌, sym, arith}
 use Rattle.st_text.proofs.ForCallers.{goes_still, goes_then, on_err}
 use Rattle.st_chart.specs.Parts.{bars}

@@ -1,4 +1,4 @@
--- What is kept so far, with the listed ones among the processes that are left, are the listed ones of all.
+-- The listed ones so far, with those among the processes that are left, are the listed ones of all.
 use Rattle.std.proofs.Common.{◌≡◌, ◌++◌, filter}
 use Rattle.st_core.specs.Streams.{is_among}
 use Rattle.st_chart.proofs.lanes.ends_among.Given as goal

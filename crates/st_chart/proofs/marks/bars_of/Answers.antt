@@ -1,4 +1,4 @@
--- The first of many bars are so many bars.
+-- The first n of many bars are n bars.
 use Rattle.std.proofs.Common.{◌∙◌, List, ℕ, ap, codes}
 use Rattle.std.specs.List.{flat_map}
 use Rattle.std.proofs.lemmas.List.{take-replicate}

@@ -1,4 +1,4 @@
--- The bytes are the front, which fills a piece, and the back behind it.
+-- The bytes are the front, which fills a piece, and the back after it.
 use Rattle.std.proofs.Common.{[], take, drop, sym}
 use Rattle.std.proofs.lemmas.List.{append-nil, take-append-drop}
 use Rattle.st_text.proofs.ForCallers.{part_longer, goes_then, then_on, on_err}

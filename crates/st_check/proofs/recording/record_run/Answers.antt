@@ -1,4 +1,4 @@
--- What is recorded is the run of the acts so far, over the pids that the draft lists.
+-- The record is the run of the acts so far, over the pids that the draft lists.
 use Rattle.std.proofs.Common.{◌≡◌, ◌+◌, None, is_some, take, subst, sym, ◌∙◌, ap, arith}
 use Rattle.std.proofs.lemmas.Bool.{MatchBool-at_true, MatchBool-at_false}
 use Rattle.std.proofs.lemmas.Option.{none-some}

@@ -1,4 +1,4 @@
--- What is recorded is the run of the acts so far.
+-- The record is the run of the acts so far.
 use Rattle.std.proofs.Common.{take}
 use Rattle.st_check.specs.Recorded.{IsReplayedTo}
 use Rattle.st_check.proofs.recording.record_run.Given as goal

@@ -1,4 +1,4 @@
--- What the auditor found is reported, and that memory ran out is said by itself.
+-- The auditor's finding is reported; if memory ran out, a line of its own says so.
 use Rattle.st_commands.specs.Output.{no_memory}
 use Rattle.st_commands.specs.Audited.{report_output}
 use Rattle.st_commands.specs.Parts.{Finds, NoRoomToAudit}

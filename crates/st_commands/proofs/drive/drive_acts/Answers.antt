@@ -1,4 +1,4 @@
--- What `drive` returns is written, and if memory runs out for the scripts a line of its own says
+-- The result of `drive` is written, and if memory runs out for the scripts a line of its own says
 -- so.
 use Rattle.st_commands.specs.Output.{no_memory}
 use Rattle.st_commands.specs.Recorded.{record_output}

@@ -1,4 +1,4 @@
--- Each turn writes the next line behind those before.
+-- Each turn writes the next line after those before.
 use Rattle.std.proofs.Common.{refl}
 use Rattle.st_commands.specs.Output.{pair_line}
 use Rattle.st_text.proofs.ForCallers.{goes_still, one_more, one_failed, all_done, on_err}

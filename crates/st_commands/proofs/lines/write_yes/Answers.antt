@@ -1,4 +1,4 @@
--- The pairs come behind the line yes.
+-- The pairs come after the line yes.
 use Rattle.std.proofs.Common.{codes}
 use Rattle.std.specs.List.{flat_map}
 use Rattle.st_commands.specs.Output.{pair_line}

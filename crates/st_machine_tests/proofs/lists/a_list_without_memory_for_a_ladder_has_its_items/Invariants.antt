@@ -1,4 +1,4 @@
--- What the loop keeps.
+-- The loop keeps the other lists.
 use Rattle.std.proofs.Common.{◌≡◌, length}
 use Rattle.st_machine_tests.proofs.lists.a_list_without_memory_for_a_ladder_has_its_items.Given as goal
 

@@ -1,4 +1,4 @@
--- What the loop of pushes keeps.
+-- The loop of pushes keeps the other lists.
 use Rattle.std.proofs.Common.{◌≡◌, length}
 use Rattle.st_machine_tests.proofs.lists.a_push_without_memory_leaves_all_lists.Given as goal
 

@@ -1,4 +1,4 @@
--- What was found of the slices holds of the pieces, whose processes and seats they are.
+-- The slices are those of the pieces' processes and seats, so the findings hold of the pieces.
 use Rattle.std.proofs.Common.{◌≡◌, ◌∙◌, subst}
 use Rattle.st_runtime.specs.Pieces.{Parts, AreWhole, IsFirstUnseated, IsFit}
 use Rattle.st_runtime.proofs.join.check_fit.Goals as goal

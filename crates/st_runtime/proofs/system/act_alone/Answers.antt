@@ -1,4 +1,4 @@
--- What the call on the lent process says of its result is said of the act's.
+-- The act's result is that of the call on the lent process.
 use Rattle.std.proofs.Common.{◌≡◌, ◌∙◌, refl, sym, [], ◌∷◌}
 use Rattle.st_core.specs.Step.{actor}
 use Rattle.st_runtime.proofs.LentLemmas.{held_step, held_stray}

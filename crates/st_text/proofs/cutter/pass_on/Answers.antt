@@ -1,4 +1,4 @@
--- Before the header only a header is good; behind it the builder judges.
+-- Before the header only a header is good; after it the builder judges.
 use Rattle.std.proofs.Common.{◌∙◌, sym}
 use Rattle.st_text.proofs.CutterSteps.{said_some, said_header, said_none}
 use Rattle.st_text.proofs.cutter.pass_on.Goals as goal

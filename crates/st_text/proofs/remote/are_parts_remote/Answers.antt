@@ -1,4 +1,4 @@
--- The streams' lines and the acts' are all lines behind the header.
+-- The streams' lines and the acts' are all lines after the header.
 use Rattle.std.proofs.Common.{◌∙◌, sym}
 use Rattle.st_text.proofs.RemoteLemmas.{body_true, parts_none, parts_some}
 use Rattle.st_text.proofs.remote.are_parts_remote.Goals as goal

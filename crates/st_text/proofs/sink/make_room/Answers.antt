@@ -1,4 +1,4 @@
--- A piece is the front of what waits, and what is behind it waits on. If less than a piece waits
+-- A piece is the front of what waits, and what is after it waits on. If less than a piece waits
 -- nothing has to be written.
 use Rattle.std.proofs.Common.{◌≡◌, ◌++◌, ◌∙◌, ap, take, drop, sym}
 use Rattle.std.proofs.lemmas.List.{take-append-drop}

@@ -1,4 +1,4 @@
--- What is behind the piece is moved to the front, and no more than that stays.
+-- The bytes after the piece move to the front, and no others stay.
 use Rattle.std.proofs.Common.{◌≡◌, ◌+◌, ◌-◌, length, take, drop, ap, ◌∙◌, arith, rules, length-drop, take_all}
 use lib.Seq.{paste}
 use Rattle.std.proofs.lemmas.List.Edits.{take-paste}

@@ -1,4 +1,4 @@
--- Of a number past four digits, what is before the last four is its ten thousandth part.
+-- The digits before the last four of a number are its ten thousandth part.
 use Rattle.std.proofs.Common.{arith, append_assoc}
 use Rattle.st_text.proofs.Decimals.{last_four}
 use Rattle.st_text.proofs.spell.put_number.Goals as goal

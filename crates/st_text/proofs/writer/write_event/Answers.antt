@@ -1,4 +1,4 @@
--- What waits last goes with a flush.
+-- The bytes that wait last go with a flush.
 use Rattle.st_text.specs.Spelling as spelled
 use Rattle.st_text.proofs.Puts.{finishes, goes_buffer}
 use Rattle.st_text.proofs.Spellings.{event_some}

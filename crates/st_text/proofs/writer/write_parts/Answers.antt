@@ -1,4 +1,4 @@
--- What waits last goes with a flush.
+-- The bytes that wait last go with a flush.
 use Rattle.st_text.specs.Text.{parts, spelling}
 use Rattle.st_text.proofs.Puts.{finishes}
 use Rattle.st_text.proofs.Spellings.{text_some}

@@ -1,4 +1,4 @@
--- A token leads to a clock beside a receive if the greater of their counts is that clock.
+-- A token and a receive lead to a clock if the greater of their counts is that clock.
 use Rattle.std.proofs.Common.{refl, arith, sym, ◌∙◌}
 use Rattle.std.proofs.lemmas.Bool.{false≢true}
 use Rattle.st_core.specs.declared.types.Serial.{Serial}

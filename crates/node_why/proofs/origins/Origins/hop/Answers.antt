@@ -1,4 +1,4 @@
--- What it claims is true, since it is the hop of the definition.
+-- Its claim is true, since it is the hop of the definition.
 use Rattle.node_why.proofs.Claims.{true_of}
 use Rattle.node_why.proofs.origins.Origins.hop.Goals as goal
 

@@ -1,4 +1,4 @@
--- A line below the first event, or behind the last one, is none of the process's.
+-- A line below the first event, or after the last one, is none of the process's.
 use Rattle.std.proofs.Common.{◌∙◌, sym}
 use Rattle.seqtool_commands.proofs.LineFirsts.{line_above, line_below, line_none_says, line_on}
 use Rattle.seqtool_commands.proofs.line_numbers.LineNumbers.index_on.Goals.{else-first-line-via-else-first-line}

@@ -1,4 +1,4 @@
--- What the items of one list became, said of all lists.
+-- One list changed, and a list without it is as it was, so the clause on all lists follows.
 use Rattle.std.proofs.Common.{ap}
 use Rattle.st_arena.proofs.ListLemmas.{changed_sound, changed_ladders, changed_lists, changed_each, changed_mapped}
 use Rattle.st_arena.proofs.lists.Lists.change_all.Goals as goal

@@ -1,4 +1,4 @@
--- What the chain of one list became, said of all lists.
+-- One chain changed, and the others are as they were, so the clause on all lists follows.
 use Rattle.std.proofs.Common.{ap, arith}
 use Rattle.st_arena.proofs.ListLemmas.{last_there, push_sound, push_lists, push_chained, push_ladder, push_ladders}
 use Rattle.st_arena.proofs.lists.Lists.push_reserved.Goals as goal

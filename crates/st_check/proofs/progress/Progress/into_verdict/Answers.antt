@@ -1,4 +1,4 @@
--- The verdict is that of what is kept, beside the world.
+-- The comparison, without the world, gives the verdict.
 use Rattle.st_check.proofs.progress.Progress.into_verdict.Goals as goal
 
 pub returns : goal.returns

@@ -1,4 +1,4 @@
--- Of no message a token is gone.
+-- No message has lost its token.
 use Rattle.st_mail.proofs.Boxes.{empty_fronts, empty_boxes}
 use Rattle.st_mail.proofs.mailboxes.Mailboxes.new.Goals as goal
 

@@ -1,5 +1,5 @@
--- What `find` found is the place that pick gives. What is stored there is what pick gives but for its token, which is
--- gone if the place lies in the wiped front.
+-- `find` returns the place that pick gives. The message stored there is the one that pick gives but
+-- for its token, which is gone if the place lies in the wiped front.
 use Rattle.std.proofs.Common.{◌≡◌, ◌-◌, List, Some, refl, sym, ◌∙◌, ap, arith}
 use Rattle.st_core.specs.declared.types.Message.{Message}
 use Rattle.st_mail.specs.Mail.{queue_in}

@@ -1,4 +1,4 @@
--- The pairs of which jobs were made are all the seats beside their scripts.
+-- Each job was made of a seat and its script, and all seats are there.
 use Rattle.std.proofs.Common.{◌∙◌, map, sym, ap}
 use Rattle.std.proofs.lemmas.Iterator.{YieldsList-from_zip}
 use Rattle.std.proofs.lemmas.Iterator.Adapters.{YieldsList-from_vec}

@@ -1,4 +1,5 @@
--- Pids rise, so each process's stream may be opened behind those before it; what they name is listed, so they close.
+-- Pids rise, so each process's stream may be opened after those before it; what they name is
+-- listed, so they close.
 use Rattle.std.proofs.Common.{◌≡◌, List, sym, subst, true, take}
 use Rattle.std.specs.List.{AllByRecursion}
 use Rattle.st_core.specs.declared.types.Pid.{Pid}

@@ -1,4 +1,4 @@
--- What is asked at all numbers below the length is asked at all places.
+-- A question at all numbers below the length is one at all places.
 use Rattle.std.proofs.Common.{◌≡◌, ◌-◌, length, ap, refl, ◌∙◌, arith}
 use Rattle.std.specs.List.{range_with_len}
 use Rattle.rayon.specs.Numbers.{nat_range}

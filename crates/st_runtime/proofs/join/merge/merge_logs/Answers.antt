@@ -1,4 +1,4 @@
--- What is sorted are all own entries, by the ranks that are beside them, and stably.
+-- All own entries are sorted, by the ranks that come with them, and stably.
 use Rattle.std.proofs.Common.{List, rules, subst, sym}
 use Rattle.std.specs.List.Sorted.{IsPermutation, IsStableBy}
 use Rattle.std.proofs.lemmas.List.Sorted.{IsNonDecreasingBy-from_sort_by_key, answers_always}

@@ -1,4 +1,4 @@
--- Each process adds its own entries behind those of the processes before it.
+-- Each process adds its own entries after those of the processes before it.
 use Rattle.std.proofs.Common.{◌≡◌, ◌+◌, ◌++◌, ◌∷◌, [], sym, ap, ◌∙◌, take, subst}
 use Rattle.std.proofs.lemmas.List.{take_more, flat_map_more}
 use Rattle.std.proofs.lemmas.List.Elements.{All-more}

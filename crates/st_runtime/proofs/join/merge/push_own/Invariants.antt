@@ -1,4 +1,4 @@
--- So far the process's own ones of the taken entries are behind what was there.
+-- So far the process's own ones of the taken entries are after what was there.
 use Rattle.std.proofs.Common.{◌≡◌, ◌++◌, take}
 use Rattle.st_runtime.specs.Joining.{own_of}
 use Rattle.st_runtime.proofs.join.merge.push_own.Given as goal

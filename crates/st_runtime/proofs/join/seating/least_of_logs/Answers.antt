@@ -1,4 +1,4 @@
--- Of a pid that isn't seated and the least one so far the lesser is kept.
+-- The lesser of a pid that isn't seated and the least one so far is kept.
 use Rattle.std.proofs.Common.{Option, sym, ◌∙◌, ap, subst, take, ◌+◌}
 use Rattle.st_core.specs.declared.types.Pid.{Pid}
 use Rattle.st_runtime.specs.Joining.{IsLeastUnseated, lesser}

@@ -1,4 +1,4 @@
--- What is least so far isn't seated, and of the processes that were taken each below it is.
+-- The least pid so far isn't seated, and each process that was taken below it is.
 use Rattle.std.proofs.Common.{take}
 use Rattle.st_runtime.specs.Joining.{IsLeastUnseated}
 use Rattle.st_runtime.specs.Pcb.{Control}

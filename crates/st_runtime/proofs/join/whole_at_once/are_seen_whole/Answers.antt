@@ -1,4 +1,4 @@
--- What each process is settled in is whole.
+-- Each process is settled in whole acts.
 use Rattle.std.proofs.Common.{◌≡◌, arith, subst, ⊎_elim}
 use Rattle.std.proofs.lemmas.Bool.{cases_lt}
 use Rattle.st_runtime.specs.Joining.{IsSettledAt}

@@ -1,5 +1,5 @@
--- What the lock at this place holds is the process of the pid there, which is on the actor's node: so the entry can be
--- committed to it.
+-- The lock at this place holds the process of the pid there, which is on the actor's node: so the
+-- entry can be committed to it.
 use Rattle.std.proofs.Common.{arith, rules, ◌≡◌, ◌<◌, false, true, length, get_or, sym, ap, ◌∙◌}
 use Rattle.st_core.specs.Pid.{node_eq}
 use Rattle.st_core.specs.Step.{actor}

@@ -1,4 +1,4 @@
--- What waits and the rest are the line.
+-- The bytes that wait and the rest are the line.
 use Rattle.std.proofs.Common.{inl, inr}
 use Rattle.st_text.specs.Fault.{cut}
 use Rattle.st_text.proofs.CutterSteps.{ends_within}

@@ -1,4 +1,4 @@
--- Of no bytes there is no line and no unfinished one.
+-- No bytes hold no line and no unfinished one.
 use Rattle.st_text.proofs.CutterSteps.{holds_nothing}
 use Rattle.st_text.proofs.cutter.Cutter.new.Goals as goal
 

@@ -1,4 +1,4 @@
--- What the line says is judged behind the good lines before it.
+-- The line is judged after the good lines before it.
 use Rattle.st_text.proofs.CutterSteps.{line_goes, line_stops, line_halts, not_out}
 use Rattle.st_text.proofs.cutter.Cutter.pass_line.Goals as goal
 
