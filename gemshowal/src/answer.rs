@@ -11,14 +11,14 @@ use thiserror::Error;
 ///
 /// # Guarantees
 ///
-/// The checker has accepted the acts: whatever built them, they are such a run.
+/// The checker has accepted the acts, so they are a run of that kind, whatever built them.
 #[derive(Debug)]
 pub struct Fits {
     finding: Finding,
 }
 
 impl Fits {
-    /// The acts of the run, in their order.
+    /// Returns the acts of the run, in their order.
     pub fn acts(&self) -> &[Act] {
         match &self.finding {
             Finding::Fits(acts, _) => acts.as_slice(),
@@ -26,7 +26,7 @@ impl Fits {
         }
     }
 
-    /// For each reported receive the number of its act and that of its send's.
+    /// Returns, for each reported receive, the number of its act and that of its send's act.
     pub fn pairs(&self) -> &[(u64, u64)] {
         match &self.finding {
             Finding::Fits(_, pairs) => pairs.as_slice(),
@@ -34,7 +34,7 @@ impl Fits {
         }
     }
 
-    /// The same as the libraries return it.
+    /// Returns the acts and pairs as the libraries do.
     pub fn finding(&self) -> &Finding {
         &self.finding
     }
@@ -47,12 +47,12 @@ pub struct Unfit {
     pub pid: Pid,
     /// The event's number among those of its process, from 0.
     pub index: u64,
-    /// Why no run was found. [`Unfit::is_final`] says whether that means that there is none.
+    /// The reason for which no run was found. [`Unfit::is_final`] says if there can be none.
     pub reason: Reason,
 }
 
 impl Unfit {
-    /// Whether no run without a reset reports the trace; else [`complete`] decides that.
+    /// Returns whether no run without a reset reports the trace. If not, [`complete`] decides that.
     pub fn is_final(&self) -> bool {
         match self.reason {
             Reason::PrevNotBefore
@@ -63,7 +63,7 @@ impl Unfit {
         }
     }
 
-    /// The same as the libraries return it.
+    /// Returns the event and the reason as the libraries do.
     pub fn into_finding(self) -> Finding {
         Finding::Unfit(self.pid, self.index, self.reason)
     }
@@ -77,7 +77,7 @@ impl Display for Unfit {
     }
 }
 
-/// Why [`audit`] has no acts.
+/// The reasons for which [`audit`] has no acts.
 #[derive(Debug, Error)]
 pub enum AuditError {
     /// No run was found.
@@ -92,8 +92,8 @@ pub enum AuditError {
 ///
 /// # Guarantees
 ///
-/// The acts of a yes are such a run, in which each reported receive follows its send. A reason that
-/// is final means that no run without a reset reports the trace.
+/// The acts of a yes are a run of that kind, in which each reported receive follows its send. A
+/// reason that is final means that no run without a reset reports the trace.
 pub fn audit(trace: &Trace) -> Result<Fits, AuditError> {
     match trace.audit()? {
         Finding::Unfit(pid, index, reason) => Err(AuditError::Unfit(Unfit { pid, index, reason })),
@@ -102,23 +102,23 @@ pub fn audit(trace: &Trace) -> Result<Fits, AuditError> {
 }
 
 impl Trace {
-    /// The trace with each count replaced by its rank among all counts, and whether that changed
-    /// any. If a run has these counts, one has the trace's own.
+    /// Returns the trace with each count replaced by its rank among all counts, and whether that
+    /// changed any. If a run has these counts, one has the trace's own.
     pub fn renumbered(&self) -> Result<(Trace, bool), OutOfMemory> {
         let ranked = Trace::of_streams(lack_decide::renumbered(crate::Global, self.streams())?);
         let is_other = self.processes().any(|(pid, events)| events != ranked.streams().events(pid));
         Ok((ranked, is_other))
     }
 
-    /// What the checker says of the acts in the text; none if it has no acts.
+    /// Asks the checker about the acts in the text, and returns `None` if the text has no acts.
     pub fn check(&self) -> Result<Option<st_check::Verdict>, OutOfMemory> {
         let Some(acts) = self.acts() else { return Ok(None) };
         let verdict = st_check::check::<{ crate::TOP }>(crate::Global, self.streams(), acts);
         verdict.map(Some).map_err(|_| OutOfMemory)
     }
 
-    /// A part of the trace: of each process the events at these indices, which rise. The part lists
-    /// these processes, and those that the events name.
+    /// Returns a part of the trace: the events at these rising indices of each process. The part
+    /// lists these processes, and those that the events name.
     pub fn part(&self, kept: &BTreeMap<Pid, Vec<u64>>) -> Result<Trace, OutOfMemory> {
         let places = kept.iter().flat_map(|(&pid, indices)| indices.iter().map(move |&i| (pid, i)));
         let event = |(pid, index): (Pid, u64)| Some((pid, self.streams().event(pid, index)?));
@@ -133,7 +133,7 @@ impl Trace {
         Trace::of_events(listed, &events)
     }
 
-    /// The trace of these events, by processes that rise and include all that an event names.
+    /// Returns the trace of these events, whose processes rise and include all that an event names.
     fn of_events(listed: Vec<Pid>, events: &[(Pid, Event)]) -> Result<Trace, OutOfMemory> {
         let mut draft = st_core::Draft::new(crate::Global);
         for pid in listed {
@@ -151,7 +151,7 @@ impl Trace {
     }
 }
 
-/// The events that a completion adds, by process and index among all its events.
+/// Returns the events that a completion adds, by process and index among all its events.
 pub fn added(completion: &Completion) -> impl Iterator<Item = (Pid, u64, &Event)> {
     completion.streams().pids().iter().flat_map(move |&pid| {
         let events = completion.streams().events(pid).iter().zip(0..);

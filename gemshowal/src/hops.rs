@@ -1,4 +1,5 @@
-//! What events follow, and the order of all events, as the proved libraries find them.
+//! The events that each event follows, and the order of all events, as the proved libraries find
+//! them.
 
 use crate::{pair, Finding, OutOfMemory, Pairing, Pid, Streams};
 use node_why::{Hop, Node, Origins, Reach};
@@ -18,39 +19,39 @@ impl<'a> Paired<'a> {
         Ok(pair(streams)?.map(|pairing| Paired { streams, pairing }))
     }
 
-    /// What each event follows.
+    /// Finds what each event follows.
     pub fn hops(&self) -> Result<Hops<'_>, OutOfMemory> {
         Ok(Hops(Origins::new(Global, self.streams, &self.pairing)?))
     }
 
-    /// All events, and the sends that only their receives tell of: if a run without a reset reports
-    /// the streams, each behind what it follows.
+    /// Orders all events, with the sends that only their receives tell of. If a run without a reset
+    /// reports the streams, each event comes after those that it follows.
     pub fn order(&self) -> Result<impl AsRef<[Item]>, OutOfMemory> {
         Ok(Order(st_order::order(&HostRuntime, Global, self.streams, &self.pairing)?))
     }
 
-    /// What each event pairs with.
+    /// Returns what each event pairs with.
     pub fn pairing(&self) -> &Pairing {
         &self.pairing
     }
 }
 
-/// What each event of paired streams follows.
+/// The events that each event of paired streams follows.
 pub struct Hops<'a>(Origins<'a>);
 
 impl Hops<'_> {
-    /// What the event at this place follows; none if there is no event.
+    /// Returns what the event at this place follows, or `None` if no event is there.
     pub fn hop(&self, pid: Pid, index: u64) -> Option<Hop> {
         let event = self.0.event(pid, index)?;
         Some(self.0.hop(pid, index, &event))
     }
 
-    /// The event at this place, what it follows, what that follows, and so on.
+    /// Returns the event at this place, the event that it follows, and so on back.
     pub fn way(&self, reach: Reach, place: (Pid, u64)) -> Result<impl AsRef<[Node]>, OutOfMemory> {
         Ok(crate::List(node_why::way(Global, &self.0, reach, place)?))
     }
 
-    /// The event at this place, and behind each event those that follow it.
+    /// Returns the event at this place, and after each event those that follow it.
     pub fn tree(&self, reach: Reach, place: (Pid, u64)) -> Result<impl AsRef<[Node]>, OutOfMemory> {
         Ok(crate::List(node_why::tree(Global, &self.0, reach, place)?))
     }

@@ -1,4 +1,4 @@
-//! A run, made again act by act: what each act reports, and what a process has then.
+//! A run, made again act by act: the report of each act, and the state of a process after it.
 
 use crate::{Act, Event, OutOfMemory, Pid, Streams, TOP};
 use st_core::{Local, Token};
@@ -10,25 +10,25 @@ pub struct Rerun {
     world: World<TOP>,
 }
 
-/// What came of an act.
+/// The outcome of an act.
 #[derive(Clone, Copy, Debug, PartialEq, Eq)]
 pub enum Came {
-    /// It was a step, with this report or none; of a receive the place of the message in the queue.
+    /// A step, with its report if it made one, and for a receive the message's place in the queue.
     Step(Option<Event>, Option<u64>),
-    /// It had no step: a process isn't there, or a clock is at its greatest value.
+    /// No step: a process isn't there, or a clock is at its greatest value.
     Stuck,
 }
 
-/// What a process has for tracing.
+/// The tracing state of a process.
 #[derive(Clone, Copy, Debug)]
 pub struct State {
-    /// Its token.
+    /// The process's token.
     pub token: Option<Token>,
-    /// Its trace clock.
+    /// The process's trace clock.
     pub clock: u64,
     /// The count that it received last with a token, or that of a new trace's start.
     pub last: u64,
-    /// Whether a tracer is set on its node.
+    /// Tells whether a tracer is set on its node.
     pub is_traced: bool,
 }
 
@@ -44,7 +44,7 @@ impl From<Local<TOP>> for State {
 }
 
 impl Rerun {
-    /// Before the first act of a run of these processes.
+    /// Begins a run of these processes, before its first act.
     pub fn new(streams: &Streams) -> Result<Rerun, OutOfMemory> {
         let world = World::new(Global, streams.pids()).map_err(|_| OutOfMemory)?;
         Ok(Rerun { world })
@@ -59,7 +59,7 @@ impl Rerun {
         }
     }
 
-    /// What a process has; none if the run hasn't the process.
+    /// Returns the state of a process, or `None` if the run hasn't the process.
     pub fn state(&self, pid: Pid) -> Option<State> {
         self.world.local(pid).map(State::from)
     }

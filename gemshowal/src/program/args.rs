@@ -82,7 +82,7 @@ pub(crate) struct Inputs {
     quiet: bool,
 }
 
-/// Whether the result is to be JSON.
+/// The option for a result as JSON.
 #[derive(clap::Args, Clone, Copy)]
 pub(crate) struct Json {
     /// Write a JSON object for each trace, on a line (docs/schema.json)
@@ -153,7 +153,7 @@ pub(crate) struct Complete {
     pub(crate) form: Form,
 }
 
-/// How a completion is written.
+/// The form in which a completion is written.
 #[derive(Clone, Copy, Debug, PartialEq, Eq, ValueEnum)]
 pub(crate) enum Form {
     #[value(help = "the events that it adds, in words")]
@@ -199,7 +199,7 @@ pub(crate) struct Export {
     pub(crate) label: Option<String>,
 }
 
-/// For what a trace is written.
+/// The program for which a trace is written.
 #[derive(Clone, Copy, Debug, PartialEq, Eq, ValueEnum)]
 pub(crate) enum Target {
     #[value(help = "Perfetto: slices and flows")]
@@ -238,7 +238,7 @@ pub(crate) struct List {
     pub(crate) conditions: Conditions,
 }
 
-/// What an event has to meet.
+/// The conditions on an event.
 #[derive(clap::Args)]
 pub(crate) struct Conditions {
     /// Only events with this label, a number or a term
@@ -256,7 +256,7 @@ pub(crate) struct Conditions {
 }
 
 impl Conditions {
-    /// The conditions on the events of a trace with these names.
+    /// Makes the conditions on the events of a trace with these names.
     pub(crate) fn filter(&self, trace: &Trace, names: &Names) -> Result<Filter, NotFound> {
         let label = self.label.as_deref().map(|label| names.find_label(trace, Some(label)));
         let process = self.process.as_deref().map(|name| names.find_process(trace, name));
@@ -314,7 +314,7 @@ pub(crate) struct Times {
     pub(crate) label: Option<String>,
 }
 
-/// Which event is asked about, and how far.
+/// The event that is asked about, and how far to go from it.
 #[derive(clap::Args)]
 pub(crate) struct Why {
     /// The trace: NAME (of NAME.seqtrace), a file, or - for standard input
@@ -340,7 +340,7 @@ pub(crate) struct Why {
 }
 
 impl Why {
-    /// The most events back, or levels of the tree.
+    /// Returns the greatest number of events back, or of levels of the tree.
     pub(crate) fn most(&self) -> u64 {
         self.depth.unwrap_or(u64::MAX)
     }
@@ -354,7 +354,7 @@ pub(crate) struct Handed {
 }
 
 impl Command {
-    /// Its word on the command line.
+    /// Returns its word on the command line.
     pub(crate) fn word(&self) -> &'static str {
         match self {
             Command::Audit(_) => "audit",
@@ -377,7 +377,7 @@ impl Command {
         }
     }
 
-    /// Its inputs, if it takes several; none of a command that is handed over.
+    /// Returns its inputs, if it takes several; none of a command that is handed over.
     fn inputs(&self) -> Option<&Inputs> {
         Some(match self {
             Command::Audit(args) => &args.inputs,
@@ -397,7 +397,7 @@ impl Command {
         })
     }
 
-    /// The words of a command that is handed over.
+    /// Returns the words of a command that is handed over.
     pub(crate) fn handed(&self) -> Option<&Handed> {
         match self {
             Command::Collect(args) | Command::Watch(args) | Command::Convert(args) => Some(args),
@@ -439,7 +439,7 @@ impl Command {
         }
     }
 
-    /// Whether it writes a text, so that it takes one input.
+    /// Returns whether it writes a text, so that it takes one input.
     fn writes_text(&self) -> bool {
         match self {
             Command::Cut(_) | Command::Export(_) | Command::Page(_) => true,
@@ -451,7 +451,7 @@ impl Command {
         }
     }
 
-    /// The command, if its words go together in ways that no single option tells.
+    /// Refuses words that don't go together in ways that no single option tells.
     pub(crate) fn checked(self) -> Result<Command, clap::Error> {
         let wrong = |words| Err(Args::command().error(ErrorKind::ValueValidation, words));
         if self.files().iter().filter(|file| *file == Path::new("-")).count() > 1 {
@@ -472,7 +472,7 @@ impl Command {
     }
 }
 
-/// Numbers from A to B, one alone, or all from one on.
+/// Reads a span of numbers: from A to B, one alone, or all from one on.
 fn span(text: &str) -> Result<Span, &'static str> {
     let ends = || {
         let (first, last) = text.split_once('-').unwrap_or((text, text));

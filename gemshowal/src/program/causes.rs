@@ -1,4 +1,4 @@
-//! What each event of a trace follows, and how sure that is, with the events that `complete` adds.
+//! The cause of each event of a trace, and how sure it is, with the events that `complete` adds.
 //!
 //! Nothing is found here. What an event follows comes from the proved hops of the trace's own
 //! events. Where these stop at an event that wasn't reported, the hops of the completed trace go
@@ -16,35 +16,35 @@ use gemshowal::{Pid, Premises, Streams, Trace};
 use std::borrow::Cow;
 use std::collections::HashMap;
 
-/// How sure it is what an event follows.
+/// The certainty of a cause.
 #[derive(Clone, Copy, Debug, PartialEq, Eq)]
 pub(crate) enum Grade {
-    /// It is so in every run without a reset that reports the trace.
+    /// Holds in every run without a reset that reports the trace.
     Certain,
-    /// It is so in each of these runs that the premises hold of.
+    /// Holds in each of these runs that meets the premises.
     Under(Premises),
-    /// It is so in the run that `complete` finds.
+    /// Holds in the run that `complete` finds.
     Perhaps,
 }
 
-/// What an event follows. An item is a place among the events that are shown, those that were added
-/// among them.
+/// The cause of an event. An item is a place among the events that are shown, the added ones among
+/// them.
 #[derive(Clone, Copy, Debug, PartialEq, Eq)]
 pub(crate) enum Cause {
-    /// This event.
+    /// The event follows this one.
     After(Item),
-    /// Its process began its label there, or set it on its token, behind this receive of another
-    /// label.
+    /// The event's process began its label there, or set it on its token, after this receive of
+    /// another label.
     OtherLabel(Item),
-    /// Nothing.
+    /// The event follows nothing.
     Begins,
-    /// Nothing, or a message whose receive nobody reported.
+    /// The event follows nothing, or a message whose receive nobody reported.
     BeginsOrUnreported,
-    /// Nothing is known of it: it is a send that only its receive tells of.
+    /// The cause isn't known: the event is a send that only its receive tells of.
     Unknown,
 }
 
-/// What an event follows, and how sure that is.
+/// A cause with its certainty.
 #[derive(Clone, Copy, Debug, PartialEq, Eq)]
 pub(crate) struct Link {
     pub(crate) cause: Cause,
@@ -52,7 +52,7 @@ pub(crate) struct Link {
 }
 
 impl Link {
-    /// The event that it follows, if one is named.
+    /// Returns the event that it follows, if one is named.
     pub(crate) fn after(&self) -> Option<Item> {
         match self.cause {
             Cause::After(item) => Some(item),
@@ -70,12 +70,12 @@ struct Whole<'a> {
     told: HashMap<Pid, Vec<u64>>,
 }
 
-/// How many events `complete` adds.
+/// The numbers of events that `complete` adds.
 #[derive(Clone, Copy, Debug, Default, PartialEq, Eq)]
 pub(crate) struct Added {
-    /// Sends whose receive was reported, so they have happened.
+    /// The sends whose receive was reported, so they happened.
     pub(crate) certain: u64,
-    /// Other sends.
+    /// The other sends.
     pub(crate) sends: u64,
     pub(crate) receives: u64,
 }
@@ -90,7 +90,7 @@ impl Added {
     }
 }
 
-/// What each event of a trace follows.
+/// The causes of all events of a trace.
 pub(crate) struct Causes<'a> {
     view: &'a View<'a>,
     never: Option<(Pid, u64, Never)>,
@@ -150,7 +150,7 @@ pub(crate) fn with_each<T>(
     Ok(Ok(all))
 }
 
-/// Whether there are parts, and each can be paired.
+/// Returns whether there are parts, and each can be paired.
 fn are_paired(parts: &[(Kept, Trace)]) -> Result<bool, OutOfMemory> {
     for (_, part) in parts {
         if part.pair()?.is_err() {
@@ -174,7 +174,7 @@ impl<'a> Whole<'a> {
         self.told.get(&pid).map_or(&[], |told| told)
     }
 
-    /// The partner of the event at this place, if it is an event.
+    /// Returns the partner of the event at this place, if it is an event.
     fn partner(&self, (pid, index): Place) -> Option<Place> {
         let kind = self.completion.streams().event(pid, index)?.kind;
         match gemshowal::partner_at(self.paired.pairing(), pid, index, kind) {
@@ -185,24 +185,23 @@ impl<'a> Whole<'a> {
 }
 
 impl Causes<'_> {
-    /// Why no run without a reset reports the trace, if so: then all that is said of causes says
-    /// nothing.
+    /// Says why no run without a reset reports the trace, if none does: then causes mean nothing.
     pub(crate) fn never(&self) -> Option<(Pid, u64, Never)> {
         self.never
     }
 
-    /// All events that are shown.
+    /// Returns all events that are shown.
     pub(crate) fn streams(&self) -> &Streams {
         self.whole.as_ref().map_or(self.trace().streams(), |whole| whole.completion.streams())
     }
 
-    /// The events that are shown, each behind what it follows if the trace has a run.
+    /// Returns the events that are shown, each after its cause if the trace has a run.
     pub(crate) fn order(&self) -> Result<Vec<Item>, OutOfMemory> {
         let paired = self.whole.as_ref().map_or(self.paired, |whole| whole.paired);
         Ok(paired.order()?.as_ref().to_vec())
     }
 
-    /// How many events were added.
+    /// Counts the events that were added.
     pub(crate) fn added(&self) -> Added {
         let mut added = Added::default();
         let Some(whole) = &self.whole else { return added };
@@ -217,25 +216,25 @@ impl Causes<'_> {
         added
     }
 
-    /// The item of the event with this place in the whole trace, if it is here.
+    /// Returns the item of the event with this place in the whole trace, if it is here.
     pub(crate) fn item_at(&self, (pid, number): Place) -> Option<Item> {
         Some(self.item((pid, self.view.index(pid, number)?)))
     }
 
-    /// The item of a reported event.
+    /// Returns the item of a reported event.
     fn item(&self, (pid, index): Place) -> Item {
         let told =
             self.whole.as_ref().and_then(|whole| whole.told(pid).get(index as usize).copied());
         Item::Reported(pid, told.unwrap_or(index))
     }
 
-    /// The place in the whole trace of an event that was reported.
+    /// Returns the place in the whole trace of an event that was reported.
     pub(crate) fn place(&self, item: Item) -> Option<Place> {
         let (pid, index) = self.reported(item)?;
         Some((pid, self.view.number(pid, index)))
     }
 
-    /// The place of an event that was reported, among the events of this part.
+    /// Returns the place of an event that was reported, among the events of this part.
     pub(crate) fn reported(&self, item: Item) -> Option<Place> {
         match (item, &self.whole) {
             (Item::Hidden(..), _) => None,
@@ -247,8 +246,8 @@ impl Causes<'_> {
         }
     }
 
-    /// What an event that is shown says; of a send that only its receive tells of, what that tells.
-    /// None if there is none.
+    /// Returns an event that is shown; of a hidden send, what its receive tells. Returns `None` if
+    /// there is none.
     pub(crate) fn event(&self, item: Item) -> Option<Event> {
         let (pid, index) = item.place();
         let event = self.streams().event(pid, index)?;
@@ -258,8 +257,7 @@ impl Causes<'_> {
         })
     }
 
-    /// The message of an event that is shown, as its value; none if neither its send nor its
-    /// receive was reported.
+    /// Returns the message of an event as its value, or `None` if neither end was reported.
     pub(crate) fn message(&self, item: Item) -> Option<u64> {
         let is_known = match (self.reported(item), item, &self.whole) {
             (Some(_), ..) | (_, Item::Hidden(..), _) | (.., None) => true,
@@ -270,7 +268,7 @@ impl Causes<'_> {
         self.event(item).filter(|_| is_known).map(|event| event.value)
     }
 
-    /// The other end of the message of an event that is shown, if that is shown too.
+    /// Returns the other end of the message of an event, if that is shown too.
     pub(crate) fn other_end(&self, item: Item) -> Option<Item> {
         let (pid, index) = item.place();
         let (kind, paired) =
@@ -285,7 +283,7 @@ impl Causes<'_> {
         }
     }
 
-    /// What an event that is shown follows.
+    /// Returns the cause of an event that is shown.
     pub(crate) fn link(&self, item: Item) -> Link {
         let certain = |cause| Link { cause, grade: Grade::Certain };
         let Item::Reported(pid, index) = item else {
@@ -299,8 +297,8 @@ impl Causes<'_> {
         }
     }
 
-    /// What a reported event follows, by this hop among the trace's own events, and this one among
-    /// all.
+    /// Returns the cause of a reported event, by its hop among the trace's own events, and its hop
+    /// among all.
     fn own_link(&self, item: Item, hop: Hop, all: Option<Hop>) -> Link {
         let (pid, _) = item.place();
         let grade = match hop.premises() {
@@ -326,12 +324,11 @@ impl Causes<'_> {
         Link { cause, grade }
     }
 
-    /// The label of an event that is shown.
     pub(crate) fn label(&self, item: Item) -> Option<Label> {
         Some(self.event(item)?.label)
     }
 
-    /// The process whose event it is.
+    /// Returns the process whose event it is.
     pub(crate) fn actor(&self, item: Item) -> Pid {
         match item {
             Item::Reported(pid, _) => pid,
@@ -339,7 +336,7 @@ impl Causes<'_> {
         }
     }
 
-    /// What an event that is shown is called.
+    /// Returns the name of an event that is shown.
     pub(crate) fn name(&self, item: Item) -> String {
         match item {
             Item::Hidden(pid, index) => {
@@ -349,8 +346,8 @@ impl Causes<'_> {
         }
     }
 
-    /// The number of an event in its name. One that was added is counted from the reported one that
-    /// it comes before: `3~1`. A send that only its receive tells of has none.
+    /// Returns the number of an event in its name. An added event is counted from the reported one
+    /// that it comes before: `3~1`. A hidden send has none.
     pub(crate) fn number(&self, item: Item) -> String {
         let (pid, index) = item.place();
         match (self.reported(item), item) {
@@ -366,17 +363,16 @@ impl Causes<'_> {
         }
     }
 
-    /// The processes that the trace doesn't list and `complete` supposes, by rising pid.
+    /// Returns the processes that the trace doesn't list and `complete` supposes, by rising pid.
     fn unlisted(&self) -> &[Pid] {
         self.whole.as_ref().map_or(&[], |whole| whole.completion.unlisted())
     }
 
-    /// Whether the trace doesn't list a process.
     pub(crate) fn is_unlisted(&self, pid: Pid) -> bool {
         self.unlisted().binary_search(&pid).is_ok()
     }
 
-    /// What a process is called.
+    /// Returns the name of a process.
     pub(crate) fn process(&self, pid: Pid) -> Cow<'_, str> {
         match self.unlisted().binary_search(&pid) {
             Err(_) => self.view.names.process(pid),
@@ -385,29 +381,27 @@ impl Causes<'_> {
         }
     }
 
-    /// The names of the trace.
     pub(crate) fn names(&self) -> &Names {
         self.view.names
     }
 
-    /// The trace, or the part of it that is looked at.
+    /// Returns the trace, or the part of it that is looked at.
     pub(crate) fn trace(&self) -> &Trace {
         self.view.trace
     }
 
-    /// The same with what its events are called.
     pub(crate) fn view(&self) -> &View<'_> {
         self.view
     }
 }
 
-/// The send that only this receive tells of.
+/// Returns the send that only this receive tells of.
 fn hidden(receive: Item) -> Item {
     let (pid, index) = receive.place();
     Item::Hidden(pid, index)
 }
 
-/// What an event of the process follows in the completed trace.
+/// Returns the cause of an event of the process in the completed trace.
 fn in_completion(pid: Pid, hop: Hop) -> Cause {
     match hop {
         Hop::Sent(from, index) => Cause::After(Item::Reported(from, index)),

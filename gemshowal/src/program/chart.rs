@@ -22,18 +22,18 @@ const NAME: usize = 40;
 /// The most marks of a chart, one for each lane in each row: more would be no text to look at.
 const MOST_MARKS: usize = 100_000_000;
 
-/// An event that is charted.
+/// An event in a chart.
 pub(crate) struct Row {
     pub(crate) item: Item,
     pub(crate) event: Event,
     pub(crate) link: Link,
     /// The lane of its process.
     pub(crate) lane: usize,
-    /// The lane at the other end of its message: the same if a process sends to itself.
+    /// The lane at the other end of its message: its own lane if a process sends to itself.
     pub(crate) other: Option<usize>,
 }
 
-/// The events of a label, each behind what it follows.
+/// The events of a label, each after its cause.
 pub(crate) struct Chart {
     pub(crate) label: Label,
     /// The processes from left to right.
@@ -89,7 +89,7 @@ pub(crate) fn run(
     Ok(if told.iter().any(|(_, is_any, _)| *is_any) { Status::Yes } else { Status::No })
 }
 
-/// The file for the drawing of a part: `shop-2.svg`.
+/// Names the file for the drawing of a part: `shop-2.svg`.
 fn part_file(file: &Path, part: Option<(usize, usize)>) -> PathBuf {
     let Some((which, _)) = part else { return file.into() };
     let mut name = file.file_stem().unwrap_or_default().to_owned();
@@ -129,12 +129,12 @@ fn write(
 }
 
 impl Chart {
-    /// Whether it has more marks than anybody looks at.
+    /// Returns whether it has more marks than anybody looks at.
     fn is_long(&self) -> bool {
         self.rows.len().saturating_mul(self.lanes.len()) > MOST_MARKS
     }
 
-    /// The charts of this label, or of all labels, by rising label.
+    /// Makes the charts of this label, or of all labels, by rising label.
     pub(crate) fn of(causes: &Causes<'_>, label: Option<Label>) -> Result<Vec<Chart>, Failure> {
         let mut items: BTreeMap<u32, Vec<(Item, Event)>> = BTreeMap::new();
         for item in causes.order()? {
@@ -165,7 +165,8 @@ impl Chart {
         Chart { label, lanes, rows }
     }
 
-    /// The rows as text: a mark for each lane, the event's name, what it is and what it follows.
+    /// Writes the rows as text: a mark for each lane, the event's name, what it is and what it
+    /// follows.
     fn write(&self, causes: &Causes<'_>, out: &mut Output) -> io::Result<()> {
         writeln!(out, "label {}", causes.names().label(self.label))?;
         for (&pid, number) in self.lanes.iter().zip(1..) {
@@ -188,7 +189,7 @@ impl Chart {
         Ok(())
     }
 
-    /// The marks of a row; small letters if nobody reported the event.
+    /// Returns the marks of a row; small letters if nobody reported the event.
     fn marks(&self, causes: &Causes<'_>, row: &Row) -> String {
         let mark = match (row.event.kind, causes.reported(row.item)) {
             (Kind::Send, Some(_)) => 'S',
@@ -207,21 +208,21 @@ impl Chart {
     }
 }
 
-/// When an event happened, behind two blanks.
+/// Returns the time of an event, after two blanks.
 fn time(causes: &Causes<'_>, item: Item) -> String {
     let times = causes.names().times().zip(causes.place(item));
     let time = times.and_then(|(times, place)| Some(moment::moment(times, times.of_event(place)?)));
     time.map(|time| format!("  {time}")).unwrap_or_default()
 }
 
-/// How long after its send a receive was reported.
+/// Says how long after its send a receive was reported.
 fn took(causes: &Causes<'_>, item: Item) -> String {
     let times = causes.names().times().zip(causes.place(item));
     let took = times.and_then(|(times, place)| Some(times.of_message(place)?.1));
     took.map(|took| format!(", {} later", moment::seconds(took))).unwrap_or_default()
 }
 
-/// The text, or its first characters and three dots.
+/// Returns the text, or its first characters and three dots.
 pub(crate) fn short(text: &str, most: usize) -> String {
     if text.chars().count() <= most {
         text.into()
@@ -230,7 +231,7 @@ pub(crate) fn short(text: &str, most: usize) -> String {
     }
 }
 
-/// What is charted, as JSON.
+/// The charts of a trace, as JSON.
 #[derive(Serialize)]
 struct Told {
     headline: String,
@@ -240,7 +241,7 @@ struct Told {
 /// A chart as JSON.
 #[derive(Serialize)]
 struct Charted {
-    /// The part between supposed resets that it is of.
+    /// The part between supposed resets that the chart shows.
     #[serde(skip_serializing_if = "Option::is_none")]
     part: Option<usize>,
     label: String,

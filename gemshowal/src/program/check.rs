@@ -27,7 +27,7 @@ pub(crate) fn run(json: bool, input: &mut Input, out: &mut Output) -> Result<Sta
     Ok(if is_yes { Status::Yes } else { Status::No })
 }
 
-/// What a no says, with the line of the text.
+/// Returns the sentence of a no, with the line of the text.
 fn against(trace: &Trace, verdict: &Verdict) -> Result<String, OutOfMemory> {
     Ok(match *verdict {
         Verdict::Yes(_) => String::new(),
@@ -42,7 +42,7 @@ fn against(trace: &Trace, verdict: &Verdict) -> Result<String, OutOfMemory> {
     })
 }
 
-/// The act of this number, with its line.
+/// Describes the act of this number, with its line.
 fn act(trace: &Trace, number: u64) -> Result<String, OutOfMemory> {
     let line = trace.lines()?.act_line(number);
     let line = line.map(|line| format!("line {line}, ")).unwrap_or_default();

@@ -43,7 +43,7 @@ pub(crate) fn run(
     }
 }
 
-/// Writes that no run without a reset has the trace. Where a text was asked for, standard error says
+/// Writes that no run without a reset has the trace. If a text was asked for, standard error says
 /// it, so that no other program takes the sentence for one.
 fn write_never(
     form: Form,
@@ -115,7 +115,7 @@ fn write_added(
     Ok(())
 }
 
-/// What a completion adds.
+/// The events that a completion adds.
 #[derive(Serialize)]
 #[serde(bound = "")]
 struct Completed<F, I>

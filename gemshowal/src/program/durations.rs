@@ -1,4 +1,4 @@
-//! How long messages took, by pair of processes and by kind of message, and how long labels took.
+//! The times that messages took, by pair of processes and by kind of message, and those of labels.
 //!
 //! A message takes from its send until its receiver took it, so its time in the receiver's mailbox
 //! is in that.
@@ -9,36 +9,36 @@ use gemshowal::{Event, Kind, Label, Trace};
 use std::cmp::Reverse;
 use std::collections::{BTreeMap, HashMap};
 
-/// A message is taken within this time in so many of 100 cases.
+/// The percentage of messages that are taken within the time `most`.
 const MOST: usize = 99;
 
-/// How long messages of a kind took, in nanoseconds.
+/// The times that messages of a kind took, in nanoseconds.
 #[derive(Clone, Debug, PartialEq, Eq)]
 pub(crate) struct Durations {
-    /// Which messages these are.
+    /// The kind of the messages.
     pub(crate) of: String,
     pub(crate) count: usize,
-    /// Of two the lower.
+    /// The median, of two the lower.
     pub(crate) median: i64,
-    /// 99 % of the messages took at most this.
+    /// The time within which 99 % of the messages were taken.
     pub(crate) most: i64,
     pub(crate) greatest: i64,
     /// The receive of the message that took longest.
     pub(crate) slowest: Place,
 }
 
-/// How long a label took, from its first event with a time to the last.
+/// The time that a label took, from its first event with a time to the last.
 #[derive(Clone, Debug, PartialEq, Eq)]
 pub(crate) struct LabelTime {
     pub(crate) label: Label,
     pub(crate) events: usize,
     pub(crate) took: i64,
-    /// When its first event was.
+    /// The time of its first event.
     pub(crate) first: i64,
 }
 
 impl Durations {
-    /// What these times, with their receives, come to; none if there are none.
+    /// Sums up these times, which have their receives; returns `None` if there are none.
     fn of(of: String, mut times: Vec<(i64, Place)>) -> Option<Durations> {
         times.sort_unstable();
         let count = times.len();
@@ -50,7 +50,7 @@ impl Durations {
     }
 }
 
-/// How long the messages took of which both ends have a time, by what the function makes of their
+/// Sums up the messages of which both ends have a time, by what the function makes of their
 /// receive. Those with the slowest message come first.
 fn by(trace: &Trace, times: &Times, key: impl Fn(&Event) -> String) -> Vec<Durations> {
     let mut groups: HashMap<String, Vec<(i64, Place)>> = HashMap::new();
@@ -67,18 +67,18 @@ fn by(trace: &Trace, times: &Times, key: impl Fn(&Event) -> String) -> Vec<Durat
     found
 }
 
-/// How long messages took by pair of processes.
+/// Sums up the messages by pair of processes.
 pub(crate) fn by_processes(trace: &Trace, names: &Names, times: &Times) -> Vec<Durations> {
     let to = |event: &Event| event.to.map(|to| names.process(to).into_owned()).unwrap_or_default();
     by(trace, times, |event| format!("{} -> {}", names.process(event.from), to(event)))
 }
 
-/// How long messages took by kind.
+/// Sums up the messages by kind.
 pub(crate) fn by_kind(trace: &Trace, names: &Names, times: &Times) -> Vec<Durations> {
     by(trace, times, |event| kind(&names.brief(event.value)))
 }
 
-/// How long each label took, the slowest first.
+/// Returns the time of each label, the slowest first.
 pub(crate) fn by_label(trace: &Trace, times: &Times) -> Vec<LabelTime> {
     let mut labels: BTreeMap<u32, (usize, i64, i64)> = BTreeMap::new();
     for (pid, events) in trace.processes() {
@@ -100,7 +100,7 @@ pub(crate) fn by_label(trace: &Trace, times: &Times) -> Vec<LabelTime> {
     labels
 }
 
-/// The times of all messages of which both ends have one, sorted.
+/// Returns the times of all messages of which both ends have one, sorted.
 pub(crate) fn all(trace: &Trace, times: &Times) -> Vec<i64> {
     let receives = |(pid, events): (_, &[Event])| {
         let places = events.iter().zip(0..).filter(|(event, _)| event.kind == Kind::Receive);
@@ -112,7 +112,7 @@ pub(crate) fn all(trace: &Trace, times: &Times) -> Vec<i64> {
     all
 }
 
-/// What kind of message this is: how it is sent, and its outermost part, as `call {order,..}`.
+/// Names the kind of a message: how it is sent, and its outermost part, as `call {order,..}`.
 fn kind(brief: &str) -> String {
     let ways = ["call ", "cast ", "reply ", "spawn ", "spawned "];
     let way = ways.into_iter().find(|way| brief.starts_with(way)).unwrap_or_default();
@@ -158,7 +158,7 @@ fn other() -> String {
     "another term".into()
 }
 
-/// A function, `lists:map/2`, whose module is this atom.
+/// Reads a function, `lists:map/2`, whose module is this atom.
 fn function(module: &str, rest: &str) -> Option<String> {
     let (name, rest) = atom(rest.strip_prefix(':')?)?;
     let rest = rest.strip_prefix('/')?;
@@ -167,7 +167,7 @@ fn function(module: &str, rest: &str) -> Option<String> {
     Some(format!("{module}:{name}/{arity}"))
 }
 
-/// An atom at the begin of a text, and what follows it.
+/// Returns an atom at the beginning of a text, and the rest.
 fn atom(text: &str) -> Option<(&str, &str)> {
     let end = if text.starts_with('\'') {
         let mut is_escaped = false;

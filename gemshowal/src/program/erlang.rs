@@ -25,7 +25,7 @@ pub(crate) fn hand_over(word: &str, words: &[OsString]) -> u8 {
     4
 }
 
-/// The program of this name beside the running one, else the first on the path.
+/// Finds the program of this name next to the running one, else the first on the path.
 pub(crate) fn find(name: &str) -> Option<PathBuf> {
     let own = env::current_exe().ok();
     let beside = own.as_deref().and_then(|path| path.parent()).map(PathBuf::from);

@@ -1,11 +1,11 @@
-//! How a command ends, and why there is no result.
+//! The ends of a command: its status, or the reason why there is no result.
 
 use crate::names;
 use gemshowal::{CertificateError, CompleteError, OutOfMemory};
 use std::io::{self, ErrorKind};
 use thiserror::Error;
 
-/// How a command ended, unless by an error.
+/// The status of a command that didn't fail.
 #[derive(Clone, Copy, Debug, PartialEq, Eq)]
 pub(crate) enum Status {
     Yes = 0,
@@ -21,7 +21,7 @@ pub(crate) enum Status {
 /// The status of a program whose reader has gone, as a shell has it for one that a signal ended.
 pub(crate) const PIPE: u8 = 141;
 
-/// Why there is no result. `{0}` is the input's name.
+/// The reason why there is no result. `{0}` is the input's name.
 #[derive(Debug, Error)]
 pub(crate) enum Failure {
     #[error("memory ran out")]
@@ -88,7 +88,7 @@ impl Failure {
 }
 
 impl Failure {
-    /// Why the acts of a completion of this trace weren't written.
+    /// Says why the acts of a completion of this trace weren't written.
     pub(crate) fn of_acts(error: CertificateError, name: &str) -> Failure {
         match error {
             CertificateError::Io(reason) => reason.into(),
@@ -109,7 +109,7 @@ impl From<CompleteError> for Failure {
 }
 
 impl From<serde_json::Error> for Failure {
-    /// Objects of ours always have a text, so the writer failed.
+    /// Takes the error for the writer's: our own objects always have a text.
     fn from(error: serde_json::Error) -> Failure {
         Failure::Unwritten(error.into())
     }

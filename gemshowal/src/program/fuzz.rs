@@ -11,10 +11,10 @@ use std::env;
 use std::fs;
 use std::path::Path;
 
-/// So many texts are tried if nothing else is asked for.
+/// The number of texts that are tried if nothing else is asked for.
 const TEXTS: u64 = 2_000;
 
-/// What a mistake puts into a text.
+/// The pieces that a mistake puts into a text.
 const PIECES: [&[u8]; 34] = [
     b"<1.2.0>",
     b"<0.7",
@@ -82,7 +82,7 @@ const COMMANDS: [&str; 26] = [
     "export --as perfetto",
 ];
 
-/// The same of an event, a label or a second trace.
+/// The commands that need an event, a label or a second trace too.
 const ASKED: [&str; 7] = [
     "why NAME 3",
     "why NAME 4 --effects --json",
@@ -104,7 +104,7 @@ impl Chance {
         (self.0 % most.max(1) as u64) as usize
     }
 
-    /// The text with a mistake.
+    /// Puts a mistake into a text.
     fn with_mistake(&mut self, text: &[u8]) -> Vec<u8> {
         let at = self.below(text.len() + 1);
         let (front, rest) = text.split_at(at);
@@ -126,7 +126,7 @@ impl Chance {
         lines.join(&b'\n')
     }
 
-    /// The text with another digit for one: often still a trace.
+    /// Replaces a digit of a text by another: often it is still a trace.
     fn with_number(&mut self, text: &[u8]) -> Vec<u8> {
         let digits: Vec<usize> = (0..text.len()).filter(|&at| text[at].is_ascii_digit()).collect();
         let mut text = text.to_vec();
@@ -137,7 +137,7 @@ impl Chance {
     }
 }
 
-/// The examples that are small.
+/// Reads the examples that are small.
 fn examples() -> Vec<Vec<u8>> {
     // The package may be built in its own folder, or in the workspace that a script writes.
     let folders = Path::new(env!("CARGO_MANIFEST_DIR")).ancestors().map(|it| it.join("examples"));
@@ -155,7 +155,7 @@ fn command(words: &str, name: &str) -> Command {
     Args::try_parse_from(["gemshowal"].into_iter().chain(words)).unwrap().command
 }
 
-/// Does a command on a text; an object is whole, whatever came of it.
+/// Does a command on a text; an object is whole, whatever the result.
 fn run(command: &Command, text: &[u8]) {
     let mut input = Input::of_bytes(text);
     let mut out = Output::to_nowhere(command.word());

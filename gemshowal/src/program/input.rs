@@ -12,7 +12,7 @@ use std::fs::File;
 use std::io::{self, BufReader, Cursor, ErrorKind, IsTerminal, Read, Seek};
 use std::path::{Path, PathBuf};
 
-/// What a packed file begins with.
+/// The first bytes of a packed file.
 const GZIP: &[u8] = b"\x1f\x8b";
 
 /// An input that is open, with the name that messages call it by.
@@ -20,7 +20,7 @@ pub(crate) struct Input {
     name: String,
     /// The file, or `-`.
     path: PathBuf,
-    /// The same file, to be read once more; none of standard input.
+    /// The file, to be read once more; none for standard input.
     file: Option<File>,
     reader: Box<dyn Read>,
     counter: Counter,
@@ -46,7 +46,7 @@ impl Input {
         Ok(Input { name, path, file: Some(again), reader, counter })
     }
 
-    /// These bytes as standard input gives them.
+    /// Makes an input of these bytes, as standard input gives them.
     #[cfg(test)]
     pub(crate) fn of_bytes(bytes: &[u8]) -> Input {
         Input {
@@ -58,44 +58,44 @@ impl Input {
         }
     }
 
-    /// What messages call it, whole: also with a line break in it.
+    /// Returns the name in messages, whole: also with a line break in it.
     pub(crate) fn name(&self) -> &str {
         &self.name
     }
 
-    /// The name on one line: one with a line break would look like another file's.
+    /// Returns the name on one line: one with a line break would look like another file's.
     pub(crate) fn line_name(&self) -> &str {
         on_one_line(&self.name)
     }
 
-    /// What a command line calls the trace: its name without the extension, if it has files beside.
+    /// Returns the trace's name on a command line: without the extension, if files lie next to it.
     pub(crate) fn word(&self) -> String {
         let path = self.path.to_string_lossy();
         path.strip_suffix(".seqtrace").unwrap_or(&path).to_owned()
     }
 
-    /// What the files beside it say of its trace.
+    /// Reads the names that the files next to it give its trace.
     pub(crate) fn names(&self, trace: &Trace, notes: &mut Notes) -> Result<Names, Failure> {
         Ok(Names::beside(&self.path, trace, notes)?)
     }
 
-    /// The whole texts of messages that the names have cut, for which `is_wanted` is true.
+    /// Reads the whole texts of messages that the names have cut, if `is_wanted` is true for them.
     pub(crate) fn messages(&self, is_wanted: impl Fn(u64) -> bool) -> Result<Messages, Failure> {
         Ok(Messages::beside(&self.path, is_wanted)?)
     }
 
-    /// The name of the trace without its folder.
+    /// Returns the name of the trace without its folder.
     pub(crate) fn title(&self) -> String {
         let word = self.word();
         Path::new(&word).file_name().map_or(word.clone(), |name| name.to_string_lossy().into())
     }
 
-    /// Says on a terminal how much was read, if that takes long.
+    /// Shows on a terminal how much was read, if that takes long.
     pub(crate) fn watch(&self, is_wanted: bool) -> Option<Progress> {
         (is_wanted && io::stderr().is_terminal()).then(|| Progress::of(&self.counter))
     }
 
-    /// The trace that it is the text of.
+    /// Reads the trace.
     pub(crate) fn trace(&mut self) -> Result<Trace, Failure> {
         let mut spool = self.file.is_none().then(Spool::default);
         let read = Trace::read(Kept { input: self, spool: spool.as_mut() });
@@ -112,7 +112,7 @@ impl Input {
         })
     }
 
-    /// All its bytes.
+    /// Reads all bytes.
     pub(crate) fn bytes(&mut self) -> Result<Vec<u8>, Failure> {
         let mut bytes = Vec::new();
         let most = gemshowal::LIMITS.bytes;
@@ -124,7 +124,7 @@ impl Input {
         }
     }
 
-    /// All bytes of a file, from its front.
+    /// Reads a file from its front.
     fn again(&mut self) -> io::Result<Vec<u8>> {
         let mut file = self.file.take().ok_or(ErrorKind::Unsupported)?;
         file.rewind()?;
@@ -141,7 +141,7 @@ impl Input {
     }
 }
 
-/// A reader of what this one reads, unpacked if it is packed.
+/// Returns a reader that unpacks what this one reads if it is packed.
 fn unpacked(mut reader: Box<dyn Read>) -> io::Result<Box<dyn Read>> {
     let mut front = Vec::new();
     reader.by_ref().take(GZIP.len() as u64).read_to_end(&mut front)?;
@@ -154,7 +154,7 @@ fn unpacked(mut reader: Box<dyn Read>) -> io::Result<Box<dyn Read>> {
     }
 }
 
-/// Unpacks, and says of an error that it is one of the packing.
+/// A reader that unpacks, and says of an error that it is one of the packing.
 struct Unpacking<R>(MultiGzDecoder<R>);
 
 impl<R: Read> Read for Unpacking<R> {
@@ -171,7 +171,7 @@ impl<R: Read> Read for Unpacking<R> {
     }
 }
 
-/// Reads, counts what is read, and keeps it if that is wanted.
+/// A reader that counts what is read, and keeps it if that is wanted.
 struct Kept<'a> {
     input: &'a mut Input,
     spool: Option<&'a mut Spool>,
@@ -188,7 +188,7 @@ impl Read for Kept<'_> {
     }
 }
 
-/// What to say of a file that isn't there, if another one is.
+/// Hints at another file if the one that was asked for isn't there.
 fn hint(path: &Path) -> String {
     let name = path.with_extension("");
     let is_beside = path.extension().is_some_and(|it| it != "seqtrace");

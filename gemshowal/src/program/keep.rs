@@ -1,4 +1,4 @@
-//! Files that a command writes besides its result.
+//! The files that a command writes apart from its result.
 
 use crate::Failure;
 use std::fs::OpenOptions;
@@ -6,7 +6,8 @@ use std::io::Write;
 use std::os::unix::fs::OpenOptionsExt;
 use std::path::Path;
 
-/// The owner alone may read what is written, since it has the contents of messages.
+/// The mode of a file that is written: its owner alone may read it, since it has the contents of
+/// messages.
 const OWN: u32 = 0o600;
 
 /// Writes a file. One that is there keeps its mode.

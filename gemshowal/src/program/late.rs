@@ -1,9 +1,10 @@
-//! Late events: sends and prints that count no higher than what their process received before. No run without a reset reports
-//! one, and if a trace has one, its counts don't say what came first.
+//! Late events: sends and prints that count no higher than what their process received before. No
+//! run without a reset reports one, and if a trace has one, its counts don't say what came first.
 
 use gemshowal::{Event, Kind, Never, Pid, Trace};
 
-/// The first late event of streams that can be paired, by pid and index, with the reason as `complete` has it.
+/// Returns the first late event of streams that can be paired, by pid and index, with the reason as
+/// `complete` has it.
 pub(crate) fn first_late(trace: &Trace) -> Option<(Pid, u64, Never)> {
     trace.processes().find_map(|(pid, events)| {
         let (index, higher) = first_late_of(events)?;
@@ -11,7 +12,8 @@ pub(crate) fn first_late(trace: &Trace) -> Option<(Pid, u64, Never)> {
     })
 }
 
-/// The index of a process's first late event, and of the last event before it that counts as high.
+/// Returns the index of a process's first late event, and of the last event before it that counts
+/// as high.
 fn first_late_of(events: &[Event]) -> Option<(usize, usize)> {
     let mut greatest = 0;
     let index = events.iter().position(|event| {

@@ -66,7 +66,7 @@ fn write_row(out: &mut Output, row: &Row, partner: Partner, names: &Names) -> io
     }
 }
 
-/// What a process is called, without a copy of that: there may be millions of rows.
+/// The name of a process, displayed without a copy: there may be millions of rows.
 struct Called<'a>(&'a Names, Pid);
 
 impl Display for Called<'_> {
@@ -99,7 +99,8 @@ struct Event {
     place: Place,
     #[serde(flatten)]
     fields: Fields,
-    /// Null if nobody reported the other end; left out of a print, and if the trace can't be paired.
+    /// The event's other end: null if nobody reported it; left out of a print, and if the trace
+    /// can't be paired.
     #[serde(skip_serializing_if = "Option::is_none")]
     partner: Option<Option<Place>>,
 }

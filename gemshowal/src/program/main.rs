@@ -147,8 +147,7 @@ fn run(command: &Command) -> u8 {
     status
 }
 
-/// Prints what the reader of the command line says: help, the version, or what it doesn't
-/// understand.
+/// Prints the words of the command line's reader: help, the version, or what it doesn't understand.
 fn print(error: &clap::Error) -> u8 {
     match error.print() {
         Err(reason) if reason.kind() == ErrorKind::BrokenPipe => PIPE,

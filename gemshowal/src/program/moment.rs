@@ -1,4 +1,4 @@
-//! Times in words. All are whole nanoseconds, as `NAME.times` has them.
+//! Times in words. All are whole nanoseconds, as in `NAME.times`.
 
 use crate::names::Times;
 
@@ -7,10 +7,10 @@ const MILLI: i64 = 1_000_000;
 const SECOND: i64 = 1_000_000_000;
 const DAY: i64 = 86_400 * SECOND;
 
-/// So much of a unit is still shown in it: four digits or fewer.
+/// The greatest number of a unit that is shown in it: four digits or fewer.
 const FEW: i64 = 10_000;
 
-/// A time with all its microseconds: `0.000350 s`.
+/// Returns a time with all its microseconds: `0.000350 s`.
 pub(crate) fn seconds(time: i64) -> String {
     let size = time.unsigned_abs();
     let (whole, rest) = (size / SECOND.unsigned_abs(), size % SECOND.unsigned_abs());
@@ -18,7 +18,7 @@ pub(crate) fn seconds(time: i64) -> String {
     format!("{sign}{whole}.{:06} s", rest / MICRO.unsigned_abs())
 }
 
-/// A time in the unit that shows it with few digits: `350 us`.
+/// Returns a time in the unit that shows it with few digits: `350 us`.
 pub(crate) fn span(time: i64) -> String {
     let (size, unit) = match time.unsigned_abs() {
         size if size < FEW as u64 => (1, "ns"),
@@ -29,7 +29,7 @@ pub(crate) fn span(time: i64) -> String {
     format!("{} {unit}", time / size)
 }
 
-/// Times in the unit of the greatest, so that they can be compared at a glance.
+/// Returns times in the unit of the greatest, so that they can be compared at a glance.
 pub(crate) fn spans(times: &[i64]) -> Vec<String> {
     let greatest = times.iter().map(|time| time.unsigned_abs()).max().unwrap_or(0);
     let (size, unit) = match greatest {
@@ -42,7 +42,7 @@ pub(crate) fn spans(times: &[i64]) -> Vec<String> {
     times.iter().map(|&time| format!("{:.3} {unit}", time as f64 / size as f64)).collect()
 }
 
-/// A time since 1970 as RFC 3339 writes it: `2026-11-27T01:22:18.123456Z`.
+/// Returns a time since 1970 as RFC 3339 writes it: `2026-11-27T01:22:18.123456Z`.
 pub(crate) fn clock(since_1970: i64) -> String {
     let (year, month, day) = date(since_1970.div_euclid(DAY));
     let micros = since_1970.rem_euclid(DAY) / MICRO;
@@ -51,8 +51,8 @@ pub(crate) fn clock(since_1970: i64) -> String {
     format!("{year:04}-{month:02}-{day:02}T{hour:02}:{minute:02}:{second:02}.{micros:06}Z")
 }
 
-/// The date of a day since 1970, by the Gregorian calendar: years are counted from March, so that a
-/// leap day ends one.
+/// Returns the date of a day since 1970, by the Gregorian calendar: years are counted from March,
+/// so that a leap day ends one.
 fn date(day: i64) -> (i64, i64, i64) {
     const FROM_MARCH_0000: i64 = 719_468;
     const ERA: i64 = 146_097;
@@ -66,7 +66,7 @@ fn date(day: i64) -> (i64, i64, i64) {
     (400 * era + year + next, month, day)
 }
 
-/// When an event happened: by its node's clock, if that is known, and after the first event.
+/// Says when an event happened: by its node's clock, if that is known, and after the first event.
 pub(crate) fn moment(times: &Times, after_first: i64) -> String {
     let clock = times.begin().and_then(|begin| begin.checked_add(after_first)).map(clock);
     match clock.as_deref().and_then(|clock| clock.split_once('T')) {

@@ -49,7 +49,7 @@ impl Place {
     }
 }
 
-/// What an event says, in numbers, and with the terms that these stand for if there are some.
+/// The fields of an event, in numbers, and with the terms that these stand for if there are some.
 #[derive(Clone, Debug, Serialize)]
 pub(crate) struct Fields {
     kind: &'static str,
@@ -83,7 +83,7 @@ impl Fields {
     }
 }
 
-/// The word for what an event reports.
+/// Returns the word for what an event reports.
 pub(crate) fn kind_word(kind: Kind) -> &'static str {
     match kind {
         Kind::Send => "send",

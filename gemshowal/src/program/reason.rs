@@ -1,4 +1,4 @@
-//! Why no run reports a trace, for an event of it: in sentences, and as JSON.
+//! The reasons why no run reports a trace, for an event of it: in sentences, and as JSON.
 //!
 //! Of the causes that a reason can have, the one that fits the trace best comes first: a reset, or
 //! a second run, sets the counters of several processes back, and a token that is put back that of
@@ -35,7 +35,7 @@ pub(crate) struct Against {
 }
 
 impl Against {
-    /// What `audit` found of an event, if that is final.
+    /// Takes what `audit` found of an event, if that is final.
     pub(crate) fn by_audit(pid: Pid, index: u64, reason: &Reason) -> Option<Against> {
         let never = match *reason {
             Reason::PrevNotBefore => Never::PrevNotBefore,
@@ -47,7 +47,7 @@ impl Against {
         Some(Against::by_complete(pid, index, never))
     }
 
-    /// What `complete` found of an event.
+    /// Takes what `complete` found of an event.
     pub(crate) fn by_complete(pid: Pid, index: u64, never: Never) -> Against {
         let (why, other) = match never {
             Never::PrevNotBefore => (Why::PrevNotBefore, None),
@@ -61,29 +61,29 @@ impl Against {
         Against { place: (pid, index), why, other, never }
     }
 
-    /// The same as the libraries return it.
+    /// Returns the reason as the libraries do.
     pub(crate) fn never(&self) -> Never {
         self.never
     }
 
-    /// The word for programs.
+    /// Returns the word for programs.
     pub(crate) fn word(&self) -> &'static str {
         self.why.word()
     }
 
-    /// Whether a run with a reset may have the trace all the same.
+    /// Returns whether a run with a reset may have the trace all the same.
     pub(crate) fn allows_reset(&self) -> bool {
         self.why != Why::PrevNotBefore
     }
 
-    /// The result in a line.
+    /// Returns the result in a line.
     pub(crate) fn headline(&self, shown: &Shown<'_>) -> String {
         let without = if self.allows_reset() { " without a reset" } else { "" };
         let (event, word) = (shown.event(self.place), self.why.word());
         format!("doesn't fit: no run{without} reports this trace, because of {event} ({word})")
     }
 
-    /// The events that it is about.
+    /// Returns the events that it is about.
     fn events(&self, shown: &Shown<'_>) -> Vec<(Place, Event)> {
         let places = [Some(self.place), self.other].into_iter().flatten();
         let with_event = |place: Place| Some((place, shown.streams.event(place.0, place.1)?));
@@ -99,19 +99,19 @@ impl Against {
         writeln!(out, "What to look at: {}.", self.look_at(shown))
     }
 
-    /// The causes that the reason can have, the likeliest first.
+    /// Says which causes the reason can have, the likeliest first.
     fn look_at(&self, shown: &Shown<'_>) -> String {
         let found: Vec<Event> = self.events(shown).into_iter().map(|(_, event)| event).collect();
         let causes = causes(self.why, &found, shown.streams);
         causes.into_iter().map(Cause::words).collect::<Vec<_>>().join("; ")
     }
 
-    /// The fields of a no, with its headline.
+    /// Returns the fields of a no, with its headline.
     pub(crate) fn no(&self, shown: &Shown<'_>) -> No {
         No { headline: self.headline(shown), refused: self.object(shown) }
     }
 
-    /// The fields of a no for JSON.
+    /// Returns the fields of a no for JSON.
     pub(crate) fn object(&self, shown: &Shown<'_>) -> Refused {
         let event = |(place, event): (Place, Event)| Found {
             place: PlaceObject {
@@ -175,7 +175,7 @@ pub(crate) fn write_unpaired(
 }
 
 impl Why {
-    /// The word for programs.
+    /// Returns the word for programs.
     fn word(self) -> &'static str {
         match self {
             Why::PrevNotBefore => "prevnotbefore",
@@ -225,7 +225,7 @@ impl Why {
     }
 }
 
-/// What may be behind a trace that doesn't fit.
+/// The causes that a trace which doesn't fit may have.
 #[derive(Clone, Copy, Debug, PartialEq, Eq)]
 enum Cause {
     PutBack,
@@ -271,7 +271,7 @@ impl Cause {
     }
 }
 
-/// The causes that a reason about these events can have, the likeliest first.
+/// Returns the causes that a reason about these events can have, the likeliest first.
 fn causes(why: Why, found: &[Event], streams: &Streams) -> Vec<Cause> {
     use Cause::*;
     let went_back = || match went_back_of(streams) {
@@ -302,7 +302,7 @@ fn causes(why: Why, found: &[Event], streams: &Streams) -> Vec<Cause> {
     }
 }
 
-/// How many there are.
+/// The number of processes: none, one or several.
 #[derive(Clone, Copy, Debug, PartialEq, Eq)]
 enum Several {
     None,
@@ -310,8 +310,8 @@ enum Several {
     Many,
 }
 
-/// How many processes used a count twice, or a lower one after a higher, as their own events or the
-/// receives of what they sent show it.
+/// Counts the processes that used a count twice, or a lower one after a higher, as their own events
+/// or the receives of what they sent show it.
 fn went_back_of(streams: &Streams) -> Several {
     let mut fallen = HashSet::new();
     let mut received = HashMap::new();
@@ -338,8 +338,8 @@ fn went_back_of(streams: &Streams) -> Several {
     }
 }
 
-/// Whether a stamp follows a message that its process received before, as it does in another place,
-/// or with a token that was put back.
+/// Returns whether a stamp follows a message that its process received before, as it does in
+/// another place, or with a token that was put back.
 fn follows_earlier(stamp: &Event, streams: &Streams) -> bool {
     let is_cause =
         |event: &Event| event.kind == Kind::Receive && event.serial.this == stamp.serial.prev;

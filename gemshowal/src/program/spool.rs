@@ -1,5 +1,5 @@
-//! What was read of standard input, kept so that a fault in it can be explained: it can't be read
-//! twice.
+//! The bytes that were read of standard input, kept so that a fault in it can be explained: it
+//! can't be read twice.
 
 use std::env;
 use std::fs::{self, File, OpenOptions};
@@ -7,7 +7,8 @@ use std::io::{self, ErrorKind, Read, Seek, Write};
 use std::os::unix::fs::OpenOptionsExt;
 use std::process;
 
-/// So many bytes are kept in memory. A longer text goes to a file that has no name any more.
+/// The greatest number of bytes that are kept in memory. A longer text goes to a file that has no
+/// name any more.
 const IN_MEMORY: usize = 16_777_216;
 
 /// The text so far.
@@ -15,7 +16,7 @@ const IN_MEMORY: usize = 16_777_216;
 pub(crate) struct Spool {
     held: Vec<u8>,
     file: Option<File>,
-    /// Whether some of it couldn't be kept.
+    /// Tells whether some of it couldn't be kept.
     is_lost: bool,
 }
 
@@ -31,7 +32,7 @@ impl Spool {
         }
     }
 
-    /// Moves what is held to the file.
+    /// Moves the held bytes to the file.
     fn pour(&mut self) -> io::Result<()> {
         if self.file.is_none() {
             self.file = Some(nameless()?);
@@ -43,7 +44,7 @@ impl Spool {
         Ok(())
     }
 
-    /// All that was kept; fails if that isn't the whole text.
+    /// Returns all that was kept; fails if that isn't the whole text.
     pub(crate) fn bytes(self) -> io::Result<Vec<u8>> {
         let mut bytes = Vec::new();
         if let Some(mut file) = self.file {
@@ -59,7 +60,7 @@ impl Spool {
     }
 }
 
-/// A file for this process alone, which is gone when it ends.
+/// Makes a file for this process alone, which is gone when it ends.
 fn nameless() -> io::Result<File> {
     let path = env::temp_dir().join(format!("gemshowal-{}", process::id()));
     let file =

@@ -1,5 +1,5 @@
-//! The command `stats`: how many events and messages a trace has, by process, by pair of processes
-//! and by label.
+//! The command `stats`: the numbers of events and messages in a trace, by process, by pair of
+//! processes and by label.
 
 use crate::input::Input;
 use crate::names::Names;
@@ -59,8 +59,8 @@ struct Process {
     sends: u64,
     receives: u64,
     prints: u64,
-    /// Of each send and print the counts between the greatest count of the events before and its
-    /// own, summed.
+    /// The sum, over all sends and prints, of the counts between the greatest count before and
+    /// their own.
     skipped: Number,
 }
 
@@ -133,8 +133,8 @@ impl Process {
     }
 }
 
-/// The messages by sender and receiver, of which at least one end was reported. One that both ends
-/// reported is counted at its send.
+/// Counts the messages by sender and receiver, of which at least one end was reported. One that
+/// both ends reported is counted at its send.
 fn pairs(trace: &Trace, pairing: &Pairing, names: &Names) -> Vec<Pair> {
     let mut pairs = BTreeMap::<_, [u64; 3]>::new();
     for (pid, events) in trace.processes() {
@@ -165,18 +165,19 @@ fn pairs(trace: &Trace, pairing: &Pairing, names: &Names) -> Vec<Pair> {
     pairs.into_iter().map(pair).collect()
 }
 
-/// How deep each message is on its way: one more than the message whose receive its send follows.
+/// The depth of each message on its way: one more than that of the message whose receive its send
+/// follows.
 struct Depths<'a> {
     trace: &'a Trace,
     hops: Hops<'a>,
     /// The depth of each send, by process and index.
     sent: HashMap<Pid, Vec<u64>>,
-    /// How many messages of a label are at a depth.
+    /// The number of a label's messages at a depth.
     widths: HashMap<(u32, u64), u64>,
 }
 
 impl<'a> Depths<'a> {
-    /// The sends are taken by rising counts: what a send follows has a lower count.
+    /// Takes the sends by rising counts: what a send follows has a lower count.
     fn of(trace: &'a Trace, hops: Hops<'a>) -> Depths<'a> {
         let sent = trace.processes().map(|(pid, events)| (pid, vec![0; events.len()])).collect();
         let mut depths = Depths { trace, hops, sent, widths: HashMap::new() };
@@ -213,7 +214,8 @@ impl<'a> Depths<'a> {
         *self.widths.entry((event.label.0, depth)).or_default() += 1;
     }
 
-    /// The depth of the message of a receive; one that nobody reported to be sent begins a way.
+    /// Returns the depth of the message of a receive; one that nobody reported to be sent begins a
+    /// way.
     fn received(&self, pid: Pid, index: u64) -> u64 {
         match self.hops.hop(pid, index) {
             Some(Hop::Sent(from, send)) => {
@@ -224,7 +226,7 @@ impl<'a> Depths<'a> {
         }
     }
 
-    /// What there is of each label.
+    /// Returns the numbers of each label.
     fn labels(self, names: &Names) -> Vec<LabelStats> {
         let mut labels = BTreeMap::<u32, (u64, u64, u64)>::new();
         for event in self.trace.processes().flat_map(|(_, events)| events) {

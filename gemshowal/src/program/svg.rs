@@ -1,10 +1,10 @@
 //! A chart as a sequence diagram in SVG, for a document.
 //!
-//! A lane for each process under its name, time downwards by the chart's rows, each beside the name
+//! A lane for each process under its name, time downwards by the chart's rows, each next to the name
 //! of its event. An arrow goes from each send, a ring, to its receive, a disc; what nobody reported
 //! is dashed, a receive that nobody reported says so, and an arrow ends in a bar if the chart has
 //! no receive. Prints are diamonds. An event of which it isn't sure what it follows has a question
-//! mark. What is shortened beside a mark is whole in its tooltip.
+//! mark. A text that is shortened next to a mark is whole in its tooltip.
 
 use crate::causes::{Cause, Causes, Grade};
 use crate::chart::{short, Chart, Row};
@@ -21,17 +21,17 @@ use std::path::Path;
 const MOST_ROWS: usize = 2_000;
 
 // Distances in pixels. A row is high enough for one line of text, so texts never meet; a lane is as
-// wide as the text of most messages. The names come again after so many rows, about a screen.
+// wide as the text of most messages. The names come again after a block of rows, about a screen.
 const LANE: usize = 170;
 const ROW: usize = 22;
 const LEFT: usize = 190;
 const TOP: usize = 120;
 const NAMES: usize = 34;
 const ROWS_A_BLOCK: usize = 40;
-/// Lanes for which there is room, however few there are: the heading needs it.
+/// The lanes for which there is room, however few there are: the heading needs it.
 const LEAST_LANES: usize = 4;
 
-// Characters beside a mark, of a name above a lane or beside a row, and of the heading.
+// Limits of characters next to a mark, of a name above a lane or next to a row, and of the heading.
 const TEXT: usize = 44;
 const NAME: usize = 24;
 const HEADING: usize = 160;
@@ -68,7 +68,7 @@ pub(crate) fn write(file: &Path, causes: &Causes<'_>, chart: &Chart) -> Result<(
     keep(file, text.as_bytes())
 }
 
-/// A chart and what its drawing needs to know of it.
+/// A chart and the numbers that its drawing needs.
 struct Drawing<'a> {
     causes: &'a Causes<'a>,
     chart: &'a Chart,
@@ -91,7 +91,7 @@ impl<'a> Drawing<'a> {
         }
     }
 
-    /// Texts and names come last, so that no arrow hides them.
+    /// Draws the texts and names last, so that no arrow hides them.
     fn draw(&self, out: &mut String) -> fmt::Result {
         let (width, height) = (self.width, self.height);
         writeln!(out, "<?xml version=\"1.0\" encoding=\"UTF-8\"?>")?;
@@ -128,7 +128,7 @@ impl<'a> Drawing<'a> {
         self.chart.rows.iter().enumerate()
     }
 
-    /// What is drawn, what the trace lacks, and that it has no run if so.
+    /// Says what is drawn, what the trace lacks, and that it has no run if so.
     fn heading(&self, out: &mut String) -> fmt::Result {
         let (rows, lanes) = (self.chart.rows.len(), self.chart.lanes.len());
         let label = self.causes.names().label(self.chart.label);
@@ -146,7 +146,7 @@ impl<'a> Drawing<'a> {
         Ok(())
     }
 
-    /// What the drawing has that isn't plain.
+    /// Explains the marks of the drawing that aren't plain.
     fn key(&self, out: &mut String) -> fmt::Result {
         let rows = || self.chart.rows.iter();
         if rows().any(|row| !self.is_reported(row)) {
@@ -174,7 +174,7 @@ impl<'a> Drawing<'a> {
         Ok(())
     }
 
-    /// The ground: every other five rows are shaded, so that the eye keeps the height across many
+    /// Shades every other five rows of the ground, so that the eye keeps the height across many
     /// lanes.
     fn ground(&self, out: &mut String) -> fmt::Result {
         for first in (5..self.chart.rows.len()).step_by(10) {
@@ -193,7 +193,7 @@ impl<'a> Drawing<'a> {
         Ok(())
     }
 
-    /// The names of all lanes above a block of rows.
+    /// Writes the names of all lanes above a block of rows.
     fn lane_names(&self, out: &mut String, block: usize) -> fmt::Result {
         let top = y(block * ROWS_A_BLOCK) - ROW / 2 - NAMES + 4;
         for (lane, &pid) in self.chart.lanes.iter().enumerate() {
@@ -218,7 +218,7 @@ impl<'a> Drawing<'a> {
         format!("{name}\n{}\n{about}", gemshowal::Text(pid))
     }
 
-    /// Puts what is drawn of a row below the tooltip of the row.
+    /// Puts the marks of a row below the tooltip of the row.
     fn tipped(
         &self,
         out: &mut String,
@@ -243,14 +243,14 @@ impl<'a> Drawing<'a> {
         self.causes.reported(row.item).is_some()
     }
 
-    /// Whether it isn't sure what an event follows. A receive that nobody reported follows its
-    /// send.
+    /// Returns whether it isn't sure what an event follows. A receive that nobody reported follows
+    /// its send.
     fn is_doubtful(&self, row: &Row) -> bool {
         let may_follow = self.is_reported(row) || row.event.kind == Kind::Send;
         may_follow && (row.link.grade == Grade::Perhaps || is_open(row.link.cause))
     }
 
-    /// The row of the receive of a send.
+    /// Returns the row of the receive of a send.
     fn receive(&self, row: &Row) -> Option<(usize, &'a Row)> {
         let number = *self.numbers.get(&self.causes.other_end(row.item)?)?;
         Some((number, self.chart.rows.get(number)?))
@@ -275,7 +275,7 @@ impl<'a> Drawing<'a> {
         write!(out, "<circle class=\"{circle}\" cx=\"{x}\" cy=\"{y}\" r=\"3.5\"/>")
     }
 
-    /// The arrow of a message, dashed if one of its ends wasn't reported.
+    /// Draws the arrow of a message, dashed if one of its ends wasn't reported.
     fn arrow(&self, out: &mut String, row: &Row, number: usize) -> fmt::Result {
         let receive = self.receive(row);
         let are_reported =
@@ -294,9 +294,9 @@ impl<'a> Drawing<'a> {
         write!(out, "<g class=\"{class}\"><path d=\"{path}\" marker-end=\"url(#{end})\"/></g>")
     }
 
-    /// The text beside a mark: of a print its message, of a send the message too, which begins at
-    /// the sender and runs towards the receiver. Of a receive that nobody reported it is on the
-    /// side from which no arrow comes.
+    /// Writes the text next to a mark: for a print its message, for a send the message too, which
+    /// begins at the sender and runs towards the receiver. For a receive that nobody reported it is
+    /// on the side from which no arrow comes.
     fn text(&self, out: &mut String, row: &Row, number: usize) -> fmt::Result {
         let message = words::message(self.causes, row.item);
         let (is_right, text, lift) = match row.event.kind {
@@ -321,7 +321,7 @@ impl<'a> Drawing<'a> {
     }
 }
 
-/// Whether nothing is named that an event follows, and it may follow something.
+/// Returns whether nothing is named that an event follows, and it may follow something.
 fn is_open(cause: Cause) -> bool {
     matches!(cause, Cause::BeginsOrUnreported | Cause::Unknown)
 }
@@ -330,7 +330,7 @@ fn line((x, y): (usize, usize), (to_x, to_y): (usize, usize)) -> String {
     format!("M{x} {y}L{to_x} {to_y}")
 }
 
-/// A message of a process to itself: a bow to the right.
+/// Draws a message of a process to itself: a bow to the right.
 fn bow((x, y): (usize, usize), bottom: usize) -> String {
     let (right, end) = (x + 50, x + 4);
     format!("M{x} {y}C{right} {y} {right} {bottom} {end} {bottom}")

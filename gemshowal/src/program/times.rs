@@ -1,4 +1,4 @@
-//! The command `times`: how long messages and labels took, and what the last event of a label
+//! The command `times`: the times that messages and labels took, and what the last event of a label
 //! waited for.
 
 use crate::args::Times as Args;
@@ -16,13 +16,13 @@ use gemshowal::{Item, Kind, Label, Trace};
 use serde::Serialize;
 use std::io::{self, Write};
 
-/// So many entries of a table are printed; as JSON there are all of them.
+/// The greatest number of entries of a table that are printed; as JSON there are all of them.
 const LISTED: usize = 20;
 
 /// The characters of a cell.
 const CELL: usize = 40;
 
-/// What the times mean.
+/// The meaning of the times.
 const MEANING: &str =
     "A message takes from its send until its receiver took it: waiting in the mailbox is in that.";
 
@@ -64,12 +64,12 @@ pub(crate) fn run(
     Ok(Status::Yes)
 }
 
-/// What is said of all messages and labels.
+/// The times of all messages and labels.
 #[derive(Serialize)]
 struct Tables {
     #[serde(skip)]
     summary: String,
-    /// When the first event was, in UTC.
+    /// The time of the first event, in UTC.
     first: Option<String>,
     unit: &'static str,
     by_processes: Vec<Entry>,
@@ -77,7 +77,7 @@ struct Tables {
     labels: Vec<LabelEntry>,
 }
 
-/// How long messages of a kind took.
+/// The times that messages of a kind took.
 #[derive(Serialize)]
 struct Entry {
     of: String,
@@ -89,7 +89,7 @@ struct Entry {
     slowest: String,
 }
 
-/// How long a label took.
+/// The time that a label took.
 #[derive(Serialize)]
 struct LabelEntry {
     label: String,
@@ -146,7 +146,7 @@ impl Tables {
     }
 }
 
-/// Over which time the events stretch, and how long messages took, in a line.
+/// Says in a line over which time the events stretch, and how long messages took.
 pub(crate) fn summary(trace: &Trace, times: &Times) -> String {
     let took = durations::all(trace, times);
     let messages = match took.last() {
@@ -217,7 +217,7 @@ fn write_table(out: &mut Output, titles: &[&str], rows: Vec<Vec<String>>) -> io:
     Ok(())
 }
 
-/// What the last event of a label follows, from where that begins.
+/// The chain of causes of a label's last event, from its beginning.
 #[derive(Serialize)]
 struct Path {
     steps: Vec<Step>,
@@ -228,16 +228,16 @@ struct Path {
 struct Step {
     event: String,
     what: String,
-    /// How long after the step before it came, if both have a time.
+    /// The time after the step before, if both have a time.
     after: Option<i64>,
-    /// Whether that is the way of a message.
+    /// Tells whether that is the way of a message.
     is_way: bool,
-    /// Whether it is known that it follows the step before.
+    /// Tells whether it isn't sure that it follows the step before.
     is_perhaps: bool,
 }
 
 impl Path {
-    /// The path to the last event of a label with a time.
+    /// Finds the path to the last event of a label with a time.
     fn to_last(whole: &View<'_>, times: &Times, label: Label) -> Result<Option<Path>, Failure> {
         let Some(last) = last_event(whole.trace, times, label) else { return Ok(None) };
         let paths = with_each(whole, |causes, _| {
@@ -302,7 +302,7 @@ impl Path {
     }
 }
 
-/// The event of a label that has the latest time.
+/// Finds the event of a label that has the latest time.
 fn last_event(trace: &Trace, times: &Times, label: Label) -> Option<Place> {
     let places = trace.processes().flat_map(|(pid, events)| {
         let of_label =
@@ -312,7 +312,7 @@ fn last_event(trace: &Trace, times: &Times, label: Label) -> Option<Place> {
     places.filter_map(|place| Some((times.of_event(place)?, place))).max().map(|(_, place)| place)
 }
 
-/// All of it as JSON.
+/// The whole result as JSON.
 #[derive(Serialize)]
 struct Told<'a> {
     #[serde(flatten)]

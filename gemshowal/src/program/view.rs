@@ -1,18 +1,18 @@
-//! A trace, or a part of one, with what its events are called: an event keeps its number in the
-//! whole trace, whatever is cut off.
+//! A trace, or a part of one, with the names of its events: an event keeps its number in the whole
+//! trace, whatever is cut off.
 
 use crate::names::Names;
 use gemshowal::{Completion, Event, Kind, Pid, Streams, Trace};
 use std::borrow::Cow;
 use std::collections::{BTreeMap, HashMap};
 
-/// So many characters of a message are in a sentence.
+/// The greatest number of a message's characters in a sentence.
 const CHARACTERS: usize = 80;
 
 /// A process and the index of one of its events.
 pub(crate) type Place = (Pid, u64);
 
-/// Of each process the indices of the events that a part has.
+/// For each process, the indices of the events that a part has.
 pub(crate) type Kept = BTreeMap<Pid, Vec<u64>>;
 
 /// The number of an event in the whole trace; of one that nobody reported the number of the event
@@ -23,23 +23,23 @@ struct Number {
     which: Option<u64>,
 }
 
-/// A trace or a part of one, and what its numbers mean.
+/// A trace or a part of one, and the meaning of its numbers.
 pub(crate) struct View<'a> {
     pub(crate) trace: &'a Trace,
     pub(crate) names: &'a Names,
     /// The numbers in the whole trace, unless these are the indices.
     numbers: Option<HashMap<Pid, Vec<u64>>>,
-    /// Whether it was cut on purpose, so that what isn't here may have been reported.
+    /// Tells whether it was cut on purpose, so that what isn't here may have been reported.
     pub(crate) is_cut: bool,
 }
 
 impl<'a> View<'a> {
-    /// All of a trace.
+    /// Views all of a trace.
     pub(crate) fn whole(trace: &'a Trace, names: &'a Names) -> View<'a> {
         View { trace, names, numbers: None, is_cut: false }
     }
 
-    /// A part of this one, which has these of its events.
+    /// Views a part of this one, which has these of its events.
     pub(crate) fn part<'b>(&self, part: &'b Trace, kept: &Kept, is_cut: bool) -> View<'b>
     where
         'a: 'b,
@@ -50,17 +50,17 @@ impl<'a> View<'a> {
         View { trace: part, names: self.names, numbers: Some(numbers.collect()), is_cut }
     }
 
-    /// The number of an event in the whole trace.
+    /// Returns the number of an event in the whole trace.
     pub(crate) fn number(&self, pid: Pid, index: u64) -> u64 {
         let Some(numbers) = &self.numbers else { return index };
         let own = numbers.get(&pid).map_or(&[][..], |own| own);
-        // An index behind the last one is behind the last number.
+        // Continues after the last index: the number comes after the last number.
         own.get(index as usize)
             .copied()
             .unwrap_or_else(|| own.last().map_or(index, |last| last + 1))
     }
 
-    /// The index here of the event with this number in the whole trace, if it is here.
+    /// Returns the index here of the event with this number in the whole trace, if it is here.
     pub(crate) fn index(&self, pid: Pid, number: u64) -> Option<u64> {
         match &self.numbers {
             None => (number < self.trace.streams().len(pid)).then_some(number),
@@ -70,7 +70,7 @@ impl<'a> View<'a> {
         }
     }
 
-    /// The events for which `is_in` is true; of processes without one none is listed.
+    /// Returns the events for which `is_in` is true, without the processes that have none.
     pub(crate) fn kept(&self, is_in: impl Fn(Pid, u64, &Event) -> bool) -> Kept {
         let own = |(pid, events): (Pid, &[Event])| {
             let chosen = events.iter().zip(0..).filter(|&(event, index)| is_in(pid, index, event));
@@ -93,30 +93,30 @@ pub(crate) struct Shown<'a> {
 }
 
 impl<'a> Shown<'a> {
-    /// The events of a view.
+    /// Shows the events of a view.
     pub(crate) fn reported(view: &'a View<'a>) -> Shown<'a> {
         let streams = view.trace.streams();
         Shown { streams, view, completion: None, numbers: HashMap::new() }
     }
 
-    /// Those and the ones that a completion adds.
+    /// Shows the events of a view and those that a completion adds.
     pub(crate) fn completed(view: &'a View<'a>, completion: &'a Completion) -> Shown<'a> {
         let streams = completion.streams();
         let numbers = streams.pids().iter().map(|&pid| (pid, numbered(view, completion, pid)));
         Shown { streams, view, completion: Some(completion), numbers: numbers.collect() }
     }
 
-    /// Whether somebody reported the event at this place.
+    /// Returns whether somebody reported the event at this place.
     pub(crate) fn is_reported(&self, (pid, index): Place) -> bool {
         self.completion.is_none_or(|completion| completion.told(pid, index) == Some(true))
     }
 
-    /// The processes that the trace doesn't list.
+    /// Returns the processes that the trace doesn't list.
     pub(crate) fn unlisted(&self) -> &[Pid] {
         self.completion.map_or(&[], |completion| completion.unlisted())
     }
 
-    /// Which of these a process is; none if the trace lists it.
+    /// Returns the number of a process among the unlisted ones, or `None` if the trace lists it.
     pub(crate) fn stranger(&self, pid: Pid) -> Option<usize> {
         self.unlisted().binary_search(&pid).ok()
     }
@@ -126,7 +126,7 @@ impl<'a> Shown<'a> {
         streams.pids().iter().map(|&pid| (pid, streams.events(pid)))
     }
 
-    /// What a process is called.
+    /// Returns the name of a process.
     pub(crate) fn process(&self, pid: Pid) -> Cow<'_, str> {
         match self.stranger(pid) {
             None => self.view.names.process(pid),
@@ -135,7 +135,7 @@ impl<'a> Shown<'a> {
         }
     }
 
-    /// What an event is called.
+    /// Returns the name of an event.
     pub(crate) fn event(&self, (pid, index): Place) -> String {
         let number = self.numbers.get(&pid).and_then(|numbers| numbers.get(index as usize));
         let number = number.copied();
@@ -147,12 +147,12 @@ impl<'a> Shown<'a> {
         }
     }
 
-    /// What happened at an event, in a sentence.
+    /// Describes what happened at an event.
     pub(crate) fn sentence(&self, event: &Event) -> String {
         self.sentence_of(event, &short(&self.view.names.brief(event.value)))
     }
 
-    /// The same of an event whose message nobody knows.
+    /// Describes what happened at an event whose message nobody knows.
     pub(crate) fn sentence_of_unknown(&self, event: &Event) -> String {
         self.sentence_of(event, "an unknown message")
     }
@@ -173,7 +173,7 @@ impl<'a> Shown<'a> {
     }
 }
 
-/// The numbers of a process's events in a completion.
+/// Returns the numbers of a process's events in a completion.
 fn numbered(view: &View<'_>, completion: &Completion, pid: Pid) -> Vec<Number> {
     let (mut reported, mut added) = (0, 0);
     let number = |index| {
@@ -189,7 +189,7 @@ fn numbered(view: &View<'_>, completion: &Completion, pid: Pid) -> Vec<Number> {
     (0..completion.streams().len(pid)).map(number).collect()
 }
 
-/// The text, or its first characters.
+/// Returns the text, or its first characters.
 fn short(text: &str) -> Cow<'_, str> {
     match text.char_indices().nth(CHARACTERS) {
         None => text.into(),
@@ -197,7 +197,7 @@ fn short(text: &str) -> Cow<'_, str> {
     }
 }
 
-/// A number with commas between thousands.
+/// Writes a number with commas between thousands.
 pub(crate) fn grouped(number: u64) -> String {
     let digits = number.to_string();
     let mut grouped = String::new();
@@ -210,7 +210,7 @@ pub(crate) fn grouped(number: u64) -> String {
     grouped
 }
 
-/// How many of a thing there are, in words.
+/// Says how many of a thing there are.
 pub(crate) fn count(number: u64, thing: &str) -> String {
     match (number, thing) {
         (1, _) => format!("1 {thing}"),

@@ -1,4 +1,4 @@
-//! The command `why`: what an event follows, and so on back, or what follows it.
+//! The command `why`: the causes of an event, one after the other, or its effects.
 
 use crate::args::Why;
 use crate::causes::{with_each, Cause, Causes, Grade, Link};
@@ -13,7 +13,7 @@ use gemshowal::{Item, OutOfMemory, Pid, Premises, Text, Trace};
 use serde::Serialize;
 use std::io::{self, Write};
 
-/// So many hops are shown by blanks too: more would move a line off the screen.
+/// The greatest number of hops that are indented: more would move a line off the screen.
 const INDENT: usize = 16;
 
 pub(crate) fn run(
@@ -53,7 +53,7 @@ pub(crate) fn run(
 
 /// An event on the way back from another, or in the tree of what follows it.
 struct Step {
-    /// How many hops it is from the first event.
+    /// The number of hops from the first event.
     depth: usize,
     item: Item,
     link: Link,
@@ -66,8 +66,8 @@ struct Way {
 }
 
 impl Way {
-    /// The event and what it follows, up to so many hops. Each hop leads to a lower count, or from
-    /// a receive to its send, so it ends.
+    /// Collects the event and its causes, up to this number of hops. Each hop leads to a lower
+    /// count, or from a receive to its send, so it ends.
     fn back(causes: &Causes<'_>, first: Item, args: &Why) -> Way {
         let mut steps = Vec::new();
         let mut next = Some(first);
@@ -79,7 +79,7 @@ impl Way {
         Way { is_back: true, steps }
     }
 
-    /// The event, and behind each event those that follow it.
+    /// Collects the event, and after each event those that follow it.
     fn forth(causes: &Causes<'_>, first: Item, args: &Why) -> Result<Way, Failure> {
         let children = Children::of(causes, args.across)?;
         let mut steps = Vec::new();
@@ -94,7 +94,7 @@ impl Way {
         Ok(Way { is_back: false, steps })
     }
 
-    /// The grades of what is said. The first event of a tree is there whatever it follows.
+    /// Returns the grades of what is said. The first event of a tree is there whatever it follows.
     fn grades(&self) -> impl Iterator<Item = Grade> + '_ {
         let first = usize::from(!self.is_back);
         self.steps.iter().skip(first).map(|step| step.link.grade)
@@ -197,7 +197,7 @@ impl Children {
     }
 }
 
-/// The event that is next on the way back.
+/// Returns the event that is next on the way back.
 fn parent(link: &Link, across: bool) -> Option<Item> {
     match link.cause {
         Cause::After(item) => Some(item),
@@ -223,7 +223,7 @@ pub(crate) struct Told {
 struct Found {
     depth: usize,
     event: String,
-    /// Its process, its number there and its line, unless nobody reported it.
+    /// The process of the event, its number there and its line, unless nobody reported it.
     pid: Option<Text<Pid>>,
     index: Option<u64>,
     line: Option<u64>,
@@ -273,7 +273,7 @@ impl Found {
     }
 }
 
-/// The word for a cause, and the event that it names.
+/// Returns the word for a cause, and the event that it names.
 fn cause(causes: &Causes<'_>, link: Link) -> (&'static str, Option<String>) {
     match link.cause {
         Cause::After(item) => ("after", Some(causes.name(item))),

@@ -7,26 +7,26 @@ use crate::reason::Against;
 use crate::view::{count, Shown};
 use gemshowal::{Item, Kind, Premises};
 
-/// Of which runs all is said.
+/// The runs that sentences are about.
 const RUNS: &str = "this holds in each run without a reset that reports the trace";
-/// On what a sentence with the first premise rests.
+/// The first premise of a sentence.
 const FIRST: &str = "(1) if each receive of a token was reported";
-/// On what a sentence with the second premise rests too.
+/// The second premise of a sentence.
 const SECOND: &str = "(2) if no process cleared or lost its token, began again and reported an \
                       earlier label again";
-/// How a standard node differs from the runs that are meant.
+/// The difference between a standard node and the runs that are meant.
 const NODE: &str = "on a standard node (2) belongs to each (1), and behind a spawn or a token put \
                     back neither is enough";
-/// What is meant by perhaps.
+/// The meaning of perhaps.
 const PERHAPS: &str =
     "perhaps: it is so in the run that gemshowal complete finds, and another may \
                        have something else there";
-/// What an event is, as `post#1 printed {parcel,apple,3}`.
+/// Names an event and says what it is, as `post#1 printed {parcel,apple,3}`.
 pub(crate) fn named(causes: &Causes<'_>, item: Item) -> String {
     format!("{} {}{}", causes.name(item), deed(causes, item), unreported(causes, item))
 }
 
-/// What is said behind an event that nobody reported.
+/// Says of an event that nobody reported it.
 fn unreported(causes: &Causes<'_>, item: Item) -> &'static str {
     if causes.reported(item).is_some() {
         ""
@@ -35,7 +35,7 @@ fn unreported(causes: &Causes<'_>, item: Item) -> &'static str {
     }
 }
 
-/// What its process did, as `sent call {take,apple,3} to stock`.
+/// Says what its process did, as `sent call {take,apple,3} to stock`.
 fn deed(causes: &Causes<'_>, item: Item) -> String {
     let Some(event) = causes.event(item) else { return "did nothing".into() };
     let message = message(causes, item);
@@ -46,7 +46,7 @@ fn deed(causes: &Causes<'_>, item: Item) -> String {
     }
 }
 
-/// The message of an event in short.
+/// Returns the message of an event in short.
 pub(crate) fn message(causes: &Causes<'_>, item: Item) -> String {
     match causes.message(item) {
         Some(value) => causes.names().brief(value).into_owned(),
@@ -54,12 +54,12 @@ pub(crate) fn message(causes: &Causes<'_>, item: Item) -> String {
     }
 }
 
-/// The label of an event as it is called.
+/// Returns the label of an event as it is shown.
 pub(crate) fn label(causes: &Causes<'_>, item: Item) -> String {
     causes.label(item).map(|label| causes.names().label(label).into_owned()).unwrap_or_default()
 }
 
-/// What an event follows, in a few words behind it: `after shop#1`.
+/// Says what an event follows, in a few words to be put after it: `after shop#1`.
 pub(crate) fn follows(causes: &Causes<'_>, item: Item, link: Link) -> String {
     let perhaps = if link.grade == Grade::Perhaps { "perhaps " } else { "" };
     match link.cause {
@@ -82,7 +82,7 @@ pub(crate) fn follows(causes: &Causes<'_>, item: Item, link: Link) -> String {
     }
 }
 
-/// What stands in front of an event that another one follows, and behind it.
+/// Returns the words around an event that another one follows.
 pub(crate) fn because(grade: Grade) -> (&'static str, &'static str) {
     match grade {
         Grade::Certain => ("because ", ""),
@@ -91,7 +91,7 @@ pub(crate) fn because(grade: Grade) -> (&'static str, &'static str) {
     }
 }
 
-/// The numbers of premises, behind what rests on them.
+/// Returns the numbers of premises, to be put after what rests on them.
 pub(crate) fn numbers(premises: Premises) -> &'static str {
     match premises {
         Premises::Neither => "",
@@ -100,7 +100,7 @@ pub(crate) fn numbers(premises: Premises) -> &'static str {
     }
 }
 
-/// The end of a chain of causes.
+/// Says where a chain of causes ends.
 pub(crate) fn ending(causes: &Causes<'_>, item: Item, link: Link) -> String {
     let name = causes.name(item);
     let (perhaps, behind) = match link.grade {
@@ -128,7 +128,7 @@ pub(crate) fn ending(causes: &Causes<'_>, item: Item, link: Link) -> String {
     }
 }
 
-/// On what sentences of these grades rest, a line each.
+/// Says on what sentences of these grades rest, a line each.
 pub(crate) fn premises(grades: impl Iterator<Item = Grade>) -> Vec<&'static str> {
     let (mut first, mut second, mut perhaps) = (false, false, false);
     for grade in grades {
@@ -140,14 +140,14 @@ pub(crate) fn premises(grades: impl Iterator<Item = Grade>) -> Vec<&'static str>
     lines.into_iter().filter(|&(is_used, _)| is_used).map(|(_, line)| line).collect()
 }
 
-/// When a reported event happened, behind what it is.
+/// Says when a reported event happened, to be put after what it is.
 pub(crate) fn at(causes: &Causes<'_>, item: Item) -> String {
     let times = causes.names().times().zip(causes.place(item));
     let time = times.and_then(|(times, place)| Some(moment(times, times.of_event(place)?)));
     time.map(|time| format!(", at {time}")).unwrap_or_default()
 }
 
-/// Whether a run has the trace, and what is added to it, in a line.
+/// Says whether a run has the trace, and what is added to it, in a line.
 pub(crate) fn headline(causes: &Causes<'_>) -> String {
     if let Some((pid, index, never)) = causes.never() {
         let shown = Shown::reported(causes.view());
@@ -168,7 +168,7 @@ pub(crate) fn headline(causes: &Causes<'_>) -> String {
     format!("fits: {events} of {processes}{with}{}{behind}", added.join(" and "))
 }
 
-/// What a chart's sentences rest on, if on anything.
+/// Says on what a chart's sentences rest, if on anything.
 pub(crate) fn chart_note(grades: impl Iterator<Item = Grade>) -> Option<&'static str> {
     let is_under = |grade| matches!(grade, Grade::Under(_));
     grades.into_iter().any(is_under).then_some(
@@ -177,7 +177,7 @@ pub(crate) fn chart_note(grades: impl Iterator<Item = Grade>) -> Option<&'static
     )
 }
 
-/// Which part between supposed resets is looked at.
+/// Says which part between supposed resets is looked at.
 pub(crate) fn part((which, of): (usize, usize)) -> String {
     format!("part {which} of {of} between supposed resets; gemshowal audit says where they are")
 }

@@ -1,4 +1,4 @@
-//! What the counts of one process tell of what nobody reported.
+//! Unreported events of one process, as far as its counts tell of them.
 
 use super::missing::is_behind_spawn;
 use crate::names::Names;
@@ -12,16 +12,17 @@ pub(super) struct Counter {
     has_stamped: bool,
     /// The counts and messages received since the last send or print; one may be a spawn's answer.
     received: Vec<(u64, u64)>,
-    /// How many counts no event has, of prints, or of sends whose receives weren't reported either.
+    /// The number of counts that no event has: of prints, or of sends whose receives weren't
+    /// reported either.
     pub(super) silent: u64,
-    /// How often the counter was higher than any reported event shows.
+    /// The number of times that the counter was higher than any reported event shows.
     pub(super) jumps: u64,
-    /// How often OTP moved the counter on as it answered a spawn.
+    /// The number of times that OTP moved the counter on as it answered a spawn.
     pub(super) spawns: u64,
     /// The counter before the first send or print, if it wasn't 0.
     pub(super) before: u64,
-    /// The same, if something was received before that, so that something unreported may lie
-    /// between.
+    /// The counter before the first send or print, if something was received before that, so that
+    /// something unreported may lie between.
     pub(super) behind: u64,
 }
 
@@ -63,7 +64,7 @@ impl Counter {
         self.received.clear();
     }
 
-    /// The counts up to this one were passed, and no event of the process has them.
+    /// Passes the counts up to this one, which no event of the process has.
     fn pass(&mut self, prev: u64, stood: u64, hidden: &BTreeSet<u64>) {
         if !self.has_stamped {
             let Some(&first) = hidden.range(self.clock + 1..=stood).next() else {
@@ -85,7 +86,7 @@ impl Counter {
         }
     }
 
-    /// The counter stood at this count before the first send or print.
+    /// Notes the counter before the first send or print.
     fn begin(&mut self, stood: u64) {
         if stood > self.clock {
             self.before = stood;

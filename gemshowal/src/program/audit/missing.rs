@@ -1,5 +1,5 @@
-//! What a trace that fits leaves out, as far as its pairing, what its events follow, and its counts
-//! tell.
+//! Unreported events of a trace that fits, as far as its pairing, its hops and its counts tell of
+//! them.
 
 use super::counter::Counter;
 use crate::view::{Place, Shown};
@@ -9,7 +9,7 @@ use std::collections::{BTreeSet, HashMap, HashSet};
 /// An event that nobody reported.
 #[derive(Clone, Copy, Debug)]
 pub(super) enum Lack {
-    /// One that a completion adds, at this place of it.
+    /// An event that a completion adds, at this place of it.
     Added(Place, Known),
     /// The send of this receive.
     Hidden(Place),
@@ -17,14 +17,14 @@ pub(super) enum Lack {
     Unreceived(Place, Before),
 }
 
-/// How much is known of an event that a completion adds.
+/// The degree to which an event that a completion adds is known.
 #[derive(Clone, Copy, Debug, PartialEq, Eq)]
 pub(super) enum Known {
     /// The send of a receive that was reported: it happened.
     Certain,
     /// The receive of a send that was reported.
     Supposed,
-    /// One end of a message of which nothing was reported.
+    /// An end of a message of which nothing was reported.
     Invented,
 }
 
@@ -36,28 +36,27 @@ pub(super) enum Before {
     SendOf(Place),
 }
 
-/// What a trace leaves out.
+/// The events that a trace leaves out.
 #[derive(Debug, Default)]
 pub(super) struct Missing {
-    /// The events that nobody reported.
     pub(super) lacks: Vec<Lack>,
-    /// The sends without a receive that nothing follows: their messages may still wait.
+    /// The sends without a receive that no event follows: their messages may still wait.
     pub(super) waiting: Vec<Place>,
-    /// The reported sends and prints of which it isn't known what they follow.
+    /// The reported sends and prints whose cause isn't known.
     pub(super) open: Vec<Place>,
-    /// What the counts of each process tell.
+    /// The counter of each process.
     pub(super) counters: Vec<(Pid, Counter)>,
 }
 
-/// Where an event is in the one order of all processes: by the greatest count of its process so
-/// far, sends and prints before receives, then by process.
+/// The turn of an event in the one order of all processes: by the greatest count of its process up
+/// to it, sends and prints before receives, then by process.
 type Turn = (u64, bool, Pid, u64);
 
 fn place_of((_, _, pid, index): Turn) -> Place {
     (pid, index)
 }
 
-/// What is known of all processes, before one after the other is looked at.
+/// The state of all processes, before they are searched one by one.
 struct Finder<'a> {
     shown: &'a Shown<'a>,
     paired: &'a Paired<'a>,
@@ -74,7 +73,7 @@ struct Finder<'a> {
 }
 
 impl Missing {
-    /// What the events that are shown leave out, whose streams are paired.
+    /// Finds what the events that are shown leave out, whose streams are paired.
     pub(super) fn find(shown: &Shown<'_>, paired: &Paired<'_>) -> Result<Missing, OutOfMemory> {
         let hops = paired.hops()?;
         let mut finder = Finder {
@@ -174,7 +173,7 @@ impl Finder<'_> {
             && self.known(event, partner()) == Known::Invented
     }
 
-    /// Notes of a send or print what it follows, if nobody reported that; returns the send whose
+    /// Notes what a send or print follows, if nobody reported that, and returns the send whose
     /// receive it is.
     fn stamp(
         &mut self,
@@ -202,14 +201,14 @@ impl Finder<'_> {
         send
     }
 
-    /// The send with this label to a process, of this count, whose receive nobody reported.
+    /// Finds the send with this label and count to a process, if nobody reported its receive.
     fn unreceived_send(&self, to: Pid, count: u64, label: u32) -> Option<Place> {
         let sends = self.unreceived.get(&(to, count))?;
         sends.iter().find(|(of, _)| *of == label).map(|&(_, turn)| place_of(turn))
     }
 
-    /// Finds the messages that sends follow of which only their receives tell. Such a send may have
-    /// been at any time: so a reported receive with its prev explains it, wherever that is.
+    /// Finds the unreported messages that hidden sends follow. A hidden send may have been at any
+    /// time, so any reported receive with its prev explains it.
     fn follow_hidden(&mut self) {
         let senders: HashSet<Pid> = self.sends.iter().map(|((_, _, from, _), _)| *from).collect();
         let mut received = HashMap::new();
@@ -231,7 +230,7 @@ impl Finder<'_> {
         }
     }
 
-    /// All that was found, in the order of all events.
+    /// Returns all that was found, in the order of all events.
     fn found(mut self) -> Missing {
         self.added.sort_unstable_by_key(|(turn, _)| *turn);
         self.sends.sort_by_key(|(turn, _)| *turn);
@@ -257,8 +256,8 @@ impl Finder<'_> {
     }
 }
 
-/// Whether a prev is the one behind the answer of a spawn with this count: OTP moves the counters of
-/// the process that asked for it to 16 times the count, and 15.
+/// Returns whether a prev comes right after the answer of a spawn with this count: OTP moves the
+/// counters of the process that asked for it to 16 times the count, and 15.
 pub(super) fn is_behind_spawn(prev: u64, count: u64) -> bool {
     count.checked_mul(16).and_then(|count| count.checked_add(15)) == Some(prev)
 }

@@ -26,11 +26,11 @@ use std::fs::File;
 use std::io::{BufWriter, Write};
 use std::path::Path;
 
-/// Of more parts than these nobody is told: a counter that goes back again and again is hardly one
-/// that was reset so often.
+/// The greatest number of parts that is told: a counter that goes back more often was hardly reset
+/// each time.
 const PARTS: usize = 100;
 
-/// What isn't proved of an answer.
+/// The part of an answer that isn't proved.
 const NOT_PROVED: &str =
     "This answer is not proved: gemshowal is a plain build of proved sources, \
      and its words are only tested; --proved asks the proved programs.";
@@ -55,19 +55,19 @@ pub(crate) fn run(
     Auditor { args, json, cut: Some(cut), view: &view, input, word: input.word() }.run(out)
 }
 
-/// A trace that is audited, and what is asked of it.
+/// A trace that is audited, and the questions about it.
 struct Auditor<'a> {
     args: &'a Audit,
     json: bool,
-    /// What a cut left.
+    /// The sentence about a cut, if a part of the trace was cut out.
     cut: Option<String>,
     view: &'a View<'a>,
     input: &'a Input,
-    /// What a command line calls the trace.
+    /// The trace's name on a command line.
     word: String,
 }
 
-/// All that is found of a trace.
+/// The findings about a trace.
 struct Audited<'a> {
     outcome: &'a Outcome,
     missing: Missing,
@@ -84,7 +84,7 @@ struct Part {
     outcome: Outcome,
 }
 
-/// The parts between which resets may have been; none if there is one alone, or very many.
+/// Splits the trace at possible resets; returns no parts if there is one alone, or too many.
 fn split(view: &View<'_>) -> Result<Vec<(Kept, Trace)>, OutOfMemory> {
     let split = resets::split(view.trace, PARTS).unwrap_or_default();
     if split.len() < 2 {
@@ -99,7 +99,8 @@ fn split(view: &View<'_>) -> Result<Vec<(Kept, Trace)>, OutOfMemory> {
     split.into_iter().map(part).collect()
 }
 
-/// The same, none if events are copies of others: then nothing says that there was a reset.
+/// Splits the trace at possible resets, unless events are copies of others: then nothing says that
+/// there was a reset.
 pub(crate) fn parts(view: &View<'_>) -> Result<Vec<(Kept, Trace)>, OutOfMemory> {
     if outcome::copies(view).is_empty() {
         split(view)
@@ -132,7 +133,7 @@ impl Auditor<'_> {
         })
     }
 
-    /// All that is found of the trace: of one that doesn't fit whether copies or resets explain it.
+    /// Audits the trace; if it doesn't fit, asks whether copies or resets explain it.
     fn audited<'a>(&self, outcome: &'a Outcome) -> Result<Audited<'a>, CompleteError> {
         let shown = outcome.shown(self.view);
         let missing = outcome.missing(&shown)?;
@@ -146,7 +147,7 @@ impl Auditor<'_> {
         Ok(audited)
     }
 
-    /// The events without which a run has the trace, as they are copies of others.
+    /// Finds the events that are copies of others and without which a run has the trace.
     fn copies(&self) -> Result<Vec<(Place, Place)>, CompleteError> {
         let copies = outcome::copies(self.view);
         if copies.is_empty() {
@@ -158,7 +159,7 @@ impl Auditor<'_> {
         Ok(if is_fit { copies } else { Vec::new() })
     }
 
-    /// The parts between which resets may have been, each audited by itself.
+    /// Audits the parts between possible resets, each by itself.
     fn parts(&self) -> Result<Vec<Part>, CompleteError> {
         let audited = |(kept, trace): (Kept, Trace)| {
             let outcome = Outcome::of(&trace)?;
@@ -189,7 +190,7 @@ impl Auditor<'_> {
         file.flush().map_err(unkept)
     }
 
-    /// Writes what was found, in sentences.
+    /// Writes the findings, in sentences.
     fn write(
         &self,
         audited: &Audited<'_>,

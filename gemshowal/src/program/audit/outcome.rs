@@ -1,4 +1,4 @@
-//! Whether a run has a trace, as the proved libraries find it.
+//! The outcome of an audit, as the proved libraries find it.
 
 use super::missing::Missing;
 use crate::reason::Against;
@@ -6,20 +6,20 @@ use crate::view::{Place, Shown, View};
 use gemshowal::{Answer, AuditError, CompleteError, Completion, Event, Fits, OutOfMemory, Paired, Trace};
 use std::collections::HashMap;
 
-/// What is found of a trace.
+/// The outcome of an audit.
 pub(crate) struct Outcome {
     pub(crate) said: Said,
     /// The trace with the ranks of its counts, if acts were found for these alone.
     pub(crate) ranked: Option<Trace>,
 }
 
-/// Whether a run has the trace.
+/// The answer whether a run has the trace.
 pub(crate) enum Said {
-    /// These acts are one.
+    /// A run has the trace: these acts.
     Fits(Fits),
-    /// One has it, with events that nobody reported.
+    /// A run has the trace with events that nobody reported.
     Completed(Completion),
-    /// None has it without a reset.
+    /// No run has the trace without a reset.
     Never(Against),
 }
 
@@ -57,7 +57,7 @@ impl Outcome {
         !matches!(self.said, Said::Never(_))
     }
 
-    /// The word for it in JSON.
+    /// Returns the word for JSON.
     pub(crate) fn word(&self) -> &'static str {
         match self.said {
             Said::Fits(_) => "fits",
@@ -66,7 +66,7 @@ impl Outcome {
         }
     }
 
-    /// The events that are shown of it: those of the trace, or of its completion.
+    /// Returns the events that are shown: those of the trace, or of its completion.
     pub(crate) fn shown<'a>(&'a self, view: &'a View<'a>) -> Shown<'a> {
         match &self.said {
             Said::Completed(completion) => Shown::completed(view, completion),
@@ -74,7 +74,7 @@ impl Outcome {
         }
     }
 
-    /// What the trace leaves out; nothing of one that doesn't fit.
+    /// Finds what the trace leaves out; nothing if the trace doesn't fit.
     pub(super) fn missing(&self, shown: &Shown<'_>) -> Result<Missing, OutOfMemory> {
         if !self.is_fit() {
             return Ok(Missing::default());
@@ -86,8 +86,8 @@ impl Outcome {
     }
 }
 
-/// The events that are copies of an earlier one of their process, each with that one; unless the
-/// node gave the two different times.
+/// Finds the events that are copies of an earlier one of their process, each with that one, unless
+/// the node gave the two different times.
 pub(crate) fn copies(view: &View<'_>) -> Vec<(Place, Place)> {
     let mut found = Vec::new();
     for (pid, events) in view.trace.processes() {
@@ -105,7 +105,7 @@ pub(crate) fn copies(view: &View<'_>) -> Vec<(Place, Place)> {
     found
 }
 
-/// All that an event says.
+/// Returns all fields of an event, to compare two.
 fn key(event: &Event) -> impl std::hash::Hash + Eq {
     let (prev, this) = (event.serial.prev, event.serial.this);
     (event.kind as u8, event.label.0, prev, this, event.from, event.to, event.value)

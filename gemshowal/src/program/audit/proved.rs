@@ -1,4 +1,5 @@
-//! `audit --proved`: what the proved programs `seqaudit` and `seqtool` say of the same text.
+//! The option `--proved`: the answers of the proved programs `seqaudit` and `seqtool` about the
+//! same text.
 
 use super::outcome::{Outcome, Said};
 use crate::erlang::find;
@@ -11,12 +12,12 @@ use std::path::{Path, PathBuf};
 use std::process::{Command, Stdio};
 use std::thread;
 
-/// What the proved programs say.
+/// The answer of the proved programs.
 #[derive(Debug)]
 pub(super) enum Proved {
-    /// The same, by this program and command.
+    /// The answer confirmed, by this program and command.
     Confirmed(String),
-    /// Something else.
+    /// Another answer, of this program and command.
     Differs(String),
 }
 
@@ -25,7 +26,7 @@ impl Proved {
         matches!(self, Proved::Confirmed(_))
     }
 
-    /// The word for JSON.
+    /// Returns the word for JSON.
     pub(super) fn word(&self) -> &'static str {
         match self {
             Proved::Confirmed(_) => "confirmed",
@@ -47,7 +48,7 @@ impl Display for Proved {
     }
 }
 
-/// Asks the proved programs what this program found of a trace.
+/// Asks the proved programs about a trace, and compares their answer with this one.
 pub(super) fn ask(trace: &Trace, outcome: &Outcome) -> Result<Proved, Failure> {
     let seqtool = program("SEQTOOL", "seqtool")?;
     check_version(&seqtool)?;
@@ -63,21 +64,22 @@ pub(super) fn ask(trace: &Trace, outcome: &Outcome) -> Result<Proved, Failure> {
     }
 }
 
-/// `seqaudit`, and the text of a trace; `seqtool` for one that is too large for it.
+/// Returns `seqaudit` and the text of a trace, or `seqtool` if the text is too large for
+/// `seqaudit`.
 fn auditor(trace: &Trace, seqtool: PathBuf) -> Result<(PathBuf, Vec<u8>), Failure> {
     let (text, is_standard) = text_of(trace)?;
     let program = if is_standard { program("SEQAUDIT", "seqaudit")? } else { seqtool };
     Ok((program, text))
 }
 
-/// The text of a trace, and whether `seqaudit` reads it.
+/// Returns the text of a trace, and whether `seqaudit` reads it.
 fn text_of(trace: &Trace) -> Result<(Vec<u8>, bool), Failure> {
     let mut text = Vec::new();
     let is_standard = gemshowal::write_streams(&mut text, trace.streams())?;
     Ok((text, is_standard))
 }
 
-/// What the proved programs write if they find the same.
+/// Writes what the proved programs write if they agree.
 fn own_words(trace: &Trace, outcome: &Outcome) -> io::Result<Vec<u8>> {
     let mut own = Vec::new();
     match &outcome.said {
@@ -93,7 +95,7 @@ fn own_words(trace: &Trace, outcome: &Outcome) -> io::Result<Vec<u8>> {
     Ok(own)
 }
 
-/// The program that a variable names, or that lies beside this one or on the path.
+/// Finds the program that a variable names, or that lies next to this one or on the path.
 fn program(variable: &str, name: &str) -> Result<PathBuf, Failure> {
     let named = env::var_os(variable).filter(|path| !path.is_empty()).map(PathBuf::from);
     named.or_else(|| find(name)).ok_or_else(|| {
@@ -117,7 +119,7 @@ fn check_version(program: &Path) -> Result<(), Failure> {
     Ok(())
 }
 
-/// Whether a program's command ends with this status and writes these bytes of a text.
+/// Returns whether a program's command ends with this status and writes these bytes for a text.
 fn compare(
     program: &Path,
     command: &str,
@@ -134,7 +136,7 @@ fn compare(
         .map_err(|reason| unrun(program, &reason))?;
     let stdin = child.stdin.take();
     let ended = thread::scope(|scope| {
-        // A program that ends early has said why by then.
+        // Ignores the error: a program that ends early has said why by then.
         scope.spawn(move || stdin.map(|mut stdin| stdin.write_all(text)));
         child.wait_with_output()
     });

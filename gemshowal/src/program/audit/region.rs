@@ -6,7 +6,7 @@ use crate::view::{count, grouped, Kept, View};
 use crate::Failure;
 use gemshowal::{Label, OutOfMemory, Partner, Pid};
 
-/// The events that are asked for; none if all are.
+/// Returns the events that are asked for, or `None` if all are.
 pub(super) fn kept(region: &Region, view: &View<'_>, name: &str) -> Result<Option<Kept>, Failure> {
     let Region { labels, processes, from, to } = region;
     let is_timed = from.is_some() || to.is_some();
@@ -37,7 +37,7 @@ pub(super) fn kept(region: &Region, view: &View<'_>, name: &str) -> Result<Optio
     Ok(Some(kept))
 }
 
-/// Whether an event has a time, and that is asked for.
+/// Returns whether an event has a time within the bounds.
 fn is_within(region: &Region, times: &Times, place: (Pid, u64)) -> bool {
     let seconds = times.of_event(place).map(|time| time as f64 / 1e9);
     seconds.is_some_and(|seconds| {
@@ -45,7 +45,7 @@ fn is_within(region: &Region, times: &Times, place: (Pid, u64)) -> bool {
     })
 }
 
-/// How many events a cut keeps, and what it leaves open that wasn't open before.
+/// Says how many events a cut keeps, and which messages it cuts in two.
 pub(super) fn note(view: &View<'_>, kept: &Kept) -> Result<String, OutOfMemory> {
     let number: usize = kept.values().map(Vec::len).sum();
     let of = count(view.trace.streams().total(), "event");
@@ -64,7 +64,7 @@ pub(super) fn note(view: &View<'_>, kept: &Kept) -> Result<String, OutOfMemory> 
     Ok(format!("{} of {of}{open}", grouped(number as u64)))
 }
 
-/// How many receives and sends have their other end cut off, if the trace can be paired.
+/// Counts the receives and sends whose other end is cut off, if the trace can be paired.
 pub(crate) fn open(view: &View<'_>, kept: &Kept) -> Result<Option<[u64; 2]>, OutOfMemory> {
     let Ok(pairing) = view.trace.pair()? else { return Ok(None) };
     let is_kept =

@@ -1,4 +1,4 @@
-//! What `audit` writes of a trace as a whole: its parts, its copies, and the object for programs.
+//! The report on a trace as a whole: its parts, its copies, and the object for programs.
 
 use super::missing::{Known, Lack};
 use super::proved::Proved;
@@ -14,7 +14,7 @@ use serde::Serialize;
 use std::collections::BTreeMap;
 use std::io::{self, Write};
 
-/// So many processes are named.
+/// The greatest number of processes that are named.
 const LISTED: usize = 20;
 
 /// Writes that events are copies of others.
@@ -67,7 +67,7 @@ fn copies_headline(shown: &Shown<'_>, audited: &Audited<'_>) -> String {
     }
 }
 
-/// Writes where resets may have been, and what is found of each part.
+/// Writes where resets may have been, and the findings about each part.
 pub(super) fn write_parts(
     auditor: &Auditor<'_>,
     parts: &[super::Part],
@@ -81,7 +81,7 @@ pub(super) fn write_parts(
     Ok(())
 }
 
-/// What is found of a part between resets.
+/// Returns the findings about a part between resets.
 fn found(auditor: &Auditor<'_>, part: &super::Part) -> Result<Part, OutOfMemory> {
     let view = auditor.view.part(&part.trace, &part.kept, auditor.view.is_cut);
     let shown = part.outcome.shown(&view);
@@ -89,7 +89,7 @@ fn found(auditor: &Auditor<'_>, part: &super::Part) -> Result<Part, OutOfMemory>
     Ok(Part::new(&auditor.sentences(&part.outcome, &shown, &missing), None))
 }
 
-/// Where the resets between the parts are, and whether they would explain the trace.
+/// Says where the resets between the parts are, and whether they would explain the trace.
 fn where_resets(view: &View<'_>, parts: &[super::Part], found: &[Part]) -> String {
     let kept: Vec<&Kept> = parts.iter().map(|part| &part.kept).collect();
     let places: Vec<String> =
@@ -122,8 +122,8 @@ fn where_resets(view: &View<'_>, parts: &[super::Part], found: &[Part]) -> Strin
     }
 }
 
-/// Where a reset is, by the last event of each process before it and the first one behind it. If no
-/// process has events on both sides, each side is told by its processes.
+/// Says where a reset is, by the last event of each process before it and the first one after it.
+/// If no process has events on both sides, it names the processes of each side.
 fn reset_at(view: &View<'_>, before: &[&Kept], behind: &[&Kept]) -> String {
     let pids: Vec<Pid> = view.trace.streams().pids().to_vec();
     let last = |pid: &Pid| before.iter().rev().find_map(|kept| kept.get(pid)?.last().copied());
@@ -159,7 +159,7 @@ fn few(said: &[String]) -> String {
     }
 }
 
-/// What is found of a trace, or of a part of one, for programs.
+/// The findings about a trace, or about a part of one, for programs.
 #[derive(Serialize)]
 pub(super) struct Part {
     #[serde(skip_serializing_if = "Option::is_none")]
@@ -176,7 +176,7 @@ pub(super) struct Part {
     refused: Option<Refused>,
 }
 
-/// What a trace leaves out.
+/// The events and messages that a trace leaves out.
 #[derive(Serialize)]
 struct MissingObject {
     unreported: Vec<Unreported>,
@@ -192,7 +192,7 @@ struct MissingObject {
 #[derive(Serialize)]
 struct Unreported {
     what: String,
-    /// Whether its message was reported at its other end as received.
+    /// Tells whether its message was reported as received.
     certain: bool,
     #[serde(skip_serializing_if = "Option::is_none")]
     received_as: Option<PlaceObject>,
@@ -227,7 +227,7 @@ impl Part {
         &self.headline
     }
 
-    /// Whether it lacks an event, or a message waits.
+    /// Returns whether it lacks an event, or a message waits.
     fn lacks(&self) -> bool {
         let lacks =
             |missing: &MissingObject| !missing.unreported.is_empty() || !missing.waiting.is_empty();
@@ -286,7 +286,7 @@ struct Whole<'a> {
     #[serde(skip_serializing_if = "Vec::is_empty")]
     parts: Vec<Part>,
     losses: &'a [String],
-    /// What the proved programs say: `not asked`, `confirmed` or `differs`.
+    /// The answer of the proved programs: `not asked`, `confirmed` or `differs`.
     proved: &'static str,
 }
 

@@ -1,17 +1,18 @@
-//! Where resets may be in a trace that no run without one has.
+//! The resets that may be in a trace that no run without one has.
 //!
 //! A reset sets the counters of all processes back and takes the tokens off the messages that are
 //! under way. So each part between two resets is a beginning of what is left of each process's
 //! events: in it each process's counts rise, and a message that both ends report is received in the
-//! part in which it was sent. The longest such beginnings are taken, one part after the other.
+//! part in which it was sent. The longest beginnings of this kind are taken, one part after
+//! the other.
 
 use gemshowal::{Event, Kind, Pid, Trace};
 use std::collections::{HashMap, HashSet};
 
-/// From so many parts on it is judged how many there would be.
+/// The number of parts after which the total is estimated.
 const ENOUGH: usize = 8;
 
-/// All that a send and its receive have in common.
+/// The fields that a send and its receive have in common.
 type Message = (Pid, Option<Pid>, u64, u64, u32, u64);
 
 fn message(event: &Event) -> Message {
@@ -19,11 +20,11 @@ fn message(event: &Event) -> Message {
     (event.from, event.to, prev, this, event.label.0, event.value)
 }
 
-/// Of each process the indices from which on its events are in the part, and up to which.
+/// For each process, the indices at which its events in the part begin and end.
 pub(super) type Part = HashMap<Pid, (usize, usize)>;
 
-/// The parts, one after the other; one alone if nothing says that a reset is between. None if there
-/// would be more than so many.
+/// Splits the trace into parts, one alone if nothing says that there was a reset. Returns `None` if
+/// there would be more than `most`.
 pub(super) fn split(trace: &Trace, most: usize) -> Option<Vec<Part>> {
     let mut parts = Vec::new();
     let mut begins: HashMap<Pid, usize> = trace.processes().map(|(pid, _)| (pid, 0)).collect();
@@ -39,7 +40,8 @@ pub(super) fn split(trace: &Trace, most: usize) -> Option<Vec<Part>> {
         if is_last {
             return Some(parts);
         }
-        // If the parts go on like these, there would be far too many: each takes a pass over the rest.
+        // Stops early: if the parts go on like these, there would be far too many, and each takes a
+        // pass over the rest.
         let total = trace.streams().total() as usize;
         let would_be = total * parts.len() / (total - left).max(1);
         if parts.len() == most || parts.len() >= ENOUGH && would_be > 2 * most {
@@ -49,7 +51,7 @@ pub(super) fn split(trace: &Trace, most: usize) -> Option<Vec<Part>> {
     }
 }
 
-/// How far each process's events go in the first part of what is left.
+/// Finds how far each process's events go in the first part of the rest.
 fn take(trace: &Trace, begins: &HashMap<Pid, usize>) -> HashMap<Pid, usize> {
     let mut run = Run::new(trace, begins);
     let mut going: Vec<Pid> = trace.streams().pids().iter().rev().copied().collect();
@@ -60,7 +62,7 @@ fn take(trace: &Trace, begins: &HashMap<Pid, usize>) -> HashMap<Pid, usize> {
     Keeper::new(trace, begins, &longest).kept()
 }
 
-/// What came of a process's next event.
+/// The outcome of a process's next event.
 enum Next {
     Taken,
     Ends,
@@ -75,7 +77,7 @@ struct Run<'a> {
     /// The sends and prints that were taken, by process and count.
     stamps: HashMap<(Pid, u64), Event>,
     received: HashSet<(Pid, u64)>,
-    /// How many such sends are left.
+    /// The number of messages of each kind that are sent and not yet received.
     sends: HashMap<Message, u64>,
     waiting: HashMap<Message, Vec<Pid>>,
 }
@@ -144,15 +146,16 @@ impl<'a> Run<'a> {
     }
 }
 
-/// How many events of each process stay in a part. What a process does next may follow a receive
-/// that was taken last; a reset makes a process forget what it received, so that receive belongs to
-/// the next part, with all behind it, the send of each such receive, and the receive of each such
-/// send. So does a send whose message is received behind the part.
+/// The number of each process's events that stay in a part. What a process does next may follow a
+/// receive that was taken last; a reset makes a process forget what it received, so that receive
+/// belongs to the next part, with all after it, the send of each of these receives, and the receive
+/// of each of these sends. A send whose message is received after the part belongs to the next part
+/// too.
 struct Keeper<'a> {
     trace: &'a Trace,
     begins: &'a HashMap<Pid, usize>,
     ends: HashMap<Pid, usize>,
-    /// Where the other ends of the part's messages are.
+    /// The places of the other ends of the part's messages.
     stamped: HashMap<(Pid, u64), (Pid, usize)>,
     received: HashMap<(Pid, u64), (Pid, usize)>,
 }
@@ -202,8 +205,8 @@ impl<'a> Keeper<'a> {
         self.ends
     }
 
-    /// The place of the receive that the event at a place follows, if only receives are between; else
-    /// that place.
+    /// Returns the place of the receive that an event follows if only receives are between, else
+    /// the event's own place.
     fn caused_from(&self, pid: Pid, place: usize) -> usize {
         let events = self.events(pid);
         let Some(stamp) = events.get(place).filter(|event| event.kind != Kind::Receive) else {
@@ -215,7 +218,8 @@ impl<'a> Keeper<'a> {
         cause.map_or(place, |(at, _)| at)
     }
 
-    /// The sends whose messages are received behind the part, if no send there is theirs.
+    /// Finds the sends whose messages are received after the part, unless a later send may be
+    /// theirs.
     fn received_behind(&self) -> Vec<(Pid, usize)> {
         let mut wanted: HashMap<Message, i64> = HashMap::new();
         for (pid, events) in self.trace.processes() {

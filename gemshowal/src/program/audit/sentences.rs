@@ -1,4 +1,4 @@
-//! What `audit` says of a trace, in sentences: each is here and nowhere else.
+//! The sentences of `audit`: each is here and nowhere else.
 
 use super::counter::Counter;
 use super::missing::{Before, Known, Lack, Missing};
@@ -8,19 +8,20 @@ use crate::view::{count, grouped, Place, Shown};
 use gemshowal::{Kind, Pid};
 use std::io::{self, Write};
 
-/// So many events, processes or messages of a kind are listed; the rest are counted.
+/// The greatest number of events, processes or messages of a kind that are listed; the rest are
+/// counted.
 const LISTED: usize = 20;
-/// What explains an event as well as a message whose receive wasn't reported does.
+/// The other explanation of an event that a message without a reported receive explains.
 const ANEW: &str = "begun anew with a counter left from an earlier trace";
 
-/// What is said of one trace or part.
+/// The sentences about one trace or part.
 pub(crate) struct Sentences<'a> {
     pub(crate) outcome: &'a Outcome,
     pub(crate) shown: &'a Shown<'a>,
     pub(super) missing: &'a Missing,
-    /// Whether the collectors lost events.
+    /// Tells whether the collectors lost events.
     pub(super) is_lossy: bool,
-    /// What a command line calls the trace.
+    /// The trace's name on a command line.
     pub(super) name: &'a str,
 }
 
@@ -29,7 +30,7 @@ impl Sentences<'_> {
         self.shown.view.is_cut
     }
 
-    /// The result in a line.
+    /// Returns the result in a line.
     pub(crate) fn headline(&self) -> String {
         let events = self.shown.view.trace.streams().total();
         let processes = self.shown.view.trace.streams().pids().len() as u64;
@@ -45,7 +46,7 @@ impl Sentences<'_> {
         }
     }
 
-    /// What is missing, in short. Of what a cut or the collectors took away no event tells.
+    /// Says in short what is missing. No event tells of what a cut or the collectors took away.
     fn left_out(&self) -> String {
         if self.missing.is_nothing() {
             return match self.sum(|counter| u64::from(counter.behind > 0)) {
@@ -80,7 +81,7 @@ impl Sentences<'_> {
         self.missing.counters.iter().map(|(_, counter)| number(counter)).sum()
     }
 
-    /// What is missing, kind by kind.
+    /// Says what is missing, kind by kind.
     fn what_is_missing(&self) -> Vec<String> {
         let mut missing = Vec::new();
         let by = match self.is_cut() {
@@ -108,7 +109,7 @@ impl Sentences<'_> {
         missing
     }
 
-    /// How many messages of unlisted processes a completion has.
+    /// Counts the messages of unlisted processes in the completion.
     fn strangers(&self) -> u64 {
         let is_from_stranger = |lack: &&Lack| match **lack {
             Lack::Added((pid, index), _) => {
@@ -122,7 +123,7 @@ impl Sentences<'_> {
         self.missing.lacks.iter().filter(is_from_stranger).count() as u64
     }
 
-    /// How many events nobody reported: the certain ones, and the others of listed processes.
+    /// Says how many events nobody reported: the certain ones, and the others of listed processes.
     fn unreported(&self) -> Option<String> {
         let (mut certain, mut supposed) = ([0; 2], [0; 2]);
         for lack in &self.missing.lacks {
@@ -148,8 +149,8 @@ impl Sentences<'_> {
         }
     }
 
-    /// That messages have no receive. A port reports none, a node drops a reply whose caller waits
-    /// no longer, and a message to another node may get there without its token.
+    /// Says that messages have no receive. A port reports none, a node drops a reply whose caller
+    /// waits no longer, and a message to another node may get there without its token.
     fn not_received(&self) -> String {
         let waiting = &self.missing.waiting;
         let has = if waiting.len() == 1 { "has" } else { "have" };
@@ -173,7 +174,7 @@ impl Sentences<'_> {
         format!("{messages} {has} no reported receive, and may still wait{ways}")
     }
 
-    /// Writes all that an engineer asks behind the headline.
+    /// Writes all that an engineer asks after the headline.
     pub(crate) fn write_details(&self, out: &mut Output) -> io::Result<()> {
         if let Said::Never(against) = &self.outcome.said {
             return against.write_details(self.shown, out);
@@ -266,7 +267,7 @@ impl Sentences<'_> {
         }
     }
 
-    /// An event that nobody reported, and where it belongs.
+    /// Describes an event that nobody reported, and says where it belongs.
     pub(super) fn lack(&self, lack: &Lack) -> String {
         let event = |(pid, index): Place| self.shown.streams.event(pid, index);
         match *lack {
@@ -295,7 +296,7 @@ impl Sentences<'_> {
         }
     }
 
-    /// The event that an unreported receive comes before.
+    /// Names the event that an unreported receive comes before.
     pub(super) fn before(&self, before: Before) -> String {
         match before {
             Before::Event(place) => self.shown.event(place),
@@ -303,14 +304,14 @@ impl Sentences<'_> {
         }
     }
 
-    /// A send, and to whom it is.
+    /// Names a send and the process that it is to.
     fn message(&self, send: Place) -> String {
         let to = self.shown.streams.event(send.0, send.1).and_then(|event| event.to);
         let to = to.map(|to| format!(" to {}", self.shown.process(to))).unwrap_or_default();
         format!("{}{to}", self.shown.event(send))
     }
 
-    /// Writes what counts tell.
+    /// Writes what the counts tell.
     fn write_counters(&self, out: &mut Output) -> io::Result<()> {
         let silent = self.counted(|it| it.silent);
         if !silent.is_empty() {
@@ -370,7 +371,7 @@ impl Sentences<'_> {
         Ok(())
     }
 
-    /// The processes of which a number isn't 0, with it.
+    /// Returns the processes for which a number isn't 0, with that number.
     pub(super) fn counted(&self, number: impl Fn(&Counter) -> u64) -> Vec<(Pid, u64)> {
         let counted = self.missing.counters.iter().map(|(pid, counter)| (*pid, number(counter)));
         counted.filter(|(_, number)| *number > 0).collect()
@@ -386,7 +387,7 @@ impl Sentences<'_> {
         })
     }
 
-    /// Writes of which events the cause isn't known, and how to ask what it may be.
+    /// Writes which events have no known cause, and how to ask what it may be.
     fn write_open(&self, out: &mut Output) -> io::Result<()> {
         let Some(&first) = self.missing.open.first() else { return Ok(()) };
         let events = listed(&self.missing.open, |&place| self.shown.event(place), "more");
@@ -407,7 +408,7 @@ impl Sentences<'_> {
         }
     }
 
-    /// The receive that an event would follow, if its process had not reported it only later.
+    /// Finds the receive that an event would follow if its process hadn't reported it only later.
     fn overtaken(&self, (pid, index): Place) -> Option<Place> {
         let event = self.shown.streams.event(pid, index)?;
         let later = self.shown.streams.events(pid).iter().zip(0..).find(|&(other, at)| {
@@ -420,7 +421,7 @@ impl Sentences<'_> {
     }
 }
 
-/// How many sends and receives there are, in words; receives are never certain.
+/// Says how many sends and receives there are; receives are never certain.
 fn by_kind([sends, receives]: [u64; 2], more: &str) -> String {
     let send = format!("{more}send");
     let kinds = [(sends, send.as_str()), (receives, "receive")];
@@ -428,7 +429,7 @@ fn by_kind([sends, receives]: [u64; 2], more: &str) -> String {
     said.map(|(number, kind)| count(number, kind)).collect::<Vec<_>>().join(" and ")
 }
 
-/// The first of several things, and how many more there are.
+/// Lists the first things, and says how many more there are.
 fn listed<T>(things: &[T], say: impl Fn(&T) -> String, more: &str) -> String {
     let mut said: Vec<String> = things.iter().take(LISTED).map(say).collect();
     if let Some(rest) = things.len().checked_sub(LISTED).filter(|rest| *rest > 0) {
@@ -437,7 +438,7 @@ fn listed<T>(things: &[T], say: impl Fn(&T) -> String, more: &str) -> String {
     said.join(", ")
 }
 
-/// What is said of each of several processes.
+/// Joins what is said about each of several processes.
 fn of_processes<T>(things: &[T], say: impl Fn(&T) -> String) -> String {
     let more = things.len().saturating_sub(LISTED);
     let said = listed(things.get(..things.len() - more).unwrap_or_default(), say, "");
@@ -447,7 +448,7 @@ fn of_processes<T>(things: &[T], say: impl Fn(&T) -> String) -> String {
     }
 }
 
-/// A word as a shell takes it.
+/// Returns a word as a shell takes it.
 fn quoted(word: &str) -> String {
     let is_plain = |c: char| c.is_ascii_alphanumeric() || matches!(c, '_' | '.' | '/' | '-');
     if !word.is_empty() && word.chars().all(is_plain) {
@@ -457,7 +458,7 @@ fn quoted(word: &str) -> String {
     }
 }
 
-/// Writes what is gone, by the facts of the conversion. If only nothing came, nothing need be gone.
+/// Writes what is lost, by the facts of the conversion. If only nothing came, nothing need be lost.
 pub(crate) fn write_losses(losses: &[String], out: &mut Output) -> io::Result<()> {
     match losses {
         [] => Ok(()),

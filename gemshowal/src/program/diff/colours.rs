@@ -8,7 +8,7 @@ use super::side::{Side, NOBODY};
 use gemshowal::Serial;
 use std::collections::{HashMap, HashSet};
 
-/// One number for two, as SplitMix64 makes it.
+/// Mixes two numbers into one, by SplitMix64.
 pub(super) fn mix(one: u64, other: u64) -> u64 {
     let mut mixed = one.rotate_left(23).wrapping_mul(0x9E37_79B9_7F4A_7C15) ^ other;
     mixed = (mixed ^ (mixed >> 30)).wrapping_mul(0xBF58_476D_1CE4_E5B9);
@@ -31,22 +31,23 @@ impl Ranks {
         Ranks(counts)
     }
 
-    /// How many counts are below both.
+    /// Returns the number of counts below each of a serial's two.
     pub(super) fn of_serial(&self, serial: Serial) -> [u64; 2] {
         let below = |count| self.0.partition_point(|&other| other < count) as u64;
         [below(serial.prev), below(serial.this)]
     }
 }
 
-/// The colours by the processes' own events, with the ranks of their counts if these are given.
+/// Returns the colours by the processes' own events, with the ranks of their counts if these are
+/// given.
 pub(super) fn first_colours(side: &Side<'_>, ranks: Option<&Ranks>) -> Vec<u64> {
     let mut named = vec![(NOBODY, 0); side.len()];
     (0..side.len()).map(|place| first_colour(side, ranks, place, &mut named)).collect()
 }
 
-/// The colour of a process by its own events: which of them have the same process at the other end,
-/// or itself, but not yet which. Of each process `named` has the last one whose events name it, and
-/// the first of these.
+/// Returns the colour of a process by its own events: it tells which of them have the same process
+/// at the other end, but not yet which process. For each process, `named` has the last one whose
+/// events name it, and the first of these events.
 fn first_colour(
     side: &Side<'_>,
     ranks: Option<&Ranks>,
@@ -68,7 +69,7 @@ fn first_colour(
     colour
 }
 
-/// The colours of one round more.
+/// Refines the colours by one round.
 pub(super) fn refined(side: &Side<'_>, colours: &[u64]) -> Vec<u64> {
     let mut told = vec![0_u64; colours.len()];
     let mut own = Vec::with_capacity(colours.len());
@@ -85,7 +86,7 @@ pub(super) fn refined(side: &Side<'_>, colours: &[u64]) -> Vec<u64> {
     own.into_iter().zip(told).map(|(own, told)| mix(own, told)).collect()
 }
 
-/// The colours with those of all processes of each one's part taken in.
+/// Mixes into each colour those of all processes of its part.
 pub(super) fn with_parts(colours: &[u64], parts: &mut Parts) -> Vec<u64> {
     let mut sums = HashMap::<usize, u64>::new();
     for (place, &colour) in colours.iter().enumerate() {
@@ -96,12 +97,12 @@ pub(super) fn with_parts(colours: &[u64], parts: &mut Parts) -> Vec<u64> {
     colours.iter().enumerate().map(|(place, &colour)| mix(colour, sum(place))).collect()
 }
 
-/// How many different colours there are.
+/// Counts the different colours.
 pub(super) fn count(colours: &[u64]) -> usize {
     colours.iter().collect::<HashSet<_>>().len()
 }
 
-/// Whether two traces have each colour as often as the other.
+/// Returns whether two traces have each colour equally often.
 pub(super) fn are_alike(ones: &[u64], others: &[u64]) -> bool {
     let [ones, others] = [ones, others].map(|colours| {
         let mut sorted = colours.to_vec();
@@ -117,7 +118,7 @@ pub(super) fn are_alike(ones: &[u64], others: &[u64]) -> bool {
 pub(super) struct Parts(Vec<u32>);
 
 impl Parts {
-    /// Each process is a part.
+    /// Makes a part of each process.
     pub(super) fn apart(side: &Side<'_>) -> Parts {
         Parts((0..side.len() as u32).collect())
     }
@@ -135,7 +136,7 @@ impl Parts {
         parts
     }
 
-    /// The process at which the way from this one ends. It makes the way shorter.
+    /// Follows the way from this process to its end, and shortens it.
     pub(super) fn end(&mut self, mut place: usize) -> usize {
         let next = |parts: &Parts, place| parts.0.get(place).map_or(place, |&next| next as usize);
         loop {

@@ -1,4 +1,4 @@
-//! What is said of two traces as JSON.
+//! The report on two traces, as JSON.
 
 use super::pairs::{Ground, Pair};
 use super::report::{Line, Report};
@@ -12,7 +12,7 @@ use serde::Serialize;
 struct Object<'a, P, C> {
     /// The name of the second trace.
     other: &'a str,
-    /// Whether the result holds however processes are matched. All that is the same is compared.
+    /// Tells whether the result holds however processes are matched: it does if nothing differs.
     certain: bool,
     #[serde(flatten)]
     sums: Sums,
@@ -27,7 +27,7 @@ struct Matched {
     is: Text<Pid>,
     because: Ground,
     guess: bool,
-    /// Whether there may be fewer changes than are told.
+    /// Tells whether there may be fewer changes than are told.
     coarse: bool,
 }
 
@@ -44,7 +44,7 @@ enum Difference {
         #[serde(flatten)]
         row: Placed,
     },
-    /// One that is in both traces.
+    /// An event that is in both traces.
     Both {
         change: &'static str,
         #[serde(flatten)]
@@ -71,7 +71,7 @@ impl From<Row<'_>> for Placed {
     }
 }
 
-/// All that is said: the processes that are matched, by rising pid of the first trace's, and then
+/// Makes the object: the processes that are matched, by rising pid of the first trace's, and then
 /// what differs.
 pub(super) fn object<'a>(report: &'a Report<'a>) -> impl Serialize + 'a {
     let ([first, _], [_, second]) = (report.sides, report.texts);

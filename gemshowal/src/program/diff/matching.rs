@@ -1,4 +1,4 @@
-//! Which processes of two traces have the same part.
+//! The matching of two traces' processes by the part that they play.
 //!
 //! If one renaming may make the one trace of the other, each process is matched with one of the
 //! same colour. If several have it, the first one that is free is a guess; in each part of the
@@ -17,7 +17,7 @@ use super::pairs::{Ground, Pairs, Which};
 use super::side::{Side, NOBODY};
 use std::collections::{HashMap, HashSet, VecDeque};
 
-/// How many hops of messages a key looks beyond the process.
+/// The number of hops that a key looks beyond the process.
 const HOPS: usize = 4;
 
 /// The rounds of colours for each two traces, and how many events and processes the rounds beyond
@@ -89,8 +89,8 @@ pub(super) fn by_keys(sides: [&Side<'_>; 2], mates: &[Mate]) -> Pairs {
     search.pairs
 }
 
-/// All keys of a trace, those that tell most first, each with what it tells: numbers that alike
-/// processes have in common.
+/// Returns all keys of a trace, those that tell most first, each with its ground: alike processes
+/// have equal keys.
 fn all_keys(side: &Side<'_>) -> Vec<(Vec<u64>, Ground)> {
     let of_all =
         |key: fn(&Side<'_>, usize) -> u64| (0..side.len()).map(|it| key(side, it)).collect();
@@ -112,7 +112,7 @@ fn all_keys(side: &Side<'_>) -> Vec<(Vec<u64>, Ground)> {
     keys
 }
 
-/// The key of all events of a process but for pids and counts, with the keys that are known of the
+/// Returns the key of all events of a process but for pids and counts, with the known keys of the
 /// processes at their other ends.
 fn key_of_events(side: &Side<'_>, place: usize, known: &[u64]) -> u64 {
     side.items(place).iter().zip(side.peers(place)).fold(0, |key, (&item, &peer)| {
@@ -125,7 +125,7 @@ fn key_of_events(side: &Side<'_>, place: usize, known: &[u64]) -> u64 {
 struct Groups(HashMap<u64, VecDeque<usize>>);
 
 impl Groups {
-    /// The process of this key, if there is one alone.
+    /// Returns the process of this key, if there is one alone.
     fn only(&self, key: u64) -> Option<usize> {
         let group = self.0.get(&key).filter(|group| group.len() == 1)?;
         group.front().copied()
@@ -137,7 +137,7 @@ impl Groups {
     }
 }
 
-/// A trace with what its processes are matched by.
+/// A trace with the keys by which its processes are matched.
 struct Half<'a> {
     side: &'a Side<'a>,
     which: Which,
@@ -150,7 +150,7 @@ impl Half<'_> {
         self.keys.get(place).copied().unwrap_or(0)
     }
 
-    /// The free processes by their keys.
+    /// Groups the free processes by their keys.
     fn groups(&self, pairs: &Pairs) -> Groups {
         let mut groups = HashMap::<u64, VecDeque<usize>>::new();
         for &place in self.order.iter().filter(|&&place| pairs.is_free(self.which, place)) {
@@ -159,19 +159,20 @@ impl Half<'_> {
         Groups(groups)
     }
 
-    /// The events of a process, each with the number of the pair that the process at its other end
-    /// is in. So a message to a process that is matched goes with one to its partner alone.
+    /// Returns the events of a process, each with the number of the pair that the process at its
+    /// other end is in. So a message to a process that is matched goes with one to its partner
+    /// alone.
     fn known_items(&self, place: usize, pairs: &Pairs) -> Vec<u64> {
         self.side.items_with(place, |peer| pairs.number(self.which, peer as usize))
     }
 
-    /// The process at this place, unless it is matched or its part has a guess.
+    /// Returns the process at this place, unless it is matched or its part has a guess.
     fn is_open(&self, place: usize, pairs: &Pairs, guessed: &mut Guessed<'_>) -> bool {
         pairs.is_free(self.which, place) && !guessed.ends.contains(&guessed.parts.end(place))
     }
 }
 
-/// The parts of a trace of which a process was guessed, each by the process at its end.
+/// The parts of a trace in which a process was guessed, each by the process at its end.
 struct Guessed<'a> {
     parts: &'a mut Parts,
     ends: HashSet<usize>,
@@ -182,7 +183,7 @@ struct Search<'a> {
     first: Half<'a>,
     second: Half<'a>,
     pairs: Pairs,
-    /// How many pairs were followed.
+    /// The number of pairs that were followed.
     followed: usize,
     budget: Budget,
 }

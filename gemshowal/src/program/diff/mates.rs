@@ -6,7 +6,7 @@ use super::side::{term, Side};
 use crate::names::Names;
 use std::collections::HashMap;
 
-/// The processes that are called alike. Those with one name come first.
+/// Finds the processes that are called alike. Those with one name come first.
 pub(super) fn find(sides: [&Side<'_>; 2], names: [&Names; 2], has_names: bool) -> Vec<Mate> {
     let [first, second] = sides;
     let [ones, others] = names;
@@ -26,7 +26,7 @@ pub(super) fn find(sides: [&Side<'_>; 2], names: [&Names; 2], has_names: bool) -
     mates
 }
 
-/// The processes by their names, none of those that several have.
+/// Returns the processes by their names, without the names that several have.
 fn by_name<'a>(side: &Side<'_>, names: &'a Names) -> HashMap<&'a str, Option<usize>> {
     let mut found = HashMap::new();
     for (place, &pid) in side.pids().iter().enumerate() {

@@ -2,8 +2,8 @@
 //! counts.
 //!
 //! `matching` finds which process of the one trace has the part of which in the other, and why that
-//! is believed: by `colours`, if one renaming may make the one trace of the other. `align` says
-//! which events of two such processes go together, and `changes` has the others.
+//! is believed: by `colours`, if one renaming may make the one trace of the other. `align` pairs the
+//! events of two processes that are matched, and `changes` has the others.
 
 mod align;
 mod changes;
@@ -57,19 +57,19 @@ pub(crate) fn run(
     Ok(if report.is_same() { Status::Yes } else { Status::No })
 }
 
-/// Whether there are names of a trace. Its file has one for each process.
+/// Returns whether there are names of a trace. Its file has one for each process.
 fn has_names(trace: &Trace, names: &Names) -> bool {
     trace.streams().pids().iter().any(|&pid| names.about(pid).is_some())
 }
 
-/// Which processes of two traces are the same, and what differs then.
+/// The pairs of processes of two traces, and the differences between those.
 #[derive(Debug)]
 struct Found {
     pairs: Pairs,
     changes: Changes,
-    /// Of traces that are alike but for their counts the first event whose counts moved.
+    /// The first event whose counts moved, if the traces are alike but for their counts.
     moved: Option<Moved>,
-    /// Whether no renaming makes the one trace of the other, whatever was guessed.
+    /// Tells whether no renaming makes the one trace of the other, whatever was guessed.
     is_certain: bool,
 }
 
@@ -111,8 +111,8 @@ fn match_alike(sides: [&Side<'_>; 2], ranks: Option<&[Ranks; 2]>, mates: &[Mate]
     Some(matching::by_keys(sides, &matched.collect::<Vec<Mate>>()))
 }
 
-/// The way to match processes that leaves fewest changes: all that are called alike, those alone
-/// that have one name, or none of them. Of several that leave as many it is the first.
+/// Returns the match that leaves fewest changes: by all processes that are called alike, by those
+/// alone that have one name, or by none. Of several that leave as many it is the first.
 fn best_match(sides: [&Side<'_>; 2], mates: &[Mate]) -> (Pairs, Changes) {
     let named: Vec<Mate> =
         mates.iter().filter(|mate| mate.2 == pairs::Ground::Name).copied().collect();

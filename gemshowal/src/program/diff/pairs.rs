@@ -1,41 +1,43 @@
-//! Which process of the one trace is which of the other, and why that is believed.
+//! The pairs of processes of two traces, each with the ground for which they are taken for the
+//! same.
 
 use super::side::NOBODY;
 use serde::Serialize;
 
-/// Which of the two traces.
+/// The first or the second of the two traces.
 #[derive(Clone, Copy, Debug, PartialEq, Eq)]
 pub(super) enum Which {
     First,
     Second,
 }
 
-/// Why two processes are taken for the same.
+/// The ground for which two processes are taken for the same.
 #[derive(Clone, Copy, Debug, PartialEq, Eq, Serialize)]
 #[serde(rename_all = "snake_case")]
 pub(super) enum Ground {
-    /// They have one name, which no other process has.
+    /// One name, which no other process has.
     Name,
-    /// They have one pid.
+    /// One pid.
     Pid,
-    /// All their events are alike, and those of no other process are.
+    /// All events alike, and those of no other process are.
     Events,
-    /// All their events are alike, as those of others are; they came first.
+    /// All events alike, as those of others are; these two came first.
     Several,
-    /// They are at the other ends of messages that are alike.
+    /// The other ends of messages that are alike.
     Message,
-    /// The kinds of all their events are the same.
+    /// All events of the same kinds.
     Kinds,
-    /// Their first events are alike.
+    /// First events alike.
     First,
-    /// Their first events have the same kind.
+    /// First events of the same kind.
     FirstKind,
-    /// Neither reports an event.
+    /// No event reported by either.
     Silent,
 }
 
 impl Ground {
-    /// Whether two processes of different parts may well be taken for the same on this ground.
+    /// Returns whether two processes of different parts may well be taken for the same on this
+    /// ground.
     pub(super) fn is_guess(self) -> bool {
         !matches!(self, Ground::Name | Ground::Pid | Ground::Events)
     }
@@ -52,26 +54,25 @@ pub(super) struct Pair {
 /// The processes that are matched.
 #[derive(Debug)]
 pub(super) struct Pairs {
-    /// In the order in which they were found.
+    /// All pairs in the order in which they were found.
     all: Vec<Pair>,
     /// For each process of the first trace the number of its pair in `all`, or `NOBODY`.
     first: Vec<u32>,
-    /// The same for the second trace.
+    /// For each process of the second trace the number of its pair in `all`, or `NOBODY`.
     second: Vec<u32>,
 }
 
 impl Pairs {
-    /// None yet, of so many processes of both traces.
+    /// Makes an empty matching of this number of processes of both traces.
     pub(super) fn new(first: usize, second: usize) -> Pairs {
         Pairs { all: Vec::new(), first: vec![NOBODY; first], second: vec![NOBODY; second] }
     }
 
-    /// All pairs.
     pub(super) fn all(&self) -> &[Pair] {
         &self.all
     }
 
-    /// The number of the pair of a process, or `NOBODY`.
+    /// Returns the number of the pair of a process, or `NOBODY`.
     pub(super) fn number(&self, which: Which, place: usize) -> u32 {
         let numbers = match which {
             Which::First => &self.first,
@@ -80,12 +81,12 @@ impl Pairs {
         numbers.get(place).copied().unwrap_or(NOBODY)
     }
 
-    /// Whether a process is in no pair.
+    /// Returns whether a process is in no pair.
     pub(super) fn is_free(&self, which: Which, place: usize) -> bool {
         self.number(which, place) == NOBODY
     }
 
-    /// The pair of a process of the first trace.
+    /// Returns the pair of a process of the first trace.
     pub(super) fn of_first(&self, place: usize) -> Option<Pair> {
         self.all.get(self.number(Which::First, place) as usize).copied()
     }

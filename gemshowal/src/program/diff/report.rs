@@ -1,4 +1,4 @@
-//! What is said of two traces: a line for all, and then process by process what is gone, new and
+//! The report on two traces: a line for all, and then process by process what is gone, new and
 //! elsewhere.
 
 use super::changes::{are_alike, Change};
@@ -20,7 +20,7 @@ pub(super) struct Text<'a> {
 }
 
 impl<'a> Text<'a> {
-    /// The trace of this name, with what its numbers mean.
+    /// Makes the trace of this name, with the meaning of its numbers.
     pub(super) fn new(
         name: &'a str,
         trace: &'a Trace,
@@ -36,12 +36,12 @@ pub(super) struct Moved {
     pair: Pair,
     index: usize,
     ranks: [[u64; 2]; 2],
-    /// How many such events there are.
+    /// The number of events whose counts have other ranks.
     count: usize,
 }
 
 impl Moved {
-    /// The first such event of traces that are alike but for their counts.
+    /// Finds the first event whose counts moved, of traces that are alike but for their counts.
     pub(super) fn find(
         [first, second]: [&Side<'_>; 2],
         [ones, others]: &[Ranks; 2],
@@ -63,7 +63,7 @@ impl Moved {
     }
 }
 
-/// Two traces with what differs in them.
+/// Two traces with their differences.
 pub(super) struct Report<'a> {
     pub(super) sides: [&'a Side<'a>; 2],
     pub(super) texts: &'a [Text<'a>; 2],
@@ -77,7 +77,7 @@ pub(super) enum Line<'a> {
     Matched(Pair),
     /// A process of the first trace that is matched with none.
     Gone(Pid),
-    /// The same of the second trace.
+    /// A process of the second trace without a match.
     New(Pid),
     /// A change of the first trace.
     First(&'a Change),
@@ -115,7 +115,7 @@ impl<'a> Report<'a> {
         }
     }
 
-    /// What is told, process by process.
+    /// Returns the lines, process by process.
     pub(super) fn lines(&self) -> Vec<Line<'a>> {
         let (pairs, changes) = (&self.found.pairs, &self.found.changes);
         let [first, second] = self.sides;
@@ -145,7 +145,7 @@ impl<'a> Report<'a> {
         lines
     }
 
-    /// The event of the trace of this number at a place.
+    /// Returns the event of the trace of this number at a place.
     pub(super) fn row(&self, which: usize, process: usize, index: usize) -> Option<Row<'a>> {
         let (side, trace) = (self.sides.get(which)?, self.texts.get(which)?);
         let pid = *side.pids().get(process)?;
@@ -154,7 +154,7 @@ impl<'a> Report<'a> {
         Some(Row { trace, line: trace.lines.line(place.0, place.1)?, place, event })
     }
 
-    /// A change of the first trace, and where it is in the second, if it is there.
+    /// Returns a change of the first trace, and its place in the second, if it is there.
     pub(super) fn rows(&self, change: &Change) -> Option<(Row<'a>, Option<(Row<'a>, Difference)>)> {
         let row = self.row(0, change.process, change.index)?;
         let other = change.elsewhere.and_then(|other| self.found.changes.second.get(other));
@@ -169,7 +169,7 @@ impl<'a> Report<'a> {
         Some((row, now))
     }
 
-    /// The first event whose counts moved, in both traces.
+    /// Returns the first event whose counts moved, in both traces.
     pub(super) fn moved(&self) -> Option<(Row<'a>, Row<'a>, Difference)> {
         let moved = self.found.moved?;
         let row = self.row(0, moved.pair.first, moved.index)?;
@@ -177,13 +177,13 @@ impl<'a> Report<'a> {
         Some((row, now, Difference::Ranks(moved.ranks)))
     }
 
-    /// The processes of a pair.
+    /// Returns the processes of a pair.
     pub(super) fn pids(&self, pair: Pair) -> Option<(Pid, Pid)> {
         let [first, second] = self.sides;
         Some((*first.pids().get(pair.first)?, *second.pids().get(pair.second)?))
     }
 
-    /// Whether there may be fewer changes of a pair.
+    /// Returns whether there may be fewer changes of a pair.
     pub(super) fn is_coarse(&self, pair: Pair) -> bool {
         self.found.changes.is_coarse.get(pair.first).copied().unwrap_or_default()
     }
@@ -249,7 +249,7 @@ impl<'a> Report<'a> {
     }
 }
 
-/// The changes of a process.
+/// Returns the changes of a process.
 fn of_process(changes: &[Change], process: usize) -> &[Change] {
     let start = changes.partition_point(|change| change.process < process);
     let end = changes.partition_point(|change| change.process <= process);

@@ -12,7 +12,7 @@ pub(super) type Item = u32;
 /// The place of no process.
 pub(super) const NOBODY: u32 = u32::MAX;
 
-/// A label or a value: its term, or its number if it has none.
+/// The term of a label or a value, or its number if it has none.
 #[derive(Debug, Hash, PartialEq, Eq)]
 enum Word<'a> {
     Number(u64),
@@ -29,7 +29,8 @@ pub(super) struct Vocabulary<'a> {
 }
 
 impl<'a> Vocabulary<'a> {
-    /// No items yet. Labels and values are compared by their terms, or by their numbers.
+    /// Makes an empty vocabulary, in which labels and values are compared by their terms, or by
+    /// their numbers.
     pub(super) fn new(has_terms: bool) -> Vocabulary<'a> {
         Vocabulary { has_terms, ..Vocabulary::default() }
     }
@@ -45,7 +46,7 @@ impl<'a> Vocabulary<'a> {
         *self.words.entry(word).or_insert(next)
     }
 
-    /// The item of what an event is.
+    /// Returns the item of an event.
     fn item_of(&mut self, event: &Event, names: &'a Names) -> Item {
         let (label, value) = (event.label.0.into(), event.value);
         if !self.has_terms {
@@ -57,7 +58,7 @@ impl<'a> Vocabulary<'a> {
     }
 }
 
-/// A name that a file has. One that is made up of a number is owned.
+/// Returns a name that a file has. A name that is made of a number is owned.
 pub(super) fn term(name: Cow<'_, str>) -> Option<&str> {
     match name {
         Cow::Borrowed(term) => Some(term),
@@ -65,7 +66,8 @@ pub(super) fn term(name: Cow<'_, str>) -> Option<&str> {
     }
 }
 
-/// A term without what differs from run to run: the numbers of its references, pids and ports.
+/// Returns a term without what differs from run to run: the numbers of its references, pids and
+/// ports.
 fn without_numbers(term: &str) -> Cow<'_, str> {
     let is_number = |text: &str| text.bytes().all(|byte| byte.is_ascii_digit() || byte == b'.');
     let mut parts = term.split('<');
@@ -87,7 +89,7 @@ fn without_numbers(term: &str) -> Cow<'_, str> {
 #[derive(Debug)]
 pub(super) struct Side<'a> {
     trace: &'a Trace,
-    /// Where the events of the process at each place begin, and where the last ones end.
+    /// The places at which the events of each process begin, and at which the last ones end.
     starts: Vec<usize>,
     items: Vec<Item>,
     /// The place of the process at the other end of each event's message, or `NOBODY`.
@@ -113,12 +115,12 @@ impl<'a> Side<'a> {
         Side { trace, starts, items, peers }
     }
 
-    /// How many processes there are.
+    /// Counts the processes.
     pub(super) fn len(&self) -> usize {
         self.trace.streams().pids().len()
     }
 
-    /// How many events there are.
+    /// Counts the events.
     pub(super) fn total(&self) -> usize {
         self.items.len()
     }
@@ -127,7 +129,7 @@ impl<'a> Side<'a> {
         self.trace.streams().pids()
     }
 
-    /// The place of a process.
+    /// Returns the place of a process.
     pub(super) fn place_of(&self, pid: Pid) -> Option<usize> {
         self.trace.streams().place_of(pid)
     }
@@ -140,19 +142,18 @@ impl<'a> Side<'a> {
         self.range(place).and_then(|range| self.items.get(range)).unwrap_or_default()
     }
 
-    /// The items of a process, each with what the function makes of the place of the process at the
-    /// other end.
+    /// Returns the items of a process, each with what the function makes of the place of the
+    /// process at the other end.
     pub(super) fn items_with(&self, place: usize, of_peer: impl Fn(u32) -> u32) -> Vec<u64> {
         let events = self.items(place).iter().zip(self.peers(place));
         events.map(|(&item, &peer)| u64::from(item) << 32 | u64::from(of_peer(peer))).collect()
     }
 
-    /// The items of all events.
     pub(super) fn all_items(&self) -> &[Item] {
         &self.items
     }
 
-    /// The places of the processes at the other ends of the events' messages.
+    /// Returns the places of the processes at the other ends of the events' messages.
     pub(super) fn peers(&self, place: usize) -> &[u32] {
         self.range(place).and_then(|range| self.peers.get(range)).unwrap_or_default()
     }
@@ -161,8 +162,8 @@ impl<'a> Side<'a> {
         Some(*self.starts.get(place)?..*self.starts.get(place + 1)?)
     }
 
-    /// The places of the processes by when they first report something; those that report nothing
-    /// come last.
+    /// Returns the places of the processes by when they first report something; those that report
+    /// nothing come last.
     pub(super) fn order(&self) -> Vec<usize> {
         let mut order = Vec::from_iter(0..self.len());
         order.sort_by_key(|&place| {

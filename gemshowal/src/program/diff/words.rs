@@ -1,4 +1,4 @@
-//! What `diff` says in words.
+//! The sentences of `diff`.
 
 use super::pairs::Ground;
 use super::report::Text as Trace;
@@ -7,7 +7,7 @@ use gemshowal::{Event, Kind, Text};
 use serde::Serialize;
 use std::fmt::{self, Display, Formatter};
 
-/// How many of each there are.
+/// The numbers of changes, moves and guesses.
 #[derive(Clone, Copy, Debug, Serialize)]
 pub(super) struct Sums {
     pub(super) gone: usize,
@@ -15,14 +15,14 @@ pub(super) struct Sums {
     pub(super) elsewhere: usize,
     pub(super) gone_processes: usize,
     pub(super) new_processes: usize,
-    /// How many processes are matched by a guess.
+    /// The number of processes that are matched by a guess.
     pub(super) guesses: usize,
-    /// How many events have counts of another rank, if all else is the same.
+    /// The number of events whose counts have another rank, if all else is the same.
     pub(super) counts: usize,
 }
 
 impl Sums {
-    /// The first line.
+    /// Returns the first line.
     pub(super) fn words(&self) -> String {
         let Sums { gone, new, elsewhere, gone_processes, new_processes, guesses, counts } = self;
         let counts = match counts {
@@ -36,7 +36,7 @@ impl Sums {
     }
 }
 
-/// Why two processes are taken for the same.
+/// Says why two processes are taken for the same.
 pub(super) fn sentence(ground: Ground) -> &'static str {
     match ground {
         Ground::Name => "they have the same name",
@@ -53,13 +53,12 @@ pub(super) fn sentence(ground: Ground) -> &'static str {
     }
 }
 
-/// What differs in an event that both traces have, if its place doesn't say that.
+/// The difference of an event that both traces have, if its place doesn't tell.
 #[derive(Clone, Copy, Debug, PartialEq, Eq)]
 pub(super) enum Difference {
-    /// Its place.
+    /// The place of the event.
     Place,
-    /// The process at its other end alone, which isn't the one that is matched with that of the
-    /// first trace.
+    /// The process at its other end alone, which isn't matched with that of the first trace.
     OtherEnd,
     /// The ranks of its counts.
     Ranks([[u64; 2]; 2]),
@@ -80,7 +79,7 @@ impl Display for Difference {
     }
 }
 
-/// An event of a trace: its line, its place and what it is.
+/// An event of a trace: its line, its place and its text.
 #[derive(Clone, Copy)]
 pub(super) struct Row<'a> {
     pub(super) trace: &'a Trace<'a>,
@@ -90,14 +89,14 @@ pub(super) struct Row<'a> {
 }
 
 impl Row<'_> {
-    /// Its line and its place.
+    /// Shows its line and its place.
     pub(super) fn place(&self) -> impl Display + '_ {
         Shown(|f: &mut Formatter<'_>| {
             write!(f, "{}: {} {}", self.line, self.trace.names.process(self.place.0), self.place.1)
         })
     }
 
-    /// Who is at the other end of its message.
+    /// Shows the process at the other end of its message.
     pub(super) fn other_end(&self) -> impl Display + '_ {
         Shown(|f: &mut Formatter<'_>| {
             let names = self.trace.names;
@@ -120,7 +119,7 @@ impl Display for Row<'_> {
     }
 }
 
-/// What a function writes.
+/// A display of what a function writes.
 struct Shown<F>(F);
 
 impl<F: Fn(&mut Formatter<'_>) -> fmt::Result> Display for Shown<F> {

@@ -1,4 +1,4 @@
-//! What is found of acts that aren't a run of the trace.
+//! The findings about acts that aren't a run of the trace.
 
 use super::reasons::{reasons, Reason};
 use super::rerun::Run;
@@ -7,24 +7,24 @@ use crate::object::Number;
 use gemshowal::{Act, Came, Event, Kind, OutOfMemory, Pid, State, Text, Token, Trace};
 use serde::Serialize;
 
-/// So many messages of a queue are shown.
+/// The greatest number of a queue's messages that are shown.
 const SHOWN: usize = 10;
 
-/// What is found.
+/// The findings about acts.
 pub(super) struct Found {
     /// The process whose event isn't reported.
     pub(super) pid: Pid,
-    /// The act that reports something else, and what; none if the acts end.
+    /// The act that reports something else, and its report; none if the acts end.
     pub(super) act: Option<Refused>,
     /// The event that is due, with its index and its line.
     pub(super) due: Option<Due>,
     pub(super) state: Option<State>,
     pub(super) waiting: Vec<Waiting>,
-    /// How many more messages wait.
+    /// The number of further messages that wait.
     pub(super) more: u64,
-    /// Why no message is that of the receive which is due.
+    /// The reason why no message is that of the receive which is due.
     pub(super) missing: Option<String>,
-    /// What would report the event, once the acts end.
+    /// The next report, once the acts end.
     pub(super) next: Option<Next>,
 }
 
@@ -55,16 +55,16 @@ pub(super) struct Waiting {
     pub(super) is_due: bool,
 }
 
-/// What would report the next event.
+/// The next report, or the reasons why there is none.
 pub(super) struct Next {
-    /// The act that comes nearest to that, and what it would report.
+    /// The act that comes nearest to it, and the report of this act.
     pub(super) tried: Option<(Act, Option<Event>)>,
     pub(super) reasons: Vec<Reason>,
     pub(super) is_reported: bool,
 }
 
 impl Found {
-    /// At the act of this number, which reports something else.
+    /// Explains the act of this number, which reports something else.
     pub(super) fn before(trace: &Trace, acts: &[Act], number: u64) -> Result<Found, OutOfMemory> {
         let before = acts.get(..number as usize).unwrap_or(acts);
         let Some(act) = acts.get(number as usize) else {
@@ -77,7 +77,7 @@ impl Found {
         Ok(Found { act: Some(refused), ..Found::of(trace, &run, act.actor())? })
     }
 
-    /// At the end of the acts, where events of a process are left.
+    /// Explains the end of the acts, after which events of a process are left.
     pub(super) fn at_end(trace: &Trace, acts: &[Act], pid: Pid) -> Result<Found, OutOfMemory> {
         let mut run = Run::of(trace.streams(), acts, pid)?;
         let found = Found::of(trace, &run, pid)?;
@@ -96,7 +96,7 @@ impl Found {
         Ok(Found { next: Some(next), ..found })
     }
 
-    /// What a process has in a run, and the event that is due from it.
+    /// Collects the state of a process in a run, and the event that is due from it.
     fn of(trace: &Trace, run: &Run<'_>, pid: Pid) -> Result<Found, OutOfMemory> {
         let lines = trace.lines()?;
         let index = run.next_index(pid);
@@ -130,12 +130,12 @@ impl Found {
         })
     }
 
-    /// How many messages wait.
+    /// Counts the messages that wait.
     pub(super) fn queued(&self) -> u64 {
         self.waiting.len() as u64 + self.more
     }
 
-    /// What is found, for programs.
+    /// Returns the object for programs.
     pub(super) fn object(&self) -> Object {
         let report = |came: Came| match came {
             Came::Step(report, _) => report.map(|event| Text(&event).to_string()),
@@ -165,10 +165,10 @@ impl Found {
     }
 }
 
-/// A process that no trace lists: asked for it a run has nothing.
+/// A process that no trace lists: a run has no state of it.
 const NOBODY: Pid = Pid::on(0, 0);
 
-/// A token in words.
+/// Describes a token.
 pub(super) fn token_words(token: &Token) -> String {
     let flags = [
         (token.flags.send, " send"),
@@ -180,7 +180,7 @@ pub(super) fn token_words(token: &Token) -> String {
     format!("label {}, flags{flags}, serial {serial}, from {from}", token.label.0)
 }
 
-/// What is found, for programs.
+/// The findings for programs.
 #[derive(Serialize)]
 pub(super) struct Object {
     process: Text<Pid>,

@@ -39,16 +39,16 @@ pub(crate) fn run(json: bool, input: &mut Input, out: &mut Output) -> Result<Sta
     Ok(if found.is_some() { Status::No } else { Status::Yes })
 }
 
-/// A yes needs no more words.
+/// The object of a yes, which needs no more words.
 #[derive(Serialize)]
 struct Nothing {}
 
-/// The line of an event or an act behind what names it, if it has one.
+/// Names the line of an event or an act after its name, if it has one.
 fn on_line(line: Option<u64>) -> String {
     line.map(|line| format!(", line {line}")).unwrap_or_default()
 }
 
-/// How a trace and its acts are numbered.
+/// Returns the line of the act of this number.
 fn line_of(trace: &Trace, number: u64) -> Result<Option<u64>, gemshowal::OutOfMemory> {
     Ok(trace.lines()?.act_line(number))
 }

@@ -14,30 +14,31 @@ pub(super) struct Sent {
     token: Option<Token>,
 }
 
-/// In what a message with the sender and the count of a receive still isn't the message of it.
+/// The differences between a message with the sender and the count of a receive, and the message of
+/// that receive.
 #[derive(Clone, Copy, Debug, PartialEq, Eq)]
 pub(super) struct Differences {
     pub(super) value: bool,
     pub(super) label: bool,
     pub(super) prev: bool,
-    /// Its token has no flag for receives.
+    /// Tells whether its token has no flag for receives.
     pub(super) flag: bool,
 }
 
-/// How a message that waits fits a receive.
+/// The fit of a message that waits to a receive.
 #[derive(Clone, Copy, Debug, PartialEq, Eq)]
 enum Fit {
-    /// Under a tracer its receive is reported as just that event.
+    /// Under a tracer its receive is reported as exactly that event.
     Exact,
-    /// It would be but for a reset, which took its token.
+    /// The message of the receive, but for a reset, which took its token.
     Wiped,
-    /// It has the sender and the count, and these differences.
+    /// A message with the sender and the count, and these differences.
     Differs(Differences),
-    /// It is another message.
+    /// Another message.
     Other,
 }
 
-/// Why no receive would be reported as an event, even under a tracer.
+/// The reason why no receive would be reported as an event, even under a tracer.
 #[derive(Clone, Copy, Debug, PartialEq, Eq)]
 pub(super) enum Missing {
     /// A reset took the token of the message, which waits at this place.
@@ -51,8 +52,8 @@ pub(super) enum Missing {
 }
 
 impl Missing {
-    /// Why there is none, with a further message, at this place, that fits so. A message that lost
-    /// its token tells most.
+    /// Takes in a further message, at this place, that fits so. A message that lost its token tells
+    /// most.
     fn and(self, place: u64, fit: Fit) -> Missing {
         match (self, fit) {
             (Missing::Wiped(_), _) => self,
@@ -64,7 +65,7 @@ impl Missing {
     }
 }
 
-/// The place of the message that was found, or else of the one that comes nearest to it.
+/// Returns the place of the message that was found, or else of the one that comes nearest to it.
 pub(super) fn nearest(found: Result<u64, Missing>) -> Option<u64> {
     match found {
         Ok(place) | Err(Missing::Wiped(place) | Missing::Differs(place, _)) => Some(place),
@@ -72,15 +73,15 @@ pub(super) fn nearest(found: Result<u64, Missing>) -> Option<u64> {
     }
 }
 
-/// Which messages wait for one process, in the order in which they were sent.
+/// The messages that wait for one process, in the order in which they were sent.
 #[derive(Debug)]
 pub(super) struct Queue {
     pid: Pid,
     /// All messages that were sent to the process.
     sent: Vec<Sent>,
-    /// Which of them wait.
+    /// The messages that wait, by their numbers in `sent`.
     waiting: VecDeque<u32>,
-    /// A reset took the tokens of the messages that acts before this one sent.
+    /// The number of the last reset: it took the tokens of the messages that earlier acts sent.
     reset: u64,
 }
 
@@ -112,7 +113,7 @@ impl Queue {
         }
     }
 
-    /// The count of the token that a message still has, 0 if it has none.
+    /// Returns the count of the token that a message still has, or 0 if it has none.
     pub(super) fn count(&self, sent: &Sent) -> u64 {
         match sent.token {
             Some(token) if sent.act >= self.reset => token.serial.this,
@@ -120,23 +121,23 @@ impl Queue {
         }
     }
 
-    /// How many messages wait.
+    /// Counts the messages that wait.
     pub(super) fn len(&self) -> usize {
         self.waiting.len()
     }
 
-    /// The messages that wait, each with its place.
+    /// Returns the messages that wait, each with its place.
     pub(super) fn messages(&self) -> impl Iterator<Item = (u64, &Sent)> {
         (0..).zip(self.waiting.iter().filter_map(|&at| self.sent.get(at as usize)))
     }
 
-    /// Whether the receive of a message is reported as this event under a tracer.
+    /// Returns whether the receive of a message is reported as this event under a tracer.
     pub(super) fn is_due(&self, sent: &Sent, receive: &Event) -> bool {
         self.fit(sent, receive) == Fit::Exact
     }
 
-    /// The place of the first message whose receive is reported as this event under a tracer, or why
-    /// there is none.
+    /// Finds the place of the first message whose receive is reported as this event under a tracer,
+    /// or says why there is none.
     pub(super) fn find(&self, receive: &Event) -> Result<u64, Missing> {
         let mut missing = Missing::Absent;
         for (place, sent) in self.messages() {
@@ -148,7 +149,7 @@ impl Queue {
         Err(missing)
     }
 
-    /// How a message fits a receive.
+    /// Judges the fit of a message to a receive.
     fn fit(&self, sent: &Sent, receive: &Event) -> Fit {
         let Some(token) = sent.token else { return Fit::Other };
         if sent.from != receive.from || token.serial.this != receive.serial.this {

@@ -1,4 +1,4 @@
-//! Why no single act of a process would report an event, as far as its state tells.
+//! The reasons why no single act of a process would report an event, as far as its state tells.
 
 use super::queue::{Differences, Missing};
 use crate::object::kind_word;
@@ -8,19 +8,19 @@ use std::fmt::{self, Display, Formatter};
 /// A reason why no single act would report an event.
 #[derive(Clone, Copy, Debug, PartialEq, Eq)]
 pub(super) enum Reason {
-    /// Its node has no tracer.
+    /// The event's node has no tracer.
     NoTracer,
-    /// Its process has no token.
+    /// The event's process has no token.
     NoToken,
-    /// The token of its process has another label.
+    /// The token of the event's process has another label.
     Label,
-    /// The token of its process has no flag for its kind.
+    /// The token of the event's process has no flag for the event's kind.
     Flag(Kind),
-    /// The clock of its process, at this value, doesn't grow to its count.
+    /// The clock of the event's process, at this value, doesn't grow to the event's count.
     Clock(u64),
-    /// The last count of its process, at this value, isn't its prev.
+    /// The last count of the event's process, at this value, isn't the event's prev.
     Last(u64),
-    /// Its message isn't among those that wait.
+    /// The event's message isn't among those that wait.
     Message(Missing),
 }
 
@@ -73,8 +73,8 @@ impl Display for Differences {
     }
 }
 
-/// Why no single act would report this event of a process in this state, with what was found of its
-/// message if it is a receive. There are none if one would.
+/// Returns the reasons why no single act would report this event of a process in this state, with
+/// what was found of its message if it is a receive. There are none if one would.
 pub(super) fn reasons(state: &State, event: &Event, message: Option<Missing>) -> Vec<Reason> {
     let no_tracer = (!state.is_traced).then_some(Reason::NoTracer);
     let others = match event.kind {
@@ -84,7 +84,7 @@ pub(super) fn reasons(state: &State, event: &Event, message: Option<Missing>) ->
     no_tracer.into_iter().chain(others).collect()
 }
 
-/// What keeps a process in this state from stamping its token so that this send or print is
+/// Returns what keeps a process in this state from stamping its token so that this send or print is
 /// reported.
 fn stamp_reasons(state: &State, event: &Event) -> Vec<Reason> {
     let Some(token) = state.token else { return vec![Reason::NoToken] };

@@ -1,5 +1,5 @@
-//! A run of a text's acts, made again: how many events each process has reported, and the messages
-//! that wait for one process.
+//! A run of a text's acts, made again: the number of events that each process has reported, and the
+//! messages that wait for one process.
 
 use super::queue::{nearest, Missing, Queue};
 use gemshowal::{Act, Came, Event, Kind, OutOfMemory, Pid, Rerun, State, Streams, Want};
@@ -15,7 +15,7 @@ pub(super) struct Run<'a> {
 }
 
 impl<'a> Run<'a> {
-    /// Behind these acts; the queue is this process's.
+    /// Makes these acts; the queue is this process's.
     pub(super) fn of(streams: &'a Streams, acts: &[Act], pid: Pid) -> Result<Run<'a>, OutOfMemory> {
         let rerun = Rerun::new(streams)?;
         let (queue, reported) = (Queue::new(pid), HashMap::new());
@@ -26,7 +26,7 @@ impl<'a> Run<'a> {
         Ok(run)
     }
 
-    /// Makes an act, and returns what came of it.
+    /// Makes an act, and returns its outcome.
     pub(super) fn take(&mut self, act: &Act) -> Result<Came, OutOfMemory> {
         let came = self.rerun.take(act)?;
         let number = self.made;
@@ -44,24 +44,24 @@ impl<'a> Run<'a> {
         self.rerun.state(pid)
     }
 
-    /// The index of the event that is due from a process.
+    /// Returns the index of the event that is due from a process.
     pub(super) fn next_index(&self, pid: Pid) -> u64 {
         self.reported.get(&pid).copied().unwrap_or(0)
     }
 
-    /// The event that is due from a process; none if all are reported.
+    /// Returns the event that is due from a process, or `None` if all are reported.
     pub(super) fn due(&self, pid: Pid) -> Option<Event> {
         self.streams.event(pid, self.next_index(pid))
     }
 
-    /// Why no message in the queue is that of a receive.
+    /// Says why no message in the queue is that of a receive.
     pub(super) fn missing(&self, event: &Event) -> Option<Missing> {
         (event.kind == Kind::Receive).then(|| self.queue.find(event).err())?
     }
 
-    /// An act of the queue's process that reports this event of it now, if any act does: for a
-    /// receive that of the message that is due, or else of the one that comes nearest to it. None if
-    /// there is no such message.
+    /// Returns an act of the queue's process that reports this event of it now, if any act does:
+    /// for a receive, that of the message that is due, or else of the one that comes nearest to it.
+    /// Returns `None` if there is no message of the kind.
     pub(super) fn act_for(&self, pid: Pid, event: &Event) -> Option<Act> {
         match event.kind {
             Kind::Receive => Some(Act::Receive(pid, Want::Place(nearest(self.queue.find(event))?))),

@@ -1,4 +1,4 @@
-//! What `explain` finds, in words.
+//! The findings of `explain`, in words.
 
 use super::found::{token_words, Due, Found, Next, Refused, Waiting};
 use super::on_line;
@@ -76,8 +76,8 @@ impl Found {
     }
 }
 
-/// Writes which act would report the event that is left; or that none would, why as far as the state
-/// tells, and what the act that comes nearest to it would report now.
+/// Writes which act would report the event that is left; or that none would, why as far as the
+/// state tells, and what the act that comes nearest to it would report now.
 fn write_next(f: &mut Formatter<'_>, next: &Next) -> fmt::Result {
     if let (true, Some((act, _))) = (next.is_reported, &next.tried) {
         return writeln!(f, "next: {} would report it", Text(act));

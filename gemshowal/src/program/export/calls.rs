@@ -13,7 +13,7 @@ pub(super) enum Role<'a> {
     Reply(&'a str),
 }
 
-/// What a message is in a call; none if it is of none, or there are no terms.
+/// Returns the part of a message in a call, or `None` if it has none, or there are no terms.
 pub(super) fn role<'a>(scene: &Scene<'a>, value: u64) -> Option<Role<'a>> {
     if !scene.has_terms() {
         return None;
@@ -26,7 +26,7 @@ pub(super) fn role<'a>(scene: &Scene<'a>, value: u64) -> Option<Role<'a>> {
     Some(Role::Reply(reference(term.strip_prefix('{')?)?))
 }
 
-/// The reference at the front of this text: `#Ref<0.1.2.3>`, or `[alias|#Ref<0.1.2.3>]`.
+/// Returns the reference at the front of this text: `#Ref<0.1.2.3>`, or `[alias|#Ref<0.1.2.3>]`.
 fn reference(text: &str) -> Option<&str> {
     let inside = text.strip_prefix("[alias|").unwrap_or(text).strip_prefix("#Ref<")?;
     let (numbers, rest) = inside.split_once('>')?;
@@ -65,17 +65,17 @@ impl Calls {
         calls
     }
 
-    /// The receive of the reply to the request that was sent at this place.
+    /// Returns the receive of the reply to the request that was sent at this place.
     pub(super) fn reply(&self, request: Place) -> Option<Place> {
         self.replies.get(&request).copied()
     }
 
-    /// The send of the request whose reply was received at this place.
+    /// Returns the send of the request whose reply was received at this place.
     pub(super) fn request(&self, reply: Place) -> Option<Place> {
         self.requests.get(&reply).copied()
     }
 
-    /// All calls: the send of each request, and the receive of its reply.
+    /// Returns all calls: the send of each request, and the receive of its reply.
     pub(super) fn all(&self) -> impl Iterator<Item = (Place, Place)> + '_ {
         self.replies.iter().map(|(&request, &reply)| (request, reply))
     }

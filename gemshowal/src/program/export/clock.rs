@@ -1,18 +1,18 @@
-//! When each event is drawn: when it happened, if there are times, and else by the counts.
+//! The times at which events are drawn: when they happened, if there are times, else by the counts.
 
 use super::scene::{Place, Scene};
 use gemshowal::{Kind, OutOfMemory, Partner};
 
-/// Where there are no times: twice the rank of an event's count among all counts, and one more for
-/// a receive, whose send has the same count. If that isn't later than the event before in its
-/// process, or than its send, it is one more than the later of them: a receive may have a lower
-/// count than what its process did before.
+/// The times of events. Without measured ones: twice the rank of an event's count among all counts,
+/// and one more for a receive, whose send has the same count. If that isn't later than the event
+/// before in its process, or than its send, it is one more than the later of them: a receive may
+/// have a lower count than what its process did before.
 ///
-/// Where there are: nanoseconds after the first event, and at least one more than the event before
+/// With measured ones: nanoseconds after the first event, and at least one more than the event before
 /// in its process, so that two of one time are still told apart.
 #[derive(Debug)]
 pub(super) struct Clock {
-    /// For each event; none of what has no time, and of what isn't drawn.
+    /// The time of each event; none if it has no time or isn't drawn.
     times: Vec<Option<i64>>,
     pub(super) is_measured: bool,
 }
@@ -41,7 +41,7 @@ impl Clock {
         Ok(clock)
     }
 
-    /// The time of an event behind those that lead to it.
+    /// Returns the time of an event after those that lead to it.
     fn next(&self, scene: &Scene<'_>, place: Place, counts: &[u64], earliest: i64) -> Option<i64> {
         if self.is_measured {
             return scene.time(place).map(|time| time.max(earliest));
@@ -62,7 +62,7 @@ impl Clock {
         }
     }
 
-    /// The time of the event at this place.
+    /// Returns the time of the event at this place.
     pub(super) fn at(&self, scene: &Scene<'_>, place: Place) -> Option<i64> {
         *self.times.get(scene.number(place)?)?
     }

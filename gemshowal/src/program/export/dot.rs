@@ -9,7 +9,7 @@ use gemshowal::{Event, Partner, Pid};
 use std::collections::HashMap;
 use std::io::{self, Write};
 
-/// How an edge between a send and its receive is drawn, and one to an end that nobody reported.
+/// The style of an edge between a send and its receive.
 const MESSAGE: &str = " [color=blue]";
 const OPEN_MESSAGE: &str = " [color=blue, style=dashed]";
 
@@ -79,7 +79,7 @@ fn write_message(
     }
 }
 
-/// A text between quotes.
+/// Puts a text between quotes.
 fn quoted(text: &str) -> String {
     text.replace('\\', "\\\\").replace('"', "\\\"")
 }

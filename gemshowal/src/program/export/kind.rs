@@ -1,10 +1,10 @@
-//! What sort of message a term is, in one word: `order` of `{order,apple,3}`. A trace has few of
-//! these, whatever else is in its messages.
+//! The sort of message that a term is, in one word: `order` of `{order,apple,3}`. A trace has few
+//! sorts, whatever else is in its messages.
 
 use super::calls::{role, Role};
 use super::scene::Scene;
 
-/// The words for a message: what was done by sending it, and what sort it is.
+/// Says what was done by sending a message, and what sort it is.
 pub(super) fn sent(scene: &Scene<'_>, value: u64) -> String {
     if !scene.has_terms() {
         return "send".into();
@@ -18,12 +18,12 @@ pub(super) fn sent(scene: &Scene<'_>, value: u64) -> String {
     }
 }
 
-/// The words for what a process did with a message.
+/// Says what a process did with a message.
 pub(super) fn handled(scene: &Scene<'_>, value: u64) -> String {
     with_sort(scene, "handle", value)
 }
 
-/// The words for a print.
+/// Describes a print.
 pub(super) fn printed(scene: &Scene<'_>, value: u64) -> String {
     with_sort(scene, "print", value)
 }
@@ -40,7 +40,7 @@ fn with_sort(scene: &Scene<'_>, word: &str, value: u64) -> String {
     format!("{word} {}", sort(bare))
 }
 
-/// The first atom of a term, or what it is if it doesn't begin with one.
+/// Returns the first atom of a term, or the kind of the term if it doesn't begin with one.
 pub(super) fn sort(term: &str) -> &str {
     let inside = term.strip_prefix('{').unwrap_or(term);
     let is_of_atom = |c: char| c.is_alphanumeric() || matches!(c, '_' | '@');
@@ -57,7 +57,7 @@ pub(super) fn sort(term: &str) -> &str {
     }
 }
 
-/// The atom between quotes at the front of a term.
+/// Returns the atom between quotes at the front of a term.
 fn quoted(text: &str) -> Option<&str> {
     let end = text.get(1..)?.find('\'')?;
     text.get(1..end + 1)

@@ -33,7 +33,7 @@ pub(super) fn write(scene: &Scene<'_>, out: &mut Output) -> Result<(), Failure> 
     Ok(())
 }
 
-/// The sends behind which their process did something else before the receive.
+/// Finds the sends after which their process did something else before the receive.
 fn overtaken(scene: &Scene<'_>, order: &[Place]) -> HashSet<Place> {
     let mut last = HashMap::new();
     let mut overtaken = HashSet::new();
@@ -56,7 +56,7 @@ struct Diagram<'a> {
 }
 
 impl Diagram<'_> {
-    /// The line of an event. A send whose arrow is in its place has none.
+    /// Writes the line of an event. A send whose arrow is in its place has none.
     fn write_event(&self, out: &mut Output, place: Place, event: &Event) -> io::Result<()> {
         let content = plain(&self.scene.content(event));
         let from = self.lane(event.from);
@@ -89,15 +89,14 @@ impl Diagram<'_> {
     }
 }
 
-/// The name of a process, or its pid without the angle brackets.
+/// Returns the name of a process, or its pid without the angle brackets.
 fn called(scene: &Scene<'_>, pid: Pid) -> String {
     let name = scene.names.process(pid);
     let bare = name.strip_prefix('<').and_then(|name| name.strip_suffix('>'));
     plain(bare.unwrap_or(&name))
 }
 
-/// A text without the characters that end a text or a line there: these are written by their
-/// numbers.
+/// Writes the characters that end a text or a line there by their numbers.
 fn plain(text: &str) -> String {
     text.chars()
         .map(|c| match c {

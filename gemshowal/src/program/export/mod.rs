@@ -26,7 +26,7 @@ use crate::{Failure, Status};
 use gemshowal::{Finding, Paired, Trace};
 use scene::Scene;
 
-/// A drawing of more messages isn't easily read.
+/// The greatest number of messages in a drawing that is easily read.
 const READABLE: usize = 300;
 
 pub(crate) fn run(

@@ -60,15 +60,15 @@ fn no_times(name: &str, words: &str, notes: &mut Notes) -> Result<Status, Failur
     Ok(Status::No)
 }
 
-/// What spans are written of.
+/// The parts of a trace from which spans are written.
 struct Writer<'a> {
     spans: &'a Spans<'a>,
-    /// When the first event happened, since 1970.
+    /// The time of the first event, since 1970.
     begin: i64,
 }
 
 impl Writer<'_> {
-    /// The numbers of the spans of each service.
+    /// Groups the numbers of the spans by service.
     fn services(&self) -> BTreeMap<String, Vec<u32>> {
         let mut of_pid = BTreeMap::<Pid, Vec<u32>>::new();
         for (span, number) in self.spans.all.iter().zip(0..) {
@@ -146,7 +146,7 @@ impl Writer<'_> {
         Some(Link { trace_id: self.trace_id(span.label), span_id: self.span_id(span) })
     }
 
-    /// What else the trace tells of a span.
+    /// Returns what else the trace tells of a span.
     fn attributes(&self, span: &Span, event: &Event) -> Vec<Attribute> {
         let (scene, place) = (self.spans.scene, span.about.place());
         let mut all = vec![attribute("erlang.label", scene.names.label(event.label))];
@@ -178,7 +178,7 @@ impl Writer<'_> {
         all
     }
 
-    /// The prints that belong to a span.
+    /// Returns the prints that belong to a span.
     fn prints(&self, number: u32) -> Vec<Print> {
         let (scene, prints) = (self.spans.scene, &self.spans.prints);
         let first = prints.partition_point(|&(span, _)| span < number);
@@ -208,7 +208,7 @@ impl Writer<'_> {
         format!("{:016x}{:016x}", mixed(begin) | 1, mixed(begin ^ u64::from(label.0)))
     }
 
-    /// A number that no other span of the trace has, made of what it is named after.
+    /// Makes a number that no other span of the trace has, from what it is named after.
     fn span_id(&self, span: &Span) -> String {
         let (pid, index) = span.about.place();
         let kind = u64::from(matches!(span.about, About::Label(_)));
@@ -217,7 +217,7 @@ impl Writer<'_> {
     }
 }
 
-/// Another number for each, as SplitMix64 makes it.
+/// Mixes a number by SplitMix64: no two become equal.
 fn mixed(number: u64) -> u64 {
     let mut mixed = number.wrapping_add(0x9E37_79B9_7F4A_7C15);
     mixed = (mixed ^ (mixed >> 30)).wrapping_mul(0xBF58_476D_1CE4_E5B9);
@@ -225,7 +225,7 @@ fn mixed(number: u64) -> u64 {
     mixed ^ (mixed >> 31)
 }
 
-/// The service of a process: its registered name, or its node.
+/// Returns the service of a process: its registered name, or its node.
 fn service(scene: &Scene<'_>, pid: Pid) -> String {
     let about = scene.names.about(pid).unwrap_or_default();
     let word = |before: &str| {
@@ -236,7 +236,7 @@ fn service(scene: &Scene<'_>, pid: Pid) -> String {
     word(", registered as ").or_else(node).unwrap_or_default()
 }
 
-/// What a send or print follows, in words.
+/// Says what a send or print follows.
 fn follows(scene: &Scene<'_>, (pid, _): Place, hop: Hop) -> String {
     match hop {
         Hop::After(index) | Hop::AfterOneLabel(index) => scene.name((pid, index)),
@@ -254,12 +254,12 @@ fn follows(scene: &Scene<'_>, (pid, _): Place, hop: Hop) -> String {
     }
 }
 
-/// On what a hop rests, besides that there was no reset.
+/// The premises of a hop, apart from that of no reset.
 const FIRST: &str = "each receive of a token was reported";
 const SECOND: &str =
     "no process cleared or lost its token, began again and reported an earlier label again";
 
-/// The numbers of the premises of a hop.
+/// Returns the numbers of the premises of a hop.
 fn premises(hop: Hop) -> Option<&'static str> {
     match hop.premises() {
         Premises::Neither => None,

@@ -18,12 +18,13 @@ use std::borrow::Cow;
 use std::collections::BTreeMap;
 use std::io::Write;
 
-/// By how much of a unit the slice of a work begins before its first event and ends behind its last
-/// one, and that of a call. An event takes half a unit or more, and the next comes a unit later.
+/// The part of a unit by which the slice of a work begins before its first event and ends after its
+/// last one, and that of a call. An event takes half a unit or more, and the next comes a unit
+/// later.
 const AROUND_WORK: f64 = 0.2;
 const AROUND_CALL: f64 = 0.1;
 
-/// An event takes half the time up to the next of its process, but no more than this.
+/// The longest slice of an event, which takes half the time up to the next of its process.
 const LONGEST: f64 = 1_000.0;
 
 pub(super) fn write(scene: &Scene<'_>, out: &mut Output) -> Result<(), Failure> {
@@ -59,7 +60,7 @@ struct Lane {
     thread: u64,
 }
 
-/// Events of a process from one index to another, which a slice is around.
+/// A slice around the events of a process from one index to another.
 #[derive(Clone, Copy, Debug)]
 struct Enclosing {
     first: u64,
@@ -67,8 +68,8 @@ struct Enclosing {
     is_call: bool,
 }
 
-/// What is around the events of a process, the outer ones first. One that began within another ends
-/// no later, as slices of a thread have to.
+/// Returns the slices around the events of a process, the outer ones first. One that began within
+/// another ends no later, as slices of a thread have to.
 fn enclosing(works: &Works, pid: Pid, calls: Vec<(u64, u64)>) -> Vec<Enclosing> {
     let work = |first, last| Enclosing { first, last, is_call: false };
     let call = |(first, last)| Enclosing { first, last, is_call: true };
@@ -103,7 +104,7 @@ impl Writer<'_> {
         Ok(serde_json::to_writer(&mut self.line, event)?)
     }
 
-    /// Writes what the node of a process is called.
+    /// Writes the name of the node of a process.
     fn write_node(&mut self, pid: Pid) -> Result<(), Failure> {
         let node = self.scene.names.about(pid).and_then(|about| about.split_once(" of node "));
         let name = node.and_then(|(_, rest)| rest.split([',', ' ']).next());
@@ -131,7 +132,7 @@ impl Writer<'_> {
         Ok(())
     }
 
-    /// When the slice of an event begins, and how long it is, in units of the clock.
+    /// Returns the begin and the length of an event's slice, in units of the clock.
     fn span(&self, (pid, index): Place) -> Option<(f64, f64)> {
         let at = |index| self.clock.at(self.scene, (pid, index));
         let time = at(index)?;
@@ -203,7 +204,7 @@ impl Writer<'_> {
         self.write(&Flow { ph, name: "message", cat: "message", id, pid, tid, ts, bp })
     }
 
-    /// A time in microseconds.
+    /// Converts a time to microseconds.
     fn micros(&self, time: f64) -> f64 {
         // A unit of ranks is shown as a microsecond.
         let micros = if self.clock.is_measured { time / 1_000.0 } else { time };
@@ -211,7 +212,8 @@ impl Writer<'_> {
     }
 }
 
-/// What else the trace tells of an event. A reader of JSON may round numbers, so they are strings.
+/// Returns what else the trace tells of an event. A reader of JSON may round numbers, so they are
+/// strings.
 fn args<'a>(scene: &'a Scene<'_>, place: Place, event: &Event) -> Args<'a> {
     let (names, partner) = (scene.names, scene.partner(place, event));
     Args {
@@ -227,12 +229,12 @@ fn args<'a>(scene: &'a Scene<'_>, place: Place, event: &Event) -> Args<'a> {
     }
 }
 
-/// The number of a process of Perfetto's, of which a node is one.
+/// Returns the number of a process of Perfetto's, which a node is.
 fn process(pid: Pid) -> u64 {
     u64::from(pid.node()) + 1
 }
 
-/// What a process or a thread is called.
+/// The name of a process or a thread.
 #[derive(Serialize)]
 struct Named<'a> {
     ph: &'static str,
@@ -266,7 +268,7 @@ struct Slice<'a> {
     args: Args<'a>,
 }
 
-/// What an event says; of a slice around several the name of the first one alone.
+/// The fields of an event; of a slice around several, the name of the first one alone.
 #[derive(Default, Serialize)]
 struct Args<'a> {
     event: String,

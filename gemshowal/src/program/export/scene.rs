@@ -1,4 +1,4 @@
-//! What is drawn of a trace, and what it is called.
+//! The events that are drawn of a trace, and their names.
 
 use crate::names::Names;
 use gemshowal::{Event, Hop, Hops, Item, Kind, Label, OutOfMemory, Paired, Partner, Pid, Trace};
@@ -6,7 +6,7 @@ use gemshowal::{Event, Hop, Hops, Item, Kind, Label, OutOfMemory, Paired, Partne
 /// A process and the index of one of its events.
 pub(super) type Place = (Pid, u64);
 
-/// A message is cut behind this number of characters where it is drawn.
+/// The greatest number of a message's characters in a drawing.
 const CHARACTERS: usize = 80;
 
 /// The events of a trace, or those of one of its labels.
@@ -45,17 +45,17 @@ impl<'a> Scene<'a> {
         Ok(Scene { trace, names, label, paired, hops, starts, names_labels, has_terms })
     }
 
-    /// Whether an event is drawn.
+    /// Returns whether an event is drawn.
     pub(super) fn has(&self, event: &Event) -> bool {
         self.label.is_none_or(|label| event.label == label)
     }
 
-    /// The events that are drawn, by process, each with its place.
+    /// Returns the events that are drawn, by process, each with its place.
     pub(super) fn events(&self) -> impl Iterator<Item = (Place, &'a Event)> + '_ {
         self.trace.processes().flat_map(|(pid, events)| self.of_process(pid, events))
     }
 
-    /// The events of a process that are drawn.
+    /// Returns the events of a process that are drawn.
     pub(super) fn of_process<'b>(
         &'b self,
         pid: Pid,
@@ -67,7 +67,7 @@ impl<'a> Scene<'a> {
             .filter(|it| self.has(it.1))
     }
 
-    /// The events that are drawn, each behind what it follows.
+    /// Returns the events that are drawn, each after those that it follows.
     pub(super) fn in_order(&self) -> Result<Vec<Place>, OutOfMemory> {
         let order = self.paired.order()?;
         let reported = order.as_ref().iter().filter_map(|item| match *item {
@@ -81,29 +81,29 @@ impl<'a> Scene<'a> {
         self.trace.streams().events(pid).get(usize::try_from(index).ok()?)
     }
 
-    /// The number of an event among all events of the trace.
+    /// Returns the number of an event among all events of the trace.
     pub(super) fn number(&self, (pid, index): Place) -> Option<usize> {
         let streams = self.trace.streams();
         let start = self.starts.get(streams.place_of(pid)?)?;
         (index < streams.len(pid)).then_some(start + index as usize)
     }
 
-    /// What the event at this place pairs with.
+    /// Returns what the event at this place pairs with.
     pub(super) fn partner(&self, (pid, index): Place, event: &Event) -> Partner {
         gemshowal::partner_at(self.paired.pairing(), pid, index, event.kind)
     }
 
-    /// Whether the event at this place is a receive whose send nobody reported.
+    /// Returns whether the event at this place is a receive whose send nobody reported.
     pub(super) fn is_unsent(&self, place: Place, event: &Event) -> bool {
         matches!(self.partner(place, event), Partner::NoSend)
     }
 
-    /// What the event at this place follows.
+    /// Returns what the event at this place follows.
     pub(super) fn hop(&self, (pid, index): Place) -> Option<Hop> {
         self.hops.hop(pid, index)
     }
 
-    /// How many messages are drawn.
+    /// Counts the messages that are drawn.
     pub(super) fn count_messages(&self) -> usize {
         let is_message = |&(place, event): &(Place, &Event)| match event.kind {
             Kind::Send => true,
@@ -113,7 +113,7 @@ impl<'a> Scene<'a> {
         self.events().filter(is_message).count()
     }
 
-    /// The processes that an event which is drawn is from or to, by rising pid.
+    /// Returns the processes that an event which is drawn is from or to, by rising pid.
     pub(super) fn lanes(&self) -> Vec<Pid> {
         let ends = self.events().flat_map(|(_, event)| [Some(event.from), event.to]);
         let mut pids: Vec<Pid> = ends.flatten().collect();
@@ -122,7 +122,7 @@ impl<'a> Scene<'a> {
         pids
     }
 
-    /// What an event carries: its term in short, or its value and its counts.
+    /// Returns the term of an event in short, or its value and its counts.
     pub(super) fn content(&self, event: &Event) -> String {
         let label = match self.names_labels {
             true if self.has_terms() => format!(" {}", self.names.label(event.label)),
@@ -135,23 +135,23 @@ impl<'a> Scene<'a> {
         format!("{} {}{label}", event.value, gemshowal::Text(event.serial))
     }
 
-    /// Whether there are terms: a trace without them shows its numbers.
+    /// Returns whether there are terms: a trace without them shows its numbers.
     pub(super) fn has_terms(&self) -> bool {
         self.has_terms
     }
 
-    /// What an event is called.
+    /// Returns the name of an event.
     pub(super) fn name(&self, place: Place) -> String {
         self.names.event(place)
     }
 
-    /// When an event happened, in nanoseconds after the first one.
+    /// Returns the time of an event, in nanoseconds after the first one.
     pub(super) fn time(&self, place: Place) -> Option<i64> {
         self.names.times()?.of_event(place)
     }
 }
 
-/// The front of a text.
+/// Returns the front of a text.
 pub(super) fn short(text: &str) -> String {
     match text.char_indices().nth(CHARACTERS) {
         Some((end, _)) => format!("{}..", text.get(..end).unwrap_or_default()),

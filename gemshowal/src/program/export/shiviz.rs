@@ -12,7 +12,7 @@ use std::io::{self, Write};
 /// The most counts that the clocks of a log have together: it grows as processes times events.
 const MOST_COUNTS: usize = 100_000_000;
 
-/// How many events of each process; none of those of which it is 0.
+/// The number of events of each process that has any.
 type Clock = BTreeMap<Pid, u64>;
 
 pub(super) fn write(
@@ -38,7 +38,7 @@ pub(super) fn write(
     Ok(Status::Yes)
 }
 
-/// Whether the clocks have too many counts together.
+/// Returns whether the clocks have too many counts together.
 fn is_long(scene: &Scene<'_>, order: &[Place]) -> bool {
     let mut counts = 0;
     let counted = each_clock(scene, order, |_, _, clock| {
@@ -76,7 +76,7 @@ fn each_clock<E>(
     Ok(())
 }
 
-/// Writes what an event is.
+/// Writes the text of an event.
 fn write_words(scene: &Scene<'_>, out: &mut Output, event: &Event) -> io::Result<()> {
     let names = scene.names;
     let (kind, serial, label) =
@@ -109,7 +109,7 @@ fn write_clock(
     writeln!(out, "}}")
 }
 
-/// A process as a word without blanks or quotes: its name and its pid.
+/// Names a process in a word without blanks or quotes: by its name and its pid.
 fn host(scene: &Scene<'_>, pid: Pid) -> String {
     let name = scene.names.process(pid);
     let is_plain = |c: &char| !c.is_whitespace() && !c.is_control() && !matches!(c, '"' | '\\');

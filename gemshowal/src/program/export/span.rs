@@ -13,23 +13,23 @@ use crate::Failure;
 use gemshowal::{Event, Hop, Kind, Label, Partner};
 use std::collections::BTreeMap;
 
-/// What a span is about.
+/// The subject of a span.
 #[derive(Clone, Copy, Debug, PartialEq, Eq)]
 pub(super) enum About {
-    /// All events of a label, of which this one is the first.
+    /// The events of a label, of which this one is the first.
     Label(Place),
     /// The message that was sent here.
     Message(Place),
     /// The call whose request was sent here.
     Call(Place),
-    /// What a process did for the message that it received here.
+    /// The work of a process for the message that it received here.
     Work(Place),
-    /// The same for the request of a call.
+    /// The work of a process for the request of a call that it received here.
     Service(Place),
 }
 
 impl About {
-    /// The event that the span is named after.
+    /// Returns the event that the span is named after.
     pub(super) fn place(self) -> Place {
         match self {
             About::Label(place)
@@ -54,7 +54,7 @@ pub(super) struct Span {
     pub(super) follows: Option<u32>,
 }
 
-/// The spans of a trace, and where its prints belong.
+/// The spans of a trace, and those that its prints belong to.
 pub(super) struct Spans<'a> {
     pub(super) scene: &'a Scene<'a>,
     pub(super) calls: Calls,
@@ -135,8 +135,8 @@ impl<'a> Spans<'a> {
         self.scene.time(place).is_some()
     }
 
-    /// The span of a send: to the receive of the reply if that is known, else to the end of the
-    /// work that the message gave. A reply is the end of its call.
+    /// Finds the span of a send: to the receive of the reply if that is known, else to the end of
+    /// the work that the message gave. A reply is the end of its call.
     fn message(&self, place: Place, event: &Event) -> Option<(About, i64, i64)> {
         let receive = match self.scene.partner(place, event) {
             Partner::Receive(pid, index) => Some((pid, index)),
@@ -155,7 +155,7 @@ impl<'a> Spans<'a> {
         Some((about, start, reply.or(done).unwrap_or(start).max(start)))
     }
 
-    /// The span of a receive, unless it is that of a reply.
+    /// Finds the span of a receive, unless it is that of a reply.
     fn work(&self, place: Place, event: &Event) -> Option<(About, i64, i64)> {
         let (_, work) = self.works.at(self.scene, place)?;
         if work.receive != place {
@@ -168,15 +168,16 @@ impl<'a> Spans<'a> {
         Some((about, start, end.unwrap_or(start).max(start)))
     }
 
-    /// When a process was done with a message: when it replied, or by the last stamp.
+    /// Returns the time at which a process was done with a message: when it replied, or by the last
+    /// stamp.
     fn end(&self, work: &Work) -> Option<i64> {
         let (pid, receive) = work.receive;
         let last = work.reply.unwrap_or(work.last);
         self.scene.time((pid, last)).or_else(|| self.scene.time((pid, receive)))
     }
 
-    /// The span that an event follows directly: a receive that of its message, a stamp that of the
-    /// work, and what has none that of its label.
+    /// Returns the span that an event follows directly: for a receive that of its message, for a
+    /// stamp that of the work, and for what follows nothing that of its label.
     fn natural_parent(&self, place: Place, event: &Event) -> Option<u32> {
         let before = match self.scene.partner(place, event) {
             Partner::Send(pid, index) => self.begun((pid, index)),
@@ -188,12 +189,12 @@ impl<'a> Spans<'a> {
         before.or_else(|| self.labels.get(&event.label.0).copied())
     }
 
-    /// The span that the event at this place begins.
+    /// Returns the span that the event at this place begins.
     pub(super) fn begun(&self, place: Place) -> Option<u32> {
         *self.begun.get(self.scene.number(place)?)?
     }
 
-    /// The nearest span from this one on up that doesn't end before this time, of this label.
+    /// Finds the nearest span from this one on up that doesn't end before this time, of this label.
     fn that_ends_no_earlier(&self, from: u32, label: Label, end: i64) -> Option<u32> {
         let up = |&number: &u32| self.all.get(number as usize)?.parent;
         let fits = |number: &u32| {
@@ -205,7 +206,7 @@ impl<'a> Spans<'a> {
             .or_else(|| self.labels.get(&label.0).copied())
     }
 
-    /// The span of the receive that an event's process had under another label before it.
+    /// Finds the span of the receive that an event's process had under another label before it.
     pub(super) fn of_other_label(&self, place: Place) -> Option<u32> {
         match self.scene.hop(place)? {
             Hop::OtherLabel(index, _) => self.begun((place.0, index)),

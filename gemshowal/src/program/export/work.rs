@@ -1,4 +1,4 @@
-//! What processes did: from a receive to the last stamp that follows it.
+//! The work of processes: from a receive to the last stamp that follows it.
 //!
 //! A process that waits for the reply to its own call goes on with what it did before, so the
 //! receive of that reply begins nothing. What a stamp follows is what the proved hop says.
@@ -10,7 +10,7 @@ use gemshowal::{Hop, Kind, Pid};
 /// The number of no work.
 const NONE: u32 = u32::MAX;
 
-/// What a process did for one message.
+/// The work of a process for one message.
 #[derive(Clone, Copy, Debug)]
 pub(super) struct Work {
     /// The receive of the message.
@@ -45,7 +45,7 @@ impl Works {
         works
     }
 
-    /// The work that a receive belongs to. It begins one, unless it is a reply.
+    /// Finds the work that a receive belongs to. It begins one, unless it is a reply.
     fn at_receive(&mut self, scene: &Scene<'_>, calls: &Calls, receive: Place) -> Option<u32> {
         match calls.request(receive) {
             Some(request) => self.number_of(scene, request),
@@ -56,7 +56,7 @@ impl Works {
         }
     }
 
-    /// The work that a send or print belongs to: that of the receive that it follows.
+    /// Finds the work that a send or print belongs to: that of the receive that it follows.
     fn at_stamp(&mut self, scene: &Scene<'_>, (pid, index): Place, value: u64) -> Option<u32> {
         let before = match scene.hop((pid, index))? {
             Hop::After(before) | Hop::AfterOneLabel(before) => before,
@@ -80,13 +80,13 @@ impl Works {
         (number != NONE).then_some(number)
     }
 
-    /// The work that an event belongs to, with its number.
+    /// Returns the work that an event belongs to, with its number.
     pub(super) fn at(&self, scene: &Scene<'_>, place: Place) -> Option<(usize, &Work)> {
         let number = self.number_of(scene, place)? as usize;
         Some((number, self.all.get(number)?))
     }
 
-    /// The work of a process, in the order of their receives.
+    /// Returns the work of a process, in the order of the receives.
     pub(super) fn of_process(&self, pid: Pid) -> impl Iterator<Item = &Work> {
         let start = self.all.partition_point(|work| work.receive.0 < pid);
         self.all.iter().skip(start).take_while(move |work| work.receive.0 == pid)

@@ -1,5 +1,5 @@
-//! The mistakes of a text, line by line. Behind a mistake a line is judged as if what was meant above stood there, so that no
-//! mistake is named twice.
+//! The mistakes of a text, line by line. After a mistake a line is judged as if the intended text
+//! stood above, so that no mistake is named twice.
 
 use super::form::remedy_of_text;
 use super::grammar::{common, Above, Counts, Expected, NamedPid, Scan, Sort};
@@ -42,19 +42,19 @@ struct Process<'a> {
     pid: (u64, u64),
 }
 
-/// What the lines so far say of the next one.
+/// The state that the lines so far leave for the next one.
 #[derive(Debug)]
 struct Judge<'a> {
     survey: Survey<'a>,
     above: Above,
-    /// The header lets pids of other nodes in, or that it doesn't was named.
+    /// Tells whether the header lets pids of other nodes in, or that it doesn't was named.
     is_wide: bool,
     /// The last process line whose pid could be read.
     last: Option<Process<'a>>,
     /// The pid of the process above, if it could be read.
     current: Option<&'a str>,
     listed: HashSet<(u64, u64)>,
-    /// Pids without a process line that were named.
+    /// The pids without a process line that were named.
     named: HashSet<(u64, u64)>,
     events: u32,
     acts: u32,
@@ -129,7 +129,7 @@ impl<'a> Judge<'a> {
         let column = scan.column(false);
         let is_mended = mends(line.behind_mark(), Above::Nothing);
         let is_remote = self.survey.is_remote;
-        // What is behind a carriage return is mended as a line of its own.
+        // Leaves the text after a carriage return to `--fix`, which mends it as a line of its own.
         let is_returned = line.bytes.get(column) == Some(&b'\r');
         let (remedy, is_by_fix) = match kind {
             Kind::Comment | Kind::Other => {
@@ -351,12 +351,12 @@ impl<'a> Judge<'a> {
 
 const RISING: &str = "list the processes by rising pid, each once";
 
-/// How many bytes of a pid's text some pid above the last one begins with.
+/// Counts the bytes of a pid's text with which some pid above the last one begins.
 fn rising_bytes(last: (u64, u64), pid: &str) -> usize {
     (0..pid.len()).find(|&count| greatest_pid(&pid[..=count]) <= last).unwrap_or(pid.len())
 }
 
-/// The greatest pid whose text begins with this.
+/// Returns the greatest pid whose text begins with this.
 fn greatest_pid(front: &str) -> (u64, u64) {
     let most = u64::from(u16::MAX);
     match front.trim_start_matches('<').split('.').collect::<Vec<_>>()[..] {
@@ -367,7 +367,7 @@ fn greatest_pid(front: &str) -> (u64, u64) {
     }
 }
 
-/// The greatest number up to 65,535 whose digits begin with these.
+/// Returns the greatest number up to 65,535 whose digits begin with these.
 fn greatest_from(digits: &str) -> u64 {
     let most = u64::from(u16::MAX);
     let Ok(value) = digits.parse::<u64>() else { return most };

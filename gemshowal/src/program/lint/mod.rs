@@ -49,24 +49,24 @@ pub(crate) fn run(
     Ok(judged.status())
 }
 
-/// What is said of the first mistake for which the reader refuses a text, behind its name.
+/// Describes the first mistake for which the reader refuses a text, to be said after its name.
 pub(crate) fn first_refused(text: &[u8]) -> Option<String> {
     let mistake = Findings::of(text, 0).first_refused?;
     Some(format!(", {}; {}", mistake.place(), mistake.remedy))
 }
 
-/// What a text is.
+/// The judgement on a text.
 enum Judged<'a> {
     /// A trace whose events a run may report.
     Good(Trace),
     /// A trace of which no run reports some events.
     Impossible(Findings<'a>),
-    /// None: the reader refuses it.
+    /// No trace: the reader refuses it.
     Faulty(Findings<'a>),
 }
 
 impl<'a> Judged<'a> {
-    /// What the text of these bytes is. So many mistakes are to be named.
+    /// Judges the text of these bytes; at most this number of mistakes is to be named.
     fn of(bytes: &'a [u8], most: u64) -> Result<Judged<'a>, OutOfMemory> {
         match Trace::read(bytes) {
             Ok(trace) if has_unrising(&trace) => Ok(Judged::Impossible(Findings::of(bytes, most))),
@@ -85,25 +85,25 @@ impl<'a> Judged<'a> {
     }
 }
 
-/// Whether no run reports some event, since its serial doesn't rise.
+/// Returns whether no run reports some event, since its serial doesn't rise.
 fn has_unrising(trace: &Trace) -> bool {
     trace
         .processes()
         .any(|(_, events)| events.iter().any(|event| event.serial.prev >= event.serial.this))
 }
 
-/// The mistakes of a text: the first ones, and how many there are.
+/// The first mistakes of a text, and the number of all.
 struct Findings<'a> {
     named: Vec<Mistake<'a>>,
     count: u64,
-    /// How many of them `--fix` mends.
+    /// The number of those that `--fix` mends.
     by_fix: u64,
     /// The first one for which the reader refuses the text.
     first_refused: Option<Mistake<'a>>,
 }
 
 impl<'a> Findings<'a> {
-    /// The mistakes of the text of these bytes, of which so many are to be named.
+    /// Finds the mistakes of the text of these bytes, of which this number are to be named.
     fn of(bytes: &'a [u8], most: u64) -> Findings<'a> {
         let mut findings = Findings { named: Vec::new(), count: 0, by_fix: 0, first_refused: None };
         judge::judge(bytes, |mistake| {
@@ -121,7 +121,7 @@ impl<'a> Findings<'a> {
 }
 
 impl Display for Findings<'_> {
-    /// The mistakes, and how many there are unless that is seen.
+    /// Shows the mistakes, and how many there are unless that is seen.
     fn fmt(&self, f: &mut Formatter<'_>) -> fmt::Result {
         let Findings { named, count, by_fix, .. } = self;
         for mistake in named {
@@ -141,7 +141,7 @@ impl Display for Findings<'_> {
     }
 }
 
-/// How many events have each label.
+/// Counts the events of each label.
 fn labels(trace: &Trace) -> BTreeMap<u32, u64> {
     let mut labels = BTreeMap::new();
     for event in trace.processes().flat_map(|(_, events)| events) {

@@ -3,8 +3,7 @@
 
 use std::borrow::Cow;
 
-/// What a message says in short: how it is sent, and the term that is in it. None if it is none of
-/// OTP's.
+/// Returns how a message is sent, and the term that is in it, or `None` if it is none of OTP's.
 pub(super) fn brief(term: &str) -> Option<(Cow<'static, str>, &str)> {
     let inside = term.strip_prefix('{')?.strip_suffix('}')?;
     let plain = |way: &'static str| move |term| (Cow::Borrowed(way), term);
@@ -21,8 +20,8 @@ fn call(inside: &str) -> Option<&str> {
     after_tag(after_comma(caller)?)?.strip_prefix("},")
 }
 
-/// `spawn_request,REF,PARENT,LEADER,{MODULE,FUNCTION,ARITY},[OPTION ..],..,ARGUMENTS`, of which the
-/// arguments may be cut.
+/// Reads `spawn_request,REF,PARENT,LEADER,{MODULE,FUNCTION,ARITY},[OPTION ..],..,ARGUMENTS`, of
+/// which the arguments may be cut.
 fn spawn(inside: &str) -> Option<(Cow<'static, str>, &str)> {
     let rest = after_reference(inside.strip_prefix("spawn_request,")?)?.strip_prefix(',')?;
     let (function, rest) = after_comma(after_comma(rest)?)?.strip_prefix('{')?.split_once('}')?;
@@ -34,7 +33,7 @@ fn spawn(inside: &str) -> Option<(Cow<'static, str>, &str)> {
     })
 }
 
-/// What follows the options and one more word.
+/// Returns what follows the options and one more word.
 fn arguments(rest: &str) -> Option<&str> {
     let (_, rest) = rest.strip_prefix(",[")?.split_once("],")?;
     after_comma(rest)
@@ -44,18 +43,18 @@ fn spawned(inside: &str) -> Option<&str> {
     after_reference(inside.strip_prefix("spawn_reply,")?)?.strip_prefix(",ok,")
 }
 
-/// What follows a word and a comma.
+/// Returns what follows a word and a comma.
 fn after_comma(text: &str) -> Option<&str> {
     Some(text.split_once(',')?.1)
 }
 
-/// What follows a reference, `#Ref<0.1.2.3>`.
+/// Returns what follows a reference, `#Ref<0.1.2.3>`.
 fn after_reference(text: &str) -> Option<&str> {
     let (numbers, rest) = text.strip_prefix("#Ref<")?.split_once('>')?;
     numbers.bytes().all(|byte| byte.is_ascii_digit() || byte == b'.').then_some(rest)
 }
 
-/// What follows the tag of a call: a reference, or one with an alias.
+/// Returns what follows the tag of a call: a reference, or one with an alias.
 fn after_tag(text: &str) -> Option<&str> {
     match text.strip_prefix("[alias|") {
         Some(rest) => after_reference(rest)?.strip_prefix(']'),

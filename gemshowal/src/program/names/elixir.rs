@@ -4,7 +4,7 @@
 //! It works word by word, so a text that is cut is translated as far as it goes. What Elixir writes
 //! as Erlang does stays.
 
-/// What a module of Elixir is called in Erlang.
+/// The beginning of the name of an Elixir module in Erlang.
 const MODULE: &str = "'Elixir.";
 
 /// A word of a term.
@@ -23,19 +23,19 @@ enum Word<'a> {
     Map,
     Arrow,
     Pid(&'a str),
-    /// A function: its module, and the rest behind the colon.
+    /// A function: its module, and the rest after the colon.
     Function(&'a str, &'a str),
     Atom(&'a str),
-    /// What stays.
+    /// A word that stays as it is.
     Same(&'a str),
 }
 
-/// Whether the text of a legend names modules of Elixir.
+/// Returns whether the text of a legend names modules of Elixir.
 pub(super) fn is_elixir(text: &str) -> bool {
     text.contains(MODULE)
 }
 
-/// The name of a process, with modules as Elixir writes them.
+/// Returns the name of a process, with modules as Elixir writes them.
 pub(super) fn name(name: &str) -> String {
     let mut named = String::with_capacity(name.len());
     let mut rest = name;
@@ -48,7 +48,7 @@ pub(super) fn name(name: &str) -> String {
     named + rest
 }
 
-/// The text of a term.
+/// Returns the text of a term as Elixir writes it.
 pub(super) fn text(term: &str) -> String {
     let mut written = String::with_capacity(term.len());
     let mut rest = term;
@@ -85,7 +85,7 @@ fn write(word: Word<'_>, written: &mut String) {
     }
 }
 
-/// The first word of a text, and what follows it; none of an empty one.
+/// Returns the first word of a text, and the rest, or `None` if the text is empty.
 fn next(text: &str) -> Option<(Word<'_>, &str)> {
     let first = text.chars().next()?;
     let found = match first {
@@ -143,7 +143,7 @@ fn quoted(whole: &str) -> Word<'_> {
     inner.strip_prefix("Elixir.").map_or(Word::Quoted(inner), Word::Module)
 }
 
-/// An atom without quotes, or the function that it is the module of.
+/// Reads an atom without quotes, or the function that it is the module of.
 fn atom(text: &str) -> (Word<'_>, &str) {
     let (atom, rest) = split(text, |c| c.is_alphanumeric() || c == '_' || c == '@');
     match function(rest) {
@@ -152,7 +152,7 @@ fn atom(text: &str) -> (Word<'_>, &str) {
     }
 }
 
-/// What is behind the module of a function: `init/1`.
+/// Reads what comes after the module of a function: `init/1`.
 fn function(rest: &str) -> Option<(&str, &str)> {
     let text =
         rest.strip_prefix(':').filter(|it| it.starts_with(|c: char| c.is_ascii_lowercase()))?;
@@ -161,13 +161,13 @@ fn function(rest: &str) -> Option<(&str, &str)> {
     (!arity.is_empty()).then(|| (&text[..name.len() + 1 + arity.len()], after))
 }
 
-/// The characters at the begin of a text that fit, and what follows them.
+/// Splits a text after the characters at its beginning that fit.
 fn split(text: &str, fits: impl Fn(char) -> bool) -> (&str, &str) {
     text.split_at(text.find(|c| !fits(c)).unwrap_or(text.len()))
 }
 
-/// A word between quotes at the begin of a text, with them, and what follows it. A backslash makes
-/// a quote a part of the word.
+/// Splits a text after the word between quotes at its beginning. A backslash makes a quote a part
+/// of the word.
 fn delimited(text: &str, quote: char) -> Option<(&str, &str)> {
     let inner = text.strip_prefix(quote)?;
     let mut is_escaped = false;

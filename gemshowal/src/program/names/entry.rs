@@ -1,17 +1,17 @@
-//! The lines of the files beside a trace, and why one of them isn't taken.
+//! The lines of the files that lie next to a trace, and the reason why one of them isn't taken.
 
 use std::fs;
 use std::io::{self, ErrorKind};
 use std::path::{Path, PathBuf};
 use thiserror::Error;
 
-/// Why a file beside a trace wasn't taken.
+/// The reason why a file next to a trace wasn't taken.
 #[derive(Debug, Error)]
 pub(crate) enum Fault {
-    /// It is there, and the system doesn't give its bytes.
+    /// The system doesn't give the file's bytes.
     #[error("{} can't be read: {reason}", .file.display())]
     Unread { file: PathBuf, reason: io::Error },
-    /// One of its lines is none of such a file.
+    /// A line has no form that the file may have.
     #[error("{}, line {line}, isn't {wanted}; convert it anew", .file.display())]
     Wrong { file: PathBuf, line: usize, wanted: &'static str },
 }
@@ -22,7 +22,7 @@ impl Fault {
     }
 }
 
-/// The text of a file, none if there is no such file.
+/// Reads a file, if it is there.
 pub(super) fn read_text(file: &Path) -> Result<Option<String>, Fault> {
     let bytes = match fs::read(file) {
         Ok(bytes) => bytes,
@@ -35,7 +35,7 @@ pub(super) fn read_text(file: &Path) -> Result<Option<String>, Fault> {
     })
 }
 
-/// The lines behind the first one, which has to be this header, with their numbers.
+/// Returns the lines after the first one, which has to be this header, with their numbers.
 pub(super) fn lines<'a>(
     text: &'a str,
     file: &Path,
@@ -48,7 +48,7 @@ pub(super) fn lines<'a>(
     }
 }
 
-/// A number of decimal digits alone.
+/// Reads a number of decimal digits alone.
 pub(super) fn number(text: &str) -> Option<u64> {
     text.bytes().all(|byte| byte.is_ascii_digit()).then(|| text.parse().ok())?
 }

@@ -1,4 +1,4 @@
-//! `NAME.facts`: what the conversion decided and left out, a line each: the kind of the fact, a tab
+//! `NAME.facts`: decisions and losses of the conversion, a line each: the kind of the fact, a tab
 //! and a sentence.
 
 use super::entry::{lines, Fault};
@@ -7,7 +7,7 @@ use std::path::Path;
 
 const HEADER: &str = "seqaudit facts 1";
 
-/// What is gone if there is a fact of this kind. The others say how the trace was made.
+/// The kinds of facts that tell of a loss. The others say how the trace was made.
 const LOSSES: [&str; 12] = [
     "nothing",
     "lost",
@@ -23,7 +23,7 @@ const LOSSES: [&str; 12] = [
     "nameless",
 ];
 
-/// The sentences of what the trace is known to lack.
+/// Returns the sentences of what the trace is known to lack.
 pub(super) fn losses(text: &str, file: &Path) -> Result<Vec<String>, Fault> {
     let mut losses = Vec::new();
     for (number, line) in lines(text, file, HEADER)? {

@@ -15,8 +15,8 @@ const HEADER: &str = "seqaudit messages 1";
 pub(crate) struct Messages(HashMap<u64, String>);
 
 impl Messages {
-    /// Those beside this file of a trace for which `is_wanted` is true; none if there is no such
-    /// file.
+    /// Reads the texts in the file next to this trace for which `is_wanted` is true; none if there
+    /// is no file.
     pub(crate) fn beside(trace: &Path, is_wanted: impl Fn(u64) -> bool) -> Result<Messages, Fault> {
         if trace.extension().is_none_or(|extension| extension != super::TRACE) {
             return Ok(Messages::default());
@@ -34,13 +34,14 @@ impl Messages {
         Ok(Messages(messages))
     }
 
-    /// The text of a message: whole if this file or the legend has it whole.
+    /// Returns the text of a message: whole if this file or the legend has it whole.
     pub(crate) fn text<'a>(&'a self, value: u64, names: &'a Names) -> Cow<'a, str> {
         self.0.get(&value).map_or_else(|| names.value(value), |text| Cow::Borrowed(text.as_str()))
     }
 
-    /// The length to which the texts of these messages are cut so that all have so many characters
-    /// together: what the short ones leave is shared among the others. None if all fit.
+    /// Returns the length to which the texts of these messages are cut so that they have this
+    /// number of characters together: what the short ones leave is shared among the others. Returns
+    /// `None` if all fit.
     pub(crate) fn most(
         &self,
         values: &BTreeSet<u64>,

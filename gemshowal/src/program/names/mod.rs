@@ -1,4 +1,4 @@
-//! What the numbers of a trace mean, by the files that lie beside `NAME.seqtrace`: `NAME.terms`,
+//! The meaning of a trace's numbers, by the files that lie next to `NAME.seqtrace`: `NAME.terms`,
 //! `NAME.facts` and `NAME.times`.
 //!
 //! None of these files is proved to be of the trace, and anybody may have changed them. So a file
@@ -31,8 +31,8 @@ use terms::Terms;
 /// The extension of a trace's text.
 const TRACE: &str = "seqtrace";
 
-/// The file that a word of the command line names: `NAME.seqtrace` if there is one, else the file
-/// of the word itself. `-` is standard input, whatever files there are.
+/// Returns the file that a word of the command line names: `NAME.seqtrace` if there is one, else
+/// the file of the word itself. `-` is standard input, whatever files there are.
 pub(crate) fn trace_file(word: &Path) -> PathBuf {
     let named = with_extension(word, TRACE);
     if word != Path::new("-") && named.is_file() {
@@ -42,7 +42,7 @@ pub(crate) fn trace_file(word: &Path) -> PathBuf {
     }
 }
 
-/// The path with this behind it, in place of nothing: `order.1` and `terms` give `order.1.terms`.
+/// Appends an extension to a path, in place of nothing: `order.1` and `terms` give `order.1.terms`.
 fn with_extension(name: &Path, extension: &str) -> PathBuf {
     let mut file = name.as_os_str().to_owned();
     file.push(".");
@@ -50,7 +50,7 @@ fn with_extension(name: &Path, extension: &str) -> PathBuf {
     file.into()
 }
 
-/// What is known of a trace besides its events.
+/// The names, times and facts of a trace.
 #[derive(Debug, Default)]
 pub(crate) struct Names {
     terms: Terms,
@@ -59,8 +59,8 @@ pub(crate) struct Names {
 }
 
 impl Names {
-    /// Reads the files beside this file of a trace. A file of another extension than `seqtrace` has
-    /// none, nor has standard input: all is then shown by its numbers.
+    /// Reads the files next to this file of a trace. A file of another extension than `seqtrace`
+    /// has none, nor has standard input: all is then shown by its numbers.
     pub(crate) fn beside(file: &Path, trace: &Trace, notes: &mut Notes) -> Result<Names, Fault> {
         if file.extension().is_none_or(|extension| extension != TRACE) {
             return Ok(Names::default());
@@ -89,22 +89,22 @@ impl Names {
         })
     }
 
-    /// The short name of a process, its pid if it has none.
+    /// Returns the short name of a process, or its pid if it has none.
     pub(crate) fn process(&self, pid: Pid) -> Cow<'_, str> {
         named(self.terms.process(pid).map(|process| &*process.name), || Text(pid).to_string())
     }
 
-    /// All that is known of a process, if that is anything.
+    /// Returns all that is known of a process, if that is anything.
     pub(crate) fn about(&self, pid: Pid) -> Option<&str> {
         self.terms.process(pid).map(|process| &*process.about)
     }
 
-    /// The term of a label, its number if it has none.
+    /// Returns the term of a label, or its number if it has none.
     pub(crate) fn label(&self, label: Label) -> Cow<'_, str> {
         named(self.terms.label(label), || label.0.to_string())
     }
 
-    /// The term of a message, `value` and its number if it has none.
+    /// Returns the term of a message, or `value` and its number if it has none.
     pub(crate) fn value(&self, value: u64) -> Cow<'_, str> {
         match self.terms.value(value) {
             Some(term) => self.shown(term),
@@ -112,7 +112,7 @@ impl Names {
         }
     }
 
-    /// The term as its language writes it.
+    /// Returns the term as its language writes it.
     fn shown<'a>(&self, term: &'a str) -> Cow<'a, str> {
         if self.terms.are_elixir() {
             elixir::text(term).into()
@@ -121,13 +121,13 @@ impl Names {
         }
     }
 
-    /// Whether a message has a term.
+    /// Returns whether a message has a term.
     pub(crate) fn has_value(&self, value: u64) -> bool {
         self.terms.value(value).is_some()
     }
 
-    /// The same without what every call, cast and reply of OTP's servers has: `call
-    /// {take,apple,3}`.
+    /// Returns the term of a message without the parts that every call, cast and reply of OTP's
+    /// servers has: `call {take,apple,3}`.
     pub(crate) fn brief(&self, value: u64) -> Cow<'_, str> {
         match self.terms.value(value).and_then(brief::brief) {
             Some((way, term)) if self.terms.are_elixir() => {
@@ -138,23 +138,24 @@ impl Names {
         }
     }
 
-    /// What an event is called: its process's name, and its number among the events of that.
+    /// Returns the name of an event: its process's name, and its number among that process's
+    /// events.
     pub(crate) fn event(&self, (pid, index): (Pid, u64)) -> String {
         format!("{}#{index}", self.process(pid))
     }
 
-    /// What the trace is known to lack, a sentence each.
+    /// Returns what the trace is known to lack, a sentence each.
     pub(crate) fn losses(&self) -> &[String] {
         &self.losses
     }
 
-    /// When events happened, if that is known.
+    /// Returns when events happened, if that is known.
     pub(crate) fn times(&self) -> Option<&Times> {
         self.times.as_ref()
     }
 }
 
-/// A name as the file has it, or else what is made for it.
+/// Returns a name as the file has it, or else the one that is made for it.
 fn named(name: Option<&str>, number: impl FnOnce() -> String) -> Cow<'_, str> {
     name.map_or_else(|| Cow::Owned(number()), Cow::Borrowed)
 }

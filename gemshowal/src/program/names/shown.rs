@@ -3,14 +3,14 @@
 
 use std::fmt::Write;
 
-/// Whether a character controls a terminal, begins a line or turns the direction of writing. The
-/// marks of direction are those of Unicode's bidirectional algorithm.
+/// Returns whether a character controls a terminal, begins a line or turns the direction of
+/// writing. The marks of direction are those of Unicode's bidirectional algorithm.
 fn is_control(c: char) -> bool {
     c.is_control()
         || matches!(c, '\u{200E}' | '\u{200F}' | '\u{2028}'..='\u{202E}' | '\u{2066}'..='\u{2069}')
 }
 
-/// The text with its control characters escaped as in Erlang's strings: `\x{1B}`.
+/// Returns the text with its control characters escaped as in Erlang's strings: `\x{1B}`.
 pub(super) fn escaped(text: &str) -> String {
     let mut shown = String::with_capacity(text.len());
     for c in text.chars() {

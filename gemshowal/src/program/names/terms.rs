@@ -1,5 +1,5 @@
-//! `NAME.terms`: what processes, labels and messages are called. A line is an entry, with tabs
-//! between its parts: `process PID NAME ABOUT`, `label NUMBER TERM` or `value NUMBER TERM`.
+//! `NAME.terms`: the names of processes, labels and messages. A line is an entry, with tabs between
+//! its parts: `process PID NAME ABOUT`, `label NUMBER TERM` or `value NUMBER TERM`.
 
 use super::elixir;
 use super::entry::{lines, number, Fault};
@@ -42,8 +42,8 @@ impl Terms {
         Ok(terms)
     }
 
-    /// Adds the entry of a line; none if it isn't one, or a line before it has said the same with
-    /// other words.
+    /// Adds the entry of a line; returns `None` if it isn't one, or a line before it said
+    /// otherwise.
     fn add(&mut self, line: &str) -> Option<()> {
         let mut parts = line.split('\t');
         let (kind, of) = (parts.next()?, parts.next()?);
@@ -65,7 +65,7 @@ impl Terms {
         (is_new && parts.next().is_none()).then_some(())
     }
 
-    /// A name as the language of the terms writes it.
+    /// Returns a name as the language of the terms writes it.
     fn name(&self, name: &str) -> Box<str> {
         if self.are_elixir {
             elixir::name(name).into()
@@ -74,12 +74,13 @@ impl Terms {
         }
     }
 
-    /// Whether they name modules of Elixir, so that messages are shown as Elixir writes them.
+    /// Returns whether they name modules of Elixir, so that messages are shown as Elixir writes
+    /// them.
     pub(super) fn are_elixir(&self) -> bool {
         self.are_elixir
     }
 
-    /// Whether nothing has a name.
+    /// Returns whether nothing has a name.
     pub(super) fn is_empty(&self) -> bool {
         self.processes.is_empty() && self.labels.is_empty() && self.values.is_empty()
     }
@@ -96,7 +97,7 @@ impl Terms {
         self.values.get(&value).map(|term| &**term)
     }
 
-    /// The processes of this name, by rising pid.
+    /// Returns the processes of this name, by rising pid.
     pub(super) fn processes_of(&self, name: &str) -> Vec<Pid> {
         let named = self.processes.iter().filter(|(_, process)| &*process.name == name);
         let mut pids: Vec<Pid> = named.map(|(&pid, _)| pid).collect();

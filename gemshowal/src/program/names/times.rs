@@ -21,12 +21,12 @@ pub(crate) type Place = (Pid, u64);
 /// Nanoseconds.
 pub(crate) type Time = i64;
 
-/// When events happened, and how long messages took.
+/// The times of events and of messages.
 #[derive(Debug, Default)]
 pub(crate) struct Times {
     begin: Time,
     events: HashMap<Place, Time>,
-    /// By the receive its send, and the time between.
+    /// For each receive its send, and the time between.
     messages: HashMap<Place, (Place, Time)>,
 }
 
@@ -46,7 +46,7 @@ impl Times {
         Ok(times)
     }
 
-    /// Adds the entry of a line; none if it isn't one, or what it is about has a time.
+    /// Adds the entry of a line; returns `None` if it isn't one, or its subject has a time already.
     fn add(&mut self, line: &str) -> Option<()> {
         let mut words = line.split(' ');
         let kind = words.next()?;
@@ -62,8 +62,8 @@ impl Times {
         (is_new && words.next().is_none()).then_some(())
     }
 
-    /// The times, unless they are of another trace: one in which an event is gone, or was moved,
-    /// has other events at their places.
+    /// Returns the times, unless they are of another trace: one in which an event is gone, or was
+    /// moved, has other events at their places.
     pub(super) fn of_trace(self, trace: &Trace, file: &Path, notes: &mut Notes) -> Option<Times> {
         if self.may_be_of(trace) {
             return Some(self);
@@ -84,34 +84,34 @@ impl Times {
             })
     }
 
-    /// When the first event happened, since 1970, if its node told.
+    /// Returns the time of the first event, since 1970, if its node told.
     pub(crate) fn begin(&self) -> Option<Time> {
         (self.begin >= 0).then_some(self.begin)
     }
 
-    /// How much later than the first one an event happened.
+    /// Returns how much later than the first one an event happened.
     pub(crate) fn of_event(&self, place: Place) -> Option<Time> {
         self.events.get(&place).copied()
     }
 
-    /// How many events have a time.
+    /// Counts the events that have a time.
     pub(crate) fn count(&self) -> usize {
         self.events.len()
     }
 
-    /// The times of the first event and of the last one; 0 if there are none.
+    /// Returns the times of the first event and of the last one; 0 if there are none.
     pub(crate) fn ends(&self) -> (Time, Time) {
         let times = || self.events.values().copied();
         (times().min().unwrap_or(0), times().max().unwrap_or(0))
     }
 
-    /// The send of a receive, and the time from the one to the other.
+    /// Returns the send of a receive, and the time from the one to the other.
     pub(crate) fn of_message(&self, receive: Place) -> Option<(Place, Time)> {
         self.messages.get(&receive).copied()
     }
 }
 
-/// Whether these are the two ends of a message.
+/// Returns whether these are the two ends of a message.
 fn are_ends(send: &Event, receive: &Event) -> bool {
     send.kind == Kind::Send
         && receive.kind == Kind::Receive
@@ -125,7 +125,8 @@ fn place<'a>(words: &mut impl Iterator<Item = &'a str>) -> Option<Place> {
     Some((gemshowal::read_pid(words.next()?)?, number(words.next()?)?))
 }
 
-/// A number, with a minus or without. The least one is none, so that each has its opposite.
+/// Reads a number, with a minus or without. The least one is refused, so that each has its
+/// opposite.
 fn time(word: &str) -> Option<Time> {
     let size = number(word.strip_prefix('-').unwrap_or(word))?;
     let size = Time::try_from(size).ok()?;

@@ -1,4 +1,4 @@
-//! Which event or label a word of the command line names.
+//! The event or label that a word of the command line names.
 
 use super::entry::number;
 use super::Names;
@@ -6,10 +6,10 @@ use gemshowal::{Label, OutOfMemory, Pid, Trace};
 use std::collections::BTreeSet;
 use thiserror::Error;
 
-/// So many names are listed, if none is the one that was meant.
+/// The greatest number of names that are listed if none is the one that was meant.
 const LISTED: usize = 20;
 
-/// Why no event or label was found.
+/// The reason why no event or label was found.
 #[derive(Debug, Error)]
 pub(crate) enum NotFound {
     #[error(
@@ -37,8 +37,8 @@ pub(crate) enum NotFound {
 }
 
 impl Names {
-    /// The place of the event that these words name: `shop#2`, `<0.81.0>#2`, `shop 2`, `<0.81.0>
-    /// 2`, or a line of the text.
+    /// Finds the place of the event that these words name: `shop#2`, `<0.81.0>#2`, `shop 2`,
+    /// `<0.81.0> 2`, or a line of the text.
     pub(crate) fn find_event(
         &self,
         trace: &Trace,
@@ -64,7 +64,7 @@ impl Names {
         Err(NotFound::NoEvent(process.into(), index, has))
     }
 
-    /// The process of this name or pid.
+    /// Finds the process of this name or pid.
     pub(crate) fn find_process(&self, trace: &Trace, word: &str) -> Result<Pid, NotFound> {
         let listed = trace.streams().pids();
         let named = self.terms.processes_of(word);
@@ -85,8 +85,8 @@ impl Names {
         }
     }
 
-    /// The label that is shown as this text, but for blanks, or has this number; without a text the
-    /// only label.
+    /// Finds the label that is shown as this text, but for blanks, or has this number; without a
+    /// text the only label.
     pub(crate) fn find_label(&self, trace: &Trace, text: Option<&str>) -> Result<Label, NotFound> {
         let labels: BTreeSet<u32> =
             trace.processes().flat_map(|(_, events)| events).map(|event| event.label.0).collect();
@@ -115,14 +115,14 @@ impl Names {
     }
 }
 
-/// The first ones, and whether there are more.
+/// Lists the first ones, and says whether there are more.
 fn few(names: impl ExactSizeIterator<Item = String>) -> String {
     let more = if names.len() > LISTED { ", .." } else { "" };
     names.take(LISTED).collect::<Vec<_>>().join(", ") + more
 }
 
-/// The text without the blanks that Erlang's syntax doesn't need: those behind a comma, as far as
-/// that is no string.
+/// Returns the text without the blanks that Erlang's syntax doesn't need: those after a comma, as
+/// far as that is no string.
 fn without_blanks(text: &str) -> String {
     text.split(", ").map(str::trim).collect::<Vec<_>>().join(",")
 }

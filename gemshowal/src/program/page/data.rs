@@ -1,4 +1,4 @@
-//! What a page knows of a trace: its events, a list for each thing that is known of them.
+//! The data of a page: the events of a trace, a list for each thing that is known of them.
 
 use crate::causes::{Cause, Causes, Grade, Link};
 use crate::durations::{self, Durations};
@@ -9,25 +9,24 @@ use serde::Serialize;
 use std::collections::{BTreeMap, BTreeSet, HashMap};
 use std::hash::Hash;
 
-/// So many entries of a table of times are in a page.
+/// The greatest number of entries in a page's table of times.
 const DURATIONS: usize = 200;
 
-/// So many characters all messages of a page have together: a page is one file that a browser reads
-/// and keeps as a whole, and searches as a whole at each key.
+/// The greatest number of characters of all messages together: a page is one file that a browser
+/// reads and keeps as a whole, and searches as a whole at each key.
 const CHARACTERS: usize = 32_000_000;
 
 /// Nanoseconds in a microsecond.
 const MICRO: i64 = 1_000;
 
-/// All of it, as the script reads it.
+/// The data of a page, as the script reads it.
 #[derive(Serialize)]
 pub(super) struct Data {
     title: String,
     headline: String,
     fits: bool,
     notes: Vec<String>,
-    /// When the first event happened, in microseconds since 1970, if the clock of the node is
-    /// known.
+    /// The time of the first event, in microseconds since 1970, if the clock of the node is known.
     begin: Option<i64>,
     durations: Vec<Table>,
     /// The length to which messages are cut, if they are.
@@ -48,11 +47,11 @@ struct Lane {
     about: String,
 }
 
-/// How long messages took.
+/// The times that messages took.
 #[derive(Serialize)]
 struct Table {
     title: &'static str,
-    /// How many entries are left out.
+    /// The number of entries that are left out.
     more: usize,
     entries: Vec<(String, usize, i64, i64, i64)>,
 }
@@ -85,16 +84,16 @@ struct Rows {
     /// The number of the message; -1 if nobody knows it.
     term: Vec<i64>,
     serial: Vec<String>,
-    /// What follows the process's name in that of the event.
+    /// The text after the process's name in that of the event.
     at: Vec<String>,
     /// The row of the event that it follows, or -1.
     cause: Vec<i64>,
-    /// Of those that begin another label the row of the last receive.
+    /// For each event that begins another label, the row of the last receive.
     had: BTreeMap<usize, usize>,
     time: Option<Vec<Option<i64>>>,
 }
 
-/// Things by the number that they have in a list.
+/// The numbers of things in a list.
 struct Numbers<T>(HashMap<T, usize>);
 
 impl<T: Copy + Eq + Hash> Numbers<T> {
@@ -106,7 +105,7 @@ impl<T: Copy + Eq + Hash> Numbers<T> {
         self.0.get(&thing).copied()
     }
 
-    /// The number, or -1.
+    /// Returns the number of a thing, or -1.
     fn or_none(&self, thing: Option<T>) -> i64 {
         thing.and_then(|thing| self.get(thing)).map_or(-1, |number| number as i64)
     }

@@ -54,7 +54,8 @@ pub(crate) fn run(
     })
 }
 
-/// The frame with a text for each word between two at signs. Nothing is put into what was put in.
+/// Fills the frame, which has a word between two at signs for each text. Nothing is put into what
+/// was put in.
 fn page(title: &str, data: &str) -> String {
     let (nonce, script, data) = (nonce(), script::joined(), in_element(data));
     let mut page = String::with_capacity(data.len() + script.len() + STYLE.len() + FRAME.len());
@@ -71,9 +72,10 @@ fn page(title: &str, data: &str) -> String {
     page
 }
 
-/// The policy lets a script run that has this word, which nobody knew when the messages were sent.
+/// Makes the word by which the policy lets a script run: nobody knew it when the messages were
+/// sent.
 fn nonce() -> String {
-    // Each state has random keys of its own.
+    // Draws on the random keys that each state has of its own.
     let mut nonce = String::new();
     for _ in 0..4 {
         let _ = write!(nonce, "{:016x}", RandomState::new().build_hasher().finish());
@@ -81,7 +83,7 @@ fn nonce() -> String {
     nonce
 }
 
-/// JSON as it may stand in an element: only its strings have these characters.
+/// Returns JSON as it may stand in an element: only its strings have these characters.
 fn in_element(json: &str) -> String {
     json.replace('<', "\\u003c").replace('>', "\\u003e").replace('&', "\\u0026")
 }

@@ -22,14 +22,14 @@ const MODULES: [(&str, &str); 12] = modules![
     "drawers", "controls", "main",
 ];
 
-/// The whole script.
+/// Joins the whole script.
 pub(super) fn joined() -> String {
     let bodies: Vec<String> =
         MODULES.iter().map(|(_, text)| without_words_of_modules(text)).collect();
     format!("{HEAD}{}}})();\n", bodies.join("\n"))
 }
 
-/// A module without its imports, which may take several lines, and without `export`.
+/// Returns a module without its imports, which may take several lines, and without `export`.
 fn without_words_of_modules(text: &str) -> String {
     let mut body = String::with_capacity(text.len());
     let mut is_import = false;
@@ -49,7 +49,7 @@ mod tests {
     use super::*;
     use std::collections::{BTreeMap, BTreeSet};
 
-    /// The names that a module declares at its margin, each with whether it exports it.
+    /// Returns the names that a module declares at its margin, each with whether it exports it.
     fn declared(text: &str) -> BTreeMap<&str, bool> {
         let mut names = BTreeMap::new();
         for line in text.lines() {
@@ -77,7 +77,7 @@ mod tests {
         names
     }
 
-    /// The names that a module imports, each with the module that has it.
+    /// Returns the names that a module imports, each with the module that has it.
     fn imported(text: &str) -> Vec<(String, String)> {
         let imports =
             text.split("import {").skip(1).filter_map(|import| import.split_once("} from \"./"));
