@@ -82,7 +82,7 @@ layout: ## names the sources that rt fmt would lay out otherwise (20 seconds)
 	@.ci/layout
 
 # A crate cites of another crate's proofs its lemmas for callers alone, and none of its definitions for the parts alone.
-# No definition has the name of another crate's, and no file of code a bare participle for its name.
+# No definition and no public type has the name of another crate's, and no file of code a bare participle for its name.
 layers: ## looks what each crate cites of the others, and for names that two have (1 second)
 	@.ci/layers
 	@.ci/names

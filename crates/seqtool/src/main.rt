@@ -5,7 +5,7 @@
 //! `read_words` and `run`.
 #![tactic(auto)]
 
-use seqtool_commands::{Task, asks_version, read_words, run, tell_usage, tell_version};
+use seqtool_commands::{ToolTask, asks_version, read_words, run, tell_usage, tell_version};
 use st_commands::{Pipe, tell_fault};
 use st_core::{ByteSink, ReadFrom, WriteTo};
 use st_text::ReadFault;
@@ -25,7 +25,7 @@ fn words_of(rt: &HostRuntime) -> io::Result<Vec<String>> {
 fn serve_task<H: AllocGlobal + Threads + Sync, W: ByteSink>(
     rt: &HostRuntime,
     threads: &H,
-    task: Task,
+    task: ToolTask,
     path: Option<&str>,
     writer: &mut W,
 ) -> u8 {

@@ -8,13 +8,13 @@ use Rattle.st_text.specs.Parsing.{number, number_in, parse_bare_pid, parse_pid, 
 use Rattle.seqtool_commands.specs.declared.complete.Form.TheVariants as form
 use Rattle.seqtool_commands.specs.declared.question.Direction.{Direction}
 use Rattle.seqtool_commands.specs.declared.question.Direction.TheVariants as direction
-use Rattle.seqtool_commands.specs.declared.words.Task.{Task}
-use Rattle.seqtool_commands.specs.declared.words.Task.TheVariants as task
+use Rattle.seqtool_commands.specs.declared.words.ToolTask.{ToolTask}
+use Rattle.seqtool_commands.specs.declared.words.ToolTask.TheVariants as task
 use Rattle.seqtool_commands.specs.Words.{Word, label_reach, request_asked}
 
 module _ (name : Word) where
   abbrev Line : Type 0
-  Line = List Word × Option (Task × Option Word)
+  Line = List Word × Option (ToolTask × Option Word)
 
   abbrev file : Word
   file = codes "trace.txt"
@@ -49,7 +49,7 @@ module _ (name : Word) where
   plain_words = refl
 
   -- event 2 of <0.31.0>
-  abbrev asked_about : Direction → Option Word → Option (Task × Option Word)
+  abbrev asked_about : Direction → Option Word → Option (ToolTask × Option Word)
   asked_about way path = Some
       (task.Why (record { place = (pid_on 0 31, 2); direction = way; reach = label_reach }), path)
 

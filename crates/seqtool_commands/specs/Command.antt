@@ -7,8 +7,8 @@ use Rattle.st_commands.specs.Meaning.{MeansYes, MeansNo, MeansFits, MeansUnfit, 
 use Rattle.st_commands.specs.Output.{Output}
 use Rattle.st_text.specs.Limits.{greater}
 use Rattle.st_text.specs.Spelling.{ended_line}
-use Rattle.seqtool_commands.specs.declared.words.Task.{Task}
-use Rattle.seqtool_commands.specs.declared.words.Task.TheVariants as task
+use Rattle.seqtool_commands.specs.declared.words.ToolTask.{ToolTask}
+use Rattle.seqtool_commands.specs.declared.words.ToolTask.TheVariants as task
 use Rattle.seqtool_commands.specs.declared.complete.Form.{Form}
 use Rattle.seqtool_commands.specs.Complete.{IsOutputOfComplete, MeansCompleted, MeansLong, MeansNever}
 use Rattle.seqtool_commands.specs.Words.{tool_usage_words, tool_version_words}
@@ -37,7 +37,7 @@ module _ {R W : Type 0} (reader : ReaderCall R) (writer : WriterCall W) where
     pub refused : status ≡ 2 → Says greater reader writer MeansRefused
 
   -- what each command does
-  abbrev pub Does : Task → ℕ → Type 0
+  abbrev pub Does : ToolTask → ℕ → Type 0
   Does (task.Why question) status =
       Performs greater reader writer (IsWhy question) (MeansTold question) (MeansUntold question)
       status

@@ -11,8 +11,8 @@ use Rattle.seqtool_commands.specs.declared.complete.Form.TheVariants as form
 use Rattle.seqtool_commands.specs.declared.question.Direction.{Direction}
 use Rattle.seqtool_commands.specs.declared.question.Direction.TheVariants as direction
 use Rattle.seqtool_commands.specs.declared.question.Question.{Question}
-use Rattle.seqtool_commands.specs.declared.words.Task.{Task}
-use Rattle.seqtool_commands.specs.declared.words.Task.TheVariants as task
+use Rattle.seqtool_commands.specs.declared.words.ToolTask.{ToolTask}
+use Rattle.seqtool_commands.specs.declared.words.ToolTask.TheVariants as task
 
 abbrev pub Word : Type 0
 Word = List ℕ
@@ -69,7 +69,7 @@ question_asked (p ∷ i ∷ rest) =
 -- ---- all commands
 
 -- the task of the command of this name, of whose own words these begin with, and the words after
-abbrev pub task_named : Word → List Word → Option (Task × List Word)
+abbrev pub task_named : Word → List Word → Option (ToolTask × List Word)
 task_named name words =
     if bytes_eq name (codes "check") then Some (task.Check, words)
     else (if bytes_eq name (codes "audit") then Some (task.Audit, words)
@@ -96,7 +96,7 @@ file_asked (w ∷ []) = file_named w
 file_asked (w ∷ x ∷ rest) = None
 
 -- the task, and the file if it isn't of standard input; the first word is the program's name
-abbrev pub request_asked : List Word → Option (Task × Option Word)
+abbrev pub request_asked : List Word → Option (ToolTask × Option Word)
 request_asked [] = None
 request_asked (program ∷ []) = None
 request_asked (program ∷ name ∷ words) =

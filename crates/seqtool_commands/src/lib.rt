@@ -27,4 +27,4 @@ pub use program::{run, tell_usage, tell_version};
 pub use question::{Direction, Question};
 pub use renumber::run_renumber;
 pub use why::run_why;
-pub use words::{Task, asks_version, read_words};
+pub use words::{ToolTask, asks_version, read_words};

@@ -7,7 +7,7 @@ use crate::complete::run_complete;
 use crate::lines::OutputLine;
 use crate::renumber::run_renumber;
 use crate::why::run_why;
-use crate::words::Task;
+use crate::words::ToolTask;
 use st_commands::{run_audit_within, run_check_within, tell_line};
 use st_core::{ByteSink, ByteSource};
 use st_text::Limits;
@@ -16,7 +16,7 @@ use std::thread::Threads;
 /// Does what the task asks for within the greater limits, and returns the exit status.
 pub fn run<H: AllocGlobal + Threads + Sync, R: ByteSource, W: ByteSink>(
     rt: &H,
-    task: Task,
+    task: ToolTask,
     reader: &mut R,
     writer: &mut W,
 ) -> u8
@@ -24,11 +24,11 @@ pub fn run<H: AllocGlobal + Threads + Sync, R: ByteSource, W: ByteSink>(
         (call W.ByteSink writer.old writer.new) task result }
 {
     match task {
-        Task::Check => run_check_within(rt.alloc(), reader, writer, Limits::GREATER),
-        Task::Audit => run_audit_within(rt, rt.alloc(), reader, writer, Limits::GREATER),
-        Task::Complete(form) => run_complete(rt, rt.alloc(), reader, writer, form),
-        Task::Renumber => run_renumber(rt.alloc(), reader, writer),
-        Task::Why(question) => run_why(rt.alloc(), reader, writer, question),
+        ToolTask::Check => run_check_within(rt.alloc(), reader, writer, Limits::GREATER),
+        ToolTask::Audit => run_audit_within(rt, rt.alloc(), reader, writer, Limits::GREATER),
+        ToolTask::Complete(form) => run_complete(rt, rt.alloc(), reader, writer, form),
+        ToolTask::Renumber => run_renumber(rt.alloc(), reader, writer),
+        ToolTask::Why(question) => run_why(rt.alloc(), reader, writer, question),
     }
 }
 

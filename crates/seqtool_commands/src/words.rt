@@ -15,7 +15,7 @@ use std::convert::AsStr;
 
 /// A command of the program.
 #[derive(Clone, Copy)]
-pub enum Task {
+pub enum ToolTask {
     /// `check`: is the input's certificate a run that shows its streams?
     Check,
     /// `audit`: is there a certificate for the input's streams?
@@ -110,26 +110,26 @@ fn question_asked<S: AsStr>(words: &[S]) -> Option<(Question, &[S])>
 }
 
 /// The task of the command of this name, by the words after it, and the words that are left.
-fn task_named<'a, S: AsStr>(name: &str, words: &'a [S]) -> Option<(Task, &'a [S])>
+fn task_named<'a, S: AsStr>(name: &str, words: &'a [S]) -> Option<(ToolTask, &'a [S])>
     ensures { option_map (λ x. (x.0, map S.text x.1.now)) result
         ≡ task_named name.now (map S.text words.now) }
 {
     if name == "check" {
-        return Some((Task::Check, words));
+        return Some((ToolTask::Check, words));
     }
     if name == "audit" {
-        return Some((Task::Audit, words));
+        return Some((ToolTask::Audit, words));
     }
     if name == "renumber" {
-        return Some((Task::Renumber, words));
+        return Some((ToolTask::Renumber, words));
     }
     if name == "complete" {
         let (form, rest) = form_asked(words)?;
-        return Some((Task::Complete(form), rest));
+        return Some((ToolTask::Complete(form), rest));
     }
     if name == "why" {
         let (question, rest) = question_asked(words)?;
-        return Some((Task::Why(question), rest));
+        return Some((ToolTask::Why(question), rest));
     }
     None
 }
@@ -171,7 +171,7 @@ fn file_asked<'a, S: AsStr>(words: &'a [S]) -> Option<Option<&'a str>>
 
 /// The task that the words ask for, and the path of the file, if it isn't of standard input. The
 /// first word is the program's name. None, if they ask for no task.
-pub fn read_words<'a, S: AsStr>(words: &'a [S]) -> Option<(Task, Option<&'a str>)>
+pub fn read_words<'a, S: AsStr>(words: &'a [S]) -> Option<(ToolTask, Option<&'a str>)>
     ensures { option_map (λ x. (x.0, option_map (λ path. path.now) x.1)) result
         ≡ request_asked (map S.text words.now) }
 {

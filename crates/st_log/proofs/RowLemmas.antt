@@ -6,7 +6,7 @@ use Rattle.std.proofs.lemmas.List.{append-nil, get_or_append_left, length-append
 use Rattle.st_core.specs.declared.types.Act.{Act}
 use Rattle.st_core.specs.declared.types.Reply.{Reply}
 use Rattle.st_log.specs.declared.entry.Entry.{Entry}
-use Rattle.st_log.specs.declared.row.Row.{Row}
+use Rattle.st_log.specs.declared.row.LogRow.{LogRow}
 use Rattle.st_log.specs.declared.row.Content.{Content}
 use Rattle.st_log.specs.declared.row.Content.TheVariants as content
 use Rattle.st_log.specs.declared.row.Unranked.{Unranked}
@@ -93,14 +93,14 @@ stays_placed b b' (content.Traced i) more placed = let most = more.traced in ome
 stays_placed b b' (content.Apart i) more placed = let most = more.apart in omega (arith, placed, most)
 
 -- the rows refer to places that are there
-abbrev FitBeside : Beside → List Row → Type 0
+abbrev FitBeside : Beside → List LogRow → Type 0
 FitBeside b rows = HavePlaces (length b.calls) (length b.traced) (length b.apart) rows
 
 -- the entries of rows
-abbrev entries_beside : Beside → List Row → List Entry
+abbrev entries_beside : Beside → List LogRow → List Entry
 entries_beside b rows = entries_of b.calls b.traced b.apart rows
 
-entries_stay : (b b' : Beside) (rows : List Row) → AllBegin b b' → FitBeside b rows
+entries_stay : (b b' : Beside) (rows : List LogRow) → AllBegin b b' → FitBeside b rows
     → entries_beside b' rows ≡ entries_beside b rows
 entries_stay b b' [] more placed = refl
 entries_stay b b' (r ∷ rows) more placed =
@@ -109,14 +109,14 @@ entries_stay b b' (r ∷ rows) more placed =
     let rest = entries_stay b b' rows more placed.1 in
     λ i. first i ∷ rest i
 
-placed_stay : (b b' : Beside) (rows : List Row) → AllAtMost b b' → FitBeside b rows → FitBeside b' rows
+placed_stay : (b b' : Beside) (rows : List LogRow) → AllAtMost b b' → FitBeside b rows → FitBeside b' rows
 placed_stay b b' [] more placed = tt
 placed_stay b b' (r ∷ rows) more placed =
     (stays_placed b b' r.content more placed.0, placed_stay b b' rows more placed.1)
 
 -- ---- one row more
 
-placed_push : (b : Beside) (rows : List Row) (r : Row) → FitBeside b rows
+placed_push : (b : Beside) (rows : List LogRow) (r : LogRow) → FitBeside b rows
     → HasPlace (length b.calls) (length b.traced) (length b.apart) r.content → FitBeside b (rows ++ r ∷ [])
 placed_push b [] r placed one = (one, tt)
 placed_push b (x ∷ rows) r placed one = (placed.0, placed_push b rows r placed.1 one)
@@ -141,7 +141,7 @@ all_begin calls calls' traced traced' apart apart' grown = record {
 }
 
 -- the entries after a push
-pub entries_pushed : (rows rows' : List Row) (calls calls' : List (Act × Reply)) (traced traced' : List TracedAct)
+pub entries_pushed : (rows rows' : List LogRow) (calls calls' : List (Act × Reply)) (traced traced' : List TracedAct)
     (apart apart' : List Unranked) (c : Content) (e : Entry)
     → HavePlaces (length calls) (length traced) (length apart) rows
     → HasGrown calls calls' → HasGrown traced traced' → HasGrown apart apart'
@@ -150,7 +150,7 @@ pub entries_pushed : (rows rows' : List Row) (calls calls' : List (Act × Reply)
     → entries_of calls' traced' apart' rows' ≡ entries_of calls traced apart rows ++ e ∷ []
 entries_pushed rows rows' calls calls' traced traced' apart apart' c e placed more_calls more_traced more_apart says
     more =
-    let r : Row = record { rank = e.rank; content = c } in
+    let r : LogRow = record { rank = e.rank; content = c } in
     let last : row_entry calls' traced' apart' r ≡ e = ap (with_rank e.rank) says in
     let old = entries_stay _ _ rows (all_begin calls calls' traced traced' apart apart'
     (record { calls_grown = more_calls; traced_grown = more_traced; apart_grown = more_apart })) placed in
@@ -158,7 +158,7 @@ entries_pushed rows rows' calls calls' traced traced' apart apart' c e placed mo
     ∙ (λ i. old i ++ last i ∷ [])
 
 -- the inside after a push
-pub log_pushed : (rows rows' : List Row) (kept kept' : CallList) (traced traced' : List TracedAct)
+pub log_pushed : (rows rows' : List LogRow) (kept kept' : CallList) (traced traced' : List TracedAct)
     (apart apart' : List Unranked) (c : Content) (e : Entry) (row_room traced_room apart_room n m : ℕ)
     → IsLog rows kept traced apart row_room traced_room apart_room n
     → HasGrown kept.calls kept'.calls → kept.spare ≤ kept'.spare + 1
@@ -168,8 +168,8 @@ pub log_pushed : (rows rows' : List Row) (kept kept' : CallList) (traced traced'
     → IsLog rows' kept' traced' apart' row_room traced_room apart_room m
 log_pushed rows rows' kept kept' traced traced' apart apart' c e row_room traced_room apart_room n m is more_calls spare
     more_traced more_apart placed more fewer =
-    let r : Row = record { rank = e.rank; content = c } in
-    let long : length rows' ≡ length rows + 1 = ap (λ (xs : List Row). length xs) more ∙ length-append rows (r ∷ []) in
+    let r : LogRow = record { rank = e.rank; content = c } in
+    let long : length rows' ≡ length rows + 1 = ap (λ (xs : List LogRow). length xs) more ∙ length-append rows (r ∷ []) in
     let at_most = grown_length apart apart' more_apart in
     let traced_at_most = grown_length traced traced' more_traced in
     let b : Beside = record { calls = kept.calls; traced = traced; apart = apart } in
@@ -190,11 +190,11 @@ log_pushed rows rows' kept kept' traced traced' apart apart' c e row_room traced
 -- ---- what is read
 
 -- the last row has the last rank
-pub last_rank-rows : (low : ℕ) (rows : List Row) (calls : List (Act × Reply)) (traced : List TracedAct)
-    (apart : List Unranked) (r : Row)
+pub last_rank-rows : (low : ℕ) (rows : List LogRow) (calls : List (Act × Reply)) (traced : List TracedAct)
+    (apart : List Unranked) (r : LogRow)
     → Some r ≡ slice_get rows (length rows - 1) → r.rank ≡ last_rank low (entries_of calls traced apart rows)
 last_rank-rows low [] calls traced apart r is = cc
-last_rank-rows low (x ∷ []) calls traced apart r is = let same : r ≡ x = cc in ap (λ (y : Row). y.rank) same
+last_rank-rows low (x ∷ []) calls traced apart r is = let same : r ≡ x = cc in ap (λ (y : LogRow). y.rank) same
 last_rank-rows low (x ∷ y ∷ ys) calls traced apart r is =
     let place : length (x ∷ y ∷ ys) - 1 ≡ suc (length (y ∷ ys) - 1) = omega arith in
     last_rank-rows x.rank (y ∷ ys) calls traced apart r (is ∙ ap (slice_get (x ∷ y ∷ ys)) place)

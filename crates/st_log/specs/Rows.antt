@@ -8,7 +8,7 @@ use Rattle.st_core.specs.declared.types.Act.TheVariants as act
 use Rattle.st_core.specs.declared.types.Reply.{Reply}
 use Rattle.st_core.specs.declared.types.Reply.TheVariants as reply
 use Rattle.st_log.specs.declared.entry.Entry.{Entry}
-use Rattle.st_log.specs.declared.row.Row.{Row}
+use Rattle.st_log.specs.declared.row.LogRow.{LogRow}
 use Rattle.st_log.specs.declared.row.Content.{Content}
 use Rattle.st_log.specs.declared.row.Content.TheVariants as content
 use Rattle.st_log.specs.declared.row.Unranked.{Unranked}
@@ -38,11 +38,11 @@ without_rank_in calls traced apart (content.Traced i) =
 without_rank_in calls traced apart (content.Apart i) = slice_index_or apart i nowhere
 
 -- the entry of a row
-abbrev pub row_entry : List (Act × Reply) → List TracedAct → List Unranked → Row → Entry
+abbrev pub row_entry : List (Act × Reply) → List TracedAct → List Unranked → LogRow → Entry
 row_entry calls traced apart r = with_rank r.rank (without_rank_in calls traced apart r.content)
 
 -- the entries of rows
-abbrev pub entries_of : List (Act × Reply) → List TracedAct → List Unranked → List Row → List Entry
+abbrev pub entries_of : List (Act × Reply) → List TracedAct → List Unranked → List LogRow → List Entry
 entries_of calls traced apart rows = map (row_entry calls traced apart) rows
 
 -- the place of the content is below the number of calls, of acts under a token, or of
@@ -73,13 +73,13 @@ pub record HasRoomInAll (spare traced traced_capacity apart apart_capacity : ℕ
   pub apart_place : apart < 4294967295
 
 -- the rows have their places
-abbrev pub HavePlaces : ℕ → ℕ → ℕ → List Row → Type 0
+abbrev pub HavePlaces : ℕ → ℕ → ℕ → List LogRow → Type 0
 HavePlaces calls traced apart rows =
-    AllByRecursion (λ (r : Row). HasPlace calls traced apart r.content) rows
+    AllByRecursion (λ (r : LogRow). HasPlace calls traced apart r.content) rows
 
 -- what a log keeps inside: each row has its entry, and there is the room that is reserved. A place
 -- is a number of 32 bits.
-pub record IsLog (rows : List Row) (kept : CallList) (traced : List TracedAct)
+pub record IsLog (rows : List LogRow) (kept : CallList) (traced : List TracedAct)
     (apart : List Unranked) (row_capacity traced_capacity apart_capacity reserved : ℕ)
     : Type 0 where
   pub placed : HavePlaces (length kept.calls) (length traced) (length apart) rows

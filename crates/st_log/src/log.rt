@@ -12,7 +12,7 @@ ghost use Rattle.st_log.specs.TracedActs.{without_rank};
 
 use crate::calls::CallLog;
 use crate::entry::Entry;
-use crate::row::{Content, Row, Unranked, content_of};
+use crate::row::{Content, LogRow, Unranked, content_of};
 use crate::same::is_same_entry;
 use crate::traced_act::{TracedAct, traced_of};
 use st_core::{Act, Event, Pid, Reply};
@@ -32,7 +32,7 @@ const MOST_PLACES: usize = 4_294_967_295;
 /// `traced`); any other takes 192 at most.
 #[derive(Drop)]
 pub struct Log {
-    rows: Vec<Row>,
+    rows: Vec<LogRow>,
     calls: CallLog,
     traced: Vec<TracedAct>,
     apart: Vec<Unranked>,
@@ -266,7 +266,7 @@ impl Log {
         ensures spare { self.old.spare ≡ self.new.spare + 1 }
     {
         let content = keep_content(&mut self.calls, &mut self.traced, &mut self.apart, entry);
-        self.rows.push_reserved(Row {
+        self.rows.push_reserved(LogRow {
             rank: entry.rank,
             content,
         });

@@ -17,7 +17,7 @@ use st_core::{Act, Event, Pid, Reply, Token};
 
 /// The rank of an entry, and where the rest of it is.
 #[derive(Clone, Copy)]
-pub struct Row {
+pub struct LogRow {
     /// The entry's rank.
     pub rank: u64,
     /// The rest of the entry.
@@ -26,7 +26,7 @@ pub struct Row {
 
 // An act of a node takes these bytes, and at most as many again as room to grow, at each
 // of its processes.
-const _: () = prove!(size_of::<Row>() == 16);
+const _: () = prove!(size_of::<LogRow>() == 16);
 
 /// The content of an entry without its rank: for an act of a whole node all of it, for any other
 /// where it is.

@@ -5,7 +5,7 @@ ghost use Rattle.st_mail.specs.Index.{IsIndex, keys_of, room};
 
 use crate::helpers::same;
 use st_core::{Message, Pid, Serial, Token};
-use st_mail::{Index, Key, Keys};
+use st_mail::{Index, Keys, SearchKey};
 use st_samples::{p30, p31};
 use std::alloc::{AllocError, Global};
 use std::test::Fail;
@@ -48,10 +48,10 @@ fn index_of_three(alloc: Global, keys: Keys) -> Result<Index, AllocError>
 #[test]
 fn an_index_takes_messages(rt: HostRuntime) -> Result<(), Fail> {
     let keys = Keys::default()
-        .with(Key::Value)
-        .with(Key::Sender)
-        .with(Key::Both)
-        .with(Key::Stamp);
+        .with(SearchKey::Value)
+        .with(SearchKey::Sender)
+        .with(SearchKey::Both)
+        .with(SearchKey::Stamp);
     let index = index_of_three(rt.alloc(), keys)?;
     same(&rt, &index.find_both(p31(), 8), &Some(2));
     Ok(())

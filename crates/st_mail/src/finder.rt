@@ -7,7 +7,7 @@ ghost use Rattle.st_arena.specs.Arena.{list_at};
 ghost use Rattle.st_core.specs.declared.types.Message.{Message};
 
 use crate::index::Index;
-use crate::keys::{Key, Keys};
+use crate::keys::{Keys, SearchKey};
 use st_arena::Lists;
 use st_core::{Message, Want};
 use std::alloc::{AllocError, Global};
@@ -24,7 +24,7 @@ const WALKS_AN_INDEX: u64 = 16;
 #[derive(Clone, Copy)]
 pub(crate) struct Walk {
     /// The question to each message.
-    pub(crate) key: Key,
+    pub(crate) key: SearchKey,
     /// How many messages it passed.
     pub(crate) passed: u64,
 }
@@ -35,7 +35,7 @@ pub(crate) enum Search {
     /// Not at all.
     Nothing,
     /// From the front, by this key.
-    Front(Key),
+    Front(SearchKey),
     /// By the stamp of its token, if it has one, from the front.
     StampFromFront,
     /// By the stamp of its token, if it has one, from both ends at once.
@@ -51,9 +51,9 @@ impl Search {
     {
         match want {
             Want::First => Search::Nothing,
-            Want::From(_) => Search::Front(Key::Sender),
-            Want::Value(_) => Search::Front(Key::Value),
-            Want::Both(..) => Search::Front(Key::Both),
+            Want::From(_) => Search::Front(SearchKey::Sender),
+            Want::Value(_) => Search::Front(SearchKey::Value),
+            Want::Both(..) => Search::Front(SearchKey::Both),
             Want::Place(_) if was_wiped => Search::StampFromFront,
             Want::Place(_) => Search::StampFromEnds,
         }
@@ -66,10 +66,10 @@ impl Search {
         let (key, passed) = match self {
             Search::Nothing => return None,
             Search::Front(key) => (key, place),
-            Search::StampFromFront => (Key::Stamp, place),
-            Search::StampFromEnds => (Key::Stamp, place.min(others.saturating_sub(place))),
+            Search::StampFromFront => (SearchKey::Stamp, place),
+            Search::StampFromEnds => (SearchKey::Stamp, place.min(others.saturating_sub(place))),
         };
-        if key == Key::Stamp && message.token.is_none() {
+        if key == SearchKey::Stamp && message.token.is_none() {
             return None;
         }
         Some(Walk { key, passed })
@@ -101,10 +101,10 @@ impl Walks {
         ensures { walk.passed ≤ result }
     {
         let passed = match walk.key {
-            Key::Value => &mut self.value,
-            Key::Sender => &mut self.sender,
-            Key::Both => &mut self.both,
-            Key::Stamp => &mut self.stamp,
+            SearchKey::Value => &mut self.value,
+            SearchKey::Sender => &mut self.sender,
+            SearchKey::Both => &mut self.both,
+            SearchKey::Stamp => &mut self.stamp,
         };
         *passed = passed.saturating_add(walk.passed);
         *passed
@@ -136,7 +136,7 @@ impl Finder {
     }
 
     /// An index of the queue, if there is one by this key.
-    pub(crate) fn index_by(&self, key: Key) -> Option<&Index>
+    pub(crate) fn index_by(&self, key: SearchKey) -> Option<&Index>
         ensures kept { IfSome result (λ index. has (keys_of index.now) key ≡ true) }
         ensures index { IfSome result (λ index. (queue : List Message) → Finds self.now queue →
             IsIndexOf index.now queue) }

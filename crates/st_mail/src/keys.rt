@@ -5,7 +5,7 @@ ghost use Rattle.st_mail.specs.Keys.{has, with_key};
 
 /// The question that a search asks of a message.
 #[derive(Clone, Copy, Debug, PartialEq, Eq)]
-pub enum Key {
+pub enum SearchKey {
     /// Its value.
     Value,
     /// Its sender.
@@ -31,32 +31,32 @@ pub struct Keys {
 
 impl Keys {
     /// Whether this key is among them.
-    pub fn has(self, key: Key) -> bool
+    pub fn has(self, key: SearchKey) -> bool
         ensures { result ≡ has self key }
     {
         match key {
-            Key::Value => self.value,
-            Key::Sender => self.sender,
-            Key::Both => self.both,
-            Key::Stamp => self.stamp,
+            SearchKey::Value => self.value,
+            SearchKey::Sender => self.sender,
+            SearchKey::Both => self.both,
+            SearchKey::Stamp => self.stamp,
         }
     }
 
     /// These keys and this one.
-    pub fn with(self, key: Key) -> Keys
+    pub fn with(self, key: SearchKey) -> Keys
         ensures { result ≡ with_key key self }
     {
         match key {
-            Key::Value => Keys {
+            SearchKey::Value => Keys {
                 value: true,
                 ..self
             },
-            Key::Sender => Keys {
+            SearchKey::Sender => Keys {
                 sender: true,
                 ..self
             },
-            Key::Both => Keys { both: true, ..self },
-            Key::Stamp => Keys {
+            SearchKey::Both => Keys { both: true, ..self },
+            SearchKey::Stamp => Keys {
                 stamp: true,
                 ..self
             },

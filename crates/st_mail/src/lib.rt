@@ -18,6 +18,6 @@ mod outcome;
 mod queues;
 
 pub use index::Index;
-pub use keys::{Key, Keys};
+pub use keys::{Keys, SearchKey};
 pub use mailboxes::Mailboxes;
 pub use outcome::Outcome;

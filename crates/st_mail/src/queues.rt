@@ -12,7 +12,7 @@ ghost use Rattle.st_mail.specs.Mail.{bears_stamp};
 
 use crate::finder::{Finder, Search};
 use crate::index::Index;
-use crate::keys::Key;
+use crate::keys::SearchKey;
 use st_arena::Lists;
 use st_core::{Message, Pid, Token};
 use std::alloc::{AllocError, Global};
@@ -153,7 +153,7 @@ impl Queues {
 
     /// An index of the queue, if there is one by this key.
     #[inline]
-    fn index_of(&self, queue: usize, key: Key) -> Option<&Index>
+    fn index_of(&self, queue: usize, key: SearchKey) -> Option<&Index>
         requires { queue < length self.now.lists }
         ensures kept { IfSome result (λ index. has (keys_of index.now) key ≡ true) }
         ensures index { IfSome result (λ index. IsIndex index.now) }
@@ -167,7 +167,7 @@ impl Queues {
         requires { queue < length self.now.lists }
         ensures { result ≡ position (λ m. pid_eq m.from from) (list_at self.now queue) }
     {
-        if let Some(index) = self.index_of(queue, Key::Sender) {
+        if let Some(index) = self.index_of(queue, SearchKey::Sender) {
             return index.find_from(from);
         }
         let matches = |message: &Message| -> bool
@@ -181,7 +181,7 @@ impl Queues {
         requires { queue < length self.now.lists }
         ensures { result ≡ position (λ m. m.value == value) (list_at self.now queue) }
     {
-        if let Some(index) = self.index_of(queue, Key::Value) {
+        if let Some(index) = self.index_of(queue, SearchKey::Value) {
             return index.find_value(value);
         }
         let matches = |message: &Message| -> bool
@@ -196,7 +196,7 @@ impl Queues {
         ensures { result ≡ position (λ m. pid_eq m.from from && m.value == value)
             (list_at self.now queue) }
     {
-        if let Some(index) = self.index_of(queue, Key::Both) {
+        if let Some(index) = self.index_of(queue, SearchKey::Both) {
             return index.find_both(from, value);
         }
         let matches = |message: &Message| -> bool
@@ -212,7 +212,7 @@ impl Queues {
         ensures { result ≡ option_map (λ k. start + k)
             (position (λ m. bears_stamp from this m.token) (drop start (list_at self.now queue))) }
     {
-        if let Some(index) = self.index_of(queue, Key::Stamp) {
+        if let Some(index) = self.index_of(queue, SearchKey::Stamp) {
             return index.find_stamp(from, this, start);
         }
         let mut kept = self.lists.walk(queue).skip(start as usize);
@@ -227,7 +227,7 @@ impl Queues {
         requires one { PassesOnce (λ m. bears_stamp from this m.token) (list_at self.now queue) }
         ensures { result ≡ position (λ m. bears_stamp from this m.token) (list_at self.now queue) }
     {
-        if let Some(index) = self.index_of(queue, Key::Stamp) {
+        if let Some(index) = self.index_of(queue, SearchKey::Stamp) {
             return index.find_stamp(from, this, 0);
         }
         let bears = |message: &Message| -> bool

@@ -14,7 +14,7 @@ use std::alloc::{AllocError, Global};
 /// An item with its key. The key's fields come first, so the derived order is the key's; they are
 /// laid out so that a row takes 32 bytes.
 #[derive(Clone, Copy, Debug, PartialEq, Eq, PartialOrd, Ord)]
-pub struct Row {
+pub struct ItemRow {
     /// The height of an event, or a hidden send's own count.
     pub height: u64,
     /// 1 for a receive, else 0.
@@ -29,7 +29,7 @@ pub struct Row {
     pub index: u64,
 }
 
-impl Row {
+impl ItemRow {
     /// The item of the row.
     pub fn item(&self) -> Item
         ensures { result ≡ item_of self.now }
@@ -43,14 +43,14 @@ impl Row {
 }
 
 /// The row of an event whose greatest count so far is this.
-fn reported_row(pid: Pid, index: u64, height: u64, event: &Event) -> Row
+fn reported_row(pid: Pid, index: u64, height: u64, event: &Event) -> ItemRow
     ensures { result ≡ reported_row pid index height event.now }
 {
     let rank = match event.kind {
         Kind::Receive => 1,
         Kind::Send | Kind::Print => 0,
     };
-    Row {
+    ItemRow {
         height,
         rank,
         pid,
@@ -61,10 +61,10 @@ fn reported_row(pid: Pid, index: u64, height: u64, event: &Event) -> Row
 }
 
 /// The row of the hidden send of a receive.
-fn hidden_row(pid: Pid, index: u64, event: &Event) -> Row
+fn hidden_row(pid: Pid, index: u64, event: &Event) -> ItemRow
     ensures { result ≡ hidden_row pid index event.now }
 {
-    Row {
+    ItemRow {
         height: event.serial.this,
         rank: 0,
         pid: event.from,
@@ -117,7 +117,7 @@ fn room(streams: &Streams, pairing: &Pairing) -> usize
 
 /// Puts the rows of one process at the end.
 fn put_rows(
-    rows: &mut Vec<Row>,
+    rows: &mut Vec<ItemRow>,
     streams: &Streams,
     pairing: &Pairing,
     pid: Pid,
@@ -140,7 +140,7 @@ fn put_rows(
 }
 
 /// The rows of all items, place by place.
-pub fn rows(alloc: Global, streams: &Streams, pairing: &Pairing) -> Result<Vec<Row>, AllocError>
+pub fn rows(alloc: Global, streams: &Streams, pairing: &Pairing) -> Result<Vec<ItemRow>, AllocError>
     requires { IsPairing streams.now pairing.now }
     ensures rows { IfOk result (λ made. made.items ≡ rows streams.now streams.now) }
     ensures streams { OnOk result (IsStreams streams.now) }
