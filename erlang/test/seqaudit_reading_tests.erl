@@ -1,16 +1,15 @@
 %% Files of events are damaged, hostile or strange: each gives a bundle or a sentence.
 -module(seqaudit_reading_tests).
 
--export([damaged_files/0, swapped_files_test_/0, no_atoms_test/0, forged_names_test/0,
+-export([damaged_files_test_/0, damaged_bytes_test_/0, swapped_files_test_/0, no_atoms_test/0, forged_names_test/0,
          log_lines_test/0, foreign_lines_test/0, broken_end_test/0, strays_test/0,
          out_of_range_test/0, unpacked_size_test/0, old_release_test/0,
          equal_maps_test/0, version_1_test/0, damaged_version_1_test/0, before_events_test/0, ttb_names_test_/0,
          long_text_test_/0, million_events_test_/0]).
 
-%% Open: no part of `make test' while convert can crash at a message with a term of a newer release.
 %% 1,000 files with bytes flipped, cut, doubled or exchanged, by a fixed seed. Nothing crashes, no
 %% atom is made, and memory stays below ten times the file's size and 100 MB.
-damaged_files() ->
+damaged_files_test_() ->
     {timeout, 300, fun() ->
         Originals = [{Suffix, Bytes} || {Suffix, File} <- originals(), {ok, Bytes} <- [file:read_file(File)]],
         [_, _, _, _, _] = Originals,
@@ -125,6 +124,62 @@ watch(Peak) ->
     after 1 ->
         watch(max(Peak, erlang:memory(total)))
     end.
+
+%% Each byte of events whose messages have parts of all kinds, one of a newer release among them,
+%% becomes each tag, and small and great numbers. Nothing crashes, no atom is made, and each entry is
+%% an event or is counted.
+damaged_bytes_test_() ->
+    {timeout, 300, fun() ->
+        [First | _] = Events = all_kinds(),
+        _ = damaged_bytes(First),
+        Atoms = erlang:system_info(atom_count),
+        Kept = [damaged_bytes(Event) || Event <- Events],
+        Atoms = erlang:system_info(atom_count),
+        [] = [Few || Few <- Kept, Few < 1_000]
+    end}.
+
+damaged_bytes(Event) ->
+    Values = lists:seq(0, 4) ++ lists:seq(66, 122) ++ [127, 128, 195, 254, 255],
+    Entries = [[<<0, (byte_size(Event)):32>>, Before, Value, Behind]
+               || At <- lists:seq(1, byte_size(Event) - 1), Value <- Values,
+                  {Before, <<_, Behind/binary>>} <- [split_binary(Event, At)]],
+    Name = seqaudit_audits:file("damaged_bytes"),
+    ok = file:write_file(Name ++ ".trace", Entries),
+    {ok, #{events := Kept, dropped := Dropped, notes := Notes}} =
+        seqaudit_convert:from_files([Name ++ ".trace"], Name),
+    [] = [Note || Note <- Notes, lists:member($\n, Note)],
+    {Kept, true} = {Kept, Kept + Dropped =:= length(Entries)},
+    Kept.
+
+%% Events of which the parts in front of the newer one, and those behind it, are all kinds of terms;
+%% and those that a conversion takes apart.
+all_kinds() ->
+    Newer = <<68, 1, 2, 3>>,
+    Atom = fun(Name) -> <<119, (byte_size(Name)), Name/binary>> end,
+    Pid = <<88, (Atom(<<"a@h">>))/binary, 80:32, 0:32, 7:32>>,
+    Reference = <<90, 1:16, (Atom(<<"a@h">>))/binary, 7:32, 9:32>>,
+    Kinds = [<<100, 1:16, 233>>, Atom(<<"größe"/utf8>>), <<70, 2.5/float>>, <<77, 1:32, 3, 160>>, <<107, 2:16, 1, 2>>,
+             <<110, 9, 1, 1:72>>, <<111, 2:32, 0, 1, 2>>, <<109, 2:32, 195, 182>>, <<105, 1:32, 106>>,
+             <<113, (Atom(<<"m">>))/binary, (Atom(<<"f">>))/binary, 97, 1>>,
+             <<120, (Atom(<<"a@h">>))/binary, 8:64, 7:32>>,
+             <<112, 62:32, 1, 1:128, 5:32, 1:32, (Atom(<<"m">>))/binary, 97, 5, 98, 99:32, Pid/binary, 97, 3>>,
+             <<67, 1:32, 0, (Atom(<<"nr">>))/binary, (Atom(<<"point">>))/binary, (Atom(<<"x">>))/binary, 97, 4>>,
+             <<108, 2:32, 97, $a, 97, $b, 106>>, <<116, 2:32, 97, 2, 106, (Atom(<<"k">>))/binary, 97, 1>>],
+    Tuple = fun(Parts) -> [<<104, (length(Parts))>>, Parts] end,
+    Event = fun(Message) ->
+                    iolist_to_binary([131, Tuple([Atom(<<"seq_trace">>), <<97, 1>>,
+                        Tuple([Atom(<<"send">>), Tuple([<<97, 0>>, <<97, 1>>]), Pid, Pid, Message])])])
+            end,
+    [Event(Message)
+     || Message <- [Tuple(Kinds), Tuple(Kinds ++ [Newer]), Tuple([Newer | Kinds]),
+                    [<<116, 3:32>>, Atom(<<"b">>), <<108, 2:32>>, Newer, <<97, 1, 106>>, Atom(<<"a">>), <<97, 1>>,
+                     Atom(<<"c">>), <<97, 2>>],
+                    [<<112, 62:32, 1, 1:128, 5:32, 1:32>>, Atom(<<"m">>), <<97, 5, 98, 99:32>>, Pid, Newer],
+                    [<<113>>, Atom(<<"m">>), Newer], [<<108, 4:32>>, [<<97, C>> || C <- "text"], Newer],
+                    Tuple([Atom(<<"$gen_call">>), Tuple([Pid, [<<108, 1:32>>, Atom(<<"alias">>), Reference]]), Newer]),
+                    Tuple([Atom(<<"spawn_request">>), Reference, Pid, Pid,
+                           Tuple([Atom(<<"m">>), Atom(<<"f">>), <<97, 1>>]), <<106>>, Atom(<<"t">>), Newer]),
+                    Tuple([Atom(<<"spawn_reply">>), Reference, Atom(<<"ok">>), Newer])]].
 
 %% Files that claim much, or that are large and say little: 10 times their size and 100 MB are enough.
 swapped_files_test_() ->

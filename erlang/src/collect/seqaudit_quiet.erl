@@ -77,19 +77,15 @@ put_end(End, Key, Place, Ends) ->
 
 %% A process stamps a count once, so that and the label say which message it is, unless a token is
 %% put back: then several may have both.
-message(Event, Place) ->
-    try
-        [_, Label, Info | _] = seqaudit_external:tuple(Event),
-        [Kind, Serial, From | _] = seqaudit_external:tuple(Info),
-        [{End, erlang:md5([Label, Serial, From]), Place}
-         || End <- message_end(seqaudit_external:view(Kind))]
-    catch
-        error:{badmatch, _} -> []
+message(Bytes, Place) ->
+    case seqaudit_external:event(Bytes) of
+        {ok, {send, Label, Serial, From, _, _, _}} -> [{sent, key(Label, Serial, From), Place}];
+        {ok, {'receive', Label, Serial, From, _, _, _}} ->
+            [{received, key(Label, Serial, From), Place}];
+        _ -> []
     end.
 
-message_end({atom, <<"send">>}) -> [sent];
-message_end({atom, <<"receive">>}) -> [received];
-message_end(_) -> [].
+key(Label, Serial, From) -> erlang:md5(term_to_binary({Label, Serial, From})).
 
 %% The numbers of first events, moved back until nothing is under way.
 moment({Counts, Messages}) ->
@@ -212,12 +208,11 @@ map(Pairs) ->
     iolist_to_binary([<<116, (length(Pairs)):32>> | [[Key, Value] || {Key, Value} <- Pairs]]).
 
 %% Who sent and who received it.
-parties(Bytes) ->
-    try
-        {ok, Event} = seqaudit_external:read(Bytes),
-        [_, _, Info | _] = seqaudit_external:tuple(Event),
-        [_, _, From, To | _] = seqaudit_external:tuple(Info),
-        [seqaudit_external:view(Party) || Party <- [From, To]]
-    catch
-        error:{badmatch, _} -> []
-    end.
+parties(<<131, Bytes/binary>>) ->
+    case seqaudit_external:event(Bytes) of
+        {ok, {_, _, _, From, To, _, _}} ->
+            [seqaudit_external:view(Party) || Party <- [From, To]];
+        _ -> []
+    end;
+parties(_) ->
+    [].

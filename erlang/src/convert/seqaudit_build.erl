@@ -192,14 +192,15 @@ count(What, #part{counts = Counts} = Part) -> Part#part{counts = more(What, Coun
 %% An entry that is no event. One that begins as those of seq_trace do is something that the trace
 %% lacks.
 stray(Bytes, #part{samples = Samples} = Part) ->
-    Kind = stray_kind(Bytes),
+    Term = seqaudit_external:readable(Bytes),
+    Kind = stray_kind(Term),
     (count(Kind, Part))#part{samples = case Samples of
                                            #{Kind := [_, _, _]} -> Samples;
-                                           #{} -> sampled(Kind, shown(Bytes), Samples)
+                                           #{} -> sampled(Kind, shown(Term), Samples)
                                        end}.
 
-stray_kind(Bytes) ->
-    case seqaudit_external:tuple(Bytes) of
+stray_kind(Term) ->
+    case seqaudit_external:tuple(Term) of
         [First | _] ->
             case seqaudit_external:view(First) of
                 {atom, <<"seq_trace">>} -> no_events;
@@ -214,11 +215,8 @@ sampled(Kind, Text, Samples) ->
 %% The first ones are at the end.
 first_samples(Samples) -> lists:nthtail(max(0, length(Samples) - ?SAMPLES), Samples).
 
-%% Its letters may be none.
-shown(Bytes) ->
-    try seqaudit_terms:short(seqaudit_terms:encoded(Bytes), ?SHOWN)
-    catch error:_ -> "an entry that can't be printed"
-    end.
+shown(Term) ->
+    seqaudit_terms:short(seqaudit_terms:encoded(Term), ?SHOWN).
 
 %% An event of a part.
 take(Bytes, Part) ->

@@ -4,12 +4,17 @@
 %% what it says, and of a small file terms that fill the memory. So a term stays the bytes that it
 %% is, without the version byte in front. They are walked once, with a counter and no stack, and put
 %% into one form: equal terms have equal bytes, whichever release of OTP wrote them. The only
-%% exceptions are maps in 1,000 others or more: they keep the order in which their node wrote the
-%% pairs.
+%% exceptions are maps in 1,000 others or more, and maps of a message that can't be read to its end:
+%% they keep the order in which their node wrote the pairs.
+%%
+%% Each term in its one form is whole, so whatever reads parts of one meets no damage. A message
+%% with a tag of a newer release of OTP is made whole: nobody knows where such a part ends, so it
+%% has all bytes that are left, and an empty part replaces each one that should follow it.
 -module(seqaudit_external).
 
--export([read/1, take/1, from_term/1, to_term/1, atom/1, name/2, view/1, event/1, tuple/1,
-         pairs/1, map/1, list/1, number/1, call/1, about_term/1, part/1, characters/3, request/1]).
+-export([read/1, take/1, from_term/1, to_term/1, atom/1, name/2, view/1, event/1, readable/1,
+         tuple/1, pairs/1, map/1, list/1, number/1, call/1, about_term/1, first/1, is_whole/1,
+         part/1, characters/3, request/1]).
 -export_type([encoded/0, view/0, event/0]).
 
 -define(VERSION, 131).
@@ -42,6 +47,9 @@
 -define(ATOM_UTF8, 118).
 -define(SMALL_ATOM_UTF8, 119).
 -define(V4_PORT, 120).
+%% The tag of a part that can't be read, before its size and bytes. No release writes it, so in a
+%% file it is the tag of a newer one.
+-define(UNREAD, 0).
 %% A tag that no release has that was tried is that of a newer one.
 -define(IS_KNOWN(Tag), Tag =:= ?RECORD; Tag =:= ?NEW_FLOAT; Tag =:= ?BIT_BINARY; Tag >= ?NEW_PID,
         Tag =< ?NEWER_REFERENCE;
@@ -99,7 +107,7 @@ take(Bytes) ->
         {Term, Rest} -> {ok, Term, Rest}
     catch
         throw:damaged -> error;
-        throw:{newer, _} -> error
+        throw:{newer, _, _, _} -> error
     end.
 
 %% @doc The bytes of a term of this Erlang.
@@ -135,17 +143,15 @@ name(Name, Node) ->
 %% there.
 one(Bytes) ->
     case skip(Bytes, 1) of
-        seldom ->
-            walk(Bytes, 1, 0, <<>>);
-        Left ->
-            Size = byte_size(Bytes) - Left,
-            <<Term:Size/binary, Rest/binary>> = Bytes,
-            {Term, Rest}
+        Left when is_integer(Left) -> split_binary(Bytes, byte_size(Bytes) - Left);
+        _ -> walk(Bytes, 1, 0, <<>>)
     end.
 
-%% How many bytes are left behind so many terms, or that one of them isn't in its one form. The
-%% walks count the terms that are still to come, so that a deep term needs no stack. What a length
-%% says is taken from the bytes that are there, and nothing is made for it in advance.
+%% Returns how many bytes are left after this number of terms. If one of them isn't in its one form,
+%% or that takes a longer look, it returns the bytes from there on with the number of terms that are
+%% left, or `not_in_form'. The walks count the terms that are still to come, so that a deep term
+%% needs no stack. They take what a length says from the bytes that are there, and make nothing for
+%% it in advance.
 skip(<<Rest/binary>>, 0) -> byte_size(Rest);
 skip(<<?SMALL_INTEGER, _, Rest/binary>>, Left) -> skip(Rest, Left - 1);
 skip(<<?INTEGER, _:32, Rest/binary>>, Left) -> skip(Rest, Left - 1);
@@ -161,7 +167,7 @@ skip(<<?NEWER_REFERENCE, Words:16, ?ATOM, Size:16, Rest/binary>>, Left) when Wor
 skip(<<?SMALL_BIG, Size, _, _:Size/binary, Rest/binary>>, Left) -> skip(Rest, Left - 1);
 skip(<<?NEW_FLOAT, _:64, Rest/binary>>, Left) -> skip(Rest, Left - 1);
 skip(<<?MAP, Pairs:32, Rest/binary>>, Left) when Pairs < 2 -> skip(Rest, Left - 1 + 2 * Pairs);
-skip(<<_/binary>>, _) -> seldom.
+skip(<<Bytes/binary>>, Left) -> {Bytes, Left}.
 
 %% Behind a name of so many bytes come as many more that mean no matter. Four bytes at once are what
 %% Erlang reads fastest.
@@ -175,7 +181,7 @@ skip_ascii(<<C, Rest/binary>>, Size, More, Left) when Size > 0, C < 128 ->
 skip_ascii(<<Rest/binary>>, 0, More, Left) ->
     skip_bytes(Rest, More, Left);
 skip_ascii(<<_/binary>>, _Size, _More, _Left) ->
-    seldom.
+    not_in_form.
 
 %% The first three lengths are those of an atom, a process and a reference.
 skip_bytes(<<Rest/binary>>, 0, Left) -> skip(Rest, Left - 1);
@@ -183,7 +189,7 @@ skip_bytes(<<_:12/binary, Rest/binary>>, 12, Left) -> skip(Rest, Left - 1);
 skip_bytes(<<_:16/binary, Rest/binary>>, 16, Left) -> skip(Rest, Left - 1);
 skip_bytes(<<_:4/binary, Rest/binary>>, More, Left)
   when More >= 4 -> skip_bytes(Rest, More - 4, Left);
-skip_bytes(<<_/binary>>, _More, _Left) -> seldom.
+skip_bytes(<<_/binary>>, _More, _Left) -> not_in_form.
 
 walk(<<Rest/binary>>, 0, _Depth, Done) ->
     {Done, Rest};
@@ -225,8 +231,10 @@ walk_other(<<?MAP, Pairs:32, Rest/binary>>, Left, Depth, Done) ->
 walk_other(<<?LARGE_TUPLE, Arity:32, Rest/binary>>, Left, Depth, Done) ->
     walk(Rest, Left - 1 + Arity, Depth, <<Done/binary, ?LARGE_TUPLE, Arity:32>>);
 %% A native record of OTP 29: its module and name, the names of its fields, and their values.
-walk_other(<<?RECORD, Fields:32, Flag, Rest/binary>>, Left, Depth, Done) ->
-    walk(Rest, Left + 1 + 2 * Fields, Depth, <<Done/binary, ?RECORD, Fields:32, Flag>>);
+walk_other(<<?RECORD, Fields:32, Flag, Rest0/binary>>, Left, Depth, Done) ->
+    {Names, Rest} = take_atoms(2 + Fields, Rest0, <<>>),
+    walk(Rest, Left - 1 + Fields, Depth,
+         <<Done/binary, ?RECORD, Fields:32, Flag, Names/binary>>);
 walk_other(<<?EXPORT, Rest/binary>>, Left, Depth, Done) ->
     walk(Rest, Left + 2, Depth, <<Done/binary, ?EXPORT>>);
 walk_other(<<?NEW_FUN, _Size:32, Fixed:21/binary, Free:32, Rest0/binary>>, Left, Depth, Done) ->
@@ -239,8 +247,10 @@ walk_other(<<?NEW_FUN, _Size:32, Fixed:21/binary, Free:32, Rest0/binary>>, Left,
            Unique/binary,
            ?NO_PROCESS>>);
 walk_other(<<Bytes/binary>>, Left, Depth, Done) ->
-    {Term, Rest} = without_parts(Bytes),
-    walk(Rest, Left - 1, Depth, <<Done/binary, Term/binary>>).
+    case without_parts(Bytes) of
+        {Term, Rest} -> walk(Rest, Left - 1, Depth, <<Done/binary, Term/binary>>);
+        newer -> throw({newer, Done, Left, Bytes})
+    end.
 
 without_parts(<<?NEW_PID, Rest/binary>>) ->
     with_node(Rest, 12, fun(Node, Numbers) -> <<?NEW_PID, Node/binary, Numbers/binary>> end);
@@ -284,8 +294,8 @@ seldom(<<?FLOAT, Text:31/binary, Rest/binary>>) ->
     end;
 seldom(<<Tag, _/binary>> = Bytes) when ?IS_KNOWN(Tag) ->
     take_atom(Bytes);
-seldom(<<Tag, _/binary>>) ->
-    throw({newer, Tag});
+seldom(<<_, _/binary>>) ->
+    newer;
 seldom(<<>>) ->
     throw(damaged).
 
@@ -301,6 +311,12 @@ take_atom(<<?SMALL_ATOM, Size, Name:Size/binary, Rest/binary>>) -> {latin1_atom(
 take_atom(<<?SMALL_ATOM_UTF8, Size, Name:Size/binary, Rest/binary>>) -> {utf8_atom(Name), Rest};
 take_atom(<<?ATOM_UTF8, Size:16, Name:Size/binary, Rest/binary>>) -> {utf8_atom(Name), Rest};
 take_atom(_) -> throw(damaged).
+
+take_atoms(0, Rest, Atoms) ->
+    {Atoms, Rest};
+take_atoms(Left, Bytes, Atoms) ->
+    {Atom, Rest} = take_atom(Bytes),
+    take_atoms(Left - 1, Rest, <<Atoms/binary, Atom/binary>>).
 
 take_integer(<<?SMALL_INTEGER, N, Rest/binary>>) -> {<<?SMALL_INTEGER, N>>, Rest};
 take_integer(<<?INTEGER, N:32, Rest/binary>>) -> {<<?INTEGER, N:32>>, Rest};
@@ -379,14 +395,83 @@ merge(<<Size:32, KeySize:32, Pair:Size/binary, Rest/binary>> = One,
 
 part(Bytes, Depth) ->
     case skip(Bytes, 1) of
-        seldom ->
+        Left when is_integer(Left) ->
+            split_binary(Bytes, byte_size(Bytes) - Left);
+        _ ->
             {Term, Rest} = walk(Bytes, 1, Depth, <<>>),
-            {binary:copy(Term), Rest};
-        Left ->
-            Size = byte_size(Bytes) - Left,
-            <<Term:Size/binary, Rest/binary>> = Bytes,
-            {Term, Rest}
+            {binary:copy(Term), Rest}
     end.
+
+%% Returns the first term of these bytes and what follows it: `unread' if a part of the term is.
+one_readable(Bytes) ->
+    try one(Bytes)
+    catch
+        throw:{newer, _, _, _} -> {as_far_as_known(Bytes), unread}
+    end.
+
+%% Keeps what comes before a tag of a newer release. This walk sorts no maps, so it is within none
+%% when it fails, and has all of that. Each part that should follow takes a byte at least: if fewer
+%% are left, the term is damaged.
+as_far_as_known(Bytes) ->
+    try walk(Bytes, 1, ?SORTED_DEPTH, <<>>) of
+        {Term, _} -> Term
+    catch
+        throw:{newer, Before, Left, Unread} when Left =< byte_size(Unread) ->
+            Missing = binary:copy(<<?UNREAD, 0:32>>, Left - 1),
+            <<Before/binary, ?UNREAD, (byte_size(Unread)):32, Unread/binary, Missing/binary>>;
+        throw:{newer, _, _, _} ->
+            throw(damaged)
+    end.
+
+%% @doc The first of terms in their one form, and the others.
+-spec first(binary()) -> {encoded(), binary()}.
+first(Bytes) ->
+    split_binary(Bytes, byte_size(Bytes) - left(Bytes, 1)).
+
+%% Returns how many bytes are left after this number of terms in their one form.
+left(Bytes, Count) ->
+    case skip(Bytes, Count) of
+        {Seldom, Left} ->
+            {Parts, Rest} = begun(Seldom),
+            left(Rest, Left - 1 + Parts);
+        Size ->
+            Size
+    end.
+
+%% @doc Whether nothing in a term is unread.
+-spec is_whole(encoded()) -> boolean().
+is_whole(Term) ->
+    is_whole(Term, 1).
+
+is_whole(Bytes, Count) ->
+    case skip(Bytes, Count) of
+        {<<?UNREAD, _/binary>>, _} ->
+            false;
+        {Seldom, Left} ->
+            {Parts, Rest} = begun(Seldom),
+            is_whole(Rest, Left - 1 + Parts);
+        _ ->
+            true
+    end.
+
+%% Returns how many terms are in one that `skip' doesn't pass, and the bytes where they begin. Those
+%% of a fun are its module, index, unique number and process, and what it has from outside.
+begun(<<?MAP, Pairs:32, Rest/binary>>) -> {2 * Pairs, Rest};
+begun(<<?LARGE_TUPLE, Arity:32, Rest/binary>>) -> {Arity, Rest};
+begun(<<?RECORD, Fields:32, _Flag, Rest/binary>>) -> {2 + 2 * Fields, Rest};
+begun(<<?EXPORT, Rest/binary>>) -> {3, Rest};
+begun(<<?NEW_FUN, _:32, _Fixed:21/binary, Free:32, Rest/binary>>) -> {4 + Free, Rest};
+begun(<<?ATOM_UTF8, Size:16, _:Size/binary, Rest/binary>>) -> {0, Rest};
+begun(<<?NEW_PID, Rest/binary>>) -> behind_name(atom_name(Rest), 12);
+begun(<<?V4_PORT, Rest/binary>>) -> behind_name(atom_name(Rest), 12);
+begun(<<?NEWER_REFERENCE, Words:16, Rest/binary>>) -> behind_name(atom_name(Rest), 4 + 4 * Words);
+begun(<<?LARGE_BIG, Size:32, _Sign, _:Size/binary, Rest/binary>>) -> {0, Rest};
+begun(<<?BIT_BINARY, Size:32, _Bits, _:Size/binary, Rest/binary>>) -> {0, Rest};
+begun(<<?UNREAD, Size:32, _:Size/binary, Rest/binary>>) -> {0, Rest}.
+
+behind_name({_Node, Bytes}, Size) ->
+    <<_:Size/binary, Rest/binary>> = Bytes,
+    {0, Rest}.
 
 %% @doc What replaces a process.
 -spec view(encoded()) -> view().
@@ -409,8 +494,8 @@ view(<<?SMALL_TUPLE, 2, Rest0/binary>>) ->
         none -> other
     end;
 view(<<?SMALL_TUPLE, 3, Rest/binary>>) ->
-    {First, After} = one(Rest),
-    {Info, _Node} = one(After),
+    {First, After} = first(Rest),
+    {Info, _Node} = first(After),
     {first, First, Info};
 view(Bytes) ->
     case atom_name(Bytes) of
@@ -429,8 +514,14 @@ event(Bytes) ->
     try event_of(Bytes)
     catch
         throw:damaged -> damaged;
-        throw:{newer, _} -> newer
+        throw:{newer, _, _, _} -> newer
     end.
+
+%% @doc The term of an entry that `event/1' says is an event or another term.
+-spec readable(binary()) -> encoded().
+readable(Bytes) ->
+    {Term, _} = one_readable(Bytes),
+    Term.
 
 %% OTP 25 and 27 write short atoms with another tag.
 event_of(<<?SMALL_TUPLE, Arity, ?ATOM, 9:16, "seq_trace", Rest/binary>> = Bytes)
@@ -471,13 +562,11 @@ event_body(Kind, <<?SMALL_TUPLE, 2, Rest0/binary>>, Arity, Label, Bytes) when Ki
 event_body(_Kind, _, _Arity, _Label, Bytes) ->
     other(Bytes).
 
-%% Nobody knows where a term of a newer release ends, so such a message has all bytes that are left,
-%% and no time.
+%% Reads the message and the time, which follows it.
 message(Arity, Bytes) ->
-    try one(Bytes) of
+    case one_readable(Bytes) of
+        {Message, unread} -> {Message, none};
         {Message, Rest} -> {Message, time(Arity, Rest)}
-    catch
-        throw:{newer, _} -> {Bytes, none}
     end.
 
 %% A number of a serial: a node shows the lowest 60 bits of its counters with their sign.
@@ -523,40 +612,27 @@ call(Term) ->
         _ -> other
     end.
 
-%% @doc The elements of a tuple; `other' if it isn't one, or if one of them can't be read.
+%% @doc The elements of a tuple.
 -spec tuple(encoded()) -> [encoded()] | other.
-tuple(<<?SMALL_TUPLE, Arity, Rest/binary>>) -> read_elements(Arity, Rest);
-tuple(<<?LARGE_TUPLE, Arity:32, Rest/binary>>) -> read_elements(Arity, Rest);
+tuple(<<?SMALL_TUPLE, Arity, Rest/binary>>) -> elements(Arity, Rest);
+tuple(<<?LARGE_TUPLE, Arity:32, Rest/binary>>) -> elements(Arity, Rest);
 tuple(_) -> other.
-
-read_elements(Arity, Bytes) ->
-    unless_unreadable(fun() -> elements(Arity, Bytes) end, other).
-
-%% A message with a term of a newer release is kept with all bytes that follow it, so its parts may
-%% not be readable.
-unless_unreadable(Read, Otherwise) ->
-    try Read()
-    catch
-        throw:damaged -> Otherwise;
-        throw:{newer, _} -> Otherwise
-    end.
 
 elements(0, <<>>) -> [];
 elements(Left, Bytes) ->
-    {Element, Rest} = one(Bytes),
+    {Element, Rest} = first(Bytes),
     [Element | elements(Left - 1, Rest)].
 
 %% @doc The keys of a map, which are atoms, with their values. A pair with another key isn't among
 %% them.
 -spec pairs(encoded()) -> #{binary() => encoded()} | other.
-pairs(<<?MAP, Pairs:32, Rest/binary>>) ->
-    unless_unreadable(fun() -> pairs(Pairs, Rest, #{}) end, other);
+pairs(<<?MAP, Pairs:32, Rest/binary>>) -> pairs(Pairs, Rest, #{});
 pairs(_) -> other.
 
 pairs(0, _Rest, Done) -> Done;
 pairs(Left, Bytes, Done) ->
-    {Key, Rest0} = one(Bytes),
-    {Value, Rest} = one(Rest0),
+    {Key, Rest0} = first(Bytes),
+    {Value, Rest} = first(Rest0),
     case atom_name(Key) of
         {Name, <<>>} -> pairs(Left - 1, Rest, Done#{Name => Value});
         _ -> pairs(Left - 1, Rest, Done)
@@ -564,19 +640,18 @@ pairs(Left, Bytes, Done) ->
 
 %% @doc The pairs of a map.
 -spec map(encoded()) -> [{encoded(), encoded()}].
-map(<<?MAP, Pairs:32, Rest/binary>>) -> unless_unreadable(fun() -> map(Pairs, Rest) end, []);
+map(<<?MAP, Pairs:32, Rest/binary>>) -> map(Pairs, Rest);
 map(_) -> [].
 
 map(0, _Rest) -> [];
 map(Left, Bytes) ->
-    {Key, Rest0} = one(Bytes),
-    {Value, Rest} = one(Rest0),
+    {Key, Rest0} = first(Bytes),
+    {Value, Rest} = first(Rest0),
     [{Key, Value} | map(Left - 1, Rest)].
 
 %% @doc The elements of a list.
 -spec list(encoded()) -> [encoded()].
-list(<<?LIST, Length:32, Rest/binary>>) ->
-    unless_unreadable(fun() -> lists:droplast(elements(Length + 1, Rest)) end, []);
+list(<<?LIST, Length:32, Rest/binary>>) -> lists:droplast(elements(Length + 1, Rest));
 list(_) -> [].
 
 %% @doc What is known of a process as a term.
@@ -585,19 +660,19 @@ about_term(About) ->
     maps:map(fun(name, Name) -> to_term(atom(Name)); (_, Term) -> to_term(Term) end, About).
 
 %% @doc The outermost part of the first term of these bytes: what its elements are read from, or the
-%% whole leaf. Behind a tag of a newer release nothing can be read.
+%% whole leaf. `newer' is one with this tag of a newer release, and `unread' what should follow it.
 -spec part(encoded()) -> {tuple | list | map, non_neg_integer(), binary()}
                        | {record, Module :: binary(), Name :: binary(), Fields :: [binary()],
                           binary()}
-                       | {string, binary(), binary()} | {leaf, term(),
-                                                         binary()} | {newer, Tag :: byte()}.
+                       | {string, binary(), binary()} | {leaf, term(), binary()}
+                       | {newer, Tag :: byte()} | unread.
 part(<<?SMALL_TUPLE, Arity, Rest/binary>>) -> {tuple, Arity, Rest};
 part(<<?LARGE_TUPLE, Arity:32, Rest/binary>>) -> {tuple, Arity, Rest};
 part(<<?LIST, Length:32, Rest/binary>>) -> {list, Length, Rest};
 part(<<?STRING, Size:16, Bytes:Size/binary, Rest/binary>>) -> {string, Bytes, Rest};
 part(<<?MAP, Pairs:32, Rest/binary>>) -> {map, Pairs, Rest};
 part(<<?RECORD, Count:32, _Flag, Rest0/binary>>) ->
-    {[Module, Name | Fields], Rest} = atoms(2 + Count, Rest0, []),
+    {[Module, Name | Fields], Rest} = atom_names(2 + Count, Rest0, []),
     {record, Module, Name, Fields, Rest};
 part(<<?NIL, Rest/binary>>) -> {leaf, nil, Rest};
 part(<<?SMALL_INTEGER, N, Rest/binary>>) -> {leaf, {integer, N}, Rest};
@@ -608,31 +683,23 @@ part(<<?NEW_PID, ?ATOM, Size:16, _:Size/binary, _:12/binary, Rest/binary>> = Byt
 part(<<?NEWER_REFERENCE, Words:16, ?ATOM, Size:16, _:Size/binary, _Creation:32, Rest0/binary>>) ->
     {Ids, Rest} = ids(Words, Rest0, []),
     {leaf, {reference, Ids}, Rest};
-part(<<?EXPORT, Rest/binary>>) ->
-    try export(Rest)
-    catch
-        throw:{newer, Tag} -> {newer, Tag}
-    end;
+part(<<?EXPORT, Bytes/binary>>) ->
+    {Module, Rest0} = first(Bytes),
+    {Function, Rest1} = first(Rest0),
+    {Arity, Rest} = first(Rest1),
+    {leaf, {export, <<?SMALL_TUPLE, 3, Module/binary, Function/binary, Arity/binary>>}, Rest};
+part(<<?UNREAD, 0:32, _/binary>>) -> unread;
+part(<<?UNREAD, _:32, Tag, _/binary>>) -> {newer, Tag};
 part(Bytes) ->
-    try one(Bytes) of
-        {Leaf, Rest} -> {leaf, leaf(Leaf), Rest}
-    catch
-        throw:{newer, Tag} -> {newer, Tag}
-    end.
-
-export(Bytes) ->
-    {Module, Rest0} = one(Bytes),
-    {Function, Rest1} = one(Rest0),
-    {Arity, Rest} = one(Rest1),
-    {leaf, {export, <<?SMALL_TUPLE, 3, Module/binary, Function/binary, Arity/binary>>}, Rest}.
+    {Leaf, Rest} = first(Bytes),
+    {leaf, leaf(Leaf), Rest}.
 
 %% The names of so many atoms.
-atoms(0, Rest, Names) ->
+atom_names(0, Rest, Names) ->
     {lists:reverse(Names), Rest};
-atoms(Left, Bytes, Names) ->
-    {Atom, Rest} = take_atom(Bytes),
-    {Name, <<>>} = atom_name(Atom),
-    atoms(Left - 1, Rest, [Name | Names]).
+atom_names(Left, Bytes, Names) ->
+    {Name, Rest} = atom_name(Bytes),
+    atom_names(Left - 1, Rest, [Name | Names]).
 
 %% The numbers of a reference, last first, as Erlang prints them.
 ids(0, Rest, Ids) -> {Ids, Rest};
@@ -649,18 +716,10 @@ leaf(<<?BIT_BINARY, Size:32, Bits, Bytes/binary>>) when Size > 0 ->
     <<Bitstring:Whole/bitstring, _/bitstring>> = Bytes,
     {bits, Bitstring};
 leaf(<<?NEW_FUN, _:32, _Arity, _:16/binary, Index:32, _Free:32, Rest0/binary>>) ->
-    try
-        {Module, Rest1} = take_atom(Rest0),
-        {Name, <<>>} = atom_name(Module),
-        {_OldIndex, Rest2} = one(Rest1),
-        {Unique, _} = one(Rest2),
-        {function, Name, Index, number(Unique)}
-    of
-        {function, _, _, other} -> other;
-        Function -> Function
-    catch
-        throw:damaged -> other
-    end;
+    {Module, Rest1} = atom_name(Rest0),
+    {_OldIndex, Rest2} = first(Rest1),
+    {Unique, _} = first(Rest2),
+    {function, Module, Index, number(Unique)};
 leaf(Bytes) ->
     case view(Bytes) of
         {atom, Name} -> {atom, Name};
@@ -696,19 +755,16 @@ printable(Characters) ->
 %% @doc The process and the alias of a request of `gen_server' and its kin, which the reply goes to.
 -spec request(encoded()) -> {Owner :: encoded(), Alias :: encoded()} | none.
 request(<<?SMALL_TUPLE, 3, ?ATOM, 9:16, "$gen_call", ?SMALL_TUPLE, 2, Rest/binary>>) ->
-    unless_unreadable(fun() -> called(Rest) end, none);
-request(_) ->
-    none.
-
-called(Bytes) ->
-    {Owner, Tag} = one(Bytes),
+    {Owner, Tag} = first(Rest),
     case Tag of
         <<?LIST, 1:32, ?ATOM, 5:16, "alias", Alias/binary>> -> {Owner, alias_in(Alias)};
         <<?LIST, _:32, ?LIST, 1:32, ?ATOM, 5:16, "alias", Alias/binary>> ->
             {Owner, alias_in(Alias)};
         _ -> none
-    end.
+    end;
+request(_) ->
+    none.
 
 alias_in(Bytes) ->
-    {Alias, _} = one(Bytes),
+    {Alias, _} = first(Bytes),
     Alias.

@@ -41,19 +41,13 @@ read(Values) ->
                    Terms = seqaudit_numbers:part(First, ?AT_ONCE, Values),
                    [atomics:put(Spawns, Number + 1, Spawn)
                     || {Number, Term} <- lists:enumerate(First, Terms),
-                       Spawn <- [seen(Term)], Spawn =/= ?OTHER_MESSAGE],
+                       Spawn <- [message(Term)], Spawn =/= ?OTHER_MESSAGE],
                    ok
            end,
     ok = seqaudit_workers:fold([fun() -> Read(First) end
                                 || First <- lists:seq(0, Size - 1, ?AT_ONCE)],
                                fun(ok, ok) -> ok end, ok),
     Spawns.
-
-%% A message with a term of a newer release can't be read behind that.
-seen(Term) ->
-    try message(Term)
-    catch throw:_ -> ?OTHER_MESSAGE
-    end.
 
 message(<<104, 8, 100, 13:16, "spawn_request", _/binary>> = Term) ->
     [_, _Reference, Parent, _Leader, Call, _Options, _Tag, _Arguments] =

@@ -123,10 +123,8 @@ short(Text, Length) ->
 %% read any more; dots replace what is left out.
 print(_Bytes, _Depth, 0, _, Before) -> {<<Before/binary, "...">>, 0, unread};
 print(Bytes, 0, Parts, _, Before) ->
-    case seqaudit_external:take(Bytes) of
-        {ok, _, Rest} -> {<<Before/binary, "...">>, Parts, Rest};
-        error -> {<<Before/binary, "...">>, 0, unread}
-    end;
+    {_, Rest} = seqaudit_external:first(Bytes),
+    {<<Before/binary, "...">>, Parts, Rest};
 print(Bytes, Depth, Parts, Style, Before) ->
     case seqaudit_external:part(Bytes) of
         {tuple, Arity, Rest} ->
@@ -149,7 +147,9 @@ print(Bytes, Depth, Parts, Style, Before) ->
         {leaf, Leaf, Rest} ->
             {leaf(Leaf, Style, Before), Parts - 1, Rest};
         {newer, Tag} ->
-            {<<Before/binary, "#Newer<", (integer_to_binary(Tag))/binary, $>>>, 0, unread}
+            {<<Before/binary, "#Newer<", (integer_to_binary(Tag))/binary, $>>>, 0, unread};
+        unread ->
+            {<<Before/binary, "...">>, 0, unread}
     end.
 
 print_fields([], Rest, _Depth, Parts, _, Before) -> {Before, Parts, Rest};
@@ -173,7 +173,7 @@ separated(_, Text) -> <<Text/binary, $,>>.
 print_list(Length, Elements, Bytes, Depth, Parts, Style, Before) ->
     case list_text(Length, Elements, Style#style.bytes) of
         {ok, Text} ->
-            {ok, _, Rest} = seqaudit_external:take(Bytes),
+            {_, Rest} = seqaudit_external:first(Bytes),
             {append_quoted(Text, Before), Parts - 1, Rest};
         other ->
             {Text, Left, Tail} =
@@ -258,27 +258,20 @@ print_map(Pairs, Bytes, Depth, Parts, Style, Before)
                 print_pairs([{Key, Value} || {_, Key, Value} <- lists:sort(Keyed)], Depth, Parts,
                                        Style, Before),
             {Text, Left, Rest};
-        newer ->
+        unread ->
             print_pairs(Pairs, Bytes, Depth, Parts, Style, Before)
     end;
 print_map(Pairs, Bytes, Depth, Parts, Style, Before) ->
     print_pairs(Pairs, Bytes, Depth, Parts, Style, Before).
 
+%% Behind a part that can't be read nothing is shown, so what comes before it stays in front.
 pairs(0, Rest, Done) -> {Done, Rest};
 pairs(Left, Bytes, Done) ->
-    case take_pair(Bytes) of
-        {Key, Value, Rest} -> pairs(Left - 1, Rest, [{order(Key), Key, Value} | Done]);
-        newer -> newer
-    end.
-
-take_pair(Bytes) ->
-    case seqaudit_external:take(Bytes) of
-        {ok, Key, Rest0} ->
-            case seqaudit_external:take(Rest0) of
-                {ok, Value, Rest} -> {Key, Value, Rest};
-                error -> newer
-            end;
-        error -> newer
+    {Key, Rest0} = seqaudit_external:first(Bytes),
+    {Value, Rest} = seqaudit_external:first(Rest0),
+    case seqaudit_external:is_whole(Key) andalso seqaudit_external:is_whole(Value) of
+        true -> pairs(Left - 1, Rest, [{order(Key), Key, Value} | Done]);
+        false -> unread
     end.
 
 %% Numbers come before atoms, and these before all else, as Erlang orders them.
@@ -417,7 +410,7 @@ atom_text(Name) ->
 quoted_atom(Name) ->
     case needs_quotes_alone(Name) of
         true -> <<$', Name/binary, $'>>;
-        false -> quoted(name_characters(Name), $')
+        false -> quoted(unicode:characters_to_list(Name), $')
     end.
 
 needs_quotes_alone(<<C, Rest/binary>>)
@@ -456,20 +449,13 @@ is_reserved(<<"when">>) -> true;
 is_reserved(<<"xor">>) -> true;
 is_reserved(_) -> false.
 
-%% A damaged file can name an atom in bytes that aren't UTF-8; they are read as Latin-1.
-name_characters(Name) ->
-    case unicode:characters_to_list(Name) of
-        Characters when is_list(Characters) -> Characters;
-        _ -> binary_to_list(Name)
-    end.
-
 quoted(Characters, Quote) -> unicode:characters_to_binary(io_lib:write_string(Characters, Quote)).
 
 formatted(Format, Values) -> unicode:characters_to_binary(io_lib:format(Format, Values)).
 
 is_plain(<<C, Rest/binary>>) when ?IS_SMALL_ASCII(C) -> is_in_atom(Rest);
 is_plain(<<First/utf8, Rest/binary>>) -> ?IS_SMALL(First) andalso is_in_atom(Rest);
-is_plain(_) -> false.
+is_plain(<<>>) -> false.
 
 is_in_atom(<<C, Rest/binary>>) when ?IS_SMALL_ASCII(C) -> is_in_atom(Rest);
 is_in_atom(<<C/utf8, Rest/binary>>) when ?IS_SMALL(C); ?IS_IN_ATOM(C) -> is_in_atom(Rest);
