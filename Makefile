@@ -118,7 +118,7 @@ SEQTOOL_BUILT = $(if $(BUILT_TOOL),'$(CURDIR)/$(BUILT_TOOL)')
 # hostile has these too.
 FAULTS = memory stacks calls devices tampering limits queues floods scripts completions
 
-# What no proof sees: the built programs on examples/, their statuses and words, random traces beside a slow model, a
+# What no proof sees: the built programs on examples/, their statuses and words, random traces compared with a slow model, a
 # million acts and events, and faults. Python's seeds are fixed.
 test-program: ## the programs that were built last: examples/, random traces, a million acts, faults (3 minutes)
 	@tests/seqaudit $(BUILT)
@@ -132,14 +132,14 @@ test-erlang: ## the tests of erlang/, with the programs that were built last (3 
 	@if command -v erl >/dev/null; then SEQAUDIT=$(SEQAUDIT_BUILT) SEQTOOL=$(SEQTOOL_BUILT) $(MAKE) --no-print-directory -C erlang test; \
 	else echo "There is no erl here (Debian's erlang-base): the Erlang tests are skipped."; fi
 
-# The machine beside a real node, and again with each rule of the slow model broken.
+# The machine compared with a real node, and again with each rule of the slow model broken.
 test-conformance: ## compares 200 random scripts with a real node (1 minute; needs erl and Python)
 	@if command -v erl >/dev/null && command -v python3 >/dev/null; then \
 	SEQAUDIT=$(SEQAUDIT_BUILT) $(MAKE) --no-print-directory -C erlang conformance conformance-broken RUNS=200; \
 	else echo "There is no erl or no python3 here: the comparison with a real node is skipped."; fi
 
-# What `make rust` builds, beside the programs that were built last.
-test-rust: ## plain Rust: its own tests, make install and make dist, and each output beside the programs' (3 to 4 minutes; needs cargo and Python)
+# `make rust` builds the programs that are compared with those that were built last.
+test-rust: ## plain Rust: its own tests, make install and make dist, and each output compared with the programs' (3 to 4 minutes; needs cargo and Python)
 	@if command -v python3 >/dev/null; then rust/test $(BUILT) $(BUILT_TOOL); \
 	else echo "There is no python3 here: the plain Rust is skipped."; fi
 
@@ -152,7 +152,7 @@ test-readme: ## the README's commands on a fresh Debian 13, and the archive of m
 test-coq: ## checks coq/ from nothing, plants mistakes, and tries seqcheck (2 minutes; needs Debian's coq and Python)
 	@tests/coq
 
-bench: bin/seqaudit ## times the commands on bundles of 600,000 events, beside plain Rust (11 minutes, after program; needs rustc)
+bench: bin/seqaudit ## times the commands on bundles of 600,000 events, with plain Rust next to them (11 minutes, after program; needs rustc)
 	bench/run
 
 hostile: bin/seqaudit bin/seqtool ## faults, tampered text and inputs at the limits, docs/HOSTILE.md (about 10 minutes, after program)

@@ -5,7 +5,7 @@ of its own, this file as a script, and what that takes is told from what the pro
 
     one_run.py SECONDS INPUT OUTPUT PROGRAM WORD ..     prints the status, the seconds, those of the processor, the bytes
 
-The program has no environment, and writes errors into the output too. After so many seconds of the processor it is killed,
+The program has no environment, and writes errors into the output too. After this many seconds of the processor it is killed,
 and so it is if it hangs. The script imports little, so that it stays small."""
 
 import _thread

@@ -46,7 +46,7 @@ def is_next(clock, last, event):
 
 
 def readings(events):
-    """The clocks behind the events, each with the least number of tokens put back that leads to it."""
+    """The clocks after the events, each with the least number of tokens put back that leads to it."""
     found = {0: 0}
     for i, event in enumerate(events):
         grown = {}

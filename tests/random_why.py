@@ -3,7 +3,7 @@
 
     random_why.py SEQTOOL|model STAMPS [FIRST]
 
-Runs are made from the number FIRST on until they have so many sends and prints. Of each event `why` is asked, and its
+Runs are made from the number FIRST on until they have enough sends and prints. Of each event `why` is asked, and its
 first line judged: no sentence may be false in a run in which the premises hold that it names. If a program is given, it
 must also write what the slow model writes, back and forth. At the end it prints how
 often each sentence was said, and if premises failed what was true then."""
@@ -20,7 +20,7 @@ sys.path.insert(1, str(Path(__file__).resolve().parent / "models"))
 import slow_seqaudit as model  # noqa: E402
 import slow_why  # noqa: E402
 
-# So many events of a run are asked about if a program has to be started for each.
+# The events of a run that are asked about if a program has to be started for each.
 ASKED = 12
 
 
@@ -59,7 +59,7 @@ class Run:
         return self.unreported == 0
 
     def never_begins_again(self):
-        """The second one: no beginning is behind an event of its process with the label of a stamp that it is of."""
+        """The second one: no beginning is after an event of its process with the label of a stamp that it is of."""
         return not any(event.label in [earlier.label for earlier in self.streams[pid][:self.truth[pid, i][1]]]
                        for pid, events in self.streams.items() for i, event in enumerate(events)
                        if event.kind != "receive" and self.truth[pid, i] and self.truth[pid, i][0] == "begins")
@@ -154,7 +154,7 @@ def judged(run, place, sentence):
 
 
 def sentence_of(line):
-    """The words behind the place, the kind, the serial and the value."""
+    """The words after the place, the kind, the serial and the value."""
     return re.fullmatch(r"<\S+ \d+, line \d+  \w+ +\{\d+,\d+\} \d+ (.*)", line)[1]
 
 

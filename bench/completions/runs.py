@@ -1,4 +1,4 @@
-"""Runs of the slow machine without a reset, and beside what they report all that they did."""
+"""Runs of the slow machine without a reset: what they report, and all that they did."""
 
 import sys
 from pathlib import Path

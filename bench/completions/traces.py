@@ -70,7 +70,7 @@ class Run:
         return self.streams
 
     def go_until(self, events):
-        """The same, until so many events are reported."""
+        """Goes on until this many events are reported."""
         while self.told < events:
             self.act()
         return self.streams
@@ -108,7 +108,7 @@ def needs(processes, events):
 
 
 def asked(times, events):
-    """One process prints after messages that nobody reports, of which there are so many of each count."""
+    """One process prints after messages that nobody reports, a number of them for each count."""
     of_two = 2 * times
     return [[event("print", (2 * (n // of_two) + 1 + n % 2 if n else 0, events + n), 0, None, n) for n in range(events)]]
 
@@ -131,7 +131,7 @@ def damaged(prev, events):
 NO_SENDS, NO_RECEIVES, PRINTS = ("'receive'", "print"), ("send", "print"), ("print",)
 PROCESSES = 1024  # As many as `seqaudit` reads.
 
-# Each sort of trace with what `complete` says of it, and the processes of the full trace that `audit` has beside it.
+# Each sort of trace with what `complete` says of it, and the processes of the full trace that `audit` is given.
 SORTS = (
     ("no sends, 1 process", partial(run_of, NO_SENDS, 1), "added", 1),
     ("no sends, 1,024 processes", partial(run_of, NO_SENDS, PROCESSES), "added", PROCESSES),

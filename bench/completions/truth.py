@@ -3,7 +3,7 @@
 
     bench/completions/truth.py [SEQTOOL [RUNS [SEED]]]
 
-Each row has so many runs of one sort, of which some kinds of events were reported; of lossy ones a twentieth of these was
+Each row has RUNS runs of one sort, of which some kinds of events were reported; of lossy ones a twentieth of these was
 lost. Invented are the sends that no event tells of, and untrue those of them that the run hadn't. The cause of a hidden
 send is right if what stands before it is the receive that gave it its prev, of those that a receive gave it. Receives were
 lost if the run had them, their sends were reported and they weren't; those that are added are counted if the run had
@@ -78,7 +78,7 @@ def count(run, whole, counted):
 
 
 def row(seqtool, go, reported, lost, runs, seed):
-    """The counts over so many runs of a sort."""
+    """The counts over all runs of a sort."""
     counted, chosen = Counter(), random.Random(f"{seed} {go.__name__} {reported} {lost}")
     for _ in range(runs):
         run = Run(chosen, chosen.randint(2, 8), reported, lost)

@@ -26,7 +26,7 @@ import slow_seqtool  # noqa: E402  (search says where it is)
 PIDS = [(0, 30), (0, 31), (0, 32)]
 MOST_EVENTS = 6
 SHOWN = 3  # Wrong results that are shown.
-ENOUGH = 1_000  # Of so many streams each result has to come once.
+ENOUGH = 1_000  # The streams of which each result has to come once.
 REASONS = {"prevnotbefore", "notrising", "repeated", "mismatch", "late", "unfounded"}
 
 
@@ -134,7 +134,7 @@ def fault_of_counts(streams, events):
 
 
 def is_of_use(receive, following, left, clock, told):
-    """Whether the stamp behind an added receive lacks it. If its send was reported, the stamp may begin a trace above the
+    """Whether the stamp after an added receive lacks it. If its send was reported, the stamp may begin a trace above the
     clock."""
     if not following or not is_stamp(following) or following.prev != receive.this or following.prev in (left, clock):
         return False

@@ -1,4 +1,4 @@
-"""What `explain` says of the message that is due and of the next act, beside `check` and beside the slow model's machine."""
+"""The words of `explain` about the message that is due and the next act, compared with `check` and the slow model's machine."""
 import copy
 import random
 import re
@@ -14,7 +14,7 @@ RECEIVER_RESET = "reset <2.31.0>\n"
 
 
 def sent(value=7, label=17, flag="receive", before=""):
-    """Acts that send a message as the first of a new trace, behind other acts of that trace."""
+    """Acts that send a message as the first of a new trace, after other acts of that trace."""
     return (f"reset <1.30.0>\nset <1.30.0> label {label}\nset <1.30.0> {flag} true\n{before}"
             f"send <1.30.0> <2.31.0> {value}\n")
 
@@ -191,7 +191,7 @@ def reporting_acts(world, event):
 
 
 def false_marks(world, event, said):
-    """What is marked falsely as due, None if nothing is. Behind the tenth place the first message is shown."""
+    """The message that is marked falsely as due, or None. After the tenth place the first message is shown."""
     due = [int(act[-1]) for act in reporting_acts(world, event)] if event.kind == "receive" else []
     shown = [place for place in due if place < 10 or place == due[0]]
     return None if marked(said) == shown else f"due are {due}"

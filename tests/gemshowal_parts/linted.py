@@ -11,7 +11,7 @@ from hostile_use.program import Answer, Check, expect
 # A process that prints once, and the head of a bundle in which it is the only one.
 PRINT = "{seq_trace,17,{print,{0,1},<0.30.0>,[],7}}"
 HEAD = "seqtrace 1\nprocess <0.30.0>\n"
-NAMED = 10  # So many mistakes are named unless `--most` says another number.
+NAMED = 10  # The mistakes that are named unless `--most` says another number.
 
 HEADER = "the header seqtrace 1 or seqtrace 2"
 END = "the end of the line"
@@ -271,7 +271,7 @@ def diagnosis(text, number, column, expected, remedy):
 
 
 def counted(count, named, by_fix):
-    """The line behind the mistakes; there is none behind one that a person has to mend."""
+    """The line after the mistakes; there is none after one that a person has to mend."""
     if count == 1 and not by_fix:
         return b""
     told = f"{count} mistake{'s' if count > 1 else ''}"
@@ -534,7 +534,7 @@ def in_time(program, words, given):
 
 
 def long_texts(program):
-    """Mistakes behind line 9,999 and in more than 50 MB, many at once, and many pids without a process line."""
+    """Mistakes after line 9,999 and in more than 50 MB, many at once, and many pids without a process line."""
     line = f"{{seq_trace,4294967295,{{print,{{18446744073709551614,18446744073709551615}},<0.65535.0>,[],{2**64 - 1}}}}}"
     count = 60_000_000 // len(line)
     places = (4, 10_000, 100_000, count - 1, count + 2)

@@ -10,7 +10,7 @@ ACTS_OF_FIXED = 4 * EVENTS
 
 
 def act(words, count, processes=1):
-    """So many acts, by one process after the other."""
+    """Acts, by one process after the other."""
     return [words.format(pid(n % processes), n) + "\n" for n in range(count)]
 
 
@@ -19,13 +19,13 @@ def looks(processes, acts=ACTS_OF_FIXED):
 
 
 def on_one_node(words, processes, acts=EVENTS // 10):
-    """Each second act is this one, on a node of so many processes."""
+    """Each second act is this one, on a node of this many processes."""
     other = act("clear {}", acts // 2, processes)
     return bundle([[]] * processes, [line for pair in zip(other, act(words, acts // 2, processes)) for line in pair])
 
 
 def resets(processes, acts):
-    """Resets alone, of a node of so many processes."""
+    """Resets alone, of a node of this many processes."""
     return bundle([[]] * processes, act("reset {}", acts, processes))
 
 

@@ -48,7 +48,7 @@ def stopped(name, right, got):
 
 
 def sinks_fail(program, name):
-    """An output that is closed, full or without a reader, and a file that may have so many bytes and no more."""
+    """An output that is closed, full or without a reader, and a file that may have this many bytes and no more."""
     words, given = INPUTS[name]
     right = program.run(words, given).output
     called = f"devices: {name}: standard output"

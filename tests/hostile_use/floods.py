@@ -10,13 +10,13 @@ from .program import Check
 # The library's hash, which begins with a fixed seed: of each number, or pair of numbers, one multiplication, whose
 # halves are joined.
 SEED, MULTIPLIER, WORD = 0x243F_6A88_85A3_08D3, 0x9E37_79B9_7F4A_7C15, (1 << 64) - 1
-# So many receives, and the few places that their keys fall into, of as many as a table for them has.
+# The receives, and the few places that their keys fall into, of as many as a table for them has.
 Size = namedtuple("Size", "receives places chosen")
 SMALL = Size(50_000, 1 << 16, 1 << 9)
 GREAT = Size(980_000, 1 << 21, 1 << 17)  # Texts of 64 MB and more. To find the counts takes half a minute.
 # The bytes of a receive's line, which its value fills up if the count is short.
 LINE = 66
-# So many processes whose pids share places, and their acts: of MANY, 64 MB.
+# The processes whose pids share places, and their acts: of MANY, 64 MB.
 PROCESSES, ACTS, MANY = 16_000, 400_000, 3_400_000
 # How far apart the slots of equal numbers on neighbouring nodes lie in the tables of guesses; the numbers of a node.
 NODE_STEP, NUMBERS = 67, 1 << 16
@@ -100,7 +100,7 @@ def alike(flood):
 
 
 def looked_at(pids, acts):
-    """So many acts of these processes, one after the other."""
+    """Acts of these processes, one after the other."""
     names = [b"<%d.%d.0>" % pid for pid in pids]
     yield b"seqtrace %d\n" % (2 if any(node for node, _ in pids) else 1)
     yield from (b"process %s\n" % name for name in names)

@@ -22,7 +22,7 @@ from .texts import LABEL, bundle, is_event, on_nodes
 
 BOUND = 1.25
 PARTS = (9, 3, 1)  # The sizes are these parts of a family's greatest.
-LONG = 8  # With --long they are so many times as great.
+LONG = 8  # With --long they are this many times as great.
 ROUNDS = 8  # The least time of each size counts, since others use the processor too.
 SECONDS = 20
 MEGABYTES = 2_048

@@ -21,7 +21,7 @@ def prints(events, pid=0, first=1):
 
 
 def streams(processes, events):
-    """A bundle of so many processes which report so many prints each."""
+    """A bundle of processes, each of which reports a number of prints."""
     return b"seqtrace 1\n" + b"".join(b"process <0.%d.0>\n" % pid + prints(events, pid) for pid in range(processes))
 
 
@@ -44,7 +44,7 @@ def sent_and_received(events):
 
 
 def chart_of(processes, events):
-    """The chart of so many processes' prints: serials rise, and at one serial the pids do."""
+    """The chart of this many processes' prints: serials rise, and at one serial the pids do."""
     head = b"label 0\n" + b"".join(b"lane %d <0.%d.0>\n" % (pid + 1, pid) for pid in range(processes))
     rows = [b"   |" * pid + b"   P" + b"   |" * (processes - pid - 1) for pid in range(processes)]
     return head + b"".join(b"%s  print    {0,%d} 0 start\n" % (row, this)
@@ -52,7 +52,7 @@ def chart_of(processes, events):
 
 
 def looks(processes, acts):
-    """So many looks, by one process after the other."""
+    """Looks, by one process after the other."""
     lines = [b"look <0.%d.0>\n" % pid for pid in range(processes)]
     return b"seqtrace 1\n" + listed(processes) + b"acts\n" + b"".join(lines) * (acts // processes)
 

@@ -6,7 +6,7 @@ from .program import FAULT_MEMORY, Answer, Check, expect
 
 FAULT_THREAD = Answer(4, b"fault thread\n")
 SCRIPTS = 4  # Of `FOUR_SCRIPTS`, each of which has a thread.
-LONG_SCRIPT = 100_000  # So many receives that walk a queue as long take a minute (docs/HOSTILE.md).
+LONG_SCRIPT = 100_000  # That many receives that walk a queue as long take a minute (docs/HOSTILE.md).
 STOPPED_WITHIN = 10  # Seconds of the processor, of which reading the script takes less than one.
 MOST_REQUESTS = 10_000  # Far more than the short inputs need: a program that never ends is noticed.
 

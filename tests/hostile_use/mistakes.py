@@ -9,7 +9,7 @@ HEAD = "seqtrace 1\nprocess <0.30.0>\n"
 
 
 def lines(line, count, head=HEAD):
-    """A text of so many lines, each with its own number."""
+    """A text of this many lines, each with its own number."""
     yield head
     yield from (line.format(n=n) + "\n" for n in range(1, count + 1))
 

@@ -61,7 +61,7 @@ class Program:
         return os.path.basename(self.path)
 
     def run(self, words, given=b"", *, stdin=None, stdout=subprocess.PIPE, before=(), env=None, seconds=30):
-        """Runs it on the given bytes, or on the file `stdin`, for so many seconds of the processor at most; `before` are the
+        """Runs it on the given bytes, or on the file `stdin`, for this many seconds of the processor at most; `before` are the
         words of a command that executes it."""
         given = given if stdin is None else None
         with subprocess.Popen([*before, self.path, *words], stdin=subprocess.PIPE if stdin is None else stdin,
@@ -79,7 +79,7 @@ class Program:
         return self.run(words) != Answer(3, USAGE)
 
     def measure(self, words, pieces, seconds):
-        """Runs it on the bytes of these pieces, from disk to disk, for so many seconds of the processor at most: the
+        """Runs it on the bytes of these pieces, from disk to disk, for this many seconds of the processor at most: the
         output, the seconds that it took, those of the processor, the peak in megabytes."""
         with tempfile.TemporaryDirectory() as folder:
             given, written = os.path.join(folder, "given"), os.path.join(folder, "written")

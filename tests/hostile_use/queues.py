@@ -5,7 +5,7 @@ its mailbox is full."""
 from .program import Answer, Check
 
 SMALL, GREAT = 10_000, 1_000_000
-# The seconds of the processor that so many messages may take: a message is found in time that grows as the logarithm of its
+# The seconds of the processor that this many messages may take: a message is found in time that grows as the logarithm of its
 # queue's length.
 BOUND = {SMALL: 1, GREAT: 10}
 # The most memory that a command takes for a message, in bytes, and `drive` for one that nobody takes: it keeps the queue
@@ -13,7 +13,7 @@ BOUND = {SMALL: 1, GREAT: 10}
 BYTES, BYTES_LEFT = 400, 550
 LEAST_MEGABYTES = 20
 
-# A server with so many waiting messages makes so many calls, and takes the messages after that.
+# The messages that wait at a server, and the calls that it makes before it takes them.
 WAITING, CALLS, BACKLOG_BOUND = 199_000, 149_000, 8
 
 # Acts on a node with as many processes as the reader takes, and the seconds of the processor that they may take.
@@ -59,7 +59,7 @@ WANTS = {
 
 
 def timed(program, name, words, pieces, is_right, bound, count, bytes_each=BYTES):
-    """The check of one input with so many messages: what the program writes, in time and memory."""
+    """The check of one input with this many messages: what the program writes, in time and memory."""
     got, taken, processor, megabytes = program.measure(words, pieces, 6 * bound)
     most = LEAST_MEGABYTES + bytes_each * count // 1_000_000
     if got.status == -9:
@@ -74,7 +74,7 @@ def timed(program, name, words, pieces, is_right, bound, count, bytes_each=BYTES
 
 
 def waited(program, command, kind, count):
-    """So many waiting messages, and then as many acts on their queue."""
+    """Waiting messages, and then as many acts on their queue."""
 
     def pieces():
         yield from sends(count)
@@ -135,7 +135,7 @@ class Reporter:
 
 
 def backlog(waiting, calls):
-    """The streams of a server that makes so many calls while so many messages wait."""
+    """The streams of a server that makes calls while messages wait."""
     server, other, client = map(Reporter, range(3))
     serials = [client.send(server, value) for value in range(waiting)]
     for value in range(calls):

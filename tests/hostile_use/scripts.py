@@ -34,7 +34,7 @@ def bundle(pids, acts):
 
 
 def random_scripts(seed):
-    """The bundle of so many acts of processes on two nodes."""
+    """The bundle of this many acts of processes on two nodes."""
     random = Random(seed)
     pids = [f"<{place // 4}.{30 + place}.0>" for place in range(PROCESSES)]
     shapes, weights = zip(*KINDS)

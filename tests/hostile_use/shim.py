@@ -22,7 +22,7 @@ def build(folder):
 
 
 def run(program, library, words, given, seconds=30, **faults):
-    """The output under these faults within so many seconds of the processor, and whether one came; what the library says of
+    """The output under these faults within this many seconds of the processor, and whether one came; what the library says of
     it isn't part of the output."""
     env = {"LD_PRELOAD": library} | {name.upper(): str(value) for name, value in faults.items()}
     got = program.run(words, given, env=env, seconds=seconds)

@@ -13,7 +13,7 @@ from .texts import bundle
 
 KILOBYTES = {"seqaudit": 128, "seqtool": 128}
 EVENTS = 20_000
-# What is asked beside the commands whose growth is tried.
+# Asked besides the commands whose growth is tried.
 OTHERS = words("""
 seqtool --version
 seqtool why 0.31.0 0

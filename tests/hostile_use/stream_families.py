@@ -172,7 +172,7 @@ def scarce(events):
 
 
 def undecided(processes, events=None):
-    """Four receives for which there is neither a run nor a reason, beside processes whose messages nobody reported."""
+    """Four receives for which there is neither a run nor a reason, and processes whose messages nobody reported."""
     first = [event("'receive'", serial, 0, 0, 0) for serial in ((0, 2), (0, 1), (1, 3), (2, 4))]
     each = max(1, (events or processes) // processes)
     return [first, *([event("'receive'", (0, n), 1 + (me + 1) % processes, 1 + me, 0) for n in range(1, each + 1)]

@@ -79,7 +79,7 @@ def lefts(events):
         left = after(left, event)
 
 
-# The reasons beside those of pairing
+# The reasons besides those of pairing
 
 def late(streams):
     for pid, events in streams.items():
@@ -115,12 +115,12 @@ def hidden_sends(streams, source):
 
 class Stretch:
     """The receives between two reported stamps of a process, each of which may be missing, and the hidden sends whose
-    counts lie between theirs. A send at gap K is behind K of the receives. A stamp costs nothing, that is, it isn't a
+    counts lie between theirs. A send at gap K is after K of the receives. A stamp costs nothing, that is, it isn't a
     need, if what is before it leaves its prev, or if its prev isn't below the clock."""
 
     def __init__(self, before, receives, sends, stamp):
         self.before, self.sends, self.stamp, self.end = before, sends, stamp, len(receives)
-        # The clock at each gap by what is reported, and the gaps behind receives of a count, and of that and a label.
+        # The clock at each gap by what is reported, and the gaps after receives of a count, and of that and a label.
         self.clocks, self.behind = [before.this if before else 0], defaultdict(list)
         for gap, receive in enumerate(receives, 1):
             self.clocks.append(max(self.clocks[-1], receive.this))
@@ -132,7 +132,7 @@ class Stretch:
         return bisect_right(self.clocks, count) - 1
 
     def next_behind(self, receive, gap, limit):
-        """The next gap behind a receive of this count, or count and label, if it is within the limit."""
+        """The next gap after a receive of this count, or count and label, if it is within the limit."""
         gaps = self.behind[receive]
         at = bisect_right(gaps, gap)
         return gaps[at] if at < len(gaps) and gaps[at] <= limit else None
@@ -180,7 +180,7 @@ class Stretch:
         if behind is None and send.prev not in (left[0], clock):
             behind = self.next_behind(send.prev, gap, limit)
             if behind is None and send.prev > clock:
-                # It begins a trace later, behind all that may be before it.
+                # It begins a trace later, after all that may be before it.
                 return max(gap, min(limit, self.last_start(send.prev)))
         return gap if behind is None else behind
 

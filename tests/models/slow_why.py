@@ -11,7 +11,7 @@ BEGINS = "begins here"
 BEGINS_OR_UNREPORTED = "begins here, or follows a message whose receive wasn't reported"
 UNSENT = "its send wasn't reported"
 
-# So many hops are shown by spaces.
+# The hops that spaces show.
 INDENT = 16
 
 # What an event follows: the kind of hop, the place that it names, and the premises that it rests on.
@@ -104,7 +104,7 @@ def text_line(streams, node, hop, is_tree):
 
 
 def why(streams, place, most, across, is_tree=False):
-    """The lines of at most so many hops back, or of so many levels of what follows; none if there is no such event."""
+    """The lines of at most this many hops back, or of this many levels of what follows; none if the event isn't there."""
     source = pair(streams)
     if place is None or place[1] >= len(streams.get(place[0], [])):
         return None

@@ -63,7 +63,7 @@ fn seqtool(words: &[&str], text: &[u8]) -> Answer {
     (writer.written().to_vec(), status)
 }
 
-/// Does what a line of words asks for in a thread with a stack of so many bytes.
+/// Does what a line of words asks for in a thread with a stack of this many bytes.
 fn within(stack: usize, line: &str, text: &[u8]) -> Answer {
     let words: Vec<&str> = line.split(' ').collect();
     let call = || if words[0] == "seqaudit" { seqaudit(&words, text) } else { seqtool(&words, text) };

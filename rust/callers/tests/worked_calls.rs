@@ -24,7 +24,7 @@ fn items(lists: &Lists<u64>, list: usize) -> std::vec::Vec<u64> {
     lists.walk(list).copied().collect()
 }
 
-/// The token of 30 after so many stamps of its first trace.
+/// The token of 30 after this many stamps of its first trace.
 fn stamped(count: u64) -> Token {
     Token { serial: Serial { prev: 0, this: count }, ..Token { label: Label(1), ..Token::made_by(P30) } }
 }

@@ -69,7 +69,7 @@ impl Read for Stdin {
 #[derive(Debug)]
 pub struct Stdout;
 
-/// The file behind standard output. Rust's own `Stdout` keeps the part of a line that isn't ended, for which it searches
+/// The file of standard output. Rust's own `Stdout` keeps the part of a line that isn't ended, for which it searches
 /// each piece and writes twice.
 #[cfg(unix)]
 fn output() -> Result<&'static std::fs::File> {

@@ -1,4 +1,4 @@
-//! The runtime: what a function may do beside computing, each right a trait.
+//! The runtime: what a function may do besides computing, each right a trait.
 
 use crate::alloc::Global;
 use crate::io::{Stdin, Stdout};

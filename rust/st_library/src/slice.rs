@@ -1,4 +1,4 @@
-//! What slices have beside Rust's own.
+//! The methods of slices besides Rust's own.
 
 /// `as_slice` of an array is as theirs.
 pub trait ArraySlice<T> {}
