@@ -102,6 +102,9 @@ pub(crate) struct Audit {
     /// Ask the proved programs seqaudit and seqtool too, and say whether they agree
     #[arg(long, conflicts_with_all = ["each_label"])]
     pub(crate) proved: bool,
+    /// Ask seqcheck too, the second checker (make -C coq), and say whether it agrees
+    #[arg(long, conflicts_with_all = ["each_label"])]
+    pub(crate) second: bool,
     /// Audit the events of each label by themselves, with a line for each label
     #[arg(long, conflicts_with_all = ["acts"])]
     pub(crate) each_label: bool,

@@ -10,7 +10,6 @@ use thiserror::Error;
 pub(crate) enum Status {
     Yes = 0,
     No = 1,
-    /// The text is none of a trace.
     Faulty = 2,
     /// Two programs disagree.
     Differs = 4,
@@ -48,6 +47,8 @@ pub(crate) enum Failure {
     NothingLeft(String),
     #[error("{0} has a completion, with more acts or processes than are read")]
     TooLong(String),
+    #[error("{0} is too large for the second checker, which reads as much as seqaudit does")]
+    LargeForSecond(String),
     #[error("the acts that were built don't show the streams of {0}")]
     Uncertified(String),
     #[error("{0} can't be written: {1}")]
@@ -76,7 +77,7 @@ impl Failure {
             Failure::NotFound(_) | Failure::NoTimes(_) | Failure::NothingLeft(_) => {
                 Status::No as u8
             }
-            Failure::TooLong(_) => Status::Long as u8,
+            Failure::TooLong(_) | Failure::LargeForSecond(_) => Status::Long as u8,
             Failure::Unread(_, reason) if reason.kind() == ErrorKind::InvalidData => {
                 Status::Faulty as u8
             }

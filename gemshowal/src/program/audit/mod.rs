@@ -3,8 +3,8 @@
 mod counter;
 mod each;
 mod missing;
+mod others;
 mod outcome;
-mod proved;
 mod region;
 mod report;
 mod resets;
@@ -21,6 +21,7 @@ use crate::view::{Kept, Place, View};
 use crate::{Failure, Status};
 use gemshowal::{CompleteError, OutOfMemory, Trace};
 use missing::Missing;
+use others::Comparison;
 use sentences::{write_losses, Sentences};
 use std::fs::File;
 use std::io::{BufWriter, Write};
@@ -67,7 +68,6 @@ struct Auditor<'a> {
     word: String,
 }
 
-/// The findings about a trace.
 struct Audited<'a> {
     outcome: &'a Outcome,
     missing: Missing,
@@ -118,18 +118,18 @@ impl Auditor<'_> {
         if let Some(path) = &self.args.acts {
             self.write_acts(&outcome, path)?;
         }
-        let proved =
-            if self.args.proved { Some(proved::ask(self.view.trace, &outcome)?) } else { None };
+        let others =
+            others::ask(self.args, self.view.trace, &outcome, self.input.line_name())?;
         let audited = self.audited(&outcome)?;
         if self.json {
-            report::write(self, &audited, proved.as_ref(), out)?;
+            report::write(self, &audited, &others, out)?;
         } else {
-            self.write(&audited, proved.as_ref(), out)?;
+            self.write(&audited, &others, out)?;
         }
-        Ok(match &proved {
-            Some(proved) if !proved.agrees() => Status::Differs,
-            _ if outcome.is_fit() && self.view.trace.streams().total() > 0 => Status::Yes,
-            _ => Status::No,
+        Ok(match outcome.is_fit() && self.view.trace.streams().total() > 0 {
+            _ if !others.iter().all(Comparison::agrees) => Status::Differs,
+            true => Status::Yes,
+            false => Status::No,
         })
     }
 
@@ -147,7 +147,6 @@ impl Auditor<'_> {
         Ok(audited)
     }
 
-    /// Finds the events that are copies of others and without which a run has the trace.
     fn copies(&self) -> Result<Vec<(Place, Place)>, CompleteError> {
         let copies = outcome::copies(self.view);
         if copies.is_empty() {
@@ -168,7 +167,6 @@ impl Auditor<'_> {
         split(self.view)?.into_iter().map(audited).collect()
     }
 
-    /// Writes acts of a run that has the trace to a file.
     fn write_acts(&self, outcome: &Outcome, path: &Path) -> Result<(), Failure> {
         let unkept = |reason| Failure::Unkept(path.display().to_string(), reason);
         let trace = outcome.ranked.as_ref().unwrap_or(self.view.trace);
@@ -190,11 +188,10 @@ impl Auditor<'_> {
         file.flush().map_err(unkept)
     }
 
-    /// Writes the findings, in sentences.
     fn write(
         &self,
         audited: &Audited<'_>,
-        proved: Option<&proved::Proved>,
+        others: &[Comparison],
         out: &mut Output,
     ) -> Result<(), Failure> {
         let shown = audited.outcome.shown(self.view);
@@ -215,10 +212,10 @@ impl Auditor<'_> {
         if let (Some(times), None) = (self.view.names.times(), &self.cut) {
             writeln!(out, "{}", summary(self.view.trace, times))?;
         }
-        match proved {
-            None => writeln!(out, "{NOT_PROVED}")?,
-            Some(proved) => writeln!(out, "{proved}")?,
+        if others.is_empty() {
+            writeln!(out, "{NOT_PROVED}")?;
         }
+        others.iter().try_for_each(|other| writeln!(out, "{other}"))?;
         Ok(())
     }
 

@@ -1,7 +1,7 @@
 //! The report on a trace as a whole: its parts, its copies, and the object for programs.
 
 use super::missing::{Known, Lack};
-use super::proved::Proved;
+use super::others::{Asked, Comparison};
 use super::sentences::Sentences;
 use super::{Audited, Auditor, Said};
 use crate::object::{Number, Place as PlaceObject};
@@ -17,7 +17,6 @@ use std::io::{self, Write};
 /// The greatest number of processes that are named.
 const LISTED: usize = 20;
 
-/// Writes that events are copies of others.
 pub(super) fn write_copies(
     shown: &Shown<'_>,
     audited: &Audited<'_>,
@@ -176,7 +175,6 @@ pub(super) struct Part {
     refused: Option<Refused>,
 }
 
-/// The events and messages that a trace leaves out.
 #[derive(Serialize)]
 struct MissingObject {
     unreported: Vec<Unreported>,
@@ -188,7 +186,6 @@ struct MissingObject {
     spawns: BTreeMap<String, Number>,
 }
 
-/// An event that nobody reported.
 #[derive(Serialize)]
 struct Unreported {
     what: String,
@@ -227,7 +224,6 @@ impl Part {
         &self.headline
     }
 
-    /// Returns whether it lacks an event, or a message waits.
     fn lacks(&self) -> bool {
         let lacks =
             |missing: &MissingObject| !missing.unreported.is_empty() || !missing.waiting.is_empty();
@@ -274,7 +270,6 @@ impl Unreported {
     }
 }
 
-/// The object of a trace.
 #[derive(Serialize)]
 struct Whole<'a> {
     #[serde(flatten)]
@@ -288,20 +283,20 @@ struct Whole<'a> {
     losses: &'a [String],
     /// The answer of the proved programs: `not asked`, `confirmed` or `differs`.
     proved: &'static str,
+    #[serde(skip_serializing_if = "Option::is_none")]
+    second: Option<&'static str>,
 }
 
-/// An event that is a copy of another.
 #[derive(Serialize)]
 struct Copy {
     copy: String,
     of: String,
 }
 
-/// Writes the object of a trace.
 pub(super) fn write(
     auditor: &Auditor<'_>,
     audited: &Audited<'_>,
-    proved: Option<&Proved>,
+    others: &[Comparison],
     out: &mut Output,
 ) -> Result<(), Failure> {
     let shown = audited.outcome.shown(auditor.view);
@@ -314,13 +309,15 @@ pub(super) fn write(
         copies.map(|&(copy, of)| Copy { copy: shown.event(copy), of: shown.event(of) }).collect();
     let parts = audited.parts.iter().map(|part| found(auditor, part)).collect::<Result<_, _>>()?;
     let result = whole.said;
+    let word = |asked| others.iter().find(|other| other.asked == asked).map(Comparison::word);
     let object = Whole {
         whole,
         cut: auditor.cut.as_deref(),
         copies,
         parts,
         losses: auditor.view.names.losses(),
-        proved: proved.map_or("not asked", Proved::word),
+        proved: word(Asked::Proved).unwrap_or("not asked"),
+        second: word(Asked::Second),
     };
     out.report(result, &object)
 }
