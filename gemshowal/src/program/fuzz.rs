@@ -5,7 +5,7 @@
 use crate::args::{Args, Command};
 use crate::input::Input;
 use crate::output::{Notes, Output};
-use crate::run_on;
+use crate::{diff, run_on};
 use clap::Parser;
 use std::env;
 use std::fs;
@@ -52,8 +52,7 @@ const PIECES: [&[u8]; 34] = [
     b"send <0.30.0> <0.31.0> 7\n",
 ];
 
-/// The command lines that are tried on each text.
-const COMMANDS: [&str; 26] = [
+const COMMANDS: [&str; 35] = [
     "audit",
     "audit --json",
     "audit --each-label",
@@ -80,17 +79,15 @@ const COMMANDS: [&str; 26] = [
     "export --as mermaid",
     "export --as dot",
     "export --as perfetto",
-];
-
-/// The commands that need an event, a label or a second trace too.
-const ASKED: [&str; 7] = [
+    "export --as shiviz",
+    "export --as otlp",
     "why NAME 3",
     "why NAME 4 --effects --json",
-    "chart NAME",
-    "chart NAME --json",
-    "export NAME --as shiviz",
-    "export NAME --as otlp",
+    "chart",
+    "chart --json",
     "diff NAME NAME --json",
+    "page",
+    "times",
 ];
 
 /// Numbers that look like chance (xorshift).
@@ -104,7 +101,6 @@ impl Chance {
         (self.0 % most.max(1) as u64) as usize
     }
 
-    /// Puts a mistake into a text.
     fn with_mistake(&mut self, text: &[u8]) -> Vec<u8> {
         let at = self.below(text.len() + 1);
         let (front, rest) = text.split_at(at);
@@ -137,7 +133,6 @@ impl Chance {
     }
 }
 
-/// Reads the examples that are small.
 fn examples() -> Vec<Vec<u8>> {
     // The package may be built in its own folder, or in the workspace that a script writes.
     let folders = Path::new(env!("CARGO_MANIFEST_DIR")).ancestors().map(|it| it.join("examples"));
@@ -150,16 +145,23 @@ fn examples() -> Vec<Vec<u8>> {
     texts.filter(|text| text.len() < 20_000).collect()
 }
 
-fn command(words: &str, name: &str) -> Command {
-    let words = words.split(' ').map(|word| if word == "NAME" { name } else { word });
-    Args::try_parse_from(["gemshowal"].into_iter().chain(words)).unwrap().command
+fn command(words: &str) -> Command {
+    Args::try_parse_from(["gemshowal"].into_iter().chain(words.split(' '))).unwrap().command
 }
 
-/// Does a command on a text; an object is whole, whatever the result.
-fn run(command: &Command, text: &[u8]) {
+/// Does a command on a text, and a comparison with the one that it was made of. An object is whole,
+/// whatever the result.
+fn run(command: &Command, text: &[u8], whole: &[u8]) {
     let mut input = Input::of_bytes(text);
-    let mut out = Output::to_nowhere(command.word());
-    let ended = run_on(command, &mut input, &mut out, &mut Notes::new(false));
+    let (mut out, mut notes) = (Output::to_nowhere(command.word()), Notes::new(false));
+    let ended = match command {
+        Command::Diff(_) => {
+            let whole = Input::of_bytes(whole);
+            let ended = diff::run(true, &mut input, whole, &mut out, &mut notes);
+            ended.and_then(|_| Ok(out.finish()?))
+        }
+        _ => run_on(command, &mut input, &mut out, &mut notes).map(drop),
+    };
     if command.is_json() && ended.is_ok() {
         let object: serde_json::Value = serde_json::from_slice(out.taken()).unwrap();
         assert_eq!(object["command"], command.word());
@@ -172,21 +174,17 @@ fn number(variable: &str) -> Option<u64> {
 
 #[test]
 fn fuzz_no_command_panics_on_a_malformed_text() {
-    let file = env::temp_dir().join(format!("gemshowal-fuzz-{}", std::process::id()));
-    let name = file.to_str().unwrap();
-    let commands: Vec<Command> = COMMANDS.iter().map(|words| command(words, name)).collect();
-    let asked: Vec<Command> = ASKED.iter().map(|words| command(words, name)).collect();
+    let commands = COMMANDS.map(command);
     let examples = examples();
     let mut chance = Chance(number("GEMSHOWAL_SEED").unwrap_or(20_261_130));
     for _ in 0..number("GEMSHOWAL_FUZZ").unwrap_or(TEXTS) {
-        let mut text = examples[chance.below(examples.len())].clone();
+        let whole = &examples[chance.below(examples.len())];
+        let mut text = whole.clone();
         for _ in 0..chance.below(6) {
             text = chance.with_mistake(&text);
         }
-        fs::write(&file, &text).unwrap();
-        for command in commands.iter().chain(&asked) {
-            run(command, &text);
+        for command in &commands {
+            run(command, &text, whole);
         }
     }
-    fs::remove_file(&file).unwrap();
 }

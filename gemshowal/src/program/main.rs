@@ -79,7 +79,7 @@ fn run_on(
         Command::Stats(_) => stats::run(json, input, out, notes),
         Command::Collect(_) | Command::Watch(_) | Command::Convert(_) => Ok(Status::Yes),
         Command::Chart(args) => chart::run(args, json, input, out, notes),
-        Command::Diff(args) => diff::run(args, json, input, out, notes),
+        Command::Diff(args) => diff::run(json, input, Input::open(&args.second)?, out, notes),
         Command::Export(args) => export::run(args, input, out, notes),
         Command::Times(args) => times::run(args, json, input, out, notes),
         Command::Why(args) => why::run(args, json, input, out, notes),

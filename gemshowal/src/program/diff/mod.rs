@@ -16,7 +16,6 @@ mod report;
 mod side;
 mod words;
 
-use crate::args::Diff;
 use crate::input::Input;
 use crate::names::Names;
 use crate::output::{Notes, Output};
@@ -30,13 +29,12 @@ use report::{Moved, Report, Text};
 use side::{Side, Vocabulary};
 
 pub(crate) fn run(
-    args: &Diff,
     json: bool,
     input: &mut Input,
+    mut other: Input,
     out: &mut Output,
     notes: &mut Notes,
 ) -> Result<Status, Failure> {
-    let mut other = Input::open(&args.second)?;
     let (first, second) = (input.trace()?, other.trace()?);
     let (ones, others) = (input.names(&first, notes)?, other.names(&second, notes)?);
     let has_terms = has_names(&first, &ones) && has_names(&second, &others);
