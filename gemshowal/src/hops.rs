@@ -1,7 +1,8 @@
 //! The events that each event follows, and the order of all events, as the proved libraries find
 //! them.
 
-use crate::{pair, Finding, OutOfMemory, Pairing, Pid, Streams};
+use crate::{pair, Event, Finding, Never, OutOfMemory, Pairing, Pid, Streams, TOP};
+use lack_needs::{find_flaw, find_unfounded, Flaw};
 use node_why::{Hop, Node, Origins, Reach};
 use st_library::alloc::Global;
 use st_library::rt::HostRuntime;
@@ -17,6 +18,22 @@ impl<'a> Paired<'a> {
     /// Pairs streams, or says why they can't be paired, as [`crate::Trace::audit`] finds it.
     pub fn of(streams: &'a Streams) -> Result<Result<Paired<'a>, Finding>, OutOfMemory> {
         Ok(pair(streams)?.map(|pairing| Paired { streams, pairing }))
+    }
+
+    /// Finds an event and why no run without a reset reports it, as [`crate::Trace::complete`] does:
+    /// late events first, then unfounded ones.
+    pub fn refusal(&self) -> Result<Option<(Pid, u64, Never)>, OutOfMemory> {
+        if let Some((pid, index)) = find_flaw(self.streams, Flaw::Late) {
+            let events = &self.streams.events(pid)[..=index as usize];
+            let is_higher = |event: &Event| event.serial.this >= events[index as usize].serial.this;
+            let higher = events[..index as usize].iter().rposition(is_higher).unwrap_or(0);
+            return Ok(Some((pid, index, Never::Late(higher as u64))));
+        }
+        if let Some((pid, index)) = find_unfounded(Global, self.streams, &self.pairing)? {
+            return Ok(Some((pid, index, Never::Unfounded)));
+        }
+        let high = find_flaw(self.streams, Flaw::TooHigh(TOP));
+        Ok(high.map(|(pid, index)| (pid, index, Never::TooHigh)))
     }
 
     /// Finds what each event follows.

@@ -16,7 +16,6 @@ use gemshowal::{Pid, Premises, Streams, Trace};
 use std::borrow::Cow;
 use std::collections::HashMap;
 
-/// The certainty of a cause.
 #[derive(Clone, Copy, Debug, PartialEq, Eq)]
 pub(crate) enum Grade {
     /// Holds in every run without a reset that reports the trace.
@@ -31,12 +30,10 @@ pub(crate) enum Grade {
 /// them.
 #[derive(Clone, Copy, Debug, PartialEq, Eq)]
 pub(crate) enum Cause {
-    /// The event follows this one.
     After(Item),
     /// The event's process began its label there, or set it on its token, after this receive of
     /// another label.
     OtherLabel(Item),
-    /// The event follows nothing.
     Begins,
     /// The event follows nothing, or a message whose receive nobody reported.
     BeginsOrUnreported,
@@ -44,7 +41,6 @@ pub(crate) enum Cause {
     Unknown,
 }
 
-/// A cause with its certainty.
 #[derive(Clone, Copy, Debug, PartialEq, Eq)]
 pub(crate) struct Link {
     pub(crate) cause: Cause,
@@ -52,7 +48,6 @@ pub(crate) struct Link {
 }
 
 impl Link {
-    /// Returns the event that it follows, if one is named.
     pub(crate) fn after(&self) -> Option<Item> {
         match self.cause {
             Cause::After(item) => Some(item),
@@ -75,7 +70,6 @@ struct Whole<'a> {
 pub(crate) struct Added {
     /// The sends whose receive was reported, so they happened.
     pub(crate) certain: u64,
-    /// The other sends.
     pub(crate) sends: u64,
     pub(crate) receives: u64,
 }
@@ -90,7 +84,6 @@ impl Added {
     }
 }
 
-/// The causes of all events of a trace.
 pub(crate) struct Causes<'a> {
     view: &'a View<'a>,
     never: Option<(Pid, u64, Never)>,
@@ -99,29 +92,30 @@ pub(crate) struct Causes<'a> {
     whole: Option<Whole<'a>>,
 }
 
-/// Does something with the causes of a trace, unless its events can't be paired.
+/// Does something with the causes of a trace, unless its events can't be paired. Those of its own
+/// events alone are taken if no run reports the trace, or if they are enough.
 pub(crate) fn with_causes<T>(
     view: &View<'_>,
+    is_enough: impl Fn(&Causes<'_>) -> bool,
     run: impl FnOnce(&Causes<'_>) -> Result<T, Failure>,
 ) -> Result<Result<T, Finding>, Failure> {
     let paired = match Paired::of(view.trace.streams())? {
         Ok(paired) => paired,
         Err(finding) => return Ok(Err(finding)),
     };
-    let (completion, never) = match view.trace.complete()? {
-        Answer::Whole(completion) => (Some(completion), None),
-        Answer::Never(pid, index, never) => (None, Some((pid, index, never))),
-    };
-    let completion = completion.filter(|completion| completion.added() > 0);
-    let all = completion.as_ref().map(|completion| Paired::of(completion.streams())).transpose()?;
-    let all = all.and_then(Result::ok);
-    let whole = completion
-        .as_ref()
-        .zip(all.as_ref())
-        .map(|(completion, paired)| Whole::of(completion, paired));
-    let causes =
-        Causes { view, never, hops: paired.hops()?, paired: &paired, whole: whole.transpose()? };
-    Ok(Ok(run(&causes)?))
+    let (never, hops) = (paired.refusal()?, paired.hops()?);
+    let own = Causes { view, never, hops, paired: &paired, whole: None };
+    if never.is_some() || is_enough(&own) {
+        return Ok(Ok(run(&own)?));
+    }
+    let Answer::Whole(completion) = view.trace.complete()? else { return Ok(Ok(run(&own)?)) };
+    match Paired::of(completion.streams())? {
+        Ok(all) if completion.added() > 0 => {
+            let whole = Some(Whole::of(&completion, &all)?);
+            Ok(Ok(run(&Causes { whole, ..own })?))
+        }
+        _ => Ok(Ok(run(&own)?)),
+    }
 }
 
 /// Does something with the causes of a trace. If no run without a reset reports it, that is done
@@ -129,9 +123,10 @@ pub(crate) fn with_causes<T>(
 /// are. If there are none, or one can't be paired, it is done for the whole, unless that can't be.
 pub(crate) fn with_each<T>(
     whole: &View<'_>,
+    is_enough: impl Fn(&Causes<'_>) -> bool,
     mut run: impl FnMut(&Causes<'_>, Option<(usize, usize)>) -> Result<T, Failure>,
 ) -> Result<Result<Vec<T>, Finding>, Failure> {
-    let done = with_causes(whole, |causes| match causes.never() {
+    let done = with_causes(whole, &is_enough, |causes| match causes.never() {
         None => run(causes, None).map(Some),
         Some(_) => Ok(None),
     })?;
@@ -140,17 +135,17 @@ pub(crate) fn with_each<T>(
     }
     let parts = audit::parts(whole)?;
     if !are_paired(&parts)? {
-        return with_causes(whole, |causes| Ok(vec![run(causes, None)?]));
+        return with_causes(whole, is_enough, |causes| Ok(vec![run(causes, None)?]));
     }
     let mut all = Vec::new();
     for ((kept, part), which) in parts.iter().zip(1..) {
         let view = whole.part(part, kept, false);
-        all.extend(with_causes(&view, |causes| run(causes, Some((which, parts.len()))))?.ok());
+        let run = |causes: &Causes<'_>| run(causes, Some((which, parts.len())));
+        all.extend(with_causes(&view, &is_enough, run)?.ok());
     }
     Ok(Ok(all))
 }
 
-/// Returns whether there are parts, and each can be paired.
 fn are_paired(parts: &[(Kept, Trace)]) -> Result<bool, OutOfMemory> {
     for (_, part) in parts {
         if part.pair()?.is_err() {
@@ -174,7 +169,6 @@ impl<'a> Whole<'a> {
         self.told.get(&pid).map_or(&[], |told| told)
     }
 
-    /// Returns the partner of the event at this place, if it is an event.
     fn partner(&self, (pid, index): Place) -> Option<Place> {
         let kind = self.completion.streams().event(pid, index)?.kind;
         match gemshowal::partner_at(self.paired.pairing(), pid, index, kind) {
@@ -190,7 +184,6 @@ impl Causes<'_> {
         self.never
     }
 
-    /// Returns all events that are shown.
     pub(crate) fn streams(&self) -> &Streams {
         self.whole.as_ref().map_or(self.trace().streams(), |whole| whole.completion.streams())
     }
@@ -201,7 +194,6 @@ impl Causes<'_> {
         Ok(paired.order()?.as_ref().to_vec())
     }
 
-    /// Counts the events that were added.
     pub(crate) fn added(&self) -> Added {
         let mut added = Added::default();
         let Some(whole) = &self.whole else { return added };
@@ -221,7 +213,6 @@ impl Causes<'_> {
         Some(self.item((pid, self.view.index(pid, number)?)))
     }
 
-    /// Returns the item of a reported event.
     fn item(&self, (pid, index): Place) -> Item {
         let told =
             self.whole.as_ref().and_then(|whole| whole.told(pid).get(index as usize).copied());
@@ -283,7 +274,6 @@ impl Causes<'_> {
         }
     }
 
-    /// Returns the cause of an event that is shown.
     pub(crate) fn link(&self, item: Item) -> Link {
         let certain = |cause| Link { cause, grade: Grade::Certain };
         let Item::Reported(pid, index) = item else {
@@ -328,7 +318,6 @@ impl Causes<'_> {
         Some(self.event(item)?.label)
     }
 
-    /// Returns the process whose event it is.
     pub(crate) fn actor(&self, item: Item) -> Pid {
         match item {
             Item::Reported(pid, _) => pid,
@@ -336,7 +325,6 @@ impl Causes<'_> {
         }
     }
 
-    /// Returns the name of an event that is shown.
     pub(crate) fn name(&self, item: Item) -> String {
         match item {
             Item::Hidden(pid, index) => {
@@ -372,7 +360,6 @@ impl Causes<'_> {
         self.unlisted().binary_search(&pid).is_ok()
     }
 
-    /// Returns the name of a process.
     pub(crate) fn process(&self, pid: Pid) -> Cow<'_, str> {
         match self.unlisted().binary_search(&pid) {
             Err(_) => self.view.names.process(pid),
@@ -401,7 +388,6 @@ fn hidden(receive: Item) -> Item {
     Item::Hidden(pid, index)
 }
 
-/// Returns the cause of an event of the process in the completed trace.
 fn in_completion(pid: Pid, hop: Hop) -> Cause {
     match hop {
         Hop::Sent(from, index) => Cause::After(Item::Reported(from, index)),

@@ -22,12 +22,10 @@ const NAME: usize = 40;
 /// The most marks of a chart, one for each lane in each row: more would be no text to look at.
 const MOST_MARKS: usize = 100_000_000;
 
-/// An event in a chart.
 pub(crate) struct Row {
     pub(crate) item: Item,
     pub(crate) event: Event,
     pub(crate) link: Link,
-    /// The lane of its process.
     pub(crate) lane: usize,
     /// The lane at the other end of its message: its own lane if a process sends to itself.
     pub(crate) other: Option<usize>,
@@ -56,7 +54,7 @@ pub(crate) fn run(
     };
     let whole = View::whole(&trace, &names);
     let mut charts = Vec::new();
-    let told = with_each(&whole, |causes, part| {
+    let told = with_each(&whole, |_| false, |causes, part| {
         let found = Chart::of(causes, label)?;
         if found.iter().any(Chart::is_long) {
             return Err(Failure::LongChart(input.line_name().into()));
@@ -231,14 +229,12 @@ pub(crate) fn short(text: &str, most: usize) -> String {
     }
 }
 
-/// The charts of a trace, as JSON.
 #[derive(Serialize)]
 struct Told {
     headline: String,
     charts: Vec<Charted>,
 }
 
-/// A chart as JSON.
 #[derive(Serialize)]
 struct Charted {
     /// The part between supposed resets that the chart shows.
@@ -249,7 +245,6 @@ struct Charted {
     rows: Vec<ChartedRow>,
 }
 
-/// An event of a chart as JSON.
 #[derive(Serialize)]
 struct ChartedRow {
     event: String,

@@ -21,7 +21,6 @@ mod failure;
 mod fuzz;
 mod input;
 mod keep;
-mod late;
 mod lint;
 mod list;
 mod moment;
@@ -52,14 +51,12 @@ use std::process::ExitCode;
 /// The status of a command line that isn't understood.
 const USAGE: u8 = 3;
 
-/// An object in place of a result.
 #[derive(Serialize)]
 struct Failed {
     status: u8,
     error: String,
 }
 
-/// Does the command on one input.
 fn run_on(
     command: &Command,
     input: &mut Input,
@@ -110,7 +107,6 @@ fn run_on_path(
     ended
 }
 
-/// Reports a failure as JSON if that is asked for, and returns it.
 fn report(failure: Failure, is_json: bool, out: &mut Output) -> Result<Status, Failure> {
     out.forget();
     if is_json && !matches!(failure, Failure::Unwritten(_)) {

@@ -19,10 +19,8 @@ use std::io::{self, Write};
 /// The greatest number of entries of a table that are printed; as JSON there are all of them.
 const LISTED: usize = 20;
 
-/// The characters of a cell.
 const CELL: usize = 40;
 
-/// The meaning of the times.
 const MEANING: &str =
     "A message takes from its send until its receiver took it: waiting in the mailbox is in that.";
 
@@ -64,7 +62,6 @@ pub(crate) fn run(
     Ok(Status::Yes)
 }
 
-/// The times of all messages and labels.
 #[derive(Serialize)]
 struct Tables {
     #[serde(skip)]
@@ -77,7 +74,6 @@ struct Tables {
     labels: Vec<LabelEntry>,
 }
 
-/// The times that messages of a kind took.
 #[derive(Serialize)]
 struct Entry {
     of: String,
@@ -85,11 +81,9 @@ struct Entry {
     median: i64,
     percent_99: i64,
     greatest: i64,
-    /// The receive of the slowest.
     slowest: String,
 }
 
-/// The time that a label took.
 #[derive(Serialize)]
 struct LabelEntry {
     label: String,
@@ -223,24 +217,21 @@ struct Path {
     steps: Vec<Step>,
 }
 
-/// An event of a path.
 #[derive(Serialize)]
 struct Step {
     event: String,
     what: String,
     /// The time after the step before, if both have a time.
     after: Option<i64>,
-    /// Tells whether that is the way of a message.
     is_way: bool,
     /// Tells whether it isn't sure that it follows the step before.
     is_perhaps: bool,
 }
 
 impl Path {
-    /// Finds the path to the last event of a label with a time.
     fn to_last(whole: &View<'_>, times: &Times, label: Label) -> Result<Option<Path>, Failure> {
         let Some(last) = last_event(whole.trace, times, label) else { return Ok(None) };
-        let paths = with_each(whole, |causes, _| {
+        let paths = with_each(whole, |_| false, |causes, _| {
             Ok(causes.item_at(last).map(|last| Path::to(causes, times, last)))
         })?;
         Ok(paths.unwrap_or_default().into_iter().flatten().next())
@@ -302,7 +293,6 @@ impl Path {
     }
 }
 
-/// Finds the event of a label that has the latest time.
 fn last_event(trace: &Trace, times: &Times, label: Label) -> Option<Place> {
     let places = trace.processes().flat_map(|(pid, events)| {
         let of_label =

@@ -27,7 +27,12 @@ pub(crate) fn run(
     let names = input.names(&trace, notes)?;
     let place = names.find_event(&trace, &args.event)?;
     let whole = View::whole(&trace, &names);
-    let told = with_each(&whole, |causes, part| {
+    // The way back alone needs no completion if each event on it has a cause that was reported.
+    let is_enough = |causes: &Causes<'_>| {
+        let first = causes.item_at(place).filter(|_| !args.effects && !json);
+        first.is_some_and(|item| Way::back(causes, item, args).is_reported())
+    };
+    let told = with_each(&whole, is_enough, |causes, part| {
         let Some(item) = causes.item_at(place) else { return Ok(None) };
         let way = if args.effects {
             Way::forth(causes, item, args)?
@@ -77,6 +82,14 @@ impl Way {
             steps.push(Step { depth: steps.len(), item, link });
         }
         Way { is_back: true, steps }
+    }
+
+    fn is_reported(&self) -> bool {
+        let is_open = |step: &Step| match step.link.cause {
+            Cause::After(Item::Hidden(..)) | Cause::BeginsOrUnreported => true,
+            Cause::After(_) | Cause::OtherLabel(_) | Cause::Begins | Cause::Unknown => false,
+        };
+        !self.steps.iter().any(is_open)
     }
 
     /// Collects the event, and after each event those that follow it.
@@ -206,7 +219,6 @@ fn parent(link: &Link, across: bool) -> Option<Item> {
     }
 }
 
-/// The events that were found, as JSON.
 #[derive(Serialize)]
 pub(crate) struct Told {
     direction: &'static str,
@@ -218,7 +230,6 @@ pub(crate) struct Told {
     rests_on: Vec<&'static str>,
 }
 
-/// An event that was found.
 #[derive(Serialize)]
 struct Found {
     depth: usize,
@@ -273,7 +284,6 @@ impl Found {
     }
 }
 
-/// Returns the word for a cause, and the event that it names.
 fn cause(causes: &Causes<'_>, link: Link) -> (&'static str, Option<String>) {
     match link.cause {
         Cause::After(item) => ("after", Some(causes.name(item))),

@@ -17,13 +17,12 @@ mod work;
 
 use crate::args::{Export, Target};
 use crate::input::Input;
-use crate::late::first_late;
 use crate::names::Names;
 use crate::output::{Notes, Output};
 use crate::reason::Against;
 use crate::view::{Shown, View};
 use crate::{Failure, Status};
-use gemshowal::{Finding, Paired, Trace};
+use gemshowal::{Finding, Never, Paired, Trace};
 use scene::Scene;
 
 /// The greatest number of messages in a drawing that is easily read.
@@ -46,7 +45,8 @@ pub(crate) fn run(
         Err(Finding::Fits(..)) => return Ok(Status::No),
     };
     // The order of all events isn't that of each process then. A graph needs no order.
-    if let Some((pid, index, never)) = first_late(&trace).filter(|_| args.target != Target::Dot) {
+    let refusal = paired.refusal()?.filter(|_| args.target != Target::Dot);
+    if let Some((pid, index, never @ Never::Late(_))) = refusal {
         return Ok(no(Some(Against::by_complete(pid, index, never)), &trace, &names, notes));
     }
     let label = args.label.as_deref().map(|label| names.find_label(&trace, Some(label)));

@@ -36,7 +36,7 @@ pub(crate) fn run(
     let label = args.label.as_deref().map(|label| names.find_label(&trace, Some(label)));
     let label = label.transpose()?;
     let whole = View::whole(&trace, &names);
-    let told = with_causes(&whole, |causes| {
+    let told = with_causes(&whole, |_| false, |causes| {
         let items = causes.order()?;
         let messages = input.messages(|value| names.has_value(value))?;
         let title = input.title();
