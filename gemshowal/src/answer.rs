@@ -2,7 +2,7 @@
 
 use crate::device::Sink;
 use crate::{Act, Completion, Event, Finding, OutOfMemory, Pid, Reason, Text, Trace};
-use std::collections::{BTreeMap, HashSet};
+use std::collections::{BTreeMap, BTreeSet};
 use std::fmt::{self, Display, Formatter};
 use std::io::{self, Write};
 use thiserror::Error;
@@ -120,26 +120,21 @@ impl Trace {
     /// Returns a part of the trace: the events at these rising indices of each process. The part
     /// lists these processes, and those that the events name.
     pub fn part(&self, kept: &BTreeMap<Pid, Vec<u64>>) -> Result<Trace, OutOfMemory> {
-        let places = kept.iter().flat_map(|(&pid, indices)| indices.iter().map(move |&i| (pid, i)));
-        let event = |(pid, index): (Pid, u64)| Some((pid, self.streams().event(pid, index)?));
-        let events: Vec<(Pid, Event)> = places.filter_map(event).collect();
-        let mut named: HashSet<Pid> = kept.keys().copied().collect();
-        for (_, event) in &events {
-            named.insert(event.from);
-            named.extend(event.to);
+        let events = || {
+            kept.iter().flat_map(|(&pid, indices)| {
+                let own = self.streams().events(pid);
+                indices.iter().filter_map(move |&index| Some((pid, own.get(index as usize)?)))
+            })
+        };
+        let mut listed: BTreeSet<Pid> = kept.keys().copied().collect();
+        for (pid, event) in events() {
+            listed.extend([Some(event.from), event.to].into_iter().flatten().filter(|&it| it != pid));
         }
-        let mut listed: Vec<Pid> = named.into_iter().collect();
-        listed.sort_unstable();
-        Trace::of_events(listed, &events)
-    }
-
-    /// Returns the trace of these events, whose processes rise and include all that an event names.
-    fn of_events(listed: Vec<Pid>, events: &[(Pid, Event)]) -> Result<Trace, OutOfMemory> {
         let mut draft = st_core::Draft::new(crate::Global);
         for pid in listed {
             draft.open(pid).map_err(|_| OutOfMemory)?;
         }
-        for &(pid, event) in events {
+        for (pid, &event) in events() {
             draft.add(pid, event).map_err(|_| OutOfMemory)?;
         }
         draft.close().map(Trace::of_streams).map_err(|_| OutOfMemory)

@@ -17,8 +17,8 @@ pub(crate) fn run(
     let names = input.names(&trace, notes)?;
     let filter = args.conditions.filter(&trace, &names)?;
     let mut kept = Kept::new();
-    for row in trace.list(&filter)?.as_ref() {
-        kept.entry(row.pid).or_default().push(row.index);
+    for rows in trace.list(&filter)?.as_ref().chunk_by(|one, other| one.pid == other.pid) {
+        kept.insert(rows[0].pid, rows.iter().map(|row| row.index).collect());
     }
     gemshowal::write_streams(out, trace.part(&kept)?.streams())?;
     let number: usize = kept.values().map(Vec::len).sum();

@@ -2,14 +2,12 @@
 
 use crate::args::List;
 use crate::input::Input;
-use crate::names::Names;
-use crate::object::{kind_word, Fields, Number, Place, Sequence};
+use crate::names::{Line, Names};
+use crate::object::{Fields, Number, Place, Sequence};
 use crate::output::{Notes, Output};
 use crate::{Failure, Status};
-use gemshowal::{Kind, Pairing, Partner, Pid, Row, Text};
+use gemshowal::{Kind, Pairing, Partner, Row};
 use serde::Serialize;
-use std::fmt::{self, Display, Formatter};
-use std::io::{self, Write};
 
 pub(crate) fn run(
     args: &List,
@@ -32,7 +30,8 @@ pub(crate) fn run(
         write_object(rows, pairing.as_ref(), &names, out)?;
     } else {
         for row in rows {
-            write_row(out, row, partner(pairing.as_ref(), row), &names)?;
+            let partner = partner(pairing.as_ref(), row);
+            out.put(|line| put_row(line, row, partner, &names))?;
         }
     }
     Ok(Status::Yes)
@@ -42,41 +41,29 @@ fn partner(pairing: Option<&Pairing>, row: &Row) -> Partner {
     pairing.map_or(Partner::Nobody, |pairing| gemshowal::partner(pairing, row))
 }
 
-fn write_row(out: &mut Output, row: &Row, partner: Partner, names: &Names) -> io::Result<()> {
+fn put_row(line: &mut Line<'_>, row: &Row, partner: Partner, names: &Names) {
     let event = &row.event;
-    let (kind, serial) = (kind_word(event.kind), Text(event.serial));
-    let process = |pid| Called(names, pid);
-    write!(out, "{}: {}#{}  {kind:<8} ", row.line, process(row.pid), row.index)?;
-    if names.has_terms() {
-        write!(out, "{} {serial} {}", names.label(event.label), names.brief(event.value))?;
-    } else {
-        write!(out, "{} {serial} value {}", event.label.0, event.value)?;
-    }
+    line.number(row.line).text(": ").event(names, (row.pid, row.index));
+    line.text(match event.kind {
+        Kind::Send => "  send     ",
+        Kind::Receive => "  receive  ",
+        Kind::Print => "  print    ",
+    });
+    line.label(names, event.label).text(" ").serial(event.serial).text(" ");
+    line.brief(names, event.value);
     match (event.kind, event.to) {
-        (Kind::Send, Some(to)) => write!(out, " to {}", process(to))?,
-        (Kind::Receive, _) => write!(out, " from {}", process(event.from))?,
-        _ => {}
-    }
+        (Kind::Send, Some(to)) => line.text(" to ").process(names, to),
+        (Kind::Receive, _) => line.text(" from ").process(names, event.from),
+        _ => line.text(""),
+    };
     match partner {
-        Partner::Receive(pid, index) => writeln!(out, ", received as {}#{index}", process(pid)),
-        Partner::Send(pid, index) => writeln!(out, ", sent as {}#{index}", process(pid)),
-        Partner::NoReceive => writeln!(out, ", no receive reported"),
-        Partner::NoSend => writeln!(out, ", its send wasn't reported"),
-        Partner::Nobody => writeln!(out),
-    }
-}
-
-/// The name of a process, displayed without a copy: there may be millions of rows.
-struct Called<'a>(&'a Names, Pid);
-
-impl Display for Called<'_> {
-    fn fmt(&self, f: &mut Formatter<'_>) -> fmt::Result {
-        if self.0.has_terms() {
-            f.write_str(&self.0.process(self.1))
-        } else {
-            Text(self.1).fmt(f)
-        }
-    }
+        Partner::Receive(pid, index) => line.text(", received as ").event(names, (pid, index)),
+        Partner::Send(pid, index) => line.text(", sent as ").event(names, (pid, index)),
+        Partner::NoReceive => line.text(", no receive reported"),
+        Partner::NoSend => line.text(", its send wasn't reported"),
+        Partner::Nobody => line.text(""),
+    };
+    line.text("\n");
 }
 
 /// The events for programs.

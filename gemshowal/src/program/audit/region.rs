@@ -37,7 +37,6 @@ pub(super) fn kept(region: &Region, view: &View<'_>, name: &str) -> Result<Optio
     Ok(Some(kept))
 }
 
-/// Returns whether an event has a time within the bounds.
 fn is_within(region: &Region, times: &Times, place: (Pid, u64)) -> bool {
     let seconds = times.of_event(place).map(|time| time as f64 / 1e9);
     seconds.is_some_and(|seconds| {
@@ -67,16 +66,20 @@ pub(super) fn note(view: &View<'_>, kept: &Kept) -> Result<String, OutOfMemory> 
 /// Counts the receives and sends whose other end is cut off, if the trace can be paired.
 pub(crate) fn open(view: &View<'_>, kept: &Kept) -> Result<Option<[u64; 2]>, OutOfMemory> {
     let Ok(pairing) = view.trace.pair()? else { return Ok(None) };
-    let is_kept =
-        |pid: Pid, index: u64| kept.get(&pid).is_some_and(|own| own.binary_search(&index).is_ok());
-    let places = kept.iter().flat_map(|(&pid, own)| own.iter().map(move |&index| (pid, index)));
+    let is_all = |own: &Vec<u64>, index: u64| own.get(index as usize) == Some(&index);
+    let is_cut = |pid: Pid, index: u64| {
+        let own = kept.get(&pid);
+        own.is_none_or(|own| !is_all(own, index) && own.binary_search(&index).is_err())
+    };
     let mut open = [0, 0];
-    for (pid, index) in places {
-        let Some(event) = view.trace.streams().event(pid, index) else { continue };
-        match gemshowal::partner_at(&pairing, pid, index, event.kind) {
-            Partner::Send(pid, index) if !is_kept(pid, index) => open[0] += 1,
-            Partner::Receive(pid, index) if !is_kept(pid, index) => open[1] += 1,
-            _ => {}
+    for (&pid, own) in kept {
+        let events = view.trace.streams().events(pid);
+        for (index, event) in own.iter().filter_map(|&at| Some((at, events.get(at as usize)?))) {
+            match gemshowal::partner_at(&pairing, pid, index, event.kind) {
+                Partner::Send(pid, index) => open[0] += u64::from(is_cut(pid, index)),
+                Partner::Receive(pid, index) => open[1] += u64::from(is_cut(pid, index)),
+                _ => {}
+            }
         }
     }
     Ok(Some(open))

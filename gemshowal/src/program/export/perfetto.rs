@@ -7,16 +7,15 @@
 use super::calls::Calls;
 use super::clock::Clock;
 use super::kind;
-use super::scene::{Place, Scene};
+use super::scene::{short, Place, Scene};
 use super::work::Works;
+use crate::names::Line;
 use crate::object::kind_word;
 use crate::output::Output;
 use crate::Failure;
-use gemshowal::{Event, Partner, Pid, Serial, Text};
-use serde::Serialize;
-use std::borrow::Cow;
-use std::collections::BTreeMap;
-use std::io::Write;
+use gemshowal::{Event, Partner, Pid};
+use std::collections::{BTreeMap, BTreeSet};
+use std::io::{self, Write};
 
 /// The part of a unit by which the slice of a work begins before its first event and ends after its
 /// last one, and that of a call. An event takes half a unit or more, and the next comes a unit
@@ -28,29 +27,25 @@ const AROUND_CALL: f64 = 0.1;
 const LONGEST: f64 = 1_000.0;
 
 pub(super) fn write(scene: &Scene<'_>, out: &mut Output) -> Result<(), Failure> {
-    let clock = Clock::of(scene)?;
     let calls = Calls::of(scene);
     let works = Works::of(scene, &calls);
     let mut of_process = BTreeMap::<Pid, Vec<(u64, u64)>>::new();
     for (request, reply) in calls.all() {
         of_process.entry(request.0).or_default().push((request.1, reply.1));
     }
-    let mut writer = Writer { scene, clock, out, line: Vec::new() };
-    writeln!(writer.out, "{{\"displayTimeUnit\":\"ns\",\"traceEvents\":[")?;
+    let writer = Writer::new(scene, Clock::of(scene)?);
+    out.write_all(b"{\"displayTimeUnit\":\"ns\",\"traceEvents\":[")?;
     let lanes = (1..).zip(scene.trace.processes().filter(|(_, events)| !events.is_empty()));
-    let mut nodes = BTreeMap::new();
+    let mut nodes = BTreeSet::new();
     for (thread, (pid, events)) in lanes {
-        let node = nodes.entry(pid.node()).or_insert(None);
-        if node.replace(thread).is_none() {
-            writer.write_node(pid)?;
+        let comma = if nodes.is_empty() { "\n" } else { ",\n" };
+        if nodes.insert(pid.node()) {
+            out.put(|line| writer.put_node(line.text(comma), pid))?;
         }
         let calls = of_process.remove(&pid).unwrap_or_default();
-        let lane = Lane { pid, thread };
-        writer.write_process(lane, events, enclosing(&works, pid, calls))?;
+        writer.write_process(out, Lane { pid, thread }, events, enclosing(&works, pid, calls))?;
     }
-    writer.out.write_all(&writer.line)?;
-    writeln!(writer.out, "\n]}}")?;
-    Ok(())
+    Ok(out.write_all(b"\n]}\n")?)
 }
 
 /// A process, and the number of its thread.
@@ -85,55 +80,74 @@ fn enclosing(works: &Works, pid: Pid, calls: Vec<(u64, u64)>) -> Vec<Enclosing> 
     all
 }
 
+/// A time and a length, in units of the clock.
+type Span = (f64, f64);
+
 struct Writer<'a> {
     scene: &'a Scene<'a>,
     clock: Clock,
-    out: &'a mut Output,
-    /// The trace event before, which isn't written yet.
-    line: Vec<u8>,
+    /// The names of the processes by their places, as JSON but for the last quote.
+    quoted: Vec<String>,
 }
 
 impl Writer<'_> {
-    /// Writes a trace event on a line.
-    fn write(&mut self, event: &impl Serialize) -> Result<(), Failure> {
-        if !self.line.is_empty() {
-            self.line.extend_from_slice(b",\n");
-            self.out.write_all(&self.line)?;
-            self.line.clear();
-        }
-        Ok(serde_json::to_writer(&mut self.line, event)?)
+    fn new<'a>(scene: &'a Scene<'a>, clock: Clock) -> Writer<'a> {
+        let quoted = |&pid: &Pid| {
+            let mut quoted = serde_json::Value::from(scene.names.process(pid)).to_string();
+            quoted.pop();
+            quoted
+        };
+        Writer { scene, clock, quoted: scene.trace.streams().pids().iter().map(quoted).collect() }
     }
 
-    /// Writes the name of the node of a process.
-    fn write_node(&mut self, pid: Pid) -> Result<(), Failure> {
+    /// Appends the name of a process without the last quote, so that more may come.
+    fn put_process(&self, line: &mut Line<'_>, pid: Pid) {
+        let place = self.scene.trace.streams().place_of(pid);
+        match place.and_then(|place| self.quoted.get(place)) {
+            Some(quoted) => line.text(quoted),
+            None => line.text("\"").process(self.scene.names, pid),
+        };
+    }
+
+    fn put_node(&self, line: &mut Line<'_>, pid: Pid) {
         let node = self.scene.names.about(pid).and_then(|about| about.split_once(" of node "));
         let name = node.and_then(|(_, rest)| rest.split([',', ' ']).next());
         let name = name.map_or_else(|| format!("node {}", pid.node()), str::to_owned);
-        self.write(&Named::new("process_name", process(pid), None, &name))
+        line.text("{\"ph\":\"M\",\"name\":\"process_name\",\"pid\":").number(process(pid));
+        line.text(",\"args\":{\"name\":").string(&name).text("}}");
     }
 
     fn write_process(
-        &mut self,
+        &self,
+        out: &mut Output,
         lane: Lane,
         events: &[Event],
         enclosing: Vec<Enclosing>,
-    ) -> Result<(), Failure> {
-        let name = self.scene.names.process(lane.pid);
-        self.write(&Named::new("thread_name", process(lane.pid), Some(lane.thread), &name))?;
+    ) -> io::Result<()> {
+        out.put(|line| {
+            line.text(",\n{\"ph\":\"M\",\"name\":\"thread_name\"");
+            put_lane(line, lane);
+            line.text(",\"args\":{\"name\":");
+            self.put_process(line, lane.pid);
+            line.text("\"}}");
+        })?;
         let mut enclosing = enclosing.into_iter().peekable();
         for (index, event) in (0..).zip(events) {
             while let Some(slice) = enclosing.next_if(|slice| slice.first == index) {
-                self.write_enclosing(lane, slice, event)?;
+                out.put(|line| self.put_enclosing(line, lane, slice, event))?;
             }
-            if let Some((ts, dur)) = self.span((lane.pid, index)) {
-                self.write_event(lane, (lane.pid, index), event, ts, dur)?;
+            if let Some(span) = self.span((lane.pid, index)) {
+                out.put(|line| {
+                    self.put_event(line, lane, (lane.pid, index), event, span);
+                    self.put_flow(line, lane, (lane.pid, index), event, span.0);
+                })?;
             }
         }
         Ok(())
     }
 
-    /// Returns the begin and the length of an event's slice, in units of the clock.
-    fn span(&self, (pid, index): Place) -> Option<(f64, f64)> {
+    /// Returns the begin and the length of an event's slice.
+    fn span(&self, (pid, index): Place) -> Option<Span> {
         let at = |index| self.clock.at(self.scene, (pid, index));
         let time = at(index)?;
         let gap = at(index + 1).map_or(LONGEST, |next| (next - time) as f64 / 2.0);
@@ -141,165 +155,114 @@ impl Writer<'_> {
         Some((time as f64, gap.clamp(0.5, longest)))
     }
 
-    /// Writes a slice around events.
-    fn write_enclosing(
-        &mut self,
-        lane: Lane,
-        slice: Enclosing,
-        event: &Event,
-    ) -> Result<(), Failure> {
-        let around = if slice.is_call { AROUND_CALL } else { AROUND_WORK };
+    fn put_enclosing(&self, line: &mut Line<'_>, lane: Lane, slice: Enclosing, event: &Event) {
+        let (around, cat) =
+            if slice.is_call { (AROUND_CALL, "call") } else { (AROUND_WORK, "work") };
         let first = self.span((lane.pid, slice.first));
         let last = (slice.first..=slice.last).rev().find_map(|it| self.span((lane.pid, it)));
-        let Some(((start, _), (end, len))) = first.zip(last) else { return Ok(()) };
+        let Some(((start, _), (end, len))) = first.zip(last) else { return };
         let name = match slice.is_call {
             true => kind::sent(self.scene, event.value),
             false => kind::handled(self.scene, event.value),
         };
-        self.write(&Slice {
-            ph: "X",
-            name,
-            cat: if slice.is_call { "call" } else { "work" },
-            pid: process(lane.pid),
-            tid: lane.thread,
-            ts: self.micros(start - around),
-            dur: self.micros(end + len - start + 2.0 * around),
-            args: Args { event: self.scene.name((lane.pid, slice.first)), ..Args::default() },
-        })
+        line.text(",\n{\"ph\":\"X\",\"name\":").string(&name);
+        line.text(",\"cat\":\"").text(cat).text("\"");
+        put_lane(line, lane);
+        self.put_span(line, (start - around, end + len - start + 2.0 * around));
+        line.text(",\"args\":{\"event\":");
+        self.put_process(line, lane.pid);
+        line.text("#").number(slice.first).text("\"}}");
     }
 
-    /// Writes the slice of an event, and its end of the flow.
-    fn write_event(
-        &mut self,
+    /// Appends the slice of an event, with what else the trace tells of it. A reader of JSON may
+    /// round numbers, so they are strings.
+    fn put_event(
+        &self,
+        line: &mut Line<'_>,
         lane: Lane,
         place: Place,
         event: &Event,
-        ts: f64,
-        dur: f64,
-    ) -> Result<(), Failure> {
-        let (kind, scene) = (kind_word(event.kind), self.scene);
-        let message = match scene.has_terms() {
-            true => super::scene::short(&scene.names.brief(event.value)),
-            false => event.value.to_string(),
-        };
-        self.write(&Slice {
-            ph: "X",
-            name: format!("{kind} {message}"),
-            cat: kind,
-            pid: process(lane.pid),
-            tid: lane.thread,
-            ts: self.micros(ts),
-            dur: self.micros(dur),
-            args: args(scene, place, event),
-        })?;
-        let has_other_end = |other| self.clock.at(scene, other).is_some();
-        let (ph, sent) = match scene.partner(place, event) {
-            Partner::Receive(pid, index) if has_other_end((pid, index)) => ("s", place),
-            Partner::Send(pid, index) if has_other_end((pid, index)) => ("f", (pid, index)),
-            _ => return Ok(()),
-        };
-        let bp = (ph == "f").then_some("e");
-        let (pid, tid, ts) = (process(lane.pid), lane.thread, self.micros(ts));
-        let id = scene.number(sent);
-        self.write(&Flow { ph, name: "message", cat: "message", id, pid, tid, ts, bp })
+        span: Span,
+    ) {
+        let (kind, names) = (kind_word(event.kind), self.scene.names);
+        let has_terms = self.scene.has_terms();
+        line.text(",\n{\"ph\":\"X\",\"name\":");
+        if has_terms {
+            line.string(&format!("{kind} {}", short(&names.brief(event.value))));
+        } else {
+            line.text("\"").text(kind).text(" ").number(event.value).text("\"");
+        }
+        line.text(",\"cat\":\"").text(kind).text("\"");
+        put_lane(line, lane);
+        self.put_span(line, span);
+        line.text(",\"args\":{\"event\":");
+        self.put_process(line, place.0);
+        line.text("#").number(place.1).text("\",\"label\":").string(&names.label(event.label));
+        line.text(",\"serial\":\"").serial(event.serial);
+        line.text("\",\"value\":\"").number(event.value).text("\"");
+        if has_terms {
+            line.text(",\"message\":").string(&names.value(event.value));
+        }
+        if let Some(to) = event.to {
+            line.text(",\"from\":");
+            self.put_process(line, event.from);
+            line.text("\",\"to\":");
+            self.put_process(line, to);
+            line.text("\"");
+        }
+        line.text(match self.scene.partner(place, event) {
+            Partner::NoReceive => ",\"receive\":\"not reported\"}}",
+            Partner::NoSend => ",\"send\":\"not reported\"}}",
+            _ => "}}",
+        });
     }
 
-    /// Converts a time to microseconds.
-    fn micros(&self, time: f64) -> f64 {
-        // A unit of ranks is shown as a microsecond.
+    /// Appends an end of the arrow of a message, if both ends are drawn.
+    fn put_flow(&self, line: &mut Line<'_>, lane: Lane, place: Place, event: &Event, time: f64) {
+        let has_time = |other| self.clock.at(self.scene, other).is_some();
+        let (phase, sent, end) = match self.scene.partner(place, event) {
+            Partner::Receive(pid, index) if has_time((pid, index)) => ("s", place, "}"),
+            Partner::Send(pid, index) if has_time((pid, index)) => {
+                ("f", (pid, index), ",\"bp\":\"e\"}")
+            }
+            _ => return,
+        };
+        line.text(",\n{\"ph\":\"").text(phase);
+        line.text("\",\"name\":\"message\",\"cat\":\"message\",\"id\":");
+        line.number(self.scene.number(sent).unwrap_or_default() as u64);
+        put_lane(line, lane);
+        line.text(",\"ts\":");
+        self.put_micros(line, time);
+        line.text(end);
+    }
+
+    fn put_span(&self, line: &mut Line<'_>, (start, len): Span) {
+        line.text(",\"ts\":");
+        self.put_micros(line, start);
+        line.text(",\"dur\":");
+        self.put_micros(line, len);
+    }
+
+    /// Appends a time in microseconds, with up to four decimals. A unit of ranks is shown as a
+    /// microsecond.
+    fn put_micros(&self, line: &mut Line<'_>, time: f64) {
         let micros = if self.clock.is_measured { time / 1_000.0 } else { time };
-        (micros * 10_000.0).round() / 10_000.0
+        let parts = (micros * 10_000.0).round() as i64;
+        let (whole, rest) = (parts.unsigned_abs() / 10_000, parts.unsigned_abs() % 10_000);
+        let decimals = [rest / 1_000, rest / 100 % 10, rest / 10 % 10, rest % 10];
+        let shown = decimals.iter().rposition(|&decimal| decimal > 0).unwrap_or(0);
+        line.text(if parts < 0 { "-" } else { "" }).number(whole).text(".");
+        for &decimal in decimals.iter().take(shown + 1) {
+            line.number(decimal);
+        }
     }
 }
 
-/// Returns what else the trace tells of an event. A reader of JSON may round numbers, so they are
-/// strings.
-fn args<'a>(scene: &'a Scene<'_>, place: Place, event: &Event) -> Args<'a> {
-    let (names, partner) = (scene.names, scene.partner(place, event));
-    Args {
-        event: scene.name(place),
-        label: Some(names.label(event.label)),
-        serial: Some(Text(event.serial)),
-        value: Some(event.value.to_string()),
-        message: scene.has_terms().then(|| names.value(event.value)),
-        from: event.to.map(|_| names.process(event.from)),
-        to: event.to.map(|to| names.process(to)),
-        receive: matches!(partner, Partner::NoReceive).then_some("not reported"),
-        send: matches!(partner, Partner::NoSend).then_some("not reported"),
-    }
+fn put_lane(line: &mut Line<'_>, lane: Lane) {
+    line.text(",\"pid\":").number(process(lane.pid)).text(",\"tid\":").number(lane.thread);
 }
 
 /// Returns the number of a process of Perfetto's, which a node is.
 fn process(pid: Pid) -> u64 {
     u64::from(pid.node()) + 1
-}
-
-/// The name of a process or a thread.
-#[derive(Serialize)]
-struct Named<'a> {
-    ph: &'static str,
-    name: &'static str,
-    pid: u64,
-    #[serde(skip_serializing_if = "Option::is_none")]
-    tid: Option<u64>,
-    args: Name<'a>,
-}
-
-#[derive(Serialize)]
-struct Name<'a> {
-    name: &'a str,
-}
-
-impl<'a> Named<'a> {
-    fn new(of: &'static str, pid: u64, tid: Option<u64>, name: &'a str) -> Named<'a> {
-        Named { ph: "M", name: of, pid, tid, args: Name { name } }
-    }
-}
-
-#[derive(Serialize)]
-struct Slice<'a> {
-    ph: &'static str,
-    name: String,
-    cat: &'static str,
-    pid: u64,
-    tid: u64,
-    ts: f64,
-    dur: f64,
-    args: Args<'a>,
-}
-
-/// The fields of an event; of a slice around several, the name of the first one alone.
-#[derive(Default, Serialize)]
-struct Args<'a> {
-    event: String,
-    #[serde(skip_serializing_if = "Option::is_none")]
-    label: Option<Cow<'a, str>>,
-    #[serde(skip_serializing_if = "Option::is_none")]
-    serial: Option<Text<Serial>>,
-    #[serde(skip_serializing_if = "Option::is_none")]
-    value: Option<String>,
-    #[serde(skip_serializing_if = "Option::is_none")]
-    message: Option<Cow<'a, str>>,
-    #[serde(skip_serializing_if = "Option::is_none")]
-    from: Option<Cow<'a, str>>,
-    #[serde(skip_serializing_if = "Option::is_none")]
-    to: Option<Cow<'a, str>>,
-    #[serde(skip_serializing_if = "Option::is_none")]
-    receive: Option<&'static str>,
-    #[serde(skip_serializing_if = "Option::is_none")]
-    send: Option<&'static str>,
-}
-
-/// An end of the arrow of a message.
-#[derive(Serialize)]
-struct Flow {
-    ph: &'static str,
-    name: &'static str,
-    cat: &'static str,
-    id: Option<usize>,
-    pid: u64,
-    tid: u64,
-    ts: f64,
-    #[serde(skip_serializing_if = "Option::is_none")]
-    bp: Option<&'static str>,
 }

@@ -43,12 +43,10 @@ fn spawned(inside: &str) -> Option<&str> {
     after_reference(inside.strip_prefix("spawn_reply,")?)?.strip_prefix(",ok,")
 }
 
-/// Returns what follows a word and a comma.
 fn after_comma(text: &str) -> Option<&str> {
     Some(text.split_once(',')?.1)
 }
 
-/// Returns what follows a reference, `#Ref<0.1.2.3>`.
 fn after_reference(text: &str) -> Option<&str> {
     let (numbers, rest) = text.strip_prefix("#Ref<")?.split_once('>')?;
     numbers.bytes().all(|byte| byte.is_ascii_digit() || byte == b'.').then_some(rest)

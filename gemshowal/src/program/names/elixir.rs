@@ -7,7 +7,6 @@
 /// The beginning of the name of an Elixir module in Erlang.
 const MODULE: &str = "'Elixir.";
 
-/// A word of a term.
 #[derive(Clone, Copy, Debug, PartialEq, Eq)]
 enum Word<'a> {
     /// A map of a struct of this name, up to its first field.
@@ -35,7 +34,6 @@ pub(super) fn is_elixir(text: &str) -> bool {
     text.contains(MODULE)
 }
 
-/// Returns the name of a process, with modules as Elixir writes them.
 pub(super) fn name(name: &str) -> String {
     let mut named = String::with_capacity(name.len());
     let mut rest = name;
@@ -48,7 +46,6 @@ pub(super) fn name(name: &str) -> String {
     named + rest
 }
 
-/// Returns the text of a term as Elixir writes it.
 pub(super) fn text(term: &str) -> String {
     let mut written = String::with_capacity(term.len());
     let mut rest = term;

@@ -11,7 +11,6 @@ pub(crate) enum Fault {
     /// The system doesn't give the file's bytes.
     #[error("{} can't be read: {reason}", .file.display())]
     Unread { file: PathBuf, reason: io::Error },
-    /// A line has no form that the file may have.
     #[error("{}, line {line}, isn't {wanted}; convert it anew", .file.display())]
     Wrong { file: PathBuf, line: usize, wanted: &'static str },
 }

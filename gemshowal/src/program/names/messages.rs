@@ -10,7 +10,6 @@ use std::path::Path;
 
 const HEADER: &str = "seqaudit messages 1";
 
-/// The whole texts.
 #[derive(Debug, Default)]
 pub(crate) struct Messages(HashMap<u64, String>);
 

@@ -10,6 +10,7 @@ mod elixir;
 mod entry;
 mod facts;
 mod kinds;
+mod line;
 mod messages;
 mod shown;
 mod terms;
@@ -17,6 +18,7 @@ mod times;
 mod which;
 
 pub(crate) use entry::Fault;
+pub(crate) use line::Line;
 pub(crate) use messages::Messages;
 pub(crate) use times::Times;
 pub(crate) use which::NotFound;
@@ -28,7 +30,6 @@ use std::borrow::Cow;
 use std::path::{Path, PathBuf};
 use terms::Terms;
 
-/// The extension of a trace's text.
 const TRACE: &str = "seqtrace";
 
 /// Returns the file that a word of the command line names: `NAME.seqtrace` if there is one, else
@@ -50,7 +51,6 @@ fn with_extension(name: &Path, extension: &str) -> PathBuf {
     file.into()
 }
 
-/// The names, times and facts of a trace.
 #[derive(Debug, Default)]
 pub(crate) struct Names {
     terms: Terms,
@@ -94,12 +94,10 @@ impl Names {
         named(self.terms.process(pid).map(|process| &*process.name), || Text(pid).to_string())
     }
 
-    /// Returns all that is known of a process, if that is anything.
     pub(crate) fn about(&self, pid: Pid) -> Option<&str> {
         self.terms.process(pid).map(|process| &*process.about)
     }
 
-    /// Returns the term of a label, or its number if it has none.
     pub(crate) fn label(&self, label: Label) -> Cow<'_, str> {
         named(self.terms.label(label), || label.0.to_string())
     }
@@ -112,7 +110,6 @@ impl Names {
         }
     }
 
-    /// Returns the term as its language writes it.
     fn shown<'a>(&self, term: &'a str) -> Cow<'a, str> {
         if self.terms.are_elixir() {
             elixir::text(term).into()
@@ -121,7 +118,6 @@ impl Names {
         }
     }
 
-    /// Returns whether a message has a term.
     pub(crate) fn has_value(&self, value: u64) -> bool {
         self.terms.value(value).is_some()
     }

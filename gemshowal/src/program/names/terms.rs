@@ -10,14 +10,12 @@ use std::path::Path;
 
 const HEADER: &str = "seqaudit terms 1";
 
-/// A process, as the file calls it.
 #[derive(Debug)]
 pub(super) struct Process {
     pub(super) name: Box<str>,
     pub(super) about: Box<str>,
 }
 
-/// The entries of the file.
 #[derive(Debug, Default)]
 pub(super) struct Terms {
     processes: HashMap<Pid, Process>,
@@ -65,7 +63,6 @@ impl Terms {
         (is_new && parts.next().is_none()).then_some(())
     }
 
-    /// Returns a name as the language of the terms writes it.
     fn name(&self, name: &str) -> Box<str> {
         if self.are_elixir {
             elixir::name(name).into()
@@ -80,7 +77,6 @@ impl Terms {
         self.are_elixir
     }
 
-    /// Returns whether nothing has a name.
     pub(super) fn is_empty(&self) -> bool {
         self.processes.is_empty() && self.labels.is_empty() && self.values.is_empty()
     }
@@ -97,7 +93,6 @@ impl Terms {
         self.values.get(&value).map(|term| &**term)
     }
 
-    /// Returns the processes of this name, by rising pid.
     pub(super) fn processes_of(&self, name: &str) -> Vec<Pid> {
         let named = self.processes.iter().filter(|(_, process)| &*process.name == name);
         let mut pids: Vec<Pid> = named.map(|(&pid, _)| pid).collect();

@@ -21,7 +21,6 @@ pub(crate) type Place = (Pid, u64);
 /// Nanoseconds.
 pub(crate) type Time = i64;
 
-/// The times of events and of messages.
 #[derive(Debug, Default)]
 pub(crate) struct Times {
     begin: Time,
@@ -94,7 +93,6 @@ impl Times {
         self.events.get(&place).copied()
     }
 
-    /// Counts the events that have a time.
     pub(crate) fn count(&self) -> usize {
         self.events.len()
     }
@@ -111,7 +109,6 @@ impl Times {
     }
 }
 
-/// Returns whether these are the two ends of a message.
 fn are_ends(send: &Event, receive: &Event) -> bool {
     send.kind == Kind::Send
         && receive.kind == Kind::Receive

@@ -9,7 +9,6 @@ use thiserror::Error;
 /// The greatest number of names that are listed if none is the one that was meant.
 const LISTED: usize = 20;
 
-/// The reason why no event or label was found.
 #[derive(Debug, Error)]
 pub(crate) enum NotFound {
     #[error(
@@ -64,7 +63,6 @@ impl Names {
         Err(NotFound::NoEvent(process.into(), index, has))
     }
 
-    /// Finds the process of this name or pid.
     pub(crate) fn find_process(&self, trace: &Trace, word: &str) -> Result<Pid, NotFound> {
         let listed = trace.streams().pids();
         let named = self.terms.processes_of(word);
