@@ -27,7 +27,6 @@ pub(crate) fn run(json: bool, input: &mut Input, out: &mut Output) -> Result<Sta
     Ok(if is_yes { Status::Yes } else { Status::No })
 }
 
-/// Returns the sentence of a no, with the line of the text.
 fn against(trace: &Trace, verdict: &Verdict) -> Result<String, OutOfMemory> {
     Ok(match *verdict {
         Verdict::Yes(_) => String::new(),
@@ -42,7 +41,6 @@ fn against(trace: &Trace, verdict: &Verdict) -> Result<String, OutOfMemory> {
     })
 }
 
-/// Describes the act of this number, with its line.
 fn act(trace: &Trace, number: u64) -> Result<String, OutOfMemory> {
     let line = trace.lines()?.act_line(number);
     let line = line.map(|line| format!("line {line}, ")).unwrap_or_default();
@@ -51,7 +49,6 @@ fn act(trace: &Trace, number: u64) -> Result<String, OutOfMemory> {
     Ok(format!("{line}act {number}{act}"))
 }
 
-/// A verdict for programs.
 #[derive(Default, Serialize)]
 struct Judged<'a> {
     #[serde(skip_serializing_if = "Option::is_none")]

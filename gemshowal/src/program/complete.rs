@@ -64,7 +64,6 @@ fn write_never(
     Ok(against.write_details(shown, out)?)
 }
 
-/// Writes the text of a completion, or of acts that show it.
 fn write_text(
     form: Form,
     trace: &Trace,
@@ -88,7 +87,6 @@ fn write_text(
     Ok(Status::Yes)
 }
 
-/// Writes the added events, in sentences.
 fn write_added(
     completion: &Completion,
     shown: &Shown<'_>,
@@ -115,7 +113,6 @@ fn write_added(
     Ok(())
 }
 
-/// The events that a completion adds.
 #[derive(Serialize)]
 #[serde(bound = "")]
 struct Completed<F, I>
@@ -129,7 +126,6 @@ where
     events: Sequence<F>,
 }
 
-/// An added event.
 #[derive(Serialize)]
 struct Added {
     #[serde(flatten)]

@@ -33,7 +33,6 @@ pub(crate) struct LabelTime {
     pub(crate) label: Label,
     pub(crate) events: usize,
     pub(crate) took: i64,
-    /// The time of its first event.
     pub(crate) first: i64,
 }
 
@@ -73,7 +72,6 @@ pub(crate) fn by_processes(trace: &Trace, names: &Names, times: &Times) -> Vec<D
     by(trace, times, |event| format!("{} -> {}", names.process(event.from), to(event)))
 }
 
-/// Sums up the messages by kind.
 pub(crate) fn by_kind(trace: &Trace, names: &Names, times: &Times) -> Vec<Durations> {
     by(trace, times, |event| kind(&names.brief(event.value)))
 }
@@ -167,7 +165,6 @@ fn function(module: &str, rest: &str) -> Option<String> {
     Some(format!("{module}:{name}/{arity}"))
 }
 
-/// Returns an atom at the beginning of a text, and the rest.
 fn atom(text: &str) -> Option<(&str, &str)> {
     let end = if text.starts_with('\'') {
         let mut is_escaped = false;

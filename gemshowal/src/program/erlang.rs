@@ -7,7 +7,6 @@ use std::os::unix::process::CommandExt;
 use std::path::PathBuf;
 use std::process::Command;
 
-/// The command of the application.
 const PROGRAM: &str = "seqaudit-node";
 
 /// Runs the application's command in place of this program. Returns the status only if there is

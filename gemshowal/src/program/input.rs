@@ -46,7 +46,6 @@ impl Input {
         Ok(Input { name, path, file: Some(again), reader, counter })
     }
 
-    /// Makes an input of these bytes, as standard input gives them.
     #[cfg(test)]
     pub(crate) fn of_bytes(bytes: &[u8]) -> Input {
         Input {
@@ -95,7 +94,6 @@ impl Input {
         (is_wanted && io::stderr().is_terminal()).then(|| Progress::of(&self.counter))
     }
 
-    /// Reads the trace.
     pub(crate) fn trace(&mut self) -> Result<Trace, Failure> {
         let mut spool = self.file.is_none().then(Spool::default);
         let read = Trace::read(Kept { input: self, spool: spool.as_mut() });
@@ -112,7 +110,6 @@ impl Input {
         })
     }
 
-    /// Reads all bytes.
     pub(crate) fn bytes(&mut self) -> Result<Vec<u8>, Failure> {
         let mut bytes = Vec::new();
         let most = gemshowal::LIMITS.bytes;
@@ -124,7 +121,6 @@ impl Input {
         }
     }
 
-    /// Reads a file from its front.
     fn again(&mut self) -> io::Result<Vec<u8>> {
         let mut file = self.file.take().ok_or(ErrorKind::Unsupported)?;
         file.rewind()?;
@@ -141,7 +137,6 @@ impl Input {
     }
 }
 
-/// Returns a reader that unpacks what this one reads if it is packed.
 fn unpacked(mut reader: Box<dyn Read>) -> io::Result<Box<dyn Read>> {
     let mut front = Vec::new();
     reader.by_ref().take(GZIP.len() as u64).read_to_end(&mut front)?;

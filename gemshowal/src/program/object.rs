@@ -83,7 +83,6 @@ impl Fields {
     }
 }
 
-/// Returns the word for what an event reports.
 pub(crate) fn kind_word(kind: Kind) -> &'static str {
     match kind {
         Kind::Send => "send",

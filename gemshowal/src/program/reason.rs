@@ -47,7 +47,6 @@ impl Against {
         Some(Against::by_complete(pid, index, never))
     }
 
-    /// Takes what `complete` found of an event.
     pub(crate) fn by_complete(pid: Pid, index: u64, never: Never) -> Against {
         let (why, other) = match never {
             Never::PrevNotBefore => (Why::PrevNotBefore, None),
@@ -61,12 +60,10 @@ impl Against {
         Against { place: (pid, index), why, other, never }
     }
 
-    /// Returns the reason as the libraries do.
     pub(crate) fn never(&self) -> Never {
         self.never
     }
 
-    /// Returns the word for programs.
     pub(crate) fn word(&self) -> &'static str {
         self.why.word()
     }
@@ -76,14 +73,12 @@ impl Against {
         self.why != Why::PrevNotBefore
     }
 
-    /// Returns the result in a line.
     pub(crate) fn headline(&self, shown: &Shown<'_>) -> String {
         let without = if self.allows_reset() { " without a reset" } else { "" };
         let (event, word) = (shown.event(self.place), self.why.word());
         format!("doesn't fit: no run{without} reports this trace, because of {event} ({word})")
     }
 
-    /// Returns the events that it is about.
     fn events(&self, shown: &Shown<'_>) -> Vec<(Place, Event)> {
         let places = [Some(self.place), self.other].into_iter().flatten();
         let with_event = |place: Place| Some((place, shown.streams.event(place.0, place.1)?));
@@ -106,12 +101,10 @@ impl Against {
         causes.into_iter().map(Cause::words).collect::<Vec<_>>().join("; ")
     }
 
-    /// Returns the fields of a no, with its headline.
     pub(crate) fn no(&self, shown: &Shown<'_>) -> No {
         No { headline: self.headline(shown), refused: self.object(shown) }
     }
 
-    /// Returns the fields of a no for JSON.
     pub(crate) fn object(&self, shown: &Shown<'_>) -> Refused {
         let event = |(place, event): (Place, Event)| Found {
             place: PlaceObject {
@@ -130,7 +123,6 @@ impl Against {
     }
 }
 
-/// A no with its headline, as an object has it.
 #[derive(Clone, Debug, Serialize)]
 pub(crate) struct No {
     headline: String,
@@ -138,7 +130,6 @@ pub(crate) struct No {
     refused: Refused,
 }
 
-/// A no about events.
 #[derive(Clone, Debug, Serialize)]
 pub(crate) struct Refused {
     reason: &'static str,
@@ -147,7 +138,6 @@ pub(crate) struct Refused {
     look_at: String,
 }
 
-/// An event that a no is about.
 #[derive(Clone, Debug, Serialize)]
 struct Found {
     #[serde(flatten)]
@@ -175,7 +165,6 @@ pub(crate) fn write_unpaired(
 }
 
 impl Why {
-    /// Returns the word for programs.
     fn word(self) -> &'static str {
         match self {
             Why::PrevNotBefore => "prevnotbefore",
@@ -302,7 +291,6 @@ fn causes(why: Why, found: &[Event], streams: &Streams) -> Vec<Cause> {
     }
 }
 
-/// The number of processes: none, one or several.
 #[derive(Clone, Copy, Debug, PartialEq, Eq)]
 enum Several {
     None,

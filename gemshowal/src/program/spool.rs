@@ -11,12 +11,10 @@ use std::process;
 /// name any more.
 const IN_MEMORY: usize = 16_777_216;
 
-/// The text so far.
 #[derive(Debug, Default)]
 pub(crate) struct Spool {
     held: Vec<u8>,
     file: Option<File>,
-    /// Tells whether some of it couldn't be kept.
     is_lost: bool,
 }
 

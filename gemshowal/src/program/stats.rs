@@ -44,7 +44,6 @@ pub(crate) fn run(
     Ok(Status::Yes)
 }
 
-/// The counts of a trace.
 #[derive(Serialize)]
 struct Stats {
     processes: Vec<Process>,
@@ -64,7 +63,6 @@ struct Process {
     skipped: Number,
 }
 
-/// The messages from one process to another.
 #[derive(Serialize)]
 struct Pair {
     from: String,
@@ -226,7 +224,6 @@ impl<'a> Depths<'a> {
         }
     }
 
-    /// Returns the numbers of each label.
     fn labels(self, names: &Names) -> Vec<LabelStats> {
         let mut labels = BTreeMap::<u32, (u64, u64, u64)>::new();
         for event in self.trace.processes().flat_map(|(_, events)| events) {

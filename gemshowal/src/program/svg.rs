@@ -57,7 +57,6 @@ const ENDS: &str = r##"<defs>
 <marker id="x" viewBox="0 0 4 10" refX="2" refY="5" markerWidth="5" markerHeight="10" orient="auto">
 <path d="M2 0V10" stroke="#1a5fb4" stroke-width="2"/></marker></defs>"##;
 
-/// Writes the drawing of a chart to a file.
 pub(crate) fn write(file: &Path, causes: &Causes<'_>, chart: &Chart) -> Result<(), Failure> {
     if chart.rows.len() > MOST_ROWS {
         return Err(Failure::TooManyRows(chart.rows.len(), MOST_ROWS));
@@ -68,11 +67,9 @@ pub(crate) fn write(file: &Path, causes: &Causes<'_>, chart: &Chart) -> Result<(
     keep(file, text.as_bytes())
 }
 
-/// A chart and the numbers that its drawing needs.
 struct Drawing<'a> {
     causes: &'a Causes<'a>,
     chart: &'a Chart,
-    /// The number of each row.
     numbers: HashMap<Item, usize>,
     names: Vec<String>,
     width: usize,
@@ -193,7 +190,6 @@ impl<'a> Drawing<'a> {
         Ok(())
     }
 
-    /// Writes the names of all lanes above a block of rows.
     fn lane_names(&self, out: &mut String, block: usize) -> fmt::Result {
         let top = y(block * ROWS_A_BLOCK) - ROW / 2 - NAMES + 4;
         for (lane, &pid) in self.chart.lanes.iter().enumerate() {
@@ -250,7 +246,6 @@ impl<'a> Drawing<'a> {
         may_follow && (row.link.grade == Grade::Perhaps || is_open(row.link.cause))
     }
 
-    /// Returns the row of the receive of a send.
     fn receive(&self, row: &Row) -> Option<(usize, &'a Row)> {
         let number = *self.numbers.get(&self.causes.other_end(row.item)?)?;
         Some((number, self.chart.rows.get(number)?))

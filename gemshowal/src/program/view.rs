@@ -34,12 +34,10 @@ pub(crate) struct View<'a> {
 }
 
 impl<'a> View<'a> {
-    /// Views all of a trace.
     pub(crate) fn whole(trace: &'a Trace, names: &'a Names) -> View<'a> {
         View { trace, names, numbers: None, is_cut: false }
     }
 
-    /// Views a part of this one, which has these of its events.
     pub(crate) fn part<'b>(&self, part: &'b Trace, kept: &Kept, is_cut: bool) -> View<'b>
     where
         'a: 'b,
@@ -84,7 +82,6 @@ impl<'a> View<'a> {
     }
 }
 
-/// The events that are shown: those of a view, or of its completion.
 pub(crate) struct Shown<'a> {
     pub(crate) streams: &'a Streams,
     pub(crate) view: &'a View<'a>,
@@ -93,25 +90,21 @@ pub(crate) struct Shown<'a> {
 }
 
 impl<'a> Shown<'a> {
-    /// Shows the events of a view.
     pub(crate) fn reported(view: &'a View<'a>) -> Shown<'a> {
         let streams = view.trace.streams();
         Shown { streams, view, completion: None, numbers: HashMap::new() }
     }
 
-    /// Shows the events of a view and those that a completion adds.
     pub(crate) fn completed(view: &'a View<'a>, completion: &'a Completion) -> Shown<'a> {
         let streams = completion.streams();
         let numbers = streams.pids().iter().map(|&pid| (pid, numbered(view, completion, pid)));
         Shown { streams, view, completion: Some(completion), numbers: numbers.collect() }
     }
 
-    /// Returns whether somebody reported the event at this place.
     pub(crate) fn is_reported(&self, (pid, index): Place) -> bool {
         self.completion.is_none_or(|completion| completion.told(pid, index) == Some(true))
     }
 
-    /// Returns the processes that the trace doesn't list.
     pub(crate) fn unlisted(&self) -> &[Pid] {
         self.completion.map_or(&[], |completion| completion.unlisted())
     }
@@ -126,7 +119,6 @@ impl<'a> Shown<'a> {
         streams.pids().iter().map(|&pid| (pid, streams.events(pid)))
     }
 
-    /// Returns the name of a process.
     pub(crate) fn process(&self, pid: Pid) -> Cow<'_, str> {
         match self.stranger(pid) {
             None => self.view.names.process(pid),
@@ -135,7 +127,6 @@ impl<'a> Shown<'a> {
         }
     }
 
-    /// Returns the name of an event.
     pub(crate) fn event(&self, (pid, index): Place) -> String {
         let number = self.numbers.get(&pid).and_then(|numbers| numbers.get(index as usize));
         let number = number.copied();
@@ -147,7 +138,6 @@ impl<'a> Shown<'a> {
         }
     }
 
-    /// Describes what happened at an event.
     pub(crate) fn sentence(&self, event: &Event) -> String {
         self.sentence_of(event, &short(&self.view.names.brief(event.value)))
     }
@@ -173,7 +163,6 @@ impl<'a> Shown<'a> {
     }
 }
 
-/// Returns the numbers of a process's events in a completion.
 fn numbered(view: &View<'_>, completion: &Completion, pid: Pid) -> Vec<Number> {
     let (mut reported, mut added) = (0, 0);
     let number = |index| {
@@ -189,7 +178,6 @@ fn numbered(view: &View<'_>, completion: &Completion, pid: Pid) -> Vec<Number> {
     (0..completion.streams().len(pid)).map(number).collect()
 }
 
-/// Returns the text, or its first characters.
 fn short(text: &str) -> Cow<'_, str> {
     match text.char_indices().nth(CHARACTERS) {
         None => text.into(),
@@ -210,7 +198,6 @@ pub(crate) fn grouped(number: u64) -> String {
     grouped
 }
 
-/// Says how many of a thing there are.
 pub(crate) fn count(number: u64, thing: &str) -> String {
     match (number, thing) {
         (1, _) => format!("1 {thing}"),

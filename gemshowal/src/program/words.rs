@@ -7,17 +7,13 @@ use crate::reason::Against;
 use crate::view::{count, Shown};
 use gemshowal::{Item, Kind, Premises};
 
-/// The runs that sentences are about.
 const RUNS: &str = "this holds in each run without a reset that reports the trace";
-/// The first premise of a sentence.
 const FIRST: &str = "(1) if each receive of a token was reported";
-/// The second premise of a sentence.
 const SECOND: &str = "(2) if no process cleared or lost its token, began again and reported an \
                       earlier label again";
 /// The difference between a standard node and the runs that are meant.
 const NODE: &str = "on a standard node (2) belongs to each (1), and behind a spawn or a token put \
                     back neither is enough";
-/// The meaning of perhaps.
 const PERHAPS: &str =
     "perhaps: it is so in the run that gemshowal complete finds, and another may \
                        have something else there";
@@ -26,7 +22,6 @@ pub(crate) fn named(causes: &Causes<'_>, item: Item) -> String {
     format!("{} {}{}", causes.name(item), deed(causes, item), unreported(causes, item))
 }
 
-/// Says of an event that nobody reported it.
 fn unreported(causes: &Causes<'_>, item: Item) -> &'static str {
     if causes.reported(item).is_some() {
         ""
@@ -46,7 +41,6 @@ fn deed(causes: &Causes<'_>, item: Item) -> String {
     }
 }
 
-/// Returns the message of an event in short.
 pub(crate) fn message(causes: &Causes<'_>, item: Item) -> String {
     match causes.message(item) {
         Some(value) => causes.names().brief(value).into_owned(),
@@ -54,7 +48,6 @@ pub(crate) fn message(causes: &Causes<'_>, item: Item) -> String {
     }
 }
 
-/// Returns the label of an event as it is shown.
 pub(crate) fn label(causes: &Causes<'_>, item: Item) -> String {
     causes.label(item).map(|label| causes.names().label(label).into_owned()).unwrap_or_default()
 }
@@ -100,7 +93,6 @@ pub(crate) fn numbers(premises: Premises) -> &'static str {
     }
 }
 
-/// Says where a chain of causes ends.
 pub(crate) fn ending(causes: &Causes<'_>, item: Item, link: Link) -> String {
     let name = causes.name(item);
     let (perhaps, behind) = match link.grade {

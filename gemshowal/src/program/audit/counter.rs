@@ -5,7 +5,6 @@ use crate::names::Names;
 use gemshowal::Event;
 use std::collections::BTreeSet;
 
-/// The counter of a process along its events.
 #[derive(Clone, Debug, Default)]
 pub(super) struct Counter {
     clock: u64,

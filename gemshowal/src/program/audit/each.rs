@@ -16,7 +16,6 @@ use std::io::Write;
 /// The greatest number of a label's characters in a line.
 const CHARACTERS: usize = 80;
 
-/// The numbers of labels by their result.
 #[derive(Clone, Copy, Default)]
 struct Sums {
     fits: u64,
@@ -24,7 +23,6 @@ struct Sums {
     never: u64,
 }
 
-/// Writes a line for each label, and the number of those that fit.
 pub(super) fn run(auditor: &Auditor<'_>, out: &mut Output) -> Result<Status, Failure> {
     let labels = by_label(auditor.view);
     let mut sums = Sums::default();
@@ -62,7 +60,6 @@ where
     losses: &'a [String],
 }
 
-/// Collects the events of each label, with the processes that they name.
 fn by_label(view: &View<'_>) -> BTreeMap<u32, Kept> {
     let mut labels: BTreeMap<u32, Kept> = BTreeMap::new();
     for (pid, events) in view.trace.processes() {
@@ -74,7 +71,6 @@ fn by_label(view: &View<'_>) -> BTreeMap<u32, Kept> {
     labels
 }
 
-/// Audits one label, and returns the result with the label's text.
 fn audited(
     auditor: &Auditor<'_>,
     label: u32,

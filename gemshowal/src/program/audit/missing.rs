@@ -44,7 +44,6 @@ pub(super) struct Missing {
     pub(super) waiting: Vec<Place>,
     /// The reported sends and prints whose cause isn't known.
     pub(super) open: Vec<Place>,
-    /// The counter of each process.
     pub(super) counters: Vec<(Pid, Counter)>,
 }
 
@@ -230,7 +229,6 @@ impl Finder<'_> {
         }
     }
 
-    /// Returns all that was found, in the order of all events.
     fn found(mut self) -> Missing {
         self.added.sort_unstable_by_key(|(turn, _)| *turn);
         self.sends.sort_by_key(|(turn, _)| *turn);

@@ -6,14 +6,12 @@ use crate::view::{Place, Shown, View};
 use gemshowal::{Answer, AuditError, CompleteError, Completion, Event, Fits, OutOfMemory, Paired, Trace};
 use std::collections::HashMap;
 
-/// The outcome of an audit.
 pub(crate) struct Outcome {
     pub(crate) said: Said,
     /// The trace with the ranks of its counts, if acts were found for these alone.
     pub(crate) ranked: Option<Trace>,
 }
 
-/// The answer whether a run has the trace.
 pub(crate) enum Said {
     /// A run has the trace: these acts.
     Fits(Fits),
@@ -57,7 +55,6 @@ impl Outcome {
         !matches!(self.said, Said::Never(_))
     }
 
-    /// Returns the word for JSON.
     pub(crate) fn word(&self) -> &'static str {
         match self.said {
             Said::Fits(_) => "fits",
@@ -66,7 +63,6 @@ impl Outcome {
         }
     }
 
-    /// Returns the events that are shown: those of the trace, or of its completion.
     pub(crate) fn shown<'a>(&'a self, view: &'a View<'a>) -> Shown<'a> {
         match &self.said {
             Said::Completed(completion) => Shown::completed(view, completion),

@@ -62,7 +62,6 @@ fn take(trace: &Trace, begins: &HashMap<Pid, usize>) -> HashMap<Pid, usize> {
     Keeper::new(trace, begins, &longest).kept()
 }
 
-/// The outcome of a process's next event.
 enum Next {
     Taken,
     Ends,

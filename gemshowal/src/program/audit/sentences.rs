@@ -14,7 +14,6 @@ const LISTED: usize = 20;
 /// The other explanation of an event that a message without a reported receive explains.
 const ANEW: &str = "begun anew with a counter left from an earlier trace";
 
-/// The sentences about one trace or part.
 pub(crate) struct Sentences<'a> {
     pub(crate) outcome: &'a Outcome,
     pub(crate) shown: &'a Shown<'a>,
@@ -30,7 +29,6 @@ impl Sentences<'_> {
         self.shown.view.is_cut
     }
 
-    /// Returns the result in a line.
     pub(crate) fn headline(&self) -> String {
         let events = self.shown.view.trace.streams().total();
         let processes = self.shown.view.trace.streams().pids().len() as u64;
@@ -81,7 +79,6 @@ impl Sentences<'_> {
         self.missing.counters.iter().map(|(_, counter)| number(counter)).sum()
     }
 
-    /// Says what is missing, kind by kind.
     fn what_is_missing(&self) -> Vec<String> {
         let mut missing = Vec::new();
         let by = match self.is_cut() {
@@ -199,7 +196,6 @@ impl Sentences<'_> {
         Ok(())
     }
 
-    /// Writes the events that nobody reported.
     fn write_lacks(&self, out: &mut Output) -> io::Result<()> {
         let (certain, supposed): (Vec<&Lack>, Vec<&Lack>) = self
             .missing
@@ -304,14 +300,12 @@ impl Sentences<'_> {
         }
     }
 
-    /// Names a send and the process that it is to.
     fn message(&self, send: Place) -> String {
         let to = self.shown.streams.event(send.0, send.1).and_then(|event| event.to);
         let to = to.map(|to| format!(" to {}", self.shown.process(to))).unwrap_or_default();
         format!("{}{to}", self.shown.event(send))
     }
 
-    /// Writes what the counts tell.
     fn write_counters(&self, out: &mut Output) -> io::Result<()> {
         let silent = self.counted(|it| it.silent);
         if !silent.is_empty() {

@@ -16,7 +16,6 @@ pub(super) fn mix(one: u64, other: u64) -> u64 {
     mixed ^ (mixed >> 31)
 }
 
-/// The counts of a trace, each once, rising.
 #[derive(Debug)]
 pub(super) struct Ranks(Vec<u64>);
 
@@ -69,7 +68,6 @@ fn first_colour(
     colour
 }
 
-/// Refines the colours by one round.
 pub(super) fn refined(side: &Side<'_>, colours: &[u64]) -> Vec<u64> {
     let mut told = vec![0_u64; colours.len()];
     let mut own = Vec::with_capacity(colours.len());
@@ -86,7 +84,6 @@ pub(super) fn refined(side: &Side<'_>, colours: &[u64]) -> Vec<u64> {
     own.into_iter().zip(told).map(|(own, told)| mix(own, told)).collect()
 }
 
-/// Mixes into each colour those of all processes of its part.
 pub(super) fn with_parts(colours: &[u64], parts: &mut Parts) -> Vec<u64> {
     let mut sums = HashMap::<usize, u64>::new();
     for (place, &colour) in colours.iter().enumerate() {
@@ -97,7 +94,6 @@ pub(super) fn with_parts(colours: &[u64], parts: &mut Parts) -> Vec<u64> {
     colours.iter().enumerate().map(|(place, &colour)| mix(colour, sum(place))).collect()
 }
 
-/// Counts the different colours.
 pub(super) fn count(colours: &[u64]) -> usize {
     colours.iter().collect::<HashSet<_>>().len()
 }
@@ -118,7 +114,6 @@ pub(super) fn are_alike(ones: &[u64], others: &[u64]) -> bool {
 pub(super) struct Parts(Vec<u32>);
 
 impl Parts {
-    /// Makes a part of each process.
     pub(super) fn apart(side: &Side<'_>) -> Parts {
         Parts((0..side.len() as u32).collect())
     }

@@ -7,7 +7,6 @@ use crate::object::{Fields, Place, Sequence};
 use gemshowal::{Pid, Text};
 use serde::Serialize;
 
-/// Two traces with what differs.
 #[derive(Serialize)]
 struct Object<'a, P, C> {
     /// The name of the second trace.
@@ -20,7 +19,6 @@ struct Object<'a, P, C> {
     changes: C,
 }
 
-/// Two processes that are matched.
 #[derive(Serialize)]
 struct Matched {
     process: Text<Pid>,
@@ -31,7 +29,6 @@ struct Matched {
     coarse: bool,
 }
 
-/// A process or an event that differs.
 #[derive(Serialize)]
 #[serde(untagged)]
 enum Difference {
@@ -44,7 +41,6 @@ enum Difference {
         #[serde(flatten)]
         row: Placed,
     },
-    /// An event that is in both traces.
     Both {
         change: &'static str,
         #[serde(flatten)]
@@ -53,7 +49,6 @@ enum Difference {
     },
 }
 
-/// An event with its line and its place.
 #[derive(Serialize)]
 struct Placed {
     line: u64,

@@ -121,23 +121,19 @@ fn key_of_events(side: &Side<'_>, place: usize, known: &[u64]) -> u64 {
     })
 }
 
-/// The processes of each key, in an order.
 struct Groups(HashMap<u64, VecDeque<usize>>);
 
 impl Groups {
-    /// Returns the process of this key, if there is one alone.
     fn only(&self, key: u64) -> Option<usize> {
         let group = self.0.get(&key).filter(|group| group.len() == 1)?;
         group.front().copied()
     }
 
-    /// Takes the next process of this key.
     fn take(&mut self, key: u64) -> Option<usize> {
         self.0.get_mut(&key)?.pop_front()
     }
 }
 
-/// A trace with the keys by which its processes are matched.
 struct Half<'a> {
     side: &'a Side<'a>,
     which: Which,
@@ -150,7 +146,6 @@ impl Half<'_> {
         self.keys.get(place).copied().unwrap_or(0)
     }
 
-    /// Groups the free processes by their keys.
     fn groups(&self, pairs: &Pairs) -> Groups {
         let mut groups = HashMap::<u64, VecDeque<usize>>::new();
         for &place in self.order.iter().filter(|&&place| pairs.is_free(self.which, place)) {
@@ -178,12 +173,10 @@ struct Guessed<'a> {
     ends: HashSet<usize>,
 }
 
-/// The matching under way.
 struct Search<'a> {
     first: Half<'a>,
     second: Half<'a>,
     pairs: Pairs,
-    /// The number of pairs that were followed.
     followed: usize,
     budget: Budget,
 }

@@ -17,7 +17,6 @@ pub(super) enum Which {
 pub(super) enum Ground {
     /// One name, which no other process has.
     Name,
-    /// One pid.
     Pid,
     /// All events alike, and those of no other process are.
     Events,
@@ -25,13 +24,9 @@ pub(super) enum Ground {
     Several,
     /// The other ends of messages that are alike.
     Message,
-    /// All events of the same kinds.
     Kinds,
-    /// First events alike.
     First,
-    /// First events of the same kind.
     FirstKind,
-    /// No event reported by either.
     Silent,
 }
 
@@ -43,7 +38,6 @@ impl Ground {
     }
 }
 
-/// A process of each trace, by their places.
 #[derive(Clone, Copy, Debug)]
 pub(super) struct Pair {
     pub(super) first: usize,
@@ -51,7 +45,6 @@ pub(super) struct Pair {
     pub(super) ground: Ground,
 }
 
-/// The processes that are matched.
 #[derive(Debug)]
 pub(super) struct Pairs {
     /// All pairs in the order in which they were found.
@@ -81,12 +74,10 @@ impl Pairs {
         numbers.get(place).copied().unwrap_or(NOBODY)
     }
 
-    /// Returns whether a process is in no pair.
     pub(super) fn is_free(&self, which: Which, place: usize) -> bool {
         self.number(which, place) == NOBODY
     }
 
-    /// Returns the pair of a process of the first trace.
     pub(super) fn of_first(&self, place: usize) -> Option<Pair> {
         self.all.get(self.number(Which::First, place) as usize).copied()
     }

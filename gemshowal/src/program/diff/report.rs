@@ -12,7 +12,6 @@ use crate::output::Output;
 use gemshowal::{LineNumbers, OutOfMemory, Pid, Trace};
 use std::io::{self, Write};
 
-/// A trace as it is shown.
 pub(super) struct Text<'a> {
     pub(super) name: &'a str,
     pub(super) names: &'a Names,
@@ -20,7 +19,6 @@ pub(super) struct Text<'a> {
 }
 
 impl<'a> Text<'a> {
-    /// Makes the trace of this name, with the meaning of its numbers.
     pub(super) fn new(
         name: &'a str,
         trace: &'a Trace,
@@ -63,25 +61,20 @@ impl Moved {
     }
 }
 
-/// Two traces with their differences.
 pub(super) struct Report<'a> {
     pub(super) sides: [&'a Side<'a>; 2],
     pub(super) texts: &'a [Text<'a>; 2],
     pub(super) found: &'a Found,
 }
 
-/// A line of a report.
 #[derive(Clone, Copy, Debug)]
 pub(super) enum Line<'a> {
-    /// Two processes that are matched and differ.
     Matched(Pair),
     /// A process of the first trace that is matched with none.
     Gone(Pid),
     /// A process of the second trace without a match.
     New(Pid),
-    /// A change of the first trace.
     First(&'a Change),
-    /// A change of the second trace alone.
     Second(&'a Change),
 }
 
@@ -115,7 +108,6 @@ impl<'a> Report<'a> {
         }
     }
 
-    /// Returns the lines, process by process.
     pub(super) fn lines(&self) -> Vec<Line<'a>> {
         let (pairs, changes) = (&self.found.pairs, &self.found.changes);
         let [first, second] = self.sides;
@@ -145,7 +137,6 @@ impl<'a> Report<'a> {
         lines
     }
 
-    /// Returns the event of the trace of this number at a place.
     pub(super) fn row(&self, which: usize, process: usize, index: usize) -> Option<Row<'a>> {
         let (side, trace) = (self.sides.get(which)?, self.texts.get(which)?);
         let pid = *side.pids().get(process)?;
@@ -177,7 +168,6 @@ impl<'a> Report<'a> {
         Some((row, now, Difference::Ranks(moved.ranks)))
     }
 
-    /// Returns the processes of a pair.
     pub(super) fn pids(&self, pair: Pair) -> Option<(Pid, Pid)> {
         let [first, second] = self.sides;
         Some((*first.pids().get(pair.first)?, *second.pids().get(pair.second)?))
@@ -188,7 +178,6 @@ impl<'a> Report<'a> {
         self.found.changes.is_coarse.get(pair.first).copied().unwrap_or_default()
     }
 
-    /// Writes all lines.
     pub(super) fn write(&self, out: &mut Output) -> io::Result<()> {
         if self.is_same() {
             return writeln!(out, "same");
@@ -249,7 +238,6 @@ impl<'a> Report<'a> {
     }
 }
 
-/// Returns the changes of a process.
 fn of_process(changes: &[Change], process: usize) -> &[Change] {
     let start = changes.partition_point(|change| change.process < process);
     let end = changes.partition_point(|change| change.process <= process);

@@ -9,7 +9,6 @@ use std::collections::HashMap;
 /// The number of an event's kind, label and value.
 pub(super) type Item = u32;
 
-/// The place of no process.
 pub(super) const NOBODY: u32 = u32::MAX;
 
 /// The term of a label or a value, or its number if it has none.
@@ -19,7 +18,6 @@ enum Word<'a> {
     Term(Cow<'a, str>),
 }
 
-/// The items of two traces.
 #[derive(Debug, Default)]
 pub(super) struct Vocabulary<'a> {
     /// Kind, label and value. The last two are numbers of the traces, or of `words`.
@@ -46,7 +44,6 @@ impl<'a> Vocabulary<'a> {
         *self.words.entry(word).or_insert(next)
     }
 
-    /// Returns the item of an event.
     fn item_of(&mut self, event: &Event, names: &'a Names) -> Item {
         let (label, value) = (event.label.0.into(), event.value);
         if !self.has_terms {
@@ -85,7 +82,6 @@ fn without_numbers(term: &str) -> Cow<'_, str> {
     Cow::Owned(bare)
 }
 
-/// The streams of a trace, by the places of their processes.
 #[derive(Debug)]
 pub(super) struct Side<'a> {
     trace: &'a Trace,
@@ -115,12 +111,10 @@ impl<'a> Side<'a> {
         Side { trace, starts, items, peers }
     }
 
-    /// Counts the processes.
     pub(super) fn len(&self) -> usize {
         self.trace.streams().pids().len()
     }
 
-    /// Counts the events.
     pub(super) fn total(&self) -> usize {
         self.items.len()
     }
@@ -129,7 +123,6 @@ impl<'a> Side<'a> {
         self.trace.streams().pids()
     }
 
-    /// Returns the place of a process.
     pub(super) fn place_of(&self, pid: Pid) -> Option<usize> {
         self.trace.streams().place_of(pid)
     }

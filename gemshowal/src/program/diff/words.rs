@@ -15,14 +15,12 @@ pub(super) struct Sums {
     pub(super) elsewhere: usize,
     pub(super) gone_processes: usize,
     pub(super) new_processes: usize,
-    /// The number of processes that are matched by a guess.
     pub(super) guesses: usize,
     /// The number of events whose counts have another rank, if all else is the same.
     pub(super) counts: usize,
 }
 
 impl Sums {
-    /// Returns the first line.
     pub(super) fn words(&self) -> String {
         let Sums { gone, new, elsewhere, gone_processes, new_processes, guesses, counts } = self;
         let counts = match counts {
@@ -56,11 +54,9 @@ pub(super) fn sentence(ground: Ground) -> &'static str {
 /// The difference of an event that both traces have, if its place doesn't tell.
 #[derive(Clone, Copy, Debug, PartialEq, Eq)]
 pub(super) enum Difference {
-    /// The place of the event.
     Place,
     /// The process at its other end alone, which isn't matched with that of the first trace.
     OtherEnd,
-    /// The ranks of its counts.
     Ranks([[u64; 2]; 2]),
 }
 
@@ -79,7 +75,6 @@ impl Display for Difference {
     }
 }
 
-/// An event of a trace: its line, its place and its text.
 #[derive(Clone, Copy)]
 pub(super) struct Row<'a> {
     pub(super) trace: &'a Trace<'a>,
@@ -89,14 +84,12 @@ pub(super) struct Row<'a> {
 }
 
 impl Row<'_> {
-    /// Shows its line and its place.
     pub(super) fn place(&self) -> impl Display + '_ {
         Shown(|f: &mut Formatter<'_>| {
             write!(f, "{}: {} {}", self.line, self.trace.names.process(self.place.0), self.place.1)
         })
     }
 
-    /// Shows the process at the other end of its message.
     pub(super) fn other_end(&self) -> impl Display + '_ {
         Shown(|f: &mut Formatter<'_>| {
             let names = self.trace.names;
@@ -119,7 +112,6 @@ impl Display for Row<'_> {
     }
 }
 
-/// A display of what a function writes.
 struct Shown<F>(F);
 
 impl<F: Fn(&mut Formatter<'_>) -> fmt::Result> Display for Shown<F> {

@@ -16,11 +16,9 @@ pub(super) struct Found {
     pub(super) pid: Pid,
     /// The act that reports something else, and its report; none if the acts end.
     pub(super) act: Option<Refused>,
-    /// The event that is due, with its index and its line.
     pub(super) due: Option<Due>,
     pub(super) state: Option<State>,
     pub(super) waiting: Vec<Waiting>,
-    /// The number of further messages that wait.
     pub(super) more: u64,
     /// The reason why no message is that of the receive which is due.
     pub(super) missing: Option<String>,
@@ -36,14 +34,12 @@ pub(super) struct Refused {
     pub(super) came: Came,
 }
 
-/// An event that is due.
 pub(super) struct Due {
     pub(super) index: u64,
     pub(super) line: Option<u64>,
     pub(super) event: Event,
 }
 
-/// A message that waits.
 pub(super) struct Waiting {
     pub(super) place: u64,
     pub(super) from: Pid,
@@ -96,7 +92,6 @@ impl Found {
         Ok(Found { next: Some(next), ..found })
     }
 
-    /// Collects the state of a process in a run, and the event that is due from it.
     fn of(trace: &Trace, run: &Run<'_>, pid: Pid) -> Result<Found, OutOfMemory> {
         let lines = trace.lines()?;
         let index = run.next_index(pid);
@@ -130,12 +125,10 @@ impl Found {
         })
     }
 
-    /// Counts the messages that wait.
     pub(super) fn queued(&self) -> u64 {
         self.waiting.len() as u64 + self.more
     }
 
-    /// Returns the object for programs.
     pub(super) fn object(&self) -> Object {
         let report = |came: Came| match came {
             Came::Step(report, _) => report.map(|event| Text(&event).to_string()),
@@ -168,7 +161,6 @@ impl Found {
 /// A process that no trace lists: a run has no state of it.
 const NOBODY: Pid = Pid::on(0, 0);
 
-/// Describes a token.
 pub(super) fn token_words(token: &Token) -> String {
     let flags = [
         (token.flags.send, " send"),
@@ -180,7 +172,6 @@ pub(super) fn token_words(token: &Token) -> String {
     format!("label {}, flags{flags}, serial {serial}, from {from}", token.label.0)
 }
 
-/// The findings for programs.
 #[derive(Serialize)]
 pub(super) struct Object {
     process: Text<Pid>,

@@ -48,7 +48,6 @@ fn on_line(line: Option<u64>) -> String {
     line.map(|line| format!(", line {line}")).unwrap_or_default()
 }
 
-/// Returns the line of the act of this number.
 fn line_of(trace: &Trace, number: u64) -> Result<Option<u64>, gemshowal::OutOfMemory> {
     Ok(trace.lines()?.act_line(number))
 }

@@ -3,14 +3,11 @@
 use gemshowal::{Act, Event, Pid, Token};
 use std::collections::VecDeque;
 
-/// A message that was sent to the process.
 #[derive(Clone, Copy, Debug)]
 pub(super) struct Sent {
-    /// The number of the act that sent it.
     pub(super) act: u64,
     pub(super) from: Pid,
     pub(super) value: u64,
-    /// The token that it was sent with, if any.
     token: Option<Token>,
 }
 
@@ -25,7 +22,6 @@ pub(super) struct Differences {
     pub(super) flag: bool,
 }
 
-/// The fit of a message that waits to a receive.
 #[derive(Clone, Copy, Debug, PartialEq, Eq)]
 enum Fit {
     /// Under a tracer its receive is reported as exactly that event.
@@ -34,7 +30,6 @@ enum Fit {
     Wiped,
     /// A message with the sender and the count, and these differences.
     Differs(Differences),
-    /// Another message.
     Other,
 }
 
@@ -77,7 +72,6 @@ pub(super) fn nearest(found: Result<u64, Missing>) -> Option<u64> {
 #[derive(Debug)]
 pub(super) struct Queue {
     pid: Pid,
-    /// All messages that were sent to the process.
     sent: Vec<Sent>,
     /// The messages that wait, by their numbers in `sent`.
     waiting: VecDeque<u32>,
@@ -121,12 +115,10 @@ impl Queue {
         }
     }
 
-    /// Counts the messages that wait.
     pub(super) fn len(&self) -> usize {
         self.waiting.len()
     }
 
-    /// Returns the messages that wait, each with its place.
     pub(super) fn messages(&self) -> impl Iterator<Item = (u64, &Sent)> {
         (0..).zip(self.waiting.iter().filter_map(|&at| self.sent.get(at as usize)))
     }
@@ -149,7 +141,6 @@ impl Queue {
         Err(missing)
     }
 
-    /// Judges the fit of a message to a receive.
     fn fit(&self, sent: &Sent, receive: &Event) -> Fit {
         let Some(token) = sent.token else { return Fit::Other };
         if sent.from != receive.from || token.serial.this != receive.serial.this {

@@ -8,9 +8,7 @@ use std::fmt::{self, Display, Formatter};
 /// A reason why no single act would report an event.
 #[derive(Clone, Copy, Debug, PartialEq, Eq)]
 pub(super) enum Reason {
-    /// The event's node has no tracer.
     NoTracer,
-    /// The event's process has no token.
     NoToken,
     /// The token of the event's process has another label.
     Label,

@@ -5,7 +5,6 @@ use super::queue::{nearest, Missing, Queue};
 use gemshowal::{Act, Came, Event, Kind, OutOfMemory, Pid, Rerun, State, Streams, Want};
 use std::collections::HashMap;
 
-/// A run under way.
 pub(super) struct Run<'a> {
     streams: &'a Streams,
     rerun: Rerun,
@@ -26,7 +25,6 @@ impl<'a> Run<'a> {
         Ok(run)
     }
 
-    /// Makes an act, and returns its outcome.
     pub(super) fn take(&mut self, act: &Act) -> Result<Came, OutOfMemory> {
         let came = self.rerun.take(act)?;
         let number = self.made;
@@ -44,12 +42,10 @@ impl<'a> Run<'a> {
         self.rerun.state(pid)
     }
 
-    /// Returns the index of the event that is due from a process.
     pub(super) fn next_index(&self, pid: Pid) -> u64 {
         self.reported.get(&pid).copied().unwrap_or(0)
     }
 
-    /// Returns the event that is due from a process, or `None` if all are reported.
     pub(super) fn due(&self, pid: Pid) -> Option<Event> {
         self.streams.event(pid, self.next_index(pid))
     }

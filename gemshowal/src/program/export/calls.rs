@@ -6,7 +6,6 @@ use gemshowal::Kind;
 use std::borrow::Cow;
 use std::collections::HashMap;
 
-/// A message of a call, by its reference.
 #[derive(Clone, Copy, Debug, PartialEq, Eq)]
 pub(super) enum Role<'a> {
     Request(&'a str),

@@ -62,7 +62,6 @@ impl Clock {
         }
     }
 
-    /// Returns the time of the event at this place.
     pub(super) fn at(&self, scene: &Scene<'_>, place: Place) -> Option<i64> {
         *self.times.get(scene.number(place)?)?
     }

@@ -27,7 +27,6 @@ pub(super) fn write(scene: &Scene<'_>, out: &mut Output) -> io::Result<()> {
     writeln!(out, "}}")
 }
 
-/// Writes the box of a process.
 fn write_process(
     scene: &Scene<'_>,
     out: &mut Output,
@@ -79,7 +78,6 @@ fn write_message(
     }
 }
 
-/// Puts a text between quotes.
 fn quoted(text: &str) -> String {
     text.replace('\\', "\\\\").replace('"', "\\\"")
 }

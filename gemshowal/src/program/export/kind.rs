@@ -18,12 +18,10 @@ pub(super) fn sent(scene: &Scene<'_>, value: u64) -> String {
     }
 }
 
-/// Says what a process did with a message.
 pub(super) fn handled(scene: &Scene<'_>, value: u64) -> String {
     with_sort(scene, "handle", value)
 }
 
-/// Describes a print.
 pub(super) fn printed(scene: &Scene<'_>, value: u64) -> String {
     with_sort(scene, "print", value)
 }

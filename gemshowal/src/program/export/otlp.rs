@@ -68,7 +68,6 @@ struct Writer<'a> {
 }
 
 impl Writer<'_> {
-    /// Groups the numbers of the spans by service.
     fn services(&self) -> BTreeMap<String, Vec<u32>> {
         let mut of_pid = BTreeMap::<Pid, Vec<u32>>::new();
         for (span, number) in self.spans.all.iter().zip(0..) {
@@ -146,7 +145,6 @@ impl Writer<'_> {
         Some(Link { trace_id: self.trace_id(span.label), span_id: self.span_id(span) })
     }
 
-    /// Returns what else the trace tells of a span.
     fn attributes(&self, span: &Span, event: &Event) -> Vec<Attribute> {
         let (scene, place) = (self.spans.scene, span.about.place());
         let mut all = vec![attribute("erlang.label", scene.names.label(event.label))];
@@ -178,7 +176,6 @@ impl Writer<'_> {
         all
     }
 
-    /// Returns the prints that belong to a span.
     fn prints(&self, number: u32) -> Vec<Print> {
         let (scene, prints) = (self.spans.scene, &self.spans.prints);
         let first = prints.partition_point(|&(span, _)| span < number);
@@ -236,7 +233,6 @@ fn service(scene: &Scene<'_>, pid: Pid) -> String {
     word(", registered as ").or_else(node).unwrap_or_default()
 }
 
-/// Says what a send or print follows.
 fn follows(scene: &Scene<'_>, (pid, _): Place, hop: Hop) -> String {
     match hop {
         Hop::After(index) | Hop::AfterOneLabel(index) => scene.name((pid, index)),
@@ -259,7 +255,6 @@ const FIRST: &str = "each receive of a token was reported";
 const SECOND: &str =
     "no process cleared or lost its token, began again and reported an earlier label again";
 
-/// Returns the numbers of the premises of a hop.
 fn premises(hop: Hop) -> Option<&'static str> {
     match hop.premises() {
         Premises::Neither => None,

@@ -9,7 +9,6 @@ pub(super) type Place = (Pid, u64);
 /// The greatest number of a message's characters in a drawing.
 const CHARACTERS: usize = 80;
 
-/// The events of a trace, or those of one of its labels.
 pub(super) struct Scene<'a> {
     pub(super) trace: &'a Trace,
     pub(super) names: &'a Names,
@@ -45,17 +44,14 @@ impl<'a> Scene<'a> {
         Ok(Scene { trace, names, label, paired, hops, starts, names_labels, has_terms })
     }
 
-    /// Returns whether an event is drawn.
     pub(super) fn has(&self, event: &Event) -> bool {
         self.label.is_none_or(|label| event.label == label)
     }
 
-    /// Returns the events that are drawn, by process, each with its place.
     pub(super) fn events(&self) -> impl Iterator<Item = (Place, &'a Event)> + '_ {
         self.trace.processes().flat_map(|(pid, events)| self.of_process(pid, events))
     }
 
-    /// Returns the events of a process that are drawn.
     pub(super) fn of_process<'b>(
         &'b self,
         pid: Pid,
@@ -81,14 +77,12 @@ impl<'a> Scene<'a> {
         self.trace.streams().events(pid).get(usize::try_from(index).ok()?)
     }
 
-    /// Returns the number of an event among all events of the trace.
     pub(super) fn number(&self, (pid, index): Place) -> Option<usize> {
         let streams = self.trace.streams();
         let start = self.starts.get(streams.place_of(pid)?)?;
         (index < streams.len(pid)).then_some(start + index as usize)
     }
 
-    /// Returns what the event at this place pairs with.
     pub(super) fn partner(&self, (pid, index): Place, event: &Event) -> Partner {
         gemshowal::partner_at(self.paired.pairing(), pid, index, event.kind)
     }
@@ -98,12 +92,10 @@ impl<'a> Scene<'a> {
         matches!(self.partner(place, event), Partner::NoSend)
     }
 
-    /// Returns what the event at this place follows.
     pub(super) fn hop(&self, (pid, index): Place) -> Option<Hop> {
         self.hops.hop(pid, index)
     }
 
-    /// Counts the messages that are drawn.
     pub(super) fn count_messages(&self) -> usize {
         let is_message = |&(place, event): &(Place, &Event)| match event.kind {
             Kind::Send => true,
@@ -140,7 +132,6 @@ impl<'a> Scene<'a> {
         self.has_terms
     }
 
-    /// Returns the name of an event.
     pub(super) fn name(&self, place: Place) -> String {
         self.names.event(place)
     }
@@ -151,7 +142,6 @@ impl<'a> Scene<'a> {
     }
 }
 
-/// Returns the front of a text.
 pub(super) fn short(text: &str) -> String {
     match text.char_indices().nth(CHARACTERS) {
         Some((end, _)) => format!("{}..", text.get(..end).unwrap_or_default()),

@@ -52,7 +52,6 @@ fn is_long(scene: &Scene<'_>, order: &[Place]) -> bool {
     counted.is_err()
 }
 
-/// Does something with each event and the clock of its process then.
 fn each_clock<E>(
     scene: &Scene<'_>,
     order: &[Place],
@@ -76,7 +75,6 @@ fn each_clock<E>(
     Ok(())
 }
 
-/// Writes the text of an event.
 fn write_words(scene: &Scene<'_>, out: &mut Output, event: &Event) -> io::Result<()> {
     let names = scene.names;
     let (kind, serial, label) =

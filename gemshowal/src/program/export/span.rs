@@ -13,7 +13,6 @@ use crate::Failure;
 use gemshowal::{Event, Hop, Kind, Label, Partner};
 use std::collections::BTreeMap;
 
-/// The subject of a span.
 #[derive(Clone, Copy, Debug, PartialEq, Eq)]
 pub(super) enum About {
     /// The events of a label, of which this one is the first.
@@ -29,7 +28,6 @@ pub(super) enum About {
 }
 
 impl About {
-    /// Returns the event that the span is named after.
     pub(super) fn place(self) -> Place {
         match self {
             About::Label(place)
@@ -54,7 +52,6 @@ pub(super) struct Span {
     pub(super) follows: Option<u32>,
 }
 
-/// The spans of a trace, and those that its prints belong to.
 pub(super) struct Spans<'a> {
     pub(super) scene: &'a Scene<'a>,
     pub(super) calls: Calls,
@@ -63,7 +60,6 @@ pub(super) struct Spans<'a> {
     labels: BTreeMap<u32, u32>,
     /// For each event the number of the span that it begins.
     begun: Vec<Option<u32>>,
-    /// The prints with the numbers of their spans.
     pub(super) prints: Vec<(u32, Place)>,
 }
 
@@ -189,7 +185,6 @@ impl<'a> Spans<'a> {
         before.or_else(|| self.labels.get(&event.label.0).copied())
     }
 
-    /// Returns the span that the event at this place begins.
     pub(super) fn begun(&self, place: Place) -> Option<u32> {
         *self.begun.get(self.scene.number(place)?)?
     }

@@ -7,13 +7,10 @@ use super::calls::{role, Calls, Role};
 use super::scene::{Place, Scene};
 use gemshowal::{Hop, Kind, Pid};
 
-/// The number of no work.
 const NONE: u32 = u32::MAX;
 
-/// The work of a process for one message.
 #[derive(Clone, Copy, Debug)]
 pub(super) struct Work {
-    /// The receive of the message.
     pub(super) receive: Place,
     /// The index of the last send or print that follows it.
     pub(super) last: u64,
@@ -21,11 +18,9 @@ pub(super) struct Work {
     pub(super) reply: Option<u64>,
 }
 
-/// The work of all processes.
 #[derive(Debug)]
 pub(super) struct Works {
     pub(super) all: Vec<Work>,
-    /// For each event the number of its work.
     of: Vec<u32>,
 }
 
@@ -80,13 +75,11 @@ impl Works {
         (number != NONE).then_some(number)
     }
 
-    /// Returns the work that an event belongs to, with its number.
     pub(super) fn at(&self, scene: &Scene<'_>, place: Place) -> Option<(usize, &Work)> {
         let number = self.number_of(scene, place)? as usize;
         Some((number, self.all.get(number)?))
     }
 
-    /// Returns the work of a process, in the order of the receives.
     pub(super) fn of_process(&self, pid: Pid) -> impl Iterator<Item = &Work> {
         let start = self.all.partition_point(|work| work.receive.0 < pid);
         self.all.iter().skip(start).take_while(move |work| work.receive.0 == pid)

@@ -12,7 +12,6 @@ use super::text::{line_end, lines, Line};
 use gemshowal::LIMITS;
 use std::collections::HashSet;
 
-/// Finds the mistakes of a text, in its order.
 pub(super) fn judge<'a>(text: &'a [u8], mut add: impl FnMut(Mistake<'a>)) {
     let first = lines(text).next().unwrap_or(Line { number: 1, bytes: b"", is_ended: false });
     if let Some(remedy) = remedy_of_text(text) {
@@ -58,7 +57,6 @@ struct Judge<'a> {
     named: HashSet<(u64, u64)>,
     events: u32,
     acts: u32,
-    /// The mistakes of the line.
     found: Vec<Mistake<'a>>,
 }
 
@@ -94,7 +92,6 @@ impl<'a> Judge<'a> {
         self.found.push(Mistake::new(line, column, wanted, remedy));
     }
 
-    /// Adds a mistake that `--fix` mends.
     fn add_by_fix(
         &mut self,
         line: Line<'a>,
@@ -105,7 +102,6 @@ impl<'a> Judge<'a> {
         self.found.push(Mistake::new(line, column, Wanted::Words(words), remedy).by_fix());
     }
 
-    /// Adds that a line breaks off.
     fn add_broken(
         &mut self,
         line: Line<'a>,
@@ -215,7 +211,6 @@ impl<'a> Judge<'a> {
         }
     }
 
-    /// Judges a line that is one of the grammar's.
     fn take_sort(&mut self, line: Line<'a>, sort: Sort, scan: &Scan<'a>) {
         match (sort, scan.pids.as_slice()) {
             (Sort::Acts, _) => self.above = Above::Acts,
@@ -228,7 +223,6 @@ impl<'a> Judge<'a> {
         }
     }
 
-    /// Judges whether a process line is above the one before.
     fn take_process(&mut self, line: Line<'a>, place: NamedPid) {
         self.above = Above::Process;
         let process = Process { text: place.text(line.bytes), pid: place.pid };
@@ -253,7 +247,6 @@ impl<'a> Judge<'a> {
         }
     }
 
-    /// Judges an event that the process at this place reports.
     fn take_event(&mut self, line: Line<'a>, reporter: NamedPid, scan: &Scan<'a>) {
         let pid = reporter.text(line.bytes);
         if let Some(current) = self.current.filter(|current| *current != pid) {

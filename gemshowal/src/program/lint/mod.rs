@@ -55,13 +55,11 @@ pub(crate) fn first_refused(text: &[u8]) -> Option<String> {
     Some(format!(", {}; {}", mistake.place(), mistake.remedy))
 }
 
-/// The judgement on a text.
 enum Judged<'a> {
     /// A trace whose events a run may report.
     Good(Trace),
     /// A trace of which no run reports some events.
     Impossible(Findings<'a>),
-    /// No trace: the reader refuses it.
     Faulty(Findings<'a>),
 }
 
@@ -92,11 +90,9 @@ fn has_unrising(trace: &Trace) -> bool {
         .any(|(_, events)| events.iter().any(|event| event.serial.prev >= event.serial.this))
 }
 
-/// The first mistakes of a text, and the number of all.
 struct Findings<'a> {
     named: Vec<Mistake<'a>>,
     count: u64,
-    /// The number of those that `--fix` mends.
     by_fix: u64,
     /// The first one for which the reader refuses the text.
     first_refused: Option<Mistake<'a>>,
@@ -141,7 +137,6 @@ impl Display for Findings<'_> {
     }
 }
 
-/// Counts the events of each label.
 fn labels(trace: &Trace) -> BTreeMap<u32, u64> {
     let mut labels = BTreeMap::new();
     for event in trace.processes().flat_map(|(_, events)| events) {
@@ -167,7 +162,6 @@ fn write_counts(trace: &Trace, out: &mut Output) -> Result<(), Failure> {
     Ok(())
 }
 
-/// The object of a text that is a trace's.
 #[derive(Serialize)]
 struct Counts {
     processes: usize,
@@ -193,7 +187,6 @@ fn write_count_object(trace: &Trace, out: &mut Output) -> Result<(), Failure> {
     out.report("ok", &counts)
 }
 
-/// The object of a text with mistakes.
 #[derive(Serialize)]
 struct Mistakes<'a> {
     mistakes: u64,

@@ -16,10 +16,8 @@ const DURATIONS: usize = 200;
 /// reads and keeps as a whole, and searches as a whole at each key.
 const CHARACTERS: usize = 32_000_000;
 
-/// Nanoseconds in a microsecond.
 const MICRO: i64 = 1_000;
 
-/// The data of a page, as the script reads it.
 #[derive(Serialize)]
 pub(super) struct Data {
     title: String,
@@ -47,7 +45,6 @@ struct Lane {
     about: String,
 }
 
-/// The times that messages took.
 #[derive(Serialize)]
 struct Table {
     title: &'static str,
@@ -93,7 +90,6 @@ struct Rows {
     time: Option<Vec<Option<i64>>>,
 }
 
-/// The numbers of things in a list.
 struct Numbers<T>(HashMap<T, usize>);
 
 impl<T: Copy + Eq + Hash> Numbers<T> {
@@ -105,7 +101,6 @@ impl<T: Copy + Eq + Hash> Numbers<T> {
         self.0.get(&thing).copied()
     }
 
-    /// Returns the number of a thing, or -1.
     fn or_none(&self, thing: Option<T>) -> i64 {
         thing.and_then(|thing| self.get(thing)).map_or(-1, |number| number as i64)
     }

@@ -22,7 +22,6 @@ const MODULES: [(&str, &str); 12] = modules![
     "drawers", "controls", "main",
 ];
 
-/// Joins the whole script.
 pub(super) fn joined() -> String {
     let bodies: Vec<String> =
         MODULES.iter().map(|(_, text)| without_words_of_modules(text)).collect();
