@@ -71,8 +71,8 @@ test: ## the merge gate: all proofs from nothing, the wrong bodies of must-fail/
 gate: layout layers clauses planned plan tables
 	rt ci
 	@if command -v erl >/dev/null; then $(MAKE) --no-print-directory -C erlang compiled; fi
-	@$(MAKE) --no-print-directory -j$(PARTS_AT_ONCE) --output-sync=target test-program test-erlang test-conformance test-rust
-	@$(MAKE) --no-print-directory -j$(PARTS_AT_ONCE) --output-sync=target test-kit test-readme test-coq
+	@$(MAKE) --no-print-directory -j$(PARTS_AT_ONCE) --output-sync=target test-program test-conformance test-rust
+	@$(MAKE) --no-print-directory -j$(PARTS_AT_ONCE) --output-sync=target test-erlang test-kit test-readme test-coq
 
 # The gate tries the wrong bodies that tell most.
 wrong-bodies: ## tries all wrong bodies (an hour or more, after program)
@@ -127,7 +127,7 @@ test-program: ## the programs that were built last: examples/, random traces, a 
 	@if command -v python3 >/dev/null; then tests/surroundings $(BUILT) $(BUILT_TOOL) && tests/seqtool $(BUILT_TOOL) && tests/completions/small.py $(BUILT_TOOL) 2000 && tests/node_law.py && tests/hostile --tool $(BUILT_TOOL) $(BUILT) $(FAULTS); \
 	else echo "There is no python3 here: seqtool's words, its small streams and the faults are skipped."; fi
 
-# Traces of a real Erlang node, if there is one, by the program that was built last.
+# Traces of a real Erlang node, if there is one, by the programs that were built last: gemshowal by test-rust.
 test-erlang: ## the tests of erlang/, with the programs that were built last (3 to 5 minutes; needs erl; some need runtime_tools)
 	@if command -v erl >/dev/null; then SEQAUDIT=$(SEQAUDIT_BUILT) SEQTOOL=$(SEQTOOL_BUILT) $(MAKE) --no-print-directory -C erlang test; \
 	else echo "There is no erl here (Debian's erlang-base): the Erlang tests are skipped."; fi

@@ -10,7 +10,7 @@ is_removal=
 [ $# = 1 ] || { echo "usage: ./install.sh [--remove] FOLDER" >&2; exit 2; }
 to=$(realpath -m "$1")
 cd "$here"
-# The application's command finds its modules where it lies itself, and the programs in a folder bin
+# The application's command finds its modules where it lies itself, and gemshowal in a folder bin
 # beside it.
 application=$to/lib/gemshowal
 
@@ -44,7 +44,6 @@ man/seqtrace docs/FORMATS.md >"$to/share/man/man5/seqtrace.5"
 if [ -e erlang/ebin/seqaudit_node.beam ]; then
     install -D -t "$application/erlang" erlang/seqaudit-node
     install -D -m 644 -t "$application/erlang/ebin" erlang/ebin/*
-    install -D -m 644 -t "$application/erlang/priv" erlang/priv/*
     ln -sfn ../../bin "$application/bin"
     ln -sf ../lib/gemshowal/erlang/seqaudit-node "$to/bin/seqaudit-node"
     programs+=(erlang/seqaudit-node)

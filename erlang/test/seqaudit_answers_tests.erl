@@ -1,12 +1,11 @@
-%% Programs run on real nodes, and what the commands say of their traces is what is kept in `expected'.
+%% Programs run on real nodes, and what gemshowal says of their traces is what is kept in `expected'.
 %%
 %% Pids and references, which differ from run to run, are numbered by their first places. With the
 %% variable EXPECT set to a folder, the texts are written there instead of compared.
 -module(seqaudit_answers_tests).
 
 -export([second_trace_test_/0, workers_test_/0, supervisor_test_/0, flags_test_/0, reset_test_/0,
-         early_stop_test_/0, lost_node_test_/0, cut_test_/0, files_test_/0, no_tool_test_/0, older_tools_test_/0]).
--export([tool/0, auditor/0, command/3]).
+         early_stop_test_/0, lost_node_test_/0]).
 -export([init/1, echo/0]).
 
 -define(ALL, [send, 'receive', print]).
@@ -22,7 +21,7 @@ second_trace_test_() ->
             end)
         end),
         stopped()
-    end, [["audit"], ["chart", "--label", "{order,5001}"], ["why", "--event", "post#1"]]).
+    end, [["audit"], ["chart", "--label", "{order,5001}"], ["why", "post#1"]]).
 
 %% Ten workers that are spawned inside a request.
 workers_test_() ->
@@ -34,7 +33,7 @@ workers_test_() ->
             seqaudit_trace:with_trace(job, fun() -> Boss ! {do, self()}, receive {sum, 55} -> ok end end)
         end),
         stopped()
-    end, [["audit"], ["why", "--event", "boss#12"], ["chart", "--label", "job"]]).
+    end, [["audit"], ["why", "boss#12"], ["chart", "--label", "job"]]).
 
 boss() ->
     receive {do, Client} -> ok end,
@@ -53,7 +52,7 @@ supervisor_test_() ->
                                                 end)
         end),
         stopped()
-    end, [["audit"], ["why", "--event", "owner#2"]]).
+    end, [["audit"], ["why", "owner#2"]]).
 
 init([]) ->
     {ok, {#{}, [#{id => N, start => {gen_server, start_link, [seqaudit_test_server, fun(X) -> X end, []]}}
@@ -124,7 +123,7 @@ reset_test_() ->
             as(ben, fun() -> seqaudit_trace:with_trace(second, fun() -> order(apple, 2) end) end)
         end),
         stopped()
-    end, [["audit"], ["audit", "--parts"], ["chart", "--label", "second"], ["why", "--event", "shop#9"]]).
+    end, [["audit"], ["chart", "--label", "second"], ["why", "shop#9"]]).
 
 %% A trace that is stopped after a second question was sent, and before it was received.
 early_stop_test_() ->
@@ -177,179 +176,6 @@ echo() ->
     receive {From, N} -> From ! {echo, N} end,
     echo().
 
-%% A trace that is cut to a process and to a label, with times beside it.
-cut_test_() ->
-    said("cut", fun(Name) ->
-        ok = seqaudit_trace:start(#{name => Name}),
-        with_shop(fun() ->
-            as(ann, fun() ->
-                [seqaudit_trace:with_trace({order, N}, fun() -> order(apple, N) end) || N <- [1, 2]]
-            end)
-        end),
-        stopped(),
-        {ok, Streams} = seqaudit_bundle:read(Name ++ ".seqtrace"),
-        Rows = seqaudit_causes:rows(Streams),
-        Times = maps:from_list([{Id, 1_000_000 * Row} || {Row, #{id := Id}} <- lists:enumerate(0, Rows)]),
-        ok = file:write_file(Name ++ ".times",
-                             ["seqaudit times 1\nbegin 1700000000000000000\n",
-                              [io_lib:format("event ~ts ~b ~b~n", [Pid, At, Time])
-                               || {{Pid, At}, Time} <- lists:sort(maps:to_list(Times))],
-                              [io_lib:format("message ~ts ~b ~ts ~b ~b~n",
-                                             [From, I, To, J, maps:get(Id, Times) - maps:get(Send, Times)])
-                               || #{id := {To, J} = Id, cause := {sent, {From, I} = Send}} <- Rows]])
-    end, [["audit", "--label", "{order,2}"], ["audit", "--process", "shop"],
-          ["audit", "--from", "0.002", "--to", "0.0125"], ["chart", "--label", "{order,2}", "--from", "0.012"],
-          ["audit", "--from", "0.02", "--to", "0.01"],
-          ["audit", "--process", "nobody"], ["why", "--event", "ann#9"], ["why", "--event", "post#3"],
-          ["why", "--event", "shop#8", "--effects"], ["why", "--event", "shop#8", "--process", "shop"],
-          ["why", "--event", "shop#8", "--effects", "--process", "shop"]]).
-
-%% A trace beyond the reader's limits is audited for a label of it, and its drawings are in parts or
-%% refused, with a way out.
-files_test_() ->
-    {timeout, 180, fun() ->
-        case seqaudit_program:find("seqaudit") of
-            {ok, _} -> files(seqaudit_audits:file("files"));
-            {error, _} -> io:format(user, "files: skipped, seqaudit isn't built~n", [])
-        end
-    end}.
-
-files(Name) ->
-    Tool = tool(),
-    Print = fun(Label, This, Pid) -> print(Label, This, Pid, 0) end,
-    Many = lists:seq(100, 1_300),
-    ok = file:write_file(Name ++ ".seqtrace", printed(Many, Print)),
-    ok = file:write_file(Name ++ ".terms",
-                         ["seqaudit terms 1\n", [io_lib:format("label\t~b\tl~b\n", [N, N]) || N <- lists:seq(0, 599)]]),
-    has(command(["audit"], Name, "/no/such/seqtool"),
-        ["not audited: the trace has more processes or events than the program takes; ", "cut it with --label",
-         "\nseqtool takes larger traces, but it isn't there", "(status 2)"]),
-    [large(Name, Greater, Many, Print) || Greater <- greater()],
-    ok = file:write_file(Name ++ ".seqtrace", printed(Many, Print)),
-    has(command(["audit", "--label", "l7", "--label", "l8"], Name, Tool),
-        ["cut: 4 of 1,201 events; the cut leaves nothing open\nfits: 4 events of 4 processes"]),
-    has(command(["chart", "--label", "l7"], Name, Tool),
-        ["cut: 2 of 1,201 events", "fits: 2 events of 2 processes", "<0.607.0>#0"]),
-    %% One corner is damaged: an event that follows itself. The rest is audited.
-    ok = file:write_file(Name ++ ".seqtrace", ["seqtrace 1\nprocess <0.100.0>\n", Print(7, 1, 100),
-                                               "process <0.101.0>\n{seq_trace,8,{print,{5,5},<0.101.0>,[],0}}\n"]),
-    has(command(["audit"], Name, Tool),
-        ["doesn't fit: no run reports this trace, because of <0.101.0>#0 (prevnotbefore)", "(status 1)"]),
-    [has(command(["audit" | Cut], Name, Tool), ["cut: 1 of 2 events", "fits: 1 event of 1 process", "(status 0)"])
-     || Cut <- [["--label", "l7"], ["--process", "<0.100.0>"]]],
-    has(command(["chart", "--label", "l7", "--process", "<0.100.0>"], Name, Tool),
-        ["cut: 1 of 2 events", "<0.100.0>#0", "(status 0)"]),
-    %% One label, with a reset in it.
-    ok = file:write_file(Name ++ ".seqtrace",
-                         ["seqtrace 1\nprocess <0.100.0>\n",
-                          [print(7, This, 100, Value) || {This, Value} <- [{1, 0}, {2, 0}, {1, 1}]]]),
-    has(command(["chart", "--label", "l7", "--svg", Name ++ ".svg", "--html", Name ++ ".html"], Name, Tool),
-        ["part 1 of 2\n", "part 2 of 2\n"]),
-    [{ok, <<"<?xml", _/binary>>} = file:read_file(Name ++ Which ++ ".svg") || Which <- ["-1", "-2"]],
-    {ok, <<"<!doctype html>", Page/binary>>} = file:read_file(Name ++ ".html"),
-    has(Page, ["doesn't fit", ": no run without a reset reports this trace"]),
-    %% Both have messages in them, so they are their owner's alone.
-    [8#600 = seqaudit_audits:mode(Name ++ Which) || Which <- ["-1.svg", "-2.svg", ".html"]],
-    %% More rows than a drawing takes.
-    ok = file:write_file(Name ++ ".seqtrace",
-                         ["seqtrace 1\nprocess <0.100.0>\n", [Print(7, This, 100) || This <- lists:seq(1, 2_001)]]),
-    has(command(["chart", "--label", "l7", "--svg", Name ++ ".svg", "--html", Name ++ ".html"], Name, Tool),
-        ["the chart has 2001 rows, and a drawing takes 2000; use the page (--html FILE)", "(status 2)"]),
-    has(command(["chart", "--html", Name ++ ".html"], Name, Tool), ["fits: 2,001 events of 1 process", "(status 0)"]),
-    has(command(["chart", "--html", "/no/such/folder/x.html"], Name, Tool),
-        ["/no/such/folder/x.html can't be written", "(status 4)"]).
-
-print(Label, This, Pid, Value) ->
-    io_lib:format("{seq_trace,~b,{print,{~b,~b},<0.~b.0>,[],~b}}~n", [Label, This - 1, This, Pid, Value]).
-
-printed(Many, Print) ->
-    ["seqtrace 1\n", [["process <0.", integer_to_list(Pid), ".0>\n", Print(Pid rem 600, 1, Pid)] || Pid <- Many]].
-
-%% The built seqtool, if it has `audit', which takes more than seqaudit does.
-greater() ->
-    [Program || {ok, Program} <- [seqaudit_program:find("seqtool")], seqaudit_audits:has(Program, "audit")].
-
-%% What is beyond the limits of seqaudit is audited whole, and what seqtool doesn't complete there is said in words.
-large(Name, Tool, Many, Print) ->
-    has(command(["audit"], Name, Tool),
-        ["fits: 1,201 events of 1,201 processes; nothing is known to be missing\n", "(status 0)"]),
-    has(command(["chart", "--html", Name ++ ".html"], Name, Tool),
-        ["fits: 1,201 events of 1,201 processes", "(status 0)"]),
-    ok = file:write_file(Name ++ ".seqtrace", [printed(Many, Print), Print(8, 1, 1_300)]),
-    has(command(["audit"], Name, Tool),
-        ["doesn't fit: no run without a reset reports this trace, because of <0.1300.0>#1 (notrising)",
-                                         "\npart 2: fits: 1 event", "(status 1)"]),
-    %% A seqtool that renumbers and completes less than it audits.
-    ok = file:write_file(Name ++ ".sh", ["#!/bin/sh\ncase $1 in audit) exec ", Tool, " audit ;; esac\n"
-                                         "cat >/dev/null; echo fault too many 2051; exit 2\n"]),
-    ok = file:change_mode(Name ++ ".sh", 8#755),
-    ok = file:write_file(Name ++ ".seqtrace", [printed(Many, Print), Print(8, 5_000, 1_300)]),
-    has(command(["audit"], Name, Name ++ ".sh"),
-        ["not explained: no run was found that reports this trace; the search ended at <0.1300.0>#1 (toowide)",
-         "seqtool can't say what the trace lacks: the trace has more processes or events than the program takes; "
-         "audit each",
-         "(status 1)"]).
-
-has(Text, Parts) ->
-    [] = [{Part, Text} || Part <- Parts, binary:match(Text, unicode:characters_to_binary(Part)) =:= nomatch].
-
-%% Without seqtool the commands do what they can, and say what it would be good for.
-no_tool_test_() ->
-    {timeout, 120, fun() ->
-        Name = seqaudit_audits:file("no_tool"),
-        ok = seqaudit_trace:start(#{name => Name}),
-        five(['receive']),
-        stopped(),
-        case auditor() of
-            none -> skipped;
-            _ ->
-                Said = command(["audit"], Name, "/no/such/seqtool"),
-                {_, _} = binary:match(Said, <<"not explained: no run was found that reports this trace; the search "
-                                              "ended at ">>),
-                {_, _} = binary:match(Said, <<"seqtool would say what the trace lacks, but it isn't there">>),
-                {_, _} = binary:match(command(["chart", "--label", "work"], Name, "/no/such/seqtool"),
-                                      <<"not explained: ">>)
-        end
-    end}.
-
-%% A seqtool that can't renumber yet completes what it is asked, with the node's own counts; one that
-%% can't complete either is said to be one. What they print of words that they don't know is left out.
-older_tools_test_() ->
-    {timeout, 120, fun() ->
-        Name = seqaudit_audits:file("older_tools"),
-        ok = seqaudit_trace:start(#{name => Name}),
-        five(['receive']),
-        stopped(),
-        case {auditor(), tool()} of
-            {none, _} -> skipped;
-            {_, none} -> skipped;
-            {_, Tool} ->
-                Completes = older(Tool, "renumber"),
-                Said = command(["audit"], Name, Completes),
-                has(Said, ["fits: 24 events of 5 processes, with 24 sends that nobody reported, 3 counts that no event "
-                           "here has",
-                           "(status 0)"]),
-                nothing_of(Said, ["error: what is", "were renumbered"]),
-                checked(Name),
-                has(command(["chart", "--label", "work"], Name, Completes), ["ann#0~1", "(status 0)"]),
-                Alone = command(["audit"], Name, older(Tool, "renumber | complete")),
-                has(Alone, ["not explained: ", "seqtool can't say what the trace lacks: it doesn't know `complete'",
-                            "(status 1)"]),
-                nothing_of(Alone, ["error: what is"])
-        end
-    end}.
-
-%% The tool without some of its commands.
-older(Tool, Commands) ->
-    File = seqaudit_audits:file("older_seqtool.sh"),
-    ok = file:write_file(File, ["#!/bin/sh\ncase \"$1\" in\n", Commands,
-                                ") echo \"error: what is $1?\" >&2; exit 3 ;;\nesac\nexec ", Tool, " \"$@\"\n"]),
-    ok = file:change_mode(File, 8#755),
-    File.
-
-nothing_of(Text, Parts) ->
-    [] = [{Part, Text} || Part <- Parts, binary:match(Text, unicode:characters_to_binary(Part)) =/= nomatch].
-
 %% Helpers
 
 with_shop(Do) ->
@@ -398,25 +224,14 @@ said(Case, Trace, Commands) ->
     {Case, {timeout, 180, fun() ->
         Name = seqaudit_audits:file(Case),
         [file:delete(File) || File <- filelib:wildcard(Name ++ ".*")],
-        case {Trace(Name), auditor(), tool()} of
-            {skipped, _, _} -> skipped;
-            {_, none, _} -> io:format(user, "~ts: skipped, there is no auditor~n", [Case]);
-            {_, _, none} -> io:format(user, "~ts: skipped, there is no seqtool~n", [Case]);
-            {_, _, Tool} ->
-                Said = [[$$, $\s,
-                         lists:join(" ", ["seqaudit-node", hd(Words), Case | [quoted(Word) || Word <- tl(Words)]]),
-                         $\n, command(Words, Name, Tool)] || Words <- Commands],
-                checked(Name),
-                compare(Case, normal(unicode:characters_to_binary(Said)))
-        end
+        Traced = Trace(Name),
+        Traced =:= skipped orelse seqaudit_audits:with_gemshowal(Case, fun(_) ->
+            Said = [[$$, $\s,
+                     lists:join(" ", ["gemshowal", hd(Words), Case | [quoted(Word) || Word <- tl(Words)]]),
+                     $\n, command(Words, Name)] || Words <- Commands],
+            compare(Case, normal(unicode:characters_to_binary(Said)))
+        end)
     end}}.
-
-%% What audit keeps is a run, as the checker confirms.
-checked(Name) ->
-    Answers = [File || File <- [Name ++ ".answer" | filelib:wildcard(Name ++ ".part*.answer")],
-                       {ok, <<"seqtrace", _/binary>>} <- [file:read_file(File)]],
-    {true, _} = {Answers =/= [], Name},
-    [{ok, {0, <<"yes\n", _/binary>>}} = seqaudit_program:run(auditor(), ["check"], File) || File <- Answers].
 
 quoted(Word) ->
     case re:run(Word, "[{#]") of
@@ -424,33 +239,8 @@ quoted(Word) ->
         _ -> ["'", Word, "'"]
     end.
 
-auditor() ->
-    case {seqaudit_program:find("seqaudit"), seqaudit_audits:model()} of
-        {{ok, Program}, _} -> Program;
-        {_, [Model]} -> Model;
-        {_, []} -> none
-    end.
-
-%% The model is asked if the program isn't built, or can't complete yet.
-tool() ->
-    case {[Program || {ok, Program} <- [seqaudit_program:find("seqtool")], completes(Program)],
-          seqaudit_audits:model()} of
-        {[Program], _} -> Program;
-        {[], [Model]} -> filename:join(filename:dirname(Model), "slow_seqtool.py");
-        {[], []} -> none
-    end.
-
-completes(Program) ->
-    Late = "seqtrace 1\nprocess <0.1.0>\n{seq_trace,1,{print,{0,5},<0.1.0>,[],0}}\n",
-    seqaudit_program:with_text(Late, fun(File) ->
-        [0, 0] =:= [Status || Words <- [["complete"], ["renumber"]],
-                              {ok, {Status, _}} <- [seqaudit_program:run(Program, Words, File)]]
-    end).
-
-command([Command | Words], Name, Tool) ->
-    {Status, Output} = seqaudit_test_shell:execute(seqaudit_test_shell:node_command(), [Command, Name | Words],
-                                                   [{"SEQAUDIT", auditor()}, {"SEQTOOL", Tool}]),
-    Said = seqaudit_test_shell:as_proved(Output),
+command([Command | Words], Name) ->
+    {Status, Said} = seqaudit_audits:gemshowal([Command, Name | Words]),
     <<Said/binary, "(status ", (integer_to_binary(Status))/binary, ")\n">>.
 
 %% Pids and references are numbered, nodes named, spaces that align set to two.

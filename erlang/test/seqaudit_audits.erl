@@ -1,8 +1,9 @@
-%% What the tests ask the auditor and the checker. The model is asked if there is Python, and the
-%% program if it is built and has the command; then both must write the same.
+%% What the tests ask the programs. The auditor's model is asked if there is Python, and the program
+%% if it is built; then both must write the same.
 -module(seqaudit_audits).
 
--export([file/1, mode/1, home/0, tests/0, tests_of_node/0, fits/1, audit/1, answer/2, has/1, has/2, programs/0, tools/0, model/0]).
+-export([file/1, mode/1, home/0, tests/0, tests_of_node/0, fits/1, audit/1, tools/0, model/0]).
+-export([find/1, with_gemshowal/2, gemshowal/1]).
 
 -include_lib("kernel/include/file.hrl").
 
@@ -45,67 +46,60 @@ fits(Name) ->
     end.
 
 confirmed(Name, Answer) ->
-    File = Name ++ ".answer",
+    File = Name ++ ".acts",
     ok = file:write_file(File, Answer),
-    lists:foreach(fun(Program) ->
-                          {ok, {0, <<"yes\n", _/binary>>}} = seqaudit_program:run(Program, ["check"], File)
-                  end, with("check")),
+    [{0, <<"yes\n", _/binary>>} = run(Program, "check", File) || Program <- programs()],
     ok.
 
-audit(Name) -> answer(["audit"], Name).
-
-answer([Command | _] = Words, Name) ->
-    Answers = [begin
-                   {ok, Answer} = seqaudit_program:run(Program, Words, Name ++ ".seqtrace"),
-                   Answer
-               end || Program <- with(Command)],
-    case lists:usort(Answers) of
+audit(Name) ->
+    case lists:usort([run(Program, "audit", Name ++ ".seqtrace") || Program <- programs()]) of
         [Answer] -> Answer;
         [] -> skipped
     end.
 
-%% The programs that have the command.
-with(Command) ->
-    [Program || Program <- programs(), has(Program, Command)].
-
-has(Command) -> with(Command) =/= [].
-
-has(Program, Command) ->
-    Words = case Command of
-                "chart" -> ["chart", "--label", "0"];
-                _ -> [Command]
-            end,
-    {ok, {Status, _}} = seqaudit_program:run(Program, Words, "/dev/null"),
-    Status =/= 3.
+run(Program, Command, Input) ->
+    seqaudit_test_shell:execute("/bin/sh", ["-c", "exec \"$0\" \"$1\" <\"$2\"", Program, Command, Input],
+                                []).
 
 programs() ->
-    [File || {ok, File} <- [seqaudit_program:find()]] ++ model().
+    [File || {ok, File} <- [find("seqaudit")]] ++ model().
 
-%% The model as a program, where there is a Python to run it.
+%% The model as a program, if there is a Python to run it.
 model() ->
     case os:find_executable("python3") of
         false -> [];
         _ -> [filename:join([tests(), "models", "slow_seqaudit.py"])]
     end.
 
+%% A program: where its variable says, or what was built last.
+find(Name) ->
+    Bin = filename:join(filename:dirname(home()), "bin"),
+    Files = case os:getenv(string:uppercase(Name)) of
+                false -> [filename:join(Bin, Name), filename:join([Bin, "rust", Name])];
+                File -> [File]
+            end,
+    case lists:filter(fun filelib:is_regular/1, Files) of
+        [Found | _] -> {ok, Found};
+        [] -> none
+    end.
+
+%% Does the test if gemshowal is built.
+with_gemshowal(What, Test) ->
+    case find("gemshowal") of
+        {ok, Program} -> Test(Program);
+        none -> io:format(user, "~ts: skipped, gemshowal isn't built~n", [What])
+    end.
+
+%% Its status and what it wrote, errors too.
+gemshowal(Words) ->
+    {ok, Program} = find("gemshowal"),
+    seqaudit_test_shell:execute(Program, Words, []).
+
 %% Says which of them the tests ask.
 tools() ->
-    Built = seqaudit_program:find(),
-    [io:format("~-6ts ~ts~n", [Command ++ ":", tool(Built, Command)])
-     || Command <- ["audit", "chart", "check"]],
+    [io:format("~-10ts ~ts~n", [Name ++ ":", case find(Name) of
+                                                 {ok, File} -> File;
+                                                 none -> "skipped, it isn't built"
+                                             end]) || Name <- ["seqaudit", "seqtool", "gemshowal"]],
+    [] =:= model() andalso io:format("there is no python3 for the model: skipped~n"),
     ok.
-
-tool(Built, Command) ->
-    Program = case Built of
-                  {ok, File} ->
-                      case has(File, Command) of
-                          true -> File;
-                          false -> File ++ " has no " ++ Command ++ " yet: skipped"
-                      end;
-                  {error, _} -> "seqaudit isn't built: skipped"
-              end,
-    Model = case model() of
-                [Found] -> Found;
-                [] -> "there is no python3 for the model: skipped"
-            end,
-    Program ++ "; " ++ Model.

@@ -46,14 +46,11 @@ pause_test_() ->
         false = erpc:call(There, seq_trace, get_system_tracer, []),
         {ok, [#{events := Events}]} = seqaudit_events:read(File ++ ".events"),
         {seq_trace, 1, {print, _, _, _, behind}} = lists:last(Events),
-        audited(seqaudit_audits:programs(), File)
+        seqaudit_audits:with_gemshowal("audit of a pause", fun(_) -> audited(File) end)
     end).
 
-audited([], _File) ->
-    io:format(user, "audit of a pause: skipped, there is no program~n", []);
-audited([Program | _], File) ->
-    {_, Said} = seqaudit_test_shell:run([seqaudit_test_shell:node_command(), " audit ", File],
-                                        [{"SEQAUDIT", Program}, {"SEQTOOL", "/no/such/seqtool"}]),
+audited(File) ->
+    {_, Said} = seqaudit_audits:gemshowal(["audit", File]),
     nomatch = binary:match(Said, <<"nothing is known to be missing">>),
     {_, _} = binary:match(Said, <<"The trace isn't whole:\n">>),
     {_, _} = binary:match(Said, <<"so the tracer was off ">>).
@@ -143,9 +140,8 @@ notes_test() ->
                   - calendar:datetime_to_gregorian_seconds({{1970, 1, 1}, {0, 0, 0}})) + 20,
     ["a@h: events came faster than they could be written, so the tracer was off 12 times, for 3,400 ms in all, and "
      "what happened meanwhile is lost (it can't be counted): at 2026-11-25 18:50:01.020 UTC for 70 ms, from 2026-11-25 "
-     "18:50:02.020 UTC to the end, and 10 times more"] = Said = notes({12, 3_400, [{At, 70}, {At + 1_000, open}]}),
+     "18:50:02.020 UTC to the end, and 10 times more"] = notes({12, 3_400, [{At, 70}, {At + 1_000, open}]}),
     ["a@h: events came faster" ++ _] = notes({1, 0, []}),
-    true = seqaudit_explain:losses([unicode:characters_to_binary(Said)]) =/= "",
     [[] = notes(Wrong) || Wrong <- [{0, 0, []}, {1, -1, []}, {1, 1, [{1, 1} | x]}, {x, 1, []}, {1, 1}, x,
                                     {1, 1, lists:duplicate(1_000, {At, 1})}]],
     ["a@h: " ++ _] = notes({1, 1, [{-1, 1}, {1, x}, {At * 1_000, 1}, x]}).

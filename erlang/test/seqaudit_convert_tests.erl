@@ -176,7 +176,7 @@ limits_test() ->
             end,
     [] = Facts(1_000_000),
     [{limits, Note}] = Facts(1_000_001),
-    true = has(Note, "it has 1,000,001 processes, and `seqtool audit' takes 1,000,000").
+    true = has(Note, "it has 1,000,001 processes, and `gemshowal' takes 1,000,000").
 
 %% A node number has 65,536 numbers for processes. With more processes a node gets further numbers, and nothing is left
 %% out.
@@ -195,8 +195,8 @@ many_processes_test_() ->
         {_, _} = binary:match(Text, <<"\nprocess <3.65535.0>\n">>),
         Name = seqaudit_audits:file("many_processes"),
         ok = file:write_file(Name ++ ".terms", Terms),
-        {ok, Legend} = seqaudit_legend:read(Name ++ ".terms"),
-        true = seqaudit_legend:has_further_nodes(Legend)
+        #{{node, <<"2">>} := <<"a@h">>, {node, <<"3">>} := <<"a@h">>} =
+            seqaudit_test_traces:terms(Name)
     end}.
 
 lost_test() ->
@@ -334,4 +334,5 @@ damaged_event_test() ->
                          ["seqaudit events 2\n", Entry(2, term_to_binary(#{node => node(), dropped => 0})),
                           Entry(0, Event(1)), Entry(0, binary:part(Event(2), 0, byte_size(Event(2)) - 3))]),
     {ok, #{events := 1}} = seqaudit_convert:from_files([Name ++ ".events"], Name),
-    [<<"convert left out 1 entry that can't be read, since it is damaged">>] = seqaudit_answer:losses(Name).
+    [<<"convert left out 1 entry that can't be read, since it is damaged">>] =
+        seqaudit_test_traces:losses(Name).

@@ -1,72 +1,39 @@
-%% Traces of Elixir are shown as Elixir writes terms, and mix takes the application as a dependency.
+%% Mix takes the application as a dependency.
 -module(seqaudit_elixir_tests).
 
--export([text_test/0, legend_test/0, mix_test_/0]).
+-export([mix_test_/0]).
 
-text_test() ->
-    [{Text, Elixir} = {Text, seqaudit_elixir:text(Text)}
-     || {Text, Elixir} <-
-            [{<<"#{'__struct__' => 'Elixir.Shop.Order',item => <<\"apple\">>,n => 3}">>,
-              <<"%Shop.Order{item: \"apple\",n: 3}">>},
-             {<<"#{'__exception__' => true,'__struct__' => 'Elixir.KeyError',key => a}">>, <<"%KeyError{key: :a}">>},
-             {<<"#{'__struct__' => 'Elixir.Empty'}">>, <<"%Empty{}">>},
-             {<<"{ok,'Elixir.Shop',nil,true,\"ab\",<0.80.0>,#Ref<0.1.2.3>}">>,
-              <<"{:ok,Shop,nil,true,~c\"ab\",#PID<0.80.0>,#Reference<0.1.2.3>}">>},
-             {<<"#{1 => a,b => <<1,2>>,'two words' => 'x y'}">>, <<"%{1 => :a,b: <<1,2>>,\"two words\": :\"x y\"}">>},
-             {<<"[käse,-1.5e3,16#ff,<<\"a => \\\"b\\\"\"/utf8>>]"/utf8>>,
-              <<"[:käse,-1.5e3,16#ff,\"a => \\\"b\\\"\"]"/utf8>>},
-             {<<"shop:order/2">>, <<":shop.order/2">>},
-             {<<"{ok,<<\"cut te...">>, <<"{:ok,<<\"cut te...">>}, {<<>>, <<>>}]],
-    <<"Shop.Server:init/1 <0.80.0>">> = seqaudit_elixir:name(<<"'Elixir.Shop.Server':init/1 <0.80.0>">>).
-
-%% Names and labels of Elixir are found as they are shown; without a module of Elixir all stays as Erlang writes it.
-legend_test() ->
-    File = seqaudit_audits:file("elixir.terms"),
-    Legend = fun(Name, Label) ->
-                     ok = file:write_file(File, seqaudit_legend:text([{"<0.1.0>", Name, "a process"}], [{7, Label}],
-                                                                     [{0, {'$gen_cast', {order, apple}}}], #{})),
-                     {ok, Read} = seqaudit_legend:read(File),
-                     Read
-             end,
-    Elixir = Legend("'Elixir.Shop'", {'Elixir.Shop', order}),
-    <<"Shop">> = seqaudit_legend:process(<<"<0.1.0>">>, Elixir),
-    <<"{Shop,:order}">> = seqaudit_legend:label(<<"7">>, Elixir),
-    {ok, <<"7">>} = seqaudit_legend:find_label("{Shop,:order}", Elixir),
-    <<"cast {:order,:apple}">> = seqaudit_legend:brief(<<"0">>, Elixir),
-    <<"{:\"$gen_cast\",{:order,:apple}}">> = seqaudit_legend:value(<<"0">>, Elixir),
-    Erlang = Legend("shop", order),
-    <<"cast {order,apple}">> = seqaudit_legend:brief(<<"0">>, Erlang),
-    {ok, <<"7">>} = seqaudit_legend:find_label("order", Erlang).
-
-%% A program of Elixir that has the application as a dependency by path traces itself, and mix shows it.
+%% A program of Elixir that has the application as a dependency by path traces itself, mix converts what
+%% came, and gemshowal shows it as Elixir writes terms.
 mix_test_() ->
     {timeout, 600, fun() ->
-        case {os:find_executable("mix"),
-              [Program || Program <- seqaudit_audits:programs(), seqaudit_audits:has(Program, "chart")]} of
-            {false, _} -> io:format(user, "mix: skipped, it isn't here (elixir)~n", []);
-            {_, []} -> io:format(user, "mix: skipped, there is no seqaudit~n", []);
-            {Mix, [Program | _]} -> mix(Mix, Program, seqaudit_audits:file("mix"))
+        case os:find_executable("mix") of
+            false -> io:format(user, "mix: skipped, it isn't here (elixir)~n", []);
+            Mix -> mix(Mix, seqaudit_audits:file("mix"))
         end
     end}.
 
-mix(Mix, Program, Folder) ->
+mix(Mix, Folder) ->
     _ = file:del_dir_r(Folder),
     ok = filelib:ensure_dir(filename:join([Folder, "lib", "x"])),
     [ok = file:write_file(filename:join(Folder, File), Text) || {File, Text} <- shop()],
     Run = fun(Words) ->
-                  seqaudit_test_shell:run(["cd ", Folder, " && LC_ALL=C.UTF-8 MIX_ENV=dev ", Mix, $\s, Words],
-                                          [{"SEQAUDIT", Program}, {"SEQTOOL", "/no/such/seqtool"}])
+                  seqaudit_test_shell:run(["cd ", Folder, " && LC_ALL=C.UTF-8 MIX_ENV=dev ", Mix, $\s, Words])
           end,
     {0, Built} = Run("run trace.exs 2>&1"),
     nomatch = binary:match(Built, <<"warning">>),
-    {0, Chart} = Run("seqaudit chart traced --label '{Shop,7}'"),
-    {_, _} = binary:match(Chart, <<"lane 2 Shop\n">>),
-    {_, _} = binary:match(Chart, <<" call %Shop.Order{item: \"apple\",n: 3}  begins here\n">>),
-    {_, _} = binary:match(Chart, <<" reply {:ok,3,\"sold\",nil}  after Shop#0\n">>),
-    {0, Why} = Run("seqaudit why traced --event Shop#1"),
-    {_, _} = binary:match(Why, <<"Shop#1: Shop sends reply {:ok,3,\"sold\",nil} to ">>),
-    {Status, _} = Run("seqaudit audit nothing"),
-    true = Status =/= 0.
+    Name = filename:join(Folder, "traced"),
+    ok = file:delete(Name ++ ".seqtrace"),
+    {0, Converted} = Run("seqaudit convert traced.events -o traced"),
+    {_, _} = binary:match(Converted, <<"4 events of 2 processes: traced.seqtrace">>),
+    {Status, _} = Run("seqaudit convert nothing -o traced"),
+    true = Status =/= 0,
+    seqaudit_audits:with_gemshowal("mix: the chart", fun(_) ->
+        {0, Chart} = seqaudit_audits:gemshowal(["chart", Name, "--label", "{Shop,7}"]),
+        {match, _} = re:run(Chart, "lane [12] Shop\n"),
+        {_, _} = binary:match(Chart, <<" call %Shop.Order{item: \"apple\",n: 3}  begins here\n">>),
+        {_, _} = binary:match(Chart, <<" reply {:ok,3,\"sold\",nil}  after Shop#0\n">>)
+    end).
 
 shop() ->
     [{"mix.exs", ["defmodule Shop.MixProject do\n  use Mix.Project\n"

@@ -88,24 +88,10 @@ closed_output_test_() ->
              {ok, <<>>} = file:read_file(filename:join(Folder, "errors")),
              false = filelib:is_regular(filename:join(Folder, "erl_crash.dump"))
          end || Words <- ["--help", ["convert ", Capture, " -o x"]]],
-        Charting = [Program || Program <- seqaudit_audits:programs(), seqaudit_audits:has(Program, "chart")],
-        [closed_chart(Folder, Program) || Program <- lists:sublist(Charting, 1)],
         %% So it is if nobody reads its errors.
         {0, <<>>} = run(["cd ", Folder, "; { ", node_command(), " frobnicate 2>&1; echo $? >status; } | true"]),
         {ok, <<"141\n">>} = file:read_file(filename:join(Folder, "status"))
     end}.
-
-%% A chart in parts, as behind a reset, is printed part by part.
-closed_chart(Folder, Program) ->
-    ok = file:write_file(filename:join(Folder, "parts.txt"),
-                         [io_lib:format("{seq_trace,7,{print,{~b,~b},<0.80.0>,[],~ts}}.~n", [This - 1, This, Secret])
-                          || Secret <- [secret, another], This <- lists:seq(1, 200)]),
-    {0, <<"label 7\n">>} =
-        run(["cd ", Folder, "; ", node_command(), " convert parts.txt -o parts >log && { ", node_command(),
-             " chart parts --label 7 2>errors; echo $? >status; } | grep -m 1 '^label'"],
-            [{"SEQAUDIT", Program}, {"SEQTOOL", "/no/such/seqtool"}]),
-    {ok, <<"141\n">>} = file:read_file(filename:join(Folder, "status")),
-    false = filelib:is_regular(filename:join(Folder, "erl_crash.dump")).
 
 %% What was collected is written though nobody reads what the command says, and nothing is left on the node.
 closed_collect_test_() ->
@@ -143,27 +129,16 @@ unicode_errors_test_() ->
                                               {4, "convert /no/käse→ -o x", "/no/käse→: no such file"}]]
     end}.
 
-%% A name with control characters is shown escaped, whoever wrote the files, and an event is found by it.
+%% What a file says is shown with its control characters escaped.
 control_characters_test_() ->
     {timeout, 120, fun() ->
         Name = seqaudit_audits:file("controls"),
-        Escape = <<27, "[31m">>,
-        ok = file:write_file(Name ++ ".txt", <<"{seq_trace,1,{print,{0,1},<0.80.0>,[],'a\\e[31mb'}}.\n"
-                                               "{seq_trace,1,{print,{1,2},<0.80.0>,[],\"x\\x{202e}y\"}}.\n">>),
-        {0, _} = run([node_command(), " convert ", Name, ".txt -o ", Name]),
-        {ok, Terms} = file:read_file(Name ++ ".terms"),
-        ok = file:write_file(Name ++ ".terms", binary:replace(Terms, <<"\t<0.80.0>\t<0.80.0>\t">>,
-                                                              <<"\t<0.80.0>\tred", Escape/binary, "\t">>)),
-        Programs = [{"SEQAUDIT", Program} || Program <- seqaudit_audits:programs(),
-                    seqaudit_audits:has(Program, "chart")],
-        [begin
-             {0, Said} = run([node_command(), $\s, Words], [Program, {"SEQTOOL", "/no/such/seqtool"}]),
-             nomatch = binary:match(Said, [<<27>>, <<16#202E/utf8>>]),
-             {_, _} = binary:match(Said, <<"red\\x{1B}[31m#1">>),
-             {_, _} = binary:match(Said, <<"x\\x{202E}y">>)
-         end || Program <- lists:sublist(Programs, 1),
-                Words <- [["audit --whole ", Name], ["chart --label 1 ", Name],
-                          ["why ", Name, " --event 'red\\x{1B}[31m#1'"]]]
+        ok = file:write_file(Name ++ ".txt", <<"{seq_trace,1,{print,{0,1},<0.80.0>,[],x}}.\n"
+                                               "{seq_trace,1,{'a\\e[31mb',{1,2},<0.80.0>,[],\"x\\x{202e}y\"}}.\n">>),
+        {0, Said} = run([node_command(), " convert ", Name, ".txt -o ", Name]),
+        {_, _} = binary:match(Said, <<"left out 1 entry of seq_trace whose form it doesn't know">>),
+        {_, _} = binary:match(Said, [<<"[31mb">>]),
+        nomatch = binary:match(Said, [<<27>>, <<16#202E/utf8>>])
     end}.
 
 escaped_test() ->

@@ -115,11 +115,10 @@ echo() ->
 
 %% The messages that were received as something else than was sent.
 differing(Name) ->
-    {ok, Streams} = seqaudit_bundle:read(Name ++ ".seqtrace"),
-    Events = lists:append([Events || {_, Events} <- Streams]),
+    Events = seqaudit_test_traces:events(Name),
     Sent = maps:from_list([{{From, This}, Value}
-                           || #{kind := send, from := From, this := This, value := Value} <- Events]),
-    [Event || #{kind := 'receive', from := From, this := This, value := Value} = Event <- Events,
+                           || #{kind := <<"send">>, from := From, this := This, value := Value} <- Events]),
+    [Event || #{kind := <<"'receive'">>, from := From, this := This, value := Value} = Event <- Events,
               maps:get({From, This}, Sent) =/= Value].
 
 %% A fun that runs on another node, by `spawn/2' and by `erpc'.
@@ -132,11 +131,7 @@ funs_on_another_node_test_() ->
              seqaudit_trace:with_trace(1, fun() -> run(How, There, fun() -> Self ! {from, node()} end) end),
              {ok, _} = seqaudit_trace:stop(),
              [] = differing(Name),
-             {ok, Streams} = seqaudit_bundle:read(Name ++ ".seqtrace"),
-             case seqaudit_outcome:ask(Streams) of
-                 {ok, #{said := Said}} -> {How, true} = {How, lists:member(Said, [fits, completed, unexplained])};
-                 {error, {no_program, _, _}} -> skipped
-             end
+             seqaudit_audits:with_gemshowal("funs", fun(_) -> {0, _} = seqaudit_audits:gemshowal(["audit", Name]) end)
          end || How <- [spawn, erpc]]
     end).
 

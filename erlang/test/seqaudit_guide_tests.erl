@@ -5,17 +5,9 @@
 -export([guide_test_/0]).
 
 guide_test_() ->
-    with_programs("the guide", fun guide/1).
+    {timeout, 240, fun() -> seqaudit_audits:with_gemshowal("the guide", fun guide/1) end}.
 
-with_programs(What, Test) ->
-    {timeout, 240, fun() ->
-        case {seqaudit_program:find("seqaudit"), seqaudit_program:find("seqtool")} of
-            {{ok, Auditor}, {ok, Tool}} -> Test([{"SEQAUDIT", Auditor}, {"SEQTOOL", Tool}]);
-            _ -> io:format(user, "~ts: skipped, the programs aren't built~n", [What])
-        end
-    end}.
-
-guide(Programs) ->
+guide(Gemshowal) ->
     Folder = seqaudit_audits:file("guide"),
     _ = file:del_dir_r(Folder),
     ok = file:make_dir(Folder),
@@ -25,9 +17,9 @@ guide(Programs) ->
                                quoted(binary:split(Page, <<"\n">>, [global]))
                            end || Name <- ["ERLANG.md", "ERLANG-REFERENCE.md"]]),
     %% Each of the four traces is audited, and the order is cut.
-    [true = lists:any(fun({Command, _}) -> string:find(Command, "seqaudit-node audit " ++ Name) =/= nomatch end, Quoted)
+    [true = lists:any(fun({Command, _}) -> string:find(Command, "gemshowal audit " ++ Name) =/= nomatch end, Quoted)
      || Name <- ["order", "second", "flag", "reset", "order --process"]],
-    [same(Command, Said, Folder, Programs) || {Command, Said} <- Quoted].
+    [same(Command, Said, Folder, Gemshowal) || {Command, Said} <- Quoted].
 
 %% The traces, as the guide makes them: by a process that has no name, and then by three others.
 collect(File) ->
@@ -79,7 +71,7 @@ settled() ->
 %% Each command of a page that is one of ours, and the lines below it that are indented as it is.
 quoted([<<"    $ ", Command/binary>> | Lines]) ->
     {Said, Rest} = lists:splitwith(fun is_said/1, Lines),
-    case re:run(Command, "^(erlang/seqaudit-node|seqaudit|seqtool|cp|grep) ") of
+    case re:run(Command, "^(gemshowal|cp|grep) ") of
         {match, _} -> [{binary_to_list(Command), [Line || <<"    ", Line/binary>> <- Said]} | quoted(Rest)];
         nomatch -> quoted(Rest)
     end;
@@ -92,11 +84,10 @@ is_said(<<"    $ ", _/binary>>) -> false;
 is_said(<<"    ", _/binary>>) -> true;
 is_said(_) -> false.
 
-same(Command, Quoted, Folder, Programs) ->
-    Ours = ["seqaudit() { \"$SEQAUDIT\" \"$@\"; }; seqtool() { \"$SEQTOOL\" \"$@\"; }; cd ", Folder, " && "],
-    Here = string:replace(Command, "erlang/seqaudit-node", seqaudit_test_shell:node_command()),
-    {_, Said} = seqaudit_test_shell:run([Ours, Here], Programs),
-    Lines = binary:split(normal(seqaudit_test_shell:as_proved(Said)), <<"\n">>, [global, trim]),
+same(Command, Quoted, Folder, Gemshowal) ->
+    Ours = ["gemshowal() { \"$GEMSHOWAL\" \"$@\"; }; cd ", Folder, " && "],
+    {_, Said} = seqaudit_test_shell:run([Ours, Command], [{"GEMSHOWAL", Gemshowal}]),
+    Lines = binary:split(normal(Said), <<"\n">>, [global, trim]),
     {Command, ok} = {Command, compared([normal(Line) || Line <- Quoted], Lines)}.
 
 %% Two dots replace what isn't quoted: the rest of a line, or lines.

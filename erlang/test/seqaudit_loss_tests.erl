@@ -334,10 +334,9 @@ late_names_test_() ->
         ok = gen_server:stop(Short),
         true = register(seqaudit_test_late, Late),
         {ok, _} = seqaudit_trace:stop(),
-        {ok, Legend} = seqaudit_legend:read(Name ++ ".terms"),
-        <<"seqaudit_test_late">> = seqaudit_legend:process(list_to_binary(pid_to_list(Late)), Legend),
-        {_, _} = binary:match(seqaudit_legend:process(list_to_binary(pid_to_list(Short)), Legend),
-                              <<"seqaudit_test_server:init/1 <0.">>),
+        [<<"seqaudit_test_late">>, <<"seqaudit_test_server:init/1 <0.", _/binary>>] =
+            [maps:get({process, list_to_binary(pid_to_list(Pid))}, seqaudit_test_traces:terms(Name))
+             || Pid <- [Late, Short]],
         exit(Late, kill)
     end}.
 

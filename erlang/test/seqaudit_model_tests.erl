@@ -43,7 +43,7 @@ files_test_() ->
 
 with_programs(What, Test) ->
     {timeout, 300, fun() ->
-        case {seqaudit_program:find("seqaudit"), seqaudit_program:find("seqtool"), seqaudit_audits:model()} of
+        case {seqaudit_audits:find("seqaudit"), seqaudit_audits:find("seqtool"), seqaudit_audits:model()} of
             {{ok, Auditor}, {ok, Tool}, [_]} -> Test(Auditor, Tool);
             {_, _, []} -> io:format(user, "~ts: skipped, there is no python3~n", [What]);
             _ -> io:format(user, "~ts: skipped, the programs aren't built~n", [What])

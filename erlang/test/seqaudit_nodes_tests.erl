@@ -32,13 +32,12 @@ two_nodes(There) ->
     {ok, #{events := Events}} = seqaudit_trace:stop(),
     false = erpc:call(There, seq_trace, get_system_tracer, []),
     true = Events >= 9,
-    {ok, Legend} = seqaudit_legend:read(Name ++ ".terms"),
+    Terms = seqaudit_test_traces:terms(Name),
     {ok, Text} = file:read_file(Name ++ ".seqtrace"),
     {match, [Pid]} = re:run(Text, "<1\\.[0-9]+\\.0>", [{capture, first, binary}]),
     Remote = list_to_binary("remote on " ++ atom_to_list(There)),
-    Remote = seqaudit_legend:process(Pid, Legend),
+    Remote = maps:get({process, Pid}, Terms),
     %% A process of the other node has its number in messages too.
-    {match, _} = re:run(lists:join("\n", [seqaudit_legend:value(integer_to_binary(Value), Legend)
-                                          || Value <- lists:seq(0, Events - 1)]),
+    {match, _} = re:run(lists:join("\n", [Value || {{value, _}, Value} <- maps:to_list(Terms)]),
                         [",{", binary_to_list(Pid), "}}"]),
     seqaudit_audits:fits(Name).

@@ -4,7 +4,7 @@
 -export([rebar3_test_/0, metadata_test/0, release_test/0, xref_test_/0, documented_test/0, unload_test_/0]).
 
 %% rebar3 compiles, makes the pages of the modules and the escript, with nothing from the network.
-%% The escript does from another folder what the command does: it collects, converts, audits and makes a page.
+%% The escript collects and converts from another folder, as the command does.
 rebar3_test_() ->
     {timeout, 600, fun() ->
         case {os:find_executable("rebar3"), code:which(crypto)} of
@@ -18,7 +18,7 @@ packaged(Rebar, Folder) ->
     _ = file:del_dir_r(Folder),
     ok = file:make_dir(Folder),
     {0, _} = seqaudit_test_shell:run(["cd ", seqaudit_audits:home(), " && tar -c --exclude=test/out "
-                                      "--exclude=test/ebin rebar.config seqaudit-node src priv test | tar -x -C ",
+                                      "--exclude=test/ebin rebar.config seqaudit-node src test | tar -x -C ",
                                       Folder]),
     [{0, _} = seqaudit_test_shell:run(["cd ", Folder, " && HOME=", Folder, " ", Rebar, " ", Words])
      || Words <- ["compile", "xref", "edoc", "as escript escriptize"]],
@@ -33,17 +33,9 @@ collected(There, Command, Folder) ->
     {0, Said} = seqaudit_test_shell:terminated_when(Collect, Name,
                                                     fun() -> seqaudit_test_nodes:print_when_traced(There) end),
     {_, _} = binary:match(Said, <<"1 event of 1 process">>),
-    case seqaudit_audits:programs() of
-        [] -> io:format(user, "the escript's audit: skipped, there is no auditor~n", []);
-        Programs -> answered(lists:last(Programs), Command, Name)
-    end.
-
-answered(Program, Command, Name) ->
-    Variables = [{"SEQAUDIT", Program}, {"SEQTOOL", "/no/such/seqtool"}],
-    {0, Fits} = seqaudit_test_shell:run(["cd / && ", Command, " audit ", Name], Variables),
-    {match, _} = re:run(Fits, "^fits( \\(by programs without proofs\\))?: 1 event of 1 process", [multiline]),
-    {0, _} = seqaudit_test_shell:run(["cd / && ", Command, " chart ", Name, " --html ", Name, ".html"], Variables),
-    {ok, <<"<!doctype html>", _/binary>>} = file:read_file(Name ++ ".html").
+    ok = file:delete(Name ++ ".seqtrace"),
+    {0, _} = seqaudit_test_shell:run(["cd / && ", Command, " convert ", Name, ".events -o ", Name]),
+    seqaudit_audits:fits(Name).
 
 %% What a registry of packages needs is there, and says the same to rebar3 and mix.
 metadata_test() ->

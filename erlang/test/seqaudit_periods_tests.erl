@@ -3,7 +3,7 @@
 
 -export([rotate_test_/0, again_test_/0, other_tracer_test_/0, slow_disk_test_/0, cancel_on_slow_disk_test_/0,
          large_event_test/0, ended_test_/0, back_test_/0, quiet_test/0, rest_test/0, never_quiet_test/0, watch_test_/0,
-         too_many_test_/0]).
+         unaudited_test_/0]).
 %% Called by name.
 -export([serve/1, answer/0, request/2]).
 
@@ -266,23 +266,18 @@ never_quiet_test() ->
 %% A node under load is watched: what fits goes, a reset is kept with the periods beside it, and the command ends at
 %% once.
 watch_test_() ->
-    with_watch("w", fun(Program) -> Program end, fun watched/4).
+    with_gemshowal("w", fun watched/4).
 
-with_watch(Name, Asked, Test) -> with_watch(Name, 25, Asked, Test).
-
-with_watch(Name, InSecond, Asked, Test) ->
+with_gemshowal(Name, Test) ->
     {timeout, 600, fun() ->
-        case {seqaudit_program:find("seqaudit"), seqaudit_program:find("seqtool")} of
-            {{ok, Program}, {ok, Tool}} ->
-                seqaudit_test_nodes:with_second("watch", fun(There) ->
-                    begun(There, {Name, InSecond}, [{"SEQAUDIT", Asked(Program)}, {"SEQTOOL", Asked(Tool)}], Test)
-                end);
-            _ -> io:format(user, "watch: skipped, the programs aren't built~n", [])
-        end
+        seqaudit_audits:with_gemshowal("watch", fun(Program) -> with_watch(Name, Program, Test) end)
     end}.
 
+with_watch(Name, Gemshowal, Test) ->
+    seqaudit_test_nodes:with_second("watch", fun(There) -> begun(There, Name, Gemshowal, Test) end).
+
 %% The command watches a node with a service, and what it says goes to a file.
-begun(There, {Name, InSecond}, Programs, Test) ->
+begun(There, Name, Gemshowal, Test) ->
     Folder = seqaudit_audits:file("watched_" ++ Name),
     _ = file:del_dir_r(Folder),
     ok = file:make_dir(Folder),
@@ -291,9 +286,9 @@ begun(There, {Name, InSecond}, Programs, Test) ->
                                        " watch --node ",
                                        atom_to_list(There), " --every 2 -o ", filename:join(Folder, Name), " >", Said,
                                        " 2>&1"],
-                                      seqaudit_test_shell:cookie() ++ Programs),
+                                      [{"GEMSHOWAL", Gemshowal} | seqaudit_test_shell:cookie()]),
     seqaudit_test_nodes:until(fun() -> seqaudit_test_nodes:is_traced(There) end),
-    Service = served(There, InSecond),
+    Service = served(There, 25),
     Says = fun(Pattern) ->
                    {ok, Text} = file:read_file(Said),
                    case re:run(Text, Pattern, [global, {capture, all, list}]) of
@@ -339,13 +334,13 @@ watched(There, Name, Says, End) ->
     Around = lists:sort([Number || One <- filelib:wildcard(Name ++ ".*.seqtrace"),
                                    ["w", Number, "seqtrace"] <- [string:split(filename:basename(One), ".", all)]]),
     [_ | _] = Says("cut at a quiet moment"),
-    [[_]] = Says("[0-9]+ periods audited, 3 kept; period [0-9]+, which was running, isn't audited\n"),
+    [[_]] = Says("[0-9]+ periods, 3 kept; period [0-9]+, which was running, isn't audited\n"),
     [] = filelib:wildcard(Name ++ ".*.rest.events").
 
 %% A collector that ended by itself is begun again: the line says since when what is lost, and the next periods are
 %% whole.
 ended_test_() ->
-    with_watch("ended", fun(Program) -> Program end, fun(There, Name, Says, End) ->
+    with_gemshowal("ended", fun(There, Name, Says, End) ->
         seqaudit_test_nodes:until(fun() -> Says("period [0-9]+: fits.*: .* not kept") =/= [] end),
         ok = erpc:call(There, fun() -> _ = break_port(), ok end),
         seqaudit_test_nodes:until(fun() ->
@@ -361,7 +356,7 @@ ended_test_() ->
 
 %% A node that went down and was started anew is watched again.
 back_test_() ->
-    with_watch("back", fun(Program) -> Program end, fun(There, _Name, Says, End) ->
+    with_gemshowal("back", fun(There, _Name, Says, End) ->
         seqaudit_test_nodes:until(fun() -> Says("period [0-9]+: fits.*: .* not kept") =/= [] end),
         seqaudit_test_nodes:kill(There),
         seqaudit_test_nodes:until(fun() -> Says("wasn't asked \\(it can't be reached\\)") =/= [] end),
@@ -373,34 +368,19 @@ back_test_() ->
         Stop()
     end).
 
-%% A period with more processes than the programs take is audited label by label. These take three; of more, seqtool
-%% audits those of every second period, and finds no run.
-too_many_test_() ->
-    %% Each label takes some programs and shells. If auditing a period takes longer than the period, the next one is
-    %% longer still, and on a busy machine that wouldn't end: so there are few labels.
-    with_watch("many", 2, fun(Program) ->
-        Script = seqaudit_audits:file("few_processes_" ++ filename:basename(Program) ++ ".sh"),
-        Audits = case string:find(filename:basename(Program), "seqtool") of nomatch -> "none"; _ -> "audit" end,
-        _ = file:delete(Script ++ ".once"),
-        ok = file:write_file(Script, ["#!/bin/sh\ninput=$(cat)\n"
-                                      "if [ \"$(echo \"$input\" | grep -c ^process)\" -gt 3 ]; then\n"
-                                      "if [ $1 = ", Audits,
-                                      " ] && ! rm \"$0.once\" 2>/dev/null; then touch \"$0.once\"\n"
-                                      "echo \"$input\" | awk '/^{/ { print \"unfit\", pid, \"0 toowide\"; exit } "
-                                      "{ pid = $2 }'\n"
-                                      "exit 1; fi\n"
-                                      "echo fault too many processes; exit 2; fi\n"
-                                      "echo \"$input\" | ", Program, " \"$@\"\n"]),
-        ok = file:change_mode(Script, 8#755),
-        Script
-    end, fun(_There, Name, Says, End) ->
-        %% The programs may be plain Rust.
-        Fits = "period [0-9]+: [0-9]+ events, too many for the programs at once; of ([0-9]+) labels \\1 fit by "
-               "themselves( \\(by programs without proofs\\))?; cut .*; not kept",
-        seqaudit_test_nodes:until_within(300, fun() -> length(Says(Fits)) >= 2 end),
-        0 = End(),
-        [] = filelib:wildcard(Name ++ ".*")
-    end).
+%% Without gemshowal each period is kept, and its line says that it wasn't audited, and what to do.
+unaudited_test_() ->
+    {timeout, 600, fun() ->
+        with_watch("unaudited", "/no/such/gemshowal", fun(_There, Name, Says, End) ->
+            Advice = "there is no /no/such/gemshowal, which the variable GEMSHOWAL names",
+            seqaudit_test_nodes:until(fun() ->
+                length(Says("period [0-9]+: [0-9]+ events, not audited: " ++ Advice ++ "; cut .*; kept as ")) >= 2
+            end),
+            1 = End(),
+            [[_]] = Says("seqaudit-node: " ++ Advice ++ "; periods are kept without an audit\n"),
+            [_, _ | _] = filelib:wildcard(Name ++ ".*.seqtrace")
+        end)
+    end}.
 
 %% So many requests a second, each with a process and a label of its own; whoever makes them has no token.
 serve(InSecond) ->

@@ -302,8 +302,7 @@ text_converted(Text) ->
     Name = seqaudit_audits:file("lines"),
     ok = file:write_file(Name ++ ".txt", Text),
     {ok, #{notes := Notes}} = seqaudit_convert:from_files([Name ++ ".txt"], Name),
-    {ok, Streams} = seqaudit_bundle:read(Name ++ ".seqtrace"),
-    {lists:append([Events || {_, Events} <- Streams]), Notes, seqaudit_answer:losses(Name)}.
+    {seqaudit_test_traces:events(Name), Notes, seqaudit_test_traces:losses(Name)}.
 
 out_of_range_test() ->
     [{error, {1, Reason}} = seqaudit_text:read(Text)
@@ -363,10 +362,10 @@ version_1_test() ->
                                processes => #{self() => #{name => tester}}, tracer => put_back}]})),
     Name = seqaudit_audits:file("version_1"),
     {ok, #{events := 2, dropped := 2}} = seqaudit_convert:from_files([File], Name),
-    {ok, Legend} = seqaudit_legend:read(Name ++ ".terms"),
     %% After many tests the pid has another last number.
     [_, Number, _] = string:lexemes(pid_to_list(self()), "<.>"),
-    <<"tester">> = seqaudit_legend:process(list_to_binary(["<0.", Number, ".0>"]), Legend).
+    Pid = list_to_binary(["<0.", Number, ".0>"]),
+    #{{process, Pid} := <<"tester">>} = seqaudit_test_traces:terms(Name).
 
 %% One that is cut says that it is damaged, wherever it is cut.
 damaged_version_1_test() ->

@@ -4,7 +4,7 @@
 
 -export([requests_are_whole_test_/0, births_come_first_test/0, only_births_move_test/0,
          answers_test/0, signs_test/0,
-         wrapped_is_not_judged_test_/0, children_that_spawn_test_/0]).
+         children_that_spawn_test_/0]).
 
 %% Each request runs in a process of its own, calls the server, waits for a task that calls it, and
 %% calls it again: 21 events with its print. Nothing is left out, by either tracer, whatever the
@@ -30,25 +30,6 @@ requests_are_whole(Requests, Port) ->
     [] = [Events0 || [First | _] = Events0 <- maps:values(Streams), kind(First) =:= <<"send">>,
                      length(Events0) =< 6].
 
-%% `audit' says that counters have wrapped, and nothing else: neither a reset nor a lost event is a
-%% reason.
-wrapped_is_not_judged_test_() ->
-    {timeout, 60, fun() ->
-        Name = seqaudit_audits:file("wrapped"),
-        {ok, _} = served(Name, 60, #{}),
-        {2, Said} = run(["audit", Name]),
-        {0, _} = binary:match(Said, <<"not judged as a whole: counters have wrapped">>),
-        [] = [Word || Word <- [<<"reset">>, <<"doesn't fit">>, <<"nobody reported">>, <<"mistake">>,
-                               <<"damaged">>],
-                      binary:match(Said, Word) =/= nomatch],
-        {Status, Each} = run(["audit", Name, "--each-label"]),
-        2 = Status,
-        nomatch = binary:match(Each, <<"doesn't fit">>),
-        {match, [Fit]} = re:run(Each, "\n60 labels[^:]*: ([0-9]+) fit", [{capture, [1], list}]),
-        %% The requests that came before the counters wrapped.
-        true = list_to_integer(Fit) >= 10
-    end}.
-
 %% Processes that spawn one child each at once: the spawners' reports come late if the tracer is a
 %% process.
 children_that_spawn_test_() ->
@@ -61,7 +42,7 @@ children_that_spawn_test_() ->
         [Spawner ! go || Spawner <- Spawners],
         [receive done -> ok end || _ <- Spawners],
         {ok, #{dropped := 0}} = seqaudit_trace:stop(),
-        {0, _} = run(["audit", Name])
+        seqaudit_audits:fits(Name)
     end}.
 
 spawner(Label) ->
@@ -168,13 +149,3 @@ request(Server, Number) ->
         receive {Monitor, Row} -> demonitor(Monitor, [flush]), Row end,
         gen_server:call(Server, {done, Row})
     end).
-
-run([Command | Words]) ->
-    Said = os:cmd(lists:flatten([filename:join(seqaudit_audits:home(), "seqaudit-node"), $\s,
-                                 Command,
-                                 [[$\s, $', Word, $'] || Word <- Words], "; echo status $?"])),
-    Text = unicode:characters_to_binary(Said),
-    {match, [Status]} = re:run(Text, "status ([0-9]+)\n$", [{capture, [1], list}]),
-    Report = [[Line, $\n] || Line <- binary:split(Text, <<"\n">>, [global]),
-                             binary:match(Line, <<"seqaudit-node: ">>) =:= nomatch],
-    {list_to_integer(Status), iolist_to_binary(Report)}.

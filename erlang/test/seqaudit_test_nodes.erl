@@ -1,8 +1,8 @@
 %% A second node on this machine, waiting for what happens there, and what has to be there or gone for a test.
 -module(seqaudit_test_nodes).
 
--export([with_second/2, start/0, kill/1, again/1, on_port/2, clear/0, until/1, until_within/2, on_disk/2, met/2,
-         await_collector/0, keep_pace/0, met_here/0, is_traced/1, print_when_traced/1, peak/1]).
+-export([with_second/2, start/0, kill/1, again/1, on_port/2, clear/0, until/1, on_disk/2, met/2,
+         await_collector/0, keep_pace/0, is_traced/1, print_when_traced/1, peak/1]).
 
 %% A machine that is busy takes a while for what is done at once otherwise.
 -define(DEADLINE_MS, 30_000).
@@ -99,10 +99,6 @@ end_process(Name) ->
 until(Done) ->
     until(Done, deadline()).
 
-%% The same of what takes longer, so many seconds at most.
-until_within(Seconds, Done) ->
-    until(Done, erlang:monotonic_time(millisecond) + 1_000 * Seconds).
-
 until(Done, Deadline) ->
     case {Done(), erlang:monotonic_time(millisecond) < Deadline} of
         {true, _} -> ok;
@@ -123,29 +119,6 @@ keep_pace() ->
 %% Waits until a collector's folder has so many events.
 on_disk(Folder, Count) ->
     until(fun() -> in_folder(Folder, fun({event, _}, Sum) -> Sum + 1; (_, Sum) -> Sum end, 0) >= Count end).
-
-%% Waits until this node's collector has asked what its registered processes are called that reported something. If it
-%% is the tracer itself, it asks as it gets the events, and has some time for that.
-met_here() ->
-    [{_, Folder}] = seqaudit_trace:folders(),
-    case seq_trace:get_system_tracer() of
-        Port when is_port(Port) ->
-            until(fun() -> erlang:port_info(Port, output) =:= {output, in_folder(Folder, fun sizes/2, 0)} end),
-            met(Folder, lists:usort(in_folder(Folder, fun registered/2, [])));
-        _ ->
-            await_collector(),
-            receive after 300 -> ok end
-    end.
-
-sizes({event, Bytes}, Sum) -> 1 + byte_size(Bytes) + Sum;
-sizes(_, Sum) -> Sum.
-
-registered({event, Bytes}, Pids) ->
-    Info = element(3, binary_to_term(<<131, Bytes/binary>>)),
-    [Pid || Pid <- [element(3, Info), element(4, Info)], is_pid(Pid), node(Pid) =:= node(),
-            {registered_name, _} <- [process_info(Pid, registered_name)]] ++ Pids;
-registered(_, Pids) ->
-    Pids.
 
 %% Waits until a collector has asked what these processes are called.
 met(Folder, Pids) ->

@@ -1,16 +1,11 @@
 %% Commands of the shell, seqaudit-node among them, run as programs of their own.
 -module(seqaudit_test_shell).
 
--export([node_command/0, as_proved/1, cookie/0, run/1, run/2, execute/3, begin_run/2, ended/0, terminated_when/3]).
+-export([node_command/0, cookie/0, run/1, run/2, execute/3, begin_run/2, ended/0, terminated_when/3]).
 
 %% The command of this checkout.
 node_command() ->
     filename:join(seqaudit_audits:home(), "seqaudit-node").
-
-%% What a command said, as if the programs were proved ones.
-as_proved(Said) ->
-    re:replace(Said, "^seqaudit-node: (built without proofs|plain Rust, not proved): .*\\n"
-                     "| \\(by programs without proofs\\)", "", [global, multiline, {return, binary}]).
 
 %% The variable by which a command gets this node's cookie.
 cookie() -> [{"SEQAUDIT_COOKIE", atom_to_list(erlang:get_cookie())}].

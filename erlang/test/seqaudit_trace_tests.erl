@@ -73,25 +73,23 @@ echo(K) -> receive {From, Job} -> From ! {self(), {K, Job}}, echo(K) end.
 term_labels_test() ->
     Server = seqaudit_test_server:start(fun(X) -> X end),
     Labels = [{request, <<"abc">>}, -5, 7, make_ref()],
-    {16, Legend} = traced("term_labels", #{}, fun() ->
+    {16, Terms} = traced("term_labels", #{}, fun() ->
         [seqaudit_trace:with_trace(Label, fun() -> gen_server:call(Server, Label) end)
          || Label <- Labels]
     end),
-    {ok, <<"7">>} = seqaudit_legend:find_label("7", Legend),
-    {ok, <<"1000000">>} = seqaudit_legend:find_label("{request, <<\"abc\">>}", Legend),
-    {ok, <<"1000001">>} = seqaudit_legend:find_label("-5", Legend),
-    {error, {no_label, "8", _}} = seqaudit_legend:find_label("8", Legend),
+    #{{label, <<"7">>} := <<"7">>, {label, <<"{request,<<\"abc\">>}">>} := <<"1000000">>,
+      {label, <<"-5">>} := <<"1000001">>} = Terms,
     ok_or_skipped(seqaudit_audits:fits(seqaudit_audits:file("term_labels"))).
 
 registered_names_test() ->
     Server = seqaudit_test_server:start(seqaudit_test_alice, fun(X) -> X end),
-    {Events, Legend} = traced("names", #{}, fun() ->
+    {Events, Terms} = traced("names", #{}, fun() ->
         seqaudit_trace:with_trace(1, fun() -> gen_server:call(seqaudit_test_alice, hello) end)
     end),
     4 = Events,
     Pid = list_to_binary(pid_to_list(Server)),
-    <<"seqaudit_test_alice">> = seqaudit_legend:process(Pid, Legend),
-    {_, _} = binary:match(seqaudit_legend:about(Pid, Legend),
+    #{{process, Pid} := <<"seqaudit_test_alice">>, {about, Pid} := About} = Terms,
+    {_, _} = binary:match(About,
                           <<", registered as seqaudit_test_alice, started by seqaudit_test_server:init/1">>),
     ok = gen_server:stop(Server),
     ok_or_skipped(seqaudit_audits:fits(seqaudit_audits:file("names"))).
@@ -100,7 +98,7 @@ registered_names_test() ->
 %% known once the collector is on.
 initial_call_test() ->
     Server = seqaudit_test_server:start(fun(X) -> X end),
-    {4, Legend} = traced("initial_call", #{}, fun() ->
+    {4, Terms} = traced("initial_call", #{}, fun() ->
         seqaudit_trace:with_trace(1, fun() -> gen_server:call(Server, hello) end),
         [{_, Folder}] = seqaudit_trace:folders(),
         is_port(seq_trace:get_system_tracer()) orelse seqaudit_test_nodes:met(Folder, [Server]),
@@ -108,7 +106,7 @@ initial_call_test() ->
     end),
     Pid = pid_to_list(Server),
     Name = list_to_binary("seqaudit_test_server:init/1 " ++ Pid),
-    Name = seqaudit_legend:process(list_to_binary(Pid), Legend).
+    Name = maps:get({process, list_to_binary(Pid)}, Terms).
 
 timestamps_test() ->
     Server = seqaudit_test_server:start(fun(X) -> X end),
@@ -118,8 +116,7 @@ timestamps_test() ->
     {ok, #{events := 4, dropped := 0, notes := Notes}} = seqaudit_trace:stop(),
     [] = [Note || Note <- Notes, string:find(Note, "timestamp") =/= nomatch],
     File = seqaudit_audits:file("timestamps"),
-    {ok, #{events := Times}} = seqaudit_times:read(File ++ ".times"),
-    4 = map_size(Times),
+    {4, _} = seqaudit_test_traces:times(File),
     ok_or_skipped(seqaudit_audits:fits(File)).
 
 %% What belongs to an earlier trace of the same name doesn't stay beside a new one.
@@ -131,11 +128,9 @@ same_name_test() ->
                  {ok, _} = seqaudit_trace:stop()
              end,
     Traced([print, timestamp]),
-    Answers = [Name ++ ".answer" | [seqaudit_convert:part_answer(Name, Part) || Part <- [1, 2]]],
-    [ok = file:write_file(File, "of the earlier trace") || File <- Answers],
     true = filelib:is_regular(Name ++ ".times"),
     Traced([print]),
-    [] = [File || File <- [Name ++ ".times" | Answers], filelib:is_regular(File)].
+    false = filelib:is_regular(Name ++ ".times").
 
 full_collector_test() ->
     Name = seqaudit_audits:file("full"),
@@ -282,15 +277,14 @@ unfit_is_unfit_test() ->
         skipped -> skipped
     end.
 
-%% Runs the function under a trace; how many events there are, and the legend.
+%% Runs the function under a trace; how many events there are, and what their numbers mean.
 traced(Name, Options, Run) ->
     File = seqaudit_audits:file(Name),
     ok = seqaudit_trace:start(Options#{name => File}),
     Run(),
     {ok, #{events := Events, files := Files}} = seqaudit_trace:stop(),
     5 = length([ok || Written <- Files, filelib:is_regular(Written)]),
-    {ok, Legend} = seqaudit_legend:read(File ++ ".terms"),
-    {Events, Legend}.
+    {Events, seqaudit_test_traces:terms(File)}.
 
 ok_or_skipped(ok) -> ok;
 ok_or_skipped(skipped) -> skipped.

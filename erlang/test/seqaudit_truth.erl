@@ -1,15 +1,17 @@
-%% Random programs on real nodes whose messages carry their true cause, and whether what is said of them is true.
+%% Random programs on real nodes whose messages carry numbers, and whether what is collected of them is what happened.
 %%
 %% Each process has a list of what it does, in an order that can be kept by all; besides there are servers
 %% (seqaudit_truth_servers). Each message and print has a number, that of the message that gave its process the token
-%% (`begins', if the process began the trace itself), and whether its process had set the label since.
+%% (`begins', if the process began the trace itself), and whether its process had set the label since. What happens
+%% under a token is in a log too.
 -module(seqaudit_truth).
 
--export([run/3, sum/2, begin_log/2, child/1, play/3, know/1, known/0, content/1, got/1]).
+-export([run/3, begin_log/2, child/1, play/3, know/1, known/0, content/1, got/1]).
 
 %% Runs the program of this number, with these flags and a tracer that is on from the beginning or comes on late, on
-%% these nodes, and returns how often each thing was said, and what was false.
-run(Seed, #{nodes := Nodes, flags := Flags, late := Late} = How, Name) ->
+%% these nodes, and returns what the trace has that didn't happen, what happened and isn't in it though it should be,
+%% and the messages that were received as something else than was sent.
+run(Seed, #{nodes := Nodes, flags := Flags, late := Late}, Name) ->
     _ = rand:seed(exsss, {Seed, 5, 51}),
     Logs = [erpc:call(Node, ?MODULE, begin_log, [N, length(Nodes)]) || {N, Node} <- lists:enumerate(Nodes)],
     Late orelse (ok = seqaudit_trace:start(#{name => Name, nodes => Nodes})),
@@ -27,7 +29,43 @@ run(Seed, #{nodes := Nodes, flags := Flags, late := Late} = How, Name) ->
     {ok, _} = seqaudit_trace:stop(),
     [ok = seqaudit_truth_servers:stop(Server) || Server <- Servers],
     Log = lists:append([ended_log(Owner) || Owner <- Logs]),
-    seqaudit_said:check(Name, Log, How).
+    {Reported, Changed} = reported(Name),
+    Whole = not Late andalso [] =:= [send, 'receive', print] -- Flags,
+    {Reported -- [{Kind, Number} || {_, _, Kind, Number} <- Log], [One || Whole, One <- missing(Reported, Log)],
+     Changed}.
+
+%% What the trace has, and the messages that it has with two contents.
+reported(Name) ->
+    Terms = seqaudit_test_traces:terms(Name),
+    Contents = [{Event, content_of(maps:get({value, Value}, Terms))}
+                || #{value := Value} = Event <- seqaudit_test_traces:events(Name)],
+    Sent = maps:from_list([{message(Event), Number} || {#{kind := <<"send">>} = Event, Number} <- Contents]),
+    {[{happened(Kind), Number} || {#{kind := Kind}, Number} <- Contents, is_integer(Number)],
+     [Event || {#{kind := <<"'receive'">>} = Event, Number} <- Contents,
+               maps:get(message(Event), Sent, Number) =/= Number]}.
+
+message(Event) -> maps:remove(kind, Event).
+
+content_of(Text) ->
+    case re:run(Text, "\\{m,([0-9]+),[a-z0-9]+,(?:true|false)\\}", [{capture, all_but_first, list}]) of
+        {match, [Number]} -> list_to_integer(Number);
+        nomatch -> other
+    end.
+
+happened(<<"send">>) -> sent;
+happened(<<"'receive'">>) -> received;
+happened(<<"print">>) -> printed.
+
+%% What happened under a token between two reported events of its process, and isn't in the trace.
+missing(Reported, Log) ->
+    Known = maps:from_keys(Reported, reported),
+    ByPid = maps:groups_from_list(fun({_, Pid, _, _}) -> Pid end, lists:sort(Log)),
+    lists:append([begin
+                      Told = [{is_map_key({Kind, Number}, Known), {Kind, Number}} || {_, _, Kind, Number} <- Entries],
+                      From = lists:dropwhile(fun({Is, _}) -> not Is end, Told),
+                      To = lists:dropwhile(fun({Is, _}) -> not Is end, lists:reverse(From)),
+                      [One || {false, One} <- To]
+                  end || Entries <- maps:values(ByPid)]).
 
 %% What happened under tokens on a node, the Nth of so many: a table, as a message would be an event. The numbers that
 %% it gives are N, N + Nodes, N + 2 * Nodes and so on, so that no other node gives them too.
@@ -51,9 +89,6 @@ ended_log(Owner) ->
 
 log(Kind, Number) ->
     ets:insert(?MODULE, {erlang:unique_integer([monotonic]), self(), Kind, Number}).
-
-sum(One, Other) ->
-    maps:merge_with(fun(_, A, B) when is_integer(A) -> A + B; (_, A, B) -> A ++ B end, One, Other).
 
 %% Each player gets its steps of a part, and does them without a message of anybody else in between.
 play_all(Steps, Numbered, Servers) ->

@@ -1,36 +1,21 @@
-%% No sentence that is said as a fact is false: random programs whose messages carry their true cause.
+%% What is collected of random programs is what happened: nothing else, and all of it that was to be reported. gemshowal
+%% reads each trace.
 %%
 %% The variable TRUTH says which programs are run in place of the first 300: 301-700, or those up to a number.
 -module(seqaudit_truth_tests).
 
--export([truth_test_/0, with_tool/1]).
+-export([truth_test_/0]).
 
 -define(PROGRAMS, "1-300").
 -define(ALL, [send, 'receive', print]).
 
 truth_test_() ->
     {timeout, 3_600, fun() ->
-        case {seqaudit_answers_tests:auditor(), seqaudit_answers_tests:tool()} of
-            {Auditor, Tool} when Auditor =:= none; Tool =:= none ->
-                io:format(user, "truth: skipped, there are no programs~n", []);
-            {_, Tool} -> with_tool(Tool)
-        end
-    end}.
-
-with_tool(Tool) ->
-    Before = os:getenv("SEQTOOL"),
-    true = os:putenv("SEQTOOL", Tool),
-    try
         case seqaudit_test_nodes:with_second("truth", fun(There) -> all([node(), There]) end) of
             skipped -> all([node()]);
             ok -> ok
         end
-    after
-        case Before of
-            false -> os:unsetenv("SEQTOOL");
-            _ -> os:putenv("SEQTOOL", Before)
-        end
-    end.
+    end}.
 
 all(Nodes) ->
     [{module, _} = erpc:call(Node, code, load_binary, [Module, File, Binary])
@@ -40,18 +25,13 @@ all(Nodes) ->
                      [Last] -> [1, list_to_integer(Last)];
                      Range -> lists:map(fun list_to_integer/1, Range)
                  end,
-    Said = lists:foldl(fun(Seed, Sum) -> seqaudit_truth:sum(said(Seed, Nodes), Sum) end, #{false => []},
-                       lists:seq(From, To)),
-    [io:format(user, "  ~0tp: ~b~n", [What, Count])
-     || {What, Count} <- lists:sort(maps:to_list(Said)), is_integer(Count)],
-    [io:format(user, "  ~0tp: ~0tp~n", [What, lists:sublist(List, 5)])
-     || {What, List} <- maps:to_list(Said), is_list(List), List =/= []],
-    [] = maps:get(false, Said),
-    ok.
-
-said(Seed, Nodes) ->
-    #{false := False} = Said = seqaudit_truth:run(Seed, how(Seed, Nodes), name(Seed)),
-    Said#{false := [{Seed, One} || One <- False]}.
+    lists:foreach(fun(Seed) ->
+        {Seed, {[], [], []}} = {Seed, seqaudit_truth:run(Seed, how(Seed, Nodes), name(Seed))}
+    end, lists:seq(From, To)),
+    seqaudit_audits:with_gemshowal("truth", fun(_) ->
+        Audits = [seqaudit_audits:gemshowal(["audit", name(Seed)]) || Seed <- lists:seq(max(From, To - 19), To)],
+        [] = [Said || {Status, Said} <- Audits, Status > 1]
+    end).
 
 %% Half of them with all flags, the others with one off or a tracer that comes on late; half of them on two nodes.
 how(Seed, Nodes) ->

@@ -10,7 +10,7 @@
 
 -export([watch/3]).
 
--import(seqaudit_errors, [text/2]).
+-import(seqaudit_errors, [text/2, count/2]).
 
 -define(FITS, 0).
 -define(UNFIT, 1).
@@ -81,8 +81,8 @@ ended(#state{name = Name, number = Number, unfit = Unfit, open = Open, say = Say
     ok = lists:foreach(fun(One) -> remove(name(Name, One)) end, [Open || Open =/= none]),
     %% What a look at this period may have left for the next one goes too.
     ok = remove(name(Name, Number), fun(_) -> true end),
-    ok = Say(text("~ts audited, ~b kept; period ~b, which was running, isn't audited~n",
-                  [seqaudit_explain:count(Number - 1, "period"), length(State#state.kept),
+    ok = Say(text("~ts, ~b kept; period ~b, which was running, isn't audited~n",
+                  [count(Number - 1, "period"), length(State#state.kept),
                    Number])),
     case Unfit of 0 -> ?FITS; _ -> ?UNFIT end.
 
@@ -184,63 +184,28 @@ part(File, Which) -> filename:rootname(File) ++ "." ++ Which ++ ".events".
 
 %% That nothing came is said in two words.
 outcome(Period, 0, [_ | Became], Later) ->
-    Lost = lists:delete(list_to_binary(seqaudit_notes:nothing()), seqaudit_answer:losses(Period)),
+    Lost = lists:delete(list_to_binary(seqaudit_notes:nothing()), lost(Period)),
     {ok, fits, ["nothing came", losses(Lost), Became], Later};
-outcome(Period, _Events, How, Later) ->
-    {ok, Legend} = seqaudit_legend:read(Period ++ ".terms"),
-    {ok, Streams} = seqaudit_bundle:read(Period ++ ".seqtrace"),
-    Lost = seqaudit_answer:losses(Period),
-    Asked = seqaudit_outcome:ask(Streams, seqaudit_bundle:has_wrapped(Period ++ ".seqtrace")),
-    {Verdict, Line} = said(Asked, Streams, Lost =/= [], Legend),
-    {ok, Verdict, [Line, losses(Lost), "; ", How], Later}.
+outcome(Period, Events, How, Later) ->
+    {Verdict, Line} = case seqaudit_verdict:of_trace(Period) of
+                          {error, Reason} -> {unfit, unaudited(Events, Reason)};
+                          Audited -> Audited
+                      end,
+    {ok, Verdict, [Line, losses(lost(Period)), "; ", How], Later}.
 
 %% The files of a period that fits go, so what it lacks is said here.
 losses(Losses) -> [["; ", Loss] || Loss <- Losses].
 
-said({ok, #{said := fault, fault := <<"fault too ", _/binary>>}}, Streams, _IsLost, _Legend) ->
-    by_label("too many for the programs at once", Streams, false);
-said({ok, #{said := fault, fault := <<"fault wrapped">>}}, Streams, _IsLost, _Legend) ->
-    by_label("not judged as a whole, as counters have wrapped", Streams, true);
-%% Neither renumbered nor completed.
-said({ok, #{said := unexplained, large := true}}, Streams, _IsLost, _Legend) ->
-    by_label("too many for the programs at once", Streams, false);
-said({ok, Outcome}, _Streams, IsLost, Legend) ->
-    Said = Outcome#{cut => true, lost => IsLost},
-    {verdict(Said),
-     string:trim(unicode:characters_to_list(seqaudit_explain:headline(Said, Legend)))};
-said({error, Reason}, Streams, _IsLost, _Legend) ->
-    {unfit, [count(Streams), " couldn't be audited: ", seqaudit_program:format_error(Reason)]}.
+lost(Period) ->
+    case file:read_file(Period ++ ".facts") of
+        {ok, Text} -> seqaudit_notes:losses(Text);
+        %% No node was asked, so nothing was converted.
+        {error, enoent} -> []
+    end.
 
-count(Streams) -> seqaudit_explain:count(seqaudit_bundle:events(Streams), "event").
-
-%% A period that can't be judged as a whole may fit label by label.
-by_label(Why, Streams, Wrapped) ->
-    {Verdict, Line} = each_label(Streams, Wrapped),
-    {Verdict, [count(Streams), ", ", Why, "; ", Line,
-               seqaudit_explain:by_whom(seqaudit_program:lacks_proofs())]}.
-
-each_label(Streams, Wrapped) ->
-    Labels = seqaudit_each:by_label(Streams),
-    Counts = seqaudit_workers:fold([fun() -> seqaudit_outcome:ask(Own, Wrapped) end
-                                    || {_, Own} <- Labels],
-                                   fun(Asked, Known) ->
-                                           maps:update_with(label_verdict(Asked),
-                                                            fun(N) -> N + 1 end, 1, Known)
-                                   end, #{}),
-    Of = fun(Verdict) -> maps:get(Verdict, Counts, 0) end,
-    {case length(Labels) =:= Of(fits) of true -> fits; false -> unfit end,
-     ["of ", seqaudit_explain:count(length(Labels), "label"), $\s,
-      seqaudit_explain:number(Of(fits)),
-      " fit by themselves",
-      [[", ", seqaudit_explain:number(Of(unfit)), " don't or aren't known to"] || Of(unfit) > 0],
-      [[", ", seqaudit_explain:number(Of(failed)), " couldn't be audited"] || Of(failed) > 0]]}.
-
-label_verdict({ok, #{said := fault}}) -> failed;
-label_verdict({ok, Outcome}) -> verdict(Outcome);
-label_verdict({error, _}) -> failed.
-
-verdict(#{said := Said}) when Said =:= fits; Said =:= completed -> fits;
-verdict(_) -> unfit.
+%% A period of which nobody knows whether it fits is kept as one that doesn't.
+unaudited(Events, Reason) ->
+    [count(Events, "event"), ", not audited: ", seqaudit_verdict:format_error(Reason)].
 
 %% What fits goes once its next neighbour fits too.
 judged(Verdict, Line, #state{number = Number, say = Say, last = Last, open = Open} = State) ->

@@ -1,31 +1,26 @@
-%% @doc What the errors of several modules have in common.
+%% @doc The words that sentences of several modules have in common.
 -module(seqaudit_errors).
 
--export([text/2, unread/2, unwritten/2, wrong_line/3, no_trace/2]).
+-export([text/2, count/2, number/1, unwritten/2]).
 
 %% @doc As `io_lib:format/2', in one list of characters.
 -spec text(io:format(), [term()]) -> string().
 text(Format, Values) ->
     lists:flatten(io_lib:format(Format, Values)).
 
-%% @doc A file of a trace can't be read.
--spec unread(file:filename(), term()) -> string().
-unread(File, Reason) ->
-    text("~ts: ~ts; `seqaudit-node convert' writes it", [File, file:format_error(Reason)]).
+%% @doc Says how many of a thing there are.
+-spec count(non_neg_integer(), string()) -> string().
+count(1, Thing) -> "1 " ++ Thing;
+count(N, "process") -> number(N) ++ " processes";
+count(N, "entry") -> number(N) ++ " entries";
+count(N, Thing) -> number(N) ++ " " ++ Thing ++ "s".
+
+%% @doc Writes a number with commas between thousands.
+-spec number(non_neg_integer()) -> string().
+number(N) when N < 1000 -> integer_to_list(N);
+number(N) -> number(N div 1000) ++ text(",~3..0b", [N rem 1000]).
 
 %% @doc A file can't be written.
 -spec unwritten(file:filename(), term()) -> string().
 unwritten(File, Reason) ->
     text("~ts can't be written: ~ts", [File, file:format_error(Reason)]).
-
-%% @doc A file of a trace has a line that isn't what its lines are.
--spec wrong_line(file:filename(), pos_integer(), string()) -> string().
-wrong_line(File, Line, What) ->
-    text("~ts, line ~b, isn't ~ts; `seqaudit-node convert' writes it anew", [File, Line, What]).
-
-%% @doc A file isn't the text of a trace, from this line on if it is known.
--spec no_trace(file:filename(), iodata()) -> string().
-no_trace(File, Where) ->
-    text("~ts~ts isn't the text of a trace (docs/FORMATS.md); `gemshowal lint ~ts' says what is "
-         "wrong with it",
-         [File, [[Where, ","] || iolist_size(Where) > 0], File]).

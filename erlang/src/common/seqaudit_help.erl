@@ -7,17 +7,13 @@
 -spec all() -> string().
 all() ->
     "usage: seqaudit-node COMMAND ..\n"
-    "Traces running Erlang nodes, and audits, draws and explains the traces.\n\n"
+    "Traces running Erlang nodes. `gemshowal' audits, explains and draws the traces.\n\n"
     "  collect   traces nodes, and writes what they report to files\n"
-    "  watch     traces nodes, and audits what came period by period\n"
-    "  convert   makes a trace from files of events\n"
-    "  audit     says whether the events of a trace fit together, and what is missing\n"
-    "  chart     prints the messages of a trace, or draws them\n"
-    "  why       says what caused an event, or what it caused\n"
-    "  times     says how long messages and labels took\n\n"
+    "  watch     traces nodes, and has gemshowal audit what came, period by period\n"
+    "  convert   makes a trace from files of events\n\n"
     "`seqaudit-node COMMAND --help' has the options of each, and `seqaudit-node --version' says "
-    "which versions\n"
-    "these are.\n" ++ statuses().
+    "which version\n"
+    "this is.\n" ++ statuses().
 
 %% @doc The version of the application.
 -spec version() -> string().
@@ -42,10 +38,9 @@ of_command(Command) ->
     lists:append(["usage: seqaudit-node ", Usage, "\n", About, statuses()]).
 
 statuses() ->
-    "\nStatus: 0 all is done, or the trace fits\n"
-    "        1 the trace doesn't fit, or it can't be decided, or it has no events; or what you ask "
-    "for isn't in it\n"
-    "        2 a file can't be understood, or is too large\n"
+    "\nStatus: 0 all is done, or all periods fit\n"
+    "        1 a period doesn't fit, or wasn't audited\n"
+    "        2 a file can't be understood, or has no events\n"
     "        3 the command line can't be understood\n"
     "        4 a file, a node or a program is missing or fails\n".
 
@@ -89,17 +84,20 @@ text("collect") ->
      "-ssl_dist_optfile FILE\n"};
 text("watch") ->
     {"watch --node NAME@HOST .. --every SECONDS -o NAME [OPTION ..]",
-     "Traces nodes until Ctrl-C, and audits what came period by period, a line for each. A period "
-     "that fits is\n"
-     "thrown away; one that doesn't is kept as NAME.NUMBER, and so are the ones before and after "
-     "it. The period\n"
-     "that runs at the end isn't audited. Status 0 if all fitted.\n\n"
+     "Traces nodes until Ctrl-C, and has gemshowal audit what came, period by period, a line for "
+     "each. A period\n"
+     "that fits is thrown away; one that doesn't, or wasn't audited, is kept as NAME.NUMBER, and so "
+     "are the ones\n"
+     "before and after it. The period that runs at the end isn't audited. Status 0 if all "
+     "fitted.\n\n"
      "  --every SECONDS     the length of a period; each is cut at its last moment without a "
      "message under way,\n"
      "                      if there is one in its second half\n"
      "  --keep PERIODS      how many periods stay, 100 if this isn't given; then the oldest are "
      "removed\n\n"
-     "The other options are those of collect, except --seconds and --limit.\n"};
+     "The other options are those of collect, except --seconds and --limit. The variable GEMSHOWAL "
+     "says which\n"
+     "gemshowal is asked.\n"};
 text("convert") ->
     {"convert FILE .. -o NAME",
      "Makes a trace from files of events: NAME.seqtrace; NAME.terms, what its numbers mean; "
@@ -116,59 +114,4 @@ text("convert") ->
      "                      a log are counted and passed over. There must be an event of seq_trace "
      "in it, if no\n"
      "                      collector wrote it\n"
-     "  -o NAME             the name of the trace\n"};
-text("audit") ->
-    {"audit NAME [OPTION ..]",
-     "Says whether the events of a trace fit together, and what is missing. The run that shows it "
-     "is kept\n"
-     "in NAME.answer, which `seqaudit check' confirms.\n\n"
-     "  --whole             print all events and the acts of the run as well\n"
-     "  --parts             if resets divide the trace, print all that was found out of each part\n"
-     "  --each-label        audit the events of each label by themselves, side by side, with a "
-     "line for each; no\n"
-     "                      NAME.answer is kept\n"
-     "  --json              print the outcome as JSON; with --each-label a line for each label. "
-     "`unreported' has\n"
-     "                      the events that are known by others or were found to complete the "
-     "trace, `unreceived'\n"
-     "                      the sends whose receive another event probably follows\n"
-         ++ cuts(label)};
-text("chart") ->
-    {"chart NAME [--label TERM] [OPTION ..]\n       seqaudit-node chart NAME --html FILE [OPTION "
-     "..]\n"
-     "       seqaudit-node chart NAME --mermaid FILE | --perfetto FILE | --otlp FILE [OPTION ..]",
-     "Prints the messages of a label, with what caused each, and draws them; or makes a page of "
-     "all labels.\n\n"
-     "  --label TERM        the label; a trace with one label needs none\n"
-     "  --svg FILE          draw it, for a document, up to 2,000 rows\n"
-     "  --html FILE         make a page for a browser, with all labels; it needs no --label\n"
-     "  --mermaid FILE      write a sequence diagram of Mermaid, up to 500 events\n"
-     "  --perfetto FILE     write a trace for Perfetto or chrome://tracing; it needs times\n"
-     "  --otlp FILE         write OpenTelemetry's JSON, a span for each message below its cause; "
-     "it needs times\n"
-     "                      These three take the one label, or all without --label.\n"
-         ++ cuts(no_label)};
-text("why") ->
-    {"why NAME PROCESS#NUMBER [OPTION ..]",
-     "Says what caused an event, back to where the trace begins.\n\n"
-     "  PROCESS#NUMBER      the event, by its name in audits and charts, as shop#2; or --event "
-     "PROCESS#NUMBER\n"
-     "  --effects           say what the event caused instead\n"
-     "  --json              print the events as JSON\n" ++ cuts(label)};
-text("times") ->
-    {"times NAME [OPTION ..]",
-     "Says how long messages took, by pair of processes and by kind of message, and how long "
-     "labels took; the\n"
-     "slowest first. It needs NAME.times.\n\n"
-     "  --label TERM        this label alone, and what its last event waited for, step by step\n"
-     "  --json              print all of it as JSON, times in nanoseconds\n" ++ cuts(no_label)}.
-
-cuts(Label) ->
-    "\nTo look at a part of the trace:\n" ++
-     lists:append(["  --label TERM        events with this label; several times for several "
-                   "labels\n"
-                   || Label =:= label]) ++
-     "  --process NAME      events of this process; several times for several processes\n"
-     "  --from SECONDS, --to SECONDS\n"
-     "                      events of this time, counted from the first event; it needs "
-     "NAME.times\n".
+     "  -o NAME             the name of the trace\n"}.

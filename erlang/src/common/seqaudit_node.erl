@@ -3,17 +3,16 @@
 
 -export([main/1, run/1]).
 
--import(seqaudit_errors, [text/2]).
+-import(seqaudit_errors, [text/2, count/2]).
 
-%% Exit statuses, as those of `seqaudit'.
--define(FITS, 0).
--define(UNFIT, 1).
+%% Exit statuses, as those of `gemshowal'; of `watch' a 1 says that a period didn't fit.
+-define(DONE, 0).
 -define(INPUT, 2).
 -define(USAGE, 3).
 -define(SYSTEM, 4).
 
-%% Options that cut a trace down before it is looked at.
--define(CUTS, ["--label", "--process", "--from", "--to"]).
+%% The commands that this one had before `gemshowal'.
+-define(READING, ["audit", "chart", "why", "times"]).
 
 -type options() :: #{string() => [string()]}.
 %% The words after each option, the last one first; the words without one are under "".
@@ -30,7 +29,7 @@ main(Words) ->
     Status = try run(Words)
              catch
                  Class:Reason:Stack ->
-                     %% A status of 1 would say that a trace doesn't fit.
+                     %% A status of 1 would say that a period doesn't fit.
                      io:format(standard_error,
                                "seqaudit-node: an error of its own: ~0tp:~0tp~n~0tp~n",
                                [Class, Reason, Stack]),
@@ -40,19 +39,19 @@ main(Words) ->
     halt(Status).
 
 %% @doc Runs the command, and returns its status.
--spec run([string()]) -> ?FITS..?SYSTEM.
+-spec run([string()]) -> ?DONE..?SYSTEM.
 run([Help | _]) when Help =:= "--help"; Help =:= "-h"; Help =:= "help" ->
     io:put_chars(seqaudit_help:all()),
-    ?FITS;
+    ?DONE;
 run(["--version" | _]) ->
-    io:format("seqaudit-node ~ts (Erlang/OTP ~ts)~n~ts~n",
-              [seqaudit_help:version(), erlang:system_info(otp_release),
-               lists:join($\n, seqaudit_program:versions())]),
-    ?FITS;
+    io:format("seqaudit-node ~ts (Erlang/OTP ~ts)~n",
+              [seqaudit_help:version(), erlang:system_info(otp_release)]),
+    ?DONE;
 run([Command | Words]) ->
-    case lists:keyfind(Command, 1, commands()) of
-        false -> usage("there is no command ~ts", [Command]);
-        Found -> run(Found, Words)
+    case {lists:keyfind(Command, 1, commands()), lists:member(Command, ?READING)} of
+        {false, true} -> failed(?USAGE, ["`gemshowal ", Command, "' does this now"]);
+        {false, false} -> usage("there is no command ~ts", [Command]);
+        {Found, false} -> run(Found, Words)
     end;
 run([]) ->
     usage("a command is missing", []).
@@ -62,7 +61,7 @@ run({Command, Valued, Flags, Do}, Words) ->
           options(Words, Valued, Flags, #{})} of
         {true, _} ->
             io:put_chars(seqaudit_help:of_command(Command)),
-            ?FITS;
+            ?DONE;
         {false, {ok, Options}} ->
             case Do(Options) of
                 {usage, Text} -> usage(Command, "~ts", [Text]);
@@ -84,30 +83,7 @@ commands() ->
                 "--trigger",
                 "--label", "--calls", "-o"],
       ["--reset", "--times", "--take-over", "--unload"], fun watch/1},
-     {"convert", ["-o"], [], fun convert/1},
-     {"audit", ?CUTS, ["--whole", "--parts", "--json", "--each-label"],
-      fun(#{"--each-label" := _} = Options) -> answer(fun seqaudit_each:audit/1, Options);
-         (Options) -> answer(fun seqaudit_answer:audit/1, Options)
-      end},
-     {"chart", ["--svg", "--html", "--mermaid", "--perfetto", "--otlp" | ?CUTS], [],
-      fun(Options) -> answer(fun seqaudit_answer:chart/1, Options) end},
-     {"why", ["--event" | ?CUTS], ["--effects", "--json"],
-      fun(Options) -> answer(fun seqaudit_answer:why/1, Options) end},
-     {"times", ?CUTS, ["--json"],
-      fun(Options) -> answer(fun seqaudit_timing:times/1, Options) end}].
-
-%% The commands on a collected trace are in a module of their own.
-answer(Command, Options) ->
-    Unproved = seqaudit_program:unproved(),
-    [complain("~ts: ~ts; ~ts",
-              [What, lists:join(" and ", [File || {Is, File} <- Unproved, Is =:= What]),
-               seqaudit_program:how_proved()])
-     || What <- lists:usort([What || {What, _} <- Unproved])],
-    case Command(Options) of
-        {usage, Text} -> {usage, Text};
-        {Status, Complaint} -> failed(Status, Complaint);
-        Status -> Status
-    end.
+     {"convert", ["-o"], [], fun convert/1}].
 
 usage(Format, Values) ->
     complain(Format, Values),
@@ -196,6 +172,9 @@ watch({error, Reason}, _Start, _How) ->
 watch(ok, Start, {Periods, Unload}) ->
     started(Start, Unload, fun(Asked, Sight) ->
         io:format("watching ~ts until Ctrl-C~ts", [node_list(Start), advice(Start)]),
+        _ = [complain("~ts; periods are kept without an audit",
+                      [seqaudit_verdict:format_error(Reason)])
+             || {error, Reason} <- [seqaudit_verdict:find()]],
         Again = fun(Node) -> seqaudit_sight:again(Sight, Node) end,
         case seqaudit_periods:watch(Periods#{again => Again}, Asked,
                                     fun(Line) -> io:put_chars(Line) end) of
@@ -375,11 +354,10 @@ is_any(Head) ->
                           Variables).
 
 written({ok, #{events := Events, processes := Processes, notes := Notes, files := Files}}, _) ->
-    io:format("~ts of ~ts: ~ts~n", [seqaudit_explain:count(Events, "event"),
-                                    seqaudit_explain:count(Processes,
-                                                           "process"), lists:join(" ", Files)]),
+    io:format("~ts of ~ts: ~ts~n",
+              [count(Events, "event"), count(Processes, "process"), lists:join(" ", Files)]),
     lists:foreach(fun(Note) -> io:format("  ~ts~n", [Note]) end, Notes),
-    ?FITS;
+    ?DONE;
 written({error, Reason}, FormatError) ->
     failed(?SYSTEM, FormatError(Reason)).
 

@@ -1,4 +1,4 @@
-%% @doc Makes a bundle for `seqaudit' of collected events.
+%% @doc Makes a trace for `gemshowal' and `seqaudit' of collected events.
 %%
 %% <dl>
 %% <dt>`NAME.seqtrace'</dt><dd>the text of the bundle: the stream of each process</dd>
@@ -6,7 +6,7 @@
 %% <dt>`NAME.messages'</dt><dd>the whole texts of the messages that are cut there, if any are
 %% ({@link seqaudit_messages})</dd>
 %% <dt>`NAME.notes'</dt><dd>what was decided, dropped or can't be represented, a line each</dd>
-%% <dt>`NAME.facts'</dt><dd>the same with the kind of each, from which the results are computed
+%% <dt>`NAME.facts'</dt><dd>the same with the kind of each, from which `gemshowal' says what is gone
 %% ({@link seqaudit_notes})</dd>
 %% <dt>`NAME.times'</dt><dd>when each event happened, if the events say it
 %% ({@link seqaudit_times})</dd>
@@ -16,9 +16,7 @@
 
 -include("seqaudit_packed.hrl").
 
--export([from_files/2, from_files/3, files/2, convert/1, write_own/2, part_answer/2,
-         remove_answers/1,
-         format_error/1]).
+-export([from_files/2, from_files/3, files/2, convert/1, format_error/1]).
 -export_type([bundle/0, summary/0]).
 
 -type bundle() :: #{seqtrace := binary(), terms := iodata(), notes := [string()],
@@ -131,7 +129,6 @@ write(Build, Name) ->
     case write_parts(Parts, Name) of
         {ok, Files} ->
             _ = [file:delete(Name ++ ".times") || not is_map_key(times, Parts)],
-            ok = remove_answers(Name),
             {Sizes, Noted} = noted(filelib:file_size(Name ++ ".seqtrace"), Facts),
             Notes = [Note || {_, Note} <- Noted],
             Kept = [{Name ++ ".notes",
@@ -144,23 +141,6 @@ write(Build, Name) ->
         {error, Reason} ->
             {error, Reason}
     end.
-
-%% @doc Removes what was said of an earlier trace of this name.
--spec remove_answers(file:filename()) -> ok.
-remove_answers(Name) ->
-    _ = file:delete(Name ++ ".answer"),
-    remove_parts(Name, 1).
-
-remove_parts(Name, Which) ->
-    case file:delete(part_answer(Name, Which)) of
-        ok -> remove_parts(Name, Which + 1);
-        {error, _} -> ok
-    end.
-
-%% @doc The file with what was said of a part between resets.
--spec part_answer(file:filename(), pos_integer()) -> file:filename().
-part_answer(Name, Which) ->
-    lists:append([Name, ".part", integer_to_list(Which), ".answer"]).
 
 %% The texts of the terms are made of the tables, which are this process's own, and then the whole
 %% texts of those that were cut; meanwhile others write the rest.
@@ -188,8 +168,6 @@ has_messages(File) ->
         false -> ok =/= file:delete(File)
     end.
 
-%% @doc Writes a file that its owner alone may read, since it has the contents of messages.
--spec write_own(file:filename(), iodata()) -> ok | {error, {unwritten, file:filename(), term()}}.
 write_own(File, Text) ->
     write_file(File, fun(Out) -> Out(Text) end).
 
@@ -383,7 +361,7 @@ word(?PRINT) -> <<",{print,{">>.
 %% The legend, whose first lines `seqaudit_legend' makes. The values may be many, so a process makes
 %% the texts of some. It notes which of them have dots: all those that are cut do.
 terms(Sorted, Labels, {Known, Values}, {Numbers, Dots}, Out) ->
-    ok = Out(seqaudit_legend:text(named(Sorted, Known), [], [], #{})),
+    ok = Out(seqaudit_legend:text(named(Sorted, Known))),
     ok = Out([["node\t", integer_to_binary(Node), $\t,
                unicode:characters_to_binary(seqaudit_terms:plain(Name)), $\n]
               || {Node, Name} <- seqaudit_processes:further_nodes(Sorted)]),

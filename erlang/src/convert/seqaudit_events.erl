@@ -14,8 +14,7 @@
 -module(seqaudit_events).
 
 -export([fold/3, fold_list/3, read/1, is_collected/1, begins_with/2, facts/1, open/1,
-         begin_collection/2, append/2, close/1,
-         whole_entries/3, writable/1, format_error/1]).
+         begin_collection/2, append/2, close/1, whole_entries/3, writable/1, format_error/1]).
 -export_type([collection/0, item/0, facts/0, about/0]).
 
 -import(seqaudit_errors, [text/2]).
@@ -550,8 +549,8 @@ format_error({no_events, Files}) ->
     text("~ts: no event of seq_trace is in them", [lists:join(", ", Files)]);
 format_error({converted, File}) ->
     text("~ts is a trace already; ~ts", [File, case filename:extension(File) of
-        ".seqtrace" -> ["`seqaudit-node audit ", filename:rootname(File), "' audits it"];
-        _ -> "called NAME.seqtrace, `seqaudit-node audit NAME' audits it"
+        ".seqtrace" -> ["`gemshowal audit ", filename:rootname(File), "' audits it"];
+        _ -> "called NAME.seqtrace, `gemshowal audit NAME' audits it"
     end]);
 format_error({written, File}) ->
     text("~ts is what `seqaudit-node convert' writes beside a trace, and has no events", [File]);

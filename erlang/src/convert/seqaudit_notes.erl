@@ -1,4 +1,4 @@
-%% @doc `NAME.notes': what the conversion decided, what it left out, and what `seqaudit' won't take.
+%% @doc `NAME.notes': what the conversion decided, what it left out, and what `gemshowal' won't take.
 %%
 %% `NAME.facts' has the same sentences, each behind the kind of fact that it says: below the line
 %% `seqaudit facts 1' a line each, with a tab between. What a trace lacks is computed from the
@@ -10,7 +10,7 @@
 
 -import(seqaudit_errors, [text/2]).
 
-%% The limits of `seqtool audit', which are greater than those of `seqaudit'.
+%% The limits of `gemshowal', which are greater than those of `seqaudit'.
 -define(MOST_BYTES, 17_179_869_184).
 -define(MOST_PROCESSES, 1_000_000).
 -define(MOST_EVENTS, 16_000_000).
@@ -127,7 +127,7 @@ collected(#{facts := Facts} = Collection) ->
     of_kind(lost, lost(Node, Facts)) ++ of_kind(unread, unread(Node, Facts))
         ++ of_kind(ended, ended(Node, Facts))
         ++ of_kind(split, split(Node, Facts))
-        ++ [{Kind, text(Format, [Node, seqaudit_explain:count(known(Kind, Collection), Thing)])}
+        ++ [{Kind, text(Format, [Node, seqaudit_errors:count(known(Kind, Collection), Thing)])}
             || {Kind, Thing, Format} <-
                    [{dropped, "event",
                      "~ts: the collector dropped ~ts beyond the limit; raise the limit "
@@ -145,14 +145,14 @@ left(_Node, 0, _Collection) ->
     [];
 left(_Node, Bytes, #{left_at := Where}) ->
     [text("convert left out the last ~ts, from ~ts on, where an event isn't whole",
-          [seqaudit_explain:count(Bytes, "byte"), Where])];
+          [seqaudit_errors:count(Bytes, "byte"), Where])];
 left(Node, Bytes, _Collection) ->
     [text("~ts: convert left out ~ts of the file, which is cut or damaged there",
-          [Node, seqaudit_explain:count(Bytes, "byte")])].
+          [Node, seqaudit_errors:count(Bytes, "byte")])].
 
 passed(#{passed := {Lines, First}}) ->
     [text("convert passed over ~ts without an event of seq_trace; the first is ~ts",
-          [seqaudit_explain:count(Lines, "line"), First])];
+          [seqaudit_errors:count(Lines, "line"), First])];
 passed(_) ->
     [].
 
@@ -171,7 +171,7 @@ lost(Node, #{lost := Reason} = Facts) ->
                    text("; its events are in ~ts there, and `seqaudit-node convert' "
                                          "takes that folder", [reason(Where)]);
                #{kept := Kept} -> text("; what it wrote before, ~ts, is here",
-                                       [seqaudit_explain:count(Kept, "event")]);
+                                       [seqaudit_errors:count(Kept, "event")]);
                #{} -> ", and all of its events are lost"
            end])];
 lost(_Node, _Facts) ->
@@ -180,7 +180,7 @@ lost(_Node, _Facts) ->
 %% Of a folder that is converted itself nobody says where it is.
 unread(Node, #{unread := Bytes} = Facts) ->
     [text("~ts: ~ts of what was collected couldn't be read~ts",
-          [Node, seqaudit_explain:count(Bytes, "byte"),
+          [Node, seqaudit_errors:count(Bytes, "byte"),
            case Facts of
                #{where := Where} ->
                    text("; they are in ~ts there, and `seqaudit-node convert' takes that folder",
@@ -254,7 +254,7 @@ split(_Node, _Facts) ->
 pauses(Node, #{pauses := {Times, Lasted, First}}) ->
     [text("~ts: events came faster than they could be written, so the tracer was off ~ts, for ~ts "
           "ms in all, and what happened meanwhile is lost (it can't be counted): ~ts~ts",
-          [Node, times(Times), seqaudit_explain:number(Lasted),
+          [Node, times(Times), seqaudit_errors:number(Lasted),
            lists:join(", ", lists:map(fun pause/1, First)),
            case Times - length(First) of
                More when More > 0 -> [", and ", times(More), " more"];
@@ -264,7 +264,7 @@ pauses(_Node, _Facts) ->
     [].
 
 times(1) -> "once";
-times(Times) -> [seqaudit_explain:number(Times), " times"].
+times(Times) -> [seqaudit_errors:number(Times), " times"].
 
 pause({Since, open}) -> ["from ", moment(Since), " to the end"];
 pause({Since, Lasted}) -> text("at ~ts for ~b ms", [moment(Since), Lasted]).
@@ -290,7 +290,7 @@ tracer(Node, gone) ->
     [text("~ts: the former system tracer is gone, so the node has none now", [Node])].
 
 converted(Counts, Samples) ->
-    [{Kind, text(Format, [seqaudit_explain:count(count(Kind, Counts), thing(Kind))])
+    [{Kind, text(Format, [seqaudit_errors:count(count(Kind, Counts), thing(Kind))])
             ++ samples(count(Kind, Counts), lists:reverse(maps:get(Kind, Samples, [])))}
      || {Kind, Format} <-
             [{by_receive,
@@ -321,14 +321,13 @@ samples(Count, Samples) ->
     lists:append([": ", lists:append(lists:join("; ", Samples)),
                   case Count - length(Samples) of
                       0 -> "";
-                      More -> text("; and ~ts more", [seqaudit_explain:number(More)])
+                      More -> text("; and ~ts more", [seqaudit_errors:number(More)])
                   end]).
 
 limits(Sizes) ->
-    [text("the programs don't take this bundle as a whole: it has ~ts ~ts, and `seqtool audit' "
-          "takes ~ts; audit "
-          "each label by itself (--each-label), or a part of it (--label, --process)",
-          [seqaudit_explain:number(count(Kind, Sizes)), Kind, seqaudit_explain:number(Most)])
+    [text("the programs don't take this trace: it has ~ts ~ts, and `gemshowal' takes ~ts; trace for "
+          "a shorter time",
+          [seqaudit_errors:number(count(Kind, Sizes)), Kind, seqaudit_errors:number(Most)])
      || {Kind, Most} <- [{bytes, ?MOST_BYTES}, {processes, ?MOST_PROCESSES},
                          {events, ?MOST_EVENTS}],
         count(Kind, Sizes) > Most].
@@ -338,7 +337,7 @@ further_nodes([]) ->
 further_nodes(Further) ->
     [text("more processes than a node number has numbers for: ~ts, of which NAME.terms says which "
           "nodes they mean",
-          [seqaudit_explain:count(length(Further), "further node number")])].
+          [seqaudit_errors:count(length(Further), "further node number")])].
 
 nodes_of(Listed) ->
     Further = maps:from_list(seqaudit_processes:further_nodes(Listed)),

@@ -6,8 +6,8 @@
 %% so that a term of a file is printed and never made.
 -module(seqaudit_terms).
 
--export([label_numbers/1, text/1, text/2, encoded/1, encoded/2, append/3, whole/2, atom/1, plain/1,
-         call/1, short/2]).
+-export([label_numbers/1, encoded/1, encoded/2, append/3, whole/2, atom/1, plain/1, call/1,
+         short/2]).
 
 -define(GREATEST_LABEL, 4_294_967_295).
 %% Labels that aren't numbers from 0 to the greatest are numbered from here.
@@ -67,23 +67,14 @@ number_label(Label, {Numbers, Next, Taken}) when is_map_key(Next, Taken) ->
     number_label(Label, {Numbers, Next + 1, Taken});
 number_label(Label, {Numbers, Next, Taken}) -> {Numbers#{Label => Next}, Next + 1, Taken}.
 
-%% @equiv text(Term, #{})
--spec text(term()) -> string().
-text(Term) ->
-    text(Term, #{}).
-
-%% @doc The term as Erlang prints it, on one line, cut if it is large. A process with a number in
-%% the bundle is spelled by it: how Erlang prints one of another node differs from node to node.
--spec text(term(), numbers()) -> string().
-text(Term, Numbers) ->
-    encoded(seqaudit_external:from_term(Term), Numbers).
-
 %% @equiv encoded(Term, #{})
 -spec encoded(seqaudit_external:encoded()) -> string().
 encoded(Term) ->
     encoded(Term, #{}).
 
-%% @doc The text of a term that is given by its bytes.
+%% @doc The term of these bytes as Erlang prints it, on one line, cut if it is large. A process with a
+%% number in the bundle is spelled by it: how Erlang prints one of another node differs from node to
+%% node.
 -spec encoded(seqaudit_external:encoded(), numbers()) -> string().
 encoded(Term, Numbers) ->
     unicode:characters_to_list(append(Term, Numbers, <<>>)).

@@ -1,5 +1,5 @@
 defmodule Mix.Tasks.Seqaudit do
-  @shortdoc "Traces nodes, and audits, draws and explains the traces"
+  @shortdoc "Traces nodes, for gemshowal to audit and draw"
 
   @moduledoc """
   The command `seqaudit-node` by mix: `mix seqaudit COMMAND ..`, as `mix seqaudit --help` says.
