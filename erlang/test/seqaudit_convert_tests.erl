@@ -4,7 +4,7 @@
 -export([captures_test_/0, equal_terms_test/0, numbers_test/0, parties_test/0, aliases_test/0,
          reset_aliases_test/0, ambiguous_aliases_test/0,
          repeated_names_test/0,
-         callers_test/0, counts_test/0, limits_test/0, many_processes_test_/0,
+         callers_test/0, spawned_test/0, counts_test/0, limits_test/0, many_processes_test_/0,
          lost_test/0, hostile_test_/0, hostile_trace_test_/0, hostile_process_test_/0,
          text_test/0, text_faults_test/0, external_test/0, trace_file_test/0,
          damaged_event_test/0]).
@@ -150,7 +150,34 @@ callers_test() ->
         seqaudit_convert:convert([#{node => node(), processes => #{Task => seqaudit_spool:about(Task)},
                                     events => [{seq_trace, 1, {print, {0, 1}, Task, [], x}}]}]),
     exit(Task, kill),
-    {_, _} = binary:match(iolist_to_binary(Terms), iolist_to_binary([", for ", pid_to_list(Task), "\n"])).
+    {match, [Number, Number, Number]} = re:run(Terms, "\ttask of (<[0-9.]*>) (<[0-9.]*>)\t.*, for (<[0-9.]*>)\n",
+                                               [{capture, all_but_first, list}]).
+
+%% A process that lived too short a time to be asked is called by the request that spawned it: a server by its module,
+%% a task by the process that it works for.
+spawned_test() ->
+    [Parent, Server, Named, Task, Plain, Fun] = [pid('a@h', N, 0) || N <- [80, 81, 82, 83, 84, 85]],
+    Proc = fun(Module, Function, Arguments) -> {{proc_lib, init_p, 5}, [shop, [], Module, Function, Arguments]} end,
+    Spawn = fun({Child, {Call, Arguments}}) ->
+                    Request = {spawn_request, make_ref(), Parent, Parent, Call, [link], spawn_reply, Arguments},
+                    Count = 2 * element(2, hd(ets:lookup(counts, Child))),
+                    [{seq_trace, 1, {Kind, {Count, Count + 1}, Parent, Child, Request}} || Kind <- [send, 'receive']]
+            end,
+    Spawned = [{Server, Proc(gen, init_it, [gen_server, Parent, self, stock, [], []])},
+               {Named, Proc(gen, init_it, [gen_statem, Parent, Parent, {local, till}, desk, [], []])},
+               {Task, Proc('Elixir.Task.Supervised', reply, [{'a@h', shop, Parent}, nomonitor])},
+               {Plain, {{post, parcel, 2}, [a, b]}}, {Fun, {{erlang, apply, 2}, [fun() -> ok end, []]}}],
+    counts = ets:new(counts, [named_table]),
+    true = ets:insert(counts, [{Child, K} || {K, {Child, _}} <- lists:enumerate(0, Spawned)]),
+    #{terms := Terms} =
+        seqaudit_convert:convert([#{node => 'a@h', processes => #{Parent => #{name => shop}, Task => #{}},
+                                    events => lists:append([Spawn(Each) || Each <- Spawned])}]),
+    true = ets:delete(counts),
+    Lines = binary:split(iolist_to_binary(Terms), <<"\n">>, [global]),
+    [[<<"<0.80.0>">>, <<"shop">>], [<<"<0.81.0>">>, <<"stock:init/1 <0.81.0>">>],
+     [<<"<0.82.0>">>, <<"desk:init/1 <0.82.0>">>], [<<"<0.83.0>">>, <<"task of shop <0.83.0>">>],
+     [<<"<0.84.0>">>, <<"post:parcel/2 <0.84.0>">>], [<<"<0.85.0>">>, <<"<0.85.0>">>]] =
+        [[Pid, Name] || Line <- Lines, [<<"process">>, Pid, Name, _] <- [binary:split(Line, <<"\t">>, [global])]].
 
 %% What is no event is counted.
 counts_test() ->

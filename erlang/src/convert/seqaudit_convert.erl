@@ -210,7 +210,8 @@ parts(#build{actors = Actors, others = Others} = Build) ->
         list_to_tuple([integer_to_binary(maps:get(Label, LabelNumbers)) || Label <- Labels]),
     Spawns = seqaudit_spawns:read(Build#build.values),
     OfActors = list_to_tuple(element(1, Listed)),
-    {Streams, Nameless, Placed} = streams(Packed, Spelled, {OfActors, Spawns}),
+    Births = seqaudit_spawns:births(Packed, OfActors, Spawns),
+    {Streams, Nameless, Placed} = streams(Packed, Spelled, Births),
     Wrapped = seqaudit_spawns:has_wrapped(Packed, Spawns),
     Sorted = lists:sort([{Number, Party} || {Party, Number} <- maps:to_list(Numbers)]),
     Counts = maps:merge(Build#build.counts, Resolved#{nameless => Nameless}),
@@ -224,8 +225,8 @@ parts(#build{actors = Actors, others = Others} = Build) ->
                      ok = Out(header(Wrapped, Sorted)),
                      bundle(Sorted, Streams, Packed, {Spelled, LabelTexts, IsAnswer}, Out)
              end,
-    Known = Build#build.known,
     Values = Build#build.values,
+    Known = seqaudit_spawns:learn(Births, Packed, OfActors, Values, Build#build.known),
     Dots = atomics:new(seqaudit_numbers:size(Values) + 1, []),
     Terms = fun(Out) -> terms(Sorted, ByLabel, {Known, Values}, {Numbers, Dots}, Out) end,
     Messages = fun(Out) -> messages(Values, {Numbers, Dots}, Out) end,
@@ -282,7 +283,7 @@ spell(Party, {Actors, _}) -> element(Party + 1, Actors).
 
 %% The places of each process's events in the records, by its spelling; how many events name a party
 %% without a number, and how many don't.
-streams(Packed, Spelled, {Actors, Spawns}) ->
+streams(Packed, Spelled, Births) ->
     Looked = seqaudit_workers:shares(Packed, fun(Part, First) -> streams(Part, First, Spelled, #{},
                                                                          0) end),
     {Streams, Nameless} =
@@ -291,7 +292,7 @@ streams(Packed, Spelled, {Actors, Spawns}) ->
                                                                         Later/binary>> end,
                                              Before, More), None + Other}
                     end, {#{}, 0}, Looked),
-    Ordered = seqaudit_spawns:births_first(Streams, Packed, Actors, Spawns),
+    Ordered = seqaudit_spawns:births_first(Streams, Births),
     {maps:from_list([{spell(Party, Spelled), Places} || {Party, Places} <- maps:to_list(Ordered)]),
      Nameless, byte_size(Packed) div ?PACKED_SIZE - Nameless}.
 
@@ -361,7 +362,7 @@ word(?PRINT) -> <<",{print,{">>.
 %% The legend, whose first lines `seqaudit_legend' makes. The values may be many, so a process makes
 %% the texts of some. It notes which of them have dots: all those that are cut do.
 terms(Sorted, Labels, {Known, Values}, {Numbers, Dots}, Out) ->
-    ok = Out(seqaudit_legend:text(named(Sorted, Known))),
+    ok = Out(seqaudit_legend:text(named(Sorted, Known, Numbers))),
     ok = Out([["node\t", integer_to_binary(Node), $\t,
                unicode:characters_to_binary(seqaudit_terms:plain(Name)), $\n]
               || {Node, Name} <- seqaudit_processes:further_nodes(Sorted)]),
@@ -440,14 +441,15 @@ entry(Kind, Number, Term, Numbers, Before) ->
 
 %% What the legend says of each process. A name that several had, one after the other, is told apart
 %% by the number.
-named(Listed, Known) ->
+named(Listed, Known, Numbers) ->
     Homes = [seqaudit_processes:home(Party) || {_, Party} <- Listed],
     Many = length(lists:usort(Homes)) > 1,
     Named = [begin
                  About = maps:get(Party, Known, #{}),
+                 Caller = caller(About, Known, Numbers),
                  {seqaudit_processes:spell(Number),
-                  seqaudit_processes:name({Party, Number}, About, Many),
-                  seqaudit_processes:what(Party, About)}
+                  seqaudit_processes:name({Party, Number}, About, Many, Caller),
+                  seqaudit_processes:what(Party, About, Caller)}
              end || {Number, Party} <- Listed],
     Count = lists:foldl(fun({_, Name, _},
                             Count) -> Count#{Name => maps:get(Name, Count, 0) + 1} end,
@@ -456,6 +458,14 @@ named(Listed, Known) ->
                #{Name := 1} -> Name;
                #{} -> Name ++ " " ++ Pid
            end, What} || {Pid, Name, What} <- Named].
+
+caller(#{caller := Caller}, Known, Numbers) ->
+    case Known of
+        #{Caller := #{name := Name}} -> seqaudit_terms:atom(Name);
+        #{} -> seqaudit_terms:encoded(Caller, Numbers)
+    end;
+caller(_About, _Known, _Numbers) ->
+    "".
 
 %% @doc A reason of this module in words, with what to do about it.
 -spec format_error({unwritten, file:filename(), term()}) -> string().

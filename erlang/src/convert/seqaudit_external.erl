@@ -13,8 +13,8 @@
 -module(seqaudit_external).
 
 -export([read/1, take/1, from_term/1, to_term/1, atom/1, name/2, view/1, event/1, readable/1,
-         tuple/1, pairs/1, map/1, list/1, number/1, call/1, about_term/1, first/1, is_whole/1,
-         part/1, characters/3, request/1]).
+         tuple/1, pairs/1, map/1, list/1, number/1, call/1, call/3, about_term/1, first/1,
+         is_whole/1, part/1, characters/3, request/1]).
 -export_type([encoded/0, view/0, event/0]).
 
 -define(VERSION, 131).
@@ -611,6 +611,11 @@ call(Term) ->
             end;
         _ -> other
     end.
+
+%% @doc The triple of these.
+-spec call(Module :: encoded(), Function :: encoded(), Arity :: byte()) -> encoded().
+call(Module, Function, Arity) ->
+    <<?SMALL_TUPLE, 3, Module/binary, Function/binary, ?SMALL_INTEGER, Arity>>.
 
 %% @doc The elements of a tuple.
 -spec tuple(encoded()) -> [encoded()] | other.

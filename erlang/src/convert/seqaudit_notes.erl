@@ -349,7 +349,7 @@ nodes_of(Listed) ->
     end.
 
 renumbered(Listed) ->
-    [text("~ts is ~ts", [seqaudit_processes:spell(Number), seqaudit_processes:what(Party, #{})])
+    [text("~ts is ~ts", [seqaudit_processes:spell(Number), seqaudit_processes:what(Party, #{}, "")])
      || {Number, Party} <- Listed, not seqaudit_processes:is_own(Party, Number)].
 
 %% A label is spelled as `NAME.terms' has it, and as `--label' takes it.

@@ -6,7 +6,7 @@
 %% 65,535, and for what is no process, a number is taken that nobody has, from 65,535 downwards.
 -module(seqaudit_processes).
 
--export([number/1, further_nodes/1, is_own/2, home/1, spell/1, name/3, what/2]).
+-export([number/1, further_nodes/1, is_own/2, home/1, spell/1, name/4, what/3]).
 -export_type([party/0, pid_number/0, numbers/0]).
 
 -define(GREATEST, 65_535).
@@ -103,12 +103,15 @@ view(Party) -> seqaudit_external:view(seqaudit_external:from_term(Party)).
 spell({Node, Number}) ->
     "<" ++ integer_to_list(Node) ++ "." ++ integer_to_list(Number) ++ ".0>".
 
-%% @doc A short name for people: the registered name, else what was called first and the number.
-%% `Many' says whether there are several nodes, and the name is to say which one is meant.
--spec name({party(), pid_number()}, seqaudit_events:about(), boolean()) -> string().
-name({Party, Number}, About, Many) ->
+%% @doc A short name for people: the registered name, else for whom a task works or what was called
+%% first, and the number. `Many' says whether there are several nodes, and the name is to say which
+%% one is meant; `Caller' is the word for whom the process works for.
+-spec name({party(), pid_number()}, seqaudit_events:about(), boolean(), Caller :: string()) ->
+          string().
+name({Party, Number}, About, Many, Caller) ->
     case {view(Party), About} of
         {_, #{name := Name}} -> seqaudit_terms:atom(Name) ++ on(Party, Many);
+        {_, #{caller := _}} -> "task of " ++ Caller ++ " " ++ spell(Number);
         {_, #{call := Call}} -> called(seqaudit_terms:call(Call), Number);
         {{name, Name, _}, _} -> seqaudit_terms:atom(Name) ++ on(Party, true);
         {{port, _, _}, _} -> "port " ++ spell(Number);
@@ -124,9 +127,9 @@ on(_Party, false) -> "";
 on(Party, true) -> " on " ++ seqaudit_terms:plain(home(Party)).
 
 %% @doc All that is known of a party, in words.
--spec what(party(), seqaudit_events:about()) -> iolist().
-what(Party, About) ->
-    [kind(view(Party)), " of node ", seqaudit_terms:plain(home(Party)), known(About)].
+-spec what(party(), seqaudit_events:about(), Caller :: string()) -> iolist().
+what(Party, About, Caller) ->
+    [kind(view(Party)), " of node ", seqaudit_terms:plain(home(Party)), known(About, Caller)].
 
 kind({process, _, Number, Serial}) -> io_lib:format("process <0.~b.~b>", [Number, Serial]);
 kind({port, _, Number}) -> io_lib:format("port #Port<0.~b>", [Number]);
@@ -135,7 +138,7 @@ kind({reference, _, Ids}) ->
      "> of an unknown process"];
 kind({name, Name, _}) -> ["name ", seqaudit_terms:atom(Name)].
 
-known(About) ->
+known(About, Caller) ->
     [[", registered as ", seqaudit_terms:atom(Name)] || #{name := Name} <- [About]]
         ++ [[", started by ", seqaudit_terms:call(Call)] || #{call := Call} <- [About]]
-        ++ [[", for ", seqaudit_terms:encoded(Caller)] || #{caller := Caller} <- [About]].
+        ++ [[", for ", Caller] || #{caller := _} <- [About]].

@@ -1,5 +1,5 @@
-%% @doc The events by which OTP spawns a process: where they belong in its stream, and which
-%% receives are answers.
+%% @doc The events by which OTP spawns a process: where they belong in its stream, which receives
+%% are answers, and what the process was called with.
 %%
 %% `spawn' reports two events for the process that it makes: the receive of the request, and the
 %% send of the reply. The spawner makes them, and they stay in its buffer for a while, so a tracer
@@ -13,8 +13,8 @@
 
 -include("seqaudit_packed.hrl").
 
--export([read/1, births_first/4, has_wrapped/2, is_answer/4]).
--export_type([spawns/0]).
+-export([read/1, births/3, births_first/2, learn/5, has_wrapped/2, is_answer/4]).
+-export_type([spawns/0, births/0]).
 
 %% What a value is. The rest of its number is a hash of the process that has to be its sender.
 -define(OTHER_MESSAGE, 0).
@@ -31,6 +31,12 @@
 
 -opaque spawns() :: atomics:atomics_ref().
 %% What each value is, by its number.
+
+-opaque births() :: #{Process :: non_neg_integer() =>
+                          #{request | remote | reply => Place :: non_neg_integer()}}.
+%% The first place of each event that may be of a process's birth.
+
+-type known() :: #{seqaudit_external:encoded() => seqaudit_events:about()}.
 
 %% @doc Looks the messages through for those by which OTP spawns.
 -spec read(seqaudit_numbers:table()) -> spawns().
@@ -85,16 +91,19 @@ kind(From, Value, Actors, Spawns) ->
             ?OTHER_MESSAGE
     end.
 
-%% @doc The places of each process's events, with those of its birth first.
--spec births_first(#{non_neg_integer() => binary()}, seqaudit_build:packed(), tuple(), spawns()) ->
-          #{non_neg_integer() => binary()}.
-births_first(Streams, Packed, Actors, Spawns) ->
+%% @doc Looks for the events of births.
+-spec births(seqaudit_build:packed(), Actors :: tuple(), spawns()) -> births().
+births(Packed, Actors, Spawns) ->
     Shares = seqaudit_workers:shares(Packed, fun(Part, First) -> births(Part, First, Actors, Spawns,
                                                                         #{}) end),
-    Births = lists:foldl(fun(Later, Earlier) ->
-                                 maps:merge_with(fun(_, One, Other) -> maps:merge(Other, One) end,
-                                                 Earlier, Later)
-                         end, #{}, Shares),
+    lists:foldl(fun(Later, Earlier) ->
+                        maps:merge_with(fun(_, One, Other) -> maps:merge(Other, One) end,
+                                        Earlier, Later)
+                end, #{}, Shares).
+
+%% @doc The places of each process's events, with those of its birth first.
+-spec births_first(#{non_neg_integer() => binary()}, births()) -> #{non_neg_integer() => binary()}.
+births_first(Streams, Births) ->
     maps:map(fun(Process, Places) ->
                      case Births of
                          #{Process := Birth} -> first(birth(Birth), Places);
@@ -102,7 +111,7 @@ births_first(Streams, Packed, Actors, Spawns) ->
                      end
              end, Streams).
 
-%% Of each process the first places of what may be its birth.
+%% Keeps the first places of what may be a process's birth.
 births(<<?PACKED(Kind, _L, _P, _T, From, To, Value, _Time), Rest/binary>>, Place, Actors, Spawns,
        Births) ->
     case {Kind, Kind =/= ?PRINT andalso kind(From, Value, Actors, Spawns)} of
@@ -132,6 +141,82 @@ first(Birth, Places) ->
         _ -> << Begin/binary, << <<Place:32>> || <<Place:32>> <= Places,
                                 not lists:member(Place, Birth) >>/binary >>
     end.
+
+%% @doc What is known of processes, and of those that nobody asked in time what they were called
+%% with, by the requests that spawned them.
+-spec learn(births(), seqaudit_build:packed(), Actors :: tuple(), seqaudit_numbers:table(),
+            known()) -> known().
+learn(Births, Packed, Actors, Values, Known) ->
+    Wanted = [{value(Place, Packed), Process}
+              || {Actor, Birth} <- maps:to_list(Births),
+                 What <- [request, remote], #{What := Place} <- [Birth],
+                 Process <- [element(Actor + 1, Actors)],
+                 not is_map_key(call, maps:get(Process, Known, #{}))],
+    learn(lists:sort(Wanted), Values, Known, #{}).
+
+value(Place, Packed) ->
+    <<?PACKED(_K, _L, _P, _T, _From, _To, Value, _Time)>> =
+        binary:part(Packed, Place * ?PACKED_SIZE, ?PACKED_SIZE),
+    Value.
+
+%% Keeps once what many processes have in common.
+learn([], _Values, Known, _Common) ->
+    Known;
+learn([{First, _} | _] = Wanted, Values, Known, Common) ->
+    Terms = list_to_tuple(seqaudit_numbers:part(First, ?AT_ONCE, Values)),
+    {Here, Later} = lists:splitwith(fun({Value, _}) -> Value < First + ?AT_ONCE end, Wanted),
+    Learn = fun({Value, Process}, {Sum, Seen}) ->
+                    Said = called(seqaudit_external:tuple(element(Value - First + 1, Terms))),
+                    About = maps:get(Said, Seen, Said),
+                    {Sum#{Process => maps:merge(About, maps:get(Process, Sum, #{}))},
+                     Seen#{About => About}}
+            end,
+    {Learned, Kept} = lists:foldl(Learn, {Known, Common}, Here),
+    learn(Later, Values, Learned, Kept).
+
+%% Returns what a request to spawn says of the new process.
+called([_Word, _Reference, _Parent, _Leader, Call | Others]) ->
+    case {seqaudit_external:call(Call), Others} of
+        {{<<"proc_lib">>, <<"init_p">>, 5}, [_Options, _Tag, Arguments]} ->
+            called_by_proc_lib(seqaudit_external:list(Arguments));
+        {{_, _, _}, _} -> #{call => binary:copy(Call)};
+        {other, _} -> #{}
+    end.
+
+%% Returns what `proc_lib' notes in the dictionary of such a process as its initial call, and the
+%% process for which a task of Elixir works.
+called_by_proc_lib([_Parent, _Ancestors, Module, Function, List]) ->
+    Arguments = seqaudit_external:list(List),
+    case {seqaudit_external:view(Module), seqaudit_external:view(Function), Arguments} of
+        {{atom, <<"gen">>}, {atom, <<"init_it">>}, [_Behaviour, _Starter, _Linked, One, Two | _]} ->
+            initialized(One, Two);
+        {{atom, <<"Elixir.Task.Supervised">>}, {atom, _}, [Owner | _]} ->
+            maps:merge(called(Module, Function, Arguments), owned(seqaudit_external:tuple(Owner)));
+        {{atom, _}, {atom, _}, _} -> called(Module, Function, Arguments);
+        _ -> #{}
+    end;
+called_by_proc_lib(_) ->
+    #{}.
+
+called(Module, Function, Arguments) when length(Arguments) < 256 ->
+    #{call => seqaudit_external:call(Module, Function, length(Arguments))};
+called(_Module, _Function, _Arguments) ->
+    #{}.
+
+%% The module of a server's functions comes after its name, if it has one.
+initialized(One, Two) ->
+    Init = seqaudit_external:atom(<<"init">>),
+    case {seqaudit_external:view(One), seqaudit_external:view(Two)} of
+        {{atom, _}, _} -> called(One, Init, [arguments]);
+        {_, {atom, _}} -> called(Two, Init, [arguments]);
+        _ -> #{}
+    end.
+
+owned([_Node, _Name, Process]) ->
+    maps:from_list([{caller, binary:copy(Process)}
+                    || {process, _, _, _} <- [seqaudit_external:view(Process)]]);
+owned(_) ->
+    #{}.
 
 %% @doc Whether a counter has passed what a serial shows without a minus.
 -spec has_wrapped(seqaudit_build:packed(), spawns()) -> boolean().
