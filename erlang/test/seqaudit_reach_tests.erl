@@ -63,7 +63,8 @@ mixed_names_test_() ->
                               <<"some of these nodes have long names, with a dot in the host, and some short ones">>)
     end}.
 
-%% A node that speaks TLS alone is reached with the options that `erl' has for that.
+%% A node that speaks TLS alone is reached with the options that `erl' has for that, and what it
+%% wrote is fetched.
 tls_test_() ->
     {timeout, 60, fun() ->
         case {code:which(inet_tls_dist), os:find_executable("openssl")} of
@@ -71,14 +72,26 @@ tls_test_() ->
                 io:format(user, "TLS: skipped, there is no erlang-ssl or no openssl~n", []);
             _ ->
                 Flags = ["-proto_dist", "inet_tls", "-ssl_dist_optfile", tls_options()],
-                with_node(Flags, fun(Node) ->
+                with_peer(Flags, fun(Peer, Node) ->
                     To = ["--node ", Node, " --cookie " ?COOKIE],
                     {4, Plain} = collect(To, []),
                     {_, _} = binary:match(Plain, <<"if it speaks TLS, does this command (ERL_FLAGS)?">>),
-                    {0, _} = collect(To, [{"ERL_FLAGS", lists:append(lists:join(" ", Flags))}])
+                    Caller = spawn(fun() -> call_on(Peer) end),
+                    {0, Said} = collect([To, " --trigger application:which_applications/0",
+                                         " --label 7"],
+                                        [{"ERL_FLAGS", lists:append(lists:join(" ", Flags))}]),
+                    exit(Caller, kill),
+                    {match, [Events]} = re:run(Said, "^([0-9]+) events of ",
+                                               [multiline, {capture, [1], list}]),
+                    true = list_to_integer(Events) >= 4
                 end)
         end
     end}.
+
+%% Calls a server again and again: a call and its reply are four events.
+call_on(Peer) ->
+    [_ | _] = peer:call(Peer, application, which_applications, []),
+    receive after 20 -> call_on(Peer) end.
 
 %% A certificate that signs itself, which the client has no reason to trust, so it doesn't ask.
 tls_options() ->
@@ -96,9 +109,12 @@ collect(To, Variables) ->
 
 %% Another node with a long name, which this one isn't connected to.
 with_node(Flags, Do) ->
+    with_peer(Flags, fun(_Peer, Node) -> Do(Node) end).
+
+with_peer(Flags, Do) ->
     Name = lists:append(["seqaudit_far_", os:getpid(), "_", integer_to_list(erlang:unique_integer([positive]))]),
     {ok, Peer, Node} = peer:start_link(#{name => list_to_atom(Name), host => "127.0.0.1", longnames => true,
                                          connection => standard_io, args => ["-setcookie", ?COOKIE | Flags]}),
-    try Do(atom_to_list(Node))
+    try Do(Peer, atom_to_list(Node))
     after peer:stop(Peer)
     end.

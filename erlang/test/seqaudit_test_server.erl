@@ -2,7 +2,7 @@
 -module(seqaudit_test_server).
 -behaviour(gen_server).
 
--export([start/1, start/2, print/2, flood/1, load/2, running/1, without_runtime_tools/0, begin_shop/0, order/1,
+-export([start/1, start/2, print/2, timed/2, flood/1, load/2, running/1, without_runtime_tools/0, begin_shop/0, order/1,
          shop_token/0, with_token/1, init/1, handle_call/3, handle_cast/2]).
 
 start(Fun) ->
@@ -26,6 +26,11 @@ handle_cast(Request, Fun) ->
 %% Prints under a token, in this process.
 print(Label, What) ->
     seqaudit_trace:with_trace(Label, fun() -> seq_trace:print(What), ok end).
+
+%% Prints with the time.
+timed(Label, What) ->
+    seqaudit_trace:with_trace(Label, [print, monotonic_timestamp],
+                              fun() -> seq_trace:print(What), ok end).
 
 %% Prints so many messages of 32 KB in a moment.
 flood(Times) ->
