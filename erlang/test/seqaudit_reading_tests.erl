@@ -6,6 +6,7 @@
          out_of_range_test/0, unpacked_size_test/0, old_release_test/0,
          equal_maps_test/0, version_1_test/0, damaged_version_1_test/0, before_events_test/0, ttb_names_test_/0,
          long_text_test_/0, million_events_test_/0]).
+-export([many_calls/2, watched/1]).
 
 %% 1,000 files with bytes flipped, cut, doubled or exchanged, by a fixed seed. Nothing crashes, no
 %% atom is made, and memory stays below ten times the file's size and 100 MB.
