@@ -23,6 +23,7 @@ pub mod prelude;
 pub mod process;
 pub mod rayon;
 pub mod rt;
+pub mod sha2;
 pub mod slab;
 pub mod slice;
 pub mod snapshot;

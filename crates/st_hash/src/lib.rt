@@ -1,0 +1,44 @@
+//! Hashers that begin with a digest of all keys of their table.
+//!
+//! Whoever writes a trace chooses its pids and counts. The library's own hasher begins in a fixed
+//! state, so that many of them could be chosen to have one hash. Here to exchange one key changes
+//! the hash of each.
+#![tactic(auto)]
+
+ghost use Rattle.std.specs.Prelude.{◌≡◌, ℕ, List};
+ghost use Rattle.std.specs.Hash.DefaultHasher as sip;
+ghost use Rattle.sha2.specs.Hashers.{Holds256};
+ghost use Rattle.sha2.specs.Sha256.{sha256};
+
+use sha2::{Digest, Sha256};
+use std::hash::{BuildHasher, DefaultHasher, Hasher};
+
+/// Makes the hashers of a table, which begin with a digest of its keys.
+#[derive(Clone, Copy, Debug)]
+pub struct DigestState {
+    /// The digest.
+    pub digest: [u8; 32],
+}
+
+impl DigestState {
+    /// Makes the state for a table of the keys that `keys` has taken.
+    pub fn new(keys: Sha256) -> DigestState
+        ensures { (bytes : List ℕ) → Holds256 keys bytes → result.digest ≡ sha256 bytes }
+    {
+        DigestState {
+            digest: keys.finalize(),
+        }
+    }
+}
+
+impl BuildHasher for DigestState {
+    type Hasher = DefaultHasher;
+
+    ghost build_hasher = { λ s. sip.write sip.initial s.digest };
+
+    fn build_hasher(&self) -> DefaultHasher {
+        let mut hasher = DefaultHasher::new();
+        hasher.write(&self.digest);
+        hasher
+    }
+}
