@@ -9,8 +9,6 @@ pub mod Agreement
 pub mod AcceptedEvents
 pub mod Converse
 pub mod Received
-pub mod HiddenOnce
-pub mod KeyOrder
 pub mod BackLinks
 pub mod Marks
 pub mod StampRows

@@ -2,19 +2,18 @@
 use Rattle.std.proofs.Common.{◌≡◌, ℕ, ◌+◌, ◌<◌, ◌⊎◌, inl, inr, zero, suc, Bool, true, false, cond}
 use Rattle.std.proofs.Common.{List, [], ◌∷◌, get_or, length, map, replicate, set, Option, None, Some, slice_get}
 use Rattle.std.proofs.Common.{option_and_then, option_map, refl, sym, ◌∙◌, ap, subst, arith}
-use Rattle.std.specs.Ordering.{is_eq, nat_cmp}
+use Rattle.std.specs.List.{AllByRecursion}
 use Rattle.std.proofs.lemmas.Option.{same_Some, none-some, get_or_from_slice_get, slice_get-get_or, slice_get_within}
 use Rattle.st_core.specs.declared.types.Pid.{Pid}
 use Rattle.st_core.specs.declared.types.Event.{Event}
-use Rattle.st_core.specs.Pid.{pid_cmp, pid_eq, IsRising}
+use Rattle.st_core.specs.Pid.{pid_eq, IsRising}
 use Rattle.st_core.specs.Run.{Stream, pids_of}
 use Rattle.st_core.specs.Streams.{events_of}
-use Rattle.st_core.proofs.ForCallers.{above_apart, pid_eq-true, pid_eq-same, pid_eq-swap, pid_cmp-Equal, pid_cmp-same}
-use Rattle.st_core.proofs.ForCallers.{nat_cmp-Equal, nat_cmp-same, both_equal}
+use Rattle.st_core.proofs.ForCallers.{above_apart, pid_eq-true, pid_eq-same, pid_eq-swap}
 use Rattle.st_pair.specs.declared.receives.Key.{Key}
 use Rattle.st_pair.specs.Pairing.{stamp_of}
 use Rattle.st_pair.specs.Places.{or_else}
-use Rattle.st_pair.specs.Tables.{here, stamp_key_cmp, key_eq, mark_at, mark_of, marks_in, no_marks, stamp_index}
+use Rattle.st_pair.specs.Tables.{here, key_eq, mark_at, mark_of, marks_in, no_marks, stamp_index}
 use Rattle.st_pair.proofs.Converse.{given_from, own_says}
 use Rattle.st_pair.proofs.Firsts.{or_none}
 use Rattle.st_pair.proofs.OwnStamps.{own_rule}
@@ -22,29 +21,6 @@ use Rattle.st_pair.proofs.Received.{here_same, key_eq-same, key_eq-true, noted, 
 
 abbrev pub Mark : Type 0
 Mark = Option (Pid × ℕ)
-
--- THE ORDER OF KEYS
-
-cmp_true : (k l : Key) → is_eq (stamp_key_cmp k l) ≡ true → k ≡ l
-cmp_true k l h =
-    let parts = both_equal (nat_cmp k.this l.this) (pid_cmp k.from l.from) h in
-    let this = nat_cmp-Equal k.this l.this parts.0 in
-    let from = pid_cmp-Equal k.from l.from parts.1 in
-    λ i. record { from = from i; this = this i }
-
-cmp_same : (k : Key) → is_eq (stamp_key_cmp k k) ≡ true
-cmp_same k = rw (nat_cmp-same k.this k.this refl, pid_cmp-same k.from) refl
-
--- what compares equal is one key
-pub cmp_eq : (k l : Key) → is_eq (stamp_key_cmp k l) ≡ key_eq k l
-cmp_eq k l = elim (is_eq (stamp_key_cmp k l)) as (λ b. is_eq (stamp_key_cmp k l) ≡ b → b ≡ key_eq k l) [
-  | true ↦ λ is. sym (subst (λ (x : Key). key_eq k x ≡ true) (cmp_true k l is) (key_eq-same k))
-  | false ↦ λ is. elim (key_eq k l) as (λ b. key_eq k l ≡ b → false ≡ b) [
-    | true ↦ λ same.
-        sym is ∙ subst (λ (x : Key). is_eq (stamp_key_cmp k x) ≡ true) (key_eq-true k l same) (cmp_same k)
-    | false ↦ λ apart. refl
-  ] refl
-] refl
 
 -- WHAT IS READ AND WRITTEN
 
@@ -80,6 +56,21 @@ pub mark_read : (streams : List Stream) (lists : List (List Mark)) (key : Key) (
 mark_read streams lists key n i rising at is =
     ap (option_and_then (λ (j : ℕ). slice_get (marks_in streams lists key.from) j)) is
     ∙ sym (marks_read streams lists n i key.from rising at)
+
+-- of a process that isn't listed nothing is noted
+unlisted_marks : (streams : List Stream) (lists : List (List Mark)) (p : Pid)
+    → AllByRecursion (λ q. pid_eq q p ≡ false) (pids_of streams) → marks_in streams lists p ≡ []
+unlisted_marks [] lists p missing = refl
+unlisted_marks (s ∷ streams) [] p missing = refl
+unlisted_marks (s ∷ streams) (l ∷ lists) p missing = rw missing.0 (unlisted_marks streams lists p missing.1)
+
+pub unlisted_mark : (streams : List Stream) (lists : List (List Mark)) (key : Key)
+    → AllByRecursion (λ q. pid_eq q key.from ≡ false) (pids_of streams) → mark_of streams lists key ≡ None
+unlisted_mark streams lists key missing = elim (stamp_index streams key)
+    as (λ o. option_and_then (λ (j : ℕ). slice_get (marks_in streams lists key.from) j) o ≡ None) [
+      | None ↦ refl
+      | Some i ↦ ap (λ (l : List Mark). slice_get l i) (unlisted_marks streams lists key.from missing)
+    ]
 
 -- one process's marks are all that changes
 marks_put : (streams : List Stream) (lists : List (List Mark)) (n : ℕ) (p q : Pid) (l : List Mark)
@@ -260,16 +251,14 @@ noted_at streams lists hidden key n i place rising at is free =
 -- a receive of a hidden send
 pub noted_hidden : (streams : List Stream) (lists : List (List Mark)) (before after : Table) (key : Key)
     (place : Pid × ℕ) → mark_of streams lists key ≡ None
-    → ((k : Key) → after k ≡ cond (is_eq (stamp_key_cmp key k)) (Some place) (before k))
+    → ((k : Key) → after k ≡ cond (key_eq key k) (Some place) (before k))
     → (before key ≡ None) ⊎ (before key ≡ Some place) → (k : Key)
     → given (mark_of streams lists k) (after k)
     ≡ or_else (given (mark_of streams lists k) (before k)) (here key place k)
 noted_hidden streams lists before after key place unmarked written was k =
-    let put : (q : Key) → after q ≡ cond (key_eq key q) (Some place) (before q) =
-    λ q. written q ∙ ap (λ (b : Bool). cond b (Some place) (before q)) (cmp_eq key q) in
     elim (mark_of streams lists k) as (λ o. mark_of streams lists k ≡ o
     → given o (after k) ≡ or_else (given o (before k)) (here key place k)) [
-      | None ↦ λ none. noted before after key place put was k
+      | None ↦ λ none. noted before after key place written was k
       | Some mark ↦ λ there.
           let apart : key ≡ k → ⊥ = λ same. none-some mark
           (sym unmarked ∙ ap (mark_of streams lists) same ∙ there) in

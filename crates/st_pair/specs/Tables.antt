@@ -1,15 +1,13 @@
 -- What streams are paired by: the first receive from each sender with each count, and the sends and prints of each
 -- process.
-use Rattle.std.specs.Prelude.{◌≡◌, ℕ, ◌+◌, ◌<◌, ◌==◌, ◌&&◌, ◌++◌, Bool, false, List, [], ◌∷◌, Option, Some, None}
+use Rattle.std.specs.Prelude.{◌≡◌, ℕ, ◌+◌, ◌<◌, ◌==◌, ◌&&◌, Bool, List, [], ◌∷◌, Option, Some, None}
 use Rattle.std.specs.Prelude.{if◌then◌else◌, length, map, replicate, option_and_then, option_map, slice_get}
 use Rattle.std.specs.List.{AllByRecursion}
-use Rattle.std.specs.BTreeMap.{get}
-use Rattle.std.specs.declared.cmp.Ordering.{Ordering}
-use Rattle.std.specs.Ordering.{nat_cmp, ordering_then}
+use Rattle.indexmap.specs.IndexMap.{get}
 use Rattle.st_core.specs.declared.types.Pid.{Pid}
 use Rattle.st_core.specs.declared.types.Event.{Event}
 use Rattle.st_core.specs.declared.types.Kind.TheVariants as kind
-use Rattle.st_core.specs.Pid.{pid_cmp, pid_eq, IsRising}
+use Rattle.st_core.specs.Pid.{pid_eq, IsRising}
 use Rattle.st_core.specs.Run.{Stream, pids_of}
 use Rattle.st_pair.specs.declared.pairing.Link.{Link}
 use Rattle.st_pair.specs.declared.pairing.Link.TheVariants as link
@@ -20,15 +18,11 @@ use Rattle.st_pair.specs.declared.receives.Receives.{Receives}
 use Rattle.st_pair.specs.declared.stamp_table.StampRow.{StampRow}
 use Rattle.st_pair.specs.Places.{is_stamp, first, or_else}
 use Rattle.st_pair.specs.Links.{received_link}
-use Rattle.st_pair.specs.Pairing.{receive_of, repeated, stamp_of, not_rising}
+use Rattle.st_pair.specs.Pairing.{receive_of, stamp_of, not_rising}
 
 -- k and l are one sender and one count
 abbrev pub key_eq : Key → Key → Bool
 key_eq k l = pid_eq k.from l.from && k.this == l.this
-
--- by count, then sender
-abbrev pub stamp_key_cmp : Key → Key → Ordering
-stamp_key_cmp k l = ordering_then (nat_cmp k.this l.this) (pid_cmp k.from l.from)
 
 -- the index of the send or print that has this sender and this count
 abbrev pub stamp_index : List Stream → Key → Option ℕ
@@ -64,7 +58,7 @@ pub record IsMark (streams : List Stream) (lists : List (List (Option (Pid × �
 -- the place that the tables give for a key
 abbrev pub place_for : List Stream → Receives → Key → Option (Pid × ℕ)
 place_for streams receives k = elim (mark_of streams receives.shown.items k) [
-  | None ↦ get stamp_key_cmp receives.hidden k
+  | None ↦ get key_eq receives.hidden k
   | Some place ↦ place
 ]
 
@@ -98,42 +92,6 @@ links_back streams s = map (link_back streams) s.events
 -- the sender and the count of the message that an event received
 abbrev pub key_in : Event → Key
 key_in e = record { from = e.from; this = e.serial.this }
-
--- this key, if the event is a receive of a hidden send
-abbrev pub hidden_key : List Stream → Event → List Key
-hidden_key streams e = elim e.kind [
-  | kind.Send ↦ []
-  | kind.Receive ↦ elim (stamp_of streams e.from e.serial.this) [ None ↦ key_in e ∷ [] | Some f ↦ [] ]
-  | kind.Print ↦ []
-]
-
--- the keys of the receives of hidden sends among these events
-abbrev pub keys_in : List Stream → List Event → List Key
-keys_in streams [] = []
-keys_in streams (e ∷ es) = hidden_key streams e ++ keys_in streams es
-
--- and those of all these processes
-abbrev pub hidden_keys : List Stream → List Stream → List Key
-hidden_keys streams [] = []
-hidden_keys streams (s ∷ rest) = keys_in streams s.events ++ hidden_keys streams rest
-
--- no key is there twice
-abbrev pub AreDistinctKeys : List Key → Type 0
-AreDistinctKeys [] = Unit {0}
-AreDistinctKeys (k ∷ ks) = AllByRecursion (λ l. key_eq k l ≡ false) ks × AreDistinctKeys ks
-
--- the send or print that has this sender and this count was reported
-abbrev pub IsShown : List Stream → Key → Type 0
-IsShown streams k = stamp_index streams k ≡ None → ⊥
-
--- no receive of a hidden send among these events of p was received before
-abbrev pub AreHiddenOnce : List Stream → Pid → List Event → Type 0
-AreHiddenOnce streams p es = (i : ℕ) (e : Event) → slice_get es i ≡ Some e → is_stamp e ≡ false
-    → stamp_index streams (key_in e) ≡ None → repeated streams p i e ≡ None
-
--- a table gives the place of the first receive from each sender with each count of a reported send or print
-abbrev pub HasShownReceives : List Stream → (Key → Option (Pid × ℕ)) → Type 0
-HasShownReceives streams table = (k : Key) → IsShown streams k → table k ≡ receive_of streams k.from k.this
 
 -- a table gives the place of the first receive from each sender with each count
 abbrev pub HasReceives : List Stream → (Key → Option (Pid × ℕ)) → Type 0
@@ -169,9 +127,9 @@ pub record AreStamps (streams : List Stream) (stamps : List (List StampRow)) : T
   pub pids : IsRising (pids_of streams)
   pub counts : first (not_rising streams) streams ≡ None
 
--- the receives of reported sends and prints of streams in which the counts of each process rise
+-- the receives of streams in which the counts of each process rise
 pub record IsGot (streams : List Stream) (got : Receives) : Type 0 where
-  pub shown : HasShownReceives streams (place_for streams got)
+  pub receives : HasReceives streams (place_for streams got)
   pub pids : IsRising (pids_of streams)
   pub counts : first (not_rising streams) streams ≡ None
 

@@ -3,12 +3,12 @@
 //! A receive's link is its send, for which its sender's sends are searched here, once. A send's link follows when it is
 //! known which receive took it first.
 
-ghost use Rattle.std.specs.Prelude.{◌≡◌, ◌<◌, ◌++◌, map, length, slice_set, IfOk, OnOk};
-ghost use Rattle.st_pair.specs.Tables.{hidden_key, keys_in, hidden_keys, link_back, links_back, AreStamps};
+ghost use Rattle.std.specs.Prelude.{◌≡◌, ◌<◌, map, length, slice_set, IfOk};
+ghost use Rattle.st_pair.specs.Tables.{link_back, links_back, AreStamps};
 
 use crate::pairing::Link;
-use crate::receives::Key;
 use crate::stamp_table::Stamps;
+use sha2::{Digest, Sha256};
 use st_core::{Event, Kind, Streams};
 use std::alloc::{AllocError, Global};
 use std::marker::Model;
@@ -44,59 +44,56 @@ impl Links {
         self.links[index] = link;
     }
 
-    /// Those of these events, and behind `hidden` the keys of their receives of hidden sends.
+    /// Makes the links of these events, and gives `hidden_keys` the keys of their receives of hidden
+    /// sends.
     fn of_events(
         alloc: Global,
         streams: &Streams,
         sent: &mut Stamps,
-        hidden: &mut Vec<Key>,
+        hidden_keys: &mut Sha256,
         events: &[Event],
     ) -> Result<Links, AllocError>
         requires { AreStamps streams.now sent.old }
         ensures links { IfOk result (λ links. links ≡ map (link_back streams.now) events.now) }
-        ensures hidden { OnOk result (hidden.new.items ≡ hidden.old.items ++ keys_in streams.now events.now) }
         ensures sent { sent.new ≡ sent.old }
     {
         let mut links = Vec::with_capacity(alloc, events.len())?;
         for event in events {
-            links.push(link_back(streams, sent, hidden, event)?)?;
+            links.push(link_back(streams, sent, hidden_keys, event))?;
         }
         Ok(Links { links })
     }
 }
 
-/// What an event is paired with. If it is a receive of a hidden send, its key is put behind `hidden`.
-fn link_back(
-    streams: &Streams,
-    sent: &mut Stamps,
-    hidden: &mut Vec<Key>,
-    event: &Event,
-) -> Result<Link, AllocError>
+/// Returns what an event is paired with, and gives `hidden_keys` its key if it is a receive of a
+/// hidden send.
+fn link_back(streams: &Streams, sent: &mut Stamps, hidden_keys: &mut Sha256, event: &Event) -> Link
     requires { AreStamps streams.now sent.old }
-    ensures link { IfOk result (λ link. link ≡ link_back streams.now event.now) }
-    ensures hidden { OnOk result (hidden.new.items ≡ hidden.old.items ++ hidden_key streams.now event.now) }
+    ensures link { result ≡ link_back streams.now event.now }
     ensures sent { sent.new ≡ sent.old }
 {
     match event.kind {
-        Kind::Print => Ok(Link::Printed),
-        Kind::Send => Ok(Link::Unpaired),
+        Kind::Print => Link::Printed,
+        Kind::Send => Link::Unpaired,
         Kind::Receive => match sent.find(streams, event.from, event.serial.this) {
-            Some((_, index)) => Ok(Link::From(event.from, index)),
+            Some(index) => Link::From(event.from, index),
             None => {
-                hidden.push(Key::of(event))?;
-                Ok(Link::Hidden)
+                hidden_keys.update(&event.from.node().to_le_bytes());
+                hidden_keys.update(&event.from.number().to_le_bytes());
+                hidden_keys.update(&event.serial.this.to_le_bytes());
+                Link::Hidden
             }
         },
     }
 }
 
-/// The links of all processes, before the receives of sends are known, and the keys of the receives of hidden sends.
+/// The links of all processes, before the receives of sends are known.
 #[derive(Drop)]
 pub struct Sources {
     /// The links of each process.
     pub links: Vec<Links>,
-    /// The keys.
-    pub hidden: Vec<Key>,
+    /// A digest of the keys of the receives of hidden sends.
+    pub hidden_keys: Sha256,
 }
 
 impl Sources {
@@ -104,14 +101,14 @@ impl Sources {
     pub fn of(alloc: Global, streams: &Streams, sent: &mut Stamps) -> Result<Sources, AllocError>
         requires { AreStamps streams.now sent.old }
         ensures links { IfOk result (λ sources. sources.links.items ≡ map (links_back streams.now) streams.now) }
-        ensures hidden { IfOk result (λ sources. sources.hidden.items ≡ hidden_keys streams.now streams.now) }
         ensures sent { sent.new ≡ sent.old }
     {
         let mut links = Vec::with_capacity(alloc, streams.pids().len())?;
-        let mut hidden = Vec::new(alloc);
+        let mut hidden_keys = Sha256::new();
         for &pid in streams.pids() {
-            links.push(Links::of_events(alloc, streams, sent, &mut hidden, streams.events(pid))?)?;
+            let events = streams.events(pid);
+            links.push(Links::of_events(alloc, streams, sent, &mut hidden_keys, events)?)?;
         }
-        Ok(Sources { links, hidden })
+        Ok(Sources { links, hidden_keys })
     }
 }

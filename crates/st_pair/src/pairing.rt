@@ -162,8 +162,8 @@ impl Tables {
         let Ok(sources) = Sources::of(alloc, streams, &mut sent) else {
             return Err(PairFault::Memory);
         };
-        let Sources { links, hidden } = sources;
-        let got = Receives::of_sources(alloc, streams, &mut sent, &links, hidden)?;
+        let Sources { links, hidden_keys } = sources;
+        let got = Receives::of(alloc, streams, &links, hidden_keys)?;
         Ok(Tables { got, links })
     }
 }
@@ -188,8 +188,8 @@ fn link_of(
         Kind::Print | Kind::Receive => link,
         Kind::Send => {
             let key = Key {
-                this: event.serial.this,
                 from: pid,
+                this: event.serial.this,
             };
             match got.first_of(streams, key, place, index) {
                 None => Link::Unpaired,

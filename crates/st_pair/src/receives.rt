@@ -1,42 +1,40 @@
 //! The reported receives, by the sender and the count of their message.
 //!
-//! A receive of a reported send or print is noted at the place of that, which is found among its
-//! sender's, whose counts rise. The receives of hidden sends are kept by key only if two of them have one key, or a
-//! message of a reported send was received twice: then the first of these faults is looked for.
+//! A receive of a reported send or print is noted at the place that its link says. The receives of
+//! hidden sends are in a map, by the sender and the count. Whoever writes the streams chooses both,
+//! so the map's hashes begin with a digest of all its keys.
 
-ghost use Rattle.std.specs.Prelude.{◌≡◌, ℕ, ◌<◌, Option, None, Some, IfOk, IfErr, IfNone, IfSome, OnOk, IsTrue};
+ghost use Rattle.std.specs.Prelude.{◌≡◌, ℕ, ◌<◌, Option, None, Some, IfOk, IfErr, IfNone, IfSome, OnOk};
 ghost use Rattle.std.specs.Prelude.{length, map, slice_get, slice_index_or, slice_set};
-ghost use Rattle.std.specs.Ordering.{is_lt};
 ghost use Rattle.st_core.specs.declared.types.Pid.{Pid as PidValue};
+ghost use Rattle.st_core.specs.Pid.{IsRising};
+ghost use Rattle.st_core.specs.Run.{pids_of};
 ghost use Rattle.st_pair.specs.declared.receives.Key.{Key as KeyValue};
 ghost use Rattle.st_pair.specs.Pairing.{repeated};
 ghost use Rattle.st_pair.specs.Places.{first, first_from, or_else};
 ghost use Rattle.st_pair.specs.Rules.{IsFirstFault};
 ghost use Rattle.st_pair.specs.Tables.{here, mark_at, mark_of, no_marks, place_for, receive_rule};
-ghost use Rattle.st_pair.specs.Tables.{hidden_keys, link_back, links_back, stamp_index, stamp_key_cmp};
-ghost use Rattle.st_pair.specs.Tables.{AreDistinctKeys, AreHiddenOnce, AreStamps, HasReceives, HasReceivesWith};
-ghost use Rattle.st_pair.specs.Tables.{HasShownReceives, IsMark, IsShown};
-ghost use Rattle.st_core.specs.Pid.{IsRising};
-ghost use Rattle.st_core.specs.Run.{pids_of};
+ghost use Rattle.st_pair.specs.Tables.{link_back, links_back, stamp_index};
+ghost use Rattle.st_pair.specs.Tables.{HasReceives, HasReceivesWith, IsMark};
 
 use crate::answer::PairFault;
 use crate::links::Links;
 use crate::pairing::Link;
 use crate::rules::repetition_at;
-use crate::stamp_table::Stamps;
+use indexmap::IndexMap;
+use sha2::Sha256;
 use st_core::{Event, Kind, Pid, Streams};
+use st_hash::DigestState;
 use std::alloc::{AllocError, Global};
-use std::collections::BTreeMap;
 use std::marker::Model;
 
-/// A sender and the count that it stamped. Receives come by rising count mostly, so keys that are
-/// ordered by count lie near those that came before them.
-#[derive(Clone, Copy, Debug, PartialEq, Eq, PartialOrd, Ord)]
+/// A sender and the count that it stamped.
+#[derive(Clone, Copy, Debug, PartialEq, Eq, Hash)]
 pub struct Key {
-    /// The count, which comes first in the order.
-    pub this: u64,
     /// The sender.
     pub from: Pid,
+    /// The count.
+    pub this: u64,
 }
 
 impl Key {
@@ -108,120 +106,44 @@ pub struct Mark {
 pub struct Receives {
     /// The receives of reported sends and prints, by the process's place.
     shown: Vec<Marks>,
-    /// The receives of hidden sends; none if it is known that they have different keys.
-    hidden: BTreeMap<Key, (Pid, u64)>,
+    /// The receives of hidden sends.
+    hidden: IndexMap<Key, (Pid, u64), DigestState>,
 }
 
 impl Receives {
-    /// None yet.
-    fn new(alloc: Global, streams: &Streams) -> Result<Receives, AllocError>
+    /// Makes tables without receives. `hidden_keys` has taken the keys of those of hidden sends.
+    fn new(alloc: Global, streams: &Streams, hidden_keys: Sha256) -> Result<Receives, AllocError>
         ensures { IfOk result (λ receives. (k : KeyValue) → place_for streams.now receives k ≡ None) }
     {
         let shown = all_marks(alloc, streams)?;
         Ok(Receives {
             shown,
-            hidden: BTreeMap::new(alloc),
+            hidden: IndexMap::with_hasher(alloc, DigestState::new(hidden_keys)),
         })
     }
 
-    /// Those of these streams, if no message was received twice. The sends and prints are theirs.
-    /// Each receive's send is searched for, and receives of hidden sends are put in a map.
-    pub fn of(alloc: Global, streams: &Streams, sent: &mut Stamps) -> Result<Receives, PairFault>
-        requires { AreStamps streams.now sent.old }
+    /// Collects the receives of streams whose events have these links, if no message was received
+    /// twice.
+    pub fn of(
+        alloc: Global,
+        streams: &Streams,
+        links: &[Links],
+        hidden_keys: Sha256,
+    ) -> Result<Receives, PairFault>
+        requires { links.now ≡ map (links_back streams.now) streams.now }
         ensures table { IfOk result (λ receives. HasReceives streams.now (place_for streams.now receives)) }
         ensures once { OnOk result (first (repeated streams.now) streams.now ≡ None) }
         ensures fault { IfErr result (IsFirstFault (first (repeated streams.now) streams.now)) }
-        ensures sent { sent.new ≡ sent.old }
     {
-        let Ok(mut receives) = Receives::new(alloc, streams) else {
+        let Ok(mut receives) = Receives::new(alloc, streams, hidden_keys) else {
             return Err(PairFault::Memory);
         };
-        for &pid in streams.pids() {
-            note_receives(&mut receives, streams, sent, pid, streams.events(pid))?;
-        }
-        Ok(receives)
-    }
-
-    /// Those of reported sends and prints, if each receive has a key of its own. These are the links of the events, and
-    /// the receives of hidden sends have different keys.
-    fn of_links(
-        alloc: Global,
-        streams: &Streams,
-        links: &[Links],
-    ) -> Result<Option<Receives>, AllocError>
-        requires links { links.now ≡ map (links_back streams.now) streams.now }
-        requires apart { AreDistinctKeys (hidden_keys streams.now streams.now) }
-        ensures table { IfOk result (λ found. IfSome found (λ receives.
-            HasShownReceives streams.now (place_for streams.now receives))) }
-        ensures once { IfOk result (λ found.
-            IfSome found (λ receives. first (repeated streams.now) streams.now ≡ None)) }
-    {
-        let mut receives = Receives::new(alloc, streams)?;
         let pids = streams.pids();
         for (place, pid) in pids.iter().enumerate() {
             let own = links[place].as_slice();
-            if !note_links(&mut receives, streams, *pid, streams.events(*pid), own) {
-                return Ok(None);
-            }
+            note_receives(&mut receives, streams, *pid, streams.events(*pid), own)?;
         }
-        Ok(Some(receives))
-    }
-
-    /// Those of reported sends and prints, if no message was received twice. These are the links of the events, and the
-    /// keys of the receives of hidden sends.
-    pub fn of_sources(
-        alloc: Global,
-        streams: &Streams,
-        sent: &mut Stamps,
-        links: &[Links],
-        hidden: Vec<Key>,
-    ) -> Result<Receives, PairFault>
-        requires stamps { AreStamps streams.now sent.old }
-        requires links { links.now ≡ map (links_back streams.now) streams.now }
-        requires hidden { hidden.items ≡ hidden_keys streams.now streams.now }
-        ensures table { IfOk result (λ receives. HasShownReceives streams.now (place_for streams.now receives)) }
-        ensures once { OnOk result (first (repeated streams.now) streams.now ≡ None) }
-        ensures fault { IfErr result (IsFirstFault (first (repeated streams.now) streams.now)) }
-    {
-        if are_apart(hidden) {
-            match Receives::of_links(alloc, streams, links) {
-                Err(_) => return Err(PairFault::Memory),
-                Ok(Some(receives)) => return Ok(receives),
-                Ok(None) => {}
-            }
-        }
-        Receives::of(alloc, streams, sent)
-    }
-
-    /// Notes a receive of the send or print at this index, and returns the place of the first one:
-    /// this one's if there is none before it. None if there is no such event.
-    fn note_link(
-        &mut self,
-        streams: &Streams,
-        key: Key,
-        index: u64,
-        place: (Pid, u64),
-    ) -> Option<(Pid, u64)>
-        requires rising { IsRising (pids_of streams.now) }
-        requires index { stamp_index streams.now key ≡ Some index }
-        ensures first { IfSome result (λ first.
-            Some first ≡ or_else (place_for streams.now self.old key) (Some place)) }
-        ensures noted { IfSome result (λ first. first ≡ place → (k : KeyValue) →
-            place_for streams.now self.new k
-            ≡ or_else (place_for streams.now self.old k) (here key place k)) }
-    {
-        let Some(process) = streams.place_of(key.from) else {
-            return None;
-        };
-        let Some(first) = mark_at(&self.shown, process, index) else {
-            return None;
-        };
-        let mark = Mark {
-            process,
-            index,
-            first,
-        };
-        Some(self.note_shown(streams, key, mark, place))
+        Ok(receives)
     }
 
     /// The place of the first receive of the send or print with this key, which is at this index of the process at this
@@ -244,14 +166,18 @@ impl Receives {
         }
     }
 
-    /// Where the receives with this key are noted, if its send or print was reported.
-    fn mark(&self, streams: &Streams, sent: &mut Stamps, key: Key) -> Option<Mark>
-        requires { AreStamps streams.now sent.old }
+    /// Returns where the receives with this key are noted, if its send or print was reported: then
+    /// `sent` is the index of that.
+    fn mark(&self, streams: &Streams, key: Key, sent: Option<u64>) -> Option<Mark>
+        requires rising { IsRising (pids_of streams.now) }
+        requires sent { stamp_index streams.now key ≡ sent }
         ensures mark { IfSome result (IsMark streams.now self.now.shown.items key) }
         ensures none { IfNone result (mark_of streams.now self.now.shown.items key ≡ None) }
-        ensures sent { sent.new ≡ sent.old }
     {
-        let Some((process, index)) = sent.find(streams, key.from, key.this) else {
+        let Some(index) = sent else {
+            return None;
+        };
+        let Some(process) = streams.place_of(key.from) else {
             return None;
         };
         let Some(first) = mark_at(&self.shown, process, index) else {
@@ -264,23 +190,24 @@ impl Receives {
         })
     }
 
-    /// Notes a receive, and returns the place of the first one with its key: this one's if there is none before it.
+    /// Notes a receive, and returns the place of the first one with its key: this one's if there is
+    /// none before it. If its send or print was reported, `sent` is the index of that.
     fn note(
         &mut self,
         streams: &Streams,
-        sent: &mut Stamps,
         key: Key,
+        sent: Option<u64>,
         place: (Pid, u64),
     ) -> Result<(Pid, u64), AllocError>
-        requires { AreStamps streams.now sent.old }
+        requires rising { IsRising (pids_of streams.now) }
+        requires sent { stamp_index streams.now key ≡ sent }
         ensures first { IfOk result (λ first.
             Some first ≡ or_else (place_for streams.now self.old key) (Some place)) }
         ensures noted { IfOk result (λ first. first ≡ place → (k : KeyValue) →
             place_for streams.now self.new k
             ≡ or_else (place_for streams.now self.old k) (here key place k)) }
-        ensures sent { sent.new ≡ sent.old }
     {
-        match self.mark(streams, sent, key) {
+        match self.mark(streams, key, sent) {
             None => self.note_hidden(streams, key, place),
             Some(mark) => Ok(self.note_shown(streams, key, mark, place)),
         }
@@ -352,15 +279,17 @@ fn all_marks(alloc: Global, streams: &Streams) -> Result<Vec<Marks>, AllocError>
     Ok(shown)
 }
 
-/// Notes the receives of one process, up to the first whose message was received before.
+/// Notes the receives of one process, whose links these are, up to the first whose message was
+/// received before.
 fn note_receives(
     receives: &mut Receives,
     streams: &Streams,
-    sent: &mut Stamps,
     pid: Pid,
     events: &[Event],
+    links: &[Link],
 ) -> Result<(), PairFault>
-    requires { AreStamps streams.now sent.old }
+    requires rising { IsRising (pids_of streams.now) }
+    requires links { links.now ≡ map (link_back streams.now) events.now }
     ensures noted { OnOk result ((k : KeyValue) →
         place_for streams.now receives.new k
         ≡ or_else (place_for streams.now receives.old k) (first_from (receive_rule k) pid 0 events.now)) }
@@ -372,13 +301,13 @@ fn note_receives(
         HasReceivesWith streams.now (place_for streams.now receives.old)
         (λ k. or_else (first_from (receive_rule k) pid 0 events.now) (rest k)) →
         IfErr result (IsFirstFault (first_from (repeated streams.now) pid 0 events.now)) }
-    ensures sent { sent.new ≡ sent.old }
 {
     for (i, event) in events.iter().enumerate() {
         match event.kind {
             Kind::Send | Kind::Print => {}
             Kind::Receive => {
-                let Ok(first) = receives.note(streams, sent, Key::of(event), (pid, i as u64)) else {
+                let key = Key::of(event);
+                let Ok(first) = receives.note(streams, key, links[i].sent(), (pid, i as u64)) else {
                     return Err(PairFault::Memory);
                 };
                 if let Some(fault) = repetition_at(first, pid, i as u64) {
@@ -388,53 +317,4 @@ fn note_receives(
         }
     }
     Ok(())
-}
-
-/// Whether these keys differ from one another.
-fn are_apart(mut keys: Vec<Key>) -> bool
-    ensures { IsTrue result → AreDistinctKeys keys.items }
-{
-    keys.sort_unstable();
-    keys.is_sorted_by(
-        |before: &Key, after: &Key| -> bool
-            ensures { result ≡ is_lt (stamp_key_cmp before.now after.now) }
-        { before < after },
-    )
-}
-
-/// Notes the receives of reported sends and prints of one process, whose links these are. Returns whether each is known
-/// to be the first one of its message.
-fn note_links(
-    receives: &mut Receives,
-    streams: &Streams,
-    pid: Pid,
-    events: &[Event],
-    links: &[Link],
-) -> bool
-    requires rising { IsRising (pids_of streams.now) }
-    requires links { links.now ≡ map (link_back streams.now) events.now }
-    ensures noted { IsTrue result → (k : KeyValue) → IsShown streams.now k →
-        place_for streams.now receives.new k
-        ≡ or_else (place_for streams.now receives.old k) (first_from (receive_rule k) pid 0 events.now) }
-    ensures once { (rest : KeyValue → Option (PidValue × ℕ)) →
-        HasShownReceives streams.now (λ k. or_else (place_for streams.now receives.old k)
-        (or_else (first_from (receive_rule k) pid 0 events.now) (rest k))) →
-        AreHiddenOnce streams.now pid events.now →
-        IsTrue result → first_from (repeated streams.now) pid 0 events.now ≡ None }
-{
-    for (i, event) in events.iter().enumerate() {
-        match links[i].sent() {
-            None => {}
-            Some(index) => {
-                let place = (pid, i as u64);
-                let Some(first) = receives.note_link(streams, Key::of(event), index, place) else {
-                    return false;
-                };
-                if repetition_at(first, pid, i as u64).is_some() {
-                    return false;
-                }
-            }
-        }
-    }
-    true
 }

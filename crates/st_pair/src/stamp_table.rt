@@ -2,7 +2,6 @@
 
 ghost use Rattle.std.specs.Prelude.{◌≡◌, ◌==◌, None, map, find, option_and_then, option_map};
 ghost use Rattle.std.specs.Prelude.{slice_get, IfOk, IfSome};
-ghost use Rattle.st_core.specs.Run.{pids_of};
 ghost use Rattle.st_pair.specs.Pairing.{not_rising, stamp_of};
 ghost use Rattle.st_pair.specs.Places.{first};
 ghost use Rattle.st_pair.specs.Tables.{row_under, rows_in, stamp_rows, AreRising, AreStamps};
@@ -55,11 +54,10 @@ impl Stamps {
         Ok(Stamps { rows, next })
     }
 
-    /// The place of this process, and the index of its send or print with this count.
-    pub fn find(&mut self, streams: &Streams, from: Pid, this: u64) -> Option<(usize, u64)>
+    /// Returns the index of the send or print of this process with this count.
+    pub fn find(&mut self, streams: &Streams, from: Pid, this: u64) -> Option<u64>
         requires { AreStamps streams.now self.old }
-        ensures found { option_map (λ f. f.1) result ≡ option_map (λ f. f.0) (stamp_of streams.now from this) }
-        ensures process { IfSome result (λ f. slice_get (pids_of streams.now) f.0 ≡ Some from) }
+        ensures found { result ≡ option_map (λ f. f.0) (stamp_of streams.now from this) }
         ensures same { self.new ≡ self.old }
     {
         let Some(place) = streams.place_of(from) else {
@@ -72,7 +70,7 @@ impl Stamps {
         if let Some(next) = self.next.get_mut(place) {
             *next = number.saturating_add(1);
         }
-        Some((place, row.index))
+        Some(row.index)
     }
 }
 

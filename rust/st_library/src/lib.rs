@@ -14,6 +14,7 @@ pub mod convert;
 pub mod env;
 pub mod fmt;
 pub mod fs;
+pub mod indexmap;
 pub mod io;
 pub mod iter;
 pub mod itoa;

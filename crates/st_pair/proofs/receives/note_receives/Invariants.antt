@@ -16,5 +16,4 @@ invariant-loop-i l = record {
       (λ k. or_else (first_from (receive_rule k) l.pid 0 l.events) (rest k))
       → first_from (repeated l.streams) l.pid 0 l.events
       ≡ first_from (repeated l.streams) l.pid l.i (drop l.i l.events);
-  sent : l.sent ≡ l.initial.sent;
 }

@@ -1,9 +1,9 @@
 -- The first receive from an event is noted there, under no other key than its own.
 use Rattle.std.proofs.Common.{◌≡◌, ◌<◌, [], ap, get_or, length, List, None, Some, subst, sym, slice_set, ◌∙◌, rules}
 use Rattle.std.proofs.lemmas.List.{get_or_default}
-use Rattle.std.specs.BTreeMap.{get}
+use Rattle.indexmap.specs.IndexMap.{get}
 use Rattle.st_pair.specs.Places.{or_else}
-use Rattle.st_pair.specs.Tables.{stamp_key_cmp, mark_of, place_for}
+use Rattle.st_pair.specs.Tables.{key_eq, mark_of, place_for}
 use Rattle.st_pair.proofs.Marks.{given, mark_read, mark_within, noted_again, noted_at, Mark}
 use Rattle.st_pair.proofs.receives.Receives.note_shown.Goals as goal
 
@@ -12,7 +12,7 @@ returns-in-Some-clause-first c =
     let lists = c.args.self.now.shown.items in
     let marked = mark_read c.args.streams.now lists c.args.key c.args.mark.process c.args.mark.index c.requires.rising
     c.requires.process c.requires.index ∙ c.requires.first in
-    let hidden = get stamp_key_cmp c.args.self.now.hidden c.args.key in
+    let hidden = get key_eq c.args.self.now.hidden c.args.key in
     sym (ap (λ o. or_else (given o hidden) (Some c.args.place)) marked
     ∙ ap (λ (o : Mark). or_else o (Some c.args.place)) c.in-Some.is)
 
@@ -21,7 +21,7 @@ returns-in-Some-clause-noted c = λ same.
     let lists = c.args.self.now.shown.items in
     let marked = mark_read c.args.streams.now lists c.args.key c.args.mark.process c.args.mark.index c.requires.rising
     c.requires.process c.requires.index ∙ c.requires.first in
-    let hidden = get stamp_key_cmp c.args.self.now.hidden c.args.key in
+    let hidden = get key_eq c.args.self.now.hidden c.args.key in
     noted_again (place_for c.args.streams.now c.args.self.now) c.args.key c.args.place
     (ap (λ o. given o hidden) marked ∙ c.in-Some.is ∙ ap Some same)
 
@@ -30,7 +30,7 @@ returns-in-None-clause-first c =
     let lists = c.args.self.now.shown.items in
     let marked = mark_read c.args.streams.now lists c.args.key c.args.mark.process c.args.mark.index c.requires.rising
     c.requires.process c.requires.index ∙ c.requires.first in
-    let hidden = get stamp_key_cmp c.args.self.now.hidden c.args.key in
+    let hidden = get key_eq c.args.self.now.hidden c.args.key in
     sym (ap (λ o. or_else (given o hidden) (Some c.args.place)) marked
     ∙ ap (λ (o : Mark). or_else o (Some c.args.place)) c.in-None.is)
 
@@ -55,7 +55,7 @@ returns-in-None-clause-noted c = λ first k.
     let lists = c.args.self.now.shown.items in
     let n = c.args.mark.process in
     let i = c.args.mark.index in
-    let hidden = get stamp_key_cmp c.args.self.now.hidden in
+    let hidden = get key_eq c.args.self.now.hidden in
     let free = c.requires.first ∙ ap Some c.in-None.is in
     let bounds = mark_within lists n i None free in
     let marks = c.index_mut.result.now in

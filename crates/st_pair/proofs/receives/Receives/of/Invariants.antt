@@ -6,10 +6,9 @@ use Rattle.st_pair.specs.Pairing.{repeated}
 use Rattle.st_pair.specs.Tables.{place_for, receive_rule}
 use Rattle.st_pair.proofs.receives.Receives.of.Given as goal
 
-abbrev pub invariant-loop-pid : goal.invariant-loop-pid
-invariant-loop-pid l = record {
-  table : (k : Key) → or_else (place_for l.streams l.receives k) (first (receive_rule k) (drop l.pid-index l.streams))
+abbrev pub invariant-loop-place : goal.invariant-loop-place
+invariant-loop-place l = record {
+  table : (k : Key) → or_else (place_for l.streams l.receives k) (first (receive_rule k) (drop l.place l.streams))
       ≡ first (receive_rule k) l.streams;
-  once : first (repeated l.streams) l.streams ≡ first (repeated l.streams) (drop l.pid-index l.streams);
-  sent : l.sent ≡ l.initial.sent;
+  once : first (repeated l.streams) l.streams ≡ first (repeated l.streams) (drop l.place l.streams);
 }
