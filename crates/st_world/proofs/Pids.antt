@@ -1,19 +1,23 @@
 -- Pids that rise strictly occur once and by rising node, since the order goes by node first: so a search for where a
 -- test on nodes changes its answer finds the processes of a node.
-use Rattle.std.proofs.Common.{◌≡◌, ℕ, ◌<◌, ◌≤◌, Bool, true, false, List, length, get_or, cond, position, ltb, leb, refl}
-use Rattle.std.proofs.Common.{sym, ◌∙◌, ap, subst, arith, inl, inr, ◌⊎◌, Option, Some, None, IfSome, IfNone, slice_get}
-use Rattle.std.specs.List.{AllByRecursion, position_or_len}
+use Rattle.std.proofs.Common.{◌≡◌, ℕ, ◌<◌, ◌≤◌, ◌+◌, zero, suc, Bool, true, false, List, [], ◌∷◌, length, get_or}
+use Rattle.std.proofs.Common.{take, cond, position, ltb, leb, refl, sym, ◌∙◌, ap, subst, arith, inl, inr, ◌⊎◌}
+use Rattle.std.proofs.Common.{Option, Some, None, slice_get}
+use Rattle.std.specs.List.{list_any, position_or_len}
+use Rattle.indexmap.specs.IndexSet.{insert_key}
 use Rattle.std.specs.declared.cmp.Ordering.{Ordering}
 use Rattle.std.specs.declared.cmp.Ordering.TheVariants.{Less, Equal, Greater}
 use Rattle.std.specs.Ordering.{nat_cmp, ordering_then, MatchOrdering}
 use Rattle.std.specs.List.Sorted.{IsNonDecreasingBy, IsPartitionPoint}
 use Rattle.std.proofs.lemmas.Bool.{cases_eq, lt-ltb, ltb-true, ltb-false, leb-true, leb-false}
+use Rattle.std.proofs.lemmas.List.{take_more}
+use Rattle.std.proofs.lemmas.List.Elements.{All-from_recursion}
 use Rattle.std.proofs.lemmas.List.Sums.{position_or_len_is}
 use Rattle.std.proofs.lemmas.Option.{get_or_from_slice_get, slice_get_within}
 use Rattle.std.proofs.lemmas.Cmp.{ranked}
 use Rattle.st_core.specs.declared.types.Pid.{Pid}
 use Rattle.st_core.specs.Pid.{pid_eq, IsBelow, IsRising}
-use Rattle.st_core.proofs.ForCallers.{pid_eq-same, pid_eq-swap, position-none, IsBelow-apart, rising_at}
+use Rattle.st_core.proofs.ForCallers.{pid_eq-same, pid_eq-swap, IsBelow-apart, rising_at}
 use Rattle.st_world.specs.Rows.{IsNodeRange}
 
 -- what is below another is not the same
@@ -55,12 +59,19 @@ number_at ps i p rising at =
     let there : position_or_len (λ q. pid_eq q p) ps < length ps = omega (arith, within, first) in
     sym (ap (λ b. cond b (Some (position_or_len (λ q. pid_eq q p) ps)) None) (lt-ltb _ _ there) ∙ ap Some first)
 
--- what a search finds, or doesn't find
-pub number_found : (ps : List Pid) (p : Pid) (found : Option ℕ) → IsRising ps
-    → IfSome found (λ i. slice_get ps i ≡ Some p) → IfNone found (AllByRecursion (λ q. pid_eq q p ≡ false) ps)
-    → found ≡ position (λ q. pid_eq q p) ps
-number_found ps p None rising some none = sym (position-none (λ q. pid_eq q p) ps none)
-number_found ps p (Some i) rising some none = number_at ps i p rising some
+absent : (ps : List Pid) (i : ℕ) (d : Pid)
+    → IsRising ps → i < length ps → list_any (pid_eq (get_or ps i d)) (take i ps) ≡ false
+absent [] i d rising h = absurd (omega arith)
+absent (p ∷ ps) zero d rising h = refl
+absent (p ∷ ps) (suc i) d rising h =
+    let at : i < length ps = omega arith in
+    let below : IsBelow p (get_or ps i d) = All-from_recursion (IsBelow p) ps rising.0 i d at in
+    rw (below_apart p (get_or ps i d) below) (absent ps i d rising.1 at)
+
+-- the next of pids that rise is new to a set of those before
+pub insert_next : (ps : List Pid) (i : ℕ) (d : Pid)
+    → IsRising ps → i < length ps → insert_key pid_eq (take i ps) (get_or ps i d) ≡ take (i + 1) ps
+insert_next ps i d rising h = rw (absent ps i d rising h) (sym (take_more ps i d h))
 
 -- THE PROCESSES OF A NODE
 

@@ -1,16 +1,23 @@
 //! The processes of a world by number: their pids rise, and the same number is one process's in each row.
+//!
+//! Each act names pids. A guess at a pid's number is tested first, and what it misses is looked up
+//! in a set that keeps the pids in their order. Whoever writes the acts chooses the pids, so the
+//! set's hashes begin with a digest of all of them.
 
 ghost use Rattle.std.specs.Prelude.{◌≡◌, position, IfOk};
 ghost use Rattle.st_core.specs.Pid.{pid_eq, IsRising};
 
-use st_core::{Guesses, Pid, place_of};
+use indexmap::IndexSet;
+use sha2::{Digest, Sha256};
+use st_core::{Guesses, Pid};
+use st_hash::DigestState;
 use std::alloc::{AllocError, Global};
 use std::marker::Model;
 
 /// Pids that rise.
 #[derive(Drop)]
 pub(crate) struct Numbers {
-    pids: Vec<Pid>,
+    pids: IndexSet<Pid, DigestState>,
     guesses: Guesses,
 }
 
@@ -21,9 +28,9 @@ impl Model for Numbers {
 
     ghost Value = { List Pid };
 
-    ghost view = { λ a. a.pids.items };
+    ghost view = { λ a. a.pids.keys };
 
-    ghost invariant = { λ a. IsRising a.pids.items };
+    ghost invariant = { λ a. IsRising a.pids.keys };
 }
 
 impl Numbers {
@@ -36,9 +43,8 @@ impl Numbers {
         for (number, &pid) in pids.iter().enumerate() {
             guesses.expect(pid.node(), pid.number(), number);
         }
-        let mut own = Vec::with_capacity(alloc, pids.len())?;
-        own.extend_from_slice(pids)?;
-        Ok(Numbers { pids: own, guesses })
+        let pids = set_of(alloc, pids)?;
+        Ok(Numbers { pids, guesses })
     }
 
     /// The number of the process; none if it isn't among them.
@@ -46,6 +52,37 @@ impl Numbers {
     pub(crate) fn number_of(&self, pid: Pid) -> Option<usize>
         ensures { result ≡ position (λ p. pid_eq p pid) self.now }
     {
-        place_of(&self.guesses, &self.pids, pid)
+        let guess = self.guesses.guess(pid.node(), pid.number());
+        if let Some(found) = self.pids.get_index(guess) {
+            if *found == pid {
+                return Some(guess);
+            }
+        }
+        self.pids.get_index_of(&pid)
     }
+}
+
+/// A digest of the pids, on which nothing but the time of a search rests.
+fn digest_of(pids: &[Pid]) -> Sha256 {
+    let mut digest = Sha256::new();
+    for pid in pids {
+        digest.update(&pid.node().to_le_bytes());
+        digest.update(&pid.number().to_le_bytes());
+    }
+    digest
+}
+
+/// The pids, in their order.
+fn set_of(alloc: Global, pids: &[Pid]) -> Result<IndexSet<Pid, DigestState>, AllocError>
+    requires { IsRising pids.now }
+    ensures { IfOk result (λ set. set.keys ≡ pids.now) }
+{
+    let state = DigestState::new(digest_of(pids));
+    let mut set = IndexSet::with_capacity_and_hasher(alloc, pids.len(), state)?;
+    for &pid in pids {
+        let Ok(_) = set.insert(pid) else {
+            return Err(AllocError);
+        };
+    }
+    Ok(set)
 }

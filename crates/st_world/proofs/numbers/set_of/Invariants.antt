@@ -1,0 +1,6 @@
+-- The set has the pids so far, in their order.
+use Rattle.std.proofs.Common.{◌≡◌, take}
+use Rattle.st_world.proofs.numbers.set_of.Given as goal
+
+abbrev pub invariant-loop-pid : goal.invariant-loop-pid
+invariant-loop-pid l = l.set.keys ≡ take l.pid-index l.pids
