@@ -267,7 +267,7 @@ never_reset (act.Restore p x) t is = refl
 never_reset (act.Look p) t is = refl
 never_reset (act.Tracer p b) t is = refl
 
--- what reaches the actor of a stamp beside its own part leaves its token
+-- what reaches the actor of a stamp besides its own part leaves its token
 own_token : (a : Act) (done : Acted) (r : Process) (t : Token) → stamps a t ≡ true → pid_eq r.pid (actor a) ≡ true
     → (changed a done r).local.token ≡ done.local.token
 own_token (act.Send p q v) done r t is mine = ap (λ (l : LocalState). l.token) (sent_local p q v done r mine)
@@ -398,8 +398,8 @@ reported_stamp top s a o e h is other =
 
 -- A SEND AND ITS TOKEN
 
--- a send after which its actor has this token: the actor had one before, the token is its stamp, which lifted its clock
--- to the token's count, and the report, if there is one, is the token's
+-- a send after which its actor has this token: the actor had one before, the token is its stamp,
+-- which lifted its clock to the token's count, and the report, if there is one, is the token's
 pub record Sends (s : State) (p q : Pid) (v : ℕ) (o : Outcome) (token : Token) : Type 0 where
   pub had : (r : Process) → process s p ≡ Some r → is_some r.local.token ≡ true
   pub from : token.from ≡ p

@@ -1,5 +1,5 @@
--- The unlisted place is the least one: the search goes through the streams, whose pids rise, in order, and through the
--- events of each in order, and leaves behind only events that name listed pids.
+-- The unlisted place is the least one: the search goes through the streams, whose pids rise, in
+-- order, and through the events of each in order, and passes only events that name listed pids.
 use Rattle.std.proofs.Common.{◌≡◌, ℕ, ◌<◌, ◌≤◌, Bool, true, false, not, cond, List, [], ◌∷◌, length, get_or}
 use Rattle.std.proofs.Common.{Option, Some, None, refl, sym, ◌∙◌, ap, subst, arith}
 use Rattle.std.specs.List.{slice_get, position, position_or_len, AllByRecursion}

@@ -1,5 +1,6 @@
--- The tags of a run are those of its queues, since an act does to the tags of a queue what it does to the queue: a
--- send appends to both, a receive takes out of both at one place, and a reset keeps the places.
+-- The tags of a run are those of its queues, since an act does to the tags of a queue what it does
+-- to the queue: a send appends to both, a receive takes out of both at one place, and a reset keeps
+-- the places.
 use Rattle.std.proofs.Common.{◌≡◌, ℕ, true, false, cond, List, [], ◌∷◌, ◌++◌, map, Option, Some, None, option_map}
 use Rattle.std.proofs.Common.{option_and_then, All, refl, sym, ◌∙◌, ap, subst, if◌then◌else◌}
 use Rattle.std.specs.Option.{ForSome}
@@ -35,7 +36,8 @@ pub record TokenAfter (os : List Outcome) (i : ℕ) (p : Pid) (t : Token) : Type
   pub is_sender : option_and_then (λ o. process o.after p) (slice_get os i) ≡ Some sender
   pub stamped : sender.local.token ≡ Some t
 
--- the message m in p's queue was sent by act i, and its token, if it has one, is the sender's after that act
+-- the message m in p's queue was sent by act i, and its token, if it has one, is the sender's after
+-- that act
 pub record IsTag (acts : List Act) (os : List Outcome) (p : Pid) (i : ℕ) (m : Message) : Type 0 where
   pub sent : slice_get acts i ≡ Some (act.Send m.from p m.value)
   pub from : ForSome m.token (λ t. t.from ≡ m.from)
@@ -47,7 +49,7 @@ pub record AreTags (acts : List Act) (os : List Outcome) (s : State) (tags : Tag
 
 -- QUEUES AFTER AN ACT
 
--- what reaches a queue beside the actor's own part
+-- what reaches a queue besides the actor's own part
 abbrev pub queue_after : Act → Option Token → Pid → List Message → List Message
 queue_after (act.Send p q v) token x queue =
     if pid_eq x q then queue ++ record { from = p; value = v; token = token } ∷ [] else queue

@@ -1,5 +1,6 @@
--- An event of a process's stream is the report of one of its acts, and each report an event, since a stream is its
--- acts' reports in their order: so of two events the earlier one is an earlier act's.
+-- An event of a process's stream is the report of one of its acts, and each report an event, since
+-- a stream is its acts' reports in their order: so of two events the earlier one is an earlier
+-- act's.
 use Rattle.std.proofs.Common.{◌≡◌, ℕ, ◌+◌, ◌<◌, ◌≤◌, ◌⊎◌, zero, suc, Bool, true, false, List, [], ◌∷◌, ◌++◌, length}
 use Rattle.std.proofs.Common.{take, drop, Option, Some, None, option_to_list, inl, inr, refl, sym, ◌∙◌, ap, arith}
 use Rattle.std.proofs.Common.{length-append, if◌then◌else◌}
@@ -21,7 +22,7 @@ use Rattle.st_core.proofs.Runs.{stream-take}
 abbrev pub told : Pid → Act → Outcome → List Event
 told p a o = if pid_eq (actor a) p then option_to_list o.report else []
 
--- the first event is this act's report, or event i is behind what this act reports
+-- the first event is this act's report, or event i is after what this act reports
 pub front : (mine : Bool) (report : Option Event) (rest : List Event) (i : ℕ) (e : Event)
     → (let here : List Event = if mine then option_to_list report else [] in slice_get (here ++ rest) i ≡ Some e
     → ((i ≡ 0) × (mine ≡ true) × (report ≡ Some e)) ⊎ ((j : ℕ) × (length here + j ≡ i) × (slice_get rest j ≡ Some e)))
@@ -83,13 +84,13 @@ reported_in_order acts os p i j m n d e first second less = elim (cases_lt m n) 
       absurd (omega arith)
 ]
 
--- behind what an earlier act reports
+-- after what an earlier act reports
 behind : {A : Type 0} (xs ys : List A) (i j : ℕ) → length xs + j ≡ i → slice_get (xs ++ ys) i ≡ slice_get ys j
 behind [] ys i j e = let same : i ≡ j = omega arith in ap (slice_get ys) same
 behind (x ∷ xs) ys zero j e = absurd (omega arith)
 behind (x ∷ xs) ys (suc i) j e = behind xs ys i j (omega arith)
 
--- each report is in its process's stream, behind those of the acts before
+-- each report is in its process's stream, after those of the acts before
 pub report_told : (acts : List Act) (os : List Outcome) (p : Pid) (n : ℕ) (e : Event) → Reports acts os p n e
     → slice_get (stream acts os p) (length (stream (take n acts) (take n os) p)) ≡ Some e
 report_told [] os p n e r = absurd (none-some r.act r.at)

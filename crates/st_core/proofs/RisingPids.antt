@@ -28,7 +28,7 @@ next k = omega arith
 abbrev NeighboursRise : List Pid → Type 0
 NeighboursRise ps = (k : ℕ) (d : Pid) → suc k < length ps → IsBelow (get_or ps k d) (get_or ps (suc k) d)
 
--- so each is below all behind it
+-- so each is below all after it
 rising_from_neighbours : (ps : List Pid) → NeighboursRise ps → IsRising ps
 rising_from_neighbours [] each = tt
 rising_from_neighbours (p ∷ []) each = (tt, tt)

@@ -1,5 +1,5 @@
--- What is known of a run when n of its acts are done holds after the next act too, so that a fact of all acts is proved
--- by what each of them adds.
+-- The knowledge of a run when n of its acts are done holds after the next act too, so that a fact
+-- of all acts is proved by what each of them adds.
 use Rattle.std.proofs.Common.{◌≡◌, ℕ, ◌+◌, List, ◌∷◌, drop, Some, All, refl, ◌∙◌}
 use Rattle.std.specs.List.{slice_get}
 use Rattle.st_core.specs.declared.types.Pid.{Pid}
@@ -15,8 +15,8 @@ use Rattle.st_core.proofs.Zips.{drop_first, drop_rest}
 use Rattle.st_core.proofs.Tags.{AreKnown, no_tags, no_tags_known, known_step}
 use Rattle.st_core.proofs.Queues.{AreTags, no_tags_are, tags_step}
 
--- a run of the acts with the outcomes os, after n of them: the state is s, the tags are those of its queues, and the
--- acts that are left have the outcomes that are left
+-- a run of the acts with the outcomes os, after n of them: the state is s, the tags are those of
+-- its queues, and the acts that are left have the outcomes that are left
 pub record Underway (top : ℕ) (acts : List Act) (os : List Outcome)
     (n : ℕ) (s : State) (tags : Tags) (rest : List Act) (outs : List Outcome) : Type 0 where
   pub acts_left : drop n acts ≡ rest

@@ -1,5 +1,5 @@
--- What holds of two lists place by place, or of all pairs of one, stays so if both lose the same place or gain one
--- at the end, by induction over the lists.
+-- A fact about two lists place by place, or about all pairs of one, stays so if both lose the same
+-- place or gain one at the end, by induction over the lists.
 use Rattle.std.proofs.Common.{◌≡◌, ℕ, ◌+◌, ◌<◌, ◌≤◌, ◌≢◌, zero, suc, List, [], ◌∷◌, ◌++◌, length, take, drop, map}
 use Rattle.std.proofs.Common.{get_or, Some, All, AllPairs, refl, sym, ◌∙◌, ap, subst, arith, inl, inr}
 use Rattle.std.specs.List.{AllZip, slice_get, remove}

@@ -1,4 +1,4 @@
--- How collected streams are kept: the pids in one list, and beside it the events of each.
+-- How collected streams are kept: the pids in one list, and in another the events of each.
 -- For the invariants of `Draft` and `Streams` alone: contracts speak of the list of streams.
 use Rattle.std.specs.Prelude.{◌≡◌, ℕ, Bool, not, List, [], ◌∷◌, length, position, Option, Some, None}
 use Rattle.st_core.specs.declared.types.Pid.{Pid}

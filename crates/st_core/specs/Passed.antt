@@ -1,6 +1,6 @@
--- What went through a device of std's, such as standard input and output: no contract says what
--- they hold (own profile). All that can be said of bytes from outside is that a call passed them.
--- These facts are names for that and say nothing more. A function over any source or sink is
+-- The bytes that went through a device of std's, as standard input and output are: no contract says
+-- what they hold (own profile). All that can be said of bytes from outside is that a call passed
+-- them. These facts are names for that and say nothing more. A function over any source or sink is
 -- proved for all of them at once and can't tell which it has; one of them is a `Recorder`, whose
 -- relation is the record of what passed.
 use Rattle.std.specs.Prelude.{ℕ, List}

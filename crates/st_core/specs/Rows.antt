@@ -1,4 +1,4 @@
--- What holds of each call of a device holds of calls in a row, since their bytes follow one
+-- A fact about each call of a device holds of calls in a row, since their bytes follow one
 -- another. For the laws of `Recorder` alone: no contract cites these.
 use Rattle.std.specs.Prelude.{ℕ, List, Option}
 use Rattle.std.specs.Io.KnownBytes.{Consumes, Appends}

@@ -27,7 +27,7 @@ impl Guesses {
         }
     }
 
-    /// Place 0 for each pid, with at least two slots for each of so many pids, up to the most.
+    /// Place 0 for each pid, with at least two slots for each of this many pids, up to the most.
     pub fn for_pids(alloc: Global, count: usize) -> Result<Guesses, AllocError> {
         let last = (count as u64).saturating_sub(1);
         let width = u64::BITS.saturating_sub(last.leading_zeros());
@@ -36,7 +36,7 @@ impl Guesses {
         Ok(Guesses { places })
     }
 
-    /// Makes guesses for so many pids, if there are none yet and there is memory for them.
+    /// Makes guesses for this many pids, if there are none yet and there is memory for them.
     pub fn fill(&mut self, count: usize) {
         if self.places.is_empty() {
             let alloc = *self.places.allocator();
@@ -64,8 +64,8 @@ impl Guesses {
         }
     }
 
-    /// The slot of the pid. There are none, or a power of two: pids whose numbers follow one another
-    /// don't meet.
+    /// The slot of the pid. There are none, or a power of two: pids whose numbers follow one
+    /// another don't meet.
     #[inline]
     fn slot_of(&self, node: u16, number: u16) -> usize {
         let most = self.places.len().saturating_sub(1);

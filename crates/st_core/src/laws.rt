@@ -77,7 +77,7 @@ pub fn events_are_reports()
         → slice_get (stream acts os p) i ≡ Some e → (n : ℕ) × ReportsEvent acts os p i e n }
 {}
 
-/// Each report of an act is in its process's stream, behind those of the acts before.
+/// Each report of an act is in its process's stream, after those of the acts before.
 pub fn reports_are_events()
     ensures { (acts : List Act) (os : List Outcome) (p : Pid) (n : ℕ) (e : Event)
         → Reports acts os p n e

@@ -1,4 +1,4 @@
-//! What one process keeps for tracing, beside its queue, and what acts do to it.
+//! The tracing state of one process, without its queue, and how acts change it.
 //!
 //! Each call is one part of the machine's step, for one process; which process and in which order
 //! is the caller's. No call takes memory.

@@ -54,7 +54,7 @@ impl<T> Sequence<T> {
         self.items.push(item)
     }
 
-    /// Makes room for so many more items, so that they are put at the end without copying what is
+    /// Makes room for this many more items, so that they are put at the end without copying what is
     /// there. Fails only if memory runs out.
     pub fn reserve(&mut self, more: usize) -> Result<(), AllocError>
         ensures { self.new ≡ self.old }

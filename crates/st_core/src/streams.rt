@@ -22,7 +22,7 @@ use std::alloc::{AllocError, Global};
 use std::marker::Model;
 use thiserror::Error;
 
-/// For so many pids there are guesses: as many processes as `seqaudit` reads.
+/// The pids for which there are guesses: as many processes as `seqaudit` reads.
 const EXPECTED_PIDS: usize = 1_024;
 
 /// Why a process wasn't opened.
@@ -109,8 +109,8 @@ impl Draft {
         Ok(())
     }
 
-    /// Makes room for so many more events of a process, so that adding them copies nothing. It does
-    /// nothing if the process isn't listed, and fails only if memory runs out.
+    /// Makes room for this many more events of a process, so that adding them copies nothing. It
+    /// does nothing if the process isn't listed, and fails only if memory runs out.
     pub fn reserve(&mut self, pid: Pid, more: usize) -> Result<(), AllocError>
         ensures { self.new ≡ self.old }
     {
@@ -134,7 +134,7 @@ impl Draft {
         if !event.is_own(pid) {
             return Err(AddFault::Foreign);
         }
-        // No memory holds so many events that their count leaves its range.
+        // The count of events stays in its range, since memory holds them.
         let Some(total) = self.total.checked_add(1) else {
             return Err(AddFault::Memory);
         };
@@ -219,8 +219,8 @@ pub struct Unlisted {
     pub index: u64,
 }
 
-/// What each process reported: processes by strictly rising pid, each event its process's own,
-/// and each pid that an event names listed.
+/// The events that processes reported: processes by strictly rising pid, each event its process's
+/// own, and each pid that an event names listed.
 #[derive(Debug, Drop)]
 pub struct Streams {
     draft: Draft,
@@ -299,7 +299,7 @@ fn comes_last(pids: &[Pid], pid: Pid) -> bool
     }
 }
 
-/// Makes room for so many more events at the end of the list at this place.
+/// Makes room for this many more events at the end of the list at this place.
 fn reserve_at(events: &mut [Sequence<Event>], place: usize, more: usize) -> Result<(), AllocError>
     requires { place < length events.old }
     ensures { events.new ≡ events.old }

@@ -81,7 +81,7 @@ pub struct Flags {
 pub struct Token {
     /// The trace that it belongs to.
     pub label: Label,
-    /// What is reported.
+    /// The events that are reported.
     pub flags: Flags,
     /// Its counts.
     pub serial: Serial,
@@ -137,13 +137,13 @@ impl Token {
 pub struct Message {
     /// Its sender.
     pub from: Pid,
-    /// What was sent.
+    /// The value that was sent.
     pub value: u64,
     /// A copy of its sender's token at the send, if it had one and no reset emptied it since.
     pub token: Option<Token>,
 }
 
-/// What an event reports (manual: the words `send`, `'receive'` and `print` of the tracer's tuple).
+/// The kind of an event (manual: the words `send`, `'receive'` and `print` of the tracer's tuple).
 #[derive(Clone, Copy, Debug, PartialEq, Eq)]
 pub enum Kind {
     /// A send, reported by its sender.
@@ -154,14 +154,14 @@ pub enum Kind {
     Print,
 }
 
-/// What the system tracer gets (manual: `{seq_trace, Label, {Kind, Serial, From, To, Value}}`). The
-/// fields are in an order that leaves no gaps between them in memory.
+/// The message to the system tracer (manual: `{seq_trace, Label, {Kind, Serial, From, To,
+/// Value}}`). The fields are in an order that leaves no gaps between them in memory.
 #[derive(Clone, Copy, Debug, PartialEq, Eq)]
 pub struct Event {
     /// The label of the token in force: the stamped one of a send or a print, the message's of a
     /// receive.
     pub label: Label,
-    /// What happened.
+    /// The kind of the event.
     pub kind: Kind,
     /// The receiver of a send or a receive. A print has none.
     pub to: Option<Pid>,
@@ -169,7 +169,7 @@ pub struct Event {
     pub from: Pid,
     /// The serial of the token in force.
     pub serial: Serial,
-    /// What was sent or printed.
+    /// The value that was sent or printed.
     pub value: u64,
 }
 
@@ -261,7 +261,7 @@ impl Act {
     }
 }
 
-/// What an act returns to its actor.
+/// The reply of an act to its actor.
 #[derive(Clone, Copy, Debug, PartialEq, Eq)]
 pub enum Reply {
     /// To a send, a print and a reset.

@@ -1,8 +1,8 @@
 //! Hashers that begin with a digest of all keys of their table.
 //!
 //! Whoever writes a trace chooses its pids and counts. The library's own hasher begins in a fixed
-//! state, so that many of them could be chosen to have one hash. Here to exchange one key changes
-//! the hash of each.
+//! state, so that many of them could be chosen to have one hash. Here the exchange of one key
+//! changes the hash of each.
 #![tactic(auto)]
 
 ghost use Rattle.std.specs.Prelude.{◌≡◌, ℕ, List};

@@ -1,4 +1,4 @@
--- What an accepting pairing says of each event: a rule that gives nothing first gives nothing anywhere.
+-- An accepting pairing clears each event: a rule without a first fault has none anywhere.
 use Rattle.std.proofs.Common.{◌≡◌, ℕ, zero, suc, ◌+◌, ◌<◌, ◌==◌, ◌&&◌, ◌||◌, nat_lt, Bool, true, false, cond, List}
 use Rattle.std.proofs.Common.{[], ◌∷◌, Option, Some, None, slice_get, option_and_then, refl, sym, ◌∙◌, ap, arith}
 use Rattle.std.proofs.Common.{if◌then◌else◌}

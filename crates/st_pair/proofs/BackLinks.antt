@@ -1,4 +1,4 @@
--- What the events are paired with before the receives of sends are known, and once they are.
+-- The links of events before the receives of sends are known, and once they are.
 use Rattle.std.proofs.Common.{◌≡◌, ℕ, ◌+◌, ◌<◌, ◌++◌, zero, suc, true}
 use Rattle.std.proofs.Common.{List, [], ◌∷◌, length, map, take, drop, get_or, set, None, Some, slice_get}
 use Rattle.std.proofs.Common.{option_map, refl, sym, ◌∙◌, ap, subst, arith}

@@ -1,4 +1,4 @@
--- What a rule gives first, at a loop's index and in what is left.
+-- A rule's first fault, at a loop's index and in what is left.
 use Rattle.std.proofs.Common.{◌≡◌, ℕ, ◌+◌, ◌<◌, zero, suc, List, [], ◌∷◌, length, get_or, drop, Option, None, Some}
 use Rattle.std.proofs.Common.{slice_get, refl, sym, ◌∙◌, ap, subst, arith, add-one}
 use Rattle.std.proofs.lemmas.Option.{same_Some}

@@ -1,4 +1,4 @@
--- What a rule gives first it gives at the least place, since streams are in the order of their pids.
+-- A rule's first fault is at the least place, since streams are in the order of their pids.
 use Rattle.std.proofs.Common.{◌≡◌, ℕ, ◌+◌, ◌<◌, zero, suc, Bool, true, false, cond, List, [], ◌∷◌, Some, None}
 use Rattle.std.proofs.Common.{slice_get, inl, inr, refl, sym, ◌∙◌, ap, subst, arith}
 use Rattle.std.specs.List.{AllByRecursion}

@@ -1,4 +1,4 @@
--- Why the rows that are found are those of the definition: the rows of a process come behind those
+-- Why the rows that are found are those of the definition: the rows of a process come after those
 -- of the processes before it, and what is left has the rest.
 use Rattle.std.proofs.Common.{◌≡◌, ℕ, ◌+◌, zero, suc, ◌<◌, List, [], ◌++◌, length, drop}
 use Rattle.std.proofs.Common.{get_or, sym, ◌∙◌, ap, arith}

@@ -1,5 +1,5 @@
--- A list of what is kept of each process, in the order of the streams: one process more, and what is read at a
--- process's place.
+-- A list of what is kept of each process, in the order of the streams: one process more, and what
+-- is read at a process's place.
 use Rattle.std.proofs.Common.{◌≡◌, ℕ, ◌+◌, ◌<◌, zero, suc, List, [], ◌∷◌, ◌++◌, length, map, take, drop, get_or, Bool}
 use Rattle.std.proofs.Common.{false, cond, Some, slice_get, refl, sym, ◌∙◌, ap, subst, arith}
 use Rattle.std.specs.List.{AllByRecursion}
@@ -56,7 +56,7 @@ stream_here streams pids k d es rising are within is =
     s.at ∙ ap (λ q. Some (record { pid = q; events = s.stream.events })) s.pid
     ∙ ap (λ fs. Some (record { pid = p; events = fs })) same
 
--- what is left before an element is it and what is left behind it
+-- what is left before an element is it and what is left after it
 pub drop_next : {A : Type 0} (xs : List A) (k : ℕ) (x : A) → slice_get xs k ≡ Some x
     → drop k xs ≡ x ∷ drop (suc k) xs
 drop_next [] k x at = absurd (cc)

@@ -1,4 +1,4 @@
--- What a refusal says of acts: that none show the streams.
+-- A refusal says that no acts show the streams.
 use Rattle.std.specs.Prelude.{ℕ, List}
 use Rattle.st_core.specs.declared.types.Act.{Act}
 use Rattle.st_core.specs.Run.{Stream, Shows}

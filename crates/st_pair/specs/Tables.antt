@@ -1,5 +1,5 @@
--- What streams are paired by: the first receive from each sender with each count, and the sends and prints of each
--- process.
+-- The tables of pairing: the first receive from each sender with each count, and the sends and
+-- prints of each process.
 use Rattle.std.specs.Prelude.{◌≡◌, ℕ, ◌+◌, ◌<◌, ◌==◌, ◌&&◌, Bool, List, [], ◌∷◌, Option, Some, None}
 use Rattle.std.specs.Prelude.{if◌then◌else◌, length, map, replicate, option_and_then, option_map, slice_get}
 use Rattle.std.specs.List.{AllByRecursion}

@@ -1,4 +1,4 @@
-//! What pairing finds: a reason against streams, or the source of a receive.
+//! The results of pairing: a reason against streams, or the source of a receive.
 
 use st_core::Pid;
 use thiserror::Error;
@@ -17,11 +17,11 @@ pub enum PairFault {
     /// The serial of this event doesn't rise: its prev isn't less than its this.
     #[error("a serial doesn't rise")]
     PrevNotBefore(Pid, u64),
-    /// This send or print counts no higher than the last one of its process before it, which is at
+    /// A send or print counts no higher than the last one of its process before it, which is at
     /// the second index.
     #[error("the sends and prints of a process don't rise")]
     NotRising(Pid, u64, u64),
-    /// This receive has the sender and the count of the earlier one at the second place.
+    /// A receive has the sender and the count of the earlier one at the second place.
     #[error("a message is received twice")]
     Repeated(Pid, u64, Pid, u64),
     /// The send or print at the second place has the count of this receive, and is not the send of
@@ -30,7 +30,7 @@ pub enum PairFault {
     Mismatch(Pid, u64, Pid, u64),
 }
 
-/// What the message of a reported receive came from.
+/// The source of the message of a reported receive.
 #[derive(Clone, Copy, Debug, PartialEq, Eq)]
 pub enum Source {
     /// From the send at this place.

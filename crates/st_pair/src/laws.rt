@@ -17,7 +17,7 @@ ghost use Rattle.st_pair.specs.Laws.{IsLeast};
 ghost use Rattle.st_pair.specs.Pairing.{receiver_at, refusal, source_at};
 ghost use Rattle.st_pair.specs.Places.{event_at, first, is_stamp};
 
-/// What a rule gives first it gives at the least place, by pid and then index.
+/// A rule's first fault is at the least place, by pid and then index.
 pub fn first_is_least()
     ensures { (rule : Pid → ℕ → Event → Option PairFault) (streams : List Stream)
         (fault : PairFault) →

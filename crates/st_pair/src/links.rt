@@ -1,7 +1,7 @@
-//! What the events of streams are paired with, as far as it is known before the receives of each send are.
+//! The links of events, as far as they are known before the receives of each send are.
 //!
-//! A receive's link is its send, for which its sender's sends are searched here, once. A send's link follows when it is
-//! known which receive took it first.
+//! A receive's link is its send, for which its sender's sends are searched here, once. A send's
+//! link follows when it is known which receive took it first.
 
 ghost use Rattle.std.specs.Prelude.{◌≡◌, ◌<◌, map, length, slice_set, IfOk};
 ghost use Rattle.st_pair.specs.Tables.{link_back, links_back, AreStamps};
@@ -44,8 +44,8 @@ impl Links {
         self.links[index] = link;
     }
 
-    /// Makes the links of these events, and gives `hidden_keys` the keys of their receives of hidden
-    /// sends.
+    /// Makes the links of these events, and gives `hidden_keys` the keys of their receives of
+    /// hidden sends.
     fn of_events(
         alloc: Global,
         streams: &Streams,

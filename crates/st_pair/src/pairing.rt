@@ -1,4 +1,4 @@
-//! What each receive follows.
+//! The send that each receive follows.
 
 ghost use Rattle.std.specs.Prelude.{◌≡◌, false, List, [], ◌∷◌, map, None, Some};
 ghost use Rattle.std.specs.Prelude.{slice_get, IfOk, IfErr, IfSome, IfNone, OnOk};
@@ -24,7 +24,7 @@ use st_core::{Event, Guesses, Kind, Pid, Streams, place_of};
 use std::alloc::{AllocError, Global};
 use std::marker::Model;
 
-/// What an event is paired with.
+/// The link of an event to its partner.
 #[derive(Clone, Copy, Debug, PartialEq, Eq)]
 pub enum Link {
     /// A print.
@@ -40,7 +40,7 @@ pub enum Link {
 }
 
 impl Link {
-    /// What the message came from, if this is a receive.
+    /// Returns the source of the message, if the event is a receive.
     fn source(self) -> Option<Source>
         ensures { result ≡ source_in self }
     {
@@ -93,7 +93,7 @@ impl Model for Pairing {
 }
 
 impl Pairing {
-    /// What the event at this place is paired with.
+    /// Returns the link of the event at this place.
     fn link(&self, pid: Pid, index: u64) -> Option<Link>
         ensures { result ≡ link_at self.now pid index }
     {
@@ -103,7 +103,7 @@ impl Pairing {
         }
     }
 
-    /// What the message of the receive at this place came from; none if there is no receive.
+    /// Returns the source of the message of the receive at this place; none if there is no receive.
     pub fn source(&self, pid: Pid, index: u64) -> Option<Source>
         ensures { (streams : List Stream) → IsPairing streams self.now
             → result ≡ source_at streams pid index }
@@ -133,12 +133,12 @@ fn nth_link(links: &[Link], index: u64) -> Option<Link>
     links.get(index as usize).copied()
 }
 
-/// What streams are paired by, if none of the first three reasons is against them.
+/// The tables by which streams are paired, if none of the first three reasons is against them.
 #[derive(Drop)]
 struct Tables {
     /// The first receive from each send and print.
     got: Receives,
-    /// What each event is paired with, but a send with nothing.
+    /// The link of each event; none for a send.
     links: Vec<Links>,
 }
 
@@ -168,7 +168,8 @@ impl Tables {
     }
 }
 
-/// What the event at this index of the process at this place is paired with. If it is no send, it has this link.
+/// Returns the link of the event at this index of the process at this place. If it is no send, it
+/// has the given link.
 fn link_of(
     got: &Receives,
     streams: &Streams,
@@ -199,7 +200,8 @@ fn link_of(
     }
 }
 
-/// Fills in the receivers of one process's sends, up to the first receive that differs from its send.
+/// Fills in the receivers of one process's sends, up to the first receive that differs from its
+/// send.
 fn fill_in(
     got: &Receives,
     streams: &Streams,

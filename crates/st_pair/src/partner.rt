@@ -1,4 +1,4 @@
-//! What an event pairs with.
+//! The partner of an event.
 
 ghost use Rattle.std.specs.Prelude.{◌≡◌, List};
 ghost use Rattle.st_core.specs.Run.{Stream};
@@ -9,7 +9,7 @@ use crate::answer::Source;
 use crate::pairing::Pairing;
 use st_core::{Kind, Pid};
 
-/// What an event pairs with. A place is a process and an index among its events, from 0.
+/// The partner of an event. A place is a process and an index among its events, from 0.
 #[derive(Clone, Copy)]
 pub enum Partner {
     /// A print: nothing.

@@ -49,7 +49,8 @@ impl Key {
     }
 }
 
-/// For each event of a process the place of the first receive from it, if it is a send or print that has one.
+/// For each event of a process the place of the first receive from it, if it is a send or print
+/// that has one.
 #[derive(Debug, Drop)]
 pub struct Marks {
     places: Vec<Option<(Pid, u64)>>,
@@ -74,7 +75,7 @@ impl Marks {
         Ok(Marks { places })
     }
 
-    /// What is known of the event at this index, if there is one.
+    /// Returns the mark of the event at this index, if there is one.
     fn at(&self, index: u64) -> Option<Option<(Pid, u64)>>
         ensures { result ≡ slice_get self.now index }
     {
@@ -146,8 +147,8 @@ impl Receives {
         Ok(receives)
     }
 
-    /// The place of the first receive of the send or print with this key, which is at this index of the process at this
-    /// place.
+    /// The place of the first receive of the send or print with this key, which is at this index of
+    /// the process at this place.
     pub fn first_of(
         &self,
         streams: &Streams,
@@ -213,7 +214,7 @@ impl Receives {
         }
     }
 
-    /// The same of a receive whose send is hidden.
+    /// Notes a receive whose send is hidden.
     fn note_hidden(
         &mut self,
         streams: &Streams,
@@ -234,7 +235,7 @@ impl Receives {
         }
     }
 
-    /// The same of a receive whose send or print was reported.
+    /// Notes a receive whose send or print was reported.
     fn note_shown(
         &mut self,
         streams: &Streams,
@@ -258,7 +259,7 @@ impl Receives {
     }
 }
 
-/// What is noted at this place and index, if there is an event.
+/// Returns the mark at this place and index, if there is an event.
 fn mark_at(shown: &[Marks], process: usize, index: u64) -> Option<Option<(Pid, u64)>>
     ensures { result ≡ mark_at shown.now process index }
 {

@@ -23,7 +23,7 @@ pub struct Row {
     pub event: Event,
 }
 
-/// The number so much further on. No memory holds so many events that there is none.
+/// Returns the number this much further on. There is one, since memory holds the events.
 fn further(number: u64, by: u64) -> Result<u64, AllocError>
     ensures { IfOk result (λ n. n ≡ number + by) }
 {

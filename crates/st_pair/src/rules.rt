@@ -23,7 +23,8 @@ pub enum Rule {
 }
 
 impl Rule {
-    /// What the rule gives at one event, if this is the last send or print before it and its count.
+    /// Returns the rule's fault at one event, given the last send or print before it with its
+    /// count.
     fn fault_at(
         &self,
         streams: &Streams,
@@ -41,7 +42,7 @@ impl Rule {
         }
     }
 
-    /// What the rule gives first in the stream of one process.
+    /// Returns the rule's first fault in the stream of one process.
     fn first_fault_in(&self, streams: &Streams, pid: Pid) -> Option<PairFault>
         ensures { result ≡ first_from (fault_at self.now streams.now) pid 0
             (events_of streams.now pid) }
@@ -60,7 +61,7 @@ impl Rule {
         None
     }
 
-    /// What the rule gives at the least place at which it gives something.
+    /// Returns the rule's fault at the least place that has one.
     pub fn first_fault(&self, streams: &Streams) -> Option<PairFault>
         ensures { result ≡ first (fault_at self.now streams.now) streams.now }
     {

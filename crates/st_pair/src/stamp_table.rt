@@ -10,7 +10,7 @@ use st_core::{Event, Kind, Pid, Sequence, Streams};
 use std::alloc::{AllocError, Global};
 use std::marker::Model;
 
-/// How many rows behind the one that was found last are searched first. One process's messages
+/// How many rows after the one that was found last are searched first. One process's messages
 /// reach a receiver in order mostly, with those to others between them: the rows between are few,
 /// and lie side by side in memory, which those of a binary search of all don't.
 const NEAR: usize = 128;
@@ -29,8 +29,8 @@ pub struct StampRow {
 pub struct Stamps {
     rows: Vec<Sequence<StampRow>>,
 
-    // For each process the number of the row behind the one that was found last: messages mostly are received as
-    // they were sent. Only time depends on it.
+    // For each process the number of the row after the one that was found last: messages mostly are
+    // received as they were sent. Only time depends on it.
     next: Vec<usize>,
 }
 
@@ -101,7 +101,7 @@ fn row_near(rows: &[StampRow], start: usize, width: usize, count: u64) -> Option
     Some((number, row))
 }
 
-/// The row with this count, and its number: `next`, one soon behind it, or what a binary search
+/// The row with this count, and its number: `next`, one soon after it, or what a binary search
 /// of all finds.
 fn find_row(rows: &[StampRow], next: usize, count: u64) -> Option<(usize, StampRow)>
     requires { AreRising rows.now }

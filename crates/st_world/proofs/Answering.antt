@@ -1,5 +1,6 @@
--- What a part of `step` returns is a step by its definition: an outcome is the definition's and keeps each process
--- sound, and each refusal comes if the definition has no step, or none that memory was there for.
+-- A part of `step` returns a step by its definition: an outcome is the definition's and keeps each
+-- process sound, and each refusal comes if the definition has no step, or none that memory was
+-- there for.
 use Rattle.std.proofs.Common.{◌≡◌, ◌⊎◌, ℕ, true, List, length, Option, Some, None, Ok, Err, IsSome, All, IfSome}
 use Rattle.std.proofs.Common.{Result, IfOk, OnErr, position, get_or, set, refl, ◌∙◌, ap, inl, inr}
 use Rattle.std.proofs.lemmas.List.{length-set, set-get_or}

@@ -1,6 +1,6 @@
--- What a process keeps in the rows differs from what it keeps in the state by the mark traced alone, which is its
--- node's. So a write of what an act leaves is the same write in the state, if the mark was put in first; and with its
--- actor listed, each process is clean or listed after it.
+-- The row of a process differs from its record in the state by the mark traced alone, which is its
+-- node's. So a write of what an act leaves is the same write in the state, if the mark was put in
+-- first; and with its actor listed, each process is clean or listed after it.
 use Rattle.std.proofs.Common.{◌≡◌, ◌≢◌, ℕ, ◌<◌, ◌==◌, zero, suc, Bool, true, false, if◌then◌else◌, List, [], ◌∷◌}
 use Rattle.std.proofs.Common.{length, map, get_or, set, drop, replicate, slice_get, Some, None, inl, inr, position}
 use Rattle.std.proofs.Common.{refl, sym, ◌∙◌, ap, arith}

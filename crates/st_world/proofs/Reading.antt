@@ -1,5 +1,5 @@
--- What is read of a process: the row at the number of its pid is what the state has of it, but for the mark, which its
--- node has; and each process of the state is sound.
+-- A process is read so: the row at the number of its pid is what the state has of it, but for the
+-- mark, which its node has; and each process of the state is sound.
 use Rattle.std.proofs.Common.{◌≡◌, ℕ, ◌<◌, List, [], length, Some, None, IfSome, position, get_or, subst, arith}
 use Rattle.std.proofs.lemmas.List.{get_or_default}
 use Rattle.st_core.specs.declared.types.Message.{Message}

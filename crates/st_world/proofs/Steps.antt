@@ -1,5 +1,6 @@
--- For each kind of act the definition's step over the rows of a world is what the code writes at one or two numbers
--- of them, since an act of one process changes its record alone, and a send one queue beside it.
+-- For each kind of act the definition's step over the rows of a world is what the code writes at
+-- one or two numbers of them, since an act of one process changes its record alone, and a send one
+-- queue besides.
 use Rattle.std.proofs.Common.{IsSome, ◌≡◌, ℕ, ◌<◌, true, false, List, [], ◌∷◌, ◌++◌, map, length, get_or, set, All}
 use Rattle.std.proofs.Common.{Option, Some, None, position, refl, sym, ◌∙◌, ap, arith}
 use Rattle.std.specs.Option.{ForSome}
@@ -108,7 +109,7 @@ module _ (top : ℕ) (ps : List Pid) (ls : List LocalState) (bs : List (List Mes
       let here = stands ps ls bs aligned (actor a) i at l el in
       step_full top (state_of ps ls bs) a (process_of (actor a) l (get_or bs i [])) here.found full
 
-  -- an act that reaches no process beside its actor: what is written at its number
+  -- an act that reaches no process besides its actor: what is written at its number
   step_alone : (a : Act) (i : ℕ) (l : LocalState) (told : Told) (l2 : LocalState) (b2 : List Message)
       → receiver a ≡ actor a → ((t : Option Token) (x : Process) → reached a t x ≡ x)
       → IsAt (actor a) i → l ≡ get_or ls i l

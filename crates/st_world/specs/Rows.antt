@@ -23,7 +23,7 @@ pub record AreAligned (pids : List Pid) (locals : List LocalState)
   pub locals_len : length locals ≡ length pids
   pub queues_len : length queues ≡ length pids
 
--- what holds of the rows of each world: beside that, each process is as every run keeps it
+-- what holds of the rows of each world: besides, each process is as every run keeps it
 pub record AreRows (top : ℕ) (pids : List Pid) (locals : List LocalState)
     (queues : List (List Message)) : Type 0 where
   pub aligned : AreAligned pids locals queues
@@ -40,9 +40,9 @@ pub record AreKept (top : ℕ) (pids : List Pid) (g : Groups) (locals : List Loc
   pub by_node : AreByNode pids g.places
   pub listed : (i : ℕ) → i < length pids → IsCleanOrListed g locals queues i
 
--- A wipe of the listed processes on the node of process `number` takes these rows to those after it.
--- If each process was clean or listed, that resets the state. A process of the node that was clean or
--- listed is clean then, and each that was clean stays so.
+-- A wipe of the listed processes on the node of process `number` takes these rows to those after
+-- it. If each process was clean or listed, that resets the state. A process of the node that was
+-- clean or listed is clean then, and each that was clean stays so.
 pub record AreWiped (g : Groups) (number : ℕ) (locals : List LocalState) (queues : List (List Message))
     (locals_after : List LocalState) (queues_after : List (List Message)) : Type 0 where
   pub state : (pids : List Pid) (me : Pid) → AreByNode pids g.places → me ≡ slice_index_or pids number me

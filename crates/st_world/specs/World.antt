@@ -1,4 +1,4 @@
--- What the public calls of a world return.
+-- The results of a world's public calls.
 use Rattle.std.specs.Prelude.{◌≡◌, ℕ, ◌<◌, ◌≤◌, true, ◌⊎◌, List, Option, Some, None, Result, Err, IsSome, IfSome, IfOk}
 use Rattle.std.specs.Prelude.{IfErr, OnErr, All, option_and_then, position}
 use Rattle.std.specs.Option.{ForSome}

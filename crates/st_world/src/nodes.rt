@@ -16,7 +16,7 @@ use st_mail::Mailboxes;
 use std::alloc::{AllocError, Global};
 use std::marker::Model;
 
-/// The nodes of so many processes, which are known by their numbers alone.
+/// Makes the nodes of this many processes, which are known by their numbers alone.
 #[derive(Drop)]
 pub(crate) struct Nodes {
     // The place of each process's node.

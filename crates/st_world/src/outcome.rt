@@ -1,4 +1,4 @@
-//! What a world refuses. Plain values, for callers to match on.
+//! The refusals of a world. Plain values, for callers to match on.
 
 use thiserror::Error;
 

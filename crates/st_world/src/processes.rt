@@ -75,7 +75,7 @@ impl<const TOP: u64> Processes<TOP> {
         })
     }
 
-    /// What the process keeps for tracing.
+    /// Returns the tracing state of the process.
     pub fn local(&self, pid: Pid) -> Option<Local<TOP>>
         ensures { result ≡ option_map (λ r. r.local) (process self.now pid) }
     {
@@ -131,7 +131,8 @@ impl<const TOP: u64> Processes<TOP> {
         self.queues.place_of(number, from, this)
     }
 
-    /// The same if no two messages of that queue have such a token, found from the nearer end.
+    /// Finds what `place_of` finds, if no two messages of that queue have the stamp, from the
+    /// nearer end.
     pub fn place_of_one(&self, pid: Pid, from: Pid, this: u64) -> Option<u64>
         requires one { IfSome (process self.now pid) (λ r.
             PassesOnce (λ m. bears_stamp from this m.token) r.queue) }

@@ -8,7 +8,7 @@ ghost use Rattle.st_world.specs.Rows.{IsNodeRange};
 use st_core::{Local, Pid};
 use std::alloc::{AllocError, Global};
 
-/// What as many processes keep at the start.
+/// Returns the rows of this many processes at the start.
 pub(crate) fn zeros<const TOP: u64>(
     alloc: Global,
     count: usize,

@@ -56,8 +56,8 @@ impl<const TOP: u64> World<TOP> {
         })
     }
 
-    /// What the process keeps for tracing: its token, its clock, its last count and whether it is
-    /// traced, looked up at once. None if the process is unknown.
+    /// Returns the tracing state of the process: its token, its clock, its last count and whether
+    /// it is traced, looked up at once. None if the process is unknown.
     pub fn local(&self, pid: Pid) -> Option<Local<TOP>>
         ensures { result ≡ option_map (λ r. r.local) (process self.now pid) }
     {
@@ -108,10 +108,10 @@ impl<const TOP: u64> World<TOP> {
 
     /// One act. An act has a step if its actor is there, with a send's receiver, and if its stamp,
     /// if it has one, has a value: refusals come in this order. After a refusal the world is as
-    /// before. Only a send fails if memory runs out, for its message; what room there is for messages
-    /// is no part of the state that a contract sees. A receive that walks far, or a send to a queue
-    /// that has an index, may ask for memory too, for that index or for the ladder of a long list, and
-    /// does without it if there is none.
+    /// before. Only a send fails if memory runs out, for its message; what room there is for
+    /// messages is no part of the state that a contract sees. A receive that walks far, or a send
+    /// to a queue that has an index, may ask for memory too, for that index or for the ladder of a
+    /// long list, and does without it if there is none.
     pub fn step(&mut self, act: &Act) -> Result<Outcome, StepFault>
         ensures step { IfOk result
             (λ told. step TOP self.old act.now ≡ Some (outcome_to told self.new)) }

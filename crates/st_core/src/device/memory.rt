@@ -151,9 +151,9 @@ impl Model for MemorySink {
 }
 
 impl MemorySink {
-    /// A sink with room for so many bytes, which it takes at once: no later call allocates. A fuse
-    /// is the number of bytes after which it fails; `None` never fails before its room is full.
-    /// It fails only if memory runs out.
+    /// A sink with room for this many bytes, which it takes at once: no later call allocates. A
+    /// fuse is the number of bytes after which it fails; `None` never fails before its room is
+    /// full. It fails only if memory runs out.
     pub fn new(alloc: Global, room: usize, fuse: Option<u64>) -> Result<MemorySink, AllocError>
         ensures ok { IfOk result (λ s. s
             ≡ record { written = []; room = room; fuse = fuse; failed = false }) }
@@ -168,7 +168,7 @@ impl MemorySink {
         })
     }
 
-    /// What was written so far.
+    /// Returns the bytes that were written so far.
     pub fn written(&self) -> &[u8]
         ensures { result.now ≡ self.now.written }
     {

@@ -1,4 +1,4 @@
-//! What a sink of bytes promises. Only the trait: the sinks are beside it.
+//! The promises of a sink of bytes. The sinks themselves are in the modules next to it.
 
 ghost use Rattle.std.specs.Prelude.{◌≤◌, ◌<◌, take, List, [], ℕ, Bool, Option, IfOk, MatchResult};
 ghost use Rattle.std.specs.Prelude.{length};
@@ -32,7 +32,7 @@ pub trait ByteSink {
             (λ _. puts self.old [] self.new) }
         ensures mark { MarksFailure (failed self.old) (failed self.new) result };
 
-    // What was put is at the end of what was written, if the sink tells it.
+    // The bytes put are at the end of those that were written, if the sink tells of them.
     ghost puts_appends: { (a : Self) (bytes : List ℕ) (b : Self) → puts a bytes b
         → Appends (written a) (written b) bytes };
 }

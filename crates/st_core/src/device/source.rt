@@ -1,4 +1,4 @@
-//! What a source of bytes promises. Only the trait: the sources are beside it.
+//! The promises of a source of bytes. The sources themselves are in the modules next to it.
 
 ghost use Rattle.std.specs.Prelude.{◌≡◌, ◌≤◌, ◌<◌, take, List, [], ℕ, Bool, Option, IfOk};
 ghost use Rattle.std.specs.Prelude.{MatchResult, length};
@@ -40,7 +40,7 @@ pub trait ByteSource {
         ensures empty { PassesEmpty (failed self.old) piece.new self.old self.new result }
         ensures mark { MarksFailure (failed self.old) (failed self.new) result };
 
-    // What was given stood at the front of what was left, if the source tells it.
+    // The bytes given stood at the front of those that were left, if the source tells of them.
     ghost gives_consumes: { (a : Self) (bytes : List ℕ) (b : Self) → gives a bytes b
         → Consumes (left a) (left b) bytes };
 }

@@ -1,4 +1,4 @@
--- Of pids that rise the last is the greatest.
+-- The last of rising pids is the greatest.
 use Rattle.std.proofs.Common.{sym, ◌∙◌, ap}
 use Rattle.std.specs.Option.{option_copied}
 use Rattle.st_core.proofs.Pids.{below_decides}

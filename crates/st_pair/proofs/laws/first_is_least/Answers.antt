@@ -1,4 +1,5 @@
--- What comes first, process by process and event by event, is least, since pids and indexes rise.
+-- The first place, process by process and event by event, is the least, since pids and indexes
+-- rise.
 use Rattle.st_pair.proofs.Leasts.{first_least}
 use Rattle.st_pair.proofs.laws.first_is_least.Goals as goal
 

@@ -1,4 +1,4 @@
--- Each stream adds its own marks behind those of the streams before it.
+-- Each stream adds its own marks after those of the streams before it.
 use Rattle.std.proofs.Common.{◌∙◌}
 use Rattle.st_pair.specs.Tables.{no_marks}
 use Rattle.st_pair.proofs.Linkage.{gathered}

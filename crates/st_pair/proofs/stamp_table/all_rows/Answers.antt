@@ -1,4 +1,4 @@
--- Each stream adds its own rows behind those of the streams before it.
+-- Each stream adds its own rows after those of the streams before it.
 use Rattle.std.proofs.Common.{◌∙◌}
 use Rattle.st_pair.specs.Tables.{rows_in}
 use Rattle.st_pair.proofs.Linkage.{gathered}

@@ -1,4 +1,4 @@
--- So many processes have what each has at the start.
+-- Each of the rows so far is that of a process at the start.
 use Rattle.std.proofs.Common.{◌≡◌, replicate}
 use Rattle.st_core.specs.State.{zero_local}
 use Rattle.st_world.proofs.rows.zeros.Given as goal

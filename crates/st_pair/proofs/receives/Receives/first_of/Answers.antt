@@ -1,4 +1,4 @@
--- What is noted of an event that was reported, or else what is kept of the key.
+-- A reported event has its mark, and any other the entry of its key.
 use Rattle.std.proofs.Common.{sym, ◌∙◌, ap}
 use Rattle.indexmap.specs.IndexMap.{get}
 use Rattle.st_pair.specs.Tables.{key_eq}

@@ -1,4 +1,5 @@
--- A process's receives go behind those of the processes before it, so that the first one with a key stays first.
+-- A process's receives go after those of the processes before it, so that the first one with a key
+-- stays first.
 use Rattle.std.proofs.Common.{◌∙◌, ap, sym, rules, IfErr}
 use Rattle.st_pair.specs.Pairing.{repeated}
 use Rattle.st_pair.specs.Places.{first_from}
