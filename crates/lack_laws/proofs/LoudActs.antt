@@ -218,6 +218,24 @@ taken_louder top p w r (Some found) is =
           ∙ moves));
     }
 
+-- so does an act that reports nothing, and moves no token
+quiet_louder : (top : ℕ) (a : Act) (r : Process) (was part done : Acted)
+    → acted top r a ≡ Some done → acted top r a ≡ Some was
+    → acted top (loud r) (louder a) ≡ Some part
+    → part.local ≡ loud_local was.local → part.queue ≡ map loud_message was.queue
+    → event_by top r a ≡ part.report → was.report ≡ None
+    → moves_token (loud r) (louder a) ≡ false → IsLouder top r a done
+quiet_louder top a r was part done h is acts local queue event silent still =
+    subst (IsLouder top r a) (same_Some was done (sym is ∙ h)) (record {
+      part = part;
+      is_part = acts;
+      local = local;
+      queue = queue;
+      event = event;
+      agrees = λ e reported. absurd (none-some e (sym silent ∙ reported));
+      moves = λ moves. absurd (false≢true (sym still ∙ moves));
+    })
+
 pub acted_louder : (top : ℕ) (a : Act) (r : Process) (done : Acted) → acted top r a ≡ Some done
     → is_set a ≡ false
     → IsLouder top r a done
@@ -297,58 +315,16 @@ acted_louder top (act.PrintAt p n v) r done h other =
           })
     ] refl h
 acted_louder top (act.Set p c) r done h other = absurd (false≢true (sym other))
-acted_louder top (act.Clear p) r done h other = subst (IsLouder top r (act.Clear p))
-    (same_Some _ done h) (record {
-      part = answers (loud r) (record (loud r).local { token = None })
-          (reply.Previous (loud r).local.token);
-      is_part = refl;
-      local = refl;
-      queue = refl;
-      event = refl;
-      agrees = λ e reported. absurd (none-some e reported);
-      moves = λ moves. absurd (false≢true moves);
-    })
-acted_louder top (act.Restore p t) r done h other = subst (IsLouder top r (act.Restore p t))
-    (same_Some _ done h) (record {
-      part = answers (loud r) (record (loud r).local { token = Some (loud_token t) })
-          (reply.Previous (loud r).local.token);
-      is_part = refl;
-      local = refl;
-      queue = refl;
-      event = refl;
-      agrees = λ e reported. absurd (none-some e reported);
-      moves = λ moves. absurd (false≢true moves);
-    })
-acted_louder top (act.Look p) r done h other = subst (IsLouder top r (act.Look p))
-    (same_Some _ done h) (record {
-      part = answers (loud r) (loud r).local (reply.Current (loud r).local.token);
-      is_part = refl;
-      local = refl;
-      queue = refl;
-      event = refl;
-      agrees = λ e reported. absurd (none-some e reported);
-      moves = λ moves. absurd (false≢true moves);
-    })
-acted_louder top (act.Reset p) r done h other = subst (IsLouder top r (act.Reset p))
-    (same_Some _ done h) (record {
-      part = answers (loud r) (loud r).local reply.Done;
-      is_part = refl;
-      local = refl;
-      queue = refl;
-      event = refl;
-      agrees = λ e reported. absurd (none-some e reported);
-      moves = λ moves. absurd (false≢true moves);
-    })
-acted_louder top (act.Tracer p b) r done h other = subst (IsLouder top r (act.Tracer p b))
-    (same_Some _ done h) (record {
-      part = answers (loud r) (loud r).local (reply.Was (loud r).local.traced);
-      is_part = refl;
-      local = refl;
-      queue = refl;
-      event = refl;
-      agrees = λ e reported. absurd (none-some e reported);
-      moves = λ moves. absurd (false≢true moves);
-    })
+acted_louder top (act.Clear p) r done h other =
+    quiet_louder top (act.Clear p) r _ _ done h refl refl refl refl refl refl refl
+acted_louder top (act.Restore p t) r done h other =
+    quiet_louder top (act.Restore p t) r _ _ done h refl refl refl refl refl refl refl
+acted_louder top (act.Look p) r done h other =
+    quiet_louder top (act.Look p) r _ _ done h refl refl refl refl refl refl refl
+acted_louder top (act.Reset p) r done h other =
+    quiet_louder top (act.Reset p) r _ _ done h refl refl refl refl refl refl refl
+acted_louder top (act.Tracer p b) r done h other =
+    quiet_louder top (act.Tracer p b) r _ _ done h refl refl refl refl refl refl refl
 
 -- EVERY PROCESS
 
