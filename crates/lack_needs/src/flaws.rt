@@ -4,7 +4,6 @@ ghost use Rattle.std.specs.Prelude.{◌≡◌, ◌↔◌, [], ◌∷◌, ◌++�
 ghost use Rattle.st_core.specs.declared.types.Event.{Event as EventValue};
 ghost use Rattle.st_pair.specs.Places.{is_stamp};
 ghost use Rattle.st_core.specs.Laws.{greatest_count, prev_after};
-ghost use Rattle.lack_laws.specs.Completion.{begins_trace};
 ghost use Rattle.lack_needs.specs.Flaws.{left_by, test_of, GoesOnWithin};
 
 use st_core::{Event, Kind};
@@ -112,16 +111,5 @@ impl Left {
         }
         let need = self.flaws(event, Flaw::Need);
         !need
-    }
-
-    /// Whether the next event begins a trace below this count: its prev is another than what is
-    /// left, at least the greatest count and less than this.
-    pub fn begins(self, event: &Event, count: u64) -> bool
-        ensures { (es : List EventValue) → self ≡ left_by es
-            → result ≡ begins_trace count (greatest_count es) (prev_after es) event.now }
-    {
-        is_stamp(event)
-            && (event.serial.prev != self.prev
-                && (event.serial.prev >= self.greatest && event.serial.prev < count))
     }
 }
