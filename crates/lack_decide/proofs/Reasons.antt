@@ -1,7 +1,7 @@
 -- What is found is a reason in the words of the results: if a rule gives nothing at an event, its
 -- reason isn't against that event, and where it gives something first, it is the first one that is.
-use Rattle.std.proofs.Common.{◌≡◌, ◌⊎◌, ℕ, zero, suc, ◌<◌, ◌≤◌, ◌==◌, ◌&&◌, ◌||◌, nat_lt, not, Bool, true, false, cond}
-use Rattle.std.proofs.Common.{inl, inr, List, [], ◌∷◌, take, slice_get, Option, Some, None, option_and_then, refl, sym}
+use Rattle.std.proofs.Common.{[], ◌≡◌, ◌⊎◌, ℕ, zero, suc, ◌<◌, ◌≤◌, ◌==◌, ◌&&◌, ◌||◌, nat_lt, not, Bool, true, false, cond}
+use Rattle.std.proofs.Common.{inl, inr, List, ◌∷◌, take, Option, Some, None, option_and_then, refl, sym}
 use Rattle.std.proofs.Common.{◌∙◌, ap, subst, arith, if◌then◌else◌}
 use Rattle.std.specs.Prelude.{is_none, is_some}
 use Rattle.std.specs.declared.cmp.Ordering.TheVariants.{Less, Equal, Greater}
@@ -29,7 +29,8 @@ use Rattle.st_pair.proofs.ForCallers.{got_says, some_unless}
 use Rattle.st_order.specs.Items.{is_hidden}
 use Rattle.lack_laws.specs.Needs.{HoldsOfNone, is_late}
 use Rattle.lack_laws.specs.Reasons.{is_too_high}
-use Rattle.lack_laws.proofs.ForCallers.{count_at, above_if}
+use Rattle.lack_laws.proofs.ForCallers.{above_if}
+use Rattle.st_plan.proofs.ForCallers.{greatest_has}
 use Rattle.lack_laws.specs.OpenReasons.{HasNoOpenReason, IsUnfounded}
 use Rattle.lack_decide.specs.declared.answer.Never.{Never}
 use Rattle.lack_decide.specs.declared.answer.Never.TheVariants as never
@@ -203,13 +204,6 @@ pub sent_if : (streams : List Stream) (e : Event) → is_hidden streams e ≡ fa
     → (is_stamp e || is_some (stamp_of streams e.from e.serial.this)) ≡ true
 sent_if streams e = some_as (is_stamp e) e.from (stamp_of streams e.from e.serial.this)
 
-taken_at : (es : List Event) (i k : ℕ) (f : Event) → slice_get es k ≡ Some f → k < i
-    → slice_get (take i es) k ≡ Some f
-taken_at es zero k f at less = absurd (omega (arith, less))
-taken_at [] (suc i) k f at less = at
-taken_at (e ∷ es) (suc i) zero f at less = at
-taken_at (e ∷ es) (suc i) (suc k) f at less = taken_at es i k f at (omega (arith, less))
-
 module _ (top : ℕ) (streams : List Stream) (sound : IsStreams streams) where
   pids_rise : IsRising (pids_of streams)
   pids_rise = sound.draft.rising
@@ -317,7 +311,7 @@ module _ (top : ℕ) (streams : List Stream) (sound : IsStreams streams) where
       let es = events_of streams p in
       let less = ltb-true (greatest_count (take i es)) e.serial.this
       (above_if (is_stamp e) (nat_lt (greatest_count (take i es)) e.serial.this) stamps quiet) in
-      let low = count_at (take i es) j l.event (taken_at es i j l.event l.at l.before) in
+      let low = greatest_has es i j l.event l.at l.before in
       let high = l.is.1 in
       omega (arith, less, low, high)
 

@@ -1,7 +1,7 @@
 -- When pairing accepts streams, said of their events two at a time: the least place at which a rule
 -- holds would be one of two events that don't fit.
-use Rattle.std.proofs.Common.{◌≡◌, ℕ, zero, suc, ◌+◌, ◌<◌, ◌==◌, ◌&&◌, ◌||◌, nat_lt, Bool, true, false, not, cond, List}
-use Rattle.std.proofs.Common.{[], ◌∷◌, Option, Some, None, slice_get, refl, sym, ◌∙◌, ap, subst, arith}
+use Rattle.std.proofs.Common.{[], ◌≡◌, ℕ, zero, suc, ◌+◌, ◌<◌, ◌==◌, ◌&&◌, ◌||◌, nat_lt, Bool, true, false, not, cond, List}
+use Rattle.std.proofs.Common.{◌∷◌, Option, Some, None, slice_get, refl, sym, ◌∙◌, ap, subst, arith}
 use Rattle.std.proofs.lemmas.Bool.{eq-eqb, eqb-true, and_from, and_parts, false≢true}
 use Rattle.std.proofs.lemmas.Bool.Decides.{nat_tests}
 use Rattle.std.proofs.lemmas.Option.{none-some, same_Some, option_and_then_some}
@@ -17,7 +17,21 @@ use Rattle.st_pair.specs.Places.{event_at, first, is_stamp}
 use Rattle.st_pair.specs.Pairing.{agrees, first_rule, mismatch, not_rising, prev_not_before, receive_of, refusal}
 use Rattle.st_pair.specs.Pairing.{repeated, stamp_before, stamp_of}
 use Rattle.st_pair.proofs.ForCallers.{given_at, given_from, got_rule, own_rule, Rule}
-use Rattle.lack_laws.proofs.Suppliers.{given_if, given_unless}
+
+-- WHAT RULES SAY
+
+pub given_if : {X : Type 0} (b : Bool) (y x : X) → cond b (Some y) None ≡ Some x → (b ≡ true)
+    × (y ≡ x)
+given_if true y x h = (refl, same_Some y x h)
+given_if false y x h = absurd (none-some x h)
+
+pub given_unless : {X : Type 0} (a b : Bool) (y x : X) → cond a None (cond b (Some y) None) ≡ Some x
+    → (a ≡ false) × (b ≡ true) × (y ≡ x)
+given_unless true b y x h = absurd (none-some x h)
+given_unless false true y x h = (refl, refl, same_Some y x h)
+given_unless false false y x h = absurd (none-some x h)
+
+-- ANY TWO EVENTS
 
 -- any two events of these streams fit
 pub record FitTogether (streams : List Stream) : Type 0 where

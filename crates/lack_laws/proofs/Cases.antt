@@ -1,9 +1,8 @@
 -- A worked run: the premises of the law, computed. Nothing cites this file; it shows that the
 -- definitions say what is meant.
-use Rattle.std.specs.Prelude.{◌≡◌, ℕ, ◌&&◌, ◌||◌, Bool, true, false, not, List, [], ◌∷◌, ◌++◌, Option, Some, None}
+use Rattle.std.specs.Prelude.{[], ◌≡◌, ℕ, ◌&&◌, ◌||◌, Bool, true, false, not, List, ◌∷◌, ◌++◌, Option, Some, None}
 use Rattle.std.specs.Prelude.{is_some}
-use Rattle.std.proofs.Common.{refl, sym, ◌∙◌, ap, arith, sum_by}
-use Rattle.std.specs.List.{count_by}
+use Rattle.std.proofs.Common.{inl, refl, sym, ◌∙◌, ap, arith}
 use Rattle.std.proofs.lemmas.Bool.{and_parts, false≢true}
 use Rattle.std.proofs.lemmas.List.Elements.{All-from_recursion}
 use Rattle.st_core.specs.declared.types.Pid.{Pid}
@@ -12,27 +11,20 @@ use Rattle.st_core.specs.declared.types.Act.{Act}
 use Rattle.st_core.specs.declared.types.Act.TheVariants as act
 use Rattle.st_core.specs.declared.types.Component.TheVariants as component
 use Rattle.st_core.specs.declared.types.Want.TheVariants as want
-use Rattle.st_core.specs.Pid.{pid_on}
 use Rattle.st_core.specs.State.{Process, State, process, zero_state}
 use Rattle.st_core.specs.Step.{Outcome, actor}
 use Rattle.st_core.specs.Run.{Shows, Stream, pids_of, run, stream}
 use Rattle.st_core.specs.Laws.{moves_token, NoReset, ReportsEverything}
-use Rattle.st_pair.specs.declared.answer.PairFault.{PairFault}
-use Rattle.st_pair.specs.Pairing.{refusal}
 use Rattle.st_order.specs.declared.item.Item.{Item}
 use Rattle.st_order.specs.declared.item.Item.TheVariants as item
 use Rattle.st_order.specs.Order.{order}
 use Rattle.st_plan.specs.Moves.{Move, clock, last, moves}
 use Rattle.st_plan.specs.Plain.{IsPlain, out_of_turn, event_count}
 use Rattle.st_plan.specs.Reasons.{too_wide, uncaused}
-use Rattle.st_plan.specs.Marks.{all_streams, Marked, Whole}
-use Rattle.lack_laws.specs.Completion.{completion}
-use Rattle.lack_laws.specs.Needs.{is_late, is_need, is_rootless}
-use Rattle.lack_laws.specs.Reasons.{Late, StandsAgainst, TooHigh, Unfounded, Unsent}
+use Rattle.st_plan.specs.Marks.{Marked}
+use Rattle.lack_laws.specs.OpenReasons.{Late, StandsAgainstOpen, TooHigh, Unfounded}
 use Rattle.lack_laws.specs.Renumbering.{count_of_rank, counts_of, renumbered_streams, with_counts}
-use Rattle.lack_laws.specs.Supply.{excess, is_free}
 use Rattle.lack_laws.specs.Wholes.{wholes_of}
-use Rattle.lack_laws.proofs.ReasonsOfCompletions.{shown_nothing}
 use Rattle.st_plan.proofs.ForCallers.{full_plain}
 use Rattle.st_plan.proofs.Samples.{along}
 use Rattle.st_core.proofs.Samples.{a, b, sent, got, printed, of}
@@ -255,197 +247,33 @@ crossing_wholes : wholes_of 9 crossing crossing_acts crossing_outcomes
 unfolding marked
 crossing_wholes = refl
 
--- A need of 3 that nobody is free to feed, since the one process stamped a 3 of its own.
-abbrev alone : List Event
-alone = printed 1 0 3 a 1 ∷ printed 1 0 5 a 2 ∷ printed 1 3 6 a 3 ∷ []
+-- REASONS
 
-abbrev alone_streams : List Stream
-alone_streams = of a alone ∷ []
-
-one_needs : (sum_by (excess alone_streams 3) (pids_of alone_streams) ≡ 1)
-    × (count_by (is_free alone_streams 3) (pids_of alone_streams) ≡ 0)
-one_needs = (refl, refl)
-
-alone_never : (top : ℕ) (acts : List Act) → NoReset acts → ¬ Shows top alone_streams acts
-alone_never top acts none shows =
-    let few = (shown_nothing top alone_streams acts shows none (tt, tt)).2 3 in
-    absurd (omega (arith, few, one_needs.0, one_needs.1))
-
--- With a second process there is one that is free to send it.
-abbrev two_streams : List Stream
-two_streams = of a alone ∷ of b [] ∷ []
-
-one_feeds : (sum_by (excess two_streams 3) (pids_of two_streams) ≡ 1)
-    × (count_by (is_free two_streams 3) (pids_of two_streams) ≡ 1)
-one_feeds = (refl, refl)
-
--- Or one that told of a send of it, which no reported receive takes.
-abbrev own_streams : List Stream
-own_streams =
-    of a alone
-    ∷ of b (sent 1 0 3 b a 7 ∷ [])
-    ∷ []
-
-own_feeds : (sum_by (excess own_streams 3) (pids_of own_streams) ≡ 0)
-    × (count_by (is_free own_streams 3) (pids_of own_streams) ≡ 0)
-own_feeds = (refl, refl)
-
--- After a receive no prev is 0.
-rootless : is_rootless (got 1 0 1 b a 4 ∷ []) (printed 1 0 2 a 5) ≡ true
-rootless = refl
-
--- COMPLETIONS
-
-abbrev told_event : Event → Marked
-told_event e = record { event = e; told = true }
-
-abbrev added : Event → Marked
-added e = record { event = e; told = false }
-
-abbrev whole : Pid → List Marked → Whole
-whole p ms = record { pid = p; marked = ms }
-
--- The reported send that nobody received serves the need of 3: its receive is put right before the
--- need.
-own_completed : completion own_streams
-    ≡ whole a (
-    told_event (printed 1 0 3 a 1)
-    ∷ told_event (printed 1 0 5 a 2)
-    ∷ added (got 1 0 3 b a 7)
-    ∷ told_event (printed 1 3 6 a 3)
-    ∷ []
-    )
-    ∷ whole b (told_event (sent 1 0 3 b a 7) ∷ [])
-    ∷ []
-own_completed = refl
-
--- Nobody told of one: the free process sends it, with the need's label.
-two_completed : completion two_streams
-    ≡ whole a (
-    told_event (printed 1 0 3 a 1)
-    ∷ told_event (printed 1 0 5 a 2)
-    ∷ added (got 1 0 3 b a 0)
-    ∷ told_event (printed 1 3 6 a 3)
-    ∷ []
-    )
-    ∷ whole b (added (sent 1 0 3 b a 0) ∷ [])
-    ∷ []
-two_completed = refl
-
--- A free process on another node serves as well.
-abbrev far : Pid
-far = pid_on 1 30
-
-abbrev far_streams : List Stream
-far_streams = of a alone ∷ of far [] ∷ []
-
-far_completed : completion far_streams
-    ≡ whole a (
-    told_event (printed 1 0 3 a 1)
-    ∷ told_event (printed 1 0 5 a 2)
-    ∷ added (got 1 0 3 far a 0)
-    ∷ told_event (printed 1 3 6 a 3)
-    ∷ []
-    )
-    ∷ whole far (added (sent 1 0 3 far a 0) ∷ [])
-    ∷ []
-far_completed = refl
-
--- Two needs of 3 and one free process: too few.
-abbrev twice : List Stream
-twice =
-    of a (
-    alone ++ (printed 1 4 7 a 4 ∷ printed 1 3 8 a 5 ∷ []))
-    ∷ of b []
-    ∷ []
-
-twice_needs : (sum_by (excess twice 3) (pids_of twice) ≡ 2)
-    × (count_by (is_free twice 3) (pids_of twice) ≡ 1)
-twice_needs = (refl, refl)
-
-twice_unsent : StandsAgainst 9 twice (Unsent 3)
-twice_unsent few = absurd (omega (arith, few, twice_needs.0, twice_needs.1))
-
--- A need of 0, after a receive; and a stamp below a count that was received.
+-- A stamp with prev 0 behind a receive, one below a count that was received, and a count above TOP.
 abbrev after_receive : Event → List Stream
 after_receive e =
     of a (got 1 0 3 b a 4 ∷ e ∷ [])
     ∷ of b (sent 1 0 3 b a 4 ∷ [])
     ∷ []
 
-unfounded : StandsAgainst 9 (after_receive (printed 1 0 5 a 5)) (Unfounded a 1)
-unfounded = record { event = printed 1 0 5 a 5; at = refl; holds = refl }
+unfounded : StandsAgainstOpen 9 (after_receive (printed 1 0 5 a 5)) (Unfounded a 1)
+unfounded = inl (record {
+  event = printed 1 0 5 a 5;
+  at = refl;
+  stamps = refl;
+  is_zero = refl;
+  index = 0;
+  received = got 1 0 3 b a 4;
+  received_at = refl;
+  receives = refl;
+  behind = omega arith;
+})
 
-late : StandsAgainst 9 (after_receive (printed 1 0 2 a 5)) (Late a 1)
+late : StandsAgainstOpen 9 (after_receive (printed 1 0 2 a 5)) (Late a 1)
 late = record { event = printed 1 0 2 a 5; at = refl; holds = refl }
 
-too_high : StandsAgainst 2 (after_receive (printed 1 3 5 a 5)) (TooHigh a 0)
+too_high : StandsAgainstOpen 2 (after_receive (printed 1 3 5 a 5)) (TooHigh a 0)
 too_high = record { event = got 1 0 3 b a 4; at = refl; holds = refl }
-
--- The print of b begins a trace at clock 2. A send of 3 before it would lift the clock above 2, so
--- it is the send that begins the trace.
-abbrev begun : List Stream
-begun =
-    of a alone
-    ∷ of b (printed 1 2 5 b 4 ∷ [])
-    ∷ []
-
-begun_completed : completion begun
-    ≡ whole a (
-    told_event (printed 1 0 3 a 1)
-    ∷ told_event (printed 1 0 5 a 2)
-    ∷ added (got 1 2 3 b a 0)
-    ∷ told_event (printed 1 3 6 a 3)
-    ∷ []
-    )
-    ∷ whole b (added (sent 1 2 3 b a 0) ∷ told_event (printed 1 2 5 b 4) ∷ [])
-    ∷ []
-begun_completed = refl
-
--- A process alone may have sent to itself, before it stamped a higher count.
-abbrev to_itself : List Stream
-to_itself = of a (printed 1 0 3 a 1 ∷ printed 1 2 5 a 2 ∷ []) ∷ []
-
-itself_completed : completion to_itself
-    ≡ whole a (
-    added (sent 1 0 2 a a 0)
-    ∷ told_event (printed 1 0 3 a 1)
-    ∷ added (got 1 0 2 a a 0)
-    ∷ told_event (printed 1 2 5 a 2)
-    ∷ []
-    )
-    ∷ []
-itself_completed = refl
-
--- Computed of each of these: pairing accepts all events, and none of them is late or a need.
-abbrev is_clean : List Event → List Event → Bool
-is_clean before [] = true
-is_clean before (e ∷ es) = not (is_late before e || is_need before e)
-    && is_clean (before ++ e ∷ []) es
-
-abbrev are_clean : List Stream → Bool
-are_clean [] = true
-are_clean (x ∷ streams) = is_clean [] x.events && are_clean streams
-
-abbrev accepts : Option PairFault → Bool
-accepts None = true
-accepts (Some fault) = false
-
-abbrev is_needless : List Stream → Bool
-is_needless streams = accepts (refusal streams) && are_clean streams
-
-needless : (is_needless (all_streams (completion own_streams)) ≡ true)
-    × (is_needless (all_streams (completion two_streams)) ≡ true)
-    × (is_needless (all_streams (completion far_streams)) ≡ true)
-    × (is_needless (all_streams (completion begun)) ≡ true)
-    × (is_needless (all_streams (completion to_itself)) ≡ true)
-needless = (refl, refl, refl, refl, refl)
-
--- Before, each has a need.
-needy : (is_needless own_streams ≡ false) × (is_needless two_streams ≡ false)
-    × (is_needless far_streams ≡ false) × (is_needless begun ≡ false)
-    × (is_needless to_itself ≡ false)
-needy = (refl, refl, refl, refl, refl)
 
 -- RENUMBERING
 

@@ -1,15 +1,15 @@
 -- A map that keeps the order of counts: each test of one count against another comes out as before,
 -- the greatest of mapped events is the mapped greatest, and so it is of what events leave. So each
 -- event is late, or a need, exactly as it was.
-use Rattle.std.proofs.Common.{◌≡◌, ℕ, ◌≤◌, ◌==◌, ◌&&◌, max, nat_lt, true, false, not}
-use Rattle.std.proofs.Common.{List, [], ◌∷◌, map, refl, sym, ◌∙◌, ap, arith}
+use Rattle.std.proofs.Common.{[], ◌≡◌, ℕ, ◌≤◌, ◌==◌, ◌&&◌, max, nat_lt, true, false, not}
+use Rattle.std.proofs.Common.{List, ◌∷◌, map, refl, sym, ◌∙◌, ap, arith}
 use Rattle.std.proofs.lemmas.Bool.{eq-eqb, eqb-true, ltb-true, ltb-false, le-ltb}
 use Rattle.std.proofs.lemmas.Bool.Decides.{nat_tests}
 use Rattle.st_core.specs.declared.types.Event.{Event}
 use Rattle.st_core.specs.declared.types.Kind.TheVariants as kind
 use Rattle.st_core.specs.Laws.{greatest_count, prev_after}
 use Rattle.st_pair.specs.Places.{is_stamp}
-use Rattle.lack_laws.specs.Needs.{is_late, is_need, is_rootless}
+use Rattle.lack_laws.specs.Needs.{is_late, is_need}
 use Rattle.lack_laws.specs.Renumbering.{event_with, KeepsOrder}
 
 module _ (f : ℕ → ℕ) (keeps : KeepsOrder f) where
@@ -105,12 +105,3 @@ module _ (f : ℕ → ℕ) (keeps : KeepsOrder f) where
       (eq_same prev (prev_after es))
       ∙ ap (λ b. is_stamp e && (not (prev == prev_after es) && b))
       (lt_same prev (greatest_count es))
-
-  zero_same : (n : ℕ) → (f n == 0) ≡ (n == 0)
-  zero_same n = ap (λ z. f n == z) (sym keeps.from_zero) ∙ eq_same n 0
-
-  pub rootless_same : (es : List Event) (e : Event)
-      → is_rootless (map (event_with f) es) (event_with f e) ≡ is_rootless es e
-  rootless_same es e =
-      ap (λ b. b && f e.serial.prev == 0) (need_same es e)
-      ∙ ap (λ b. is_need es e && b) (zero_same e.serial.prev)

@@ -1,6 +1,6 @@
 -- An untold event can be put into streams where it fits: any two events of the longer streams fit
 -- together, since each of them stood there before or is the new one.
-use Rattle.std.proofs.Common.{◌≡◌, ℕ, zero, suc, ◌+◌, ◌<◌, ◌≤◌, ◌⊎◌, Bool, true, false, cond, List, [], ◌∷◌, ◌++◌, map}
+use Rattle.std.proofs.Common.{[], ◌≡◌, ℕ, zero, suc, ◌+◌, ◌<◌, ◌≤◌, ◌⊎◌, Bool, true, false, cond, List, ◌∷◌, ◌++◌, map}
 use Rattle.std.proofs.Common.{take, drop, length, Some, None, is_some, inl, inr, slice_get, refl, sym, ◌∙◌, ap, subst}
 use Rattle.std.proofs.Common.{arith}
 use Rattle.std.proofs.lemmas.Bool.{false≢true}
@@ -24,11 +24,6 @@ more p i r streams = map (λ x. record {
   pid = x.pid;
   events = cond (pid_eq x.pid p) (take i x.events ++ r ∷ drop i x.events) x.events;
 }) streams
-
-pub take_drop : (i : ℕ) (es : List Event) → take i es ++ drop i es ≡ es
-take_drop zero es = refl
-take_drop (suc i) [] = refl
-take_drop (suc i) (e ∷ es) = ap (λ xs. e ∷ xs) (take_drop i es)
 
 pub with_pids : (p : Pid) (i : ℕ) (r : Event) (streams : List Stream)
     → pids_of (more p i r streams) ≡ pids_of streams
@@ -202,6 +197,63 @@ module _ (p : Pid) (i : ℕ) (r : Event) (streams : List Stream) where
       ∙ ap (λ b. cond b (take i es ++ r ∷ drop i es) es) (pid_eq-refl p))
       ∙ put_there es i r within
 
+module _ (p : Pid) (i : ℕ) (r : Event) (streams : List Stream)
+    (within : i ≤ length (events_of streams p)) where
+  -- what holds of any two events of a process in turn, if it holds of the new one and each old one
+  pub in_turn_with : (R : Event → Event → Type 0)
+      → ((q : Pid) (j k : ℕ) (d e : Event) → j < k → event_at streams q j ≡ Some d
+      → event_at streams q k ≡ Some e → R d e)
+      → ((j : ℕ) (d : Event) → j < i → event_at streams p j ≡ Some d → R d r)
+      → ((j : ℕ) (d : Event) → i ≤ j → event_at streams p j ≡ Some d → R r d)
+      → (q : Pid) (j k : ℕ) (d e : Event) → j < k → event_at (more p i r streams) q j ≡ Some d
+      → event_at (more p i r streams) q k ≡ Some e → R d e
+  in_turn_with R old before after q j k d e less at_d at_e =
+      elim (is_placed p i r streams within q j d at_d) [
+        | inl new_d ↦ elim (is_placed p i r streams within q k e at_e) [
+          | inl new_e ↦ let one = new_d.1.0 in let two = new_e.1.0 in absurd (omega arith)
+          | inr old_e ↦
+              let here = new_d.1.0 in
+              let behind = moved_after (pid_eq q p) i old_e.index k
+              (ap (λ x. pid_eq x p) new_d.0 ∙ pid_eq-refl p) old_e.moved (omega arith) in
+              subst (λ x. R x e) new_d.1.1 (after old_e.index e behind
+              (ap (λ x. event_at streams x old_e.index) (sym new_d.0) ∙ old_e.at))
+        ]
+        | inr old_d ↦ elim (is_placed p i r streams within q k e at_e) [
+          | inl new_e ↦
+              let here = new_e.1.0 in
+              let ahead = moved_before (pid_eq q p) i old_d.index j
+              (ap (λ x. pid_eq x p) new_e.0 ∙ pid_eq-refl p) old_d.moved (omega arith) in
+              subst (λ x. R d x) new_e.1.1 (before old_d.index d ahead
+              (ap (λ x. event_at streams x old_d.index) (sym new_e.0) ∙ old_d.at))
+          | inr old_e ↦ old q old_d.index old_e.index d e
+              (moved_order (pid_eq q p) i old_d.index old_e.index j k old_d.moved old_e.moved less)
+              old_d.at old_e.at
+        ]
+      ]
+
+  -- and the same of any two events
+  pub any_two_with : (R : Event → Event → Type 0)
+      → ((q x : Pid) (j k : ℕ) (d e : Event) → event_at streams q j ≡ Some d
+      → event_at streams x k ≡ Some e → R d e)
+      → ((q : Pid) (j : ℕ) (d : Event) → event_at streams q j ≡ Some d → R d r × R r d) → R r r
+      → (q x : Pid) (j k : ℕ) (d e : Event) → event_at (more p i r streams) q j ≡ Some d
+      → event_at (more p i r streams) x k ≡ Some e → R d e
+  any_two_with R old new itself q x j k d e at_d at_e =
+      elim (is_placed p i r streams within q j d at_d) [
+        | inl new_d ↦ elim (is_placed p i r streams within x k e at_e) [
+          | inl new_e ↦ subst (λ y. R y e) new_d.1.1 (subst (λ y. R r y) new_e.1.1 itself)
+          | inr old_e ↦ subst (λ y. R y e) new_d.1.1 (new x old_e.index e old_e.at).1
+        ]
+        | inr old_d ↦ elim (is_placed p i r streams within x k e at_e) [
+          | inl new_e ↦ subst (λ y. R d y) new_e.1.1 (new q old_d.index d old_d.at).0
+          | inr old_e ↦ old q x old_d.index old_e.index d e old_d.at old_e.at
+        ]
+      ]
+
+-- of two stamps the later one is greater
+abbrev Grows : Event → Event → Type 0
+Grows d e = is_stamp d ≡ true → is_stamp e ≡ true → d.serial.this < e.serial.this
+
 -- an event that fits before event i of p: its serial rises; a stamp is above the stamps before it
 -- and below those after it, and a receive of its message agrees with it; a receive is the first of
 -- its message, and agrees with its sender's stamp
@@ -229,43 +281,6 @@ module _ (p : Pid) (i : ℕ) (r : Event) (streams : List Stream)
   abbrev is : (q : Pid) (k : ℕ) (e : Event) → event_at (more p i r streams) q k ≡ Some e
       → ((q ≡ p) × IsNew i r k e) ⊎ IsOld (events_of streams q) (pid_eq q p) i k e
   is = is_placed p i r streams within
-
-  at_p : (q : Pid) (k : ℕ) (e : Event) → q ≡ p → event_at streams q k ≡ Some e
-      → event_at streams p k ≡ Some e
-  at_p q k e who at = ap (λ x. event_at streams x k) (sym who) ∙ at
-
-  -- of two stamps the later one is greater
-  grows_with : (q : Pid) (j k : ℕ) (d e : Event) → j < k
-      → event_at (more p i r streams) q j ≡ Some d
-      → event_at (more p i r streams) q k ≡ Some e → is_stamp d ≡ true → is_stamp e ≡ true
-      → d.serial.this < e.serial.this
-  grows_with q j k d e less at_d at_e stamps_d stamps_e = elim (is q j d at_d) [
-    | inl new_d ↦ elim (is q k e at_e) [
-      | inl new_e ↦ let one = new_d.1.0 in let two = new_e.1.0 in absurd (omega arith)
-      | inr old_e ↦
-          let here = new_d.1.0 in
-          let after = moved_after (pid_eq q p) i old_e.index k
-          (ap (λ x. pid_eq x p) new_d.0 ∙ pid_eq-refl p)
-          old_e.moved (omega arith) in
-          subst (λ (x : Event). x.serial.this < e.serial.this) new_d.1.1
-          (fits.below (ap is_stamp new_d.1.1 ∙ stamps_d) old_e.index e after
-          (at_p q old_e.index e new_d.0 old_e.at) stamps_e)
-    ]
-    | inr old_d ↦ elim (is q k e at_e) [
-      | inl new_e ↦
-          let here = new_e.1.0 in
-          let before = moved_before (pid_eq q p) i old_d.index j
-          (ap (λ x. pid_eq x p) new_e.0 ∙ pid_eq-refl p)
-          old_d.moved (omega arith) in
-          subst (λ (x : Event). d.serial.this < x.serial.this) new_e.1.1
-          (fits.above (ap is_stamp new_e.1.1 ∙ stamps_e) old_d.index d before
-          (at_p q old_d.index d new_e.0 old_d.at) stamps_d)
-      | inr old_e ↦ fit.grows q old_d.index old_e.index d e
-          (moved_order (pid_eq q p) i old_d.index old_e.index j k old_d.moved old_e.moved less)
-          old_d.at old_e.at
-          stamps_d stamps_e
-    ]
-  ]
 
   -- one receive of each message
   once_with : (q x : Pid) (j k : ℕ) (d e : Event) → event_at (more p i r streams) q j ≡ Some d
@@ -328,7 +343,11 @@ module _ (p : Pid) (i : ℕ) (r : Event) (streams : List Stream)
       | inl new ↦ subst (λ (x : Event). x.serial.prev < x.serial.this) new.1.1 fits.rises
       | inr old ↦ fit.rises q old.index e old.at
     ];
-    grows = grows_with;
+    grows = λ q j k d e less at_d at_e. in_turn_with p i r streams within Grows
+        (λ q j k d e less at_d at_e. fit.grows q j k d e less at_d at_e)
+        (λ j d less at stamps_d stamps. fits.above stamps j d less at stamps_d)
+        (λ j d less at stamps stamps_d. fits.below stamps j d less at stamps_d)
+        q j k d e less at_d at_e;
     once = once_with;
     agree = agree_with;
   }

@@ -1,6 +1,6 @@
 -- Streams with one more event are streams still, if it is one that its process may report among all
 -- of them.
-use Rattle.std.proofs.Common.{◌≡◌, ℕ, zero, suc, true, false, cond, List, [], ◌∷◌, ◌++◌, take, drop, Some, slice_get}
+use Rattle.std.proofs.Common.{[], ◌≡◌, ℕ, zero, suc, true, false, cond, List, ◌∷◌, ◌++◌, take, drop, Some, slice_get}
 use Rattle.std.proofs.Common.{refl, sym, ◌∙◌, ap, subst}
 use Rattle.std.specs.List.{AllByRecursion}
 use Rattle.st_core.specs.declared.types.Pid.{Pid}
@@ -13,7 +13,7 @@ use Rattle.st_core.proofs.ForCallers.{pid_same, are_own, AreReports, names_among
 use Rattle.st_pair.specs.Places.{event_at}
 use Rattle.st_order.proofs.ForCallers.{all_found, AreFound}
 use Rattle.lack_laws.proofs.InsertedEvents.{more, with_pids}
-use Rattle.lack_laws.proofs.Suppliers.{own_at}
+use Rattle.lack_laws.proofs.OwnEvents.{own_at}
 use Rattle.st_plan.proofs.ForCallers.{named}
 
 pub all_from : {X : Type 0} (P : X → Type 0) (xs : List X)

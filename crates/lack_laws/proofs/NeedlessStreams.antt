@@ -1,7 +1,7 @@
 -- Streams without a need are settled: if each stamp is above the events of its process before it,
 -- the order keeps these in turn, so that the counts at each move are those of the events before it.
-use Rattle.std.proofs.Common.{◌≡◌, ◌↔◌, ℕ, ◌<◌, ◌⊎◌, ◌==◌, inl, inr, ◌&&◌, nat_lt, Bool, true, false, not, List}
-use Rattle.std.proofs.Common.{[], ◌∷◌, ◌++◌, take, map, reverse, refl, sym, ◌∙◌, ap, subst, arith}
+use Rattle.std.proofs.Common.{[], ◌≡◌, ◌↔◌, ℕ, ◌<◌, ◌⊎◌, ◌==◌, inl, inr, ◌&&◌, nat_lt, Bool, true, false, not, List}
+use Rattle.std.proofs.Common.{◌∷◌, ◌++◌, take, map, reverse, refl, sym, ◌∙◌, ap, subst, arith}
 use Rattle.std.proofs.lemmas.Bool.{eq-eqb, false≢true, ltb-true}
 use Rattle.std.proofs.lemmas.Bool.Decides.{nat_tests}
 use Rattle.st_core.specs.declared.types.Pid.{Pid}
@@ -32,7 +32,7 @@ above_if true true is h = refl
 above_if true false is h = absurd (false≢true (sym h))
 above_if false less is h = absurd (false≢true is)
 
-leads : (streams : List Stream) → HoldsOfNone is_late streams → (p : Pid) → StampsLead streams p
+pub leads : (streams : List Stream) → HoldsOfNone is_late streams → (p : Pid) → StampsLead streams p
 leads streams timely p j i d e less at_d at_e stamp =
     let before = take i (events_of streams p) in
     let above = ltb-true (greatest_count before) e.serial.this
@@ -104,7 +104,7 @@ needless_shown top streams done = settled_shown top streams (record {
 
 -- FULL STREAMS HAVE NONE
 
-on_time : (stamp : Bool) (low this : ℕ) → (stamp ≡ true → low < this)
+pub on_time : (stamp : Bool) (low this : ℕ) → (stamp ≡ true → low < this)
     → (stamp && not (nat_lt low this)) ≡ false
 on_time true low this above = let less = above refl in grind (arith, nat_tests)
 on_time false low this above = refl
@@ -148,7 +148,7 @@ exactly_needless top streams rising = (
 
 -- STREAMS THAT ARE THEIR OWN COMPLETION
 
-abbrev marks_all : Stream → Whole
+abbrev pub marks_all : Stream → Whole
 marks_all x = record { pid = x.pid; marked = map (λ e. record { event = e; told = true }) x.events }
 
 all_told : (es : List Event) → told_events (map (λ e. let m : Marked =

@@ -1,48 +1,43 @@
--- The reasons decide: if one holds it is final, with any processes that report nothing; and if none
--- holds, enough such processes send what is needed.
-use Rattle.std.proofs.Common.{◌≡◌, ◌↔◌, ℕ, List, Some, None, refl, sym, ◌∙◌, arith}
+-- The reasons decide: if one holds it is final, with any processes that report nothing, since it
+-- would hold of the streams of a run; and if none holds, enough such processes send what is needed.
+use Rattle.std.proofs.Common.{◌≡◌, ◌↔◌, ℕ, List, Some, None, refl, sym, ◌∙◌, subst, arith}
 use Rattle.std.proofs.lemmas.Bool.{false≢true, ltb-true}
 use Rattle.std.proofs.lemmas.Option.{none-some}
 use Rattle.st_core.specs.declared.types.Pid.{Pid}
 use Rattle.st_core.specs.Run.{Stream, Shows}
-use Rattle.st_core.specs.Streams.{total_of, IsStreams}
+use Rattle.st_core.specs.Streams.{IsStreams}
 use Rattle.st_pair.specs.Pairing.{refusal}
 use Rattle.st_pair.proofs.ForCallers.{refused_never_shown}
-use Rattle.st_plan.specs.Marks.{all_streams}
 use Rattle.lack_laws.specs.Completed.{IsShownInOneTrace}
-use Rattle.lack_laws.specs.Placed.{earliest_wholes}
-use Rattle.lack_laws.proofs.Decision.{no_reason}
-use Rattle.lack_laws.proofs.Zeros.{zeros_final}
 use Rattle.lack_laws.specs.OpenReasons.{HasNoOpenReason, Late, OpenReason, Refused, StandsAgainstOpen}
 use Rattle.lack_laws.specs.OpenReasons.{TooHigh, Unfounded}
 use Rattle.st_core.specs.declared.types.Act.{Act}
 use Rattle.st_core.specs.Laws.{NoReset}
 use Rattle.lack_laws.specs.Silent.{IsShownWithOthers, with_silent}
+use Rattle.st_plan.proofs.ForCallers.{AreWithin}
+use Rattle.lack_laws.specs.Needs.{HoldsOfNone, is_late}
+use Rattle.lack_laws.proofs.Equivalences.{shown_full}
+use Rattle.lack_laws.proofs.FinalZeros.{shown_founded}
+use Rattle.lack_laws.proofs.ToldEvents.{none_late, within_told}
+use Rattle.lack_laws.proofs.OpenCompletions.{none_shown_with}
 use Rattle.lack_laws.proofs.SilentStreams.{silent_sound}
 use Rattle.lack_laws.proofs.SameReasons.{none_as, reason_as, silent_same, tell_back}
-use Rattle.lack_laws.proofs.ChosenWith.{so_many_shown}
-use Rattle.lack_laws.proofs.EarliestWholes.{asked_low, places}
-use Rattle.lack_laws.proofs.Unfounded.{behind_of}
 
 -- streams that acts without a reset show have none of the reasons
 pub shown_none : (top : ℕ) (streams : List Stream) → IsStreams streams
     → IsShownInOneTrace top streams
     → HasNoOpenReason top streams
 shown_none top streams sound shown =
-    let none = no_reason top streams sound.draft.rising shown in
-    let accepted = elim (refusal streams) as (λ o. refusal streams ≡ o → o ≡ None) [
-      | None ↦ λ _. refl
-      | Some f ↦ λ is. absurd (refused_never_shown streams f is top shown.acts shown.one_trace
-          shown.shows)
-    ] refl in
+    let full = shown_full top streams sound.draft.rising shown in
     record {
-      accepted = accepted;
-      timely = none.timely;
-      founded = λ p i against.
-          let b = behind_of streams sound accepted p i against in
-          zeros_final top streams sound.draft.rising b.pid b.behind shown.acts shown.one_trace
-          shown.shows;
-      within = none.within;
+      accepted = elim (refusal streams) as (λ o. refusal streams ≡ o → o ≡ None) [
+        | None ↦ λ _. refl
+        | Some f ↦ λ is. absurd (refused_never_shown streams f is top shown.acts shown.one_trace
+            shown.shows)
+      ] refl;
+      timely = subst (HoldsOfNone is_late) full.told (none_late top full.wholes full.is);
+      founded = shown_founded top streams sound.draft.rising shown;
+      within = subst (AreWithin top) full.told (within_told top full.wholes full.is);
     }
 
 pub same_none : (top : ℕ) (streams : List Stream) (others : List Pid) → IsStreams streams
@@ -69,17 +64,6 @@ pub shown_with_none : (top : ℕ) (streams : List Stream) → IsStreams streams 
 shown_with_none top streams sound others shown =
     (same_none top streams others sound).0
     (shown_none top (with_silent streams others) (silent_sound streams sound others) shown)
-
--- if none holds, as many processes as there are events are enough
-pub none_shown_with : (top : ℕ) (streams : List Stream) → IsStreams streams
-    → HasNoOpenReason top streams
-    → IsShownWithOthers top streams
-none_shown_with top streams sound none =
-    let wholes = earliest_wholes streams in
-    let shown = so_many_shown top streams sound (places top streams sound none)
-    (total_of (all_streams wholes))
-    (λ v. let low = asked_low top streams sound none v in omega arith) in
-    record { others = shown.others; shown = shown.shown }
 
 pub open_decides : (top : ℕ) (streams : List Stream) → IsStreams streams
     → IsShownWithOthers top streams ↔ HasNoOpenReason top streams

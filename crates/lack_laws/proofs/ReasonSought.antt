@@ -1,8 +1,8 @@
 -- If no reason is found among the events, none holds, so acts show the streams with enough
 -- processes that report nothing: the events are finitely many, and each reason is a test of one of
 -- them.
-use Rattle.std.proofs.Common.{◌≡◌, ◌⊎◌, inl, inr, ℕ, zero, suc, ◌<◌, ◌==◌, ◌&&◌, ◌||◌, nat_lt, Bool, true, false, List}
-use Rattle.std.proofs.Common.{[], ◌∷◌, Some, None, slice_get, take, refl, sym, ◌∙◌, ap, arith}
+use Rattle.std.proofs.Common.{[], ◌≡◌, ◌⊎◌, inl, inr, ℕ, zero, suc, ◌==◌, ◌&&◌, ◌||◌, nat_lt, Bool, true, false, List}
+use Rattle.std.proofs.Common.{◌∷◌, Some, None, slice_get, take, refl, sym, ◌∙◌, ap}
 use Rattle.std.proofs.lemmas.Bool.{and_from, and_parts, eq-eqb, eqb-true, false≢true, lt-ltb, ltb-true}
 use Rattle.std.proofs.lemmas.Option.{none-some, same_Some}
 use Rattle.st_core.specs.declared.types.Pid.{Pid}
@@ -20,7 +20,8 @@ use Rattle.lack_laws.proofs.ReasonSearch.{IsSomewhere, seek_all, within_if}
 use Rattle.lack_laws.specs.OpenReasons.{HasOpenReason, IsBehindReceive, IsBehindStamp, Late, Refused}
 use Rattle.lack_laws.specs.OpenReasons.{TooHigh, Unfounded}
 use Rattle.lack_laws.specs.Silent.{IsShownWithOthers}
-use Rattle.lack_laws.proofs.OpenReasons.{none_shown_with}
+use Rattle.lack_laws.proofs.FinalZeros.{at_taken, taken_at}
+use Rattle.lack_laws.proofs.OpenCompletions.{none_shown_with}
 
 -- f tells of a stamp of e's process with a lower count and another prev than 0
 abbrev is_before : Event → List Event → Event → Bool
@@ -74,20 +75,6 @@ some_received (d ∷ es) =
         | inr none ↦ inr (stamp_more d es stamps none)
       ]
     ] refl
-
-taken_at : (es : List Event) (i j : ℕ) (e : Event) → slice_get (take i es) j ≡ Some e
-    → (slice_get es j ≡ Some e) × (j < i)
-taken_at es zero j e at = absurd (none-some e at)
-taken_at [] (suc i) j e at = absurd (none-some e at)
-taken_at (d ∷ es) (suc i) zero e at = (at, omega arith)
-taken_at (d ∷ es) (suc i) (suc j) e at = let rest = taken_at es i j e at in (rest.0, omega arith)
-
-at_taken : (es : List Event) (i j : ℕ) (e : Event) → slice_get es j ≡ Some e → j < i
-    → slice_get (take i es) j ≡ Some e
-at_taken es zero j e at less = absurd (omega arith)
-at_taken [] (suc i) j e at less = at
-at_taken (d ∷ es) (suc i) zero e at less = at
-at_taken (d ∷ es) (suc i) (suc j) e at less = at_taken es i j e at (omega arith)
 
 module _ (streams : List Stream) where
   -- STAMPS BEHIND A RECEIVE

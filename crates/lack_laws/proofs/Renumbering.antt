@@ -15,11 +15,10 @@ use Rattle.st_order.specs.Items.{is_hidden}
 use Rattle.st_plan.specs.Marks.{all_streams}
 use Rattle.lack_laws.specs.Completed.{IsCompleted, IsShownInOneTrace}
 use Rattle.lack_laws.specs.Local.{IsNeedless}
-use Rattle.lack_laws.specs.Needs.{HoldsOfNone, is_late, is_need, is_rootless}
-use Rattle.lack_laws.specs.Reasons.{HoldsAt}
+use Rattle.lack_laws.specs.Needs.{HoldsOfNone, is_late, is_need}
 use Rattle.lack_laws.specs.Renumbering.{event_with, KeepsOrder, with_counts}
 use Rattle.lack_laws.proofs.NeedlessStreams.{exactly_needless, needless_shown}
-use Rattle.lack_laws.proofs.CountMaps.{late_same, le_back, le_kept, need_same, rootless_same}
+use Rattle.lack_laws.proofs.CountMaps.{late_same, le_back, le_kept, need_same}
 use Rattle.lack_laws.proofs.ReplacedCounts.{event_at_with, events_with}
 use Rattle.lack_laws.proofs.SameNames.{all_wholes, streams_with, told_wholes, wholes_with}
 use Rattle.lack_laws.proofs.SamePairing.{hidden_same, refusal_same}
@@ -68,51 +67,6 @@ module _ (f : ℕ → ℕ) (keeps : KeepsOrder f) (streams : List Stream) where
 
     pub none_back : HoldsOfNone test (with_counts f streams) → HoldsOfNone test streams
     none_back none p i e at = sym (at_event p i e) ∙ none p i (event_with f e) (there p i e at)
-
-    holds_there : (p : Pid) (i : ℕ) → HoldsAt test streams p i
-        → HoldsAt test (with_counts f streams) p i
-    holds_there p i is = record {
-      event = event_with f is.event;
-      at = there p i is.event is.at;
-      holds = at_event p i is.event ∙ is.holds;
-    }
-
-    holds_back : (p : Pid) (i : ℕ) → HoldsAt test (with_counts f streams) p i
-        → HoldsAt test streams p i
-    holds_back p i is =
-        let from = replaced p i is.event is.at in
-        record {
-          event = from.event;
-          at = from.at;
-          holds = sym (at_event p i from.event)
-              ∙ ap (test (take i (events_of (with_counts f streams) p))) from.is
-              ∙ is.holds;
-        }
-
-  pub late_as_before : HoldsOfNone is_late (with_counts f streams) ↔ HoldsOfNone is_late streams
-  late_as_before = (none_back is_late (late_same f keeps), none_there is_late (late_same f keeps))
-
-  pub rootless_as_before : HoldsOfNone is_rootless (with_counts f streams) ↔ HoldsOfNone is_rootless
-      streams
-  rootless_as_before = (
-    none_back is_rootless (rootless_same f keeps),
-    none_there is_rootless
-        (rootless_same f keeps),
-  )
-
-  pub late_at_place : (p : Pid) (i : ℕ) → HoldsAt is_late (with_counts f streams) p i
-      ↔ HoldsAt is_late streams p i
-  late_at_place p i = (
-    holds_back is_late (late_same f keeps) p i,
-    holds_there is_late (late_same f keeps) p i,
-  )
-
-  pub rootless_at_place : (p : Pid) (i : ℕ) → HoldsAt is_rootless (with_counts f streams) p i
-      ↔ HoldsAt is_rootless streams p i
-  rootless_at_place p i = (
-    holds_back is_rootless (rootless_same f keeps) p i,
-    holds_there is_rootless (rootless_same f keeps) p i,
-  )
 
   pub needless_there : (top : ℕ) → IsNeedless top streams
       → IsNeedless (f top) (with_counts f streams)

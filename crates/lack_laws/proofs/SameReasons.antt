@@ -1,19 +1,17 @@
 -- Streams with the same events of each process, and more processes without events: whatever is
--- asked of events, of what is received and of what is stamped has the same answer. So pairing, late
--- stamps and supplies are the same.
-use Rattle.std.proofs.Common.{◌≡◌, inl, inr, ℕ, zero, ◌==◌, ◌&&◌, ◌||◌, nat_lt, Bool, true, false, not, cond, List, []}
-use Rattle.std.proofs.Common.{◌∷◌, take, Option, Some, None, is_none, slice_get, option_and_then, refl, sym, ◌∙◌, ap}
-use Rattle.std.specs.Option.{option_map_or}
+-- asked of events, of what is received and of what is stamped has the same answer. So the reasons
+-- are the same.
+use Rattle.std.proofs.Common.{[], ◌≡◌, inl, inr, ℕ, ◌==◌, ◌&&◌, ◌||◌, nat_lt, Bool, true, false, not, cond, List}
+use Rattle.std.proofs.Common.{◌∷◌, take, Option, Some, None, slice_get, option_and_then, refl, sym, ◌∙◌, ap}
 use Rattle.st_core.specs.declared.types.Pid.{Pid}
 use Rattle.st_core.specs.declared.types.Event.{Event}
 use Rattle.st_core.specs.Pid.{pid_eq}
 use Rattle.st_core.specs.Run.{Stream}
 use Rattle.st_core.specs.Streams.{events_of, lists}
-use Rattle.st_core.specs.Event.{to_eq}
 use Rattle.st_pair.specs.declared.answer.PairFault.{PairFault}
 use Rattle.st_pair.specs.declared.answer.PairFault.TheVariants as fault
 use Rattle.st_pair.specs.Places.{event_at, first, first_from, is_stamp}
-use Rattle.st_pair.specs.Pairing.{agrees, first_rule, is_send, mismatch, not_rising, prev_not_before, receive_of}
+use Rattle.st_pair.specs.Pairing.{agrees, first_rule, mismatch, not_rising, prev_not_before, receive_of}
 use Rattle.st_pair.specs.Pairing.{refusal, repeated, stamp_before, stamp_of}
 use Rattle.st_pair.proofs.ForCallers.{got_rule, own_rule}
 use Rattle.st_order.specs.Items.{is_hidden}
@@ -21,7 +19,6 @@ use Rattle.st_pair.specs.declared.answer.Source.{Source}
 use Rattle.st_pair.specs.declared.answer.Source.TheVariants as source
 use Rattle.lack_laws.specs.Needs.{is_late}
 use Rattle.lack_laws.specs.Reasons.{HoldsAt, is_too_high}
-use Rattle.lack_laws.specs.Supply.{is_free, is_own_supply}
 use Rattle.lack_laws.specs.OpenReasons.{HasNoOpenReason, IsUnfounded, Late, OpenReason, Refused}
 use Rattle.lack_laws.specs.OpenReasons.{StandsAgainstOpen, TooHigh, Unfounded}
 use Rattle.lack_laws.specs.Silent.{inserted, with_silent}
@@ -106,15 +103,7 @@ module _ (more streams : List Stream) (same : TellSame more streams) where
       ∙ (λ k. first_rule streams (prev_not_before ∷ (λ p i e. rising_same p i e k)
       ∷ (λ p i e. repeated_same p i e k) ∷ (λ p i e. mismatch_same p i e k) ∷ []))
 
-  -- SUPPLIES
-
-  pub own_as : (v : ℕ) (p q : Pid) → is_own_supply more v p q ≡ is_own_supply streams v p q
-  own_as v p q = λ k. is_none (same.receives q v k)
-      && option_map_or (λ (f : ℕ × Event). is_send f.1 && to_eq f.1.to (Some p))
-      (stamps q v k) false
-
-  pub free_as : (v : ℕ) (q : Pid) → is_free more v q ≡ is_free streams v q
-  free_as v q = λ k. is_none (same.receives q v k) && is_none (stamps q v k)
+  -- HIDDEN SENDS
 
   pub is_hidden_as : (e : Event) → is_hidden more e ≡ is_hidden streams e
   is_hidden_as e = λ k. let from : Source = elim (stamps e.from e.serial.this k) [
@@ -127,10 +116,6 @@ module _ (more streams : List Stream) (same : TellSame more streams) where
   pub there : (p : Pid) (i : ℕ) (e : Event) → event_at streams p i ≡ Some e
       → event_at more p i ≡ Some e
   there p i e at = ap (λ es. slice_get es i) (same.events p) ∙ at
-
-  pub here : (p : Pid) (i : ℕ) (e : Event) → event_at more p i ≡ Some e
-      → event_at streams p i ≡ Some e
-  here p i e at = ap (λ es. slice_get es i) (sym (same.events p)) ∙ at
 
   unfounded_as : (p : Pid) (i : ℕ) → IsUnfounded streams p i → IsUnfounded more p i
   unfounded_as p i (inl z) = inl (record {

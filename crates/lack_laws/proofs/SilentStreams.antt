@@ -1,7 +1,7 @@
 -- A process without events, put in by its pid, leaves the streams of all others as they are, and
 -- streams stay streams.
-use Rattle.std.proofs.Common.{◌≡◌, ℕ, ◌||◌, Bool, true, false, not, cond, List, [], ◌∷◌, Option, Some, None, is_some}
-use Rattle.std.proofs.Common.{length, slice_get, suc, sum_by, refl, sym, ◌∙◌, ap, arith, ◌+◌}
+use Rattle.std.proofs.Common.{[], ◌≡◌, ℕ, ◌||◌, Bool, true, false, not, cond, List, ◌∷◌, Option, Some, None, is_some}
+use Rattle.std.proofs.Common.{length, slice_get, suc, refl, sym, ◌∙◌, ap, subst, arith}
 use Rattle.std.specs.Prelude.{position}
 use Rattle.std.specs.declared.cmp.Ordering.TheVariants.{Less, Equal, Greater}
 use Rattle.std.specs.Ordering.{is_lt, ordering_reverse}
@@ -16,7 +16,7 @@ use Rattle.st_core.specs.Run.{Stream, pids_of}
 use Rattle.st_core.specs.Streams.{AreOwn, events_of, is_among, IsStreams, lists, names_listed}
 use Rattle.st_core.specs.Streams.{stream_of, total_of, unlisted_among}
 use Rattle.st_core.proofs.ForCallers.{position-none, is_lt-true, pid_cmp-Equal, pid_eq-refl}
-use Rattle.st_core.proofs.ForCallers.{pid_same, IsBelow-trans, or_right}
+use Rattle.st_core.proofs.ForCallers.{pid_same, IsBelow-trans, not_below_itself, or_right}
 use Rattle.st_pair.specs.Places.{first, first_from}
 use Rattle.st_pair.proofs.ForCallers.{events_in, pid_total}
 use Rattle.st_order.proofs.ForCallers.{all_found, AreFound}
@@ -39,22 +39,6 @@ first_inserted {X} rule q (x ∷ rest) =
       | false ↦ ap (λ (o : Option X). let all : Option X =
           elim (first_from rule x.pid 0 x.events) [ None ↦ o | Some y ↦ Some y ] in all)
           (first_inserted rule q rest)
-    ]
-
--- sums over the processes
-pub sum_inserted : (f : Pid → ℕ) (q : Pid) (streams : List Stream)
-    → sum_by f (pids_of (inserted q streams)) ≡ f q + sum_by f (pids_of streams)
-sum_inserted f q [] = let one = sum_by-cons f q [] in omega arith
-sum_inserted f q (x ∷ rest) =
-    let old = sum_by-cons f x.pid (pids_of rest) in
-    elim (is_lt (pid_cmp q x.pid)) as (λ b.
-    sum_by f (pids_of (cond b (silent q ∷ x ∷ rest) (x ∷ inserted q rest)))
-    ≡ f q + sum_by f (x.pid ∷ pids_of rest)) [
-      | true ↦ let one = sum_by-cons f q (x.pid ∷ pids_of rest) in omega arith
-      | false ↦
-          let one = sum_by-cons f x.pid (pids_of (inserted q rest)) in
-          let more = sum_inserted f q rest in
-          omega arith
     ]
 
 -- who is listed
@@ -172,7 +156,7 @@ own_inserted q (x ∷ rest) own =
 
 -- NAMES
 
-still_listed : (q : Pid) (streams : List Stream) (p : Pid) → lists streams p ≡ true
+pub still_listed : (q : Pid) (streams : List Stream) (p : Pid) → lists streams p ≡ true
     → lists (inserted q streams) p ≡ true
 still_listed q streams p is =
     lists_inserted q streams p ∙ or_right (pid_eq q p) (lists streams p) is
@@ -292,6 +276,23 @@ module _ (streams : List Stream) (sound : IsStreams streams) where
             ∙ ap (λ b. pid_eq q p || b) before ∙ sym turn
         | false ↦ λ none. lists_inserted q all p ∙ ap (λ b. pid_eq q p || b) before ∙ sym turn
       ] refl
+
+-- PROCESSES BY RISING PID
+
+-- a pid below all of these is none of them
+above_none : (q : Pid) (qs : List Pid) → AllByRecursion (IsBelow q) qs → is_among qs q ≡ false
+above_none q [] below = refl
+above_none q (r ∷ rs) below =
+    elim (pid_eq r q) as (λ b. pid_eq r q ≡ b → (b || is_among rs q) ≡ false) [
+      | true ↦ λ same. absurd (not_below_itself q (subst (IsBelow q) (pid_same r q same) below.0))
+      | false ↦ λ _. above_none q rs below.1
+    ] refl
+
+pub unlisted_with : (streams : List Stream) → IsStreams streams → (q : Pid) (qs : List Pid)
+    → lists streams q ≡ false
+    → AllByRecursion (IsBelow q) qs → lists (with_silent streams qs) q ≡ false
+unlisted_with streams sound q qs none below =
+    silent_lists streams sound qs q ∙ ap (λ b. b || is_among qs q) none ∙ above_none q qs below
 
 -- HOW MANY EVENTS THERE ARE
 

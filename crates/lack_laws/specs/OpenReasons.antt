@@ -1,20 +1,15 @@
 -- What is against streams whatever other processes there are.
-use Rattle.std.specs.Prelude.{◌≡◌, ◌⊎◌, ℕ, ◌<◌, ◌≤◌, ◌||◌, true, false, List, Some, None, sum_by}
-use Rattle.std.specs.List.{count_by}
+use Rattle.std.specs.Prelude.{◌≡◌, ◌⊎◌, ℕ, ◌<◌, ◌≤◌, ◌||◌, true, false, List, Some, None}
 use Rattle.st_core.specs.declared.types.Pid.{Pid}
 use Rattle.st_core.specs.declared.types.Event.{Event}
-use Rattle.st_core.specs.Run.{Stream, pids_of}
+use Rattle.st_core.specs.Run.{Stream}
 use Rattle.st_pair.specs.declared.answer.PairFault.{PairFault}
 use Rattle.st_pair.specs.Pairing.{refusal}
 use Rattle.st_pair.specs.Laws.{IsEarlier}
 use Rattle.st_pair.specs.Places.{event_at, is_stamp}
 use Rattle.st_order.specs.Items.{is_hidden}
-use Rattle.st_plan.specs.Marks.{all_streams, Whole}
-use Rattle.lack_laws.specs.Choice.{IsChoice}
-use Rattle.lack_laws.specs.FinalReasons.{IsZeroBehind}
-use Rattle.lack_laws.specs.Needs.{HoldsOfNone, is_late, is_rootless}
+use Rattle.lack_laws.specs.Needs.{HoldsOfNone, is_late}
 use Rattle.lack_laws.specs.Reasons.{HoldsAt, is_too_high}
-use Rattle.lack_laws.specs.Supply.{excess, is_free}
 
 -- Event i of p is a send or print with prev 0, and an event before it is a receive.
 pub record IsBehindReceive (streams : List Stream) (p : Pid) (i : ℕ) : Type 0 where
@@ -27,6 +22,21 @@ pub record IsBehindReceive (streams : List Stream) (p : Pid) (i : ℕ) : Type 0 
   pub received_at : event_at streams p index ≡ Some received
   pub receives : is_stamp received ≡ false
   pub behind : index < i
+
+-- Each event tells of a stamp of the process that it is from: a send or print is this stamp, and a
+-- receive took its message. Event i of p tells of one with prev 0, and some event of one of the
+-- same process with a lower count and another prev.
+pub record IsZeroBehind (streams : List Stream) (p : Pid) (i : ℕ) : Type 0 where
+  pub event : Event
+  pub at : event_at streams p i ≡ Some event
+  pub is_zero : event.serial.prev ≡ 0
+  pub pid : Pid
+  pub index : ℕ
+  pub first : Event
+  pub first_at : event_at streams pid index ≡ Some first
+  pub same : first.from ≡ event.from
+  pub lower : first.serial.this < event.serial.this
+  pub above : 0 < first.serial.prev
 
 -- Event i of p is a send or print with prev 0, or the receive of a hidden send with prev 0, and
 -- some event tells of a stamp of the same process with a lower count and another prev.
@@ -76,21 +86,3 @@ pub record HasOpenReason (top : ℕ) (streams : List Stream) : Type 0 where
 pub record IsLeastPlace (Holds : Pid → ℕ → Type 0) (p : Pid) (i : ℕ) : Type 0 where
   pub holds : Holds p i
   pub least : (q : Pid) (j : ℕ) → IsEarlier q j p i → ¬ Holds q j
-
--- The hidden sends have places at which no stamp is late and none needs 0, and a clock can have
--- each count.
-pub record HasPlaces (top : ℕ) (streams : List Stream) : Type 0 where
-  pub wholes : List Whole
-  pub choice : IsChoice streams wholes
-  pub timely : HoldsOfNone is_late (all_streams wholes)
-  pub founded : HoldsOfNone is_rootless (all_streams wholes)
-  pub within : (p : Pid) (i : ℕ) (e : Event) → event_at (all_streams wholes) p i ≡ Some e
-      → e.serial.this ≤ top
-
--- at these places, how many needs of v there are beyond own supplies
-abbrev pub asked : List Stream → List Whole → ℕ → ℕ
-asked streams wholes v = sum_by (excess (all_streams wholes) v) (pids_of streams)
-
--- and how many of these processes are free to send them
-abbrev pub offered : List Whole → ℕ → List Pid → ℕ
-offered wholes v pids = count_by (is_free (all_streams wholes) v) pids

@@ -1,5 +1,5 @@
 -- Streams with further processes that reported nothing.
-use Rattle.std.specs.Prelude.{List, [], ◌∷◌, if◌then◌else◌, ◌≡◌, ℕ, length}
+use Rattle.std.specs.Prelude.{[], List, ◌∷◌, if◌then◌else◌, ℕ}
 use Rattle.std.specs.Ordering.{is_lt}
 use Rattle.st_core.specs.declared.types.Pid.{Pid}
 use Rattle.st_core.specs.Pid.{pid_cmp}
@@ -27,10 +27,4 @@ with_silent streams (q ∷ qs) =
 -- acts without a reset show the streams with some processes that report nothing
 pub record IsShownWithOthers (top : ℕ) (streams : List Stream) : Type 0 where
   pub others : List Pid
-  pub shown : IsShownInOneTrace top (with_silent streams others)
-
--- acts without a reset show the streams with so many processes that report nothing
-pub record IsShownWithSoMany (top : ℕ) (streams : List Stream) (many : ℕ) : Type 0 where
-  pub others : List Pid
-  pub as_many : length others ≡ many
   pub shown : IsShownInOneTrace top (with_silent streams others)

@@ -1,7 +1,7 @@
 -- All that the processes of a run do: each stamp and each receive of a token, whether it is
 -- reported or not.
-use Rattle.std.specs.Prelude.{◌≡◌, ℕ, Bool, true, false, List, [], ◌∷◌, ◌++◌, map, Option, Some, None, if◌then◌else◌}
-use Rattle.std.specs.Prelude.{is_some, option_map, option_and_then, slice_get}
+use Rattle.std.specs.Prelude.{[], ℕ, Bool, true, List, ◌∷◌, ◌++◌, map, Option, Some, None, if◌then◌else◌}
+use Rattle.std.specs.Prelude.{is_some, option_map, option_and_then}
 use Rattle.st_core.specs.declared.types.Pid.{Pid}
 use Rattle.st_core.specs.declared.types.Token.{Token}
 use Rattle.st_core.specs.declared.types.Message.{Message}
@@ -11,10 +11,7 @@ use Rattle.st_core.specs.Pid.{pid_eq}
 use Rattle.st_core.specs.State.{LocalState, Process, State, process, zero_state}
 use Rattle.st_core.specs.Step.{Outcome, acted, actor}
 use Rattle.st_core.specs.Run.{Stream, pids_of}
-use Rattle.st_pair.specs.Pairing.{is_send}
-use Rattle.st_pair.specs.Places.{is_stamp}
 use Rattle.st_plan.specs.Marks.{Marked, Whole}
-use Rattle.lack_laws.specs.Needs.{marked_of}
 
 -- a token with all flags set
 abbrev pub loud_token : Token → Token
@@ -56,13 +53,3 @@ wholes_of top streams acts os = map (λ x. record {
   pid = x.pid;
   marked = whole_from top (zero_state (pids_of streams)) acts os x.pid;
 }) streams
-
--- each send of these whole streams is told
-abbrev pub AreSendsTold : List Whole → Type 0
-AreSendsTold wholes = (p : Pid) (k : ℕ) (m : Marked) → slice_get (marked_of wholes p) k ≡ Some m
-    → is_send m.event ≡ true → m.told ≡ true
-
--- each receive of these whole streams is told
-abbrev pub AreReceivesTold : List Whole → Type 0
-AreReceivesTold wholes = (p : Pid) (k : ℕ) (m : Marked) → slice_get (marked_of wholes p) k ≡ Some m
-    → is_stamp m.event ≡ false → m.told ≡ true

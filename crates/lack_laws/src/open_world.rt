@@ -1,16 +1,16 @@
 //! The laws of completions with processes that a trace doesn't list, as contracts of functions that do
 //! nothing.
 
-ghost use Rattle.std.specs.Prelude.{◌≡◌, ◌↔◌, ◌⊎◌, ◌≤◌, ◌+◌, ◌||◌, ℕ, List};
+ghost use Rattle.std.specs.Prelude.{◌≡◌, ◌↔◌, ◌⊎◌, ◌||◌, ℕ, List};
 ghost use Rattle.st_core.specs.declared.types.Act.{Act};
 ghost use Rattle.st_core.specs.declared.types.Pid.{Pid};
 ghost use Rattle.st_core.specs.Laws.{NoReset};
-ghost use Rattle.st_core.specs.Run.{pids_of, Shows, Stream};
+ghost use Rattle.st_core.specs.Run.{Shows, Stream};
 ghost use Rattle.st_core.specs.Streams.{events_of, is_among, IsStreams, lists};
 ghost use Rattle.lack_laws.specs.Completed.{IsShownInOneTrace};
-ghost use Rattle.lack_laws.specs.OpenReasons.{asked, HasNoOpenReason, HasOpenReason, HasPlaces};
-ghost use Rattle.lack_laws.specs.OpenReasons.{offered, OpenReason, StandsAgainstOpen};
-ghost use Rattle.lack_laws.specs.Silent.{IsShownWithOthers, IsShownWithSoMany, with_silent};
+ghost use Rattle.lack_laws.specs.OpenReasons.{HasNoOpenReason, HasOpenReason};
+ghost use Rattle.lack_laws.specs.OpenReasons.{OpenReason, StandsAgainstOpen};
+ghost use Rattle.lack_laws.specs.Silent.{IsShownWithOthers, with_silent};
 
 /// With processes that report nothing streams stay streams: each process has its events, and those
 /// are listed that were and those that are added.
@@ -51,26 +51,6 @@ pub fn open_reasons_are_final()
     ensures { (top : ℕ) (streams : List Stream) → IsStreams streams → (reason : OpenReason)
         → StandsAgainstOpen top streams reason → (others : List Pid) (acts : List Act)
         → NoReset acts → ¬ Shows top (with_silent streams others) acts }
-{}
-
-/// Any places of the hidden sends do at which no stamp is late and none needs 0, and any processes
-/// that report nothing, if with them there are as many senders of each count as the needs at these
-/// places ask for, beyond own supplies: then acts show the streams with these processes.
-pub fn shown_with_as_many_as_are_needed()
-    ensures { (top : ℕ) (streams : List Stream) → IsStreams streams
-        → (places : HasPlaces top streams) (others : List Pid)
-        → ((v : ℕ) → asked streams places.wholes v
-        ≤ offered places.wholes v (pids_of (with_silent streams others)))
-        → IsShownInOneTrace top (with_silent streams others) }
-{}
-
-/// So as many are enough as are left over of the count that is needed most often.
-pub fn as_many_as_are_left_over_are_enough()
-    ensures { (top : ℕ) (streams : List Stream) → IsStreams streams
-        → (places : HasPlaces top streams) (many : ℕ)
-        → ((v : ℕ) → asked streams places.wholes v
-        ≤ offered places.wholes v (pids_of streams) + many)
-        → IsShownWithSoMany top streams many }
 {}
 
 /// So there is no third answer: either acts without a reset show streams with some processes that
