@@ -1,8 +1,7 @@
 -- Each addition is needed if that holds process by process: the marked events of a process are its
 -- events with the marks at its place.
-use Rattle.std.proofs.Common.{◌≡◌, ℕ, ◌+◌, ◌<◌, ◌≤◌, zero, suc, Bool, true, false, cond, inl, inr, List, [], ◌∷◌}
+use Rattle.std.proofs.Common.{[], ◌≡◌, ℕ, ◌+◌, ◌<◌, ◌≤◌, zero, suc, Bool, true, false, cond, inl, inr, List, ◌∷◌}
 use Rattle.std.proofs.Common.{slice_get, get_or, length, find, Option, Some, None, refl, sym, ◌∙◌, ap, subst, arith}
-use Rattle.std.proofs.lemmas.Bool.{cases_lt}
 use Rattle.std.proofs.lemmas.Option.{none-some, same_Some}
 use Rattle.st_core.specs.declared.types.Pid.{Pid}
 use Rattle.st_core.specs.declared.types.Event.{Event}
@@ -18,12 +17,6 @@ use Rattle.lack_needs.proofs.ForCallers.{all_kept, marked_kept}
 use Rattle.lack_decide.specs.Needed.{AreNeeded, AsReceive, AsSend, IsNeededAmong}
 
 -- MARKS
-
--- past the end of the marks none is set
-pub unset_past : (bs : List Bool) (k : ℕ) → length bs ≤ k → get_or bs k false ≡ false
-unset_past [] k past = refl
-unset_past (b ∷ bs) zero past = absurd (omega arith)
-unset_past (b ∷ bs) (suc k) past = unset_past bs k (omega arith)
 
 -- an event with its mark, and back
 marked_at : (es : List Event) (bs : List Bool) (i : ℕ) (m : Marked)
@@ -71,22 +64,6 @@ needed_marked streams es bs i e (AsReceive receives (inr behind)) =
 abbrev pub AllNeeded : List Stream → List (List Bool) → ℕ → Type 0
 AllNeeded streams lists n = (k : ℕ) (p : Pid) → k < n → slice_get (pids_of streams) k ≡ Some p
     → AreNeeded streams (events_of streams p) (get_or lists k [])
-
--- one process more
-pub needed_next : (streams : List Stream) (lists : List (List Bool)) (n : ℕ) (p : Pid)
-    (es : List Event) (bs : List Bool)
-    → slice_get (pids_of streams) n ≡ Some p → es ≡ events_of streams p → bs ≡ get_or lists n []
-    → AllNeeded streams lists n → AreNeeded streams es bs → AllNeeded streams lists (n + 1)
-needed_next streams lists n p es bs at are marks before here = λ k q less there. elim (cases_lt k n) [
-  | inl below ↦ before k q below there
-  | inr above ↦
-      let same : n ≡ k = omega (arith, less, above) in
-      let is = same_Some p q (sym at ∙ ap (slice_get (pids_of streams)) same ∙ there) in
-      subst (λ (j : ℕ). AreNeeded streams (events_of streams q) (get_or lists j [])) same
-      (subst (λ (x : Pid). AreNeeded streams (events_of streams x) (get_or lists n [])) is
-      (subst (λ xs. AreNeeded streams xs (get_or lists n [])) are
-      (subst (λ xs. AreNeeded streams es xs) marks here)))
-]
 
 abbrev marked_in : Option Whole → List Marked
 marked_in o = elim o [ None ↦ [] | Some w ↦ w.marked ]
