@@ -330,39 +330,15 @@ acted_louder top (act.Tracer p b) r done h other =
 
 pub louder_actor : (a : Act) → actor (louder a) ≡ actor a
 louder_actor (act.Send p q v) = refl
-louder_actor (act.Receive p w) = refl
-louder_actor (act.Print p v) = refl
-louder_actor (act.PrintAt p n v) = refl
-louder_actor (act.Set p c) = refl
-louder_actor (act.Clear p) = refl
-louder_actor (act.Restore p t) = refl
-louder_actor (act.Look p) = refl
-louder_actor (act.Reset p) = refl
-louder_actor (act.Tracer p b) = refl
+louder_actor a = refl
 
 pub louder_receiver : (a : Act) → receiver (louder a) ≡ receiver a
 louder_receiver (act.Send p q v) = refl
-louder_receiver (act.Receive p w) = refl
-louder_receiver (act.Print p v) = refl
-louder_receiver (act.PrintAt p n v) = refl
-louder_receiver (act.Set p c) = refl
-louder_receiver (act.Clear p) = refl
-louder_receiver (act.Restore p t) = refl
-louder_receiver (act.Look p) = refl
-louder_receiver (act.Reset p) = refl
-louder_receiver (act.Tracer p b) = refl
+louder_receiver a = refl
 
 pub louder_plain : (a : Act) → is_reset a ≡ false → is_reset (louder a) ≡ false
-louder_plain (act.Send p q v) h = refl
-louder_plain (act.Receive p w) h = refl
-louder_plain (act.Print p v) h = refl
-louder_plain (act.PrintAt p n v) h = refl
-louder_plain (act.Set p c) h = refl
-louder_plain (act.Clear p) h = refl
-louder_plain (act.Restore p t) h = refl
-louder_plain (act.Look p) h = refl
 louder_plain (act.Reset p) h = h
-louder_plain (act.Tracer p b) h = refl
+louder_plain a h = refl
 
 reached_loud : (a : Act) (token : Option Token) (r : Process) → is_reset a ≡ false
     → reached (louder a) (option_map loud_token token) (loud r) ≡ loud (reached a token r)
@@ -385,13 +361,7 @@ reached_loud (act.Tracer p b) token r plain =
       | true ↦ refl
       | false ↦ refl
     ]
-reached_loud (act.Receive p w) token r plain = refl
-reached_loud (act.Print p v) token r plain = refl
-reached_loud (act.PrintAt p n v) token r plain = refl
-reached_loud (act.Set p c) token r plain = refl
-reached_loud (act.Clear p) token r plain = refl
-reached_loud (act.Restore p t) token r plain = refl
-reached_loud (act.Look p) token r plain = refl
+reached_loud a token r plain = refl
 
 -- the act makes of each process what it made of it before
 pub changed_loud : (top : ℕ) (r : Process) (a : Act) (done : Acted)
