@@ -3,7 +3,8 @@
 use Rattle.std.specs.Prelude.{[], ◌≡◌, ℕ, ◌&&◌, ◌||◌, Bool, true, false, not, List, ◌∷◌, ◌++◌, Option, Some, None}
 use Rattle.std.specs.Prelude.{is_some}
 use Rattle.std.proofs.Common.{inl, refl, sym, ◌∙◌, ap, arith}
-use Rattle.std.proofs.lemmas.Bool.{and_parts, false≢true}
+use Rattle.std.specs.List.{list_any}
+use Rattle.std.proofs.lemmas.Bool.{and_parts, false≢true, or_parts}
 use Rattle.std.proofs.lemmas.List.Elements.{All-from_recursion}
 use Rattle.st_core.specs.declared.types.Pid.{Pid}
 use Rattle.st_core.specs.declared.types.Event.{Event}
@@ -14,7 +15,7 @@ use Rattle.st_core.specs.declared.types.Want.TheVariants as want
 use Rattle.st_core.specs.State.{Process, State, process, zero_state}
 use Rattle.st_core.specs.Step.{Outcome, actor}
 use Rattle.st_core.specs.Run.{Shows, Stream, pids_of, run, stream}
-use Rattle.st_core.specs.Laws.{moves_token, NoReset, ReportsEverything}
+use Rattle.st_core.specs.Laws.{is_reset, moves_token, NoReset, ReportsEverything}
 use Rattle.st_order.specs.declared.item.Item.{Item}
 use Rattle.st_order.specs.declared.item.Item.TheVariants as item
 use Rattle.st_order.specs.Order.{order}
@@ -109,53 +110,14 @@ shown = (
       (refl, (refl, tt)),
 )
 
+none_resets : (acts : List Act) → list_any is_reset acts ≡ false → NoReset acts
+none_resets [] none = tt
+none_resets (a ∷ rest) none =
+    let parts = or_parts (is_reset a) (list_any is_reset rest) none in
+    (parts.0, none_resets rest parts.1)
+
 no_reset : NoReset acts
-no_reset = (
-  refl,
-  (
-    refl,
-    (
-      refl,
-      (
-        refl,
-        (
-          refl,
-          (
-            refl,
-            (
-              refl,
-              (
-                refl,
-                (
-                  refl,
-                  (
-                    refl,
-                    (
-                      refl,
-                      (
-                        refl,
-                        (
-                          refl,
-                          (
-                            refl,
-                            (
-                              refl,
-                              (refl, tt),
-                            ),
-                          ),
-                        ),
-                      ),
-                    ),
-                  ),
-                ),
-              ),
-            ),
-          ),
-        ),
-      ),
-    ),
-  ),
-)
+no_reset = none_resets acts refl
 
 -- an act by this actor's record is reported if it moves a token
 abbrev is_told : Act → Outcome → Option Process → Bool
