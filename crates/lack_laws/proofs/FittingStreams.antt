@@ -1,5 +1,5 @@
--- What pairing accepts fits together, two events at a time, and a receive whose send isn't hidden
--- has it.
+-- What pairing accepts fits together, two events at a time; and a receive's send isn't hidden exactly
+-- if it is there.
 use Rattle.std.proofs.Common.{◌≡◌, ℕ, ◌||◌, Bool, true, false, cond, List}
 use Rattle.std.proofs.Common.{Option, Some, None, refl, sym, ◌∙◌}
 use Rattle.std.proofs.Common.{ap, option_and_then}
@@ -17,7 +17,7 @@ use Rattle.st_pair.proofs.ForCallers.{cond_none, event_none, IsPaired, once_plac
 use Rattle.st_pair.proofs.ForCallers.{stamp_counts_rise, stamp_once}
 use Rattle.st_order.specs.Items.{is_hidden}
 use Rattle.lack_laws.proofs.AcceptedStreams.{FitTogether}
-use Rattle.lack_laws.proofs.Lookups.{HasStamp, stamp_if}
+use Rattle.lack_laws.proofs.Lookups.{HasStamp, none_stamped, stamp_if}
 
 -- WHAT PAIRING ACCEPTS
 
@@ -71,3 +71,22 @@ sent_if streams e seen receives =
       | None ↦ λ _ h. absurd (false≢true (sym h))
       | Some f ↦ λ is _. (stamp_if streams e.from e.serial.this f is).0
     ] refl shown
+
+-- and one that has it isn't of a hidden send
+pub seen_if : (streams : List Stream) (e : Event) → (is_stamp e ≡ false
+    → HasStamp streams e.from e.serial.this)
+    → is_hidden streams e ≡ false
+seen_if streams e sent =
+    let source_in = λ (o : Option (ℕ × Event)). let s : Source =
+    elim o [ None ↦ source.Hidden | Some f ↦ source.Event e.from f.0 ] in s in
+    let hides = λ (s : Source). let b : Bool = elim s
+    [ source.Hidden ↦ true | source.Event q j ↦ false ] in b in
+    elim (is_stamp e) as (λ b. is_stamp e ≡ b
+    → cond b false (hides (source_in (stamp_of streams e.from e.serial.this))) ≡ false) [
+      | true ↦ λ _. refl
+      | false ↦ λ receives. elim (stamp_of streams e.from e.serial.this)
+          as (λ o. stamp_of streams e.from e.serial.this ≡ o → hides (source_in o) ≡ false) [
+            | None ↦ λ none. absurd (none_stamped streams e.from e.serial.this none (sent receives))
+            | Some f ↦ λ _. refl
+          ] refl
+    ] refl

@@ -10,7 +10,6 @@ pub mod InsertedEvents
 pub mod ToldEvents
 pub mod CountMaps
 pub mod ReplacedCounts
-pub mod SamePairing
 pub mod SameNames
 pub mod Renumbering
 pub mod Ranks

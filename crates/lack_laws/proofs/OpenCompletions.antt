@@ -1,8 +1,8 @@
 -- If no reason holds of streams, they have a completion with enough processes that report nothing:
 -- each receive gets its send, and then each stamp that needs a receive gets one from a process of
 -- its own.
-use Rattle.std.proofs.Common.{[], ◌≡◌, inl, inr, ℕ, zero, suc, ◌<◌, ◌||◌, Bool, true, false, cond, List, ◌∷◌, take, Option}
-use Rattle.std.proofs.Common.{Some, None, slice_get, refl, sym, ◌∙◌, ap, arith}
+use Rattle.std.proofs.Common.{[], ◌≡◌, inl, inr, ℕ, zero, suc, ◌<◌, ◌||◌, true, false, List, ◌∷◌, take}
+use Rattle.std.proofs.Common.{Some, slice_get, refl, sym, ◌∙◌, ap, arith}
 use Rattle.std.proofs.lemmas.Bool.{cases_lt}
 use Rattle.st_core.specs.declared.types.Pid.{Pid}
 use Rattle.st_core.specs.declared.types.Event.{Event}
@@ -10,10 +10,7 @@ use Rattle.st_core.specs.Laws.{greatest_count}
 use Rattle.st_core.specs.Run.{Stream}
 use Rattle.st_core.specs.Streams.{events_of, IsStreams}
 use Rattle.st_core.proofs.ForCallers.{or_true}
-use Rattle.st_pair.specs.declared.answer.Source.{Source}
-use Rattle.st_pair.specs.declared.answer.Source.TheVariants as source
 use Rattle.st_pair.specs.Places.{event_at, is_stamp}
-use Rattle.st_pair.specs.Pairing.{stamp_of}
 use Rattle.st_pair.proofs.ForCallers.{agreed, paired}
 use Rattle.st_order.specs.Items.{is_hidden}
 use Rattle.st_plan.specs.Marks.{all_streams}
@@ -22,11 +19,10 @@ use Rattle.lack_laws.specs.OpenReasons.{HasNoOpenReason}
 use Rattle.lack_laws.specs.Silent.{IsShownWithOthers, with_silent}
 use Rattle.lack_laws.proofs.AcceptedStreams.{accepted_if, FitTogether}
 use Rattle.lack_laws.proofs.HiddenSends.{with_sends}
-use Rattle.lack_laws.proofs.Lookups.{HasStamp, none_stamped}
 use Rattle.lack_laws.proofs.NeedlessStreams.{leads, needless_shown, on_time}
 use Rattle.lack_laws.proofs.OpenStreams.{AreSent, IsOpen}
 use Rattle.lack_laws.proofs.OwnEvents.{own_at, stamper}
-use Rattle.lack_laws.proofs.FittingStreams.{fit_together, sent_if}
+use Rattle.lack_laws.proofs.FittingStreams.{fit_together, seen_if, sent_if}
 use Rattle.lack_laws.proofs.SilentSenders.{all_served, AreCaused, caused_at}
 
 -- FROM THE REASONS
@@ -118,25 +114,6 @@ module _ (top : ℕ) (streams : List Stream) (sound : IsStreams streams)
   }
 
 -- TO A COMPLETION
-
--- a receive that has its send isn't one of a hidden send
-seen_if : (streams : List Stream) (e : Event) → (is_stamp e ≡ false
-    → HasStamp streams e.from e.serial.this)
-    → is_hidden streams e ≡ false
-seen_if streams e sent =
-    let source_in = λ (o : Option (ℕ × Event)). let s : Source =
-    elim o [ None ↦ source.Hidden | Some f ↦ source.Event e.from f.0 ] in s in
-    let hides = λ (s : Source). let b : Bool = elim s
-    [ source.Hidden ↦ true | source.Event q j ↦ false ] in b in
-    elim (is_stamp e) as (λ b. is_stamp e ≡ b
-    → cond b false (hides (source_in (stamp_of streams e.from e.serial.this))) ≡ false) [
-      | true ↦ λ _. refl
-      | false ↦ λ receives. elim (stamp_of streams e.from e.serial.this)
-          as (λ o. stamp_of streams e.from e.serial.this ≡ o → hides (source_in o) ≡ false) [
-            | None ↦ λ none. absurd (none_stamped streams e.from e.serial.this none (sent receives))
-            | Some f ↦ λ _. refl
-          ] refl
-    ] refl
 
 greatest_low : (es : List Event) (i m : ℕ) → 0 < m → ((j : ℕ) (d : Event) → j < i
     → slice_get es j ≡ Some d → d.serial.this < m) → greatest_count (take i es) < m

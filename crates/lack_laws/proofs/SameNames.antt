@@ -1,88 +1,41 @@
 -- Replacing counts leaves each event's process and the pids that it names, so streams stay streams;
 -- and what is told of whole streams is replaced as these are.
-use Rattle.std.proofs.Common.{◌≡◌, ℕ, ◌&&◌, true, false, not, cond, List, [], ◌∷◌, Option, Some, None, map, position}
-use Rattle.std.proofs.Common.{is_some, option_map, ◌+◌, nat_lt, length, refl, sym, ◌∙◌, ap, subst}
-use Rattle.std.proofs.lemmas.List.{length-map}
-use Rattle.std.specs.Option.{option_map_or}
-use Rattle.std.specs.List.{AllByRecursion, position_or_len}
+use Rattle.std.proofs.Common.{◌≡◌, ℕ, true, false, cond, List, [], ◌∷◌, map}
+use Rattle.std.proofs.Common.{refl, sym, ◌∙◌, ap, subst}
+use Rattle.std.specs.List.{AllByRecursion}
 use Rattle.st_core.specs.declared.types.Pid.{Pid}
 use Rattle.st_core.specs.declared.types.Event.{Event}
+use Rattle.st_core.specs.Laws.{IsReportAmong}
 use Rattle.st_core.specs.Pid.{IsRising}
-use Rattle.st_core.specs.Run.{Stream}
-use Rattle.st_core.specs.Streams.{AreOwn, is_own, IsStreams, lists, names_listed, stream_of, unlisted_among}
+use Rattle.st_core.specs.Run.{Stream, pids_of}
+use Rattle.st_core.proofs.ForCallers.{AreReports}
+use Rattle.st_core.specs.Streams.{IsStreams}
 use Rattle.st_plan.specs.Marks.{all_streams, Marked, told_events, told_streams, Whole}
 use Rattle.lack_laws.specs.Renumbering.{event_with, with_counts}
-use Rattle.lack_laws.proofs.ReplacedCounts.{pids_with, stream_with}
+use Rattle.lack_laws.proofs.LongerStreams.{reports_of, sound_of}
+use Rattle.lack_laws.proofs.ReplacedCounts.{pids_with}
 
 module _ (f : ℕ → ℕ) where
-  own_events : (p : Pid) (es : List Event) → AllByRecursion (λ e. is_own p e ≡ true) es
-      → AllByRecursion (λ e. is_own p e ≡ true) (map (event_with f) es)
-  own_events p [] all = all
-  own_events p (e ∷ es) all = (all.0, own_events p es all.1)
+  same_reports : (pids : List Pid) (p : Pid) (es : List Event)
+      → AllByRecursion (IsReportAmong pids p) es
+      → AllByRecursion (IsReportAmong pids p) (map (event_with f) es)
+  same_reports pids p [] all = all
+  same_reports pids p (e ∷ es) all =
+      (record { own = all.0.own; names = all.0.names }, same_reports pids p es all.1)
 
-  own_with : (streams : List Stream) → AreOwn streams → AreOwn (with_counts f streams)
-  own_with [] all = all
-  own_with (s ∷ rest) all = (own_events s.pid s.events all.0, own_with rest all.1)
-
-  lists_same : (streams : List Stream) (p : Pid) → lists (with_counts f streams) p ≡ lists streams p
-  lists_same streams p =
-      let to = λ (s : Stream). let t : Stream = record {
-        pid = s.pid;
-        events =
-            map (event_with f) s.events;
-      } in t in
-      ap is_some (stream_with f streams p)
-      ∙ elim (stream_of streams p) as (λ o. is_some (option_map to o) ≡ is_some o)
-      [ None ↦ refl | Some s ↦ refl ]
-
-  names_same : (streams : List Stream) (e : Event)
-      → names_listed (with_counts f streams) (event_with f e) ≡ names_listed streams e
-  names_same streams e =
-      ap (λ b. b && option_map_or (lists (with_counts f streams)) e.to true)
-      (lists_same streams e.from)
-      ∙ ap (λ b. lists streams e.from && b) (elim e.to as (λ o.
-      option_map_or (lists (with_counts f streams)) o true ≡ option_map_or (lists streams) o true) [
-        | None ↦ refl
-        | Some q ↦ lists_same streams q
-      ])
-
-  place_same : (streams : List Stream) (es : List Event)
-      → position_or_len (λ e. not (names_listed (with_counts f streams) e)) (map (event_with f) es)
-      ≡ position_or_len (λ e. not (names_listed streams e)) es
-  place_same streams [] = refl
-  place_same streams (e ∷ es) =
-      let after = position_or_len (λ d. not (names_listed (with_counts f streams) d))
-      (map (event_with f) es) in
-      ap (λ b. cond (not (not b)) (1 + after) 0) (names_same streams e)
-      ∙ ap (λ n. cond (not (not (names_listed streams e))) (1 + n) 0) (place_same streams es)
-
-  position_same : (streams : List Stream) (es : List Event)
-      → position (λ e. not (names_listed (with_counts f streams) e)) (map (event_with f) es)
-      ≡ position (λ e. not (names_listed streams e)) es
-  position_same streams es =
-      ap (λ n. cond (nat_lt n (length (map (event_with f) es))) (Some n) None)
-      (place_same streams es)
-      ∙ ap (λ l. let n = position_or_len (λ e. not (names_listed streams e)) es in
-      cond (nat_lt n l) (Some n) None) (length-map es (event_with f))
-
-  unlisted_same : (all streams : List Stream)
-      → unlisted_among (with_counts f all) (with_counts f streams) ≡ unlisted_among all streams
-  unlisted_same all [] = refl
-  unlisted_same all (s ∷ rest) =
-      let out = λ (o : Option ℕ) (l : Option (Pid × ℕ)). let at : Option (Pid × ℕ) =
-      elim o [ None ↦ l | Some i ↦ Some (s.pid, i) ] in at in
-      ap (λ o. out o (unlisted_among (with_counts f all) (with_counts f rest)))
-      (position_same all s.events)
-      ∙ ap (out (position (λ e. not (names_listed all e)) s.events)) (unlisted_same all rest)
+  all_reports : (pids : List Pid) (streams : List Stream) → AreReports pids streams
+      → AreReports pids (with_counts f streams)
+  all_reports pids [] all = all
+  all_reports pids (s ∷ rest) all =
+      (same_reports pids s.pid s.events all.0, all_reports pids rest all.1)
 
   pub streams_with : (streams : List Stream) → IsStreams streams → IsStreams (with_counts f streams)
-  streams_with streams is = record {
-    draft = record {
-      rising = subst IsRising (sym (pids_with f streams)) is.draft.rising;
-      own = own_with streams is.draft.own;
-    };
-    listed = unlisted_same streams streams ∙ is.listed;
-  }
+  streams_with streams is =
+      let all = with_counts f streams in
+      let same = sym (pids_with f streams) in
+      sound_of all (subst IsRising same is.draft.rising)
+      (subst (λ ps. AreReports ps all) same
+      (all_reports (pids_of streams) streams (reports_of streams is)))
 
   -- WHOLE STREAMS
 

@@ -49,14 +49,8 @@ pub fn needless_streams_are_shown()
         → IsShownInOneTrace top streams }
 {}
 
-/// Only the order of counts matters: if all counts are replaced by others in the same order, and 0
-/// by 0, streams stay needless, and others don't become it.
-pub fn renumbering_keeps_needless()
-    ensures { (f : ℕ → ℕ) → KeepsOrder f → (top : ℕ) (streams : List Stream)
-        → (IsNeedless top streams ↔ IsNeedless (f top) (with_counts f streams)) }
-{}
-
-/// So if acts without a reset show streams, such acts show them with their counts replaced as well.
+/// Only the order of counts matters: if acts without a reset show streams, such acts show them with
+/// all counts replaced by others in the same order, and 0 by 0.
 pub fn renumbered_runs_are_runs()
     ensures { (f : ℕ → ℕ) → KeepsOrder f → (top : ℕ) (streams : List Stream)
         → IsRising (pids_of streams)
