@@ -103,14 +103,14 @@ zero_never before (d ∷ es) along (suc j) (suc i) f e less at_f some at stamps 
 
 -- PARTS OF LISTS
 
-pub taken_at : {A : Type 0} (xs : List A) (i j : ℕ) (x : A) → slice_get (take i xs) j ≡ Some x
+taken_at : {A : Type 0} (xs : List A) (i j : ℕ) (x : A) → slice_get (take i xs) j ≡ Some x
     → (slice_get xs j ≡ Some x) × (j < i)
 taken_at xs zero j x at = absurd (none-some x at)
 taken_at [] (suc i) j x at = absurd (none-some x at)
 taken_at (y ∷ xs) (suc i) zero x at = (at, omega arith)
 taken_at (y ∷ xs) (suc i) (suc j) x at = let rest = taken_at xs i j x at in (rest.0, omega arith)
 
-pub at_taken : {A : Type 0} (xs : List A) (i j : ℕ) (x : A) → slice_get xs j ≡ Some x → j < i
+at_taken : {A : Type 0} (xs : List A) (i j : ℕ) (x : A) → slice_get xs j ≡ Some x → j < i
     → slice_get (take i xs) j ≡ Some x
 at_taken xs zero j x at less = absurd (omega arith)
 at_taken [] (suc i) j x at less = at

@@ -16,7 +16,6 @@ pub mod Ranks
 pub mod LongerStreams
 pub mod Lookups
 pub mod FittingStreams
-pub mod ReasonSearch
 mod Cases
 -- With processes that a trace doesn't list; the laws in `src/open_world.rt` say the main ones.
 pub mod SilentStreams
@@ -29,5 +28,4 @@ pub mod HiddenSends
 pub mod SilentSenders
 pub mod OpenCompletions
 pub mod OpenReasons
-pub mod ReasonSought
 pub mod ForCallers

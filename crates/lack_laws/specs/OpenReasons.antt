@@ -77,11 +77,6 @@ StandsAgainstOpen top streams (Late p i) = HoldsAt is_late streams p i
 StandsAgainstOpen top streams (Unfounded p i) = IsUnfounded streams p i
 StandsAgainstOpen top streams (TooHigh p i) = HoldsAt (is_too_high top) streams p i
 
--- some reason holds of them
-pub record HasOpenReason (top : ℕ) (streams : List Stream) : Type 0 where
-  pub reason : OpenReason
-  pub stands : StandsAgainstOpen top streams reason
-
 -- it holds at this place, and at none before it
 pub record IsLeastPlace (Holds : Pid → ℕ → Type 0) (p : Pid) (i : ℕ) : Type 0 where
   pub holds : Holds p i

@@ -1,15 +1,15 @@
 //! The laws of completions with processes that a trace doesn't list, as contracts of functions that do
 //! nothing.
 
-ghost use Rattle.std.specs.Prelude.{◌≡◌, ◌↔◌, ◌⊎◌, ◌||◌, ℕ, List};
+ghost use Rattle.std.specs.Prelude.{◌≡◌, ◌↔◌, ◌||◌, ℕ, List};
 ghost use Rattle.st_core.specs.declared.types.Act.{Act};
 ghost use Rattle.st_core.specs.declared.types.Pid.{Pid};
 ghost use Rattle.st_core.specs.Laws.{NoReset};
 ghost use Rattle.st_core.specs.Run.{Shows, Stream};
 ghost use Rattle.st_core.specs.Streams.{events_of, is_among, IsStreams, lists};
 ghost use Rattle.lack_laws.specs.Completed.{IsShownInOneTrace};
-ghost use Rattle.lack_laws.specs.OpenReasons.{HasNoOpenReason, HasOpenReason};
-ghost use Rattle.lack_laws.specs.OpenReasons.{OpenReason, StandsAgainstOpen};
+ghost use Rattle.lack_laws.specs.OpenReasons.{HasNoOpenReason, OpenReason};
+ghost use Rattle.lack_laws.specs.OpenReasons.{StandsAgainstOpen};
 ghost use Rattle.lack_laws.specs.Silent.{IsShownWithOthers, with_silent};
 
 /// With processes that report nothing streams stay streams: each process has its events, and those
@@ -51,11 +51,4 @@ pub fn open_reasons_are_final()
     ensures { (top : ℕ) (streams : List Stream) → IsStreams streams → (reason : OpenReason)
         → StandsAgainstOpen top streams reason → (others : List Pid) (acts : List Act)
         → NoReset acts → ¬ Shows top (with_silent streams others) acts }
-{}
-
-/// So there is no third answer: either acts without a reset show streams with some processes that
-/// report nothing, or one of the reasons holds of them.
-pub fn streams_are_shown_with_others_or_refused()
-    ensures { (top : ℕ) (streams : List Stream) → IsStreams streams
-        → IsShownWithOthers top streams ⊎ HasOpenReason top streams }
 {}
