@@ -48,6 +48,17 @@ pub record FitTogether (streams : List Stream) : Type 0 where
       → event_at streams e.from j ≡ Some f → is_stamp f ≡ true → f.serial.this ≡ e.serial.this
       → agrees f e ≡ true
 
+-- so do those of streams that have no other events
+pub fit_as : (xs ys : List Stream) → ((p : Pid) (i : ℕ) (e : Event) → event_at xs p i ≡ Some e
+    → event_at ys p i ≡ Some e) → FitTogether ys → FitTogether xs
+fit_as xs ys there fit = record {
+  rises = λ p i e at. fit.rises p i e (there p i e at);
+  grows = λ p j i d e less at_d at_e. fit.grows p j i d e less (there p j d at_d) (there p i e at_e);
+  once = λ p q i j d e at_d at_e. fit.once p q i j d e (there p i d at_d) (there q j e at_e);
+  agree = λ p i j e f at_e receives at_f. fit.agree p i j e f (there p i e at_e) receives
+      (there e.from j f at_f);
+}
+
 record IsStampBefore (es : List Event) (i : ℕ) (g : ℕ × Event) : Type 0 where
   below : g.0 < i
   at : slice_get es g.0 ≡ Some g.1

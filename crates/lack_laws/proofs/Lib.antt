@@ -19,7 +19,6 @@ pub mod FittingStreams
 mod Cases
 -- With processes that a trace doesn't list; the laws in `src/open_world.rt` say the main ones.
 pub mod SilentStreams
-pub mod SameReasons
 pub mod FinalZeros
 pub mod PutEvents
 pub mod FreshPids

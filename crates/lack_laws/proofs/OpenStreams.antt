@@ -9,7 +9,7 @@ use Rattle.st_core.specs.Run.{Stream, pids_of}
 use Rattle.st_core.specs.Streams.{events_of, IsStreams, lists}
 use Rattle.st_pair.specs.Places.{event_at, is_stamp}
 use Rattle.lack_laws.specs.Silent.{inserted}
-use Rattle.lack_laws.proofs.AcceptedStreams.{FitTogether}
+use Rattle.lack_laws.proofs.AcceptedStreams.{fit_as, FitTogether}
 use Rattle.lack_laws.proofs.InsertedEvents.{any_two_with, fit_with, FitsAt, in_turn_with, is_placed}
 use Rattle.lack_laws.proofs.InsertedEvents.{more, stays}
 use Rattle.lack_laws.proofs.Lookups.{HasStamp}
@@ -95,21 +95,10 @@ module _ (top : ℕ) (streams : List Stream) (z : Pid) (unlisted : lists streams
   there_before q k e at =
       ap (λ es. slice_get es k) (sym (events_inserted z streams unlisted q)) ∙ at
 
-  fit_silent : FitTogether streams → FitTogether (inserted z streams)
-  fit_silent fit = record {
-    rises = λ q k e at. fit.rises q k e (there_before q k e at);
-    grows = λ q j k d e less at_d at_e. fit.grows q j k d e less (there_before q j d at_d)
-        (there_before q k e at_e);
-    once = λ q x j k d e at_d at_e. fit.once q x j k d e (there_before q j d at_d)
-        (there_before x k e at_e);
-    agree = λ q k j e f at_e receives at_f. fit.agree q k j e f (there_before q k e at_e) receives
-        (there_before e.from j f at_f);
-  }
-
   pub open_silent : IsOpen top streams → IsOpen top (inserted z streams)
   open_silent good = record {
     sound = streams_inserted z streams good.sound unlisted;
-    fit = fit_silent good.fit;
+    fit = fit_as (inserted z streams) streams there_before good.fit;
     leads = λ q j k d e less at_d at_e. good.leads q j k d e less (there_before q j d at_d)
         (there_before q k e at_e);
     roots = λ q x j k d e at_d at_e. good.roots q x j k d e (there_before q j d at_d)

@@ -1,8 +1,7 @@
 -- A process without events, put in by its pid, leaves the streams of all others as they are, and
 -- streams stay streams.
-use Rattle.std.proofs.Common.{[], ◌≡◌, ℕ, ◌||◌, Bool, true, false, not, cond, List, ◌∷◌, Option, Some, None, is_some}
-use Rattle.std.proofs.Common.{length, slice_get, suc, refl, sym, ◌∙◌, ap, subst, arith}
-use Rattle.std.specs.Prelude.{position}
+use Rattle.std.proofs.Common.{[], ◌≡◌, ◌||◌, Bool, true, false, cond, List, ◌∷◌, Option, Some, None, is_some}
+use Rattle.std.proofs.Common.{length, refl, sym, ◌∙◌, ap, subst, arith}
 use Rattle.std.specs.declared.cmp.Ordering.TheVariants.{Less, Equal, Greater}
 use Rattle.std.specs.Ordering.{is_lt, ordering_reverse}
 use Rattle.std.specs.List.{AllByRecursion}
@@ -13,33 +12,18 @@ use Rattle.st_core.specs.declared.types.Pid.{Pid}
 use Rattle.st_core.specs.declared.types.Event.{Event}
 use Rattle.st_core.specs.Pid.{pid_cmp, pid_eq, IsBelow, IsRising}
 use Rattle.st_core.specs.Run.{Stream, pids_of}
-use Rattle.st_core.specs.Streams.{AreOwn, events_of, is_among, IsStreams, lists, names_listed}
-use Rattle.st_core.specs.Streams.{stream_of, total_of, unlisted_among}
-use Rattle.st_core.proofs.ForCallers.{position-none, is_lt-true, pid_cmp-Equal, pid_eq-refl}
+use Rattle.st_core.specs.Streams.{events_of, is_among, IsStreams, lists}
+use Rattle.st_core.specs.Streams.{stream_of, total_of}
+use Rattle.st_core.proofs.ForCallers.{is_lt-true, pid_cmp-Equal, pid_eq-refl}
 use Rattle.st_core.proofs.ForCallers.{pid_same, IsBelow-trans, not_below_itself, or_right}
-use Rattle.st_pair.specs.Places.{first, first_from}
 use Rattle.st_pair.proofs.ForCallers.{events_in, pid_total}
-use Rattle.st_order.proofs.ForCallers.{all_found, AreFound}
+use Rattle.st_core.specs.Laws.{IsReportAmong}
+use Rattle.st_core.proofs.ForCallers.{AreReports, lists_among}
+use Rattle.lack_laws.proofs.LongerStreams.{reports_of, sound_of}
 use Rattle.lack_laws.proofs.Lookups.{unlisted_events}
 use Rattle.lack_laws.specs.Silent.{inserted, silent, with_silent}
-use Rattle.st_plan.proofs.ForCallers.{named}
 
 -- ONE PROCESS MORE
-
--- what a rule gives first
-pub first_inserted : {X : Type 0} (rule : Pid → ℕ → Event → Option X) (q : Pid)
-    (streams : List Stream)
-    → first rule (inserted q streams) ≡ first rule streams
-first_inserted rule q [] = refl
-first_inserted {X} rule q (x ∷ rest) =
-    elim (is_lt (pid_cmp q x.pid)) as (λ b. first rule
-    (cond b (silent q ∷ x ∷ rest) (x ∷ inserted q rest))
-    ≡ first rule (x ∷ rest)) [
-      | true ↦ refl
-      | false ↦ ap (λ (o : Option X). let all : Option X =
-          elim (first_from rule x.pid 0 x.events) [ None ↦ o | Some y ↦ Some y ] in all)
-          (first_inserted rule q rest)
-    ]
 
 -- who is listed
 some_if : (b : Bool) (x : Stream) (o : Option Stream)
@@ -145,15 +129,6 @@ rising_inserted q (x ∷ rest) none rising =
       )
     ] refl
 
-own_inserted : (q : Pid) (streams : List Stream) → AreOwn streams → AreOwn (inserted q streams)
-own_inserted q [] own = (tt, tt)
-own_inserted q (x ∷ rest) own =
-    elim (is_lt (pid_cmp q x.pid)) as (λ b. AreOwn (cond b (silent q ∷ x ∷ rest)
-    (x ∷ inserted q rest))) [
-      | true ↦ (tt, own)
-      | false ↦ (own.0, own_inserted q rest own.1)
-    ]
-
 -- NAMES
 
 pub still_listed : (q : Pid) (streams : List Stream) (p : Pid) → lists streams p ≡ true
@@ -161,65 +136,60 @@ pub still_listed : (q : Pid) (streams : List Stream) (p : Pid) → lists streams
 still_listed q streams p is =
     lists_inserted q streams p ∙ or_right (pid_eq q p) (lists streams p) is
 
-still_named : (q : Pid) (streams : List Stream) (e : Event) → names_listed streams e ≡ true
-    → names_listed (inserted q streams) e ≡ true
-still_named q streams e names =
-    let parts = and_parts (lists streams e.from) (option_map_or (lists streams) e.to true) names in
-    and_from (lists (inserted q streams) e.from) (option_map_or
-    (lists (inserted q streams)) e.to true)
-    (still_listed q streams e.from parts.0)
-    (elim e.to as (λ to. option_map_or (lists streams) to true ≡ true
-    → option_map_or (lists (inserted q streams)) to true ≡ true) [
-      | None ↦ λ h. h
-      | Some p ↦ still_listed q streams p
-    ] parts.1)
+-- pids that are all among others
+AreAmong : List Pid → List Pid → Type 0
+AreAmong pids more = (p : Pid) → is_among pids p ≡ true → is_among more p ≡ true
 
--- where no silent process is looked at, none is unlisted
-among_inserted : (all : List Stream) (q : Pid) (streams : List Stream)
-    → unlisted_among all (inserted q streams) ≡ unlisted_among all streams
-among_inserted all q [] = refl
-among_inserted all q (x ∷ rest) =
-    elim (is_lt (pid_cmp q x.pid)) as (λ b. unlisted_among all
-    (cond b (silent q ∷ x ∷ rest) (x ∷ inserted q rest))
-    ≡ unlisted_among all (x ∷ rest)) [
-      | true ↦ refl
-      | false ↦ ap (λ (o : Option (Pid × ℕ)). let all : Option (Pid × ℕ) =
-          elim (position (λ e. not (names_listed all e)) x.events) [
-            | None ↦ o
-            | Some i ↦ Some
-                (x.pid, i)
-          ] in all)
-          (among_inserted all q rest)
+more_named : (pids more : List Pid) → AreAmong pids more → (p : Pid) (e : Event)
+    → IsReportAmong pids p e → IsReportAmong more p e
+unfolding AreAmong
+more_named pids more wider p e report =
+    let parts = and_parts (is_among pids e.from) (option_map_or (is_among pids) e.to true)
+    report.names in
+    record {
+      own = report.own;
+      names = and_from (is_among more e.from) (option_map_or (is_among more) e.to true)
+          (wider e.from parts.0)
+          (elim e.to as (λ to. option_map_or (is_among pids) to true ≡ true
+          → option_map_or (is_among more) to true ≡ true) [
+            | None ↦ λ h. h
+            | Some q ↦ wider q
+          ] parts.1);
+    }
+
+more_reports : (pids more : List Pid) → AreAmong pids more → (streams : List Stream)
+    → AreReports pids streams → AreReports more streams
+more_reports pids more wider [] all = tt
+more_reports pids more wider (x ∷ rest) all = (
+  along x.events all.0,
+  more_reports pids more wider rest all.1,
+)
+  where
+    along : (es : List Event) → AllByRecursion (IsReportAmong pids x.pid) es
+        → AllByRecursion (IsReportAmong more x.pid) es
+    along [] all = tt
+    along (e ∷ es) all = (more_named pids more wider x.pid e all.0, along es all.1)
+
+reports_inserted : (pids : List Pid) (q : Pid) (streams : List Stream) → AreReports pids streams
+    → AreReports pids (inserted q streams)
+reports_inserted pids q [] all = (tt, tt)
+reports_inserted pids q (x ∷ rest) all =
+    elim (is_lt (pid_cmp q x.pid)) as (λ b. AreReports pids (cond b (silent q ∷ x ∷ rest)
+    (x ∷ inserted q rest))) [
+      | true ↦ (tt, all)
+      | false ↦ (all.0, reports_inserted pids q rest all.1)
     ]
 
-all_from : (P : Event → Type 0) (es : List Event)
-    → ((i : ℕ) (e : Event) → slice_get es i ≡ Some e → P e)
-    → AllByRecursion P es
-all_from P [] each = tt
-all_from P (e ∷ es) each = (each 0 e refl, all_from P es (λ i d at. each (suc i) d at))
-
-module _ (q : Pid) (streams : List Stream) (sound : IsStreams streams) where
-  none_unlisted : (some : List Stream) → AreFound streams some
-      → unlisted_among (inserted q streams) some ≡ None
-  none_unlisted [] found = refl
-  none_unlisted (x ∷ rest) found =
-      let test = λ (e : Event). not (names_listed (inserted q streams) e) in
-      ap (λ (k : Option ℕ). let o : Option (Pid × ℕ) =
-      elim k [ None ↦ unlisted_among (inserted q streams) rest | Some i ↦ Some (x.pid, i) ] in o)
-      (position-none test x.events (all_from (λ e. test e ≡ false) x.events (λ i e at.
-      ap not (still_named q streams e (named streams sound x.pid i e
-      (ap (λ es. slice_get es i) found.0 ∙ at))))))
-      ∙ none_unlisted rest found.1
-
-  pub streams_inserted : lists streams q ≡ false → IsStreams (inserted q streams)
-  streams_inserted none = record {
-    draft = record {
-      rising = rising_inserted q streams none sound.draft.rising;
-      own = own_inserted q streams sound.draft.own;
-    };
-    listed = among_inserted (inserted q streams) q streams
-        ∙ none_unlisted streams (all_found streams sound.draft.rising);
-  }
+pub streams_inserted : (q : Pid) (streams : List Stream) → IsStreams streams
+    → lists streams q ≡ false → IsStreams (inserted q streams)
+unfolding AreAmong
+streams_inserted q streams sound none =
+    let all = inserted q streams in
+    sound_of all (rising_inserted q streams none sound.draft.rising)
+    (reports_inserted (pids_of all) q streams
+    (more_reports (pids_of streams) (pids_of all) (λ p there.
+    sym (lists_among all p) ∙ still_listed q streams p (lists_among streams p ∙ there)) streams
+    (reports_of streams sound)))
 
 -- SOME PROCESSES MORE
 

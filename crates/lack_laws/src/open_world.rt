@@ -22,15 +22,6 @@ pub fn with_silent_processes_streams_are_streams()
         ≡ (lists streams p || is_among others p)) }
 {}
 
-/// Whatever processes are added that report nothing, the reasons against streams stay the same, at
-/// the same places.
-pub fn silent_processes_change_no_reason()
-    ensures { (top : ℕ) (streams : List Stream) (others : List Pid) → IsStreams streams
-        → (HasNoOpenReason top (with_silent streams others) ↔ HasNoOpenReason top streams)
-        × ((reason : OpenReason) → StandsAgainstOpen top (with_silent streams others) reason
-        ↔ StandsAgainstOpen top streams reason) }
-{}
-
 /// If acts without a reset show the streams with any processes that report nothing, no reason
 /// holds of them.
 pub fn shown_with_others_only_without_a_reason()
