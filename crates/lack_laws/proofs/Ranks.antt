@@ -1,8 +1,8 @@
 -- The counts of streams are in a rising list that begins with 0. The rank of one of them is its
 -- place there, and what is at that place is the count again; and a later place has a greater
 -- count. So streams are their renumbered streams with the counts put back, in order.
-use Rattle.std.proofs.Common.{◌≡◌, ℕ, ◌+◌, zero, suc, ◌<◌, ◌≤◌, ◌⊎◌, inl, inr, nat_lt, true, false, cond, List, [], ◌∷◌}
-use Rattle.std.proofs.Common.{map, refl, sym, ◌∙◌, ap, subst, arith}
+use Rattle.std.proofs.Common.{◌≡◌, ℕ, ◌+◌, zero, suc, ◌<◌, ◌≤◌, ◌⊎◌, inl, inr, nat_lt, true, false}
+use Rattle.std.proofs.Common.{cond, List, [], ◌∷◌, map, refl, sym, ◌∙◌, ap, subst, arith}
 use Rattle.std.specs.List.{AllByRecursion}
 use Rattle.std.proofs.lemmas.Bool.{ltb-true, ltb-false, le-ltb}
 use Rattle.std.proofs.lemmas.Bool.Decides.{nat_tests}
@@ -36,62 +36,44 @@ pub above_lower : (b c : ℕ) (ds : List ℕ) → b < c → AllAbove c ds → Al
 above_lower b c [] low all = all
 above_lower b c (d ∷ ds) low all = (let high = all.0 in omega arith, above_lower b c ds low all.1)
 
+-- a count comes before the first one, or among those after it, or is that one
+insert_by : (P : List ℕ → Type 0) (c d : ℕ) (ds : List ℕ) → (c < d → P (c ∷ d ∷ ds))
+    → (d < c → P (d ∷ insert_count c ds)) → (c ≡ d → P (d ∷ ds)) → P (insert_count c (d ∷ ds))
+insert_by P c d ds before later here =
+    elim (nat_lt c d) as (λ x. nat_lt c d ≡ x
+    → P (cond x (c ∷ d ∷ ds) (cond (nat_lt d c) (d ∷ insert_count c ds) (d ∷ ds)))) [
+      | true ↦ λ less. before (ltb-true c d less)
+      | false ↦ λ low. elim (nat_lt d c) as (λ y. nat_lt d c ≡ y
+          → P (cond y (d ∷ insert_count c ds) (d ∷ ds))) [
+            | true ↦ λ more. later (ltb-true d c more)
+            | false ↦ λ high.
+                let at_least = ltb-false c d low in
+                let at_most = ltb-false d c high in
+                here (omega arith)
+          ] refl
+    ] refl
+
 insert_above : (b c : ℕ) (ds : List ℕ) → b < c → AllAbove b ds → AllAbove b (insert_count c ds)
 insert_above b c [] low all = (low, all)
-insert_above b c (d ∷ ds) low all =
-    elim (nat_lt c d) as (λ x. AllAbove b (cond x (c ∷ d ∷ ds)
-    (cond (nat_lt d c) (d ∷ insert_count c ds) (d ∷ ds)))) [
-      | true ↦ (low, all)
-      | false ↦ elim (nat_lt d c) as (λ y. AllAbove b (cond y (d ∷ insert_count c ds) (d ∷ ds))) [
-        | true ↦ (all.0, insert_above b c ds low all.1)
-        | false ↦ all
-      ]
-    ]
+insert_above b c (d ∷ ds) low all = insert_by (AllAbove b) c d ds (λ _. (low, all))
+    (λ _. (all.0, insert_above b c ds low all.1)) (λ _. all)
 
 pub insert_climbs : (c : ℕ) (ds : List ℕ) → Climbs ds → Climbs (insert_count c ds)
 insert_climbs c [] all = (all, all)
-insert_climbs c (d ∷ ds) all =
-    elim (nat_lt c d) as (λ x. nat_lt c d ≡ x
-    → Climbs (cond x (c ∷ d ∷ ds) (cond (nat_lt d c) (d ∷ insert_count c ds) (d ∷ ds)))) [
-      | true ↦ λ less. let low = ltb-true c d less in ((low, above_lower c d ds low all.0), all)
-      | false ↦ λ _. elim (nat_lt d c) as (λ y. nat_lt d c ≡ y
-          → Climbs (cond y (d ∷ insert_count c ds) (d ∷ ds))) [
-            | true ↦ λ more. (
-              insert_above d c ds (ltb-true d c more) all.0,
-              insert_climbs c ds
-                  all.1,
-            )
-            | false ↦ λ _. all
-          ] refl
-    ] refl
+insert_climbs c (d ∷ ds) all = insert_by Climbs c d ds
+    (λ low. ((low, above_lower c d ds low all.0), all))
+    (λ high. (insert_above d c ds high all.0, insert_climbs c ds all.1)) (λ _. all)
 
 insert_has : (c : ℕ) (ds : List ℕ) → IsIn c (insert_count c ds)
 insert_has c [] = inl refl
 insert_has c (d ∷ ds) =
-    elim (nat_lt c d) as (λ x. nat_lt c d ≡ x
-    → IsIn c (cond x (c ∷ d ∷ ds) (cond (nat_lt d c) (d ∷ insert_count c ds) (d ∷ ds)))) [
-      | true ↦ λ _. inl refl
-      | false ↦ λ low. elim (nat_lt d c) as (λ y. nat_lt d c ≡ y
-          → IsIn c (cond y (d ∷ insert_count c ds) (d ∷ ds))) [
-            | true ↦ λ _. inr (insert_has c ds)
-            | false ↦ λ high.
-                let at_least = ltb-false c d low in
-                let at_most = ltb-false d c high in
-                inl (omega arith)
-          ] refl
-    ] refl
+    insert_by (IsIn c) c d ds (λ _. inl refl) (λ _. inr (insert_has c ds)) (λ same. inl same)
 
 insert_keeps : (b c : ℕ) (ds : List ℕ) → IsIn b ds → IsIn b (insert_count c ds)
 insert_keeps b c [] here = absurd here
-insert_keeps b c (d ∷ ds) here =
-    elim (nat_lt c d) as (λ x.
-    IsIn b (cond x (c ∷ d ∷ ds) (cond (nat_lt d c) (d ∷ insert_count c ds) (d ∷ ds)))) [
-      | true ↦ inr here
-      | false ↦ elim (nat_lt d c) as (λ y. IsIn b (cond y (d ∷ insert_count c ds) (d ∷ ds))) [
-        | false ↦ here
-        | true ↦ elim here [ inl same ↦ inl same | inr later ↦ inr (insert_keeps b c ds later) ]
-      ]
-    ]
+insert_keeps b c (d ∷ ds) here = insert_by (IsIn b) c d ds (λ _. inr here)
+    (λ _. elim here [ inl same ↦ inl same | inr later ↦ inr (insert_keeps b c ds later) ])
+    (λ _. here)
 
 -- THE COUNTS OF STREAMS
 
@@ -136,45 +118,28 @@ kept_by_all b (e ∷ es) cs here =
 abbrev AreIn : List ℕ → Event → Type 0
 AreIn cs e = IsIn e.serial.prev cs × IsIn e.serial.this cs
 
-all_weaken : (P Q : Event → Type 0) (es : List Event) → ((e : Event) → P e → Q e)
-    → AllByRecursion P es
-    → AllByRecursion Q es
-all_weaken P Q [] to all = all
-all_weaken P Q (e ∷ es) to all = (to e all.0, all_weaken P Q es to all.1)
-
-inserted_in : (es : List Event) (cs : List ℕ) → AllByRecursion (AreIn (insert_counts es cs)) es
-inserted_in [] cs = tt
-inserted_in (e ∷ es) cs =
-    let rest = insert_counts es cs in
-    let more = insert_count e.serial.this rest in
-    let keep = λ (b : ℕ) (here : IsIn b rest).
-    insert_keeps b e.serial.prev more (insert_keeps b e.serial.this rest here) in (
+events_in : (cs ds : List ℕ) (es : List Event)
+    → ((c : ℕ) → IsIn c (insert_counts es ds) → IsIn c cs) → AllByRecursion (AreIn cs) es
+events_in cs ds [] within = tt
+events_in cs ds (e ∷ es) within =
+    let rest = insert_counts es ds in
+    let more = insert_count e.serial.this rest in (
       (
-        insert_has e.serial.prev more,
-        insert_keeps e.serial.this e.serial.prev more
-            (insert_has e.serial.this rest),
+        within e.serial.prev (insert_has e.serial.prev more),
+        within e.serial.this (insert_keeps e.serial.this e.serial.prev more
+            (insert_has e.serial.this rest)),
       ),
-      all_weaken (AreIn rest) (AreIn (insert_count e.serial.prev more)) es
-          (λ d at. (keep d.serial.prev at.0, keep d.serial.this at.1)) (inserted_in es cs),
+      events_in cs ds es (λ c here. within c (insert_keeps c e.serial.prev more
+          (insert_keeps c e.serial.this rest here))),
     )
 
-streams_weaken : (cs : List ℕ) (es : List Event) (streams : List Stream)
+all_in : (cs : List ℕ) (streams : List Stream)
+    → ((c : ℕ) → IsIn c (counts_of streams) → IsIn c cs)
     → AllByRecursion (λ (s : Stream). AllByRecursion (AreIn cs) s.events) streams
-    → AllByRecursion (λ (s : Stream). AllByRecursion (AreIn (insert_counts es cs)) s.events) streams
-streams_weaken cs es [] all = all
-streams_weaken cs es (s ∷ streams) all = (
-  all_weaken (AreIn cs) (AreIn (insert_counts es cs)) s.events
-      (λ d at. (kept_by_all d.serial.prev es cs at.0, kept_by_all d.serial.this es cs at.1)) all.0,
-  streams_weaken cs es streams all.1,
-)
-
-all_in : (streams : List Stream)
-    → AllByRecursion (λ (s : Stream). AllByRecursion (AreIn (counts_of streams)) s.events) streams
-all_in [] = tt
-all_in (s ∷ streams) = (
-  inserted_in s.events (counts_of streams),
-  streams_weaken (counts_of streams) s.events streams
-      (all_in streams),
+all_in cs [] within = tt
+all_in cs (s ∷ streams) within = (
+  events_in cs (counts_of streams) s.events within,
+  all_in cs streams (λ c here. within c (kept_by_all c s.events (counts_of streams) here)),
 )
 
 -- RANKS AND BACK
@@ -287,7 +252,8 @@ module _ (cs : List ℕ) (climb : Climbs cs) where
 pub counts_put_back : (streams : List Stream)
     → with_counts (count_of_rank (counts_of streams)) (renumbered_streams streams) ≡ streams
 counts_put_back streams =
-    streams_back (counts_of streams) (counts_are streams).climb streams (all_in streams)
+    streams_back (counts_of streams) (counts_are streams).climb streams
+    (all_in (counts_of streams) streams (λ c here. here))
 
 -- A greater TOP
 pub shown_higher : (top high : ℕ) (streams : List Stream) → IsRising (pids_of streams) → top ≤ high
