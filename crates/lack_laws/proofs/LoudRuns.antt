@@ -1,8 +1,8 @@
 -- To each run there is one in which all processes are traced with all flags set: the same acts do
 -- the same, a set makes its token with all flags at once, and each process reports all its events.
-use Rattle.std.proofs.Common.{◌≡◌, ℕ, ◌⊎◌, Bool, true, false, cond, List, [], ◌∷◌, ◌++◌, map, Option, Some, None}
-use Rattle.std.proofs.Common.{is_some, option_map, option_and_then, option_to_list, inl, inr, append-nil, refl, sym}
-use Rattle.std.proofs.Common.{◌∙◌, ap, subst}
+use Rattle.std.proofs.Common.{◌≡◌, ℕ, ◌⊎◌, Bool, true, false, cond, List, [], ◌∷◌, ◌++◌, map}
+use Rattle.std.proofs.Common.{Option, Some, None, is_some, option_map, option_and_then}
+use Rattle.std.proofs.Common.{option_to_list, inl, inr, append-nil, refl, sym, ◌∙◌, ap, subst}
 use Rattle.std.specs.List.{AllByRecursion}
 use Rattle.std.proofs.lemmas.Bool.{false≢true}
 use Rattle.std.proofs.lemmas.List.{map-append}
@@ -24,7 +24,7 @@ use Rattle.st_core.proofs.ForCallers.{changed_pid, leaves_others, pid_eq-refl, p
 use Rattle.st_core.proofs.ForCallers.{process_pid, run_from-one, run_parts, step_done, step_parts, Stepped}
 use Rattle.st_plan.specs.Build.{state_after}
 use Rattle.st_plan.specs.Marks.{Marked, told_events}
-use Rattle.st_plan.proofs.ForCallers.{IsQuiet, lifted, QuietRun, run_append, stream_append, stream_silent}
+use Rattle.st_plan.proofs.ForCallers.{append_none, IsQuiet, lifted, QuietRun, run_append, stream_append, stream_silent}
 use Rattle.lack_laws.specs.Wholes.{event_by, event_in, loud, loud_local, loud_token, marked_if, whole_from}
 use Rattle.lack_laws.proofs.LoudActs.{acted_louder, changed_loud, is_set, IsLouder, louder}
 use Rattle.lack_laws.proofs.LoudActs.{louder_actor, louder_plain, louder_receiver, report_of}
@@ -202,16 +202,8 @@ abbrev IsSet : Act → Type 0
 IsSet a = (p : Pid) × (c : Component) × (a ≡ act.Set p c)
 
 set_or_not : (a : Act) → IsSet a ⊎ (is_set a ≡ false)
-set_or_not (act.Send p q v) = inr refl
-set_or_not (act.Receive p w) = inr refl
-set_or_not (act.Print p v) = inr refl
-set_or_not (act.PrintAt p n v) = inr refl
 set_or_not (act.Set p c) = inl (p, c, refl)
-set_or_not (act.Clear p) = inr refl
-set_or_not (act.Restore p t) = inr refl
-set_or_not (act.Look p) = inr refl
-set_or_not (act.Reset p) = inr refl
-set_or_not (act.Tracer p b) = inr refl
+set_or_not a = inr refl
 
 step_heard : (top : ℕ) (s t : State) (a : Act) (o : Outcome) → step top s a ≡ Some o
     → is_reset a ≡ false → IsLoud s t
@@ -252,10 +244,6 @@ pub record AreHeard (top : ℕ) (s t : State) (acts : List Act) (os : List Outco
   pub one_trace : NoReset heard
   pub whole : ReportsEverything t heard outcomes
   pub tells : (p : Pid) → stream heard outcomes p ≡ map (λ m. m.event) (whole_from top s acts os p)
-
-pub no_reset_append : (xs ys : List Act) → NoReset xs → NoReset ys → NoReset (xs ++ ys)
-no_reset_append [] ys one two = two
-no_reset_append (x ∷ xs) ys one two = (one.0, no_reset_append xs ys one.1 two)
 
 pub whole_append : (top : ℕ) (s : State) (xs ys : List Act) (os ps : List Outcome)
     → run_from top s xs ≡ Some os
@@ -302,7 +290,7 @@ are_heard top s t (a ∷ acts) os h none is =
       heard = one.acts ++ later.heard;
       outcomes = one.os ++ later.outcomes;
       runs = run_append top t one.acts later.heard one.os later.outcomes one.runs later.runs;
-      one_trace = no_reset_append one.acts later.heard one.one_trace later.one_trace;
+      one_trace = append_none one.acts later.heard one.one_trace later.one_trace;
       whole = whole_append top t one.acts later.heard one.os later.outcomes one.runs one.whole
           later.whole;
       tells = λ p.

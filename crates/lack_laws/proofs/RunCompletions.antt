@@ -1,156 +1,36 @@
 -- Each run without a reset has a full completion: after a tracer on each node the loud run begins,
 -- and its streams are all the run's events, of which the run's streams are told.
-use Rattle.std.proofs.Common.{◌≡◌, ℕ, zero, suc, Bool, true, false, cond, List, [], ◌∷◌, ◌++◌, map, Option, Some, None}
-use Rattle.std.proofs.Common.{is_some, option_map, option_and_then, get_or, refl, sym, ◌∙◌, ap, subst}
+use Rattle.std.proofs.Common.{◌≡◌, ℕ, ◌==◌, zero, suc, Bool, true, false, cond, List, [], ◌∷◌, ◌++◌, map, Option, Some, None}
+use Rattle.std.proofs.Common.{is_some, option_map, get_or, refl, sym, ◌∙◌, ap, subst}
 use Rattle.std.specs.Prelude.{All}
-use Rattle.std.specs.List.{slice_get}
-use Rattle.std.proofs.lemmas.Bool.{eq-eqb, false≢true}
+use Rattle.std.specs.List.{AllByRecursion, slice_get}
+use Rattle.std.specs.Option.{option_map_or}
+use Rattle.std.proofs.lemmas.Bool.{false≢true}
 use Rattle.std.proofs.lemmas.List.Elements.{All-head, All-map, All-tail}
 use Rattle.std.proofs.lemmas.Option.{same_Some, none-some}
 use Rattle.st_core.specs.declared.types.Pid.{Pid}
 use Rattle.st_core.specs.declared.types.Act.{Act}
 use Rattle.st_core.specs.declared.types.Act.TheVariants as act
-use Rattle.st_core.specs.declared.types.Reply.TheVariants as reply
 use Rattle.st_core.specs.Pid.{pid_eq, node_eq, IsRising}
 use Rattle.st_core.specs.State.{Process, State, process, zero_local, zero_state}
-use Rattle.st_core.specs.Step.{Acted, Outcome, answers, changed, outcome_of, step}
+use Rattle.st_core.specs.Step.{Outcome, answers, changed, step}
+use Rattle.st_core.specs.declared.types.Reply.TheVariants as reply
 use Rattle.st_core.specs.Run.{Shows, Stream, pids_of, run, run_from, stream}
 use Rattle.st_core.specs.Streams.{IsStreams}
-use Rattle.st_core.specs.Laws.{NoReset, ReportsEverything}
-use Rattle.st_core.proofs.ForCallers.{changed_pid, pid_eq-refl, pid_same, process-map, process_pid, some_of}
-use Rattle.st_core.proofs.ForCallers.{shown_are_streams, step_done}
-use Rattle.st_plan.specs.Build.{state_after}
-use Rattle.st_plan.specs.Marks.{all_streams, Marked, told_events, told_streams, Whole}
-use Rattle.st_plan.proofs.ForCallers.{run_append, Silent, stream_append, stream_silent, run_full}
+use Rattle.st_core.specs.Laws.{moves_token, NoReset, ReportsEverything}
+use Rattle.st_core.proofs.ForCallers.{mapped, pid_same, process_after, process_pid, run_parts, step_parts, some_of, shown_are_streams}
+use Rattle.st_plan.specs.Build.{state_after, tracers_after}
+use Rattle.st_plan.specs.Marks.{all_streams, all_told, Marked, told_events, told_streams, Whole}
+use Rattle.st_plan.proofs.ForCallers.{append_none, IsOpened, opens, tracers_none, run_append, stream_append, stream_silent, run_full}
 use Rattle.st_plan.specs.Full.{IsFull}
 use Rattle.lack_laws.specs.Wholes.{loud, whole_from, wholes_of}
-use Rattle.lack_laws.proofs.LoudRuns.{are_heard, AreHeard, IsLoud, no_reset_append, whole_append, whole_told}
+use Rattle.lack_laws.proofs.LoudRuns.{are_heard, AreHeard, IsLoud, stays_whole}
+use Rattle.lack_laws.proofs.LoudRuns.{whole_append, whole_told}
 
--- TRACERS
-
--- a process after a tracer by p
-abbrev traced_by : Pid → Process → Process
-traced_by p r = cond (node_eq r.pid p) (record r { local = record r.local { traced = true } }) r
-
--- and after one by each of these
-abbrev traced_by_all : List Pid → Process → Process
-traced_by_all [] r = r
-traced_by_all (p ∷ ps) r = traced_by_all ps (traced_by p r)
-
-abbrev tracers : List Pid → List Act
-tracers ps = map (λ p. act.Tracer p true) ps
-
-record IsTraced (top : ℕ) (s : State) (ps : List Pid) : Type 0 where
-  pub os : List Outcome
-  pub runs : run_from top s (tracers ps) ≡ Some os
-  pub silent : Silent os
-  pub after : (x : Pid) → process (state_after s os) x ≡ option_map (traced_by_all ps) (process s x)
-
-AreThere : State → List Pid → Type 0
-AreThere s ps = (k : ℕ) (x : Pid) → slice_get ps k ≡ Some x → is_some (process s x) ≡ true
-
-module _ (top : ℕ) (s : State) (p : Pid) (r : Process) (at : process s p ≡ Some r) where
-  abbrev switched : Acted
-  switched = answers r r.local (reply.Was r.local.traced)
-
-  one_traced : (x : Pid) (y : Process) → process s x ≡ Some y
-      → changed (act.Tracer p true) switched y ≡ traced_by p y
-  one_traced x y is =
-      let made = λ (z : Process). let own : Process =
-      record y { local = z.local; queue = z.queue } in own in
-      let same : cond (pid_eq y.pid p) (made r) y ≡ y =
-      elim (pid_eq y.pid p) as (λ b. pid_eq y.pid p ≡ b
-      → cond b (made r) y ≡ y) [
-        | true ↦ λ mine.
-            let who : p ≡ x = sym (pid_same y.pid p mine) ∙ process_pid s x y is in
-            ap made (same_Some r y (sym at ∙ ap (process s) who ∙ is))
-        | false ↦ λ other. refl
-      ] refl in
-      ap (traced_by p) same
-
-  after_one : (x : Pid) → process (outcome_of s (act.Tracer p true) switched).after x
-      ≡ option_map (traced_by p) (process s x)
-  after_one x =
-      let a = act.Tracer p true in
-      process-map (changed a switched) (changed_pid a switched) s x
-      ∙ elim (process s x) as (λ found. process s x ≡ found
-      → option_map (changed a switched) found ≡ option_map (traced_by p) found) [
-        | None ↦ λ is. refl
-        | Some y ↦ λ is. ap (λ (z : Process). Some z) (one_traced x y is)
-      ] refl
-
-mapped_twice : (f g : Process → Process) (o : Option Process)
-    → option_map g (option_map f o) ≡ option_map (λ r. g (f r)) o
-mapped_twice f g None = refl
-mapped_twice f g (Some r) = refl
-
-mapped_same : (o : Option Process) → o ≡ option_map (λ r. r) o
-mapped_same None = refl
-mapped_same (Some r) = refl
-
-mapped_there : (f : Process → Process) (o : Option Process) → is_some (option_map f o) ≡ is_some o
-mapped_there f None = refl
-mapped_there f (Some r) = refl
-
-traced : (top : ℕ) (ps : List Pid) (s : State) → AreThere s ps → IsTraced top s ps
-unfolding AreThere
-traced top [] s there = record {
-  os = [];
-  runs = refl;
-  silent = tt;
-  after = λ x.
-      mapped_same (process s x);
-}
-traced top (p ∷ ps) s there =
-    let at = some_of (process s p) (there 0 p refl) in
-    let r = at.0 in
-    let a = act.Tracer p true in
-    let now = switched top s p r at.1 in
-    let o = outcome_of s a now in
-    let first : step top s a ≡ Some o = step_done top s a r r now at.1 at.1 refl in
-    let here = after_one top s p r at.1 in
-    let rest = traced top ps o.after (λ k x h. ap (λ (q : Option Process). is_some q) (here x)
-    ∙ mapped_there (traced_by p) (process s x) ∙ there (suc k) x h) in
-    record {
-      os = o ∷ rest.os;
-      runs = ap (option_and_then (λ (o : Outcome). option_map (λ os. o ∷ os)
-          (run_from top o.after (tracers ps)))) first
-          ∙ ap (option_map (λ os. o ∷ os)) rest.runs;
-      silent = (refl, rest.silent);
-      after = λ x. rest.after x ∙ ap (option_map (traced_by_all ps)) (here x)
-          ∙ mapped_twice (traced_by p) (traced_by_all ps) (process s x);
-    }
-
--- FROM ZERO
+-- AFTER THE TRACERS
 
 abbrev zeroes : Bool → Pid → Process
 zeroes b x = record { pid = x; local = record zero_local { traced = b }; queue = [] }
-
-stays_traced : (ps : List Pid) (x : Pid) → traced_by_all ps (zeroes true x) ≡ zeroes true x
-stays_traced [] x = refl
-stays_traced (p ∷ ps) x =
-    ap (traced_by_all ps) (elim (node_eq x p) as (λ b.
-    cond b (zeroes true x) (zeroes true x) ≡ zeroes true x) [
-      | true ↦ refl
-      | false ↦ refl
-    ])
-    ∙ stays_traced ps x
-
-traced_among : (ps : List Pid) (x : Pid) (k : ℕ) → slice_get ps k ≡ Some x
-    → traced_by_all ps (zeroes false x) ≡ zeroes true x
-traced_among [] x k h = absurd (none-some x h)
-traced_among (p ∷ ps) x k h =
-    let next = λ (b : Bool). traced_by_all ps (cond b (zeroes true x) (zeroes false x)) in
-    elim k as (λ k. slice_get (p ∷ ps) k ≡ Some x → next (node_eq x p) ≡ zeroes true x) [
-      | zero ↦ λ h.
-          let near : node_eq x p ≡ true = eq-eqb x.node p.node
-          (ap (λ (q : Pid). q.node) (sym (same_Some p x h))) in
-          ap next near ∙ stays_traced ps x
-      | suc j ↦ λ h. elim (node_eq x p) as (λ b. next b ≡ zeroes true x) [
-        | true ↦ stays_traced ps x
-        | false ↦ traced_among ps x j h
-      ]
-    ] h
 
 zero_at : (pids : List Pid) (x : Pid) (r : Process) → process (zero_state pids) x ≡ Some r
     → (r ≡ zeroes false x) × (k : ℕ) × (slice_get pids k ≡ Some x)
@@ -165,45 +45,99 @@ zero_at (p ∷ pids) x r h =
       | false ↦ λ e h. let rest = zero_at pids x r h in (rest.0, suc rest.1, rest.2)
     ] refl h
 
-zero_there : (pids : List Pid) → AreThere (zero_state pids) pids
-unfolding AreThere
-zero_there [] k x h = absurd (none-some x h)
-zero_there (p ∷ pids) zero x h =
-    ap (λ b. is_some (cond b (Some (zeroes false p)) (process (zero_state pids) x)))
-    (ap (λ q. pid_eq q x) (same_Some p x h) ∙ pid_eq-refl x)
-zero_there (p ∷ pids) (suc k) x h =
-    elim (pid_eq p x) as (λ b. is_some (cond b (Some (zeroes false p))
-    (process (zero_state pids) x)) ≡ true) [
-      | true ↦ refl
-      | false ↦ zero_there pids k x h
+abbrev AreBlank : State → Type 0
+AreBlank s = (x : Pid) (r : Process) → process s x ≡ Some r → r.local.token ≡ None
+
+abbrev AreTracers : List Act → Type 0
+AreTracers acts = AllByRecursion (λ a. (p : Pid) × (act.Tracer p true ≡ a)) acts
+
+-- a tracer leaves each process its token
+tracer_token : (p : Pid) (before r : Process) → before.local.token ≡ None → r.local.token ≡ None
+    → (changed (act.Tracer p true) (answers before before.local (reply.Was before.local.traced))
+    r).local.token ≡ None
+tracer_token p before r first here =
+    let own = λ (b : Bool). cond b (record r { local = before.local; queue = before.queue }) r in
+    let out = λ (b c : Bool). cond c (let x : Process = record (own b) {
+      local = record (own b).local { traced = true };
+    } in x) (own b) in
+    elim (pid_eq r.pid p) as (λ b. (out b (node_eq (own b).pid p)).local.token ≡ None) [
+      | true ↦ elim (node_eq r.pid p) as (λ c. (out true c).local.token ≡ None)
+          [ true ↦ first | false ↦ first ]
+      | false ↦ elim (node_eq r.pid p) as (λ c. (out false c).local.token ≡ None)
+          [ true ↦ here | false ↦ here ]
     ]
 
-zero_loud : (top : ℕ) (pids : List Pid) (t : IsTraced top (zero_state pids) pids)
-    → IsLoud (zero_state pids) (state_after (zero_state pids) t.os)
-zero_loud top pids t x =
-    t.after x
-    ∙ elim (process (zero_state pids) x) as (λ found. process (zero_state pids) x ≡ found
-    → option_map (traced_by_all pids) found ≡ option_map loud found) [
-      | None ↦ λ is. refl
+blank_step : (top : ℕ) (s : State) (p : Pid) (o : Outcome)
+    → step top s (act.Tracer p true) ≡ Some o → AreBlank s → AreBlank o.after
+blank_step top s p o h blank x r at =
+    let a = act.Tracer p true in
+    let t = step_parts top s a o h in
+    let was = mapped (changed a t.done) (process s x) r (sym (process_after top s a o t x) ∙ at) in
+    let done : answers t.before t.before.local (reply.Was t.before.local.traced) ≡ t.done =
+    same_Some _ t.done t.is_done in
+    ap (λ (y : Process). y.local.token) (sym was.2)
+    ∙ ap (λ d. (changed a d was.0).local.token) (sym done)
+    ∙ tracer_token p t.before was.0 (blank p t.before t.is_before) (blank x was.0 was.1)
+
+blank_after : (top : ℕ) (acts : List Act) (s : State) (os : List Outcome)
+    → run_from top s acts ≡ Some os → AreTracers acts → AreBlank s → AreBlank (state_after s os)
+blank_after top [] s os h all blank =
+    subst (λ zs. AreBlank (state_after s zs)) (same_Some [] os h) blank
+blank_after top (a ∷ acts) s os h all blank =
+    let x = run_parts top s a acts os h in
+    let one = blank_step top s all.0.0 x.first (ap (step top s) all.0.1 ∙ x.is_first) blank in
+    subst (λ zs. AreBlank (state_after s zs)) (sym x.is_whole)
+    (blank_after top acts x.first.after x.others x.is_rest all.1 one)
+
+same_zero : (x : Pid) (y : Process) → y.pid ≡ x → y.local.token ≡ None → y.local.clock ≡ 0
+    → y.local.last ≡ 0 → y.queue ≡ [] → y.local.traced ≡ true → y ≡ zeroes true x
+same_zero x y who blank clocked lasted queued on = λ k. record {
+  pid = who k;
+  local = record { token = blank k; clock = clocked k; last = lasted k; traced = on k };
+  queue = queued k;
+}
+
+nothing_there : (o : Option Process) → is_some o ≡ false → o ≡ None
+nothing_there None h = refl
+nothing_there (Some r) h = absurd (false≢true (sym h))
+
+zero_loud : (top : ℕ) (pids : List Pid) (acts : List Act)
+    (o : IsOpened top (zero_state pids) acts pids) → AreTracers acts
+    → IsLoud (zero_state pids) (state_after (zero_state pids) o.os)
+zero_loud top pids acts o all x =
+    let after = state_after (zero_state pids) o.os in
+    let there = λ (r : Option Process) (is : process (zero_state pids) x ≡ r).
+    o.there x ∙ ap (λ (q : Option Process). is_some q) is in
+    elim (process (zero_state pids) x) as (λ found. process (zero_state pids) x ≡ found
+    → process after x ≡ option_map loud found) [
+      | None ↦ λ is. nothing_there (process after x) (there None is)
       | Some r ↦ λ is.
           let at = zero_at pids x r is in
-          ap (λ (y : Process). Some y)
-          (ap (traced_by_all pids) at.0 ∙ traced_among pids x at.1 at.2 ∙ ap loud (sym at.0))
+          let now = some_of (process after x) (there (Some r) is) in
+          let z = o.zero x now.0 now.1 in
+          let blank = blank_after top acts (zero_state pids) o.os o.runs all
+          (λ y w there. ap (λ (v : Process). v.local.token) (zero_at pids y w there).0) x now.0
+          now.1 in
+          now.1 ∙ ap (λ (y : Process). Some y)
+          (same_zero x now.0 (process_pid after x now.0 now.1) blank z.clocked z.lasted z.queued
+          (o.all at.1 x at.2 now.0 now.1) ∙ ap loud (sym at.0))
     ] refl
 
-tracers_plain : (ps : List Pid) → NoReset (tracers ps)
-tracers_plain [] = tt
-tracers_plain (p ∷ ps) = (refl, tracers_plain ps)
+are_tracers : (seen : Option ℕ) (ps : List Pid) → AreTracers (tracers_after seen ps)
+are_tracers seen [] = tt
+are_tracers seen (p ∷ ps) =
+    elim (option_map_or (λ n. n == p.node) seen false) as
+    (λ b. AreTracers (cond b (tracers_after seen ps)
+    (act.Tracer p true ∷ tracers_after (Some p.node) ps))) [
+      | true ↦ are_tracers seen ps
+      | false ↦ ((p, refl), are_tracers (Some p.node) ps)
+    ]
 
-tracers_whole : (s : State) (ps : List Pid) (os : List Outcome)
-    → ReportsEverything s (tracers ps) os
-tracers_whole s [] os = tt
-tracers_whole s (p ∷ ps) [] = tt
-tracers_whole s (p ∷ ps) (o ∷ os) = (
-  λ r at moves. absurd (false≢true moves),
-  tracers_whole o.after
-      ps os,
-)
+tracers_stay : (acts : List Act) → AreTracers acts
+    → AllByRecursion (λ a. (r : Process) → moves_token r a ≡ false) acts
+tracers_stay [] all = tt
+tracers_stay (a ∷ acts) all =
+    (λ r. ap (moves_token r) (sym all.0.1), tracers_stay acts all.1)
 
 -- THE COMPLETION
 
@@ -242,30 +176,30 @@ module _ (top : ℕ) (streams : List Stream) (acts : List Act) (shows : Shows to
   same_pids (x ∷ some) = ap (λ ps. x.pid ∷ ps) (same_pids some)
 
   module _ (none : NoReset acts) where
-    begun : IsTraced top start pids
-    begun = traced top pids start (zero_there pids)
+    begun : IsOpened top start (tracers_after None pids) pids
+    begun = (opens top streams all_told).0
 
     then_heard : AreHeard top start (state_after start begun.os) acts shows.0
     then_heard = are_heard top start (state_after start begun.os) acts shows.0 shows.1 none
-        (zero_loud top pids begun)
+        (zero_loud top pids (tracers_after None pids) begun (are_tracers None pids))
 
     abbrev heard : List Act
-    heard = tracers pids ++ then_heard.heard
+    heard = tracers_after None pids ++ then_heard.heard
 
     abbrev outcomes : List Outcome
     outcomes = begun.os ++ then_heard.outcomes
 
     heard_runs : run top pids heard ≡ Some outcomes
-    heard_runs = run_append top start (tracers pids) then_heard.heard begun.os then_heard.outcomes
+    heard_runs = run_append top start (tracers_after None pids) then_heard.heard begun.os then_heard.outcomes
         begun.runs
         then_heard.runs
 
     heard_tells : (p : Pid) → stream heard outcomes p ≡ map (λ m. m.event) (marks p)
     heard_tells p =
-        stream_append top start (tracers pids) then_heard.heard begun.os then_heard.outcomes p
+        stream_append top start (tracers_after None pids) then_heard.heard begun.os then_heard.outcomes p
         begun.runs
         ∙ ap (λ es. es ++ stream then_heard.heard then_heard.outcomes p)
-        (stream_silent (tracers pids) begun.os p begun.silent)
+        (stream_silent (tracers_after None pids) begun.os p begun.silent)
         ∙ then_heard.tells p
 
     heard_shows : Shows top (all_streams wholes) heard
@@ -284,15 +218,16 @@ module _ (top : ℕ) (streams : List Stream) (acts : List Act) (shows : Shows to
     )
 
     heard_plain : NoReset heard
-    heard_plain = no_reset_append (tracers pids) then_heard.heard (tracers_plain pids)
+    heard_plain = append_none (tracers_after None pids) then_heard.heard (tracers_none None pids)
         then_heard.one_trace
 
     heard_whole : ReportsEverything (zero_state (pids_of (all_streams wholes))) heard outcomes
     heard_whole = subst (λ ps. ReportsEverything (zero_state ps) heard outcomes)
         (sym (same_pids streams))
-        (whole_append top start (tracers pids) then_heard.heard begun.os then_heard.outcomes
+        (whole_append top start (tracers_after None pids) then_heard.heard begun.os then_heard.outcomes
         begun.runs
-        (tracers_whole start pids begun.os) then_heard.whole)
+        (stays_whole start (tracers_after None pids) begun.os
+        (tracers_stay (tracers_after None pids) (are_tracers None pids))) then_heard.whole)
 
     pub wholes_full : IsFull top (all_streams wholes)
     unfolding heard_shows
