@@ -14,8 +14,8 @@ use Rattle.st_core.proofs.ForCallers.{pid_eq-refl, pid_same}
 use Rattle.st_pair.specs.declared.answer.PairFault.{PairFault}
 use Rattle.st_pair.specs.declared.answer.PairFault.TheVariants as fault
 use Rattle.st_pair.specs.Places.{event_at, first, is_stamp}
-use Rattle.st_pair.specs.Pairing.{agrees, first_rule, mismatch, not_rising, prev_not_before, receive_of, refusal}
-use Rattle.st_pair.specs.Pairing.{repeated, stamp_before, stamp_of}
+use Rattle.st_pair.specs.Pairing.{agrees, first_rule, mismatch, not_rising, prev_not_before}
+use Rattle.st_pair.specs.Pairing.{receive_of, refusal, repeated, stamp_before, stamp_of}
 use Rattle.st_pair.proofs.ForCallers.{given_at, given_from, got_rule, own_rule, Rule}
 
 -- WHAT RULES SAY

@@ -1,9 +1,9 @@
 -- Each receive gets its send. A send that nobody reported comes right behind the last stamp of a
 -- lower count, or before all events of its process. So it is in turn with the other stamps, and if
 -- its prev is 0, all that is before it are stamps with prev 0.
-use Rattle.std.proofs.Common.{[], ◌≡◌, ◌≢◌, ◌⊎◌, inl, inr, ℕ, zero, suc, ◌<◌, ◌≤◌, ◌&&◌, nat_lt, Bool, true, false, List}
-use Rattle.std.proofs.Common.{◌∷◌, ◌++◌, map, length, Option, Some, None, cond, is_some, slice_get, refl, sym, ◌∙◌, ap}
-use Rattle.std.proofs.Common.{subst, arith}
+use Rattle.std.proofs.Common.{[], ◌≡◌, ◌≢◌, ◌⊎◌, inl, inr, ℕ, zero, suc, ◌<◌, ◌≤◌, ◌&&◌, nat_lt}
+use Rattle.std.proofs.Common.{Bool, true, false, List, ◌∷◌, ◌++◌, map, length, Option, Some, None}
+use Rattle.std.proofs.Common.{cond, is_some, slice_get, refl, sym, ◌∙◌, ap, subst, arith}
 use Rattle.std.specs.List.{AllByRecursion}
 use Rattle.std.specs.Option.{option_map_or}
 use Rattle.std.proofs.lemmas.Bool.{and_from, and_parts, cases_lt, false≢true, ltb-false, ltb-true}
@@ -21,9 +21,8 @@ use Rattle.st_pair.proofs.ForCallers.{agrees_if, events_in}
 use Rattle.st_order.proofs.ForCallers.{all_found, AreFound}
 use Rattle.st_plan.specs.Marks.{all_streams, told_streams, Whole}
 use Rattle.st_plan.proofs.ForCallers.{named}
-use Rattle.lack_laws.proofs.InsertedEvents.{is_placed, more, new_there, stays}
+use Rattle.lack_laws.proofs.InsertedEvents.{is_placed, more, new_there, stays, all_from}
 use Rattle.lack_laws.proofs.Lookups.{HasStamp, none_stamped, stamp_if}
-use Rattle.lack_laws.proofs.LongerStreams.{all_from}
 use Rattle.lack_laws.proofs.OpenStreams.{AreSent, CanJoin, IsOpen, Leads, open_with, stamp_stays}
 use Rattle.lack_laws.proofs.NeedlessStreams.{all_same, marks_all, told_same}
 use Rattle.lack_laws.proofs.OwnEvents.{own_at, received_to, stamper}
@@ -217,8 +216,6 @@ module _ (top : ℕ) (streams : List Stream) (good : IsOpen top streams) (p : Pi
     };
     fits = record {
       rises = good.fit.rises p i e at;
-      above = λ stamps j d less at_d _. (behind j d less at_d stamps).0;
-      below = λ _ j d less at_d stamps. (ahead j d less at_d stamps).0;
       taken = λ _ x j d at_d receives_d from count. taken x j d at_d receives_d from count;
       fresh = λ never. absurd (false≢true (sym never));
       sent = λ never. absurd (false≢true (sym never));

@@ -1,20 +1,27 @@
 -- An untold event can be put into streams where it fits: any two events of the longer streams fit
--- together, since each of them stood there before or is the new one.
-use Rattle.std.proofs.Common.{[], ◌≡◌, ℕ, zero, suc, ◌+◌, ◌<◌, ◌≤◌, ◌⊎◌, Bool, true, false, cond, List, ◌∷◌, ◌++◌, map}
-use Rattle.std.proofs.Common.{take, drop, length, Some, None, is_some, inl, inr, slice_get, refl, sym, ◌∙◌, ap, subst}
-use Rattle.std.proofs.Common.{arith}
+-- together, since each of them stood there before or is the new one. They are streams still, if its
+-- process may report it among all of them.
+use Rattle.std.proofs.Common.{[], ◌≡◌, ℕ, zero, suc, ◌+◌, ◌<◌, ◌≤◌, ◌⊎◌, Bool, true, false, cond}
+use Rattle.std.proofs.Common.{List, ◌∷◌, ◌++◌, map, take, drop, length, Some, None, is_some, inl}
+use Rattle.std.proofs.Common.{inr, slice_get, refl, sym, ◌∙◌, ap, subst, arith}
 use Rattle.std.proofs.lemmas.Bool.{false≢true}
 use Rattle.std.proofs.lemmas.Option.{none-some, same_Some}
 use Rattle.st_core.specs.declared.types.Pid.{Pid}
 use Rattle.st_core.specs.declared.types.Event.{Event}
-use Rattle.st_core.specs.Pid.{pid_eq}
+use Rattle.st_core.specs.Pid.{pid_eq, IsRising}
 use Rattle.st_core.specs.Run.{Stream, pids_of}
-use Rattle.st_core.specs.Streams.{events_of, lists, stream_of}
+use Rattle.st_core.specs.Streams.{events_of, lists, stream_of, IsStreams}
 use Rattle.st_core.proofs.ForCallers.{pid_eq-refl, pid_same}
+use Rattle.st_core.proofs.ForCallers.{are_own, AreReports, names_among_listed, unlisted_none}
 use Rattle.st_pair.specs.Places.{event_at, is_stamp}
 use Rattle.st_pair.specs.Pairing.{agrees}
 use Rattle.st_pair.proofs.ForCallers.{events_in}
 use Rattle.lack_laws.proofs.AcceptedStreams.{FitTogether}
+use Rattle.std.specs.List.{AllByRecursion}
+use Rattle.st_core.specs.Laws.{IsReportAmong}
+use Rattle.st_order.proofs.ForCallers.{all_found, AreFound}
+use Rattle.lack_laws.proofs.OwnEvents.{own_at}
+use Rattle.st_plan.proofs.ForCallers.{named}
 
 -- THE STREAMS WITH IT
 
@@ -250,21 +257,10 @@ module _ (p : Pid) (i : ℕ) (r : Event) (streams : List Stream)
         ]
       ]
 
--- of two stamps the later one is greater
-abbrev Grows : Event → Event → Type 0
-Grows d e = is_stamp d ≡ true → is_stamp e ≡ true → d.serial.this < e.serial.this
-
--- an event that fits before event i of p: its serial rises; a stamp is above the stamps before it
--- and below those after it, and a receive of its message agrees with it; a receive is the first of
--- its message, and agrees with its sender's stamp
-pub record FitsAt (streams : List Stream) (p : Pid) (i : ℕ) (r : Event) : Type 0 where
+-- an event that fits among those of p if it is in turn: its serial rises; a receive of its
+-- message agrees with it; a receive is the first of its message, and agrees with its sender's stamp
+pub record FitsIn (streams : List Stream) (p : Pid) (r : Event) : Type 0 where
   pub rises : r.serial.prev < r.serial.this
-  pub above : is_stamp r ≡ true → (j : ℕ) (d : Event) → j < i → event_at streams p j ≡ Some d
-      → is_stamp d ≡ true
-      → d.serial.this < r.serial.this
-  pub below : is_stamp r ≡ true → (j : ℕ) (d : Event) → i ≤ j → event_at streams p j ≡ Some d
-      → is_stamp d ≡ true
-      → r.serial.this < d.serial.this
   pub taken : is_stamp r ≡ true → (q : Pid) (j : ℕ) (e : Event) → event_at streams q j ≡ Some e
       → is_stamp e ≡ false
       → e.from ≡ p → r.serial.this ≡ e.serial.this → agrees r e ≡ true
@@ -277,7 +273,7 @@ pub record FitsAt (streams : List Stream) (p : Pid) (i : ℕ) (r : Event) : Type
 
 module _ (p : Pid) (i : ℕ) (r : Event) (streams : List Stream)
     (within : i ≤ length (events_of streams p))
-    (fit : FitTogether streams) (fits : FitsAt streams p i r) where
+    (fit : FitTogether streams) (fits : FitsIn streams p r) where
   abbrev is : (q : Pid) (k : ℕ) (e : Event) → event_at (more p i r streams) q k ≡ Some e
       → ((q ≡ p) × IsNew i r k e) ⊎ IsOld (events_of streams q) (pid_eq q p) i k e
   is = is_placed p i r streams within
@@ -337,17 +333,80 @@ module _ (p : Pid) (i : ℕ) (r : Event) (streams : List Stream)
     ]
   ]
 
-  pub fit_with : FitTogether (more p i r streams)
-  fit_with = record {
+  -- if the stamps of each process are in turn
+  pub fit_with : ((q : Pid) (j k : ℕ) (d e : Event) → j < k
+      → event_at (more p i r streams) q j ≡ Some d → event_at (more p i r streams) q k ≡ Some e
+      → is_stamp d ≡ true → is_stamp e ≡ true → d.serial.this < e.serial.this)
+      → FitTogether (more p i r streams)
+  fit_with grows = record {
     rises = λ q k e at. elim (is q k e at) [
       | inl new ↦ subst (λ (x : Event). x.serial.prev < x.serial.this) new.1.1 fits.rises
       | inr old ↦ fit.rises q old.index e old.at
     ];
-    grows = λ q j k d e less at_d at_e. in_turn_with p i r streams within Grows
-        (λ q j k d e less at_d at_e. fit.grows q j k d e less at_d at_e)
-        (λ j d less at stamps_d stamps. fits.above stamps j d less at stamps_d)
-        (λ j d less at stamps stamps_d. fits.below stamps j d less at stamps_d)
-        q j k d e less at_d at_e;
+    grows = grows;
     once = once_with;
     agree = agree_with;
   }
+
+-- STREAMS STILL
+
+pub all_from : {X : Type 0} (P : X → Type 0) (xs : List X)
+    → ((k : ℕ) (x : X) → slice_get xs k ≡ Some x → P x)
+    → AllByRecursion P xs
+all_from P [] each = tt
+all_from P (x ∷ xs) each = (each 0 x refl, all_from P xs (λ k y at. each (suc k) y at))
+
+all_put : {X : Type 0} (P : X → Type 0) (i : ℕ) (x : X) (xs : List X) → AllByRecursion P xs → P x
+    → AllByRecursion P (take i xs ++ x ∷ drop i xs)
+all_put P zero x xs all here = (here, all)
+all_put P (suc i) x [] all here = (here, tt)
+all_put P (suc i) x (y ∷ xs) all here = (all.0, all_put P i x xs all.1 here)
+
+pub reports_of : (streams : List Stream) → IsStreams streams → AreReports (pids_of streams) streams
+reports_of streams sound = along streams (all_found streams sound.draft.rising)
+  where
+    each : (p : Pid) (i : ℕ) (e : Event) → event_at streams p i ≡ Some e
+        → IsReportAmong (pids_of streams) p e
+    each p i e at = record {
+      own = own_at streams p i e sound.draft.own at;
+      names = sym (names_among_listed streams e) ∙ named streams sound p i e at;
+    }
+
+    along : (some : List Stream) → AreFound streams some → AreReports (pids_of streams) some
+    along [] found = tt
+    along (x ∷ some) found = (
+      all_from (IsReportAmong (pids_of streams) x.pid) x.events (λ k e at. each x.pid k e
+          (ap (λ es. slice_get es k) found.0 ∙ at)),
+      along some found.1,
+    )
+
+pub sound_of : (streams : List Stream) → IsRising (pids_of streams)
+    → AreReports (pids_of streams) streams
+    → IsStreams streams
+sound_of streams rising reports = record {
+  draft = record { rising = rising; own = are_own (pids_of streams) streams reports };
+  listed = unlisted_none streams streams reports;
+}
+
+module _ (p : Pid) (i : ℕ) (r : Event) (pids : List Pid) (report : IsReportAmong pids p r) where
+  put_reports : (streams : List Stream) → AreReports pids streams
+      → AreReports pids (more p i r streams)
+  put_reports [] all = tt
+  put_reports (x ∷ streams) all = (
+    elim (pid_eq x.pid p) as (λ b. pid_eq x.pid p ≡ b → AllByRecursion (IsReportAmong pids x.pid)
+        (cond b (take i x.events ++ r ∷ drop i x.events) x.events)) [
+          | true ↦ λ same. all_put (IsReportAmong pids x.pid) i r x.events all.0
+              (subst (λ q. IsReportAmong pids q r) (sym (pid_same x.pid p same)) report)
+          | false ↦ λ _. all.0
+        ] refl,
+    put_reports streams all.1,
+  )
+
+pub sound_with : (p : Pid) (i : ℕ) (r : Event) (streams : List Stream) → IsStreams streams
+    → IsReportAmong (pids_of streams) p r → IsStreams (more p i r streams)
+sound_with p i r streams sound report =
+    let longer = more p i r streams in
+    let same = sym (with_pids p i r streams) in
+    sound_of longer (subst IsRising same sound.draft.rising)
+    (subst (λ ps. AreReports ps longer) same (put_reports p i r (pids_of streams) report streams
+    (reports_of streams sound)))

@@ -13,7 +13,6 @@ pub mod ReplacedCounts
 pub mod SameNames
 pub mod Renumbering
 pub mod Ranks
-pub mod LongerStreams
 pub mod Lookups
 pub mod FittingStreams
 mod Cases
@@ -21,7 +20,6 @@ mod Cases
 pub mod SilentStreams
 pub mod FinalZeros
 pub mod PutEvents
-pub mod FreshPids
 pub mod OpenStreams
 pub mod HiddenSends
 pub mod SilentSenders

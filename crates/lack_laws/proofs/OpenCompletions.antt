@@ -1,8 +1,8 @@
 -- If no reason holds of streams, they have a completion with enough processes that report nothing:
 -- each receive gets its send, and then each stamp that needs a receive gets one from a process of
 -- its own.
-use Rattle.std.proofs.Common.{[], ◌≡◌, inl, inr, ℕ, zero, suc, ◌<◌, ◌||◌, true, false, List, ◌∷◌, take}
-use Rattle.std.proofs.Common.{Some, slice_get, refl, sym, ◌∙◌, ap, arith}
+use Rattle.std.proofs.Common.{[], ◌≡◌, inl, inr, ℕ, zero, suc, ◌<◌, ◌||◌, true, false, List, ◌∷◌}
+use Rattle.std.proofs.Common.{take, Some, slice_get, refl, sym, ◌∙◌, ap, arith}
 use Rattle.std.proofs.lemmas.Bool.{cases_lt}
 use Rattle.st_core.specs.declared.types.Pid.{Pid}
 use Rattle.st_core.specs.declared.types.Event.{Event}

@@ -1,17 +1,17 @@
 -- The reasons decide: if one holds it is final, with any processes that report nothing, since it
 -- would hold of the streams of a run; and if none holds, enough such processes send what is needed.
-use Rattle.std.proofs.Common.{◌≡◌, ◌↔◌, inl, inr, ℕ, ◌||◌, true, false, cond, take, List, Some, None, slice_get}
-use Rattle.std.proofs.Common.{refl, sym, ◌∙◌, ap, subst, arith}
+use Rattle.std.proofs.Common.{◌≡◌, ◌↔◌, inl, inr, ℕ, ◌||◌, true, false, cond, take, List, Some}
+use Rattle.std.proofs.Common.{None, slice_get, refl, sym, ◌∙◌, ap, subst, arith}
 use Rattle.std.proofs.lemmas.Bool.{false≢true, ltb-true}
 use Rattle.std.proofs.lemmas.Option.{none-some}
 use Rattle.st_core.specs.declared.types.Pid.{Pid}
 use Rattle.st_core.specs.Run.{Stream, Shows}
-use Rattle.st_core.specs.Streams.{IsStreams}
+use Rattle.st_core.specs.Streams.{IsStreams, events_of}
 use Rattle.st_pair.specs.Pairing.{refusal}
-use Rattle.st_pair.proofs.ForCallers.{refused_never_shown}
+use Rattle.st_pair.proofs.ForCallers.{refused_never_shown, own_rule, paired}
 use Rattle.lack_laws.specs.Completed.{IsShownInOneTrace}
-use Rattle.lack_laws.specs.OpenReasons.{HasNoOpenReason, Late, OpenReason, Refused, StandsAgainstOpen}
-use Rattle.lack_laws.specs.OpenReasons.{IsUnfounded, TooHigh, Unfounded}
+use Rattle.lack_laws.specs.OpenReasons.{HasNoOpenReason, Late, OpenReason, Refused}
+use Rattle.lack_laws.specs.OpenReasons.{StandsAgainstOpen, IsUnfounded, TooHigh, Unfounded}
 use Rattle.st_core.specs.declared.types.Act.{Act}
 use Rattle.st_core.specs.Laws.{NoReset}
 use Rattle.lack_laws.specs.Silent.{IsShownWithOthers, with_silent}
@@ -24,11 +24,9 @@ use Rattle.lack_laws.proofs.OpenCompletions.{none_shown_with}
 use Rattle.lack_laws.proofs.SilentStreams.{silent_events, silent_sound}
 use Rattle.lack_laws.proofs.AcceptedStreams.{accepted_if, fit_as}
 use Rattle.lack_laws.proofs.FittingStreams.{fit_together}
-use Rattle.st_core.specs.Streams.{events_of}
 use Rattle.st_pair.specs.Places.{event_at, first_from, is_stamp}
 use Rattle.st_pair.specs.declared.answer.Source.{Source}
 use Rattle.st_pair.specs.declared.answer.Source.TheVariants as source
-use Rattle.st_pair.proofs.ForCallers.{own_rule, paired}
 use Rattle.st_order.specs.Items.{is_hidden}
 use Rattle.st_core.specs.declared.types.Event.{Event}
 

@@ -10,10 +10,9 @@ use Rattle.st_core.specs.Streams.{events_of, IsStreams, lists}
 use Rattle.st_pair.specs.Places.{event_at, is_stamp}
 use Rattle.lack_laws.specs.Silent.{inserted}
 use Rattle.lack_laws.proofs.AcceptedStreams.{fit_as, FitTogether}
-use Rattle.lack_laws.proofs.InsertedEvents.{any_two_with, fit_with, FitsAt, in_turn_with, is_placed}
-use Rattle.lack_laws.proofs.InsertedEvents.{more, stays}
+use Rattle.lack_laws.proofs.InsertedEvents.{any_two_with, fit_with, FitsIn, in_turn_with, is_placed}
+use Rattle.lack_laws.proofs.InsertedEvents.{more, stays, sound_with}
 use Rattle.lack_laws.proofs.Lookups.{HasStamp}
-use Rattle.lack_laws.proofs.LongerStreams.{sound_with}
 use Rattle.lack_laws.proofs.SilentStreams.{events_inserted, streams_inserted}
 
 -- e comes after d in its process: if e is a stamp, it is above d; and if it has prev 0, d is none
@@ -48,7 +47,7 @@ AreSent streams = (p : Pid) (i : ℕ) (e : Event) → event_at streams p i ≡ S
 pub record CanJoin (top : ℕ) (streams : List Stream) (p : Pid) (i : ℕ) (r : Event) : Type 0 where
   pub inside : i ≤ length (events_of streams p)
   pub report : IsReportAmong (pids_of streams) p r
-  pub fits : FitsAt streams p i r
+  pub fits : FitsIn streams p r
   pub behind : (j : ℕ) (d : Event) → j < i → event_at streams p j ≡ Some d → Leads d r
   pub ahead : (j : ℕ) (d : Event) → i ≤ j → event_at streams p j ≡ Some d → Leads r d
   pub roots : (q : Pid) (j : ℕ) (d : Event) → event_at streams q j ≡ Some d → Roots d r × Roots r d
@@ -56,11 +55,17 @@ pub record CanJoin (top : ℕ) (streams : List Stream) (p : Pid) (i : ℕ) (r : 
 
 module _ (top : ℕ) (streams : List Stream) (good : IsOpen top streams) (p : Pid) (i : ℕ)
     (r : Event) (joins : CanJoin top streams p i r) where
+  leads_with : (q : Pid) (j k : ℕ) (d e : Event) → j < k
+      → event_at (more p i r streams) q j ≡ Some d → event_at (more p i r streams) q k ≡ Some e
+      → Leads d e
+  leads_with = in_turn_with p i r streams joins.inside Leads good.leads joins.behind joins.ahead
+
   pub open_with : IsOpen top (more p i r streams)
   open_with = record {
     sound = sound_with p i r streams good.sound joins.report;
-    fit = fit_with p i r streams joins.inside good.fit joins.fits;
-    leads = in_turn_with p i r streams joins.inside Leads good.leads joins.behind joins.ahead;
+    fit = fit_with p i r streams joins.inside good.fit joins.fits
+        (λ q j k d e less at_d at_e _ stamps. (leads_with q j k d e less at_d at_e stamps).0);
+    leads = leads_with;
     roots = any_two_with p i r streams joins.inside Roots good.roots joins.roots
         (λ _ _ less. absurd (omega arith));
     within = λ q k e at. elim (is_placed p i r streams joins.inside q k e at) [

@@ -1,7 +1,7 @@
 -- Whole streams with one more untold event, or with a process that did nothing: all that is in them,
 -- and what is told of them.
-use Rattle.std.proofs.Common.{[], ◌≡◌, ℕ, zero, suc, true, false, cond, List, ◌∷◌, ◌++◌, map, take, drop, if◌then◌else◌}
-use Rattle.std.proofs.Common.{refl, ◌∙◌, ap}
+use Rattle.std.proofs.Common.{[], ◌≡◌, ℕ, zero, suc, true, false, cond, List, ◌∷◌, ◌++◌, map, take}
+use Rattle.std.proofs.Common.{drop, if◌then◌else◌, refl, ◌∙◌, ap}
 use Rattle.std.specs.Ordering.{is_lt}
 use Rattle.st_core.specs.declared.types.Pid.{Pid}
 use Rattle.st_core.specs.declared.types.Event.{Event}

@@ -1,7 +1,7 @@
 -- Streams whose counts are replaced list the same processes, and each has its events, with their
 -- counts replaced.
-use Rattle.std.proofs.Common.{◌≡◌, ℕ, true, false, cond, List, [], ◌∷◌, Option, Some, None, map, slice_get}
-use Rattle.std.proofs.Common.{option_map, refl, ◌∙◌, ap}
+use Rattle.std.proofs.Common.{◌≡◌, ℕ, true, false, cond, List, [], ◌∷◌, Option, Some, None, map}
+use Rattle.std.proofs.Common.{slice_get, option_map, refl, ◌∙◌, ap}
 use Rattle.std.proofs.lemmas.Option.{slice_get-map}
 use Rattle.st_core.specs.declared.types.Pid.{Pid}
 use Rattle.st_core.specs.declared.types.Event.{Event}

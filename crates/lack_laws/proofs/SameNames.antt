@@ -12,7 +12,7 @@ use Rattle.st_core.proofs.ForCallers.{AreReports}
 use Rattle.st_core.specs.Streams.{IsStreams}
 use Rattle.st_plan.specs.Marks.{all_streams, Marked, told_events, told_streams, Whole}
 use Rattle.lack_laws.specs.Renumbering.{event_with, with_counts}
-use Rattle.lack_laws.proofs.LongerStreams.{reports_of, sound_of}
+use Rattle.lack_laws.proofs.InsertedEvents.{reports_of, sound_of}
 use Rattle.lack_laws.proofs.ReplacedCounts.{pids_with}
 
 module _ (f : ℕ → ℕ) where

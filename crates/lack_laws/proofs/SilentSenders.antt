@@ -23,7 +23,8 @@ use Rattle.st_plan.specs.Marks.{all_streams, told_streams, Whole}
 use Rattle.st_plan.proofs.ForCallers.{leaves, named}
 use Rattle.lack_laws.specs.Needs.{is_need}
 use Rattle.lack_laws.specs.Silent.{inserted, with_silent}
-use Rattle.lack_laws.proofs.FreshPids.{fresh, fresh_unlisted}
+use Rattle.lack_laws.proofs.SilentStreams.{fresh, fresh_unlisted}
+use Rattle.lack_laws.proofs.SilentStreams.{events_inserted, lists_inserted, still_listed}
 use Rattle.lack_laws.proofs.InsertedEvents.{is_placed, listed_at, more, new_there, with_pids}
 use Rattle.lack_laws.proofs.Lookups.{events_with, unlisted_events}
 use Rattle.lack_laws.proofs.OpenStreams.{AreSent, CanJoin, IsOpen, Leads, open_silent, open_with}
@@ -31,7 +32,6 @@ use Rattle.lack_laws.proofs.OpenStreams.{sent_silent, sent_with, there_before}
 use Rattle.lack_laws.proofs.OwnEvents.{own_at, stamper, told_pids}
 use Rattle.lack_laws.proofs.PutEvents.{all_inserted, put, put_more, put_told, told_inserted}
 use Rattle.lack_laws.proofs.PutEvents.{whole_inserted}
-use Rattle.lack_laws.proofs.SilentStreams.{events_inserted, lists_inserted, still_listed}
 
 -- ONE NEED
 
@@ -122,8 +122,6 @@ module _ (top : ℕ) (streams : List Stream) (good : IsOpen top streams) (p : Pi
     };
     fits = record {
       rises = some;
-      above = λ _ j d less. absurd (omega arith);
-      below = λ _ j d _ at_d. absurd (nothing j d at_d);
       taken = λ _ q j d at_d _ from. absurd (not_from q j d at_d from);
       fresh = λ never. absurd (false≢true (sym never));
       sent = λ never. absurd (false≢true (sym never));
@@ -195,8 +193,6 @@ module _ (top : ℕ) (streams : List Stream) (good : IsOpen top streams) (p : Pi
     };
     fits = record {
       rises = some;
-      above = λ never. absurd (false≢true never);
-      below = λ never. absurd (false≢true never);
       taken = λ never. absurd (false≢true never);
       fresh = λ _ q j d at_d receives_d from _. false≢true (sym receives_d
           ∙ ap is_stamp (sym (only q j d at_d from)));

@@ -1,7 +1,7 @@
 -- A process without events, put in by its pid, leaves the streams of all others as they are, and
--- streams stay streams.
-use Rattle.std.proofs.Common.{[], ◌≡◌, ◌||◌, Bool, true, false, cond, List, ◌∷◌, Option, Some, None, is_some}
-use Rattle.std.proofs.Common.{length, refl, sym, ◌∙◌, ap, subst, arith}
+-- streams stay streams. There always is a pid for one more.
+use Rattle.std.proofs.Common.{[], ◌≡◌, ℕ, suc, ◌<◌, map, ◌||◌, Bool, true, false, cond, List, ◌∷◌}
+use Rattle.std.proofs.Common.{Option, Some, None, is_some, length, refl, sym, ◌∙◌, ap, subst, arith}
 use Rattle.std.specs.declared.cmp.Ordering.TheVariants.{Less, Equal, Greater}
 use Rattle.std.specs.Ordering.{is_lt, ordering_reverse}
 use Rattle.std.specs.List.{AllByRecursion}
@@ -10,16 +10,16 @@ use Rattle.std.proofs.lemmas.Bool.{false≢true, and_parts, and_from}
 use Rattle.std.proofs.lemmas.List.Sums.{sum_by-cons}
 use Rattle.st_core.specs.declared.types.Pid.{Pid}
 use Rattle.st_core.specs.declared.types.Event.{Event}
-use Rattle.st_core.specs.Pid.{pid_cmp, pid_eq, IsBelow, IsRising}
+use Rattle.st_core.specs.Pid.{pid_cmp, pid_eq, pid_on, IsBelow, IsRising}
 use Rattle.st_core.specs.Run.{Stream, pids_of}
-use Rattle.st_core.specs.Streams.{events_of, is_among, IsStreams, lists}
-use Rattle.st_core.specs.Streams.{stream_of, total_of}
+use Rattle.st_core.specs.Streams.{events_of, is_among, IsStreams, lists, stream_of, total_of}
 use Rattle.st_core.proofs.ForCallers.{is_lt-true, pid_cmp-Equal, pid_eq-refl}
 use Rattle.st_core.proofs.ForCallers.{pid_same, IsBelow-trans, not_below_itself, or_right}
+use Rattle.st_core.proofs.ForCallers.{AreReports, lists_among}
 use Rattle.st_pair.proofs.ForCallers.{events_in, pid_total}
 use Rattle.st_core.specs.Laws.{IsReportAmong}
-use Rattle.st_core.proofs.ForCallers.{AreReports, lists_among}
-use Rattle.lack_laws.proofs.LongerStreams.{reports_of, sound_of}
+use Rattle.st_order.specs.Items.{greatest}
+use Rattle.lack_laws.proofs.InsertedEvents.{reports_of, sound_of}
 use Rattle.lack_laws.proofs.Lookups.{unlisted_events}
 use Rattle.lack_laws.specs.Silent.{inserted, silent, with_silent}
 
@@ -263,6 +263,31 @@ pub unlisted_with : (streams : List Stream) → IsStreams streams → (q : Pid) 
     → AllByRecursion (IsBelow q) qs → lists (with_silent streams qs) q ≡ false
 unlisted_with streams sound q qs none below =
     silent_lists streams sound qs q ∙ ap (λ b. b || is_among qs q) none ∙ above_none q qs below
+
+-- A PID THAT ISN'T LISTED
+
+abbrev numbers : List Stream → ℕ
+numbers streams = greatest (map (λ x. x.pid.number) streams)
+
+-- a pid with a number above all that are listed
+pub fresh : List Stream → Pid
+fresh streams = pid_on 0 (suc (numbers streams))
+
+above_unlisted : (streams : List Stream) (n : ℕ) → numbers streams < n
+    → lists streams (pid_on 0 n) ≡ false
+above_unlisted [] n above = refl
+above_unlisted (x ∷ rest) n above =
+    elim (pid_eq x.pid (pid_on 0 n)) as (λ b. pid_eq x.pid (pid_on 0 n) ≡ b
+    → is_some (cond b (Some x) (stream_of rest (pid_on 0 n))) ≡ false) [
+      | true ↦ λ is.
+          let number = ap (λ (p : Pid). p.number) (pid_same x.pid (pid_on 0 n) is) in
+          absurd (omega arith)
+      | false ↦ λ _. above_unlisted rest n (omega arith)
+    ] refl
+
+pub fresh_unlisted : (streams : List Stream) → lists streams (fresh streams) ≡ false
+unfolding fresh
+fresh_unlisted streams = above_unlisted streams (suc (numbers streams)) (omega arith)
 
 -- HOW MANY EVENTS THERE ARE
 
