@@ -8,7 +8,7 @@ as each module's `use` lines say it. So neither the names of crates nor their mo
 output, and a definition may move without a change there.
 
 Types come from the Rust files that the modules name. Several records have a field of the same name:
-so fields become classes (`p_token r` reads one, `u_token v r` replaces one). A record of facts becomes
+so a field is a class (`get _token r` reads one, `put _token v r` replaces one). A record of facts becomes
 `exists .., .. /\\ ..`, or a record of Coq if a definition asks for one of its fields. No definition
 has a rule of its own here, and what the script doesn't know, it refuses."""
 
@@ -16,17 +16,21 @@ import re
 import sys
 import textwrap
 from dataclasses import dataclass, field
+from itertools import groupby
+from operator import itemgetter
 from pathlib import Path
 
-# What Same.v and SameReasons.v speak about: the verdict, streams, and the law of the open world.
-ROOTS = ["IsVerdict", "IsStreams", "IsFollowing", "AllPaired", "NoReset", "IsShownWithOthers", "IsNever"]
+# What Same.v and SameReasons.v speak about: the verdict, streams, and the law of the open world; and
+# what SameNode.v does: the standard node's runs, and which stamps its events give.
+ROOTS = ["IsVerdict", "IsStreams", "IsFollowing", "AllPaired", "NoReset", "IsShownWithOthers", "IsNever",
+         "node_run", "seen_stream", "NoNodeReset", "ReportsTokens", "PutsBackOwn", "IsGiven"]
 
 # The words that Rattle's library has, and Library.v or Coq's own library too.
 LIBRARY = {
     "ℕ": "N", "Bool": "bool", "List": "list", "Option": "option", "Ordering": "comparison", "Unit": "True",
     "Less": "Lt", "nat_cmp": "N.compare", "nat_lt": "N.ltb", "length": "len", "not": "negb", "max": "N.max",
-    "map": "(@map _ _)", "find": "(@find _)", "zero": "0", "true": "true", "false": "false", "Some": "Some",
-    "None": "None",
+    "zero": "0", "true": "true", "false": "false", "Some": "Some",
+    "None": "None", "⊥": "False",
 }
 SAME_IN_LIBRARY = """All AllByRecursion AllPairs Contains IsPrefix IsSome is_lt is_none is_some list_any
     option_and_then option_map option_map_or option_to_list ordering_then position remove slice_get sum_by
@@ -41,11 +45,43 @@ OPERATORS = {
     "≡": (4, "none", "=", "="), "≢": (4, "none", "<>", "<>"), "<": (4, "none", "<", "<"),
     "≤": (4, "none", "<=", "<="), "||": (5, "right", "||", "||"), "&&": (6, "right", "&&", "&&"),
     "==": (7, "none", "=?", "=?"), "∷": (8, "right", "::", "::"), "++": (8, "right", "++", "++"),
-    "+": (9, "left", "+", "+"), "-": (9, "left", "-", "-"),
+    "+": (9, "left", "+", "+"), "-": (9, "left", "-", "-"), "*": (10, "left", "*", "*"),
+    "%": (10, "left", "mod", "mod"), "^": (11, "right", "^", "^"),
 }
 
-TOKEN = re.compile(r"""\s+ | --[^\n]* | (?P<number>\d+) | (?P<name>ℕ|[A-Za-z_][A-Za-z0-9_']*)
-    | (?P<sign>==|&&|\|\||\+\+|[⊎∷≡≢¬×→λ↦<≤+\-().\[\]{},;|:=])""", re.X)
+# Coq's own levels, of the operators and of other expressions: the lower, the closer it binds.
+LEVELS = {
+    "->": 99, "\\/": 85, "/\\": 80, "~": 75, "=": 70, "<>": 70, "<": 70, "<=": 70, "=?": 70, "::": 60, "++": 60,
+    "+": 50, "-": 50, "||": 50, "*": 40, "mod": 40, "&&": 40, "^": 30,
+}
+RIGHT = ("->", "\\/", "/\\", "::", "++", "^")
+APPLICATION, ARGUMENT, WIDEST = 10, 9, 200
+
+# How a definition begins.
+DEFINES = "abbrev pub|unfoldable pub|pub record|pub data"
+
+TOKEN = re.compile(r"""\s+ | --[^\n]* | (?P<number>\d+) | (?P<name>[ℕ⊥]|[A-Za-z_][A-Za-z0-9_']*)
+    | (?P<sign>==|&&|\|\||\+\+|[⊎∷≡≢¬×→λ↦<≤+*%^\-().\[\]{},;|:=])""", re.X)
+
+
+class Coq(str):
+    """An expression of Coq with its level. An open one goes on as far as it can."""
+
+    def __new__(cls, text, level, is_open=False):
+        made = super().__new__(cls, text)
+        made.level, made.is_open = level, is_open
+        return made
+
+
+def within(made, most, at_end=False):
+    """The expression, in brackets if it binds less closely than `most`, or more comes after an open one."""
+    if not isinstance(made, Coq) or made.level <= most and (at_end or not made.is_open):
+        return made
+    return f"({made})"
+
+
+def applied(function, *arguments):
+    return Coq(" ".join([function, *(within(each, ARGUMENT) for each in arguments)]), APPLICATION)
 
 
 class Unknown(Exception):
@@ -103,9 +139,9 @@ class Module:
         return found
 
     def add(self, block):
-        if block.startswith("use "):
-            self.add_use(block)
-        elif match := re.match(r"(?:abbrev pub|pub record|pub data) (\w+)", block):
+        if block.startswith(("use ", "pub use ")):
+            self.add_use(block.removeprefix("pub "))
+        elif match := re.match(rf"(?:{DEFINES}) (\w+)", block):
             self.defined[match[1]] = self.last = Definition(match[1], self, block)
         elif block.startswith(("pub mod", "ghost")):
             return
@@ -147,7 +183,7 @@ class Sources:
 
     def root(self, name):
         """The one definition of a name among all crates."""
-        begin = re.compile(rf"^(?:abbrev pub|pub record|pub data) {name}\b", re.M)
+        begin = re.compile(rf"^(?:{DEFINES}) {name}\b", re.M)
         paths = [path for path in sorted(self.crates.glob("*/specs/**/*.antt")) if begin.search(path.read_text())]
         if len(paths) != 1:
             raise Unknown(f"{len(paths)} definitions of {name}: {[str(path) for path in paths]}")
@@ -160,7 +196,7 @@ class Sources:
         if name not in module.taken:
             return None
         path, name = module.taken[name]
-        return (path, name) if path.suffix == ".rt" else self.module(path).defined.get(name)
+        return (path, name) if path.suffix == ".rt" else self.find(self.module(path), name)
 
 
 # ---- expressions
@@ -202,7 +238,7 @@ class Reader:
     def operators(self, level):
         if self.peek()[1] == "¬":
             self.next()
-            left = f"(~ {self.expression(4)})"
+            left = Coq(f"~ {within(self.expression(4), LEVELS['~'])}", LEVELS["~"])
         else:
             left = self.application()
         while self.peek()[1] in OPERATORS:
@@ -211,8 +247,14 @@ class Reader:
                 return left
             self.next()
             right = self.expression(binds if side == "right" else binds + 1)
-            left = f"({left} {fact if self.prop else plain} {right})"
+            left = self.operated(left, fact if self.prop else plain, right)
         return left
+
+    @staticmethod
+    def operated(left, sign, right):
+        level, right_level = LEVELS[sign], LEVELS[sign] - (sign not in RIGHT)
+        right = within(right, right_level, at_end=True)
+        return Coq(f"{within(left, level - 1)} {sign} {right}", level, getattr(right, "is_open", False))
 
     def function(self):
         self.eat("λ")
@@ -220,7 +262,7 @@ class Reader:
         while self.peek()[1] != ".":
             names.append(self.next()[1])
         self.eat(".")
-        return f"(fun {' '.join(names)} => {self.expression()})"
+        return Coq(f"fun {' '.join(names)} => {self.expression()}", WIDEST)
 
     def let(self):
         self.eat("let")
@@ -228,15 +270,16 @@ class Reader:
         self.eat("=")
         value = self.expression()
         self.eat("in")
-        return f"(let {name} := {value} in {self.expression()})"
+        return Coq(f"let {name} := {value} in {self.expression()}", WIDEST)
 
     def choice(self):
         self.eat("if")
         test = self.expression()
+        test = f"({test} : bool)" if test.startswith("get ") else test  # a class doesn't tell Coq
         self.eat("then")
         first = self.expression()
         self.eat("else")
-        return f"(if {test} then {first} else {self.expression()})"
+        return Coq(f"if {test} then {first} else {self.expression()}", WIDEST)
 
     def is_binder(self):
         """Whether `(x y : ..)` comes next."""
@@ -268,7 +311,7 @@ class Reader:
         word = {"×": "exists", "→": "forall"}.get(sign)
         if not word:
             raise Unknown(f"{self.module.path}: {sign} comes after binders")
-        return f"({word} {' '.join(binders)}, {self.expression()})"
+        return Coq(f"{word} {' '.join(binders)}, {self.expression()}", 0, is_open=True)
 
     def application(self):
         kind, head = self.peek()
@@ -280,9 +323,9 @@ class Reader:
             return "Prop"
         while self.is_atom():
             arguments.append(self.as_type(self.atom) if self.book.is_type(self.module, head) else self.atom())
-        applied = f"({function} {' '.join(arguments)})" if arguments else function
+        made = applied(function, *arguments) if arguments else function
         asked = kind == "name" and self.book.is_asked(self.module, head)
-        return f"(inhabited {applied})" if asked else applied
+        return applied("inhabited", made) if asked else made
 
     def is_atom(self):
         kind, word = self.peek()
@@ -314,7 +357,7 @@ class Reader:
             raise Unknown(f"{self.module.path}: {word} begins an expression")
         while self.peek()[0] == "field":
             self.next()
-            made = f"(p_{self.next()[1]} {made})"
+            made = applied(f"get _{self.next()[1]}", made)
         return made
 
     def name(self, word):
@@ -333,16 +376,16 @@ class Reader:
             self.eat("↦")
             cases.append(f"| {pattern} => {self.expression()}")
         self.eat("]")
-        return f"(match {value} with {' '.join(cases)} end)"
+        return f"match {value} with {' '.join(cases)} end"
 
     def record(self):
         if self.peek()[1] == "{":
             values = dict(self.fields())
             name = self.book.record_of(set(values))
-            return f"(mk_{name} {' '.join(values[each] for each in self.book.records[name])})"
+            return applied(f"mk_{name}", *(values[each] for each in self.book.records[name]))
         made = self.atom()
         for name, value in self.fields():
-            made = f"(u_{name} {value} {made})"
+            made = applied(f"put _{name}", value, made)
         return made
 
     def fields(self):
@@ -388,7 +431,7 @@ class Book:
     def __init__(self, sources, asked):
         self.sources, self.asked = sources, asked
         self.out, self.done, self.types, self.aliases = [], {}, set(), {}
-        self.records, self.read_fields, self.constructors = {"pair": ["0", "1"]}, {"0", "1"}, {}
+        self.records, self.constructors = {"pair": ["0", "1"]}, {}
         self.now_asked = set()
 
     # names
@@ -455,7 +498,7 @@ class Book:
     def rust(self, path, kind):
         """A type in a Rust file: of the language, of the same file, or of a crate's `types`."""
         if match := re.fullmatch(r"Option<(.*)>", kind):
-            return f"(option {self.rust(path, match[1])})"
+            return applied("option", self.rust(path, match[1]))
         if kind in RUST_TYPES:
             return RUST_TYPES[kind]
         if kind not in self.done:
@@ -474,25 +517,15 @@ class Book:
     # definitions
 
     def record(self, name, fields):
-        """A record with its fields as classes."""
+        """A record, and how to read and to replace its fields."""
         self.records[name] = [each for each, _ in fields]
         body = "; ".join(f"{name}_{each} : {kind}" for each, kind in fields)
         self.out.append(f"Record {name} := mk_{name} {{ {body} }}.")
         for each, kind in fields:
-            self.field_class(each)
-            rest = " ".join("v" if other == each else f"({name}_{other} r)" for other, _ in fields)
-            self.out += [f"Global Instance Has_{name}_{each} : Has_{each} {name} {kind} := {name}_{each}.",
-                         f"Global Instance Sets_{name}_{each} : Sets_{each} {name} {kind} :="
-                         f" fun v r => mk_{name} {rest}."]
-
-    def field_class(self, each):
-        if each in self.read_fields:
-            return
-        self.read_fields.add(each)
-        self.out += [f"Class Has_{each} (R F : Type) := p_{each} : R -> F.",
-                     f"Class Sets_{each} (R F : Type) := u_{each} : F -> R -> R.",
-                     f"Global Hint Mode Has_{each} + - : typeclass_instances.",
-                     f"Global Hint Mode Sets_{each} + - : typeclass_instances."]
+            kind = within(kind, ARGUMENT)
+            rest = [Coq("v", 0) if other == each else applied(f"{name}_{other}", "r") for other, _ in fields]
+            self.out += [f"Global Instance : Has _{each} {name} {kind} := {name}_{each}.",
+                         f"Global Instance : Sets _{each} {name} {kind} := fun v r => {applied(f'mk_{name}', *rest)}."]
 
     def asked_record(self, name, parameters, data, facts):
         """A record of facts, some fields of which are read."""
@@ -502,9 +535,8 @@ class Book:
         body = "; ".join(f"{name}_{each} : {kind}" for each, kind in fields)
         self.out.append(f"Record {name} {parameters} : Type := mk_{name} {{ {body} }}.")
         for each, kind in data:
-            self.field_class(each)
-            self.out.append(f"Global Instance Has_{name}_{each} {parameters} : Has_{each} ({name} {given}) {kind}"
-                            f" := {name}_{each} {given}.")
+            self.out.append(f"Global Instance : forall {parameters}, Has _{each} ({name} {given}) {within(kind, ARGUMENT)}"
+                            f" := {name}_{each}.")
 
     def translate(self, definition):
         kind = definition.head.split()[0:2]
@@ -541,8 +573,8 @@ class Book:
             self.asked_record(name, parameters, data, facts)
             return
         exists = f"exists {' '.join(f'({each} : {kind})' for each, kind in data)}, " if data else ""
-        conjunction = " /\\ ".join(fact for _, fact in facts)
-        self.out.append(f"Definition {name} {parameters} : Prop :=\n  {exists}{conjunction}.")
+        conjunction = " /\\ ".join(within(fact, LEVELS["/\\"] - 1) for _, fact in facts)
+        self.out.append(joined(f"Definition {name} {parameters} : Prop :=", f"{exists}{conjunction}."))
 
     @staticmethod
     def is_read(name, fields):
@@ -568,7 +600,7 @@ class Book:
 
     def translate_function(self, definition):
         name = definition.name
-        parts = arrows(tokens(re.match(r"abbrev pub \w+ : (.*)", definition.head, re.S)[1]))
+        parts = arrows(tokens(re.match(r"\w+ pub \w+ : (.*)", definition.head, re.S)[1]))
         if len(parts) == 1 and [word for _, word in parts[0]] == ["Type", "0"]:
             self.aliases[name] = tokens(definition.clauses[0].split("=", 1)[1])
         clauses = definition.clauses
@@ -594,17 +626,25 @@ class Book:
             made.append((patterns, reader.expression()))
             if reader.at != len(reader.words):
                 raise Unknown(f"{name}: {reader.words[reader.at:]} is left over")
-        result = " -> ".join(kinds[width:])
         types = "".join(f"{{{part[1][1]} : Type}} " for part in implicit)
         word = "Fixpoint" if any(re.search(rf"\b{name}\b", body) for _, body in made) else "Definition"
-        if len(made) == 1 and all(re.fullmatch(r"\w+", each) and each != "nil" for each in made[0][0]):
-            given = "".join(f"({f'_{k}' if each == '_' else each} : {kind}) "
-                            for k, (each, kind) in enumerate(zip(made[0][0], kinds)))
-            return f"{word} {name} {types}{given}: {result} :=\n  {made[0][1]}."
-        given = "".join(f"(x{k} : {kind}) " for k, kind in enumerate(kinds[:width]))
-        cases = "\n".join(f"  | {', '.join(patterns)} => {body}" for patterns, body in made)
-        values = ", ".join(f"x{k}" for k in range(width))
-        return f"{word} {name} {types}{given}: {result} :=\n  match {values} with\n{cases}\n  end."
+        columns = [set(column) for column in zip(*(patterns for patterns, _ in made))]
+        same = [len(column) == 1 and re.fullmatch(r"(?!nil$)\w+", min(column)) for column in columns]
+        names = [min(column) if alike and min(column) != "_" else f"x{k}"
+                 for k, (column, alike) in enumerate(zip(columns, same))]
+        given = "".join(f"({' '.join(each for each, _ in group)} : {kind}) "
+                        for kind, group in groupby(zip(names, kinds), key=itemgetter(1)))
+        head = f"{word} {name} {types}{given}: {' -> '.join(within(each, LEVELS['->'] - 1) for each in kinds[width:])} :="
+        if all(same):
+            return joined(head, f"{made[0][1]}.")
+        told = [k for k in range(width) if not same[k]]
+        cases = "\n".join(f"  | {self.case([patterns[k] for k in told])} => {body}" for patterns, body in made)
+        return f"{head}\n  match {', '.join(names[k] for k in told)} with\n{cases}\n  end."
+
+    @staticmethod
+    def case(patterns):
+        only = patterns[0]
+        return only[1:-1] if len(patterns) == 1 and only.startswith("(") else ", ".join(patterns)
 
     def note_binders(self, definition, clause):
         """A bound record of facts, `(f : IsLast ..) × ..`, of which a part is read."""
@@ -617,7 +657,7 @@ class Book:
 
 def bare(kind):
     """A record of facts as a type, if `kind` says that there is one."""
-    return kind.removeprefix("(inhabited ").removesuffix(")") if kind.startswith("(inhabited ") else kind
+    return kind.removeprefix("inhabited ").removeprefix("(").removesuffix(")") if kind.startswith("inhabited ") else kind
 
 
 def arrows(words):
@@ -633,14 +673,41 @@ def arrows(words):
     return parts + [part]
 
 
+def joined(head, body):
+    """Both on one line, if they fit."""
+    return f"{head} {body}" if len(head) + len(body) < WIDTH else f"{head}\n  {body}"
+
+
 def folded(line):
-    return textwrap.wrap(line.strip(), 98, subsequent_indent="    ", break_long_words=False, break_on_hyphens=False,
+    return textwrap.wrap(line.strip(), WIDTH, subsequent_indent="    ", break_long_words=False, break_on_hyphens=False,
                          drop_whitespace=True, initial_indent=re.match(" *", line)[0])
 
+
+WIDTH = 98
 
 HEAD = """(* Made by antt2coq.py, and never edited. *)
 From Gemshowal Require Import Library.
 """
+
+# Several records have a field of one name, so that a field is a class.
+FIELDS = """Inductive field := {fields}.
+Class Has (x : field) (R F : Type) := get : R -> F.
+Class Sets (x : field) (R F : Type) := put : F -> R -> R.
+Arguments get x {{R F _}}.
+Arguments put x {{R F _}}.
+Global Hint Mode Has + + - : typeclass_instances.
+Global Hint Mode Sets + + - : typeclass_instances.
+Global Instance : forall A B, Has _0 (A * B) A := @fst.
+Global Instance : forall A B, Has _1 (A * B) B := @snd."""
+
+
+def used(out):
+    """What of `out` is used: no field is read or replaced that no definition reads or replaces."""
+    calls = set(re.findall(r"\b(get|put) (_\w+)", " ".join(out))) | {("get", "_0"), ("get", "_1")}
+    word = {"Has": "get", "Sets": "put"}
+    rows = [(each, re.match(r"Global Instance : .*?\b(Has|Sets) (_\w+)", each)) for each in out]
+    kept = [each for each, row in rows if not row or (word[row[1]], row[2]) in calls]
+    return [FIELDS.format(fields=" | ".join(sorted({name for _, name in calls}))), *kept]
 
 
 def main():
@@ -653,7 +720,7 @@ def main():
             break
         asked = book.now_asked
     print(HEAD)
-    for each in book.out:
+    for each in used(book.out):
         print("\n".join(wrapped for line in each.split("\n") for wrapped in folded(line)))
 
 
