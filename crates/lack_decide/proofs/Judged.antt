@@ -1,4 +1,4 @@
--- What the judge compares: the told events of the processes, one place more.
+-- The judge compares the told events of the processes, one place more at each turn.
 use Rattle.std.proofs.Common.{◌≡◌, ℕ, ◌+◌, ◌<◌, ◌⊎◌, inl, inr, zero, suc, Bool, List, [], ◌∷◌, slice_get, take, get_or}
 use Rattle.std.proofs.Common.{Some, refl, sym, ◌∙◌, ap, subst, arith}
 use Rattle.std.specs.List.{AllByRecursion}

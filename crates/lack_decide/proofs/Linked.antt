@@ -82,7 +82,7 @@ hides_by from = elim from [ source.Hidden ↦ true | source.Event q j ↦ false 
 
 -- FIT EVENTS
 
--- those of the first so many processes
+-- those of the first n processes
 abbrev pub AllFit : ℕ → List Stream → List (List ℕ) → ℕ → Type 0
 AllFit top streams links n = (k : ℕ) (p : Pid) → k < n → slice_get (pids_of streams) k ≡ Some p
     → AreEventsFit top streams links (events_of streams p)

@@ -60,7 +60,7 @@ needed_marked streams es bs i e (AsReceive receives (inr behind)) =
 
 -- ALL PROCESSES
 
--- those of the first so many processes
+-- those of the first n processes
 abbrev pub AllNeeded : List Stream → List (List Bool) → ℕ → Type 0
 AllNeeded streams lists n = (k : ℕ) (p : Pid) → k < n → slice_get (pids_of streams) k ≡ Some p
     → AreNeeded streams (events_of streams p) (get_or lists k [])

@@ -1,4 +1,4 @@
--- What is found is a reason in the words of the results: if a rule gives nothing at an event, its
+-- The finding is a reason in the words of the results: if a rule gives nothing at an event, its
 -- reason isn't against that event, and where it gives something first, it is the first one that is.
 use Rattle.std.proofs.Common.{[], ◌≡◌, ◌⊎◌, ℕ, zero, suc, ◌<◌, ◌≤◌, ◌==◌, ◌&&◌, ◌||◌, nat_lt, not, Bool, true, false, cond}
 use Rattle.std.proofs.Common.{inl, inr, List, ◌∷◌, take, Option, Some, None, option_and_then, refl, sym}

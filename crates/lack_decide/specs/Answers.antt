@@ -1,5 +1,5 @@
--- What the results mean: a completion, or a place and a reason why no acts without a reset show the
--- streams, whatever other processes report nothing.
+-- The meaning of the results: a completion, or a place and a reason why no acts without a reset
+-- show the streams, whatever other processes report nothing.
 use Rattle.std.specs.Prelude.{◌≡◌, ◌⊎◌, ℕ, ◌<◌, ◌≤◌, ◌||◌, true, false, length, List, Some, is_none, is_some, take}
 use Rattle.st_core.specs.declared.types.Act.{Act}
 use Rattle.st_core.specs.declared.types.Pid.{Pid}
@@ -130,7 +130,7 @@ pub record IsNever (top : ℕ) (streams : List Stream) (p : Pid) (i : ℕ) (reas
   pub holds : IsFirstReason top streams p i reason
   pub final : IsFinal top streams reason
 
--- these acts show the streams without a reset and are at most so many, and the checker's yes has
+-- these acts show the streams without a reset and are at most n, and the checker's yes has
 -- these pairs
 pub record IsCertificate (top : ℕ) (streams : List Stream) (most : ℕ) (found : Certificate)
     : Type 0 where

@@ -1,5 +1,5 @@
--- How many acts surely suffice for a completion, by a plain count of its events, and what it tells that
--- none were found.
+-- How many acts surely suffice for a completion, by a plain count of its events, and what it tells
+-- that none were found.
 use Rattle.std.specs.Prelude.{ℕ, ◌<◌, ◌≤◌, ◌+◌, ◌-◌, ◌^◌, min, List, [], ◌∷◌, ◌++◌, if◌then◌else◌, sum_by}
 use Rattle.st_core.specs.declared.types.Event.{Event}
 use Rattle.st_core.specs.Laws.{greatest_count}
@@ -27,8 +27,8 @@ act_bound streams = sum_by (λ p. 1 + acts_after [] (events_of streams p)) (pids
 abbrev pub saturated : ℕ → ℕ
 saturated n = min n (2 ^ 64 - 1)
 
--- what a fault tells, if so many acts were allowed for these whole streams: they may be too few, or they
--- would surely suffice
+-- what a fault tells, if this many acts were allowed for these whole streams: they may be too few,
+-- or they would surely suffice
 abbrev pub IsCertificateFault : List Whole → ℕ → CertificateFault → Type 0
 IsCertificateFault wholes most fault.TooManyActs = most < act_bound (all_streams wholes)
 IsCertificateFault wholes most fault.Uncertified = saturated (act_bound (all_streams wholes)) ≤ most

@@ -35,7 +35,7 @@ pub record IsFirstLate (streams : List Stream) (p : Pid) (i j : ℕ) : Type 0 wh
   pub least : IsLeastPlace (HoldsAt is_late streams) p i
   pub higher : IsLastHigherAt streams p i j
 
--- no stamp is late, and event i of p is the first that tells of a stamp with prev 0 behind another
+-- no stamp is late, and event i of p is the first that tells of a stamp with prev 0 after another
 -- prev or a receive
 pub record IsFirstUnfounded (streams : List Stream) (p : Pid) (i : ℕ) : Type 0 where
   pub accepted : refusal streams ≡ None

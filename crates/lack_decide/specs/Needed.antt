@@ -6,14 +6,14 @@ use Rattle.st_pair.specs.Pairing.{is_send}
 use Rattle.st_pair.specs.Places.{is_stamp}
 use Rattle.lack_needs.specs.Additions.{IsReceived}
 
--- right behind index i of these events is a send or print whose prev is this count
+-- right after index i of these events is a send or print whose prev is this count
 pub record IsNextOf (es : List Event) (i this : ℕ) : Type 0 where
   pub event : Event
   pub at : slice_get es (i + 1) ≡ Some event
   pub stamps : is_stamp event ≡ true
   pub prev : event.serial.prev ≡ this
 
--- behind index i no mark is set
+-- after index i no mark is set
 abbrev pub IsUnmarkedBehind : List Bool → ℕ → Type 0
 IsUnmarkedBehind marks i = (k : ℕ) → i < k → get_or marks k false ≡ false
 

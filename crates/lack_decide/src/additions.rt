@@ -46,7 +46,7 @@ fn is_sent_for(
     is_received(sent, &event)
 }
 
-/// Whether a send or print with this count for its prev is right behind this index.
+/// Whether a send or print with this count for its prev is right after this index.
 fn is_followed(events: &[Event], index: usize, this: u64) -> bool
     requires { index < length events.now }
     ensures { result ≡ true → IsNextOf events.now index this }

@@ -1,4 +1,4 @@
-//! What is found out about streams, and the acts of it.
+//! The findings about streams, and the acts of a completion.
 
 use lack_needs::Completion;
 use st_core::{Act, Pid, Sequence};
@@ -29,7 +29,7 @@ pub enum Never {
     TooHigh,
 }
 
-/// What `complete` finds out about streams.
+/// The findings of `complete` about streams.
 #[derive(Debug, Drop)]
 pub enum Answer {
     /// A completion: acts without a reset show the streams, with its unlisted processes.

@@ -8,8 +8,8 @@ ghost use Rattle.lack_decide.specs.Bounds.{act_bound, acts_after, saturated, ski
 use lack_needs::Left;
 use st_core::{Event, Kind, Streams};
 
-/// A stamp takes at most so many: before its own act the token gets its label and flags, and if it
-/// begins a trace, or counts are skipped, three more prepare for that.
+/// A stamp takes at most this many: before its own act the token gets its label and flags, and if
+/// it begins a trace, or counts are skipped, three more prepare for that.
 const ACTS_OF_EVENT: u64 = 6;
 
 /// The sum, or the greatest number if it is above.

@@ -68,7 +68,7 @@ fn certify<const TOP: u64>(
     }
 }
 
-/// The same of the lean acts.
+/// Lets the checker judge the lean acts.
 fn certify_lean<const TOP: u64>(
     rt: &(impl Threads + Sync),
     alloc: Global,
@@ -85,8 +85,8 @@ fn certify_lean<const TOP: u64>(
     }
 }
 
-/// The same of the acts of the auditor's construction, which builds none if more than 1,000 counts are
-/// missing before one event, or 1,000,000 in all.
+/// Lets the checker judge the acts of the auditor's construction, which builds none if more than
+/// 1,000 counts are missing before one event, or 1,000,000 in all.
 fn certify_construction<const TOP: u64>(
     rt: &(impl Threads + Sync),
     alloc: Global,
@@ -114,8 +114,8 @@ fn fault_of(completion: &Completion, most: u64) -> CertificateFault
 }
 
 /// Writes the acts of a completion by the auditor's construction, for which it is proved that they
-/// show the told events of plain streams. They are more than those of `certificate`, which takes them
-/// only if its own don't serve.
+/// show the told events of plain streams. They are more than those of `certificate`, which takes
+/// them only if its own don't serve.
 pub fn certificate_by_construction<const TOP: u64>(
     rt: &(impl Threads + Sync),
     alloc: Global,

@@ -183,7 +183,7 @@ fn answer_of<const TOP: u64>(alloc: Global, streams: &Streams) -> Result<Answer,
 /// not, the least place of the first reason that holds. The same streams always get the same
 /// result, which is tested and not proved. The time is nearly linear in the events.
 ///
-/// The completion is the one that `docs/COMPLETIONS.md` describes: hidden sends are behind the
+/// The completion is the one that `docs/COMPLETIONS.md` describes: hidden sends are after the
 /// receives that may have caused them, messages that were sent and never received are taken if a
 /// stamp needs them, and others are invented only if a need is left.
 pub fn complete<const TOP: u64>(alloc: Global, streams: &Streams) -> Result<Answer, CompleteFault>

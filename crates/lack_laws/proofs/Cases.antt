@@ -211,7 +211,7 @@ crossing_wholes = refl
 
 -- REASONS
 
--- A stamp with prev 0 behind a receive, one below a count that was received, and a count above TOP.
+-- A stamp with prev 0 after a receive, one below a count that was received, and a count above TOP.
 abbrev after_receive : Event → List Stream
 after_receive e =
     of a (got 1 0 3 b a 4 ∷ e ∷ [])

@@ -1,4 +1,4 @@
--- In a run without a reset no stamp with prev 0 comes behind a receive, or behind a stamp with
+-- In a run without a reset no stamp with prev 0 comes after a receive, or after a stamp with
 -- another prev. In a full completion each stamp goes on from all events before it, so once these
 -- leave another prev than 0, each later stamp has another one.
 use Rattle.std.proofs.Common.{[], ◌≡◌, inl, inr, ℕ, zero, suc, ◌<◌, true, false, not, cond, List, ◌∷◌, ◌++◌, take}
@@ -144,7 +144,7 @@ module _ (top : ℕ) (wholes : List Whole) (sound : IsStreams (all_streams whole
       let place = told_at (marked_of wholes p) i e (told_there top wholes full p i e at) in
       (place.index, at_mark wholes p place.index (record { event = e; told = true }) place.at)
 
-  -- behind a receive
+  -- after a receive
   no_receive : (p : Pid) (i : ℕ) → ¬ IsBehindReceive told p i
   no_receive p i z =
       let ms = marked_of wholes p in
@@ -192,7 +192,7 @@ module _ (top : ℕ) (wholes : List Whole) (sound : IsStreams (all_streams whole
         }
   ] refl
 
-  -- behind a stamp with another prev
+  -- after a stamp with another prev
   no_stamp : (p : Pid) (i : ℕ) → ¬ IsZeroBehind told p i
   no_stamp p i z =
       let later_at = in_all p i z.event z.at in

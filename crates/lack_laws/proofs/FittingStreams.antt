@@ -1,5 +1,5 @@
--- What pairing accepts fits together, two events at a time; and a receive's send isn't hidden exactly
--- if it is there.
+-- Streams that pairing accepts fit together, two events at a time; and a receive's send isn't
+-- hidden exactly if it is there.
 use Rattle.std.proofs.Common.{◌≡◌, ℕ, ◌||◌, Bool, true, false, cond, List, Option, Some, None, refl}
 use Rattle.std.proofs.Common.{sym, ◌∙◌, ap, option_and_then}
 use Rattle.std.proofs.lemmas.Bool.{false≢true}

@@ -1,4 +1,4 @@
--- Each receive gets its send. A send that nobody reported comes right behind the last stamp of a
+-- Each receive gets its send. A send that nobody reported comes right after the last stamp of a
 -- lower count, or before all events of its process. So it is in turn with the other stamps, and if
 -- its prev is 0, all that is before it are stamps with prev 0.
 use Rattle.std.proofs.Common.{[], ◌≡◌, ◌≢◌, ◌⊎◌, inl, inr, ℕ, zero, suc, ◌<◌, ◌≤◌, ◌&&◌, nat_lt}

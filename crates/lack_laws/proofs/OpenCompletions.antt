@@ -32,7 +32,7 @@ module _ (top : ℕ) (streams : List Stream) (sound : IsStreams streams)
   fit : FitTogether streams
   fit = fit_together streams (paired streams none.accepted)
 
-  -- a stamp with prev 0 isn't behind a receive
+  -- a stamp with prev 0 isn't after a receive
   first : (p : Pid) (j i : ℕ) (d e : Event) → j < i → event_at streams p j ≡ Some d
       → event_at streams p i ≡ Some e → is_stamp e ≡ true → e.serial.prev ≡ 0 → is_stamp d ≡ true
   first p j i d e less at_d at_e stamps is_zero =

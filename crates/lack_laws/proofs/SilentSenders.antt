@@ -162,7 +162,7 @@ module _ (top : ℕ) (streams : List Stream) (good : IsOpen top streams) (p : Pi
   inside : i ≤ length (events_of sent p)
   inside = let less = slice_get_within (events_of sent p) i e at_sent in omega arith
 
-  -- behind the need each stamp is higher, and has another prev than 0
+  -- after the need each stamp is higher, and has another prev than 0
   ahead : (j : ℕ) (d : Event) → i ≤ j → event_at sent p j ≡ Some d → Leads receive d
   ahead j d less at_d stamps_d =
       let rise = good.fit.rises p i e at in

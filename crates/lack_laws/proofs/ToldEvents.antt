@@ -1,4 +1,4 @@
--- What is told of whole streams: each told event is one of all, in turn. If all of them are full, no
+-- The told events of whole streams are some of all, in turn. If all streams are full, no
 -- told stamp is late, since the counts before it among all events are no lower than among the told.
 use Rattle.std.proofs.Common.{[], ◌≡◌, ℕ, zero, suc, ◌≤◌, ◌&&◌, max, nat_lt, Bool, true, false, not, cond, List, ◌∷◌}
 use Rattle.std.proofs.Common.{map, take, Option, Some, None, find, slice_get, refl, sym, ◌∙◌, ap, subst, arith}

@@ -1,4 +1,4 @@
--- What public contracts cite: of the listed processes alone.
+-- The definitions of public contracts: with the listed processes alone.
 pub mod Wholes
 pub mod Completed
 pub mod Needs

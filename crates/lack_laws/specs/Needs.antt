@@ -1,4 +1,4 @@
--- What rules out every completion of streams: of a process's events alone.
+-- The events of a process that rule out every completion of streams.
 use Rattle.std.specs.Prelude.{[], ◌≡◌, ℕ, ◌==◌, ◌&&◌, Bool, false, not, nat_lt, List}
 use Rattle.std.specs.Prelude.{take, find, Some, None}
 use Rattle.st_core.specs.declared.types.Pid.{Pid}

@@ -1,4 +1,4 @@
--- What is against streams whatever other processes there are.
+-- The reasons against streams whatever other processes there are.
 use Rattle.std.specs.Prelude.{◌≡◌, ◌⊎◌, ℕ, ◌<◌, ◌≤◌, ◌||◌, true, false, List, Some, None}
 use Rattle.st_core.specs.declared.types.Pid.{Pid}
 use Rattle.st_core.specs.declared.types.Event.{Event}
@@ -44,15 +44,15 @@ pub record IsBehindStamp (streams : List Stream) (p : Pid) (i : ℕ) : Type 0 wh
   pub zero : IsZeroBehind streams p i
   pub tells : (is_stamp zero.event || is_hidden streams zero.event) ≡ true
 
--- Event i of p is a send or print with prev 0 behind a receive; or it is a send, a print or the
+-- Event i of p is a send or print with prev 0 after a receive; or it is a send, a print or the
 -- receive of a hidden send, has prev 0, and some event tells of a stamp of the same process with a
 -- lower count and another prev.
 abbrev pub IsUnfounded : List Stream → Pid → ℕ → Type 0
 IsUnfounded streams p i = IsBehindReceive streams p i ⊎ IsBehindStamp streams p i
 
--- Pairing accepts the streams; no reported stamp is late; no reported stamp with prev 0 is behind a
--- receive; if a stamp has prev 0, reported or hidden, no event tells of one of the same process with
--- a lower count and another prev; and a clock can have each count.
+-- Pairing accepts the streams; no reported stamp is late; no reported stamp with prev 0 is after a
+-- receive; if a stamp has prev 0, reported or hidden, no event tells of one of the same process
+-- with a lower count and another prev; and a clock can have each count.
 pub record HasNoOpenReason (top : ℕ) (streams : List Stream) : Type 0 where
   pub accepted : refusal streams ≡ None
   pub timely : HoldsOfNone is_late streams
@@ -61,7 +61,7 @@ pub record HasNoOpenReason (top : ℕ) (streams : List Stream) : Type 0 where
 
 -- A reason against streams, whatever other processes there are, at a place. Refused: one of
 -- pairing's. Late: the send or print has a count that isn't above those before it. Unfounded: it is
--- a send or print with prev 0 behind a receive; or it, or the hidden send of the receive there, has
+-- a send or print with prev 0 after a receive; or it, or the hidden send of the receive there, has
 -- prev 0, and some event tells of a stamp of the same process with a lower count and another prev.
 -- TooHigh: no clock can have the count.
 pub data OpenReason : Type 0 where

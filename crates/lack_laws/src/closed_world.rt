@@ -37,7 +37,7 @@ pub fn shown_exactly_where_completed()
 {}
 
 /// And exactly if they have a completion without a need, which each process's events alone tell,
-/// beside their pairing.
+/// with their pairing.
 pub fn shown_exactly_where_nothing_is_needed()
     ensures { (top : ℕ) (streams : List Stream) → IsRising (pids_of streams)
         → (IsShownInOneTrace top streams ↔ IsCompleted IsNeedless top streams) }

@@ -162,7 +162,7 @@ in_insert_all b (e ∷ es) cs here =
       ]
     ]
 
--- membership of two lists, one behind the other
+-- membership of two lists, one after the other
 in_either : (b : ℕ) (cs ds : List ℕ) → IsIn b (cs ++ ds) → IsIn b cs ⊎ IsIn b ds
 in_either b [] ds here = inr here
 in_either b (c ∷ cs) ds here = elim here [

@@ -1,4 +1,4 @@
--- Streams and the marks beside them are whole streams: their events are those of the streams, and
+-- Streams and their marks are whole streams: their events are those of the streams, and
 -- the marks of a process are those at its place.
 use Rattle.std.proofs.Common.{◌≡◌, ℕ, zero, suc, ◌≤◌, Bool, true, false, cond, List, [], ◌∷◌, map, length, slice_get}
 use Rattle.std.proofs.Common.{get_or, find, Option, Some, None, option_map, refl, sym, ◌∙◌, ap, arith}

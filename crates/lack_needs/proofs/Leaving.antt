@@ -1,4 +1,4 @@
--- What events leave with one more: the greater count, and what the last one leaves.
+-- One more event leaves the greater count, and what it leaves by itself.
 use Rattle.std.proofs.Common.{◌≡◌, ℕ, ◌+◌, List, [], ◌∷◌, ◌++◌, max, take, slice_get, Some, sym, ◌∙◌, ap, add-one}
 use Rattle.st_core.specs.declared.types.Event.{Event}
 use Rattle.st_core.specs.Laws.{greatest_count, prev_after}

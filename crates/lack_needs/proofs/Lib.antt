@@ -9,5 +9,5 @@ pub mod Ranking
 pub mod ZeroBehind
 pub mod Noted
 pub mod Merging
--- What upper crates may cite.
+-- Lemmas that crates above may cite.
 pub mod ForCallers

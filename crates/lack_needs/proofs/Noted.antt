@@ -1,5 +1,6 @@
--- What is noted of each process at its place. An event tells of a stamp of one process, so its
--- count alone changes; and the lowest of events is that of those before with the one of the last.
+-- The lowest count of each process is noted at its place. An event tells of a stamp of one process,
+-- so its count alone changes; and the lowest of events is that of those before with the one of the
+-- last.
 use Rattle.std.proofs.Common.{◌≡◌, ◌≢◌, ℕ, zero, suc, ◌+◌, ◌<◌, ◌≤◌, ◌&&◌, ◌||◌, not, nat_lt, Bool, true, false, cond}
 use Rattle.std.proofs.Common.{List, [], ◌∷◌, ◌++◌, length, take, get_or, slice_get, slice_set, Option, Some, None, inl}
 use Rattle.std.proofs.Common.{inr, refl, sym, ◌∙◌, ap, subst, arith}

@@ -1,6 +1,6 @@
 -- Why the streams that are built are those with ranks for counts. Of counts that rise those less
 -- than one come first, so the place where the others begin is how many they are. And each process
--- comes behind those before it, so that only memory can be lacking.
+-- comes after those before it, so that only memory can be lacking.
 use Rattle.std.proofs.Common.{◌≡◌, ℕ, ◌+◌, zero, suc, ◌<◌, ◌≤◌, nat_lt, true, false, cond, List, [], ◌∷◌, ◌++◌, map}
 use Rattle.std.proofs.Common.{length, take, get_or, slice_get, Option, Some, None, is_some, option_map, refl, sym, ◌∙◌}
 use Rattle.std.proofs.Common.{ap, subst, arith}
@@ -27,7 +27,7 @@ none_less (x ∷ xs) c each =
     let rest = none_less xs c (λ k d within. each (suc k) d (omega (arith, within))) in
     ap (λ b. cond b 1 0 + rank xs c) (each 0 0 (omega arith)) ∙ (omega arith)
 
--- the place before which all are less, and behind which none is
+-- the place before which all are less, and after which none is
 pub rank_is : (xs : List ℕ) (c i : ℕ) → i ≤ length xs
     → ((k d : ℕ) → k < i → nat_lt (get_or xs k d) c ≡ true)
     → ((k d : ℕ) → i ≤ k → k < length xs → nat_lt (get_or xs k d) c ≡ false) → rank xs c ≡ i
@@ -52,7 +52,7 @@ lists_last (x ∷ xs) p es =
     cond b (Some x) (stream_of (xs ++ record { pid = p; events = es } ∷ []) p) in is_some o ≡ true)
     [ true ↦ refl | false ↦ lists_last xs p es ]
 
--- an event of it is behind its others
+-- an event of it is after its others
 pub added_last : (xs : List Stream) (p : Pid) (es : List Event) (e : Event) → ComesLast xs p
     → added (xs ++ record { pid = p; events = es } ∷ []) p e ≡ xs
     ++ record { pid = p; events = es ++ e ∷ [] } ∷ []
@@ -80,7 +80,7 @@ ranked_more counts old now next p es i last within is step =
 
 -- THE STREAMS SO FAR
 
--- a process comes behind those before it
+-- a process comes after those before it
 pub last_of : (streams : List Stream) (k : ℕ) (x : Stream) → IsRising (pids_of streams)
     → slice_get streams k ≡ Some x
     → ComesLast (take k streams) x.pid

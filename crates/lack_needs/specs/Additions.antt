@@ -19,19 +19,19 @@ pub record IsReceived (streams : List Stream) (e : Event) : Type 0 where
   pub index : ℕ
   pub at : event_at streams pid index ≡ Some (receipt_of e)
 
--- right behind this receive, at index i of these events, is a send or print whose prev is its count
+-- right after this receive, at index i of these events, is a send or print whose prev is its count
 pub record IsFollowed (ms : List Marked) (i : ℕ) (e : Event) : Type 0 where
   pub next : Marked
   pub at : slice_get ms (i + 1) ≡ Some next
   pub stamps : is_stamp next.event ≡ true
   pub prev : next.event.serial.prev ≡ e.serial.this
 
--- of the events behind index i none is told
+-- of the events after index i none is told
 abbrev pub IsBehindTold : List Marked → ℕ → Type 0
 IsBehindTold ms i = (k : ℕ) (m : Marked) → i < k → slice_get ms k ≡ Some m → m.told ≡ false
 
--- An added event, at index i of these events, is needed: a send is received, and a receive gives its
--- count to the event right behind it, or has only added events behind it. A print never is.
+-- An added event, at index i of these events, is needed: a send is received, and a receive gives
+-- its count to the event right after it, or has only added events after it. A print never is.
 pub data IsNeeded (streams : List Stream) (ms : List Marked) (i : ℕ) (e : Event) : Type 0 where
   Sends : is_send e ≡ true → IsReceived streams e → IsNeeded streams ms i e
   Receives : is_stamp e ≡ false → IsFollowed ms i e ⊎ IsBehindTold ms i → IsNeeded streams ms i e

@@ -1,4 +1,4 @@
--- What may be wrong with an event after those of its process before it.
+-- The flaws that an event may have after those of its process before it.
 use Rattle.std.specs.Prelude.{◌≡◌, ℕ, ◌<◌, ◌≤◌, Bool, false, List}
 use Rattle.st_core.specs.declared.types.Event.{Event}
 use Rattle.st_core.specs.Laws.{greatest_count, prev_after}

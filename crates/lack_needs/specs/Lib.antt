@@ -1,5 +1,5 @@
--- What public contracts cite: what a completion is, and why it adds an event; what may be wrong
--- with an event.
+-- The definitions of public contracts: what a completion is, and why it adds an event; what may be
+-- wrong with an event.
 pub mod Additions
 pub mod Completions
 pub mod Flaws

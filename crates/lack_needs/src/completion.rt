@@ -82,7 +82,7 @@ pub fn is_marked(marks: &[bool], index: usize) -> bool
     false
 }
 
-/// The mark of the event at this index, if a process with so many events has it.
+/// Returns the mark of the event at this index, if a process with this many events has it.
 fn mark_at(event_count: u64, marks: &[bool], index: u64) -> Option<bool>
     ensures { (es : List EventValue) → length es ≡ event_count →
         result ≡ option_map (λ m. m.told) (slice_get (marked_with es marks.now) index) }

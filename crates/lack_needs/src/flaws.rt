@@ -1,4 +1,4 @@
-//! What may be wrong with an event after those of its process before it.
+//! The flaws that an event may have after those of its process before it.
 
 ghost use Rattle.std.specs.Prelude.{◌≡◌, ◌↔◌, [], ◌∷◌, ◌++◌, List, IsTrue};
 ghost use Rattle.st_core.specs.declared.types.Event.{Event as EventValue};
@@ -8,8 +8,8 @@ ghost use Rattle.lack_needs.specs.Flaws.{left_by, test_of, GoesOnWithin};
 
 use st_core::{Event, Kind};
 
-/// What the events of a process leave to its next one. It is two numbers, so one pass over the
-/// events finds what is wrong with each.
+/// The state that the events of a process leave to its next one. It is two numbers, so one pass
+/// over the events finds what is wrong with each.
 #[derive(Clone, Copy, Debug)]
 pub struct Left {
     /// The greatest count of these events, 0 of none.
@@ -19,7 +19,7 @@ pub struct Left {
     pub prev: u64,
 }
 
-/// What may be wrong with an event after those of its process before it.
+/// The flaws that an event may have after those of its process before it.
 #[derive(Clone, Copy, Debug)]
 pub enum Flaw {
     /// A send or print that counts no higher than one of them.
@@ -52,7 +52,7 @@ pub fn prev_left(event: &Event) -> u64
 }
 
 impl Left {
-    /// What no events leave.
+    /// Returns the state that no events leave.
     pub fn by_none() -> Left
         ensures { result ≡ left_by [] }
     {
@@ -62,7 +62,7 @@ impl Left {
         }
     }
 
-    /// What is left with one event more.
+    /// Returns the state after one event more.
     pub fn after(self, event: &Event) -> Left
         ensures { (es : List EventValue) → self ≡ left_by es → result
             ≡ left_by (es ++ event.now ∷ []) }

@@ -1,8 +1,8 @@
-//! What a completion is: all events of each process, and which of them are told; what may be wrong
-//! with an event after those of its process before it; and what streams need.
+//! Completions: all events of each process, and which of them are told; the flaws that an event may
+//! have after those of its process before it; and the needs of streams.
 //!
-//! A send or print is a need if its prev is a count that the events before it don't leave, so that a
-//! receive is missing. Here are the first event with a flaw, and the first that no trace founds.
+//! A send or print is a need if its prev is a count that the events before it don't leave, so that
+//! a receive is missing. Here are the first event with a flaw, and the first that no trace founds.
 #![tactic(auto)]
 
 mod completion;

@@ -1,4 +1,4 @@
--- What is before an item in the order has a lower key; so the counts of a hidden send's process
+-- An item before another in the order has a lower key; so the counts of a hidden send's process
 -- before it are lower than its own.
 use Rattle.std.proofs.Common.{◌≡◌, ℕ, zero, suc, ◌+◌, ◌<◌, ◌≤◌, ◌⊎◌, inl, inr, max, true, false}
 use Rattle.std.proofs.Common.{cond, List, [], ◌∷◌, ◌++◌, take, drop, reverse, Option, Some, None}

@@ -1,4 +1,4 @@
--- What a full run says of its streams: pairing accepts them, each stamp goes on from the events
+-- A full run has such streams: pairing accepts them, each stamp goes on from the events
 -- before it, no send is hidden, and each count is one that a clock has had.
 use Rattle.std.proofs.Common.{◌≡◌, ℕ, ◌+◌, ◌≤◌, ◌==◌, ◌&&◌, Bool, true, false, cond, List, [], take}
 use Rattle.std.proofs.Common.{Some, None, slice_get, option_and_then, refl, sym, ◌∙◌, ap, subst, arith}

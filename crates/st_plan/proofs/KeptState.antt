@@ -1,4 +1,4 @@
--- What the moves say of the machine, tokens aside: after the acts of the moves so far each process
+-- The moves follow the machine, tokens aside: after the acts of the moves so far each process
 -- has the clock and the last count that they leave it, and in its queue the messages that they sent
 -- to it and didn't take.
 use Rattle.std.proofs.Common.{◌≡◌, ℕ, ◌<◌, ◌≤◌, ◌&&◌, ◌⊎◌, max, nat_lt, Bool, true, false, not, ◌==◌, cond, List, []}

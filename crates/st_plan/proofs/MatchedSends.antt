@@ -1,4 +1,4 @@
--- What an accepting pairing says of a receive and the moves before it: none took its message, since
+-- An accepting pairing clears a receive of the moves before it: none took its message, since
 -- no other receive has its sender and count, and its sender's stamp with its count is its send.
 use Rattle.std.proofs.Common.{◌≡◌, ℕ, ◌==◌, ◌&&◌, ◌||◌, Bool, true, false, not, List, [], ◌∷◌, Some, None}
 use Rattle.std.proofs.Common.{option_and_then, refl, sym, ◌∙◌, ap, subst, arith, if◌then◌else◌}

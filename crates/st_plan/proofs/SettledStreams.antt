@@ -1,4 +1,4 @@
--- Of settled streams each move of the order goes on, whichever events are told, and the moves tell
+-- Each move of settled streams goes on in the order, whichever events are told, and the moves tell
 -- those of each process: so the construction goes through, and its acts show the told events.
 use Rattle.std.proofs.Common.{◌≡◌, ℕ, zero, suc, ◌<◌, false, List, [], ◌∷◌, ◌++◌, reverse}
 use Rattle.std.proofs.Common.{Some, All, get_or, refl, slice_get, ◌∙◌, ap, subst}

@@ -101,7 +101,7 @@ event_moves streams shown (item.Hidden p i ∷ xs) there =
 
 -- THE COUNTS OF ONE PROCESS
 
--- with n moves of p behind, its clock c, its last count l, and these moves to come
+-- with n moves of p after, its clock c, its last count l, and these moves to come
 pub record IsAfter (events : List Event) (p : Pid) (n c l : ℕ) (later : List Move) : Type 0 where
   pub clocked : c ≡ greatest_count (take n events)
   pub counted : l ≡ prev_after (take n events)

@@ -54,7 +54,7 @@ unstamped_token p n f = record {
 abbrev pub dress : Pid → Option Token → Label → Flags → List Act
 dress p token n f = if is_dressed n f token then [] else act.Restore p (unstamped_token p n f) ∷ []
 
--- so many prints of p that nobody sees
+-- n prints of p that nobody sees
 abbrev pub silent_prints : Pid → ℕ → List Act
 silent_prints p zero = []
 silent_prints p (suc n) = act.Print p 0 ∷ silent_prints p n

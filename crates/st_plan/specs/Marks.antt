@@ -30,7 +30,7 @@ told_events (m ∷ ms) = if m.told then m.event ∷ told_events ms else told_eve
 abbrev pub told_streams : List Whole → List Stream
 told_streams wholes = map (λ w. record { pid = w.pid; events = told_events w.marked }) wholes
 
--- The same by places, for streams of any kind: whether event i of p is told.
+-- Marks by places, for streams of any kind: whether event i of p is told.
 abbrev pub Marks : Type 0
 Marks = Pid → ℕ → Bool
 

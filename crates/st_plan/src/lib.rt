@@ -1,4 +1,4 @@
-//! What the auditor's acts have to be: the items of an order as moves of counts, the reasons
+//! The plan of the auditor's acts: the items of an order as moves of counts, the reasons
 //! against one of them, and the acts that are built for each.
 //!
 //! The definitions say it of streams alone, and `ready` writes the acts before a stamp as a list.

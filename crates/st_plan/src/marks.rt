@@ -8,7 +8,7 @@ use st_core::Pid;
 
 /// Whether an event is told.
 pub trait Tells {
-    /// Of each place, whether its event is.
+    /// For each place, whether its event is told.
     ghost marks: { Self → PidValue → ℕ → Bool };
 
     /// Whether the event at this index of the process is told.

@@ -9,7 +9,7 @@ ghost use Rattle.st_plan.specs.Build.{unstamped_token};
 use st_core::{Act, Component, Flags, Label, Pid, Serial, Token};
 use std::alloc::AllocError;
 
-/// What a process has before an item.
+/// The state of a process before an item.
 #[derive(Clone, Copy, Debug)]
 pub struct Start {
     /// Its token, if it has one.
@@ -73,7 +73,7 @@ fn dress(
     Ok(())
 }
 
-/// So many prints of the process that nobody sees.
+/// Plans this many prints of the process that nobody sees.
 fn print_silently(plan: &mut Vec<Act>, pid: Pid, count: u64) -> Result<(), AllocError>
     ensures { OnOk result (plan.new.items ≡ plan.old.items ++ silent_prints pid count) }
 {

@@ -1,4 +1,4 @@
--- Of the marks that were taken none is set from the end on.
+-- No mark that was taken is set from the end on.
 use Rattle.std.proofs.Common.{◌≡◌, ℕ, ◌<◌, ◌≤◌, false, get_or}
 use Rattle.lack_decide.proofs.additions.told_end.Given as goal
 

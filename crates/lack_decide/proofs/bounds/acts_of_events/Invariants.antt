@@ -1,4 +1,4 @@
--- What was counted and what is left come to all, or to more than the greatest number.
+-- The acts counted and those that are left come to all, or to more than the greatest number.
 use Rattle.std.proofs.Common.{◌≡◌, ◌+◌, ◌-◌, ◌^◌, ◌≤◌, [], drop, take}
 use Rattle.lack_needs.specs.Flaws.{left_by}
 use Rattle.lack_decide.specs.Bounds.{acts_after, saturated}

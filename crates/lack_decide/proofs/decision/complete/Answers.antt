@@ -1,4 +1,4 @@
--- What is found is a completion, which acts show, or a reason that is final.
+-- The finding is a completion, which acts show, or a reason that is final.
 use Rattle.lack_decide.proofs.Answered.{answered}
 use Rattle.lack_decide.proofs.decision.complete.Goals as goal
 

@@ -1,4 +1,4 @@
--- What the completion has more than the streams is untold.
+-- The events that the completion has more than the streams are untold.
 use Rattle.std.proofs.Common.{◌∙◌, ap, arith}
 use Rattle.st_core.specs.Streams.{total_of}
 use Rattle.lack_needs.specs.Completions.{wholes_with}

@@ -1,4 +1,4 @@
--- What the rule gives first it gives at some place.
+-- The rule's first fault is at some place.
 use Rattle.std.proofs.Common.{sym}
 use Rattle.lack_needs.specs.Flaws.{test_of}
 use Rattle.lack_needs.proofs.Flawed.{holds_of_none, least_there}

@@ -1,4 +1,4 @@
--- Each process comes behind those before it, with its own events; and all that these name are
+-- Each process comes after those before it, with its own events; and all that these name are
 -- listed, as before.
 use Rattle.std.proofs.Common.{◌∙◌, ap, arith, length, rules}
 use Rattle.std.proofs.lemmas.List.{take_all}

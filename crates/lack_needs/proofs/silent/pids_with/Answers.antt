@@ -1,4 +1,4 @@
--- One pid more, listed or not, behind all that came.
+-- One pid more, listed or not, after all that came.
 use Rattle.std.proofs.Common.{◌+◌, ◌++◌, [], ◌∷◌, length, get_or, slice_get, sym, ◌∙◌, ap, subst, arith}
 use Rattle.st_core.specs.declared.types.Pid.{Pid}
 use Rattle.st_core.specs.Run.{pids_of}

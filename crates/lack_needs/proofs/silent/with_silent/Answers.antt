@@ -1,4 +1,4 @@
--- One process more, listed or not, behind all that came.
+-- One process more, listed or not, after all that came.
 use Rattle.std.proofs.Common.{◌≡◌, ◌+◌, ◌++◌, ℕ, List, length, get_or, slice_get, Some, refl, sym, ◌∙◌, ap, subst}
 use Rattle.std.proofs.Common.{arith}
 use Rattle.st_core.specs.declared.types.Pid.{Pid}

@@ -1,4 +1,4 @@
--- What is found first is the least place, and if nothing is found there is none.
+-- The first place that is found is the least, and if none is found there is none.
 use Rattle.std.proofs.Common.{sym, ◌∙◌}
 use Rattle.std.proofs.lemmas.Bool.{false≢true}
 use Rattle.lack_needs.specs.Unfounded.{is_unfounded}
