@@ -2,7 +2,7 @@
 
 use crate::names::{Names, NotFound};
 use clap::error::ErrorKind;
-use clap::{CommandFactory, Parser, Subcommand, ValueEnum};
+use clap::{CommandFactory, FromArgMatches, Parser, Subcommand, ValueEnum};
 use gemshowal::{Filter, Span, Trace};
 use std::ffi::OsString;
 use std::path::{Path, PathBuf};
@@ -26,7 +26,7 @@ pub(crate) enum Command {
     Chart(Chart),
     /// Says whether the acts in a text are a run that reports exactly its events
     #[command(after_help = CHECK)]
-    Check(Check),
+    Check(Reported),
     /// Adds unreported events until each event has what it follows, or says why not
     #[command(after_help = COMPLETE)]
     Complete(Complete),
@@ -35,7 +35,7 @@ pub(crate) enum Command {
     Cut(Cut),
     /// Says why check refuses acts: the act, what was due, what came
     #[command(after_help = EXPLAIN)]
-    Explain(Explain),
+    Explain(Reported),
     /// Compares two traces of one program: what is new, gone or elsewhere in the second
     #[command(after_help = DIFF)]
     Diff(Diff),
@@ -53,7 +53,7 @@ pub(crate) enum Command {
     Page(Page),
     /// Counts events and messages by process, pair and label
     #[command(after_help = STATS)]
-    Stats(Stats),
+    Stats(Reported),
     /// Says how long messages and labels took
     #[command(after_help = TIMES)]
     Times(Times),
@@ -82,20 +82,20 @@ pub(crate) struct Inputs {
     quiet: bool,
 }
 
-/// The option for a result as JSON.
-#[derive(clap::Args, Clone, Copy)]
-pub(crate) struct Json {
+/// The inputs of a command whose result may be JSON.
+#[derive(clap::Args)]
+pub(crate) struct Reported {
+    #[command(flatten)]
+    inputs: Inputs,
     /// Write a JSON object for each trace, on a line (docs/schema.json)
     #[arg(long)]
-    pub(crate) json: bool,
+    json: bool,
 }
 
 #[derive(clap::Args)]
 pub(crate) struct Audit {
     #[command(flatten)]
-    inputs: Inputs,
-    #[command(flatten)]
-    json: Json,
+    reported: Reported,
     /// Write acts of a run that has the trace to this file; seqaudit check confirms them
     #[arg(long, value_name = "FILE")]
     pub(crate) acts: Option<PathBuf>,
@@ -130,27 +130,9 @@ pub(crate) struct Region {
 }
 
 #[derive(clap::Args)]
-pub(crate) struct Check {
-    #[command(flatten)]
-    inputs: Inputs,
-    #[command(flatten)]
-    json: Json,
-}
-
-#[derive(clap::Args)]
-pub(crate) struct Explain {
-    #[command(flatten)]
-    inputs: Inputs,
-    #[command(flatten)]
-    json: Json,
-}
-
-#[derive(clap::Args)]
 pub(crate) struct Complete {
     #[command(flatten)]
-    inputs: Inputs,
-    #[command(flatten)]
-    json: Json,
+    reported: Reported,
     /// What to write: the added events in words, a trace of all events, or acts for the trace
     #[arg(long = "as", value_name = "FORM", value_enum, default_value_t = Form::Added)]
     pub(crate) form: Form,
@@ -183,8 +165,9 @@ pub(crate) struct Diff {
     /// The trace after it; - is standard input
     #[arg(value_name = "B")]
     pub(crate) second: PathBuf,
-    #[command(flatten)]
-    json: Json,
+    /// Write a JSON object for each trace, on a line (docs/schema.json)
+    #[arg(long)]
+    json: bool,
     /// Write no result and no note: the status tells
     #[arg(short, long)]
     quiet: bool,
@@ -220,9 +203,7 @@ pub(crate) enum Target {
 #[derive(clap::Args)]
 pub(crate) struct Lint {
     #[command(flatten)]
-    inputs: Inputs,
-    #[command(flatten)]
-    json: Json,
+    reported: Reported,
     /// Name at most so many mistakes
     #[arg(long, value_name = "N", default_value_t = 10)]
     pub(crate) most: u64,
@@ -234,9 +215,7 @@ pub(crate) struct Lint {
 #[derive(clap::Args)]
 pub(crate) struct List {
     #[command(flatten)]
-    inputs: Inputs,
-    #[command(flatten)]
-    json: Json,
+    reported: Reported,
     #[command(flatten)]
     pub(crate) conditions: Conditions,
 }
@@ -273,19 +252,9 @@ impl Conditions {
 }
 
 #[derive(clap::Args)]
-pub(crate) struct Stats {
-    #[command(flatten)]
-    inputs: Inputs,
-    #[command(flatten)]
-    json: Json,
-}
-
-#[derive(clap::Args)]
 pub(crate) struct Chart {
     #[command(flatten)]
-    inputs: Inputs,
-    #[command(flatten)]
-    json: Json,
+    reported: Reported,
     /// The label, as it is shown or by its number; else all labels
     #[arg(long)]
     pub(crate) label: Option<String>,
@@ -309,9 +278,7 @@ pub(crate) struct Page {
 #[derive(clap::Args)]
 pub(crate) struct Times {
     #[command(flatten)]
-    inputs: Inputs,
-    #[command(flatten)]
-    json: Json,
+    reported: Reported,
     /// Say too what the last event of this label waited for
     #[arg(long)]
     pub(crate) label: Option<String>,
@@ -326,8 +293,9 @@ pub(crate) struct Why {
     /// The event: shop#2, '<0.81.0> 2', or the number of its line
     #[arg(required = true, num_args = 1..=2)]
     pub(crate) event: Vec<String>,
-    #[command(flatten)]
-    json: Json,
+    /// Write a JSON object for each trace, on a line (docs/schema.json)
+    #[arg(long)]
+    json: bool,
     /// Say what follows the event, as a tree
     #[arg(long)]
     pub(crate) effects: bool,
@@ -356,48 +324,43 @@ pub(crate) struct Handed {
     pub(crate) words: Vec<OsString>,
 }
 
-impl Command {
-    /// Returns its word on the command line.
-    pub(crate) fn word(&self) -> &'static str {
-        match self {
-            Command::Audit(_) => "audit",
-            Command::Chart(_) => "chart",
-            Command::Check(_) => "check",
-            Command::Complete(_) => "complete",
-            Command::Cut(_) => "cut",
-            Command::Diff(_) => "diff",
-            Command::Export(_) => "export",
-            Command::Explain(_) => "explain",
-            Command::Lint(_) => "lint",
-            Command::List(_) => "list",
-            Command::Page(_) => "page",
-            Command::Stats(_) => "stats",
-            Command::Times(_) => "times",
-            Command::Why(_) => "why",
-            Command::Collect(_) => "collect",
-            Command::Watch(_) => "watch",
-            Command::Convert(_) => "convert",
-        }
-    }
+/// The options that commands have in common.
+struct Common<'a> {
+    files: &'a [PathBuf],
+    is_quiet: bool,
+    is_json: bool,
+}
 
-    /// Returns its inputs, if it takes several; none of a command that is handed over.
-    fn inputs(&self) -> Option<&Inputs> {
-        Some(match self {
-            Command::Audit(args) => &args.inputs,
-            Command::Chart(args) => &args.inputs,
-            Command::Check(args) => &args.inputs,
-            Command::Complete(args) => &args.inputs,
-            Command::Cut(args) => &args.inputs,
-            Command::Explain(args) => &args.inputs,
-            Command::Export(args) => &args.inputs,
-            Command::Lint(args) => &args.inputs,
-            Command::List(args) => &args.inputs,
-            Command::Page(args) => &args.inputs,
-            Command::Stats(args) => &args.inputs,
-            Command::Times(args) => &args.inputs,
-            Command::Diff(_) | Command::Why(_) => return None,
-            Command::Collect(_) | Command::Watch(_) | Command::Convert(_) => return None,
-        })
+impl Inputs {
+    fn common(&self, is_json: bool) -> Common<'_> {
+        Common { files: &self.names, is_quiet: self.quiet, is_json }
+    }
+}
+
+impl Command {
+    fn common(&self) -> Common<'_> {
+        let of_one = |file, is_quiet, is_json| {
+            Common { files: std::slice::from_ref(file), is_quiet, is_json }
+        };
+        match self {
+            Command::Audit(Audit { reported, .. })
+            | Command::Chart(Chart { reported, .. })
+            | Command::Check(reported)
+            | Command::Complete(Complete { reported, .. })
+            | Command::Explain(reported)
+            | Command::Lint(Lint { reported, .. })
+            | Command::List(List { reported, .. })
+            | Command::Stats(reported)
+            | Command::Times(Times { reported, .. }) => reported.inputs.common(reported.json),
+            Command::Cut(Cut { inputs, .. })
+            | Command::Export(Export { inputs, .. })
+            | Command::Page(Page { inputs, .. }) => inputs.common(false),
+            Command::Diff(args) => of_one(&args.first, args.quiet, args.json),
+            Command::Why(args) => of_one(&args.name, args.quiet, args.json),
+            Command::Collect(_) | Command::Watch(_) | Command::Convert(_) => {
+                Common { files: &[], is_quiet: false, is_json: false }
+            }
+        }
     }
 
     /// Returns the words of a command that is handed over.
@@ -409,37 +372,15 @@ impl Command {
     }
 
     pub(crate) fn files(&self) -> &[PathBuf] {
-        match self {
-            Command::Diff(args) => std::slice::from_ref(&args.first),
-            Command::Why(args) => std::slice::from_ref(&args.name),
-            _ => self.inputs().map_or(&[], |inputs| &inputs.names),
-        }
+        self.common().files
     }
 
     pub(crate) fn is_quiet(&self) -> bool {
-        match self {
-            Command::Diff(args) => args.quiet,
-            Command::Why(args) => args.quiet,
-            _ => self.inputs().is_some_and(|inputs| inputs.quiet),
-        }
+        self.common().is_quiet
     }
 
     pub(crate) fn is_json(&self) -> bool {
-        match self {
-            Command::Audit(Audit { json, .. })
-            | Command::Chart(Chart { json, .. })
-            | Command::Check(Check { json, .. })
-            | Command::Complete(Complete { json, .. })
-            | Command::Diff(Diff { json, .. })
-            | Command::Explain(Explain { json, .. })
-            | Command::Lint(Lint { json, .. })
-            | Command::List(List { json, .. })
-            | Command::Stats(Stats { json, .. })
-            | Command::Times(Times { json, .. })
-            | Command::Why(Why { json, .. }) => json.json,
-            Command::Cut(_) | Command::Export(_) | Command::Page(_) => false,
-            Command::Collect(_) | Command::Watch(_) | Command::Convert(_) => false,
-        }
+        self.common().is_json
     }
 
     /// Returns whether it writes a text, so that it takes one input.
@@ -454,8 +395,15 @@ impl Command {
         }
     }
 
+    /// Reads the words of this process, and returns the command's own with the command.
+    pub(crate) fn read() -> Result<(String, Command), clap::Error> {
+        let matches = Args::command().try_get_matches()?;
+        let word = matches.subcommand_name().unwrap_or_default().to_owned();
+        Ok((word, Args::from_arg_matches(&matches)?.command.checked()?))
+    }
+
     /// Refuses words that don't go together in ways that no single option tells.
-    pub(crate) fn checked(self) -> Result<Command, clap::Error> {
+    fn checked(self) -> Result<Command, clap::Error> {
         let wrong = |words| Err(Args::command().error(ErrorKind::ValueValidation, words));
         if self.files().iter().filter(|file| *file == Path::new("-")).count() > 1 {
             return wrong("standard input is read once: name it once");

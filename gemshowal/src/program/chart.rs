@@ -3,12 +3,11 @@
 
 use crate::args::Chart as Args;
 use crate::causes::{with_each, Causes, Grade, Link};
-use crate::input::Input;
 use crate::object::{kind_word, Number};
-use crate::output::{Notes, Output};
+use crate::output::Output;
 use crate::reason::write_unpaired;
 use crate::view::View;
-use crate::{moment, svg, words, Failure, Status};
+use crate::{moment, svg, words, Failure, Status, Task};
 use gemshowal::{Event, Item, Kind, Label, Pid};
 use serde::Serialize;
 use std::collections::{BTreeMap, BTreeSet};
@@ -31,23 +30,15 @@ pub(crate) struct Row {
     pub(crate) other: Option<usize>,
 }
 
-/// The events of a label, each after its cause.
 pub(crate) struct Chart {
     pub(crate) label: Label,
-    /// The processes from left to right.
     pub(crate) lanes: Vec<Pid>,
     pub(crate) rows: Vec<Row>,
 }
 
-pub(crate) fn run(
-    args: &Args,
-    json: bool,
-    input: &mut Input,
-    out: &mut Output,
-    notes: &mut Notes,
-) -> Result<Status, Failure> {
-    let trace = input.trace()?;
-    let names = input.names(&trace, notes)?;
+pub(crate) fn run(args: &Args, task: Task<'_>) -> Result<Status, Failure> {
+    let Task { json, input, out, notes } = task;
+    let (trace, names) = input.read(notes)?;
     let label = match (&args.label, &args.svg) {
         (None, None) => None,
         (label, _) => Some(names.find_label(&trace, label.as_deref())?),
@@ -127,7 +118,6 @@ fn write(
 }
 
 impl Chart {
-    /// Returns whether it has more marks than anybody looks at.
     fn is_long(&self) -> bool {
         self.rows.len().saturating_mul(self.lanes.len()) > MOST_MARKS
     }
@@ -206,7 +196,6 @@ impl Chart {
     }
 }
 
-/// Returns the time of an event, after two blanks.
 fn time(causes: &Causes<'_>, item: Item) -> String {
     let times = causes.names().times().zip(causes.place(item));
     let time = times.and_then(|(times, place)| Some(moment::moment(times, times.of_event(place)?)));
@@ -220,7 +209,6 @@ fn took(causes: &Causes<'_>, item: Item) -> String {
     took.map(|took| format!(", {} later", moment::seconds(took))).unwrap_or_default()
 }
 
-/// Returns the text, or its first characters and three dots.
 pub(crate) fn short(text: &str, most: usize) -> String {
     if text.chars().count() <= most {
         text.into()

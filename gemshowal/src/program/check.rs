@@ -1,14 +1,13 @@
 //! The command `check`: whether the acts of a text are a run that reports exactly its events.
 
-use crate::input::Input;
-use crate::output::Output;
 use crate::view::count;
-use crate::{Failure, Status};
+use crate::{Failure, Status, Task};
 use gemshowal::{Act, OutOfMemory, Pid, Text, Trace, Verdict};
 use serde::Serialize;
 use std::io::Write;
 
-pub(crate) fn run(json: bool, input: &mut Input, out: &mut Output) -> Result<Status, Failure> {
+pub(crate) fn run(task: Task<'_>) -> Result<Status, Failure> {
+    let Task { json, input, out, .. } = task;
     let trace = input.trace()?;
     let verdict = trace.check()?.ok_or_else(|| Failure::NoActs(input.line_name().into()))?;
     let is_yes = matches!(verdict, Verdict::Yes(_));

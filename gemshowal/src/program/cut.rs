@@ -2,19 +2,12 @@
 
 use crate::args::Cut;
 use crate::audit::open_ends;
-use crate::input::Input;
-use crate::output::{Notes, Output};
 use crate::view::{count, grouped, Kept, View};
-use crate::{Failure, Status};
+use crate::{Failure, Status, Task};
 
-pub(crate) fn run(
-    args: &Cut,
-    input: &mut Input,
-    out: &mut Output,
-    notes: &mut Notes,
-) -> Result<Status, Failure> {
-    let trace = input.trace()?;
-    let names = input.names(&trace, notes)?;
+pub(crate) fn run(args: &Cut, task: Task<'_>) -> Result<Status, Failure> {
+    let Task { input, out, notes, .. } = task;
+    let (trace, names) = input.read(notes)?;
     let filter = args.conditions.filter(&trace, &names)?;
     let mut kept = Kept::new();
     for rows in trace.list(&filter)?.as_ref().chunk_by(|one, other| one.pid == other.pid) {

@@ -3,19 +3,17 @@
 use crate::lint;
 use crate::names::{self, Messages, Names};
 use crate::output::Notes;
-use crate::progress::{Counter, Progress};
 use crate::spool::Spool;
 use crate::Failure;
 use flate2::read::MultiGzDecoder;
 use gemshowal::{ReadError, Trace};
 use std::fs::File;
-use std::io::{self, BufReader, Cursor, ErrorKind, IsTerminal, Read, Seek};
+use std::io::{self, BufReader, Cursor, ErrorKind, Read, Seek};
 use std::path::{Path, PathBuf};
 
 /// The first bytes of a packed file.
 const GZIP: &[u8] = b"\x1f\x8b";
 
-/// An input that is open, with the name that messages call it by.
 pub(crate) struct Input {
     name: String,
     /// The file, or `-`.
@@ -23,19 +21,17 @@ pub(crate) struct Input {
     /// The file, to be read once more; none for standard input.
     file: Option<File>,
     reader: Box<dyn Read>,
-    counter: Counter,
 }
 
 impl Input {
     /// Opens the file of this path, that of the trace of this name, or standard input for `-`.
     pub(crate) fn open(path: &Path) -> Result<Input, Failure> {
         let path = names::trace_file(path);
-        let counter = Counter::default();
         if path == Path::new("-") {
             let name = "standard input".to_owned();
             let reader = unpacked(Box::new(io::stdin().lock()));
             let reader = reader.map_err(|reason| Failure::Unread(name.clone(), reason))?;
-            return Ok(Input { name, path, file: None, reader, counter });
+            return Ok(Input { name, path, file: None, reader });
         }
         let name = path.to_string_lossy().into_owned();
         let opened = File::open(&path).and_then(|file| Ok((file.try_clone()?, file)));
@@ -43,17 +39,16 @@ impl Input {
             .map_err(|reason| Failure::Unopened(on_one_line(&name).into(), hint(&path), reason))?;
         let reader = unpacked(Box::new(file));
         let reader = reader.map_err(|reason| Failure::Unread(on_one_line(&name).into(), reason))?;
-        Ok(Input { name, path, file: Some(again), reader, counter })
+        Ok(Input { name, path, file: Some(again), reader })
     }
 
     #[cfg(test)]
-    pub(crate) fn of_bytes(bytes: &[u8]) -> Input {
+    pub(crate) fn of_bytes(bytes: &[u8], path: &str) -> Input {
         Input {
-            name: "standard input".into(),
-            path: "-".into(),
+            name: path.into(),
+            path: path.into(),
             file: None,
             reader: Box::new(Cursor::new(bytes.to_vec())),
-            counter: Counter::default(),
         }
     }
 
@@ -73,9 +68,11 @@ impl Input {
         path.strip_suffix(".seqtrace").unwrap_or(&path).to_owned()
     }
 
-    /// Reads the names that the files next to it give its trace.
-    pub(crate) fn names(&self, trace: &Trace, notes: &mut Notes) -> Result<Names, Failure> {
-        Ok(Names::beside(&self.path, trace, notes)?)
+    /// Reads the trace, and the names that the files next to it give it.
+    pub(crate) fn read(&mut self, notes: &mut Notes) -> Result<(Trace, Names), Failure> {
+        let trace = self.trace()?;
+        let names = Names::beside(&self.path, &trace, notes)?;
+        Ok((trace, names))
     }
 
     /// Reads the whole texts of messages that the names have cut, if `is_wanted` is true for them.
@@ -83,20 +80,14 @@ impl Input {
         Ok(Messages::beside(&self.path, is_wanted)?)
     }
 
-    /// Returns the name of the trace without its folder.
     pub(crate) fn title(&self) -> String {
         let word = self.word();
         Path::new(&word).file_name().map_or(word.clone(), |name| name.to_string_lossy().into())
     }
 
-    /// Shows on a terminal how much was read, if that takes long.
-    pub(crate) fn watch(&self, is_wanted: bool) -> Option<Progress> {
-        (is_wanted && io::stderr().is_terminal()).then(|| Progress::of(&self.counter))
-    }
-
     pub(crate) fn trace(&mut self) -> Result<Trace, Failure> {
         let mut spool = self.file.is_none().then(Spool::default);
-        let read = Trace::read(Kept { input: self, spool: spool.as_mut() });
+        let read = Trace::read(Kept { reader: &mut self.reader, spool: spool.as_mut() });
         read.map_err(|error| match error {
             ReadError::Memory(error) => error.into(),
             ReadError::Io(reason) => self.unread(reason),
@@ -113,7 +104,7 @@ impl Input {
     pub(crate) fn bytes(&mut self) -> Result<Vec<u8>, Failure> {
         let mut bytes = Vec::new();
         let most = gemshowal::LIMITS.bytes;
-        let read = Kept { input: self, spool: None }.take(most + 1).read_to_end(&mut bytes);
+        let read = self.reader.by_ref().take(most + 1).read_to_end(&mut bytes);
         match read {
             Err(reason) => Err(self.unread(reason)),
             Ok(count) if count as u64 > most => Err(Failure::TooLarge(self.line_name().into())),
@@ -166,16 +157,14 @@ impl<R: Read> Read for Unpacking<R> {
     }
 }
 
-/// A reader that counts what is read, and keeps it if that is wanted.
 struct Kept<'a> {
-    input: &'a mut Input,
+    reader: &'a mut dyn Read,
     spool: Option<&'a mut Spool>,
 }
 
 impl Read for Kept<'_> {
     fn read(&mut self, piece: &mut [u8]) -> io::Result<usize> {
-        let taken = self.input.reader.read(piece)?;
-        self.input.counter.count(taken);
+        let taken = self.reader.read(piece)?;
         if let (Some(spool), Some(bytes)) = (&mut self.spool, piece.get(..taken)) {
             spool.keep(bytes);
         }

@@ -28,7 +28,6 @@ mod names;
 mod object;
 mod output;
 mod page;
-mod progress;
 mod reason;
 mod spool;
 mod stats;
@@ -38,11 +37,10 @@ mod view;
 mod why;
 mod words;
 
-use crate::args::{Args, Command};
+use crate::args::Command;
 use crate::failure::{Failure, Status, PIPE};
 use crate::input::Input;
 use crate::output::{Headings, Notes, Output};
-use clap::Parser;
 use serde::Serialize;
 use std::io::ErrorKind;
 use std::path::Path;
@@ -57,32 +55,32 @@ struct Failed {
     error: String,
 }
 
-fn run_on(
-    command: &Command,
-    input: &mut Input,
-    out: &mut Output,
-    notes: &mut Notes,
-) -> Result<Status, Failure> {
-    let json = command.is_json();
-    let status = match command {
-        Command::Audit(args) => audit::run(args, json, input, out, notes),
-        Command::Check(_) => check::run(json, input, out),
-        Command::Complete(args) => complete::run(args, json, input, out, notes),
-        Command::Cut(args) => cut::run(args, input, out, notes),
-        Command::Explain(_) => explain::run(json, input, out),
-        Command::Lint(args) => lint::run(args, json, input, out, notes),
-        Command::List(args) => list::run(args, json, input, out, notes),
-        Command::Page(args) => page::run(args, input, out, notes),
-        Command::Stats(_) => stats::run(json, input, out, notes),
+/// A command's work on one input.
+struct Task<'a> {
+    json: bool,
+    input: &'a mut Input,
+    out: &'a mut Output,
+    notes: &'a mut Notes,
+}
+
+fn run_on(command: &Command, task: Task<'_>) -> Result<Status, Failure> {
+    match command {
+        Command::Audit(args) => audit::run(args, task),
+        Command::Check(_) => check::run(task),
+        Command::Complete(args) => complete::run(args, task),
+        Command::Cut(args) => cut::run(args, task),
+        Command::Explain(_) => explain::run(task),
+        Command::Lint(args) => lint::run(args, task),
+        Command::List(args) => list::run(args, task),
+        Command::Page(args) => page::run(args, task),
+        Command::Stats(_) => stats::run(task),
         Command::Collect(_) | Command::Watch(_) | Command::Convert(_) => Ok(Status::Yes),
-        Command::Chart(args) => chart::run(args, json, input, out, notes),
-        Command::Diff(args) => diff::run(json, input, Input::open(&args.second)?, out, notes),
-        Command::Export(args) => export::run(args, input, out, notes),
-        Command::Times(args) => times::run(args, json, input, out, notes),
-        Command::Why(args) => why::run(args, json, input, out, notes),
-    }?;
-    out.finish()?;
-    Ok(status)
+        Command::Chart(args) => chart::run(args, task),
+        Command::Diff(args) => diff::run(task, Input::open(&args.second)?),
+        Command::Export(args) => export::run(args, task),
+        Command::Times(args) => times::run(args, task),
+        Command::Why(args) => why::run(args, task),
+    }
 }
 
 /// Opens an input, and does the command on it. In place of a result JSON has an object too.
@@ -93,13 +91,16 @@ fn run_on_path(
     notes: &mut Notes,
 ) -> Result<Status, Failure> {
     let mut opened = Input::open(path);
-    let (name, progress) = match &opened {
-        Ok(input) => (input.name().to_owned(), input.watch(!command.is_quiet())),
-        Err(_) => (path.to_string_lossy().into_owned(), None),
+    let name = match &opened {
+        Ok(input) => input.name().to_owned(),
+        Err(_) => path.to_string_lossy().into_owned(),
     };
-    let mut out = headings.output(&name, progress)?;
+    let mut out = headings.output(&name)?;
     let ended = match &mut opened {
-        Ok(input) => run_on(command, input, &mut out, notes),
+        Ok(input) => {
+            let task = Task { json: command.is_json(), input, out: &mut out, notes };
+            run_on(command, task).and_then(|status| out.finish().map(|()| status).map_err(Failure::from))
+        }
         Err(_) => opened.map(|_| Status::Yes),
     };
     let ended = ended.or_else(|failure| report(failure, command.is_json(), &mut out));
@@ -118,10 +119,10 @@ fn report(failure: Failure, is_json: bool, out: &mut Output) -> Result<Status, F
 }
 
 /// Does the command on one input after the other. The status is that of the worst.
-fn run(command: &Command) -> u8 {
+fn run(word: &str, command: &Command) -> u8 {
     let mut status = 0;
     let several = command.files().len() > 1 && !command.is_json();
-    let mut headings = Headings::new(command.word(), several, command.is_quiet());
+    let mut headings = Headings::new(word, several, command.is_quiet());
     for path in command.files() {
         let mut notes = Notes::new(command.is_quiet());
         let ended = run_on_path(command, path, &mut headings, &mut notes);
@@ -157,11 +158,10 @@ fn print(error: &clap::Error) -> u8 {
 }
 
 fn main() -> ExitCode {
-    let read = Args::try_parse().and_then(|args| args.command.checked());
-    ExitCode::from(match read {
-        Ok(command) => match command.handed() {
-            Some(args) => erlang::hand_over(command.word(), &args.words),
-            None => run(&command),
+    ExitCode::from(match Command::read() {
+        Ok((word, command)) => match command.handed() {
+            Some(args) => erlang::hand_over(&word, &args.words),
+            None => run(&word, &command),
         },
         Err(error) => print(&error),
     })

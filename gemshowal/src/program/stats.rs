@@ -1,26 +1,20 @@
 //! The command `stats`: the numbers of events and messages in a trace, by process, by pair of
 //! processes and by label.
 
-use crate::input::Input;
 use crate::names::Names;
 use crate::object::Number;
-use crate::output::{Notes, Output};
+use crate::output::Output;
 use crate::reason::write_unpaired;
 use crate::view::View;
-use crate::{Failure, Status};
+use crate::{Failure, Status, Task};
 use gemshowal::{Event, Hop, Hops, Kind, Label, Paired, Pairing, Partner, Pid, Text, Trace};
 use serde::Serialize;
 use std::collections::{BTreeMap, HashMap};
 use std::io::{self, Write};
 
-pub(crate) fn run(
-    json: bool,
-    input: &mut Input,
-    out: &mut Output,
-    notes: &mut Notes,
-) -> Result<Status, Failure> {
-    let trace = input.trace()?;
-    let names = input.names(&trace, notes)?;
+pub(crate) fn run(task: Task<'_>) -> Result<Status, Failure> {
+    let Task { json, input, out, notes } = task;
+    let (trace, names) = input.read(notes)?;
     let paired = match Paired::of(trace.streams())? {
         Ok(paired) => paired,
         Err(finding) => {

@@ -15,10 +15,10 @@ pub(crate) use region::open as open_ends;
 
 use crate::args::Audit;
 use crate::input::Input;
-use crate::output::{Notes, Output};
+use crate::output::Output;
 use crate::times::summary;
 use crate::view::{Kept, Place, View};
-use crate::{Failure, Status};
+use crate::{Failure, Status, Task};
 use gemshowal::{CompleteError, OutOfMemory, Trace};
 use missing::Missing;
 use others::Comparison;
@@ -36,15 +36,9 @@ const NOT_PROVED: &str =
     "This answer is not proved: gemshowal is a plain build of proved sources, \
      and its words are only tested; --proved asks the proved programs.";
 
-pub(crate) fn run(
-    args: &Audit,
-    json: bool,
-    input: &mut Input,
-    out: &mut Output,
-    notes: &mut Notes,
-) -> Result<Status, Failure> {
-    let trace = input.trace()?;
-    let names = input.names(&trace, notes)?;
+pub(crate) fn run(args: &Audit, task: Task<'_>) -> Result<Status, Failure> {
+    let Task { json, input, out, notes } = task;
+    let (trace, names) = input.read(notes)?;
     let whole = View::whole(&trace, &names);
     let kept = region::kept(&args.region, &whole, input.line_name())?;
     let Some(kept) = kept else {
@@ -56,7 +50,6 @@ pub(crate) fn run(
     Auditor { args, json, cut: Some(cut), view: &view, input, word: input.word() }.run(out)
 }
 
-/// A trace that is audited, and the questions about it.
 struct Auditor<'a> {
     args: &'a Audit,
     json: bool,
@@ -73,11 +66,9 @@ struct Audited<'a> {
     missing: Missing,
     /// The events that are copies of others, if a run has the trace without them.
     copies: Vec<(Place, Place)>,
-    /// The parts between which resets may have been.
     parts: Vec<Part>,
 }
 
-/// A part of a trace between two resets.
 struct Part {
     kept: Kept,
     trace: Trace,

@@ -9,15 +9,14 @@ mod reasons;
 mod rerun;
 mod text;
 
-use crate::input::Input;
-use crate::output::Output;
-use crate::{Failure, Status};
+use crate::{Failure, Status, Task};
 use found::Found;
 use gemshowal::{Trace, Verdict};
 use serde::Serialize;
 use std::io::Write;
 
-pub(crate) fn run(json: bool, input: &mut Input, out: &mut Output) -> Result<Status, Failure> {
+pub(crate) fn run(task: Task<'_>) -> Result<Status, Failure> {
+    let Task { json, input, out, .. } = task;
     let trace = input.trace()?;
     let acts = trace.acts().ok_or_else(|| Failure::NoActs(input.line_name().into()))?;
     let verdict = trace.check()?.unwrap_or(Verdict::Stuck(0));
@@ -43,7 +42,6 @@ pub(crate) fn run(json: bool, input: &mut Input, out: &mut Output) -> Result<Sta
 #[derive(Serialize)]
 struct Nothing {}
 
-/// Names the line of an event or an act after its name, if it has one.
 fn on_line(line: Option<u64>) -> String {
     line.map(|line| format!(", line {line}")).unwrap_or_default()
 }

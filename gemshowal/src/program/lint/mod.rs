@@ -14,10 +14,9 @@ mod survey;
 mod text;
 
 use crate::args::Lint;
-use crate::input::Input;
 use crate::object::Number;
-use crate::output::{Notes, Output};
-use crate::{Failure, Status};
+use crate::output::Output;
+use crate::{Failure, Status, Task};
 use gemshowal::{OutOfMemory, ReadError, Trace};
 use mistake::Mistake;
 use serde::Serialize;
@@ -25,13 +24,8 @@ use std::collections::BTreeMap;
 use std::fmt::{self, Display, Formatter};
 use std::io::Write;
 
-pub(crate) fn run(
-    args: &Lint,
-    json: bool,
-    input: &mut Input,
-    out: &mut Output,
-    notes: &mut Notes,
-) -> Result<Status, Failure> {
+pub(crate) fn run(args: &Lint, task: Task<'_>) -> Result<Status, Failure> {
+    let Task { json, input, out, notes } = task;
     let bytes = input.bytes()?;
     if args.fix {
         return fix::run(&bytes, out, notes);
@@ -56,7 +50,6 @@ pub(crate) fn first_refused(text: &[u8]) -> Option<String> {
 }
 
 enum Judged<'a> {
-    /// A trace whose events a run may report.
     Good(Trace),
     /// A trace of which no run reports some events.
     Impossible(Findings<'a>),

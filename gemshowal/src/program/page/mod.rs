@@ -10,12 +10,10 @@ mod script;
 
 use crate::args::Page as Args;
 use crate::causes::with_causes;
-use crate::input::Input;
 use crate::keep::keep;
-use crate::output::{Notes, Output};
 use crate::reason::write_unpaired;
 use crate::view::View;
-use crate::{Failure, Status};
+use crate::{Failure, Status, Task};
 use data::Data;
 use std::collections::hash_map::RandomState;
 use std::fmt::Write as _;
@@ -25,14 +23,9 @@ use std::io::Write;
 const FRAME: &str = include_str!("../../../page/page.html");
 const STYLE: &str = include_str!("../../../page/page.css");
 
-pub(crate) fn run(
-    args: &Args,
-    input: &mut Input,
-    out: &mut Output,
-    notes: &mut Notes,
-) -> Result<Status, Failure> {
-    let trace = input.trace()?;
-    let names = input.names(&trace, notes)?;
+pub(crate) fn run(args: &Args, task: Task<'_>) -> Result<Status, Failure> {
+    let Task { input, out, notes, .. } = task;
+    let (trace, names) = input.read(notes)?;
     let label = args.label.as_deref().map(|label| names.find_label(&trace, Some(label)));
     let label = label.transpose()?;
     let whole = View::whole(&trace, &names);
@@ -94,25 +87,5 @@ fn escape(text: &str, page: &mut String) {
             'a'..='z' | 'A'..='Z' | '0'..='9' | ' ' | '.' | '_' | '-' => write!(page, "{c}"),
             _ => write!(page, "&#{};", u32::from(c)),
         };
-    }
-}
-
-#[cfg(test)]
-mod tests {
-    use super::*;
-
-    #[test]
-    fn what_came_from_a_trace_ends_no_element() {
-        let made = page("</title><b>@DATA@", "{\"title\":\"</script><script>alert(1)\"}");
-        assert!(!made.contains("<b>"));
-        assert_eq!(made.matches("<script").count(), 2);
-        assert_eq!(made.matches("</script").count(), 2);
-        assert_eq!(made.matches("</title").count(), 1);
-        assert!(made.contains("\\u003c/script\\u003e\\u003cscript\\u003ealert(1)"));
-    }
-
-    #[test]
-    fn each_page_has_a_nonce_of_its_own() {
-        assert_ne!(nonce(), nonce());
     }
 }
