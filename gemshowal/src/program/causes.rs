@@ -6,7 +6,7 @@
 
 use crate::audit;
 use crate::names::Names;
-use crate::view::{Kept, Place, View};
+use crate::view::{Kept, Place, Shown, View};
 use crate::Failure;
 use gemshowal::{
     Answer, Completion, Event, Finding, Hop, Hops, Item, Kind, Label, Never, OutOfMemory, Paired,
@@ -14,7 +14,6 @@ use gemshowal::{
 };
 use gemshowal::{Pid, Premises, Streams, Trace};
 use std::borrow::Cow;
-use std::collections::HashMap;
 
 #[derive(Clone, Copy, Debug, PartialEq, Eq)]
 pub(crate) enum Grade {
@@ -61,11 +60,8 @@ struct Whole<'a> {
     completion: &'a Completion,
     hops: Hops<'a>,
     paired: &'a Paired<'a>,
-    /// For each process the indices of its reported events among all.
-    told: HashMap<Pid, Vec<u64>>,
 }
 
-/// The numbers of events that `complete` adds.
 #[derive(Clone, Copy, Debug, Default, PartialEq, Eq)]
 pub(crate) struct Added {
     /// The sends whose receive was reported, so they happened.
@@ -85,7 +81,7 @@ impl Added {
 }
 
 pub(crate) struct Causes<'a> {
-    view: &'a View<'a>,
+    shown: Shown<'a>,
     never: Option<(Pid, u64, Never)>,
     hops: Hops<'a>,
     paired: &'a Paired<'a>,
@@ -93,7 +89,8 @@ pub(crate) struct Causes<'a> {
 }
 
 /// Does something with the causes of a trace, unless its events can't be paired. Those of its own
-/// events alone are taken if no run reports the trace, or if they are enough.
+/// events alone are taken if no run reports the trace, if they are all that an event follows, or if
+/// they are enough.
 pub(crate) fn with_causes<T>(
     view: &View<'_>,
     is_enough: impl Fn(&Causes<'_>) -> bool,
@@ -104,15 +101,17 @@ pub(crate) fn with_causes<T>(
         Err(finding) => return Ok(Err(finding)),
     };
     let (never, hops) = (paired.refusal()?, paired.hops()?);
-    let own = Causes { view, never, hops, paired: &paired, whole: None };
-    if never.is_some() || is_enough(&own) {
+    let shown = Shown::reported(view);
+    let own = Causes { shown, never, hops, paired: &paired, whole: None };
+    if never.is_some() || own.are_reported() || is_enough(&own) {
         return Ok(Ok(run(&own)?));
     }
     let Answer::Whole(completion) = view.trace.complete()? else { return Ok(Ok(run(&own)?)) };
     match Paired::of(completion.streams())? {
         Ok(all) if completion.added() > 0 => {
-            let whole = Some(Whole::of(&completion, &all)?);
-            Ok(Ok(run(&Causes { whole, ..own })?))
+            let whole = Some(Whole { completion: &completion, hops: all.hops()?, paired: &all });
+            let shown = Shown::completed(view, &completion);
+            Ok(Ok(run(&Causes { shown, whole, ..own })?))
         }
         _ => Ok(Ok(run(&own)?)),
     }
@@ -155,20 +154,7 @@ fn are_paired(parts: &[(Kept, Trace)]) -> Result<bool, OutOfMemory> {
     Ok(!parts.is_empty())
 }
 
-impl<'a> Whole<'a> {
-    fn of(completion: &'a Completion, paired: &'a Paired<'a>) -> Result<Whole<'a>, OutOfMemory> {
-        let told = |pid| {
-            let all = 0..completion.streams().len(pid);
-            all.filter(|&index| completion.told(pid, index) == Some(true)).collect()
-        };
-        let told = completion.streams().pids().iter().map(|&pid| (pid, told(pid))).collect();
-        Ok(Whole { completion, hops: paired.hops()?, paired, told })
-    }
-
-    fn told(&self, pid: Pid) -> &[u64] {
-        self.told.get(&pid).map_or(&[], |told| told)
-    }
-
+impl Whole<'_> {
     fn partner(&self, (pid, index): Place) -> Option<Place> {
         let kind = self.completion.streams().event(pid, index)?.kind;
         match gemshowal::partner_at(self.paired.pairing(), pid, index, kind) {
@@ -184,8 +170,18 @@ impl Causes<'_> {
         self.never
     }
 
+    /// Returns whether it is known of each event what it follows, and that was reported, so that a
+    /// completion adds nothing.
+    fn are_reported(&self) -> bool {
+        let is_open = |hop| matches!(hop, Some(Hop::Unsent | Hop::BeginsOrUnreported));
+        let mut processes = self.trace().processes();
+        !processes.any(|(pid, events)| {
+            (0..events.len() as u64).any(|index| is_open(self.hops.hop(pid, index)))
+        })
+    }
+
     pub(crate) fn streams(&self) -> &Streams {
-        self.whole.as_ref().map_or(self.trace().streams(), |whole| whole.completion.streams())
+        self.shown.streams
     }
 
     /// Returns the events that are shown, each after its cause if the trace has a run.
@@ -210,28 +206,26 @@ impl Causes<'_> {
 
     /// Returns the item of the event with this place in the whole trace, if it is here.
     pub(crate) fn item_at(&self, (pid, number): Place) -> Option<Item> {
-        Some(self.item((pid, self.view.index(pid, number)?)))
+        Some(self.item((pid, self.view().index(pid, number)?)))
     }
 
     fn item(&self, (pid, index): Place) -> Item {
-        let told =
-            self.whole.as_ref().and_then(|whole| whole.told(pid).get(index as usize).copied());
+        let told = self.shown.told(pid).get(index as usize).copied();
         Item::Reported(pid, told.unwrap_or(index))
     }
 
     /// Returns the place in the whole trace of an event that was reported.
     pub(crate) fn place(&self, item: Item) -> Option<Place> {
         let (pid, index) = self.reported(item)?;
-        Some((pid, self.view.number(pid, index)))
+        Some((pid, self.view().number(pid, index)))
     }
 
-    /// Returns the place of an event that was reported, among the events of this part.
     pub(crate) fn reported(&self, item: Item) -> Option<Place> {
         match (item, &self.whole) {
             (Item::Hidden(..), _) => None,
             (Item::Reported(pid, index), None) => Some((pid, index)),
-            (Item::Reported(pid, index), Some(whole)) => {
-                let place = whole.told(pid).binary_search(&index).ok()?;
+            (Item::Reported(pid, index), Some(_)) => {
+                let place = self.shown.told(pid).binary_search(&index).ok()?;
                 Some((pid, place as u64))
             }
         }
@@ -330,55 +324,36 @@ impl Causes<'_> {
             Item::Hidden(pid, index) => {
                 format!("the send of {}", self.name(Item::Reported(pid, index)))
             }
-            Item::Reported(pid, _) => format!("{}#{}", self.process(pid), self.number(item)),
+            Item::Reported(pid, index) => self.shown.event((pid, index)),
         }
     }
 
-    /// Returns the number of an event in its name. An added event is counted from the reported one
-    /// that it comes before: `3~1`. A hidden send has none.
+    /// Returns the number of an event in its name; a hidden send has none.
     pub(crate) fn number(&self, item: Item) -> String {
-        let (pid, index) = item.place();
-        match (self.reported(item), item) {
-            (Some((pid, index)), _) => self.view.number(pid, index).to_string(),
-            (None, Item::Hidden(..)) => String::new(),
-            (None, Item::Reported(..)) => {
-                let told = self.whole.as_ref().map_or(&[][..], |whole| whole.told(pid));
-                let before = told.partition_point(|&told| told < index);
-                let last = before.checked_sub(1).and_then(|last| told.get(last));
-                let which = index - last.map_or(0, |last| last + 1) + 1;
-                format!("{}~{which}", self.view.number(pid, before as u64))
-            }
+        match item {
+            Item::Hidden(..) => String::new(),
+            Item::Reported(pid, index) => self.shown.number((pid, index)),
         }
-    }
-
-    /// Returns the processes that the trace doesn't list and `complete` supposes, by rising pid.
-    fn unlisted(&self) -> &[Pid] {
-        self.whole.as_ref().map_or(&[], |whole| whole.completion.unlisted())
     }
 
     pub(crate) fn is_unlisted(&self, pid: Pid) -> bool {
-        self.unlisted().binary_search(&pid).is_ok()
+        self.shown.stranger(pid).is_some()
     }
 
     pub(crate) fn process(&self, pid: Pid) -> Cow<'_, str> {
-        match self.unlisted().binary_search(&pid) {
-            Err(_) => self.view.names.process(pid),
-            Ok(_) if self.unlisted().len() == 1 => "a process that the trace doesn't list".into(),
-            Ok(at) => format!("a process that the trace doesn't list {}", at + 1).into(),
-        }
+        self.shown.process(pid)
     }
 
     pub(crate) fn names(&self) -> &Names {
-        self.view.names
+        self.view().names
     }
 
-    /// Returns the trace, or the part of it that is looked at.
     pub(crate) fn trace(&self) -> &Trace {
-        self.view.trace
+        self.view().trace
     }
 
     pub(crate) fn view(&self) -> &View<'_> {
-        self.view
+        self.shown.view
     }
 }
 

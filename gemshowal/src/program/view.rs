@@ -6,7 +6,7 @@ use gemshowal::{Completion, Event, Kind, Pid, Streams, Trace};
 use std::borrow::Cow;
 use std::collections::{BTreeMap, HashMap};
 
-/// The greatest number of a message's characters in a sentence.
+/// The greatest number of a message's characters in a sentence or a drawing.
 const CHARACTERS: usize = 80;
 
 /// A process and the index of one of its events.
@@ -14,14 +14,6 @@ pub(crate) type Place = (Pid, u64);
 
 /// For each process, the indices of the events that a part has.
 pub(crate) type Kept = BTreeMap<Pid, Vec<u64>>;
-
-/// The number of an event in the whole trace; of one that nobody reported the number of the event
-/// that it comes before, and which one it is of those there.
-#[derive(Clone, Copy, Debug)]
-struct Number {
-    at: u64,
-    which: Option<u64>,
-}
 
 /// A trace or a part of one, and the meaning of its numbers.
 pub(crate) struct View<'a> {
@@ -86,19 +78,24 @@ pub(crate) struct Shown<'a> {
     pub(crate) streams: &'a Streams,
     pub(crate) view: &'a View<'a>,
     completion: Option<&'a Completion>,
-    numbers: HashMap<Pid, Vec<Number>>,
+    /// For each process of a completion the indices of its reported events.
+    told: HashMap<Pid, Vec<u64>>,
 }
 
 impl<'a> Shown<'a> {
     pub(crate) fn reported(view: &'a View<'a>) -> Shown<'a> {
         let streams = view.trace.streams();
-        Shown { streams, view, completion: None, numbers: HashMap::new() }
+        Shown { streams, view, completion: None, told: HashMap::new() }
     }
 
     pub(crate) fn completed(view: &'a View<'a>, completion: &'a Completion) -> Shown<'a> {
         let streams = completion.streams();
-        let numbers = streams.pids().iter().map(|&pid| (pid, numbered(view, completion, pid)));
-        Shown { streams, view, completion: Some(completion), numbers: numbers.collect() }
+        let told = |&pid: &Pid| {
+            let all = 0..streams.len(pid);
+            (pid, all.filter(|&index| completion.told(pid, index) == Some(true)).collect())
+        };
+        let told = streams.pids().iter().map(told).collect();
+        Shown { streams, view, completion: Some(completion), told }
     }
 
     pub(crate) fn is_reported(&self, (pid, index): Place) -> bool {
@@ -127,14 +124,28 @@ impl<'a> Shown<'a> {
         }
     }
 
-    pub(crate) fn event(&self, (pid, index): Place) -> String {
-        let number = self.numbers.get(&pid).and_then(|numbers| numbers.get(index as usize));
-        let number = number.copied();
-        let number =
-            number.unwrap_or_else(|| Number { at: self.view.number(pid, index), which: None });
-        match number.which {
-            None => format!("{}#{}", self.process(pid), number.at),
-            Some(which) => format!("{}#{}~{which}", self.process(pid), number.at),
+    pub(crate) fn told(&self, pid: Pid) -> &[u64] {
+        self.told.get(&pid).map_or(&[], |told| told)
+    }
+
+    pub(crate) fn event(&self, place: Place) -> String {
+        format!("{}#{}", self.process(place.0), self.number(place))
+    }
+
+    /// Returns the number of an event in its name. An added event is counted from the reported one
+    /// that it comes before: `3~1`.
+    pub(crate) fn number(&self, (pid, index): Place) -> String {
+        if self.completion.is_none() {
+            return self.view.number(pid, index).to_string();
+        }
+        let told = self.told(pid);
+        match told.binary_search(&index) {
+            Ok(place) => self.view.number(pid, place as u64).to_string(),
+            Err(before) => {
+                let last = before.checked_sub(1).and_then(|last| told.get(last));
+                let which = index - last.map_or(0, |last| last + 1) + 1;
+                format!("{}~{which}", self.view.number(pid, before as u64))
+            }
         }
     }
 
@@ -163,22 +174,7 @@ impl<'a> Shown<'a> {
     }
 }
 
-fn numbered(view: &View<'_>, completion: &Completion, pid: Pid) -> Vec<Number> {
-    let (mut reported, mut added) = (0, 0);
-    let number = |index| {
-        if completion.told(pid, index) == Some(true) {
-            let at = view.number(pid, reported);
-            (reported, added) = (reported + 1, 0);
-            Number { at, which: None }
-        } else {
-            added += 1;
-            Number { at: view.number(pid, reported), which: Some(added) }
-        }
-    };
-    (0..completion.streams().len(pid)).map(number).collect()
-}
-
-fn short(text: &str) -> Cow<'_, str> {
+pub(crate) fn short(text: &str) -> Cow<'_, str> {
     match text.char_indices().nth(CHARACTERS) {
         None => text.into(),
         Some((end, _)) => format!("{}..", text.get(..end).unwrap_or_default()).into(),

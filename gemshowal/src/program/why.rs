@@ -2,13 +2,12 @@
 
 use crate::args::Why;
 use crate::causes::{with_each, Cause, Causes, Grade, Link};
-use crate::input::Input;
 use crate::object::{kind_word, Number};
-use crate::output::{Notes, Output};
+use crate::output::Output;
 use crate::reason::write_unpaired;
 use crate::view::View;
 use crate::words;
-use crate::{Failure, Status};
+use crate::{Failure, Status, Task};
 use gemshowal::{Item, OutOfMemory, Pid, Premises, Text, Trace};
 use serde::Serialize;
 use std::io::{self, Write};
@@ -16,15 +15,9 @@ use std::io::{self, Write};
 /// The greatest number of hops that are indented: more would move a line off the screen.
 const INDENT: usize = 16;
 
-pub(crate) fn run(
-    args: &Why,
-    json: bool,
-    input: &mut Input,
-    out: &mut Output,
-    notes: &mut Notes,
-) -> Result<Status, Failure> {
-    let trace = input.trace()?;
-    let names = input.names(&trace, notes)?;
+pub(crate) fn run(args: &Why, task: Task<'_>) -> Result<Status, Failure> {
+    let Task { json, input, out, notes } = task;
+    let (trace, names) = input.read(notes)?;
     let place = names.find_event(&trace, &args.event)?;
     let whole = View::whole(&trace, &names);
     // The way back alone needs no completion if each event on it has a cause that was reported.
@@ -35,7 +28,7 @@ pub(crate) fn run(
     let told = with_each(&whole, is_enough, |causes, part| {
         let Some(item) = causes.item_at(place) else { return Ok(None) };
         let way = if args.effects {
-            Way::forth(causes, item, args)?
+            Way::forth(causes, item, args)
         } else {
             Way::back(causes, item, args)
         };
@@ -64,7 +57,6 @@ struct Step {
     link: Link,
 }
 
-/// The events that are found from one, which comes first.
 struct Way {
     is_back: bool,
     steps: Vec<Step>,
@@ -93,18 +85,18 @@ impl Way {
     }
 
     /// Collects the event, and after each event those that follow it.
-    fn forth(causes: &Causes<'_>, first: Item, args: &Why) -> Result<Way, Failure> {
-        let children = Children::of(causes, args.across)?;
+    fn forth(causes: &Causes<'_>, first: Item, args: &Why) -> Way {
+        let children = Children::of(causes, args.across);
         let mut steps = Vec::new();
         let mut waiting = vec![(0, first)];
         while let Some((depth, item)) = waiting.pop() {
             steps.push(Step { depth, item, link: causes.link(item) });
             if (depth as u64) + 1 < args.most() {
                 let below = children.of_parent(item).iter().rev();
-                waiting.extend(below.map(|&(_, _, item)| (depth + 1, item)));
+                waiting.extend(below.map(|&(_, item)| (depth + 1, item)));
             }
         }
-        Ok(Way { is_back: false, steps })
+        Way { is_back: false, steps }
     }
 
     /// Returns the grades of what is said. The first event of a tree is there whatever it follows.
@@ -188,29 +180,30 @@ impl Way {
     }
 }
 
-/// The events that follow others directly, by what they follow and then in the order of all: each
-/// with that event and its rank in the order.
-struct Children(Vec<(Item, usize, Item)>);
+/// The events that follow others directly, each after the event that it follows, by that event.
+/// Those that follow one event are of one process.
+struct Children(Vec<(Item, Item)>);
 
 impl Children {
-    fn of(causes: &Causes<'_>, across: bool) -> Result<Children, OutOfMemory> {
-        let ranked = causes.order()?.into_iter().zip(0..);
-        let mut children: Vec<_> = ranked
-            .filter_map(|(item, rank)| Some((parent(&causes.link(item), across)?, rank, item)))
-            .collect();
+    fn of(causes: &Causes<'_>, across: bool) -> Children {
+        let streams = causes.streams();
+        let items = streams.pids().iter().flat_map(|&pid| {
+            (0..streams.len(pid)).map(move |index| Item::Reported(pid, index))
+        });
+        let child = |item| Some((parent(&causes.link(item), across)?, item));
+        let mut children: Vec<_> = items.filter_map(child).collect();
         children.sort_unstable();
-        Ok(Children(children))
+        Children(children)
     }
 
-    fn of_parent(&self, item: Item) -> &[(Item, usize, Item)] {
-        let first = self.0.partition_point(|&(parent, ..)| parent < item);
+    fn of_parent(&self, item: Item) -> &[(Item, Item)] {
+        let first = self.0.partition_point(|&(parent, _)| parent < item);
         let own = self.0.get(first..).unwrap_or_default();
-        let count = own.iter().take_while(|&&(parent, ..)| parent == item).count();
+        let count = own.iter().take_while(|&&(parent, _)| parent == item).count();
         own.get(..count).unwrap_or_default()
     }
 }
 
-/// Returns the event that is next on the way back.
 fn parent(link: &Link, across: bool) -> Option<Item> {
     match link.cause {
         Cause::After(item) => Some(item),
