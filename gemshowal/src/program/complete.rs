@@ -1,33 +1,25 @@
 //! The command `complete`: events that nobody reported, with which a run has the trace.
 
 use crate::args::{Complete, Form};
-use crate::input::Input;
 use crate::object::{Fields, Number, Place, Sequence};
 use crate::output::{Notes, Output};
 use crate::reason::Against;
 use crate::view::{count, Shown, View};
-use crate::{Failure, Status};
+use crate::{Failure, Status, Task};
 use gemshowal::{Answer, Completion, Event, Pid, Trace};
 use serde::Serialize;
 use std::io::Write;
 
-pub(crate) fn run(
-    args: &Complete,
-    json: bool,
-    input: &mut Input,
-    out: &mut Output,
-    notes: &mut Notes,
-) -> Result<Status, Failure> {
-    let trace = input.trace()?;
-    let names = input.names(&trace, notes)?;
+pub(crate) fn run(args: &Complete, task: Task<'_>) -> Result<Status, Failure> {
+    let Task { json, input, out, notes } = task;
+    let (trace, names) = input.read(notes)?;
     let view = View::whole(&trace, &names);
     match trace.complete()? {
         Answer::Whole(completion) if args.form == Form::Added => {
-            let shown = Shown::completed(&view, &completion);
             if json {
-                write_object(&completion, &shown, out)?;
+                write_object(&completion, &Shown::completed(&view, &completion), out)?;
             } else {
-                write_added(&completion, &shown, out)?;
+                write_added(&completion, &view, out)?;
             }
             Ok(Status::Yes)
         }
@@ -89,7 +81,7 @@ fn write_text(
 
 fn write_added(
     completion: &Completion,
-    shown: &Shown<'_>,
+    view: &View<'_>,
     out: &mut Output,
 ) -> Result<(), Failure> {
     if completion.added() == 0 {
@@ -105,6 +97,7 @@ fn write_added(
         0 => String::new(),
         unlisted => format!(", with {} that the trace doesn't list", count(unlisted, "process")),
     };
+    let shown = Shown::completed(view, completion);
     writeln!(out, "adds {}{of}:", count(completion.added(), "event"))?;
     for (pid, index, event) in gemshowal::added(completion) {
         writeln!(out, "  {}: {}", shown.event((pid, index)), shown.sentence(event))?;
@@ -114,16 +107,10 @@ fn write_added(
 }
 
 #[derive(Serialize)]
-#[serde(bound = "")]
-struct Completed<F, I>
-where
-    F: Fn() -> I,
-    I: Iterator,
-    I::Item: Serialize,
-{
+struct Completed<'a> {
     added: Number,
     unlisted: Vec<String>,
-    events: Sequence<F>,
+    events: Sequence<'a, Added>,
 }
 
 #[derive(Serialize)]
@@ -142,7 +129,7 @@ fn write_object(
 ) -> Result<(), Failure> {
     let names = shown.view.names;
     let added = |(pid, index, event): (Pid, u64, &Event)| Added {
-        place: Place { event: shown.event((pid, index)), ..Place::new(names, (pid, index)) },
+        place: Place::shown(shown, (pid, index)),
         fields: Fields::new(names, event),
         what: shown.sentence(event),
     };
@@ -150,7 +137,7 @@ fn write_object(
     let completed = Completed {
         added: Number(completion.added()),
         unlisted: unlisted.map(|&pid| gemshowal::Text(pid).to_string()).collect(),
-        events: Sequence(|| gemshowal::added(completion).map(added)),
+        events: Sequence::of(|| gemshowal::added(completion).map(added)),
     };
     out.report("completed", &completed)
 }

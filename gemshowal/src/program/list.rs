@@ -1,23 +1,14 @@
 //! The command `list`: events, each with its line, its name and its other end.
 
 use crate::args::List;
-use crate::input::Input;
 use crate::names::{Line, Names};
-use crate::object::{Fields, Number, Place, Sequence};
-use crate::output::{Notes, Output};
-use crate::{Failure, Status};
-use gemshowal::{Kind, Pairing, Partner, Row};
-use serde::Serialize;
+use crate::object::kind_word;
+use crate::{Failure, Status, Task};
+use gemshowal::{Kind, Partner, Pid, Row};
 
-pub(crate) fn run(
-    args: &List,
-    json: bool,
-    input: &mut Input,
-    out: &mut Output,
-    notes: &mut Notes,
-) -> Result<Status, Failure> {
-    let trace = input.trace()?;
-    let names = input.names(&trace, notes)?;
+pub(crate) fn run(args: &List, task: Task<'_>) -> Result<Status, Failure> {
+    let Task { json, input, out, notes } = task;
+    let (trace, names) = input.read(notes)?;
     let rows = trace.list(&args.conditions.filter(&trace, &names)?)?;
     let rows = rows.as_ref();
     let pairing = trace.pair()?.ok();
@@ -26,19 +17,19 @@ pub(crate) fn run(
             "note: the trace can't be paired, so no partners are shown; gemshowal audit says why",
         );
     }
+    let partner = |row: &Row| {
+        let pairing = pairing.as_ref();
+        pairing.map_or(Partner::Nobody, |pairing| gemshowal::partner(pairing, row))
+    };
     if json {
-        write_object(rows, pairing.as_ref(), &names, out)?;
+        let put = |line: &mut Line<'_>, row: &Row| put_object(line, row, partner(row), &names);
+        out.report_rows("listed", "events", rows, put)?;
     } else {
         for row in rows {
-            let partner = partner(pairing.as_ref(), row);
-            out.put(|line| put_row(line, row, partner, &names))?;
+            out.put(|line| put_row(line, row, partner(row), &names))?;
         }
     }
     Ok(Status::Yes)
-}
-
-fn partner(pairing: Option<&Pairing>, row: &Row) -> Partner {
-    pairing.map_or(Partner::Nobody, |pairing| gemshowal::partner(pairing, row))
 }
 
 fn put_row(line: &mut Line<'_>, row: &Row, partner: Partner, names: &Names) {
@@ -66,50 +57,45 @@ fn put_row(line: &mut Line<'_>, row: &Row, partner: Partner, names: &Names) {
     line.text("\n");
 }
 
-/// The events for programs.
-#[derive(Serialize)]
-#[serde(bound = "")]
-struct Listed<F, I>
-where
-    F: Fn() -> I,
-    I: Iterator,
-    I::Item: Serialize,
-{
-    count: usize,
-    events: Sequence<F>,
+/// Appends an event as JSON. Its other end is null if nobody reported it, and left out of a print
+/// and if the trace can't be paired.
+fn put_object(line: &mut Line<'_>, row: &Row, partner: Partner, names: &Names) {
+    let event = &row.event;
+    line.text("{\"line\":").json_number(row.line).text(",");
+    put_place(line, (row.pid, row.index), names);
+    line.text(",\"kind\":\"").text(kind_word(event.kind));
+    line.text("\",\"label\":").number(event.label.0.into());
+    if names.has_terms() {
+        line.text(",\"term\":").string(&names.label(event.label));
+    }
+    line.text(",\"prev\":").json_number(event.serial.prev);
+    line.text(",\"this\":").json_number(event.serial.this);
+    line.text(",\"from\":\"").pid(event.from).text("\"");
+    if let Some(to) = event.to {
+        line.text(",\"to\":\"").pid(to).text("\"");
+    }
+    line.text(",\"value\":").json_number(event.value);
+    if names.has_terms() {
+        line.text(",\"message\":").string(&names.brief(event.value));
+    }
+    match partner {
+        Partner::Receive(pid, index) | Partner::Send(pid, index) => {
+            line.text(",\"partner\":{");
+            put_place(line, (pid, index), names);
+            line.text("}");
+        }
+        Partner::NoReceive | Partner::NoSend => drop(line.text(",\"partner\":null")),
+        Partner::Nobody => {}
+    }
+    line.text("}");
 }
 
-#[derive(Serialize)]
-struct Event {
-    line: Number,
-    #[serde(flatten)]
-    place: Place,
-    #[serde(flatten)]
-    fields: Fields,
-    /// The event's other end: null if nobody reported it; left out of a print, and if the trace
-    /// can't be paired.
-    #[serde(skip_serializing_if = "Option::is_none")]
-    partner: Option<Option<Place>>,
-}
-
-fn write_object(
-    rows: &[Row],
-    pairing: Option<&Pairing>,
-    names: &Names,
-    out: &mut Output,
-) -> Result<(), Failure> {
-    let event = |row: &Row| Event {
-        line: Number(row.line),
-        place: Place::new(names, (row.pid, row.index)),
-        fields: Fields::new(names, &row.event),
-        partner: match partner(pairing, row) {
-            Partner::Receive(pid, index) | Partner::Send(pid, index) => {
-                Some(Some(Place::new(names, (pid, index))))
-            }
-            Partner::NoReceive | Partner::NoSend => Some(None),
-            Partner::Nobody => None,
-        },
-    };
-    let listed = Listed { count: rows.len(), events: Sequence(|| rows.iter().map(event)) };
-    out.report("listed", &listed)
+fn put_place(line: &mut Line<'_>, place: (Pid, u64), names: &Names) {
+    line.text("\"event\":");
+    if names.has_terms() {
+        line.string(&names.event(place));
+    } else {
+        line.text("\"").event(names, place).text("\"");
+    }
+    line.text(",\"pid\":\"").pid(place.0).text("\",\"index\":").number(place.1);
 }

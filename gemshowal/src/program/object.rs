@@ -1,11 +1,12 @@
 //! Events and numbers as JSON.
 
 use crate::names::Names;
+use crate::view::Shown;
 use gemshowal::{Event, Kind, Pid, Text};
 use serde::{Serialize, Serializer};
 
 /// The greatest number that every reader of JSON keeps exactly.
-const EXACT: u64 = 1 << 53;
+pub(crate) const EXACT: u64 = 1 << 53;
 
 /// A number; one that a reader may round is a string.
 #[derive(Clone, Copy, Debug, PartialEq, Eq)]
@@ -21,17 +22,20 @@ impl Serialize for Number {
     }
 }
 
-/// A sequence that is made while it is written.
-pub(crate) struct Sequence<F>(pub(crate) F);
+type Made<'a, T> = Box<dyn Iterator<Item = T> + 'a>;
 
-impl<F, I> Serialize for Sequence<F>
-where
-    F: Fn() -> I,
-    I: Iterator,
-    I::Item: Serialize,
-{
+/// A sequence that is made while it is written.
+pub(crate) struct Sequence<'a, T>(Box<dyn Fn() -> Made<'a, T> + 'a>);
+
+impl<'a, T> Sequence<'a, T> {
+    pub(crate) fn of<I: Iterator<Item = T> + 'a>(make: impl Fn() -> I + 'a) -> Sequence<'a, T> {
+        Sequence(Box::new(move || Box::new(make())))
+    }
+}
+
+impl<T: Serialize> Serialize for Sequence<'_, T> {
     fn serialize<S: Serializer>(&self, serializer: S) -> Result<S::Ok, S::Error> {
-        serializer.collect_seq(self.0())
+        serializer.collect_seq((self.0)())
     }
 }
 
@@ -44,6 +48,10 @@ pub(crate) struct Place {
 }
 
 impl Place {
+    pub(crate) fn shown(shown: &Shown<'_>, place: (Pid, u64)) -> Place {
+        Place { event: shown.event(place), ..Place::new(shown.view.names, place) }
+    }
+
     pub(crate) fn new(names: &Names, (pid, index): (Pid, u64)) -> Place {
         Place { event: names.event((pid, index)), pid: Text(pid), index }
     }

@@ -4,7 +4,6 @@
 use super::report::Part;
 use super::sentences::write_losses;
 use super::{Auditor, Outcome, Said, NOT_PROVED};
-use crate::object::Sequence;
 use crate::output::Output;
 use crate::view::{count, grouped, Kept, View};
 use crate::{Failure, Status};
@@ -38,7 +37,7 @@ pub(super) fn run(auditor: &Auditor<'_>, out: &mut Output) -> Result<Status, Fai
     let is_yes = sums.never == 0 && !labels.is_empty();
     let result = if is_yes { "fits" } else { "never" };
     if auditor.json {
-        let each = Each { labels: Sequence(|| said.iter()), losses: auditor.view.names.losses() };
+        let each = Each { labels: &said, losses: auditor.view.names.losses() };
         out.report(result, &each)?;
     } else {
         write_sums(sums, out)?;
@@ -49,14 +48,8 @@ pub(super) fn run(auditor: &Auditor<'_>, out: &mut Output) -> Result<Status, Fai
 }
 
 #[derive(Serialize)]
-#[serde(bound = "")]
-struct Each<'a, F, I>
-where
-    F: Fn() -> I,
-    I: Iterator,
-    I::Item: Serialize,
-{
-    labels: Sequence<F>,
+struct Each<'a> {
+    labels: &'a [Part],
     losses: &'a [String],
 }
 

@@ -8,15 +8,14 @@ use gemshowal::{Pid, Text};
 use serde::Serialize;
 
 #[derive(Serialize)]
-struct Object<'a, P, C> {
-    /// The name of the second trace.
+struct Object<'a> {
     other: &'a str,
     /// Tells whether the result holds however processes are matched: it does if nothing differs.
     certain: bool,
     #[serde(flatten)]
     sums: Sums,
-    processes: P,
-    changes: C,
+    processes: Sequence<'a, Matched>,
+    changes: Sequence<'a, Difference>,
 }
 
 #[derive(Serialize)]
@@ -75,8 +74,8 @@ pub(super) fn object<'a>(report: &'a Report<'a>) -> impl Serialize + 'a {
         other: second.name,
         certain: report.is_same() || report.found.is_certain,
         sums: report.sums(),
-        processes: Sequence(move || pairs().filter_map(|pair| matched(report, pair))),
-        changes: Sequence(move || {
+        processes: Sequence::of(move || pairs().filter_map(|pair| matched(report, pair))),
+        changes: Sequence::of(move || {
             let told = report.lines().into_iter().filter_map(|line| difference(report, line));
             told.chain(report.moved().map(|(row, now, _)| Difference::Both {
                 change: "counts",

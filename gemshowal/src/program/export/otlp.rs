@@ -4,21 +4,22 @@
 //! A label is a trace. A service is a registered process, or a node with its other processes.
 
 use super::kind;
-use super::scene::{short, Place, Scene};
+use super::scene::{Place, Scene};
 use super::span::{About, Span, Spans};
+use crate::names::Line;
 use crate::output::{Notes, Output};
+use crate::view::short;
 use crate::{Failure, Status};
 use gemshowal::{Event, Hop, Kind, Label, Partner, Pid, Premises, Text};
-use serde::Serialize;
 use std::collections::BTreeMap;
-use std::io::Write;
+use std::io::{self, Write};
 
 /// The kinds of spans, as `opentelemetry/proto/trace/v1` numbers them.
-const INTERNAL: u8 = 1;
-const SERVER: u8 = 2;
-const CLIENT: u8 = 3;
-const PRODUCER: u8 = 4;
-const CONSUMER: u8 = 5;
+const INTERNAL: u64 = 1;
+const SERVER: u64 = 2;
+const CLIENT: u64 = 3;
+const PRODUCER: u64 = 4;
+const CONSUMER: u64 = 5;
 
 pub(super) fn write(
     scene: &Scene<'_>,
@@ -45,13 +46,12 @@ pub(super) fn write(
         return no_times(name, "no event has a time, which spans need", notes);
     }
     let writer = Writer { spans: &spans, begin };
-    let mut line = Vec::new();
-    write!(out, "{{\"resourceSpans\":[")?;
+    out.write_all(b"{\"resourceSpans\":[")?;
     for (number, (service, of)) in writer.services().iter().enumerate() {
-        write!(out, "{}", if number == 0 { "" } else { "," })?;
-        writer.write_service(out, &mut line, service, of)?;
+        out.write_all(if number == 0 { &[] } else { b"," })?;
+        writer.write_service(out, service, of)?;
     }
-    writeln!(out, "]}}")?;
+    out.write_all(b"]}\n")?;
     Ok(Status::Yes)
 }
 
@@ -60,7 +60,6 @@ fn no_times(name: &str, words: &str, notes: &mut Notes) -> Result<Status, Failur
     Ok(Status::No)
 }
 
-/// The parts of a trace from which spans are written.
 struct Writer<'a> {
     spans: &'a Spans<'a>,
     /// The time of the first event, since 1970.
@@ -80,31 +79,26 @@ impl Writer<'_> {
         services
     }
 
-    fn write_service(
-        &self,
-        out: &mut Output,
-        line: &mut Vec<u8>,
-        name: &str,
-        of: &[u32],
-    ) -> Result<(), Failure> {
-        write!(out, "{{\"resource\":")?;
-        out.value(&Resource { attributes: [attribute("service.name", name)] })?;
-        write!(out, ",\"scopeSpans\":[{{\"scope\":{{\"name\":\"gemshowal\"}},\"spans\":[")?;
-        let spans = of.iter().filter_map(|&number| Some((number, self.spans.get(number)?)));
-        for (first, (number, span)) in spans.enumerate() {
-            line.clear();
-            line.extend(b",".iter().filter(|_| first > 0));
-            serde_json::to_writer(&mut *line, &self.span(number, span))?;
-            out.write_all(line)?;
+    fn write_service(&self, out: &mut Output, name: &str, of: &[u32]) -> io::Result<()> {
+        out.put(|line| {
+            line.text("{\"resource\":{\"attributes\":[");
+            put_attribute(line, "", "service.name", name);
+            line.text("]},\"scopeSpans\":[{\"scope\":{\"name\":\"gemshowal\"},\"spans\":[");
+        })?;
+        let mut comma = "";
+        for &number in of {
+            let span = self.spans.get(number);
+            let event = span.and_then(|span| self.spans.scene.event(span.about.place()));
+            if let Some((span, event)) = span.zip(event) {
+                out.put(|line| self.put_span(line.text(comma), number, span, event))?;
+                comma = ",";
+            }
         }
-        write!(out, "]}}]}}")?;
-        Ok(())
+        out.write_all(b"]}]}")
     }
 
-    fn span(&self, number: u32, span: &Span) -> Object {
+    fn put_span(&self, line: &mut Line<'_>, number: u32, span: &Span, event: &Event) {
         let parent = span.parent.and_then(|parent| self.spans.get(parent));
-        let place = span.about.place();
-        let event = self.spans.scene.event(place);
         let kind = match span.about {
             About::Label(_) => INTERNAL,
             About::Message(_) => PRODUCER,
@@ -112,20 +106,30 @@ impl Writer<'_> {
             About::Work(_) => CONSUMER,
             About::Service(_) => SERVER,
         };
-        let others = [span.follows, self.spans.of_other_label(place).filter(|_| parent.is_some())];
-        let links = others.into_iter().flatten().filter_map(|other| self.link(other));
-        Object {
-            trace_id: self.trace_id(span.label),
-            span_id: self.span_id(span),
-            parent_span_id: parent.map(|parent| self.span_id(parent)),
-            name: event.map(|event| self.name(span, event)).unwrap_or_default(),
-            kind,
-            start: self.time(span.start),
-            end: self.time(span.end),
-            attributes: event.map(|event| self.attributes(span, event)).unwrap_or_default(),
-            events: self.prints(number),
-            links: links.collect(),
+        line.text("{");
+        self.put_ids(line, span);
+        if let Some(parent) = parent {
+            line.text(",\"parentSpanId\":\"").text(&self.span_id(parent)).text("\"");
         }
+        line.text(",\"name\":").string(&self.name(span, event)).text(",\"kind\":").number(kind);
+        line.text(",\"startTimeUnixNano\":\"").number(self.time(span.start));
+        line.text("\",\"endTimeUnixNano\":\"").number(self.time(span.end));
+        line.text("\",\"attributes\":[");
+        self.put_attributes(line, span, event);
+        self.put_prints(line, number);
+        let other = self.spans.of_other_label(span.about.place()).filter(|_| parent.is_some());
+        let links = [span.follows, other].into_iter().flatten();
+        let mut before = "],\"links\":[{";
+        for link in links.filter_map(|other| self.spans.get(other)) {
+            self.put_ids(line.text(before), link);
+            before = "},{";
+        }
+        line.text(if before == "},{" { "}]}" } else { "]}" });
+    }
+
+    fn put_ids(&self, line: &mut Line<'_>, span: &Span) {
+        line.text("\"traceId\":\"").text(&self.trace_id(span.label));
+        line.text("\",\"spanId\":\"").text(&self.span_id(span)).text("\"");
     }
 
     fn name(&self, span: &Span, event: &Event) -> String {
@@ -140,64 +144,59 @@ impl Writer<'_> {
         }
     }
 
-    fn link(&self, other: u32) -> Option<Link> {
-        let span = self.spans.get(other)?;
-        Some(Link { trace_id: self.trace_id(span.label), span_id: self.span_id(span) })
-    }
-
-    fn attributes(&self, span: &Span, event: &Event) -> Vec<Attribute> {
+    fn put_attributes(&self, line: &mut Line<'_>, span: &Span, event: &Event) {
         let (scene, place) = (self.spans.scene, span.about.place());
-        let mut all = vec![attribute("erlang.label", scene.names.label(event.label))];
+        put_attribute(line, "", "erlang.label", &scene.names.label(event.label));
         if matches!(span.about, About::Label(_)) {
-            all.push(attribute("seqaudit.premise_1", FIRST));
-            all.push(attribute("seqaudit.premise_2", SECOND));
-            return all;
+            put_attribute(line, ",", "seqaudit.premise_1", FIRST);
+            put_attribute(line, ",", "seqaudit.premise_2", SECOND);
+            return;
         }
-        all.push(attribute("erlang.message", short(&scene.names.value(event.value))));
-        all.push(attribute("erlang.from", scene.names.process(event.from)));
-        all.extend(event.to.map(|to| attribute("erlang.to", scene.names.process(to))));
-        all.push(attribute("erlang.pid", Text(place.0)));
-        all.push(attribute("seqaudit.event", scene.name(place)));
-        let partner = scene.partner(place, event);
-        match partner {
-            Partner::NoSend => all.push(flag("seqaudit.send_reported", false)),
-            Partner::NoReceive => all.push(flag("seqaudit.receive_reported", false)),
+        put_attribute(line, ",", "erlang.message", &short(&scene.names.value(event.value)));
+        put_attribute(line, ",", "erlang.from", &scene.names.process(event.from));
+        if let Some(to) = event.to {
+            put_attribute(line, ",", "erlang.to", &scene.names.process(to));
+        }
+        put_attribute(line, ",", "erlang.pid", &Text(place.0).to_string());
+        put_attribute(line, ",", "seqaudit.event", &scene.name(place));
+        match scene.partner(place, event) {
+            Partner::NoSend => put_flag(line, "seqaudit.send_reported", false),
+            Partner::NoReceive => put_flag(line, "seqaudit.receive_reported", false),
             _ => {}
         }
-        if let Some(hop) = scene.hop(place).filter(|_| event.kind == Kind::Send) {
-            all.push(attribute("seqaudit.follows", follows(scene, place, hop)));
-            all.extend(premises(hop).map(|words| attribute("seqaudit.premises", words)));
+        if event.kind == Kind::Send {
+            put_cause(line, scene, place);
         }
         if matches!(span.about, About::Call(_)) {
             let reply = self.spans.calls.reply(place);
-            all.push(flag("seqaudit.reply_reported", reply.is_some()));
-            all.extend(reply.map(|reply| attribute("seqaudit.reply", scene.name(reply))));
+            put_flag(line, "seqaudit.reply_reported", reply.is_some());
+            if let Some(reply) = reply {
+                put_attribute(line, ",", "seqaudit.reply", &scene.name(reply));
+            }
         }
-        all
     }
 
-    fn prints(&self, number: u32) -> Vec<Print> {
+    /// Appends the prints that belong to a span, after its attributes.
+    fn put_prints(&self, line: &mut Line<'_>, number: u32) {
         let (scene, prints) = (self.spans.scene, &self.spans.prints);
         let first = prints.partition_point(|&(span, _)| span < number);
         let of_span = prints.iter().skip(first).take_while(|&&(span, _)| span == number);
-        let print = |&(_, place): &(u32, Place)| {
-            let (event, time) = scene.event(place).zip(scene.time(place))?;
-            let mut attributes = vec![
-                attribute("erlang.message", short(&scene.names.value(event.value))),
-                attribute("seqaudit.event", scene.name(place)),
-            ];
-            if let Some(hop) = scene.hop(place) {
-                attributes.push(attribute("seqaudit.follows", follows(scene, place, hop)));
-                attributes.extend(premises(hop).map(|words| attribute("seqaudit.premises", words)));
-            }
-            let name = kind::printed(scene, event.value);
-            Some(Print { time: self.time(time), name, attributes })
-        };
-        of_span.filter_map(print).collect()
+        let mut before = "],\"events\":[{";
+        for &(_, place) in of_span {
+            let Some((event, time)) = scene.event(place).zip(scene.time(place)) else { continue };
+            line.text(before).text("\"timeUnixNano\":\"").number(self.time(time));
+            line.text("\",\"name\":").string(&kind::printed(scene, event.value));
+            line.text(",\"attributes\":[");
+            put_attribute(line, "", "erlang.message", &short(&scene.names.value(event.value)));
+            put_attribute(line, ",", "seqaudit.event", &scene.name(place));
+            put_cause(line, scene, place);
+            before = "]},{";
+        }
+        line.text(if before == "]},{" { "]}" } else { "" });
     }
 
-    fn time(&self, after_first: i64) -> String {
-        self.begin.saturating_add(after_first).max(0).to_string()
+    fn time(&self, after_first: i64) -> u64 {
+        self.begin.saturating_add(after_first).max(0) as u64
     }
 
     fn trace_id(&self, label: Label) -> String {
@@ -263,63 +262,21 @@ fn premises(hop: Hop) -> Option<&'static str> {
     }
 }
 
-#[derive(Serialize)]
-struct Resource {
-    attributes: [Attribute; 1],
+fn put_attribute(line: &mut Line<'_>, before: &str, key: &str, value: &str) {
+    line.text(before).text("{\"key\":\"").text(key).text("\",\"value\":{\"stringValue\":");
+    line.string(value).text("}}");
 }
 
-#[derive(Serialize)]
-#[serde(rename_all = "camelCase")]
-struct Object {
-    trace_id: String,
-    span_id: String,
-    #[serde(skip_serializing_if = "Option::is_none")]
-    parent_span_id: Option<String>,
-    name: String,
-    kind: u8,
-    #[serde(rename = "startTimeUnixNano")]
-    start: String,
-    #[serde(rename = "endTimeUnixNano")]
-    end: String,
-    attributes: Vec<Attribute>,
-    #[serde(skip_serializing_if = "Vec::is_empty")]
-    events: Vec<Print>,
-    #[serde(skip_serializing_if = "Vec::is_empty")]
-    links: Vec<Link>,
+fn put_flag(line: &mut Line<'_>, key: &str, value: bool) {
+    line.text(",{\"key\":\"").text(key).text("\",\"value\":{\"boolValue\":");
+    line.text(if value { "true}}" } else { "false}}" });
 }
 
-#[derive(Serialize)]
-#[serde(rename_all = "camelCase")]
-struct Link {
-    trace_id: String,
-    span_id: String,
-}
-
-#[derive(Serialize)]
-struct Print {
-    #[serde(rename = "timeUnixNano")]
-    time: String,
-    name: String,
-    attributes: Vec<Attribute>,
-}
-
-#[derive(Serialize)]
-struct Attribute {
-    key: &'static str,
-    value: Value,
-}
-
-#[derive(Serialize)]
-#[serde(rename_all = "camelCase")]
-enum Value {
-    StringValue(String),
-    BoolValue(bool),
-}
-
-fn attribute(key: &'static str, value: impl ToString) -> Attribute {
-    Attribute { key, value: Value::StringValue(value.to_string()) }
-}
-
-fn flag(key: &'static str, value: bool) -> Attribute {
-    Attribute { key, value: Value::BoolValue(value) }
+/// Appends what an event follows, and the premises of that.
+fn put_cause(line: &mut Line<'_>, scene: &Scene<'_>, place: Place) {
+    let Some(hop) = scene.hop(place) else { return };
+    put_attribute(line, ",", "seqaudit.follows", &follows(scene, place, hop));
+    if let Some(words) = premises(hop) {
+        put_attribute(line, ",", "seqaudit.premises", words);
+    }
 }

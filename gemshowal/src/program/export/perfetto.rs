@@ -7,10 +7,11 @@
 use super::calls::Calls;
 use super::clock::Clock;
 use super::kind;
-use super::scene::{short, Place, Scene};
+use super::scene::{Place, Scene};
 use super::work::Works;
 use crate::names::Line;
 use crate::object::kind_word;
+use crate::view::short;
 use crate::output::Output;
 use crate::Failure;
 use gemshowal::{Event, Partner, Pid};
@@ -27,13 +28,14 @@ const AROUND_CALL: f64 = 0.1;
 const LONGEST: f64 = 1_000.0;
 
 pub(super) fn write(scene: &Scene<'_>, out: &mut Output) -> Result<(), Failure> {
+    let clock = Clock::of(scene)?;
     let calls = Calls::of(scene);
     let works = Works::of(scene, &calls);
     let mut of_process = BTreeMap::<Pid, Vec<(u64, u64)>>::new();
     for (request, reply) in calls.all() {
         of_process.entry(request.0).or_default().push((request.1, reply.1));
     }
-    let writer = Writer::new(scene, Clock::of(scene)?);
+    let writer = Writer::new(scene, clock);
     out.write_all(b"{\"displayTimeUnit\":\"ns\",\"traceEvents\":[")?;
     let lanes = (1..).zip(scene.trace.processes().filter(|(_, events)| !events.is_empty()));
     let mut nodes = BTreeSet::new();
@@ -48,14 +50,12 @@ pub(super) fn write(scene: &Scene<'_>, out: &mut Output) -> Result<(), Failure> 
     Ok(out.write_all(b"\n]}\n")?)
 }
 
-/// A process, and the number of its thread.
 #[derive(Clone, Copy, Debug)]
 struct Lane {
     pid: Pid,
     thread: u64,
 }
 
-/// A slice around the events of a process from one index to another.
 #[derive(Clone, Copy, Debug)]
 struct Enclosing {
     first: u64,
@@ -146,7 +146,6 @@ impl Writer<'_> {
         Ok(())
     }
 
-    /// Returns the begin and the length of an event's slice.
     fn span(&self, (pid, index): Place) -> Option<Span> {
         let at = |index| self.clock.at(self.scene, (pid, index));
         let time = at(index)?;

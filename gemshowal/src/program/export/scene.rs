@@ -1,13 +1,9 @@
 //! The events that are drawn of a trace, and their names.
 
 use crate::names::Names;
+use crate::view::short;
+pub(super) use crate::view::Place;
 use gemshowal::{Event, Hop, Hops, Item, Kind, Label, OutOfMemory, Paired, Partner, Pid, Trace};
-
-/// A process and the index of one of its events.
-pub(super) type Place = (Pid, u64);
-
-/// The greatest number of a message's characters in a drawing.
-const CHARACTERS: usize = 80;
 
 pub(super) struct Scene<'a> {
     pub(super) trace: &'a Trace,
@@ -18,7 +14,6 @@ pub(super) struct Scene<'a> {
     /// The number of the first event of each process among all events.
     starts: Vec<usize>,
     names_labels: bool,
-    has_terms: bool,
 }
 
 impl<'a> Scene<'a> {
@@ -39,9 +34,7 @@ impl<'a> Scene<'a> {
         let first = labels.next();
         let names_labels = label.is_none() && labels.any(|label| Some(label) != first);
         let hops = paired.hops()?;
-        // The file of terms has each process.
-        let has_terms = trace.streams().pids().iter().any(|&pid| names.about(pid).is_some());
-        Ok(Scene { trace, names, label, paired, hops, starts, names_labels, has_terms })
+        Ok(Scene { trace, names, label, paired, hops, starts, names_labels })
     }
 
     pub(super) fn has(&self, event: &Event) -> bool {
@@ -129,22 +122,14 @@ impl<'a> Scene<'a> {
 
     /// Returns whether there are terms: a trace without them shows its numbers.
     pub(super) fn has_terms(&self) -> bool {
-        self.has_terms
+        self.names.has_terms()
     }
 
     pub(super) fn name(&self, place: Place) -> String {
         self.names.event(place)
     }
 
-    /// Returns the time of an event, in nanoseconds after the first one.
     pub(super) fn time(&self, place: Place) -> Option<i64> {
         self.names.times()?.of_event(place)
-    }
-}
-
-pub(super) fn short(text: &str) -> String {
-    match text.char_indices().nth(CHARACTERS) {
-        Some((end, _)) => format!("{}..", text.get(..end).unwrap_or_default()),
-        None => text.into(),
     }
 }

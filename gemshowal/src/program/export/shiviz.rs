@@ -2,18 +2,18 @@
 //! JSON: of each process how many of its events come before this one or are it.
 
 use super::scene::{Place, Scene};
+use crate::names::Line;
 use crate::object::kind_word;
 use crate::output::{Notes, Output};
 use crate::{Failure, Status};
 use gemshowal::{Event, Kind, Partner, Pid, Text};
-use std::collections::{BTreeMap, HashMap};
-use std::io::{self, Write};
+use std::collections::HashMap;
 
 /// The most counts that the clocks of a log have together: it grows as processes times events.
 const MOST_COUNTS: usize = 100_000_000;
 
-/// The number of events of each process that has any.
-type Clock = BTreeMap<Pid, u64>;
+/// The number of events of each process that has any, by rising place of the process.
+type Clock = Vec<(usize, u64)>;
 
 pub(super) fn write(
     scene: &Scene<'_>,
@@ -22,26 +22,38 @@ pub(super) fn write(
     notes: &mut Notes,
 ) -> Result<Status, Failure> {
     let order = scene.in_order()?;
-    if is_long(scene, &order) {
+    let lanes = scene.lanes();
+    if is_long(scene, &lanes, &order) {
         notes.say(format_args!(
             "note: {name}: the clocks of its events would have more than {MOST_COUNTS} counts; \
              export a part (gemshowal cut), or take --as perfetto"
         ));
         return Ok(Status::Long);
     }
-    let hosts: HashMap<Pid, String> =
-        scene.lanes().into_iter().map(|it| (it, host(scene, it))).collect();
-    each_clock(scene, &order, |place, event, clock| {
-        write_words(scene, out, event)?;
-        write_clock(out, &hosts, place.0, clock)
+    let hosts: Vec<String> = lanes.iter().map(|&pid| host(scene, pid)).collect();
+    let quoted: Vec<String> = hosts.iter().map(|host| format!("{host:?}:")).collect();
+    each_clock(scene, &lanes, &order, |lane, event, clock| {
+        out.put(|line| {
+            put_words(line, scene, event);
+            line.text("\n").text(hosts.get(lane).map_or("", |host| host)).text(" ");
+            let mut mark = "{";
+            for &(lane, count) in clock {
+                line.text(mark).text(quoted.get(lane).map_or("", |host| host)).number(count);
+                mark = ",";
+            }
+            line.text("}\n");
+        })
     })?;
     Ok(Status::Yes)
 }
 
 /// Returns whether the clocks have too many counts together.
-fn is_long(scene: &Scene<'_>, order: &[Place]) -> bool {
+fn is_long(scene: &Scene<'_>, lanes: &[Pid], order: &[Place]) -> bool {
+    if order.len().saturating_mul(lanes.len()) <= MOST_COUNTS {
+        return false;
+    }
     let mut counts = 0;
-    let counted = each_clock(scene, order, |_, _, clock| {
+    let counted = each_clock(scene, lanes, order, |_, _, clock| {
         counts += clock.len();
         if counts > MOST_COUNTS {
             Err(())
@@ -54,57 +66,52 @@ fn is_long(scene: &Scene<'_>, order: &[Place]) -> bool {
 
 fn each_clock<E>(
     scene: &Scene<'_>,
+    lanes: &[Pid],
     order: &[Place],
-    mut run: impl FnMut(Place, &Event, &Clock) -> Result<(), E>,
+    mut run: impl FnMut(usize, &Event, &Clock) -> Result<(), E>,
 ) -> Result<(), E> {
-    let mut processes = HashMap::<Pid, Clock>::new();
+    let mut clocks = vec![Clock::new(); lanes.len()];
     let mut sent = HashMap::<Place, Clock>::new();
     for &place in order {
-        let Some(event) = scene.event(place) else { continue };
-        let clock = processes.entry(place.0).or_default();
-        for (pid, count) in sent.remove(&place).unwrap_or_default() {
-            let own = clock.entry(pid).or_default();
+        let lane = lanes.binary_search(&place.0);
+        let (Some(event), Ok(lane)) = (scene.event(place), lane) else { continue };
+        let clock = &mut clocks[lane];
+        for (other, count) in sent.remove(&place).unwrap_or_default() {
+            let own = count_of(clock, other);
             *own = count.max(*own);
         }
-        *clock.entry(place.0).or_default() += 1;
+        *count_of(clock, lane) += 1;
         if let Partner::Receive(to, at) = scene.partner(place, event) {
             sent.insert((to, at), clock.clone());
         }
-        run(place, event, clock)?;
+        run(lane, event, clock)?;
     }
     Ok(())
 }
 
-fn write_words(scene: &Scene<'_>, out: &mut Output, event: &Event) -> io::Result<()> {
-    let names = scene.names;
-    let (kind, serial, label) =
-        (kind_word(event.kind), Text(event.serial), names.label(event.label));
-    let message = match scene.has_terms() {
-        true => names.brief(event.value),
-        false => event.value.to_string().into(),
-    };
-    write!(out, "{kind} {message} {serial} label {label}")?;
-    match (event.kind, event.to) {
-        (Kind::Send, Some(to)) => writeln!(out, " to {}", names.process(to)),
-        (Kind::Receive, _) => writeln!(out, " from {}", names.process(event.from)),
-        _ => writeln!(out),
-    }
+/// Returns the count of the process at this place, 0 if the clock had none.
+fn count_of(clock: &mut Clock, lane: usize) -> &mut u64 {
+    let at = clock.binary_search_by_key(&lane, |&(lane, _)| lane).unwrap_or_else(|at| {
+        clock.insert(at, (lane, 0));
+        at
+    });
+    &mut clock[at].1
 }
 
-fn write_clock(
-    out: &mut Output,
-    hosts: &HashMap<Pid, String>,
-    pid: Pid,
-    clock: &Clock,
-) -> io::Result<()> {
-    let host = |pid| hosts.get(&pid).map_or("", String::as_str);
-    write!(out, "{} ", host(pid))?;
-    let mut mark = '{';
-    for (&pid, count) in clock {
-        write!(out, "{mark}{:?}:{count}", host(pid))?;
-        mark = ',';
+fn put_words(line: &mut Line<'_>, scene: &Scene<'_>, event: &Event) {
+    let names = scene.names;
+    line.text(kind_word(event.kind)).text(" ");
+    if scene.has_terms() {
+        line.brief(names, event.value);
+    } else {
+        line.number(event.value);
     }
-    writeln!(out, "}}")
+    line.text(" ").serial(event.serial).text(" label ").label(names, event.label);
+    match (event.kind, event.to) {
+        (Kind::Send, Some(to)) => line.text(" to ").process(names, to),
+        (Kind::Receive, _) => line.text(" from ").process(names, event.from),
+        _ => line.text(""),
+    };
 }
 
 /// Names a process in a word without blanks or quotes: by its name and its pid.

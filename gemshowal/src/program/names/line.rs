@@ -1,6 +1,7 @@
 //! A line under way, for the commands that write millions of them: `write!` takes far longer.
 
 use super::Names;
+use crate::object::EXACT;
 use gemshowal::{Label, Pid, Serial, Text};
 
 /// A line under way. Each method appends something.
@@ -18,6 +19,20 @@ impl Line<'_> {
         self
     }
 
+    /// Appends a number as JSON: one that a reader may round is a string.
+    pub(crate) fn json_number(&mut self, number: u64) -> &mut Self {
+        if number > EXACT {
+            self.text("\"").number(number).text("\"")
+        } else {
+            self.number(number)
+        }
+    }
+
+    pub(crate) fn pid(&mut self, pid: Pid) -> &mut Self {
+        Text(pid).put(self.0);
+        self
+    }
+
     pub(crate) fn serial(&mut self, serial: Serial) -> &mut Self {
         Text(serial).put(self.0);
         self
@@ -32,10 +47,9 @@ impl Line<'_> {
 
     pub(crate) fn process(&mut self, names: &Names, pid: Pid) -> &mut Self {
         match names.terms.process(pid) {
-            Some(process) => return self.text(&process.name),
-            None => Text(pid).put(self.0),
+            Some(process) => self.text(&process.name),
+            None => self.pid(pid),
         }
-        self
     }
 
     pub(crate) fn event(&mut self, names: &Names, (pid, index): (Pid, u64)) -> &mut Self {
@@ -49,7 +63,6 @@ impl Line<'_> {
         }
     }
 
-    /// Appends what [`Names::brief`] returns.
     pub(crate) fn brief(&mut self, names: &Names, value: u64) -> &mut Self {
         if names.has_value(value) {
             self.text(&names.brief(value))
