@@ -5,13 +5,12 @@ use crate::args::Times as Args;
 use crate::causes::{with_each, Causes, Grade};
 use crate::chart::short;
 use crate::durations::{self, Durations, LabelTime};
-use crate::input::Input;
 use crate::moment::{clock, seconds, span, spans};
 use crate::names::{Names, Times};
-use crate::output::{Notes, Output};
+use crate::output::Output;
 use crate::view::{count, Place, View};
 use crate::words;
-use crate::{Failure, Status};
+use crate::{Failure, Status, Task};
 use gemshowal::{Item, Kind, Label, Trace};
 use serde::Serialize;
 use std::io::{self, Write};
@@ -24,15 +23,9 @@ const CELL: usize = 40;
 const MEANING: &str =
     "A message takes from its send until its receiver took it: waiting in the mailbox is in that.";
 
-pub(crate) fn run(
-    args: &Args,
-    json: bool,
-    input: &mut Input,
-    out: &mut Output,
-    notes: &mut Notes,
-) -> Result<Status, Failure> {
-    let trace = input.trace()?;
-    let names = input.names(&trace, notes)?;
+pub(crate) fn run(args: &Args, task: Task<'_>) -> Result<Status, Failure> {
+    let Task { json, input, out, notes } = task;
+    let (trace, names) = input.read(notes)?;
     let Some(times) = names.times().filter(|times| times.count() > 0) else {
         return Err(Failure::NoTimes(input.line_name().into()));
     };
@@ -69,53 +62,20 @@ struct Tables {
     /// The time of the first event, in UTC.
     first: Option<String>,
     unit: &'static str,
-    by_processes: Vec<Entry>,
-    by_kind: Vec<Entry>,
-    labels: Vec<LabelEntry>,
-}
-
-#[derive(Serialize)]
-struct Entry {
-    of: String,
-    count: usize,
-    median: i64,
-    percent_99: i64,
-    greatest: i64,
-    slowest: String,
-}
-
-#[derive(Serialize)]
-struct LabelEntry {
-    label: String,
-    events: usize,
-    took: i64,
-    first: i64,
+    by_processes: Vec<Durations>,
+    by_kind: Vec<Durations>,
+    labels: Vec<LabelTime>,
 }
 
 impl Tables {
     fn of(trace: &Trace, names: &Names, times: &Times) -> Tables {
-        let entry = |found: Durations| Entry {
-            of: found.of,
-            count: found.count,
-            median: found.median,
-            percent_99: found.most,
-            greatest: found.greatest,
-            slowest: names.event(found.slowest),
-        };
-        let label = |found: LabelTime| LabelEntry {
-            label: names.label(found.label).into_owned(),
-            events: found.events,
-            took: found.took,
-            first: found.first,
-        };
-        let entries = |found: Vec<Durations>| found.into_iter().map(entry).collect();
         Tables {
             summary: summary(trace, times),
             first: times.begin().map(clock),
             unit: "ns",
-            by_processes: entries(durations::by_processes(trace, names, times)),
-            by_kind: entries(durations::by_kind(trace, names, times)),
-            labels: durations::by_label(trace, times).into_iter().map(label).collect(),
+            by_processes: durations::by_processes(trace, names, times),
+            by_kind: durations::by_kind(trace, names, times),
+            labels: durations::by_label(trace, names, times),
         }
     }
 
@@ -165,8 +125,8 @@ pub(crate) fn summary(trace: &Trace, times: &Times) -> String {
     )
 }
 
-fn write_entries(out: &mut Output, title: &str, entries: &[Entry]) -> io::Result<()> {
-    let column = |time: fn(&Entry) -> i64| spans(&entries.iter().map(time).collect::<Vec<_>>());
+fn write_entries(out: &mut Output, title: &str, entries: &[Durations]) -> io::Result<()> {
+    let column = |time: fn(&Durations) -> i64| spans(&entries.iter().map(time).collect::<Vec<_>>());
     let (median, most) = (column(|entry| entry.median), column(|entry| entry.percent_99));
     let greatest = column(|entry| entry.greatest);
     let times = median.into_iter().zip(most).zip(greatest);
@@ -302,7 +262,6 @@ fn last_event(trace: &Trace, times: &Times, label: Label) -> Option<Place> {
     places.filter_map(|place| Some((times.of_event(place)?, place))).max().map(|(_, place)| place)
 }
 
-/// The whole result as JSON.
 #[derive(Serialize)]
 struct Told<'a> {
     #[serde(flatten)]

@@ -74,7 +74,6 @@ impl Calls {
         self.requests.get(&reply).copied()
     }
 
-    /// Returns all calls: the send of each request, and the receive of its reply.
     pub(super) fn all(&self) -> impl Iterator<Item = (Place, Place)> + '_ {
         self.replies.iter().map(|(&request, &reply)| (request, reply))
     }

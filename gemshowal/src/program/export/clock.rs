@@ -41,7 +41,6 @@ impl Clock {
         Ok(clock)
     }
 
-    /// Returns the time of an event after those that lead to it.
     fn next(&self, scene: &Scene<'_>, place: Place, counts: &[u64], earliest: i64) -> Option<i64> {
         if self.is_measured {
             return scene.time(place).map(|time| time.max(earliest));

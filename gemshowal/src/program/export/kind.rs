@@ -31,11 +31,19 @@ fn with_sort(scene: &Scene<'_>, word: &str, value: u64) -> String {
         return word.into();
     }
     let brief = scene.names.brief(value);
-    let bare = match brief.split_once(' ') {
-        Some(("call" | "cast" | "reply" | "spawn" | "spawned", inside)) => inside,
-        _ => &brief,
-    };
-    format!("{word} {}", sort(bare))
+    format!("{word} {}", sort(way_and_term(&brief).1))
+}
+
+/// Names the kind of a message that is shown as this: how it is sent, and its sort, as `call order`.
+pub(crate) fn of_brief(brief: &str) -> String {
+    let (way, term) = way_and_term(brief);
+    format!("{way}{}", sort(term))
+}
+
+fn way_and_term(brief: &str) -> (&str, &str) {
+    let ways = ["call ", "cast ", "reply ", "spawn ", "spawned "];
+    let way = ways.into_iter().find(|way| brief.starts_with(way)).unwrap_or_default();
+    brief.split_at(way.len())
 }
 
 /// Returns the first atom of a term, or the kind of the term if it doesn't begin with one.
@@ -55,35 +63,7 @@ pub(super) fn sort(term: &str) -> &str {
     }
 }
 
-/// Returns the atom between quotes at the front of a term.
 fn quoted(text: &str) -> Option<&str> {
     let end = text.get(1..)?.find('\'')?;
     text.get(1..end + 1)
-}
-
-#[cfg(test)]
-mod tests {
-    use super::sort;
-
-    #[test]
-    fn a_message_is_of_the_sort_of_its_first_atom() {
-        for (term, wanted) in [
-            ("{order,apple,3}", "order"),
-            ("stop", "stop"),
-            ("{'EXIT',<0.1.0>,normal}", "EXIT"),
-            ("{{order,1},2}", "term"),
-            ("17", "number"),
-            ("-3", "number"),
-            ("\"text\"", "list"),
-            ("[1,2]", "list"),
-            ("<<1,2>>", "binary"),
-            ("<0.1.0>", "pid"),
-            ("#{a => 1}", "map"),
-            ("#Ref<0.1.2.3>", "term"),
-            ("", "term"),
-            ("'", "term"),
-        ] {
-            assert_eq!(sort(term), wanted, "{term}");
-        }
-    }
 }

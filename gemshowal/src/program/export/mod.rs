@@ -6,7 +6,7 @@
 mod calls;
 mod clock;
 mod dot;
-mod kind;
+pub(crate) mod kind;
 mod mermaid;
 mod otlp;
 mod perfetto;
@@ -16,26 +16,20 @@ mod span;
 mod work;
 
 use crate::args::{Export, Target};
-use crate::input::Input;
 use crate::names::Names;
 use crate::output::{Notes, Output};
 use crate::reason::Against;
 use crate::view::{Shown, View};
-use crate::{Failure, Status};
+use crate::{Failure, Status, Task};
 use gemshowal::{Finding, Never, Paired, Trace};
 use scene::Scene;
 
 /// The greatest number of messages in a drawing that is easily read.
 const READABLE: usize = 300;
 
-pub(crate) fn run(
-    args: &Export,
-    input: &mut Input,
-    out: &mut Output,
-    notes: &mut Notes,
-) -> Result<Status, Failure> {
-    let trace = input.trace()?;
-    let names = input.names(&trace, notes)?;
+pub(crate) fn run(args: &Export, task: Task<'_>) -> Result<Status, Failure> {
+    let Task { input, out, notes, .. } = task;
+    let (trace, names) = input.read(notes)?;
     let name = input.line_name();
     let paired = match Paired::of(trace.streams())? {
         Ok(paired) => paired,

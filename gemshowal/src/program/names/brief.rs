@@ -33,7 +33,6 @@ fn spawn(inside: &str) -> Option<(Cow<'static, str>, &str)> {
     })
 }
 
-/// Returns what follows the options and one more word.
 fn arguments(rest: &str) -> Option<&str> {
     let (_, rest) = rest.strip_prefix(",[")?.split_once("],")?;
     after_comma(rest)
@@ -57,52 +56,5 @@ fn after_tag(text: &str) -> Option<&str> {
     match text.strip_prefix("[alias|") {
         Some(rest) => after_reference(rest)?.strip_prefix(']'),
         None => after_reference(text),
-    }
-}
-
-#[cfg(test)]
-mod tests {
-    use super::brief;
-
-    #[test]
-    fn messages_of_otp_are_short() {
-        for (term, short) in [
-            (
-                "{'$gen_call',{<0.81.0>,[alias|#Ref<0.2.3.4>]},{order,apple,3}}",
-                "call {order,apple,3}",
-            ),
-            ("{'$gen_call',{<0.81.0>,#Ref<0.2.3.4>},stop}", "call stop"),
-            ("{'$gen_cast',{send,apple,3}}", "cast {send,apple,3}"),
-            ("{[alias|#Ref<0.2.3.4>],{left,7}}", "reply {left,7}"),
-            ("{#Ref<0.2.3.4>,ok}", "reply ok"),
-            ("{spawn_reply,#Ref<0.2.3.4>,ok,<0.90.0>}", "spawned <0.90.0>"),
-            (
-                "{spawn_request,#Ref<0.2>,<0.1.0>,<0.0.0>,{shop,loop,1},[link],none,[7]}",
-                "spawn shop:loop/1 [7]",
-            ),
-            (
-                "{spawn_request,#Ref<0.2>,<0.1.0>,<0.0.0>,{shop,loop,1},[link],...}",
-                "spawn shop:loop/1",
-            ),
-        ] {
-            let said = brief(term).map(|(way, term)| format!("{way}{term}"));
-            assert_eq!(said.as_deref(), Some(short), "{term}");
-        }
-    }
-
-    #[test]
-    fn other_messages_stay() {
-        for term in [
-            "{parcel,apple,3}",
-            "hello",
-            "{}",
-            "",
-            "{",
-            "{'$gen_call',x}",
-            "{#Ref<0.x>,ok}",
-            "{spawn_request}",
-        ] {
-            assert_eq!(brief(term), None, "{term}");
-        }
     }
 }

@@ -22,10 +22,8 @@ enum Word<'a> {
     Map,
     Arrow,
     Pid(&'a str),
-    /// A function: its module, and the rest after the colon.
     Function(&'a str, &'a str),
     Atom(&'a str),
-    /// A word that stays as it is.
     Same(&'a str),
 }
 
@@ -174,48 +172,4 @@ fn delimited(text: &str, quote: char) -> Option<(&str, &str)> {
         is_end
     });
     Some(text.split_at(end?.0 + 2 * quote.len_utf8()))
-}
-
-#[cfg(test)]
-mod tests {
-    use super::*;
-
-    #[test]
-    fn terms_are_those_of_elixir() {
-        for (erlang, elixir) in [
-            ("ok", ":ok"),
-            ("{true,nil,'Elixir.Shop.Order'}", "{true,nil,Shop.Order}"),
-            ("<<\"apple\">>", "\"apple\""),
-            ("<<\"größe\"/utf8>>", "\"größe\""),
-            ("\"list\"", "~c\"list\""),
-            ("'two words'", ":\"two words\""),
-            ("#{a => 1,'b c' => <<1,2>>}", "%{a: 1,\"b c\": <<1,2>>}"),
-            ("#{1 => a}", "%{1 => :a}"),
-            (
-                "#{'__struct__' => 'Elixir.Shop.Order',item => <<\"apple\">>}",
-                "%Shop.Order{item: \"apple\"}",
-            ),
-            ("#{'__struct__' => 'Elixir.Shop.Order'}", "%Shop.Order{}"),
-            (
-                "#{'__exception__' => true,'__struct__' => 'Elixir.KeyError',key => a}",
-                "%KeyError{key: :a}",
-            ),
-            ("<0.80.0>", "#PID<0.80.0>"),
-            ("#Ref<0.1.2.3>", "#Reference<0.1.2.3>"),
-            ("proc_lib:init_p/5", ":proc_lib.init_p/5"),
-            ("Var_1 and x@y", "Var_1 :and :x@y"),
-            ("<<\"never ended", "<<\"never ended"),
-            ("'never ended", "'never ended"),
-            ("", ""),
-        ] {
-            assert_eq!(text(erlang), elixir, "{erlang}");
-        }
-    }
-
-    #[test]
-    fn names_have_their_modules() {
-        assert_eq!(name("'Elixir.Shop.Server':init/1 <0.1.0>"), "Shop.Server:init/1 <0.1.0>");
-        assert!(is_elixir("x 'Elixir.Shop'"));
-        assert!(!is_elixir("x 'elixir'"));
-    }
 }

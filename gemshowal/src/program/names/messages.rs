@@ -27,7 +27,7 @@ impl Messages {
             let (value, term) =
                 parsed(entry).ok_or_else(|| Fault::at(file, line, "an entry of NAME.messages"))?;
             if is_wanted(value) {
-                messages.insert(value, escaped(term));
+                messages.insert(value, escaped(term).into_owned());
             }
         }
         Ok(Messages(messages))

@@ -1,6 +1,7 @@
 //! Text as it may be shown: whatever a name or a message has in it, a terminal or a page shows
 //! characters alone, on their line and in their order.
 
+use std::borrow::Cow;
 use std::fmt::Write;
 
 /// Returns whether a character controls a terminal, begins a line or turns the direction of
@@ -11,7 +12,10 @@ fn is_control(c: char) -> bool {
 }
 
 /// Returns the text with its control characters escaped as in Erlang's strings: `\x{1B}`.
-pub(super) fn escaped(text: &str) -> String {
+pub(super) fn escaped(text: &str) -> Cow<'_, str> {
+    if !text.chars().any(is_control) {
+        return text.into();
+    }
     let mut shown = String::with_capacity(text.len());
     for c in text.chars() {
         if is_control(c) {
@@ -20,17 +24,5 @@ pub(super) fn escaped(text: &str) -> String {
             shown.push(c);
         }
     }
-    shown
-}
-
-#[cfg(test)]
-mod tests {
-    use super::escaped;
-
-    #[test]
-    fn what_controls_a_terminal_is_escaped() {
-        assert_eq!(escaped("a\u{1b}[31mb"), "a\\x{1B}[31mb");
-        assert_eq!(escaped("x\u{202E}y\u{85}"), "x\\x{202E}y\\x{85}");
-        assert_eq!(escaped("{größe,<<\"ключ\">>}"), "{größe,<<\"ключ\">>}");
-    }
+    shown.into()
 }

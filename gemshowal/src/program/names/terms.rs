@@ -45,7 +45,7 @@ impl Terms {
     fn add(&mut self, line: &str) -> Option<()> {
         let mut parts = line.split('\t');
         let (kind, of) = (parts.next()?, parts.next()?);
-        let text = escaped(parts.next()?).into_boxed_str();
+        let text: Box<str> = escaped(parts.next()?).into();
         let is_new = match kind {
             "process" => {
                 let about = escaped(parts.next()?);
@@ -98,52 +98,5 @@ impl Terms {
         let mut pids: Vec<Pid> = named.map(|(&pid, _)| pid).collect();
         pids.sort_unstable();
         pids
-    }
-}
-
-#[cfg(test)]
-mod tests {
-    use super::*;
-
-    fn parsed(entries: &str) -> Result<Terms, String> {
-        let text = format!("seqaudit terms 1\n{entries}");
-        Terms::parse(&text, Path::new("a.terms")).map_err(|fault| fault.to_string())
-    }
-
-    #[test]
-    fn entries_name_processes_labels_and_values() {
-        let terms = parsed(
-            "process\t<0.81.0>\tshop\tprocess <0.81.0>\nlabel\t7\t{order,7}\nvalue\t0\thi\u{7}\n",
-        )
-        .unwrap();
-        assert_eq!(&*terms.process(Pid::on(0, 81)).unwrap().name, "shop");
-        assert_eq!(terms.label(Label(7)), Some("{order,7}"));
-        assert_eq!(terms.value(0), Some("hi\\x{7}"));
-        assert_eq!(terms.value(1), None);
-        assert_eq!(terms.processes_of("shop"), [Pid::on(0, 81)]);
-    }
-
-    #[test]
-    fn wrong_entries_are_refused() {
-        for wrong in [
-            "process\t<0.81.0>\tshop",
-            "process\t0.81.0\tshop\tabout",
-            "process\t<0.81.1>\tshop\tabout",
-            "label\t4294967296\tx",
-            "label\t-1\tx",
-            "value\t+1\tx",
-            "value\t1\tx\ty",
-            "value\t1",
-            "values\t1\tx",
-            "",
-        ] {
-            let text = format!("label\t1\tx\n{wrong}\nvalue\t1\tx\n");
-            assert!(parsed(&text).unwrap_err().starts_with("a.terms, line 3, isn't"), "{wrong}");
-        }
-    }
-
-    #[test]
-    fn an_entry_for_what_has_one_is_refused() {
-        assert!(parsed("value\t1\tx\nvalue\t1\ty\n").unwrap_err().starts_with("a.terms, line 3"));
     }
 }

@@ -9,14 +9,12 @@
 
 use super::entry::{lines, number, Fault};
 use crate::output::Notes;
-use gemshowal::{Event, Kind, Pid, Trace};
+use crate::view::Place;
+use gemshowal::{Event, Kind, Trace};
 use std::collections::HashMap;
 use std::path::Path;
 
 const HEADER: &str = "seqaudit times 1";
-
-/// A process and the index of one of its events.
-pub(crate) type Place = (Pid, u64);
 
 /// Nanoseconds.
 pub(crate) type Time = i64;
@@ -25,7 +23,6 @@ pub(crate) type Time = i64;
 pub(crate) struct Times {
     begin: Time,
     events: HashMap<Place, Time>,
-    /// For each receive its send, and the time between.
     messages: HashMap<Place, (Place, Time)>,
 }
 
@@ -128,54 +125,4 @@ fn time(word: &str) -> Option<Time> {
     let size = number(word.strip_prefix('-').unwrap_or(word))?;
     let size = Time::try_from(size).ok()?;
     Some(if word.starts_with('-') { -size } else { size })
-}
-
-#[cfg(test)]
-mod tests {
-    use super::*;
-
-    const TRACE: &str = "seqtrace 1\nprocess <0.1.0>\n\
-                         {seq_trace,7,{send,{0,1},<0.1.0>,<0.2.0>,5}}\nprocess <0.2.0>\n\
-                         {seq_trace,7,{'receive',{0,1},<0.1.0>,<0.2.0>,5}}\n";
-
-    fn parsed(entries: &str) -> Result<Times, String> {
-        let text = format!("seqaudit times 1\n{entries}");
-        Times::parse(&text, Path::new("a.times")).map_err(|fault| fault.to_string())
-    }
-
-    #[test]
-    fn events_and_messages_have_times() {
-        let times = parsed(
-            "begin 1000\nevent <0.1.0> 0 0\nevent <0.2.0> 0 350\nmessage <0.1.0> 0 <0.2.0> 0 350\n",
-        )
-        .unwrap();
-        assert_eq!(times.begin(), Some(1000));
-        assert_eq!(times.of_event((Pid::on(0, 2), 0)), Some(350));
-        assert_eq!(times.of_event((Pid::on(0, 2), 1)), None);
-        assert_eq!(times.of_message((Pid::on(0, 2), 0)), Some(((Pid::on(0, 1), 0), 350)));
-        assert!(times.may_be_of(&Trace::read(TRACE.as_bytes()).unwrap()));
-    }
-
-    #[test]
-    fn times_of_another_trace_are_told() {
-        let trace = Trace::read(TRACE.as_bytes()).unwrap();
-        assert!(!parsed("begin 0\nevent <0.1.0> 1 0\n").unwrap().may_be_of(&trace));
-        assert!(!parsed("begin 0\nmessage <0.2.0> 0 <0.1.0> 0 5\n").unwrap().may_be_of(&trace));
-    }
-
-    #[test]
-    fn wrong_entries_are_refused() {
-        for wrong in [
-            "event <0.1.0> 0",
-            "event <0.1.0> 0 1 2",
-            "event <0.1.0> 0 x",
-            "event <0.1.0> 0 9223372036854775808",
-            "",
-        ] {
-            let text = format!("begin -5\n{wrong}\n");
-            assert!(parsed(&text).unwrap_err().starts_with("a.times, line 3, isn't"), "{wrong}");
-        }
-        assert!(parsed("event <0.1.0> 0 1\n").unwrap_err().starts_with("a.times, line 2, isn't"));
-        assert_eq!(parsed("begin -5\n").unwrap().begin(), None);
-    }
 }

@@ -113,7 +113,6 @@ impl Names {
     }
 }
 
-/// Lists the first ones, and says whether there are more.
 fn few(names: impl ExactSizeIterator<Item = String>) -> String {
     let more = if names.len() > LISTED { ", .." } else { "" };
     names.take(LISTED).collect::<Vec<_>>().join(", ") + more

@@ -48,7 +48,6 @@ struct Lane {
 #[derive(Serialize)]
 struct Table {
     title: &'static str,
-    /// The number of entries that are left out.
     more: usize,
     entries: Vec<(String, usize, i64, i64, i64)>,
 }
@@ -62,7 +61,6 @@ enum Term {
     Cut(String, String, usize),
 }
 
-/// The events, a list for each thing that is known of them.
 #[derive(Default, Serialize)]
 struct Rows {
     lane: Vec<usize>,
@@ -239,7 +237,7 @@ fn tables(causes: &Causes<'_>, names: &Names, times: &Times) -> Vec<Table> {
         ("By processes", durations::by_processes(trace, names, times)),
         ("By kind of message", durations::by_kind(trace, names, times)),
     ];
-    let entry = |it: Durations| (it.of, it.count, it.median, it.most, it.greatest);
+    let entry = |it: Durations| (it.of, it.count, it.median, it.percent_99, it.greatest);
     let table = |(title, entries): (&'static str, Vec<Durations>)| Table {
         title,
         more: entries.len().saturating_sub(DURATIONS),
