@@ -1,12 +1,15 @@
-//! All commands on malformed texts, in one process: none may panic, or write half an object.
+//! All commands on malformed texts, with malformed names and times or without, in one process: none
+//! may panic, or write half an object.
 //!
 //! `GEMSHOWAL_FUZZ` says how many texts, and `GEMSHOWAL_SEED` which: `cargo test --release fuzz`.
 
 use crate::args::{Args, Command};
 use crate::input::Input;
+use crate::names::FILES;
 use crate::output::{Notes, Output};
-use crate::{diff, run_on};
+use crate::{diff, run_on, Status, Task};
 use clap::Parser;
+use gemshowal::{Partner, Text, Trace};
 use std::env;
 use std::fs;
 use std::path::Path;
@@ -14,81 +17,22 @@ use std::path::Path;
 /// The number of texts that are tried if nothing else is asked for.
 const TEXTS: u64 = 2_000;
 
-/// The pieces that a mistake puts into a text.
-const PIECES: [&[u8]; 34] = [
-    b"<1.2.0>",
-    b"<0.7",
-    b"<70000.1.0>",
-    b"<03.1.0>",
-    b"#Pid<",
-    b"'receive',",
-    b"receive,",
-    b"\xe2\x80\x98",
-    b"\xc2\xa0",
-    b"\r",
-    b"\r\n",
-    b"\n",
-    b" ",
-    b"\t",
-    b"acts\n",
-    b"process <0.30.0>\n",
-    b"process <3.30.1>\n",
-    b"seqtrace 2\n",
-    b"%",
-    b"18446744073709551615",
-    b"18446744073709551616",
-    b"0",
-    b"{0,1}",
-    b"{",
-    b"}",
-    b",",
-    b"[]",
-    b"printat <0.30.0> ",
-    b"receive <0.30.0> both ",
-    b"restore <0.30.0> 1 true false ",
-    b"\0",
-    b"\xef\xbb\xbf",
-    b"reset <0.31.0>\n",
-    b"send <0.30.0> <0.31.0> 7\n",
-];
+/// The pieces that a mistake puts into a text, with bars between them.
+const PIECES: &[u8] = b"<1.2.0>|<0.7|<70000.1.0>|<03.1.0>|#Pid<|'receive',|receive,|\xe2\x80\x98|\xc2\xa0\
+    |\r|\r\n|\n| |\t|acts\n|process <0.30.0>\n|process <3.30.1>\n|seqtrace 2\n|%|18446744073709551615\
+    |18446744073709551616|0|{0,1}|{|}|,|[]|printat <0.30.0> |receive <0.30.0> both \
+    |restore <0.30.0> 1 true false |\0|\xef\xbb\xbf|reset <0.31.0>\n|send <0.30.0> <0.31.0> 7\n\
+    |value\t3\t|label\t|'Elixir.|#{'__struct__' => '|<<\"|\\|\xc3\xb6|{'$gen_call',{<0.81.0>,#Ref<0.1.2>},\
+    |begin -1\n|message <0.81.0> 0 <0.85.0> 0 -9223372036854775808\n|#Ref<0.1.2>,|lost\t";
 
-const COMMANDS: [&str; 35] = [
-    "audit",
-    "audit --json",
-    "audit --each-label",
-    "audit --each-label --json",
-    "audit --label 17",
-    "audit --process 0.30.0 --json",
-    "check",
-    "check --json",
-    "complete",
-    "complete --json",
-    "complete --as streams",
-    "complete --as acts",
-    "cut --label 17",
-    "cut --lines 2-5",
-    "explain",
-    "explain --json",
-    "lint",
-    "lint --json --most 50",
-    "lint --fix",
-    "list",
-    "list --json --counts 1-",
-    "stats",
-    "stats --json",
-    "export --as mermaid",
-    "export --as dot",
-    "export --as perfetto",
-    "export --as shiviz",
-    "export --as otlp",
-    "why NAME 3",
-    "why NAME 4 --effects --json",
-    "chart",
-    "chart --json",
-    "diff NAME NAME --json",
-    "page",
-    "times",
-];
+/// The command lines that are tried on each text, with bars between them.
+const COMMANDS: &str = "audit|audit --json|audit --each-label|audit --each-label --json|\
+    audit --label 17|audit --process 0.30.0 --json|check|check --json|complete|complete --json|\
+    complete --as streams|complete --as acts|cut --label 17|cut --lines 2-5|explain|explain --json|\
+    lint|lint --json --most 50|lint --fix|list|list --json --counts 1-|stats|stats --json|\
+    export --as mermaid|export --as dot|export --as perfetto|export --as shiviz|export --as otlp|\
+    why NAME 3|why NAME 4 --effects --json|chart|chart --json|diff NAME NAME --json|page|times|\
+    times --json --label 1000000|why NAME shop#2|list --label {order,7}";
 
 /// Numbers that look like chance (xorshift).
 struct Chance(u64);
@@ -107,12 +51,17 @@ impl Chance {
         let behind = |count: usize| rest.get(count.min(rest.len())..).unwrap_or_default();
         match self.below(7) {
             0 => [front, behind(1 + self.below(20))].concat(),
-            1 | 2 => [front, PIECES[self.below(PIECES.len())], behind(self.below(3))].concat(),
+            1 | 2 => [front, self.piece(), behind(self.below(3))].concat(),
             3 => front.to_vec(),
             4 => self.with_lines_exchanged(text),
             5 => self.with_number(text),
             _ => [front, &[self.below(256) as u8], behind(1)].concat(),
         }
+    }
+
+    fn piece(&mut self) -> &'static [u8] {
+        let pieces = || PIECES.split(|&byte| byte == b'|');
+        pieces().nth(self.below(pieces().count())).unwrap()
     }
 
     fn with_lines_exchanged(&mut self, text: &[u8]) -> Vec<u8> {
@@ -133,7 +82,59 @@ impl Chance {
     }
 }
 
-fn examples() -> Vec<Vec<u8>> {
+/// A trace, and the files beside it by their extensions.
+struct Example {
+    text: Vec<u8>,
+    beside: Vec<(&'static str, Vec<u8>)>,
+}
+
+impl Example {
+    fn of(path: &Path) -> Example {
+        let text = fs::read(path).unwrap();
+        let trace = Trace::read(&text[..]);
+        let beside = |extension| Some((extension, fs::read(path.with_extension(extension)).ok()?));
+        let mut beside: Vec<_> = ["terms", "facts"].into_iter().filter_map(beside).collect();
+        if let (Ok(trace), Some((_, terms))) = (trace, beside.first()) {
+            let messages = String::from_utf8_lossy(terms).into_owned();
+            let values = messages.lines().filter(|line| line.starts_with("value"));
+            let values: String = values.map(|line| format!("{line}, whole\n")).collect();
+            beside.push(("messages", format!("seqaudit messages 1\n{values}").into()));
+            beside.push(("times", times_of(&trace).into()));
+        }
+        Example { text, beside }
+    }
+
+    /// Lets the commands find these files, most of them with mistakes.
+    fn put_beside(&self, chance: &mut Chance) {
+        FILES.with_borrow_mut(|files| {
+            for (extension, text) in &self.beside {
+                let mut text = text.clone();
+                for _ in 0..chance.below(3) {
+                    text = chance.with_mistake(&text);
+                }
+                files.insert(Path::new("it").with_extension(extension), text);
+            }
+        });
+    }
+}
+
+/// Returns times that the events and the messages of a trace may have.
+fn times_of(trace: &Trace) -> String {
+    let mut text = "seqaudit times 1\nbegin 1795742538123456789\n".to_owned();
+    let pairing = trace.pair().unwrap();
+    for (pid, events) in trace.processes() {
+        for (event, index) in events.iter().zip(0..) {
+            text += &format!("event {} {index} {}\n", Text(pid), 1_000 * event.serial.this);
+            let partner = |pairing| gemshowal::partner_at(pairing, pid, index, event.kind);
+            if let Ok(Partner::Send(from, sent)) = pairing.as_ref().map(partner) {
+                text += &format!("message {} {sent} {} {index} 350\n", Text(from), Text(pid));
+            }
+        }
+    }
+    text
+}
+
+fn examples() -> Vec<Example> {
     // The package may be built in its own folder, or in the workspace that a script writes.
     let folders = Path::new(env!("CARGO_MANIFEST_DIR")).ancestors().map(|it| it.join("examples"));
     let folder = folders.into_iter().find(|it| it.join("order.seqtrace").exists()).unwrap();
@@ -141,31 +142,31 @@ fn examples() -> Vec<Vec<u8>> {
         fs::read_dir(folder).unwrap().map(|entry| entry.unwrap().path()).collect();
     paths.sort();
     let is_trace = |path: &Path| path.extension().is_some_and(|it| it == "txt" || it == "seqtrace");
-    let texts = paths.iter().filter(|path| is_trace(path)).map(|path| fs::read(path).unwrap());
-    texts.filter(|text| text.len() < 20_000).collect()
+    paths.iter().filter(|path| is_trace(path)).map(|path| Example::of(path)).collect()
 }
 
-fn command(words: &str) -> Command {
-    Args::try_parse_from(["gemshowal"].into_iter().chain(words.split(' '))).unwrap().command
+/// Returns the first word of a command line, and the command.
+fn command(words: &'static str) -> (&'static str, Command) {
+    let args = Args::try_parse_from(["gemshowal"].into_iter().chain(words.split(' '))).unwrap();
+    (words.split(' ').next().unwrap(), args.command)
 }
 
-/// Does a command on a text, and a comparison with the one that it was made of. An object is whole,
-/// whatever the result.
-fn run(command: &Command, text: &[u8], whole: &[u8]) {
-    let mut input = Input::of_bytes(text);
-    let (mut out, mut notes) = (Output::to_nowhere(command.word()), Notes::new(false));
+/// Does a command on a text, and a comparison with the one that it was made of, and returns whether
+/// the status is a yes. An object is whole, whatever the result.
+fn run((word, command): &(&str, Command), name: &str, text: &[u8], whole: &[u8]) -> bool {
+    let (mut input, mut notes) = (Input::of_bytes(text, name), Notes::new(false));
+    let (mut out, json) = (Output::to_nowhere(word), command.is_json());
+    let task = Task { json, input: &mut input, out: &mut out, notes: &mut notes };
     let ended = match command {
-        Command::Diff(_) => {
-            let whole = Input::of_bytes(whole);
-            let ended = diff::run(true, &mut input, whole, &mut out, &mut notes);
-            ended.and_then(|_| Ok(out.finish()?))
-        }
-        _ => run_on(command, &mut input, &mut out, &mut notes).map(drop),
+        Command::Diff(_) => diff::run(task, Input::of_bytes(whole, name)),
+        _ => run_on(command, task),
     };
+    out.finish().unwrap();
     if command.is_json() && ended.is_ok() {
         let object: serde_json::Value = serde_json::from_slice(out.taken()).unwrap();
-        assert_eq!(object["command"], command.word());
+        assert_eq!(object["command"], *word);
     }
+    matches!(ended, Ok(Status::Yes))
 }
 
 fn number(variable: &str) -> Option<u64> {
@@ -174,17 +175,23 @@ fn number(variable: &str) -> Option<u64> {
 
 #[test]
 fn fuzz_no_command_panics_on_a_malformed_text() {
-    let commands = COMMANDS.map(command);
+    let commands: Vec<_> = COMMANDS.split('|').map(command).collect();
+    let mut yes = vec![0; commands.len()];
     let examples = examples();
     let mut chance = Chance(number("GEMSHOWAL_SEED").unwrap_or(20_261_130));
     for _ in 0..number("GEMSHOWAL_FUZZ").unwrap_or(TEXTS) {
-        let whole = &examples[chance.below(examples.len())];
-        let mut text = whole.clone();
+        let example = &examples[chance.below(examples.len())];
+        let mut text = example.text.clone();
         for _ in 0..chance.below(6) {
             text = chance.with_mistake(&text);
         }
-        for command in &commands {
-            run(command, &text, whole);
+        let is_named = !example.beside.is_empty() && chance.below(4) > 0;
+        example.put_beside(&mut chance);
+        let name = if is_named { "it.seqtrace" } else { "-" };
+        for (command, yes) in commands.iter().zip(&mut yes) {
+            *yes += u64::from(run(command, name, &text, &example.text));
         }
     }
+    let unfit: Vec<_> = COMMANDS.split('|').zip(yes).filter(|(_, yes)| *yes == 0).collect();
+    assert!(unfit.is_empty(), "no text is one that these take: {unfit:?}");
 }

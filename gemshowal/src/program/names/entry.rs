@@ -1,8 +1,11 @@
 //! The lines of the files that lie next to a trace, and the reason why one of them isn't taken.
 
-use std::fs;
+#[cfg(not(test))]
+use std::fs::read;
 use std::io::{self, ErrorKind};
 use std::path::{Path, PathBuf};
+#[cfg(test)]
+use std::{cell::RefCell, collections::HashMap};
 use thiserror::Error;
 
 /// The reason why a file next to a trace wasn't taken.
@@ -21,9 +24,21 @@ impl Fault {
     }
 }
 
+#[cfg(test)]
+thread_local! {
+    /// The files that tests have in place of the system's.
+    pub(crate) static FILES: RefCell<HashMap<PathBuf, Vec<u8>>> = RefCell::default();
+}
+
+#[cfg(test)]
+fn read(file: &Path) -> io::Result<Vec<u8>> {
+    let found = FILES.with_borrow(|files| files.get(file).cloned());
+    found.ok_or_else(|| ErrorKind::NotFound.into())
+}
+
 /// Reads a file, if it is there.
 pub(super) fn read_text(file: &Path) -> Result<Option<String>, Fault> {
-    let bytes = match fs::read(file) {
+    let bytes = match read(file) {
         Ok(bytes) => bytes,
         Err(reason) if reason.kind() == ErrorKind::NotFound => return Ok(None),
         Err(reason) => return Err(Fault::Unread { file: file.into(), reason }),
@@ -47,7 +62,6 @@ pub(super) fn lines<'a>(
     }
 }
 
-/// Reads a number of decimal digits alone.
 pub(super) fn number(text: &str) -> Option<u64> {
     text.bytes().all(|byte| byte.is_ascii_digit()).then(|| text.parse().ok())?
 }

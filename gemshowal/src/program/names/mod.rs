@@ -18,6 +18,8 @@ mod times;
 mod which;
 
 pub(crate) use entry::Fault;
+#[cfg(test)]
+pub(crate) use entry::FILES;
 pub(crate) use line::Line;
 pub(crate) use messages::Messages;
 pub(crate) use times::Times;
@@ -140,18 +142,15 @@ impl Names {
         format!("{}#{index}", self.process(pid))
     }
 
-    /// Returns what the trace is known to lack, a sentence each.
     pub(crate) fn losses(&self) -> &[String] {
         &self.losses
     }
 
-    /// Returns when events happened, if that is known.
     pub(crate) fn times(&self) -> Option<&Times> {
         self.times.as_ref()
     }
 }
 
-/// Returns a name as the file has it, or else the one that is made for it.
 fn named(name: Option<&str>, number: impl FnOnce() -> String) -> Cow<'_, str> {
     name.map_or_else(|| Cow::Owned(number()), Cow::Borrowed)
 }
