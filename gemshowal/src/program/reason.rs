@@ -10,27 +10,13 @@ use crate::view::{Place, Shown, View};
 use crate::Failure;
 use gemshowal::{Event, Finding, Kind, Never, Pid, Reason, Streams};
 use serde::Serialize;
-use std::collections::{HashMap, HashSet};
+use std::collections::HashSet;
 use std::io::{self, Write};
-
-/// A reason why no run without a reset reports a trace.
-#[derive(Clone, Copy, Debug, PartialEq, Eq)]
-enum Why {
-    PrevNotBefore,
-    NotRising,
-    Repeated,
-    Mismatch,
-    Late,
-    Unfounded,
-    TooHigh,
-}
 
 /// An event, the reason against it, and the second event that this may be about.
 #[derive(Clone, Copy, Debug)]
 pub(crate) struct Against {
     pub(crate) place: Place,
-    why: Why,
-    other: Option<Place>,
     never: Never,
 }
 
@@ -48,16 +34,15 @@ impl Against {
     }
 
     pub(crate) fn by_complete(pid: Pid, index: u64, never: Never) -> Against {
-        let (why, other) = match never {
-            Never::PrevNotBefore => (Why::PrevNotBefore, None),
-            Never::NotRising(index) => (Why::NotRising, Some((pid, index))),
-            Never::Repeated(pid, index) => (Why::Repeated, Some((pid, index))),
-            Never::Mismatch(pid, index) => (Why::Mismatch, Some((pid, index))),
-            Never::Late(index) => (Why::Late, Some((pid, index))),
-            Never::Unfounded => (Why::Unfounded, None),
-            Never::TooHigh => (Why::TooHigh, None),
-        };
-        Against { place: (pid, index), why, other, never }
+        Against { place: (pid, index), never }
+    }
+
+    fn other(&self) -> Option<Place> {
+        match self.never {
+            Never::NotRising(index) | Never::Late(index) => Some((self.place.0, index)),
+            Never::Repeated(pid, index) | Never::Mismatch(pid, index) => Some((pid, index)),
+            Never::PrevNotBefore | Never::Unfounded | Never::TooHigh => None,
+        }
     }
 
     pub(crate) fn never(&self) -> Never {
@@ -65,22 +50,30 @@ impl Against {
     }
 
     pub(crate) fn word(&self) -> &'static str {
-        self.why.word()
+        match self.never {
+            Never::PrevNotBefore => "prevnotbefore",
+            Never::NotRising(_) => "notrising",
+            Never::Repeated(..) => "repeated",
+            Never::Mismatch(..) => "mismatch",
+            Never::Late(_) => "late",
+            Never::Unfounded => "unfounded",
+            Never::TooHigh => "toohigh",
+        }
     }
 
     /// Returns whether a run with a reset may have the trace all the same.
     pub(crate) fn allows_reset(&self) -> bool {
-        self.why != Why::PrevNotBefore
+        self.never != Never::PrevNotBefore
     }
 
     pub(crate) fn headline(&self, shown: &Shown<'_>) -> String {
         let without = if self.allows_reset() { " without a reset" } else { "" };
-        let (event, word) = (shown.event(self.place), self.why.word());
+        let (event, word) = (shown.event(self.place), self.word());
         format!("doesn't fit: no run{without} reports this trace, because of {event} ({word})")
     }
 
     fn events(&self, shown: &Shown<'_>) -> Vec<(Place, Event)> {
-        let places = [Some(self.place), self.other].into_iter().flatten();
+        let places = [Some(self.place), self.other()].into_iter().flatten();
         let with_event = |place: Place| Some((place, shown.streams.event(place.0, place.1)?));
         places.filter_map(with_event).collect()
     }
@@ -90,15 +83,14 @@ impl Against {
         for (place, event) in self.events(shown) {
             writeln!(out, "  {}: {}", shown.event(place), shown.sentence(&event))?;
         }
-        writeln!(out, "What it means: {}", self.why.meaning())?;
+        writeln!(out, "What it means: {}", meaning(self.never))?;
         writeln!(out, "What to look at: {}.", self.look_at(shown))
     }
 
     /// Says which causes the reason can have, the likeliest first.
     fn look_at(&self, shown: &Shown<'_>) -> String {
         let found: Vec<Event> = self.events(shown).into_iter().map(|(_, event)| event).collect();
-        let causes = causes(self.why, &found, shown.streams);
-        causes.into_iter().map(Cause::words).collect::<Vec<_>>().join("; ")
+        causes(self.never, &found, shown.streams).join("; ")
     }
 
     pub(crate) fn no(&self, shown: &Shown<'_>) -> No {
@@ -107,17 +99,14 @@ impl Against {
 
     pub(crate) fn object(&self, shown: &Shown<'_>) -> Refused {
         let event = |(place, event): (Place, Event)| Found {
-            place: PlaceObject {
-                event: shown.event(place),
-                ..PlaceObject::new(shown.view.names, place)
-            },
+            place: PlaceObject::shown(shown, place),
             fields: Fields::new(shown.view.names, &event),
             what: shown.sentence(&event),
         };
         Refused {
-            reason: self.why.word(),
+            reason: self.word(),
             found: self.events(shown).into_iter().map(event).collect(),
-            meaning: self.why.meaning(),
+            meaning: meaning(self.never),
             look_at: self.look_at(shown),
         }
     }
@@ -147,7 +136,6 @@ struct Found {
     what: String,
 }
 
-/// Writes why a trace can't be paired.
 pub(crate) fn write_unpaired(
     json: bool,
     view: &View<'_>,
@@ -164,151 +152,102 @@ pub(crate) fn write_unpaired(
     Ok(against.write_details(&shown, out)?)
 }
 
-impl Why {
-    fn word(self) -> &'static str {
-        match self {
-            Why::PrevNotBefore => "prevnotbefore",
-            Why::NotRising => "notrising",
-            Why::Repeated => "repeated",
-            Why::Mismatch => "mismatch",
-            Why::Late => "late",
-            Why::Unfounded => "unfounded",
-            Why::TooHigh => "toohigh",
+fn meaning(never: Never) -> &'static str {
+    match never {
+        Never::PrevNotBefore => {
+            "the first number of an event's serial isn't below its second, so the counter of \
+             its process went back behind what the process had received, or the file was \
+             changed."
         }
-    }
-
-    fn meaning(self) -> &'static str {
-        match self {
-            Why::PrevNotBefore => {
-                "the first number of an event's serial isn't below its second, so the counter of \
-                 its process went back behind what the process had received, or the file was \
-                 changed."
-            }
-            Why::NotRising => {
-                "one process stamped both events, and the later one has no higher count: its \
-                 counter went back, or the two are in the wrong order."
-            }
-            Why::Repeated => {
-                "two messages were received that have the same sender and the same count, so the \
-                 sender's counter went back between them, or one message is here twice, or the \
-                 file was changed."
-            }
-            Why::Mismatch => {
-                "what was received isn't what its sender sent with this count: so these are two \
-                 messages, and the sender's counter went back between them, or the file was \
-                 changed."
-            }
-            Why::Late => {
-                "the process had received a message with this count or a higher one before, and a \
-                 process counts on from the highest count that it has received: so its counter \
-                 went back between the two, or they are in the wrong order, or the file was \
-                 changed."
-            }
-            Why::Unfounded => {
-                "by its serial the event follows nothing, but the process that sent or printed it \
-                 had received a message of a trace before, or had sent or printed something that \
-                 follows one."
-            }
-            Why::TooHigh => "the event counts higher than a counter can.",
+        Never::NotRising(_) => {
+            "one process stamped both events, and the later one has no higher count: its \
+             counter went back, or the two are in the wrong order."
         }
+        Never::Repeated(..) => {
+            "two messages were received that have the same sender and the same count, so the \
+             sender's counter went back between them, or one message is here twice, or the \
+             file was changed."
+        }
+        Never::Mismatch(..) => {
+            "what was received isn't what its sender sent with this count: so these are two \
+             messages, and the sender's counter went back between them, or the file was \
+             changed."
+        }
+        Never::Late(_) => {
+            "the process had received a message with this count or a higher one before, and a \
+             process counts on from the highest count that it has received: so its counter \
+             went back between the two, or they are in the wrong order, or the file was \
+             changed."
+        }
+        Never::Unfounded => {
+            "by its serial the event follows nothing, but the process that sent or printed it \
+             had received a message of a trace before, or had sent or printed something that \
+             follows one."
+        }
+        Never::TooHigh => "the event counts higher than a counter can.",
     }
 }
 
-/// The causes that a trace which doesn't fit may have.
-#[derive(Clone, Copy, Debug, PartialEq, Eq)]
-enum Cause {
-    PutBack,
-    PutBackEarly,
-    SetByHand,
-    Reset,
-    ResetBefore,
-    TwoRuns,
-    CollectedTwice,
-    OtherOrder,
-    Changed,
-    WrongProcess,
-}
+// The causes that a trace which doesn't fit may have.
+const PUT_BACK: &str =
+    "a token that set_token/1 put back (Old = seq_trace:set_token([]), .., \
+     seq_trace:set_token(Old)) would explain it: that moves the counter of a standard node back to \
+     what the token had";
+const PUT_BACK_EARLY: &str =
+    "a token that set_token/1 put back before anything was sent with it would explain it: that sets \
+     the counter of a standard node to 0";
+const SET_BY_HAND: &str = "a token's serial that was set by hand";
+const RESET: &str = "seq_trace:reset_trace/0 between the two";
+const RESET_BEFORE: &str = "seq_trace:reset_trace/0 before the event";
+const TWO_RUNS: &str = "files of two runs converted as one";
+const COLLECTED_TWICE: &str =
+    "events that were collected twice, by a second tracer or by files of the same run";
+const OTHER_ORDER: &str = "events of one process that are in another order than they happened in";
+const CHANGED: &str = "a file that was changed";
+const WRONG_PROCESS: &str =
+    "sends to aliases and names, which may be taken for sends to the wrong process (NAME.notes)";
 
-impl Cause {
-    fn words(self) -> &'static str {
-        match self {
-            Cause::PutBack => {
-                "a token that set_token/1 put back (Old = seq_trace:set_token([]), .., \
-                 seq_trace:set_token(Old)) would explain it: that moves the counter of a standard \
-                 node back to what the token had"
-            }
-            Cause::PutBackEarly => {
-                "a token that set_token/1 put back before anything was sent with it would explain \
-                 it: that sets the counter of a standard node to 0"
-            }
-            Cause::SetByHand => "a token's serial that was set by hand",
-            Cause::Reset => "seq_trace:reset_trace/0 between the two",
-            Cause::ResetBefore => "seq_trace:reset_trace/0 before the event",
-            Cause::TwoRuns => "files of two runs converted as one",
-            Cause::CollectedTwice => {
-                "events that were collected twice, by a second tracer or by files of the same run"
-            }
-            Cause::OtherOrder => {
-                "events of one process that are in another order than they happened in"
-            }
-            Cause::Changed => "a file that was changed",
-            Cause::WrongProcess => {
-                "sends to aliases and names, which may be taken for sends to the wrong process \
-                 (NAME.notes)"
-            }
-        }
-    }
-}
-
-/// Returns the causes that a reason about these events can have, the likeliest first.
-fn causes(why: Why, found: &[Event], streams: &Streams) -> Vec<Cause> {
-    use Cause::*;
+/// Returns the likeliest cause first.
+fn causes(never: Never, found: &[Event], streams: &Streams) -> Vec<&'static str> {
     let went_back = || match went_back_of(streams) {
-        Several::Many => [Reset, TwoRuns, PutBack],
-        _ => [PutBack, TwoRuns, Reset],
+        0 | 1 => [PUT_BACK, TWO_RUNS, RESET],
+        _ => [RESET, TWO_RUNS, PUT_BACK],
     };
-    let in_turn = |first: &[Cause], last: &[Cause]| [first, &went_back(), last].concat();
-    match (why, found) {
-        (Why::PrevNotBefore, _) => vec![PutBackEarly, Changed, SetByHand],
-        (Why::NotRising, _) => in_turn(&[], &[OtherOrder]),
-        (Why::Repeated, [one, other]) if one == other => {
-            in_turn(&[CollectedTwice], &[WrongProcess, Changed])
+    let in_turn = |first: &[&'static str], last: &[&'static str]| [first, &went_back(), last].concat();
+    match (never, found) {
+        (Never::PrevNotBefore, _) => vec![PUT_BACK_EARLY, CHANGED, SET_BY_HAND],
+        (Never::NotRising(_), _) => in_turn(&[], &[OTHER_ORDER]),
+        (Never::Repeated(..), [one, other]) if one == other => {
+            in_turn(&[COLLECTED_TWICE], &[WRONG_PROCESS, CHANGED])
         }
-        (Why::Repeated, _) => in_turn(&[], &[Changed, CollectedTwice, WrongProcess]),
-        (Why::Mismatch, [one, other]) if other.to.is_some() && one.to != other.to => {
-            in_turn(&[WrongProcess, Changed], &[])
+        (Never::Repeated(..), _) => in_turn(&[], &[CHANGED, COLLECTED_TWICE, WRONG_PROCESS]),
+        (Never::Mismatch(..), [one, other]) if other.to.is_some() && one.to != other.to => {
+            in_turn(&[WRONG_PROCESS, CHANGED], &[])
         }
-        (Why::Mismatch, _) => in_turn(&[Changed, WrongProcess], &[]),
-        (Why::Late, [first, ..]) if follows_earlier(first, streams) => {
-            vec![OtherOrder, PutBack, TwoRuns, Reset, Changed]
+        (Never::Mismatch(..), _) => in_turn(&[CHANGED, WRONG_PROCESS], &[]),
+        (Never::Late(_), [first, ..]) if follows_earlier(first, streams) => {
+            vec![OTHER_ORDER, PUT_BACK, TWO_RUNS, RESET, CHANGED]
         }
-        (Why::Late, _) if went_back_of(streams) == Several::None => {
-            vec![Changed, Reset, TwoRuns, OtherOrder, PutBack]
+        (Never::Late(_), _) if went_back_of(streams) == 0 => {
+            vec![CHANGED, RESET, TWO_RUNS, OTHER_ORDER, PUT_BACK]
         }
-        (Why::Late, _) => vec![Reset, TwoRuns, OtherOrder, PutBack, Changed],
-        (Why::Unfounded, _) => vec![PutBack, Changed, TwoRuns, ResetBefore],
-        (Why::TooHigh, _) => vec![Changed, SetByHand],
+        (Never::Late(_), _) => vec![RESET, TWO_RUNS, OTHER_ORDER, PUT_BACK, CHANGED],
+        (Never::Unfounded, _) => vec![PUT_BACK, CHANGED, TWO_RUNS, RESET_BEFORE],
+        (Never::TooHigh, _) => vec![CHANGED, SET_BY_HAND],
     }
-}
-
-#[derive(Clone, Copy, Debug, PartialEq, Eq)]
-enum Several {
-    None,
-    One,
-    Many,
 }
 
 /// Counts the processes that used a count twice, or a lower one after a higher, as their own events
 /// or the receives of what they sent show it.
-fn went_back_of(streams: &Streams) -> Several {
+fn went_back_of(streams: &Streams) -> usize {
     let mut fallen = HashSet::new();
-    let mut received = HashMap::new();
+    let mut received = HashSet::new();
     for &pid in streams.pids() {
         let mut last = None;
         for event in streams.events(pid) {
             let this = event.serial.this;
             if event.kind == Kind::Receive {
-                if received.insert((event.from, this), ()).is_some() {
+                if !received.insert((event.from, this)) {
                     fallen.insert(event.from);
                 }
             } else {
@@ -319,11 +258,7 @@ fn went_back_of(streams: &Streams) -> Several {
             }
         }
     }
-    match fallen.len() {
-        0 => Several::None,
-        1 => Several::One,
-        _ => Several::Many,
-    }
+    fallen.len()
 }
 
 /// Returns whether a stamp follows a message that its process received before, as it does in

@@ -72,7 +72,6 @@ struct Finder<'a> {
 }
 
 impl Missing {
-    /// Finds what the events that are shown leave out, whose streams are paired.
     pub(super) fn find(shown: &Shown<'_>, paired: &Paired<'_>) -> Result<Missing, OutOfMemory> {
         let hops = paired.hops()?;
         let mut finder = Finder {
@@ -106,7 +105,6 @@ impl Missing {
 }
 
 impl Finder<'_> {
-    /// Notes the events of a process whose other end was not reported.
     fn note_ends(&mut self, pid: Pid, events: &[Event]) {
         let mut height = 0;
         for (event, index) in events.iter().zip(0..) {
@@ -140,7 +138,6 @@ impl Finder<'_> {
         }
     }
 
-    /// Finds what the sends and prints of a process follow, and what its counts tell.
     fn follow(&mut self, pid: Pid, events: &[Event]) {
         let mut counter = Counter::default();
         let mut height = 0;
@@ -210,17 +207,17 @@ impl Finder<'_> {
     /// time, so any reported receive with its prev explains it.
     fn follow_hidden(&mut self) {
         let senders: HashSet<Pid> = self.sends.iter().map(|((_, _, from, _), _)| *from).collect();
-        let mut received = HashMap::new();
+        let mut received = HashSet::new();
         for &from in &senders {
             let events = self.shown.streams.events(from).iter();
             let receives = events.filter(|event| event.kind == Kind::Receive);
-            received.extend(receives.map(|event| ((from, event.serial.this), ())));
+            received.extend(receives.map(|event| (from, event.serial.this)));
         }
         for &(turn, lack) in &self.sends {
             let Lack::Hidden(receive) = lack else { continue };
             let Some(event) = self.shown.streams.event(receive.0, receive.1) else { continue };
             let prev = event.serial.prev;
-            if received.contains_key(&(event.from, prev)) {
+            if received.contains(&(event.from, prev)) {
                 continue;
             }
             if let Some(send) = self.unreceived_send(event.from, prev, event.label.0) {
