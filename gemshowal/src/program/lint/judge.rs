@@ -2,7 +2,7 @@
 //! stood above, so that no mistake is named twice.
 
 use super::form::remedy_of_text;
-use super::grammar::{common, Above, Counts, Expected, NamedPid, Scan, Sort};
+use super::grammar::{common, Above, Counts, NamedPid, Scan, Sort};
 use super::kind::Kind;
 use super::mend::{mends, Ending};
 use super::mistake::{Mistake, Wanted};
@@ -27,7 +27,7 @@ pub(super) fn judge<'a>(text: &'a [u8], mut add: impl FnMut(Mistake<'a>)) {
             "lines end with a carriage return alone, as on old Macs: end each with a newline";
         add(Mistake::new(first, first.bytes.len(), Wanted::Words("a newline"), remedy).by_fix());
     }
-    let mut judge = Judge::new(Survey::of(text));
+    let mut judge = Judge { survey: Survey::of(text), ..Judge::default() };
     for line in lines(text) {
         judge.take(line);
         judge.found.drain(..).for_each(&mut add);
@@ -42,7 +42,7 @@ struct Process<'a> {
 }
 
 /// The state that the lines so far leave for the next one.
-#[derive(Debug)]
+#[derive(Debug, Default)]
 struct Judge<'a> {
     survey: Survey<'a>,
     above: Above,
@@ -61,21 +61,6 @@ struct Judge<'a> {
 }
 
 impl<'a> Judge<'a> {
-    fn new(survey: Survey<'a>) -> Judge<'a> {
-        Judge {
-            survey,
-            above: Above::Nothing,
-            is_wide: false,
-            last: None,
-            current: None,
-            listed: HashSet::new(),
-            named: HashSet::new(),
-            events: 0,
-            acts: 0,
-            found: Vec::new(),
-        }
-    }
-
     fn take(&mut self, line: Line<'a>) {
         if self.above == Above::Nothing {
             self.take_header(line);
@@ -87,33 +72,17 @@ impl<'a> Judge<'a> {
         }
     }
 
-    /// Adds a mistake that a person has to mend.
-    fn add(&mut self, line: Line<'a>, column: usize, wanted: Wanted<'a>, remedy: &'static str) {
+    /// Adds a mistake that a person has to mend, unless the caller says otherwise of it.
+    fn add(
+        &mut self,
+        line: Line<'a>,
+        column: usize,
+        wanted: Wanted<'a>,
+        remedy: &'static str,
+    ) -> &mut Mistake<'a> {
+        let at = self.found.len();
         self.found.push(Mistake::new(line, column, wanted, remedy));
-    }
-
-    fn add_by_fix(
-        &mut self,
-        line: Line<'a>,
-        column: usize,
-        words: &'static str,
-        remedy: &'static str,
-    ) {
-        self.found.push(Mistake::new(line, column, Wanted::Words(words), remedy).by_fix());
-    }
-
-    fn add_broken(
-        &mut self,
-        line: Line<'a>,
-        column: usize,
-        expected: Expected,
-        remedy: &'static str,
-        is_by_fix: bool,
-    ) {
-        self.found.push(Mistake {
-            is_by_fix,
-            ..Mistake::new(line, column, Wanted::Grammar(expected), remedy)
-        });
+        &mut self.found[at]
     }
 
     fn take_header(&mut self, line: Line<'a>) {
@@ -137,7 +106,7 @@ impl<'a> Judge<'a> {
             Kind::Header => (remedy_of_version(line.behind_mark(), is_remote), false),
             _ => (remedy_of_header(is_remote), true),
         };
-        self.add_broken(line, column, expected, remedy, is_by_fix);
+        self.add(line, column, Wanted::Grammar(expected), remedy).is_by_fix = is_by_fix;
         match kind {
             // The header may still come.
             Kind::Comment | Kind::Other => {}
@@ -160,7 +129,8 @@ impl<'a> Judge<'a> {
         self.begin(line.bytes == b"seqtrace 2");
         if self.is_wide && !self.survey.is_remote {
             let remedy = "no pid of a node other than 0 is named, so the header is seqtrace 1";
-            self.add_by_fix(line, line.bytes.len() - 1, "1", remedy);
+            let end = line.bytes.len() - 1;
+            self.add(line, end, Wanted::Words("1"), remedy).is_by_fix = true;
         }
     }
 
@@ -169,7 +139,8 @@ impl<'a> Judge<'a> {
         let read = scan.whole(self.above);
         if scan.is_remote && !self.is_wide {
             let remedy = "a bundle that names a pid of another node begins with seqtrace 2";
-            self.add_by_fix(line, scan.column(false), "node 0 under seqtrace 1", remedy);
+            let wanted = Wanted::Words("node 0 under seqtrace 1");
+            self.add(line, scan.column(false), wanted, remedy).is_by_fix = true;
             self.is_wide = true;
         }
         match read {
@@ -177,19 +148,13 @@ impl<'a> Judge<'a> {
             Err(expected) => {
                 let column = scan.column(self.is_wide);
                 let remedy = remedy_of(line.bytes, column, self.above, expected);
-                self.add_broken(
-                    line,
-                    column,
-                    expected,
-                    remedy,
-                    mends(line.behind_mark(), self.above),
-                );
+                let is_by_fix = mends(line.behind_mark(), self.above);
+                self.add(line, column, Wanted::Grammar(expected), remedy).is_by_fix = is_by_fix;
                 self.pass(line, scan.pids.first());
             }
         }
     }
 
-    /// Passes a line that isn't one of the grammar's, as what it was meant to be.
     fn pass(&mut self, line: Line<'a>, pid: Option<&NamedPid>) {
         match (Kind::of(line.bytes), self.above) {
             (Kind::Process, _) => {
@@ -232,12 +197,10 @@ impl<'a> Judge<'a> {
                 let column = place.start + rising_bytes(last.pid, process.text);
                 self.add(line, column, Wanted::Above(last.text), RISING);
             }
-            _ if !is_new => self.add(
-                line,
-                place.start,
-                Wanted::Words("a pid without a process line above"),
-                RISING,
-            ),
+            _ if !is_new => {
+                let wanted = Wanted::Words("a pid without a process line above");
+                self.add(line, place.start, wanted, RISING);
+            }
             _ => {}
         }
         self.last = Some(process);
@@ -268,10 +231,7 @@ impl<'a> Judge<'a> {
             let remedy =
                 "no run of the machine reports it, since its second count isn't above its first; on a standard node a \
                           token that was put back, or set by hand, may give such a serial";
-            self.found.push(Mistake {
-                is_read: true,
-                ..Mistake::new(line, start, Wanted::Greater(prev), remedy)
-            });
+            self.add(line, start, Wanted::Greater(prev), remedy).is_read = true;
         }
     }
 
@@ -287,12 +247,8 @@ impl<'a> Judge<'a> {
     /// Judges whether a line of this noun is the first beyond the most that a text has.
     fn limit(&mut self, line: Line<'a>, noun: &'static str, count: u32, most: u32) {
         if count == most + 1 {
-            self.add(
-                line,
-                0,
-                Wanted::NoMore(noun, most),
-                "cut the trace: a shorter time, or fewer processes",
-            );
+            let remedy = "cut the trace: a shorter time, or fewer processes";
+            self.add(line, 0, Wanted::NoMore(noun, most), remedy);
         }
     }
 
@@ -323,12 +279,10 @@ impl<'a> Judge<'a> {
         }
         let wanted = "a newline at the end";
         match Ending::of(line.behind_mark()) {
-            Ending::Whole => self.add_by_fix(
-                line,
-                end,
-                wanted,
-                "each line is ended by a newline, the last one too",
-            ),
+            Ending::Whole => {
+                let remedy = "each line is ended by a newline, the last one too";
+                self.add(line, end, Wanted::Words(wanted), remedy).is_by_fix = true;
+            }
             Ending::Number => {
                 let remedy = "the text may break off within this number: see whether it is whole, and end the line";
                 self.add(line, end, Wanted::Words(wanted), remedy);
