@@ -30,7 +30,6 @@ impl Ranks {
         Ranks(counts)
     }
 
-    /// Returns the number of counts below each of a serial's two.
     pub(super) fn of_serial(&self, serial: Serial) -> [u64; 2] {
         let below = |count| self.0.partition_point(|&other| other < count) as u64;
         [below(serial.prev), below(serial.this)]
@@ -98,7 +97,6 @@ pub(super) fn count(colours: &[u64]) -> usize {
     colours.iter().collect::<HashSet<_>>().len()
 }
 
-/// Returns whether two traces have each colour equally often.
 pub(super) fn are_alike(ones: &[u64], others: &[u64]) -> bool {
     let [ones, others] = [ones, others].map(|colours| {
         let mut sorted = colours.to_vec();

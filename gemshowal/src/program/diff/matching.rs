@@ -26,7 +26,6 @@ const ROUNDS: usize = 8;
 const LOOKS: usize = 1_000_000;
 const MOST_ROUNDS: usize = 10_000;
 
-/// The places of two processes that are called alike, and by what.
 pub(super) type Mate = (usize, usize, Ground);
 
 /// Matches the processes of two traces so that one renaming may make the one of the other; none if
@@ -161,7 +160,6 @@ impl Half<'_> {
         self.side.items_with(place, |peer| pairs.number(self.which, peer as usize))
     }
 
-    /// Returns the process at this place, unless it is matched or its part has a guess.
     fn is_open(&self, place: usize, pairs: &Pairs, guessed: &mut Guessed<'_>) -> bool {
         pairs.is_free(self.which, place) && !guessed.ends.contains(&guessed.parts.end(place))
     }
@@ -219,7 +217,6 @@ impl<'a> Search<'a> {
         }
     }
 
-    /// Matches the processes whose key no other has, and follows their messages.
     fn match_only(&mut self, ground: Ground, of_message: Ground) {
         let (ones, others) = (self.first.groups(&self.pairs), self.second.groups(&self.pairs));
         for &place in &self.first.order {

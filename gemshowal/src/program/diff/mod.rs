@@ -17,30 +17,24 @@ mod side;
 mod words;
 
 use crate::input::Input;
-use crate::names::Names;
-use crate::output::{Notes, Output};
-use crate::{Failure, Status};
+use crate::{Failure, Status, Task};
 use changes::Changes;
 use colours::{are_alike, first_colours, Ranks};
-use gemshowal::Trace;
 use matching::Mate;
 use pairs::Pairs;
 use report::{Moved, Report, Text};
 use side::{Side, Vocabulary};
 
-pub(crate) fn run(
-    json: bool,
-    input: &mut Input,
-    mut other: Input,
-    out: &mut Output,
-    notes: &mut Notes,
-) -> Result<Status, Failure> {
-    let (first, second) = (input.trace()?, other.trace()?);
-    let (ones, others) = (input.names(&first, notes)?, other.names(&second, notes)?);
-    let has_terms = has_names(&first, &ones) && has_names(&second, &others);
-    let mut vocabulary = Vocabulary::new(has_terms);
-    let sides =
-        [&Side::new(&first, &ones, &mut vocabulary), &Side::new(&second, &others, &mut vocabulary)];
+pub(crate) fn run(task: Task<'_>, mut other: Input) -> Result<Status, Failure> {
+    let Task { json, input, out, notes } = task;
+    let ((first, ones), (second, others)) = (input.read(notes)?, other.read(notes)?);
+    let has_terms = ones.has_terms() && others.has_terms();
+    let events = first.streams().total() + second.streams().total();
+    let mut vocabulary = Vocabulary::new(has_terms, events as usize);
+    let sides = [(&first, &ones), (&second, &others)]
+        .map(|(trace, names)| Side::new(trace, names, &mut vocabulary));
+    drop(vocabulary);
+    let sides = sides.each_ref();
     let found = compare(sides, &mates::find(sides, [&ones, &others], has_terms));
     let texts = [Text::new(input.line_name(), &first, &ones)?, {
         Text::new(other.line_name(), &second, &others)?
@@ -55,12 +49,6 @@ pub(crate) fn run(
     Ok(if report.is_same() { Status::Yes } else { Status::No })
 }
 
-/// Returns whether there are names of a trace. Its file has one for each process.
-fn has_names(trace: &Trace, names: &Names) -> bool {
-    trace.streams().pids().iter().any(|&pid| names.about(pid).is_some())
-}
-
-/// The pairs of processes of two traces, and the differences between those.
 #[derive(Debug)]
 struct Found {
     pairs: Pairs,
@@ -71,7 +59,6 @@ struct Found {
     is_certain: bool,
 }
 
-/// Compares two traces, of which these processes are called alike.
 fn compare(sides: [&Side<'_>; 2], mates: &[Mate]) -> Found {
     let [first, second] = sides;
     if first.len() != second.len() || first.total() != second.total() {

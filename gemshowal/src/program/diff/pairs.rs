@@ -4,7 +4,6 @@
 use super::side::NOBODY;
 use serde::Serialize;
 
-/// The first or the second of the two traces.
 #[derive(Clone, Copy, Debug, PartialEq, Eq)]
 pub(super) enum Which {
     First,
@@ -22,7 +21,6 @@ pub(super) enum Ground {
     Events,
     /// All events alike, as those of others are; these two came first.
     Several,
-    /// The other ends of messages that are alike.
     Message,
     Kinds,
     First,
@@ -47,7 +45,6 @@ pub(super) struct Pair {
 
 #[derive(Debug)]
 pub(super) struct Pairs {
-    /// All pairs in the order in which they were found.
     all: Vec<Pair>,
     /// For each process of the first trace the number of its pair in `all`, or `NOBODY`.
     first: Vec<u32>,
@@ -56,7 +53,6 @@ pub(super) struct Pairs {
 }
 
 impl Pairs {
-    /// Makes an empty matching of this number of processes of both traces.
     pub(super) fn new(first: usize, second: usize) -> Pairs {
         Pairs { all: Vec::new(), first: vec![NOBODY; first], second: vec![NOBODY; second] }
     }

@@ -39,7 +39,6 @@ pub(super) struct Moved {
 }
 
 impl Moved {
-    /// Finds the first event whose counts moved, of traces that are alike but for their counts.
     pub(super) fn find(
         [first, second]: [&Side<'_>; 2],
         [ones, others]: &[Ranks; 2],
@@ -160,7 +159,6 @@ impl<'a> Report<'a> {
         Some((row, now))
     }
 
-    /// Returns the first event whose counts moved, in both traces.
     pub(super) fn moved(&self) -> Option<(Row<'a>, Row<'a>, Difference)> {
         let moved = self.found.moved?;
         let row = self.row(0, moved.pair.first, moved.index)?;

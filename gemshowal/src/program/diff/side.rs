@@ -18,24 +18,25 @@ enum Word<'a> {
     Term(Cow<'a, str>),
 }
 
-#[derive(Debug, Default)]
+#[derive(Debug)]
 pub(super) struct Vocabulary<'a> {
-    /// Kind, label and value. The last two are numbers of the traces, or of `words`.
-    items: HashMap<(u8, u64, u64), Item>,
+    /// Label and kind, and value. Label and value are numbers of the traces, or of `words`.
+    items: HashMap<(u64, u64), Item>,
     words: HashMap<Word<'a>, u64>,
     has_terms: bool,
 }
 
 impl<'a> Vocabulary<'a> {
     /// Makes an empty vocabulary, in which labels and values are compared by their terms, or by
-    /// their numbers.
-    pub(super) fn new(has_terms: bool) -> Vocabulary<'a> {
-        Vocabulary { has_terms, ..Vocabulary::default() }
+    /// their numbers. It has room for half of the events, since a message is at both its ends.
+    pub(super) fn new(has_terms: bool, events: usize) -> Vocabulary<'a> {
+        let items = HashMap::with_capacity(events / 2);
+        Vocabulary { items, words: HashMap::new(), has_terms }
     }
 
-    fn item(&mut self, (kind, label, value): (u8, u64, u64)) -> Item {
+    fn item(&mut self, kind: Kind, label: u64, value: u64) -> Item {
         let next = self.items.len() as Item;
-        *self.items.entry((kind, label, value)).or_insert(next)
+        *self.items.entry((label << 2 | kind as u64, value)).or_insert(next)
     }
 
     fn word(&mut self, term: Option<&'a str>, number: u64) -> u64 {
@@ -47,11 +48,11 @@ impl<'a> Vocabulary<'a> {
     fn item_of(&mut self, event: &Event, names: &'a Names) -> Item {
         let (label, value) = (event.label.0.into(), event.value);
         if !self.has_terms {
-            return self.item((event.kind as u8, label, value));
+            return self.item(event.kind, label, value);
         }
         let label = self.word(term(names.label(event.label)), label);
         let value = self.word(term(names.value(event.value)), value);
-        self.item((event.kind as u8, label, value))
+        self.item(event.kind, label, value)
     }
 }
 
@@ -135,8 +136,6 @@ impl<'a> Side<'a> {
         self.range(place).and_then(|range| self.items.get(range)).unwrap_or_default()
     }
 
-    /// Returns the items of a process, each with what the function makes of the place of the
-    /// process at the other end.
     pub(super) fn items_with(&self, place: usize, of_peer: impl Fn(u32) -> u32) -> Vec<u64> {
         let events = self.items(place).iter().zip(self.peers(place));
         events.map(|(&item, &peer)| u64::from(item) << 32 | u64::from(of_peer(peer))).collect()

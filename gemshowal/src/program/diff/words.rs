@@ -7,7 +7,6 @@ use gemshowal::{Event, Kind, Text};
 use serde::Serialize;
 use std::fmt::{self, Display, Formatter};
 
-/// The numbers of changes, moves and guesses.
 #[derive(Clone, Copy, Debug, Serialize)]
 pub(super) struct Sums {
     pub(super) gone: usize,
@@ -34,7 +33,6 @@ impl Sums {
     }
 }
 
-/// Says why two processes are taken for the same.
 pub(super) fn sentence(ground: Ground) -> &'static str {
     match ground {
         Ground::Name => "they have the same name",
