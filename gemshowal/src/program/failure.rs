@@ -5,7 +5,6 @@ use gemshowal::{CertificateError, CompleteError, OutOfMemory};
 use std::io::{self, ErrorKind};
 use thiserror::Error;
 
-/// The status of a command that didn't fail.
 #[derive(Clone, Copy, Debug, PartialEq, Eq)]
 pub(crate) enum Status {
     Yes = 0,
@@ -89,7 +88,6 @@ impl Failure {
 }
 
 impl Failure {
-    /// Says why the acts of a completion of this trace weren't written.
     pub(crate) fn of_acts(error: CertificateError, name: &str) -> Failure {
         match error {
             CertificateError::Io(reason) => reason.into(),

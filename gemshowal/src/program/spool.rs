@@ -30,7 +30,6 @@ impl Spool {
         }
     }
 
-    /// Moves the held bytes to the file.
     fn pour(&mut self) -> io::Result<()> {
         if self.file.is_none() {
             self.file = Some(nameless()?);

@@ -270,7 +270,6 @@ impl<'a> Drawing<'a> {
         write!(out, "<circle class=\"{circle}\" cx=\"{x}\" cy=\"{y}\" r=\"3.5\"/>")
     }
 
-    /// Draws the arrow of a message, dashed if one of its ends wasn't reported.
     fn arrow(&self, out: &mut String, row: &Row, number: usize) -> fmt::Result {
         let receive = self.receive(row);
         let are_reported =

@@ -160,7 +160,6 @@ pub(crate) fn headline(causes: &Causes<'_>) -> String {
     format!("fits: {events} of {processes}{with}{}{behind}", added.join(" and "))
 }
 
-/// Says on what a chart's sentences rest, if on anything.
 pub(crate) fn chart_note(grades: impl Iterator<Item = Grade>) -> Option<&'static str> {
     let is_under = |grade| matches!(grade, Grade::Under(_));
     grades.into_iter().any(is_under).then_some(

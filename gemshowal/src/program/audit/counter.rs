@@ -85,7 +85,6 @@ impl Counter {
         }
     }
 
-    /// Notes the counter before the first send or print.
     fn begin(&mut self, stood: u64) {
         if stood > self.clock {
             self.before = stood;

@@ -21,7 +21,6 @@ pub(super) enum Asked {
     Second,
 }
 
-/// The answer of another program, compared with this one.
 #[derive(Debug)]
 pub(super) struct Comparison {
     pub(super) asked: Asked,
@@ -64,7 +63,6 @@ impl Display for Comparison {
     }
 }
 
-/// Asks the programs that the options name about a trace.
 pub(super) fn ask(
     args: &Audit,
     trace: &Trace,

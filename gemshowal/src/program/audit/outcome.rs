@@ -13,11 +13,9 @@ pub(crate) struct Outcome {
 }
 
 pub(crate) enum Said {
-    /// A run has the trace: these acts.
     Fits(Fits),
     /// A run has the trace with events that nobody reported.
     Completed(Completion),
-    /// No run has the trace without a reset.
     Never(Against),
 }
 

@@ -2,7 +2,7 @@
 
 use super::missing::{Known, Lack};
 use super::others::{Asked, Comparison};
-use super::sentences::Sentences;
+use super::sentences::{of_processes, Sentences};
 use super::{Audited, Auditor, Said};
 use crate::object::{Number, Place as PlaceObject};
 use crate::output::Output;
@@ -13,9 +13,6 @@ use gemshowal::{OutOfMemory, Pid};
 use serde::Serialize;
 use std::collections::BTreeMap;
 use std::io::{self, Write};
-
-/// The greatest number of processes that are named.
-const LISTED: usize = 20;
 
 pub(super) fn write_copies(
     shown: &Shown<'_>,
@@ -80,7 +77,6 @@ pub(super) fn write_parts(
     Ok(())
 }
 
-/// Returns the findings about a part between resets.
 fn found(auditor: &Auditor<'_>, part: &super::Part) -> Result<Part, OutOfMemory> {
     let view = auditor.view.part(&part.trace, &part.kept, auditor.view.is_cut);
     let shown = part.outcome.shown(&view);
@@ -136,12 +132,12 @@ fn reset_at(view: &View<'_>, before: &[&Kept], behind: &[&Kept]) -> String {
         })
         .collect();
     if !between.is_empty() {
-        return few(&between);
+        return of_processes(&between, String::clone);
     }
     let named = |is_in: &dyn Fn(&Pid) -> bool| {
         let names =
             pids.iter().filter(|pid| is_in(pid)).map(|pid| shown.process(*pid).into_owned());
-        few(&names.collect::<Vec<_>>())
+        of_processes(&names.collect::<Vec<_>>(), String::clone)
     };
     format!(
         "behind all events of {}, and before all of {}",
@@ -150,15 +146,6 @@ fn reset_at(view: &View<'_>, before: &[&Kept], behind: &[&Kept]) -> String {
     )
 }
 
-fn few(said: &[String]) -> String {
-    let shown = said.iter().take(LISTED).cloned().collect::<Vec<_>>().join(", ");
-    match said.len().saturating_sub(LISTED) as u64 {
-        0 => shown,
-        more => format!("{shown}, and so of {} more processes", grouped(more)),
-    }
-}
-
-/// The findings about a trace, or about a part of one, for programs.
 #[derive(Serialize)]
 pub(super) struct Part {
     #[serde(skip_serializing_if = "Option::is_none")]
@@ -234,7 +221,7 @@ impl Part {
 impl MissingObject {
     fn new(sentences: &Sentences<'_>) -> MissingObject {
         let (shown, missing) = (sentences.shown, sentences.missing);
-        let places = |places: &[Place]| places.iter().map(|&it| place(shown, it)).collect();
+        let places = |places: &[Place]| places.iter().map(|&it| PlaceObject::shown(shown, it)).collect();
         let counts = |counts: Vec<(Pid, u64)>| {
             let named = |(pid, number)| (shown.process(pid).into_owned(), Number(number));
             counts.into_iter().map(named).collect()
@@ -251,19 +238,15 @@ impl MissingObject {
     }
 }
 
-fn place(shown: &Shown<'_>, at: Place) -> PlaceObject {
-    PlaceObject { event: shown.event(at), ..PlaceObject::new(shown.view.names, at) }
-}
-
 impl Unreported {
     fn new(sentences: &Sentences<'_>, lack: &Lack) -> Unreported {
         let shown = sentences.shown;
         let what = sentences.lack(lack);
         let (certain, received_as, sent_as, before) = match *lack {
             Lack::Added(_, known) => (known == Known::Certain, None, None, None),
-            Lack::Hidden(receive) => (true, Some(place(shown, receive)), None, None),
+            Lack::Hidden(receive) => (true, Some(PlaceObject::shown(shown, receive)), None, None),
             Lack::Unreceived(send, before) => {
-                (false, None, Some(place(shown, send)), Some(sentences.before(before)))
+                (false, None, Some(PlaceObject::shown(shown, send)), Some(sentences.before(before)))
             }
         };
         Unreported { what, certain, received_as, sent_as, before }

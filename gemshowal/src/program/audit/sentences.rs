@@ -20,7 +20,6 @@ pub(crate) struct Sentences<'a> {
     pub(super) missing: &'a Missing,
     /// Tells whether the collectors lost events.
     pub(super) is_lossy: bool,
-    /// The trace's name on a command line.
     pub(super) name: &'a str,
 }
 
@@ -171,7 +170,6 @@ impl Sentences<'_> {
         format!("{messages} {has} no reported receive, and may still wait{ways}")
     }
 
-    /// Writes all that an engineer asks after the headline.
     pub(crate) fn write_details(&self, out: &mut Output) -> io::Result<()> {
         if let Said::Never(against) = &self.outcome.said {
             return against.write_details(self.shown, out);
@@ -263,7 +261,6 @@ impl Sentences<'_> {
         }
     }
 
-    /// Describes an event that nobody reported, and says where it belongs.
     pub(super) fn lack(&self, lack: &Lack) -> String {
         let event = |(pid, index): Place| self.shown.streams.event(pid, index);
         match *lack {
@@ -292,7 +289,6 @@ impl Sentences<'_> {
         }
     }
 
-    /// Names the event that an unreported receive comes before.
     pub(super) fn before(&self, before: Before) -> String {
         match before {
             Before::Event(place) => self.shown.event(place),
@@ -423,7 +419,6 @@ fn by_kind([sends, receives]: [u64; 2], more: &str) -> String {
     said.map(|(number, kind)| count(number, kind)).collect::<Vec<_>>().join(" and ")
 }
 
-/// Lists the first things, and says how many more there are.
 fn listed<T>(things: &[T], say: impl Fn(&T) -> String, more: &str) -> String {
     let mut said: Vec<String> = things.iter().take(LISTED).map(say).collect();
     if let Some(rest) = things.len().checked_sub(LISTED).filter(|rest| *rest > 0) {
@@ -432,8 +427,7 @@ fn listed<T>(things: &[T], say: impl Fn(&T) -> String, more: &str) -> String {
     said.join(", ")
 }
 
-/// Joins what is said about each of several processes.
-fn of_processes<T>(things: &[T], say: impl Fn(&T) -> String) -> String {
+pub(super) fn of_processes<T>(things: &[T], say: impl Fn(&T) -> String) -> String {
     let more = things.len().saturating_sub(LISTED);
     let said = listed(things.get(..things.len() - more).unwrap_or_default(), say, "");
     match more as u64 {

@@ -10,9 +10,7 @@ use serde::Serialize;
 /// The greatest number of a queue's messages that are shown.
 const SHOWN: usize = 10;
 
-/// The findings about acts.
 pub(super) struct Found {
-    /// The process whose event isn't reported.
     pub(super) pid: Pid,
     /// The act that reports something else, and its report; none if the acts end.
     pub(super) act: Option<Refused>,
@@ -51,7 +49,6 @@ pub(super) struct Waiting {
     pub(super) is_due: bool,
 }
 
-/// The next report, or the reasons why there is none.
 pub(super) struct Next {
     /// The act that comes nearest to it, and the report of this act.
     pub(super) tried: Option<(Act, Option<Event>)>,
@@ -60,7 +57,6 @@ pub(super) struct Next {
 }
 
 impl Found {
-    /// Explains the act of this number, which reports something else.
     pub(super) fn before(trace: &Trace, acts: &[Act], number: u64) -> Result<Found, OutOfMemory> {
         let before = acts.get(..number as usize).unwrap_or(acts);
         let Some(act) = acts.get(number as usize) else {
@@ -73,7 +69,6 @@ impl Found {
         Ok(Found { act: Some(refused), ..Found::of(trace, &run, act.actor())? })
     }
 
-    /// Explains the end of the acts, after which events of a process are left.
     pub(super) fn at_end(trace: &Trace, acts: &[Act], pid: Pid) -> Result<Found, OutOfMemory> {
         let mut run = Run::of(trace.streams(), acts, pid)?;
         let found = Found::of(trace, &run, pid)?;

@@ -28,7 +28,6 @@ enum Fit {
     Exact,
     /// The message of the receive, but for a reset, which took its token.
     Wiped,
-    /// A message with the sender and the count, and these differences.
     Differs(Differences),
     Other,
 }
@@ -68,7 +67,6 @@ pub(super) fn nearest(found: Result<u64, Missing>) -> Option<u64> {
     }
 }
 
-/// The messages that wait for one process, in the order in which they were sent.
 #[derive(Debug)]
 pub(super) struct Queue {
     pid: Pid,

@@ -10,15 +10,12 @@ use std::fmt::{self, Display, Formatter};
 pub(super) enum Reason {
     NoTracer,
     NoToken,
-    /// The token of the event's process has another label.
     Label,
-    /// The token of the event's process has no flag for the event's kind.
     Flag(Kind),
     /// The clock of the event's process, at this value, doesn't grow to the event's count.
     Clock(u64),
     /// The last count of the event's process, at this value, isn't the event's prev.
     Last(u64),
-    /// The event's message isn't among those that wait.
     Message(Missing),
 }
 

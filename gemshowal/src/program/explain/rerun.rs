@@ -50,7 +50,6 @@ impl<'a> Run<'a> {
         self.streams.event(pid, self.next_index(pid))
     }
 
-    /// Says why no message in the queue is that of a receive.
     pub(super) fn missing(&self, event: &Event) -> Option<Missing> {
         (event.kind == Kind::Receive).then(|| self.queue.find(event).err())?
     }
