@@ -64,12 +64,10 @@ run(Program, Command, Input) ->
 programs() ->
     [File || {ok, File} <- [find("seqaudit")]] ++ model().
 
-%% The model as a program, if there is a Python to run it.
+%% The model as a program, if there is a Python to run it, and the repository around the application.
 model() ->
-    case os:find_executable("python3") of
-        false -> [];
-        _ -> [filename:join([tests(), "models", "slow_seqaudit.py"])]
-    end.
+    Model = filename:join([tests(), "models", "slow_seqaudit.py"]),
+    [Model || os:find_executable("python3") =/= false, filelib:is_regular(Model)].
 
 %% A program: where its variable says, or what was built last.
 find(Name) ->
@@ -101,5 +99,5 @@ tools() ->
                                                  {ok, File} -> File;
                                                  none -> "skipped, it isn't built"
                                              end]) || Name <- ["seqaudit", "seqtool", "gemshowal"]],
-    [] =:= model() andalso io:format("there is no python3 for the model: skipped~n"),
+    [] =:= model() andalso io:format("model:     skipped, there is no python3, or no repository~n"),
     ok.

@@ -3,7 +3,8 @@
 
 -export([rebar3_test_/0, metadata_test/0, release_test/0, xref_test_/0, documented_test/0, unload_test_/0]).
 
-%% rebar3 compiles, makes the pages of the modules and the escript, with nothing from the network.
+%% rebar3 compiles, runs the quick tests, makes the pages of the modules and the escript, with
+%% nothing from the network and nothing of the repository around the application.
 %% The escript collects and converts from another folder, as the command does.
 rebar3_test_() ->
     {timeout, 600, fun() ->
@@ -21,7 +22,8 @@ packaged(Rebar, Folder) ->
                                       "--exclude=test/ebin rebar.config seqaudit-node src test | tar -x -C ",
                                       Folder]),
     [{0, _} = seqaudit_test_shell:run(["cd ", Folder, " && HOME=", Folder, " ", Rebar, " ", Words])
-     || Words <- ["compile", "xref", "edoc", "as escript escriptize"]],
+     || Words <- ["compile", "xref"] ++ ["eunit" || code:which(eunit) =/= non_existing]
+            ++ ["edoc", "as escript escriptize"]],
     true = filelib:is_regular(filename:join([Folder, "doc", "index.html"])),
     Command = filename:join([Folder, "_build", "escript", "bin", "seqaudit-node"]),
     {0, <<"usage: seqaudit-node COMMAND", _/binary>>} = seqaudit_test_shell:run(["cd / && ", Command, " --help"]),
