@@ -2,8 +2,8 @@
 //! leaves.
 
 use crate::entries::Entries;
-use crate::hidden_sends::HiddenSend;
-use crate::links::short;
+use crate::hidden_sends::{HiddenSend, split_hidden};
+use crate::short::short;
 use lack_needs::{Left, is_stamp};
 use st_core::{Event, Kind, Label, Pid, Serial, Streams};
 use std::alloc::{AllocError, Global};
@@ -150,12 +150,6 @@ impl Asks {
         }
         Ok(fed)
     }
-}
-
-/// The hidden sends of the processes up to this one, and the others.
-pub(crate) fn split_hidden(hidden: &[HiddenSend], pid: Pid) -> (&[HiddenSend], &[HiddenSend]) {
-    let count = hidden.partition_point(|send| send.event.from <= pid);
-    hidden.split_at(count)
 }
 
 /// The stamps that ask of the processes up to this one, and the others.

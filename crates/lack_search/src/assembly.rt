@@ -1,12 +1,13 @@
 //! The whole streams of a candidate, put together from its parts.
 
-use crate::asks::{Ask, split_asks, split_hidden};
+use crate::asks::{Ask, split_asks};
 use crate::candidate::{Candidate, items_from};
 use crate::entries::{Entries, Origin};
-use crate::hidden_sends::HiddenSend;
+use crate::hidden_sends::{HiddenSend, split_hidden};
 use crate::inventions::Invention;
-use crate::links::{links_of, short};
+use crate::links::links_of;
 use crate::positions::Positions;
+use crate::short::short;
 use st_core::{Draft, Event, Pid, Sequence, Streams};
 use st_pair::Pairing;
 use std::alloc::{AllocError, Global};

@@ -1,19 +1,23 @@
 //! Hidden sends: sends that only their receives tell of.
 
-use crate::links::short;
-use crate::sorting::Places;
+ghost use Rattle.std.specs.Prelude.{◌≡◌, ◌++◌, All, IfOk, IfSome, OnOk};
+ghost use Rattle.std.specs.Prelude.{option_map};
+ghost use Rattle.st_pair.specs.Places.{event_at};
+ghost use Rattle.lack_search.specs.Receipts.{hidden_send_of, HasListedSender, IsReceiptOf};
+ghost use Rattle.lack_search.specs.Sends.{AreSendsIn, IsSendIn};
+
+use crate::short::short;
 use st_core::{Event, Kind, Pid, Streams};
 use st_pair::{Pairing, Source};
 use std::alloc::{AllocError, Global};
 
-/// The receive of a hidden send. Indexes have half the memory of a `usize` in all of the candidate:
-/// one past what they hold is wrong, and the judge refuses the outcome of it.
+/// The receive of a hidden send.
 #[derive(Clone, Copy, PartialEq, Eq, PartialOrd, Ord)]
 struct Receipt {
+    /// The place of its sender, which comes first in the order.
+    sender: u32,
     /// The count of the message.
     this: u64,
-    /// The place of its sender.
-    sender: u32,
     /// The index of the receive among the events of its process.
     index: u32,
     /// The process that received it.
@@ -26,10 +30,48 @@ pub(crate) struct HiddenSend {
     /// The send, as its receive tells of it.
     pub event: Event,
     /// The index of its sender's reported event that it is before, the number of these events
-    /// if it is behind all; 0 until the walk has found it.
+    /// if it is after all; 0 until the walk has found it.
     pub place: u32,
     /// The index of its receive among its receiver's reported events.
     pub receipt: u32,
+}
+
+/// The hidden sends of the processes up to this one, and the others.
+pub(crate) fn split_hidden(hidden: &[HiddenSend], pid: Pid) -> (&[HiddenSend], &[HiddenSend])
+    ensures { result.0.now ++ result.1.now ≡ hidden.now }
+{
+    let count = hidden.partition_point(|send| send.event.from <= pid);
+    hidden.split_at(count)
+}
+
+/// The receipt of the event at this index of the process, if it is a receive of a hidden send whose
+/// sender is listed.
+#[tactic(auto, using(std::proofs::lemmas::Option::slice_get_within))]
+fn receipt_of(
+    streams: &Streams,
+    pairing: &Pairing,
+    pid: Pid,
+    index: usize,
+    event: &Event,
+) -> Option<Receipt>
+    ensures receipt { IfSome result (IsReceiptOf pid index event.now) }
+    ensures sender { IfSome result (HasListedSender streams.now) }
+{
+    match event.kind {
+        Kind::Send | Kind::Print => return None,
+        Kind::Receive => {}
+    }
+    match pairing.source(pid, index as u64) {
+        None | Some(Source::Event(..)) => return None,
+        Some(Source::Hidden) => {}
+    }
+    let sender = streams.place_of(event.from)?;
+    Some(Receipt {
+        this: event.serial.this,
+        sender: short(sender),
+        index: short(index),
+        to: pid,
+    })
 }
 
 /// Notes the receives of hidden sends among a process's events.
@@ -38,85 +80,67 @@ fn note_receipts(
     pairing: &Pairing,
     pid: Pid,
     receipts: &mut Vec<Receipt>,
-) -> Result<(), AllocError> {
+) -> Result<(), AllocError>
+    requires { All (HasListedSender streams.now) receipts.old.items }
+    ensures { OnOk result (All (HasListedSender streams.now) receipts.new.items) }
+{
     for (index, event) in streams.events(pid).iter().enumerate() {
-        if event.kind != Kind::Receive
-            || pairing.source(pid, index as u64) != Some(Source::Hidden)
-        {
+        let Some(receipt) = receipt_of(streams, pairing, pid, index, event) else {
             continue;
-        }
-        if let Some(sender) = streams.place_of(event.from) {
-            receipts.push(Receipt {
-                this: event.serial.this,
-                sender: short(sender),
-                index: short(index),
-                to: pid,
-            })?;
-        }
+        };
+        receipts.push(receipt)?;
     }
     Ok(())
 }
 
-/// The receipts of so many senders, by sender.
-fn dealt_by_sender(
+/// The hidden send of a receipt; none if the streams haven't its receive.
+fn send_of(streams: &Streams, receipt: &Receipt) -> Option<HiddenSend>
+    ensures value { result ≡ option_map (hidden_send_of receipt.now)
+        (event_at streams.now receipt.now.to receipt.now.index) }
+    ensures in_streams { IfSome result (IsSendIn streams.now) }
+{
+    let receive = streams.event(receipt.to, u64::from(receipt.index))?;
+    Some(HiddenSend {
+        event: Event {
+            kind: Kind::Send,
+            ..receive
+        },
+        place: 0,
+        receipt: receipt.index,
+    })
+}
+
+/// The hidden sends of these receipts, without places.
+fn sends_of(
     alloc: Global,
+    streams: &Streams,
     receipts: &[Receipt],
-    senders: usize,
-) -> Result<Vec<Receipt>, AllocError> {
-    let sender_of = |receipt: &Receipt| Some(receipt.sender as usize);
-    let mut places = Places::of(alloc, receipts, senders, &sender_of)?;
-    let mut sorted = Vec::new(alloc);
-    sorted.extend_from_slice(receipts)?;
+) -> Result<Vec<HiddenSend>, AllocError>
+    ensures { IfOk result (λ sends. AreSendsIn streams.now sends.items) }
+{
+    let mut hidden = Vec::with_capacity(alloc, receipts.len())?;
     for receipt in receipts {
-        places.put(&mut sorted, receipt.sender as usize, *receipt);
+        let Some(send) = send_of(streams, receipt) else {
+            continue;
+        };
+        hidden.push(send)?;
     }
-    Ok(sorted)
+    Ok(hidden)
 }
 
-/// The receipts of so many senders, by sender and count. They are dealt out to their senders first:
-/// those of one are few, and are sorted where memory is near.
-fn by_sender(
-    alloc: Global,
-    receipts: &[Receipt],
-    senders: usize,
-) -> Result<Vec<Receipt>, AllocError> {
-    let mut sorted = dealt_by_sender(alloc, receipts, senders)?;
-    let mut rest = sorted.as_mut_slice();
-    for sender in 0..senders {
-        let count = rest.partition_point(|receipt| receipt.sender as usize <= sender);
-        let (own, later) = rest.split_at_mut(count);
-        own.sort_unstable();
-        rest = later;
-    }
-    Ok(sorted)
-}
-
-/// The hidden sends of streams, by sender and count. They have no places yet. What is sorted is
-/// small, and each send is taken from its receive once.
+/// The hidden sends of streams, by sender and count, without places. What is sorted is small, and
+/// each send is taken from its receive once.
 pub(crate) fn hidden_sends(
     alloc: Global,
     streams: &Streams,
     pairing: &Pairing,
-) -> Result<Vec<HiddenSend>, AllocError> {
+) -> Result<Vec<HiddenSend>, AllocError>
+    ensures { IfOk result (λ sends. AreSendsIn streams.now sends.items) }
+{
     let mut receipts = Vec::new(alloc);
     for &pid in streams.pids() {
         note_receipts(streams, pairing, pid, &mut receipts)?;
     }
-    let sorted = by_sender(alloc, &receipts, streams.pids().len())?;
-    drop(receipts);
-    let mut hidden = Vec::with_capacity(alloc, sorted.len())?;
-    for receipt in &sorted {
-        if let Some(receive) = streams.event(receipt.to, u64::from(receipt.index)) {
-            let event = Event {
-                kind: Kind::Send,
-                ..receive
-            };
-            hidden.push(HiddenSend {
-                event,
-                place: 0,
-                receipt: receipt.index,
-            })?;
-        }
-    }
-    Ok(hidden)
+    receipts.sort_unstable();
+    sends_of(alloc, streams, &receipts)
 }

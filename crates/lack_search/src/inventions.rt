@@ -1,8 +1,8 @@
 //! The sends of the messages that are invented, and their prevs.
 
-use crate::asks::{Ask, Message, split_asks, split_hidden};
+use crate::asks::{Ask, Message, split_asks};
 use crate::entries::Entries;
-use crate::hidden_sends::HiddenSend;
+use crate::hidden_sends::{HiddenSend, split_hidden};
 use crate::senders::Turn;
 use crate::sorting::Places;
 use lack_needs::{Left, is_stamp};

@@ -12,11 +12,6 @@ use st_core::{Event, Kind, Pid, Sequence, Streams};
 use st_pair::Pairing;
 use std::alloc::{AllocError, Global};
 
-/// An index in half the memory. One past what that holds is a wrong link, which the judge refuses.
-pub(crate) fn short(index: usize) -> u32 {
-    index.min(u32::MAX as usize) as u32
-}
-
 /// One end of a message: an event of the whole streams.
 #[derive(Clone, Copy)]
 struct End {

@@ -7,7 +7,7 @@
 
 use crate::asks::{Ask, Asks, Message};
 use crate::candidate::items_from;
-use crate::links::short;
+use crate::short::short;
 use st_core::{Event, Kind, Label, Pid, Streams};
 use st_pair::Pairing;
 use std::alloc::{AllocError, Global};

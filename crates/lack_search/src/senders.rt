@@ -7,7 +7,7 @@
 use crate::asks::{Ask, Message};
 use crate::candidate::items_from;
 use crate::hidden_sends::HiddenSend;
-use crate::links::short;
+use crate::short::short;
 use crate::sorting::Places;
 use crate::unlisted_pids::UnlistedPids;
 use lack_needs::is_stamp;

@@ -2,9 +2,10 @@
 //! process.
 //!
 //! The gaps of a stretch are the places among its receives, counted from 0: gap 0 comes before all
-//! of them, and gap g right behind the g-th.
+//! of them, and gap g right after the g-th.
 
-use crate::candidate::items_between;
+ghost use Rattle.std.specs.Prelude.{◌≡◌, ◌+◌, ◌-◌, ◌≤◌, length, slice_index, vec_len, IfSome, OnOk};
+
 use st_core::{Event, Label};
 use std::alloc::{AllocError, Global};
 
@@ -25,15 +26,12 @@ const REACH: usize = 4;
 /// How many items pass. Those that pass come first, and are most often about as many as `near`.
 fn count_passing<T, F: Fn(&T) -> bool>(items: &[T], near: usize, passes: &F) -> usize
     requires { F.IsAlwaysCallable passes.now }
+    ensures { result ≤ length items.now }
 {
     let start = near.saturating_sub(REACH);
     let end = near.saturating_add(REACH);
-    let window = items_between(items, start, end);
-    let (Some(first), Some(last)) = (window.first(), window.last()) else {
-        return items.partition_point(|item| passes(item));
-    };
-    if passes(first) && !passes(last) {
-        return start.saturating_add(window.partition_point(|item| passes(item)));
+    if start < end && end <= items.len() && passes(&items[start]) && !passes(&items[end - 1]) {
+        return start + items[start..end].partition_point(|item| passes(item));
     }
     items.partition_point(|item| passes(item))
 }
@@ -42,23 +40,26 @@ fn count_passing<T, F: Fn(&T) -> bool>(items: &[T], near: usize, passes: &F) -> 
 /// less: it begins near where the last one ended. They are filled anew for each stretch, so that their
 /// memory is taken once.
 #[derive(Drop)]
-pub(crate) struct Ground {
+pub(crate) struct GapTables {
     /// The clock at each gap: the greatest count of what the process reported before it.
     clocks: Vec<u64>,
-    /// The count and the gap behind each receive, sorted.
+    /// The count of each receive and the gap after it, sorted.
     by_count: Vec<(u64, usize)>,
-    /// The count, the label and the gap behind each receive, sorted.
+    /// The count and the label of each receive and the gap after it, sorted.
     by_label: Vec<(u64, Label, usize)>,
     /// Where the last search in each of them ended.
     near_clock: usize,
     near_count: usize,
     near_label: usize,
+    ghost gaps: { vec_len clocks ≤ vec_len by_count + 1 },
 }
 
-impl Ground {
+impl GapTables {
     /// Tables that aren't filled yet.
-    pub(crate) fn new(alloc: Global) -> Ground {
-        Ground {
+    pub(crate) fn new(alloc: Global) -> GapTables
+        ensures { vec_len result.by_count ≡ 0 }
+    {
+        GapTables {
             clocks: Vec::new(alloc),
             by_count: Vec::new(alloc),
             by_label: Vec::new(alloc),
@@ -68,21 +69,34 @@ impl Ground {
         }
     }
 
+    /// Adds a receive, after which the clock is this.
+    fn add(&mut self, receive: &Event, clock: u64) -> Result<(), AllocError>
+        ensures { OnOk result (vec_len self.new.by_count ≡ vec_len self.old.by_count + 1) }
+    {
+        let count = receive.serial.this;
+        let gap = self.by_count.len().saturating_add(1);
+        self.by_label.push((count, receive.label, gap))?;
+        self.by_count.push((count, gap))?;
+        self.clocks.push(clock)?;
+        Ok(())
+    }
+
     /// Fills the tables from a stretch.
-    pub(crate) fn fill(&mut self, stretch: Stretch<'_>) -> Result<(), AllocError> {
+    pub(crate) fn fill(&mut self, stretch: Stretch<'_>) -> Result<(), AllocError>
+        ensures { OnOk result (vec_len self.new.by_count ≡ length stretch.entry.receives.now) }
+    {
         self.clocks.clear();
         self.by_count.clear();
         self.by_label.clear();
         // No stamp is late, so that the stamp before counts higher than all before it.
-        let mut clock = stretch.before.map_or(0, |stamp| stamp.serial.this);
+        let mut clock = match stretch.before {
+            None => 0,
+            Some(stamp) => stamp.serial.this,
+        };
         self.clocks.push(clock)?;
         for receive in stretch.receives {
-            let count = receive.serial.this;
-            clock = clock.max(count);
-            let gap = self.clocks.len();
-            self.clocks.push(clock)?;
-            self.by_count.push((count, gap))?;
-            self.by_label.push((count, receive.label, gap))?;
+            clock = clock.max(receive.serial.this);
+            self.add(receive, clock)?;
         }
         self.by_count.sort()?;
         self.by_label.sort()?;
@@ -90,62 +104,106 @@ impl Ground {
     }
 
     /// The last gap.
-    pub(crate) fn end(&self) -> usize {
+    pub(crate) fn end(&self) -> usize
+        ensures { result ≡ vec_len self.now.by_count }
+    {
         self.by_count.len()
     }
 
-    /// The clock at a gap.
-    pub(crate) fn clock(&self, gap: usize) -> u64 {
-        self.clocks.get(gap).copied().unwrap_or(0)
+    /// The clock at a gap; 0 past the last.
+    pub(crate) fn clock(&self, gap: usize) -> u64
+        ensures { result ≡ slice_index self.now.clocks.items gap }
+    {
+        if gap < self.clocks.len() {
+            return self.clocks[gap];
+        }
+        0
     }
 
     /// The last gap at which the clock is lower than this count.
-    pub(crate) fn last_below(&mut self, count: u64) -> usize {
+    pub(crate) fn last_below(&mut self, count: u64) -> usize
+        ensures gap { result ≤ vec_len self.new.by_count }
+        ensures tables { self.new.by_count ≡ self.old.by_count }
+    {
         let below = |clock: &u64| *clock < count;
         self.near_clock = count_passing(&self.clocks, self.near_clock, &below);
         self.near_clock.saturating_sub(1)
     }
 
     /// The last gap at which the clock isn't above this count.
-    pub(crate) fn last_up_to(&mut self, count: u64) -> usize {
+    pub(crate) fn last_up_to(&mut self, count: u64) -> usize
+        ensures gap { result ≤ vec_len self.new.by_count }
+        ensures tables { self.new.by_count ≡ self.old.by_count }
+    {
         let up_to = |clock: &u64| *clock <= count;
         self.near_clock = count_passing(&self.clocks, self.near_clock, &up_to);
         self.near_clock.saturating_sub(1)
     }
 
     /// How many of the receives by count come up to this count and gap.
-    fn rows_up_to(&mut self, count: u64, gap: usize) -> usize {
+    fn rows_up_to(&mut self, count: u64, gap: usize) -> usize
+        ensures rows { result ≤ vec_len self.new.by_count }
+        ensures tables { self.new.by_count ≡ self.old.by_count }
+    {
         let up_to = |row: &(u64, usize)| *row <= (count, gap);
         self.near_count = count_passing(&self.by_count, self.near_count, &up_to);
         self.near_count
     }
 
-    /// The last gap right behind a receive of this count, among those up to a limit.
-    pub(crate) fn last_behind(&mut self, count: u64, limit: usize) -> Option<usize> {
+    /// The last gap right after a receive of this count, among those up to a limit.
+    pub(crate) fn last_after(&mut self, count: u64, limit: usize) -> Option<usize>
+        ensures gap { IfSome result (λ gap. gap ≤ limit) }
+        ensures tables { self.new.by_count ≡ self.old.by_count }
+    {
         let rows = self.rows_up_to(count, limit);
-        let row = self.by_count.get(rows.checked_sub(1)?)?;
-        (row.0 == count).then_some(row.1)
+        if rows == 0 {
+            return None;
+        }
+        let row = self.by_count[rows - 1];
+        if row.0 == count && row.1 <= limit {
+            return Some(row.1);
+        }
+        None
     }
 
-    /// The first gap right behind a receive of this count, among those past a gap and up to a
+    /// The first gap right after a receive of this count, among those past a gap and up to a
     /// limit.
-    pub(crate) fn next_behind(&mut self, count: u64, gap: usize, limit: usize) -> Option<usize> {
+    pub(crate) fn next_after(&mut self, count: u64, gap: usize, limit: usize) -> Option<usize>
+        ensures gap { IfSome result (λ next. next ≤ limit) }
+        ensures tables { self.new.by_count ≡ self.old.by_count }
+    {
         let rows = self.rows_up_to(count, gap);
-        let row = self.by_count.get(rows)?;
-        (row.0 == count && row.1 <= limit).then_some(row.1)
+        if rows >= self.by_count.len() {
+            return None;
+        }
+        let row = self.by_count[rows];
+        if row.0 == count && row.1 <= limit {
+            return Some(row.1);
+        }
+        None
     }
 
-    /// The same for the receives of this label.
+    /// The first gap right after a receive of this count and label, among those past a gap and up to
+    /// a limit.
     pub(crate) fn next_of_label(
         &mut self,
         count: u64,
         label: Label,
         gap: usize,
         limit: usize,
-    ) -> Option<usize> {
+    ) -> Option<usize>
+        ensures gap { IfSome result (λ next. next ≤ limit) }
+        ensures tables { self.new.by_count ≡ self.old.by_count }
+    {
         let up_to = |row: &(u64, Label, usize)| *row <= (count, label, gap);
         self.near_label = count_passing(&self.by_label, self.near_label, &up_to);
-        let row = self.by_label.get(self.near_label)?;
-        (row.0 == count && row.1 == label && row.2 <= limit).then_some(row.2)
+        if self.near_label >= self.by_label.len() {
+            return None;
+        }
+        let row = self.by_label[self.near_label];
+        if row.0 == count && row.1 == label && row.2 <= limit {
+            return Some(row.2);
+        }
+        None
     }
 }

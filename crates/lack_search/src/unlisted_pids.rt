@@ -1,15 +1,24 @@
 //! Processes that the streams don't list.
 
+ghost use Rattle.std.specs.Prelude.{◌≡◌, [], false, IfOk, IfSome};
+ghost use Rattle.std.specs.List.Sorted.{IsPermutation};
+ghost use Rattle.st_core.specs.Streams.{lists};
+ghost use Rattle.lack_search.specs.Unlisted.{pid_after, AreUnlisted};
+
+use lack_needs::is_unlisted;
 use st_core::{Pid, Streams};
 use std::alloc::{AllocError, Global};
 
 /// The pid that is tried after this one: numbers go down on a node, then comes the next node, node
 /// 0 after the last.
-fn pid_after(pid: Pid) -> Pid {
-    match pid.number().checked_sub(1) {
-        Some(number) => Pid::on(pid.node(), number),
-        None => Pid::on(pid.node().wrapping_add(1), u16::MAX),
+fn pid_after(pid: Pid) -> Pid
+    ensures { result ≡ pid_after pid }
+{
+    let number = pid.number();
+    if number == 0 {
+        return Pid::on(pid.node().wrapping_add(1), u16::MAX);
     }
+    Pid::on(pid.node(), number - 1)
 }
 
 /// Pids that streams don't list, as many as were asked for.
@@ -24,20 +33,28 @@ pub(crate) struct UnlistedPids {
 impl UnlistedPids {
     /// None yet. They are sought from the greatest number downwards on the node of the least listed
     /// pid, since a node gives the low numbers first.
-    pub(crate) fn new(alloc: Global, streams: &Streams) -> UnlistedPids {
-        let node = streams.pids().first().map_or(0, |pid| pid.node());
+    pub(crate) fn new(alloc: Global, streams: &Streams) -> UnlistedPids
+        ensures { result.pids.items ≡ [] }
+    {
+        let node = match streams.pids().first() {
+            None => 0,
+            Some(pid) => pid.node(),
+        };
         UnlistedPids {
             pids: Vec::new(alloc),
             next: Pid::on(node, u16::MAX),
         }
     }
 
-    /// The next pid that isn't listed.
-    fn find_next(&mut self, streams: &Streams) -> Option<Pid> {
+    /// The next pid that isn't listed; none if all are.
+    fn find_next(&mut self, streams: &Streams) -> Option<Pid>
+        ensures unlisted { IfSome result (λ pid. lists streams.now pid ≡ false) }
+        ensures pids { self.new.pids ≡ self.old.pids }
+    {
         for _ in 0..=u32::MAX {
             let pid = self.next;
             self.next = pid_after(pid);
-            if streams.place_of(pid).is_none() {
+            if is_unlisted(streams, pid) {
                 return Some(pid);
             }
         }
@@ -45,14 +62,19 @@ impl UnlistedPids {
     }
 
     /// The pid with this number among them, which is at most as many as there are; it finds one
-    /// more if there are no more.
+    /// more if there are no more. None if all pids are listed.
     pub(crate) fn nth(
         &mut self,
         streams: &Streams,
         number: usize,
-    ) -> Result<Option<Pid>, AllocError> {
-        if let Some(pid) = self.pids.get(number) {
-            return Ok(Some(*pid));
+    ) -> Result<Option<Pid>, AllocError>
+        ensures pid { AreUnlisted streams.now self.old.pids.items
+            → IfOk result (λ found. IfSome found (λ pid. lists streams.now pid ≡ false)) }
+        ensures pids { AreUnlisted streams.now self.old.pids.items
+            → AreUnlisted streams.now self.new.pids.items }
+    {
+        if number < self.pids.len() {
+            return Ok(Some(self.pids[number]));
         }
         let Some(pid) = self.find_next(streams) else {
             return Ok(None);
@@ -62,7 +84,9 @@ impl UnlistedPids {
     }
 
     /// All of them, by rising pid.
-    pub(crate) fn into_rising(self) -> Result<Vec<Pid>, AllocError> {
+    pub(crate) fn into_rising(self) -> Result<Vec<Pid>, AllocError>
+        ensures { IfOk result (λ pids. IsPermutation self.pids.items pids.items) }
+    {
         let UnlistedPids { mut pids, next: _ } = self;
         pids.sort()?;
         Ok(pids)

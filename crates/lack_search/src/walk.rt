@@ -14,8 +14,8 @@
 
 use crate::candidate::items_between;
 use crate::hidden_sends::HiddenSend;
-use crate::links::short;
-use crate::stretch::{Ground, Stretch};
+use crate::short::short;
+use crate::stretch::{GapTables, Stretch};
 use lack_needs::is_stamp;
 use st_core::{Event, Label, Streams};
 use std::alloc::{AllocError, Global};
@@ -54,7 +54,7 @@ impl Next {
 
     /// The last gap for a send from which what comes next can still cost nothing; `limit` is the
     /// last place of what comes next.
-    fn last_gap_before(self, ground: &mut Ground, send: &Step, limit: usize) -> usize {
+    fn last_gap_before(self, ground: &mut GapTables, send: &Step, limit: usize) -> usize {
         let prev = match self {
             Next::Nothing => return limit,
             Next::Send(prev) | Next::Stamp(prev) => prev,
@@ -65,7 +65,7 @@ impl Next {
         }
         // What comes next costs nothing right behind a receive of its prev: then the send is before
         // that receive.
-        let received = match ground.last_behind(prev, limit) {
+        let received = match ground.last_after(prev, limit) {
             Some(gap) if self.may_stand_at(gap, limit) => Some(gap.saturating_sub(1)),
             _ => None,
         };
@@ -85,7 +85,7 @@ impl Next {
 /// The walk back: gives each send its last place, the last gap from which what comes next in the
 /// stretch can still cost nothing. If there is no such gap, the send's last place is that of what
 /// comes next. No place is behind a receive that doesn't count lower than the send.
-fn walk_back(ground: &mut Ground, stretch: Stretch<'_>, steps: &mut [Step]) {
+fn walk_back(ground: &mut GapTables, stretch: Stretch<'_>, steps: &mut [Step]) {
     let mut limit = ground.end();
     let mut next = match stretch.stamp {
         None => Next::Nothing,
@@ -126,7 +126,7 @@ impl Standing {
     /// The place of the next send, up to its last place. It goes no further than it must, since
     /// what costs nothing here costs nothing later for the sends behind it, too. Labels come first:
     /// they tell calls apart that have the same counts.
-    fn place_of(self, ground: &mut Ground, send: &Step) -> usize {
+    fn place_of(self, ground: &mut GapTables, send: &Step) -> usize {
         if self.prev == send.prev && self.label == Some(send.label) {
             return self.gap;
         }
@@ -137,7 +137,7 @@ impl Standing {
         if send.prev == self.prev || send.prev == self.clock {
             return self.gap;
         }
-        if let Some(gap) = ground.next_behind(send.prev, self.gap, limit) {
+        if let Some(gap) = ground.next_after(send.prev, self.gap, limit) {
             return gap;
         }
         // A trace that began later, at a clock that nothing reported shows: it may be behind
@@ -149,7 +149,7 @@ impl Standing {
     }
 
     /// Behind the next send, at its place.
-    fn after(self, ground: &Ground, send: &Step) -> Standing {
+    fn after(self, ground: &GapTables, send: &Step) -> Standing {
         Standing {
             gap: send.gap,
             prev: send.prev,
@@ -160,7 +160,7 @@ impl Standing {
 }
 
 /// The walk forth: gives each send its place.
-fn walk_forth(ground: &mut Ground, stretch: Stretch<'_>, steps: &mut [Step]) {
+fn walk_forth(ground: &mut GapTables, stretch: Stretch<'_>, steps: &mut [Step]) {
     let mut standing = Standing::at_start(stretch);
     for step in steps.iter_mut() {
         step.gap = standing.place_of(ground, step);
@@ -171,7 +171,7 @@ fn walk_forth(ground: &mut Ground, stretch: Stretch<'_>, steps: &mut [Step]) {
 /// How many sends at the end of the stretch go right before the reported stamp: those of its prev,
 /// if no receive gives it to them and a trace could begin there. Then they and the stamp are one
 /// trace, that began behind all receives of the stretch.
-fn last_with_stamp(ground: &Ground, stretch: Stretch<'_>, steps: &[Step]) -> usize {
+fn last_with_stamp(ground: &GapTables, stretch: Stretch<'_>, steps: &[Step]) -> usize {
     let Some(stamp) = stretch.stamp else {
         return 0;
     };
@@ -201,7 +201,7 @@ fn last_with_stamp(ground: &Ground, stretch: Stretch<'_>, steps: &[Step]) -> usi
 }
 
 /// Puts the last sends of the stretch right before the reported stamp.
-fn move_to_stamp(ground: &Ground, steps: &mut [Step], count: usize) {
+fn move_to_stamp(ground: &GapTables, steps: &mut [Step], count: usize) {
     for step in steps.iter_mut().rev().take(count) {
         step.gap = ground.end();
     }
@@ -210,7 +210,7 @@ fn move_to_stamp(ground: &Ground, steps: &mut [Step], count: usize) {
 /// The walk over the stretches of one process after the other.
 #[derive(Drop)]
 struct Walk {
-    ground: Ground,
+    ground: GapTables,
     steps: Vec<Step>,
 }
 
@@ -293,7 +293,7 @@ pub(crate) fn place_hidden(
     hidden: &mut [HiddenSend],
 ) -> Result<(), AllocError> {
     let mut walk = Walk {
-        ground: Ground::new(alloc),
+        ground: GapTables::new(alloc),
         steps: Vec::new(alloc),
     };
     let mut rest = hidden;

@@ -1,0 +1,6 @@
+-- As many receives as were taken.
+use Rattle.std.proofs.Common.{◌≡◌, vec_len}
+use Rattle.lack_search.proofs.stretch.GapTables.fill.Given as goal
+
+abbrev pub invariant-loop-receive : goal.invariant-loop-receive
+invariant-loop-receive l = vec_len l.self.by_count ≡ l.receive-index

@@ -1,0 +1,6 @@
+-- The pids that were found stay.
+use Rattle.std.proofs.Common.{◌≡◌}
+use Rattle.lack_search.proofs.unlisted_pids.UnlistedPids.find_next.Given as goal
+
+abbrev pub invariant-loop : goal.invariant-loop
+invariant-loop l = l.self.pids ≡ l.fn.self.pids
