@@ -1,30 +1,42 @@
 //! The acts of a completion, which is first changed so that few silent acts are needed.
 
+ghost use Rattle.std.specs.Prelude.{IfOk};
+ghost use Rattle.st_core.specs.Run.{pids_of};
+ghost use Rattle.st_plan.specs.Marks.{all_streams};
+ghost use Rattle.lack_acts.specs.Acts.{RunsWithin};
+
 use crate::climbs::with_shared_climbs;
 use crate::homes::with_near_homes;
 use crate::lean::{LeanFault, acts_of};
-use crate::marked_streams::MarkedStreams;
 use lack_needs::Completion;
-use st_core::{Act, Sequence};
+use st_core::{Act, Sequence, Streams};
 use std::alloc::Global;
 use std::thread::Threads;
 
-/// The acts of whole streams, in which processes share climbs first.
+/// The acts of marked streams, in which processes share climbs first.
 fn shared_acts<const TOP: u64>(
     rt: &(impl Threads + Sync),
     alloc: Global,
-    whole: MarkedStreams<'_>,
+    streams: &Streams,
+    marks: &[Sequence<bool>],
     most: u64,
-) -> Result<Sequence<Act>, LeanFault> {
-    match with_shared_climbs(alloc, whole) {
-        Err(_) => Err(LeanFault::Memory),
-        Ok(None) => acts_of::<TOP>(rt, alloc, whole, most),
-        Ok(Some(longer)) => acts_of::<TOP>(rt, alloc, longer.whole(), most),
+) -> Result<Sequence<Act>, LeanFault>
+    ensures { IfOk result (RunsWithin TOP most (pids_of streams.now)) }
+{
+    let Ok(found) = with_shared_climbs(alloc, streams, marks) else {
+        return Err(LeanFault::Memory);
+    };
+    match found {
+        None => acts_of::<TOP>(rt, alloc, streams, marks, most),
+        Some(more) => {
+            let acts = acts_of::<TOP>(rt, alloc, &more.streams, &more.marks, most)?;
+            Ok(acts)
+        }
     }
 }
 
-/// Acts that show the told events of a completion, at most so many, with few changes of tokens and
-/// few silent acts. None of them is a reset.
+/// Acts for the told events of a completion, with few changes of tokens and few silent acts. That
+/// they show these events isn't proved: `lack_decide` lets the checker judge them.
 ///
 /// It sorts on several threads, with one result for every number of threads.
 pub fn lean_acts<const TOP: u64>(
@@ -32,14 +44,22 @@ pub fn lean_acts<const TOP: u64>(
     alloc: Global,
     completion: &Completion,
     most: u64,
-) -> Result<Sequence<Act>, LeanFault> {
-    let whole = MarkedStreams {
-        streams: completion.streams(),
-        told: completion.marks(),
+) -> Result<Sequence<Act>, LeanFault>
+    ensures { IfOk result (RunsWithin TOP most (pids_of (all_streams completion.now.wholes))) }
+{
+    let streams = completion.streams();
+    let marks = completion.marks();
+    let Ok(found) = with_near_homes(alloc, streams, marks) else {
+        return Err(LeanFault::Memory);
     };
-    match with_near_homes(alloc, whole) {
-        Err(_) => Err(LeanFault::Memory),
-        Ok(None) => shared_acts::<TOP>(rt, alloc, whole, most),
-        Ok(Some(longer)) => shared_acts::<TOP>(rt, alloc, longer.whole(), most),
+    match found {
+        None => {
+            let acts = shared_acts::<TOP>(rt, alloc, streams, marks, most)?;
+            Ok(acts)
+        }
+        Some(more) => {
+            let acts = shared_acts::<TOP>(rt, alloc, &more.streams, &more.marks, most)?;
+            Ok(acts)
+        }
     }
 }

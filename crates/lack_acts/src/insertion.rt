@@ -1,8 +1,13 @@
-//! Whole streams with further untold events at given places, for acts that a person would write.
+//! Untold events that are put into marked streams at given places.
 
-use crate::marked_streams::{LongerStreams, MarkedStreams};
+ghost use Rattle.std.specs.Prelude.{◌≡◌, ◌+◌, ◌-◌, vec_len, IfOk, IfSome, OnOk};
+ghost use Rattle.st_plan.specs.Marks.{told_events};
+ghost use Rattle.lack_needs.specs.Completions.{marked_with, wholes_with};
+ghost use Rattle.lack_acts.specs.Told.{told_of, TellsAs};
+
+use crate::marked_streams::{MarkedDraft, MarkedEvent, MarkedStreams};
 use lack_needs::{is_marked, marks_at};
-use st_core::{Draft, Event, Pid, Sequence, Streams};
+use st_core::{Event, Sequence, Streams};
 use std::alloc::{AllocError, Global};
 
 /// An untold event and its place.
@@ -12,124 +17,103 @@ pub(crate) struct Insertion {
     pub process: usize,
     /// The index of the event that it is before.
     pub index: usize,
+    /// Whether it comes after those with one place that aren't so.
+    pub comes_last: bool,
     /// The event.
     pub event: Event,
 }
 
 impl Insertion {
-    /// The key by which insertions are sorted: before one event by count.
-    fn key(&self) -> (usize, usize, u64) {
-        (self.process, self.index, self.event.serial.this)
+    /// The key by which insertions are sorted: those with one place by count.
+    fn key(&self) -> (usize, usize, bool, u64)
+        ensures { result ≡ (
+          self.now.process,
+          self.now.index,
+          self.now.comes_last,
+          self.now.event.serial.this,
+        ) }
+    {
+        (
+            self.process,
+            self.index,
+            self.comes_last,
+            self.event.serial.this,
+        )
     }
 }
 
-/// Untold events. Before one event the sends come first, and then the receives.
-#[derive(Drop)]
-pub(crate) struct Insertions {
-    /// The untold sends.
-    pub sends: Vec<Insertion>,
-    /// The untold receives.
-    pub receives: Vec<Insertion>,
-}
-
-/// Adds the first of the untold events, as long as they are before this event of the process, and
-/// returns the others.
-fn add_untold<'a>(
-    draft: &mut Draft,
-    marks: &mut Vec<bool>,
-    pid: Pid,
-    untold: &'a [Insertion],
+/// Adds the untold events from `first` on that are before the event at this index of the process.
+/// It returns the place of the first that isn't.
+fn add_untold(
+    whole: &mut Vec<MarkedEvent>,
+    untold: &[Insertion],
+    first: usize,
     process: usize,
     index: usize,
-) -> Result<&'a [Insertion], AllocError> {
-    let mut rest = untold;
-    for one in untold {
+) -> Result<usize, AllocError>
+    ensures told { OnOk result (told_of whole.new.items ≡ told_of whole.old.items) }
+    ensures count { IfOk result (λ next.
+        vec_len whole.new ≡ vec_len whole.old + (next - first)) }
+{
+    for place in first..untold.len() {
+        let one = untold[place];
         if one.process != process || one.index != index {
-            return Ok(rest);
+            return Ok(place);
         }
-        let Ok(()) = draft.add(pid, one.event) else {
-            return Err(AllocError);
-        };
-        marks.push(false)?;
-        rest = rest.split_first().map_or(&[], |(_, others)| others);
+        whole.push(MarkedEvent {
+            event: one.event,
+            is_told: false,
+        })?;
     }
-    Ok(rest)
+    Ok(untold.len())
 }
 
-/// Adds the events of a process, each behind the untold ones that are before it, and returns the
-/// untold sends and receives that are left.
-fn add_process<'a>(
-    draft: &mut Draft,
-    marks: &mut Vec<bool>,
-    pid: Pid,
-    whole: (&[Event], &[bool]),
-    untold: (&'a [Insertion], &'a [Insertion]),
-    process: usize,
-) -> Result<(&'a [Insertion], &'a [Insertion]), AllocError> {
-    let (mut sends, mut receives) = untold;
-    let (events, told) = whole;
-    for (index, event) in events.iter().enumerate() {
-        sends = add_untold(draft, marks, pid, sends, process, index)?;
-        receives = add_untold(draft, marks, pid, receives, process, index)?;
-        let Ok(()) = draft.add(pid, *event) else {
-            return Err(AllocError);
-        };
-        marks.push(is_marked(told, index))?;
-    }
-    sends = add_untold(draft, marks, pid, sends, process, events.len())?;
-    receives = add_untold(draft, marks, pid, receives, process, events.len())?;
-    Ok((sends, receives))
-}
-
-/// A draft of the whole streams with these untold events, which come in order, and the marks of each
-/// process.
-fn draft_with(
+/// The events of a process, each after the untold ones that are before it. It takes these from
+/// `first` on, and returns the place of the first that is another process's.
+fn merged(
     alloc: Global,
-    whole: MarkedStreams<'_>,
-    untold: &Insertions,
-) -> Result<(Draft, Vec<Sequence<bool>>), AllocError> {
-    let mut draft = Draft::new(alloc);
-    for &pid in whole.streams.pids() {
-        let Ok(()) = draft.open(pid) else {
-            return Err(AllocError);
-        };
+    events: &[Event],
+    marks: &[bool],
+    untold: &[Insertion],
+    first: usize,
+    process: usize,
+) -> Result<(Vec<MarkedEvent>, usize), AllocError>
+    ensures { IfOk result (λ all. told_of all.0.items
+        ≡ told_events (marked_with events.now marks.now)) }
+{
+    let mut whole = Vec::new(alloc);
+    let mut next = first;
+    for (index, event) in events.iter().enumerate() {
+        next = add_untold(&mut whole, untold, next, process, index)?;
+        whole.push(MarkedEvent {
+            event: *event,
+            is_told: is_marked(marks, index),
+        })?;
     }
-    let mut told = Vec::new(alloc);
-    let mut rest = (untold.sends.as_slice(), untold.receives.as_slice());
-    for (process, &pid) in whole.streams.pids().iter().enumerate() {
-        let own = (whole.streams.events(pid), marks_at(whole.told, process));
-        let mut marks = Vec::new(alloc);
-        rest = add_process(&mut draft, &mut marks, pid, own, rest, process)?;
-        told.push(Sequence::from_vec(marks))?;
-    }
-    Ok((draft, told))
+    next = add_untold(&mut whole, untold, next, process, events.len())?;
+    Ok((whole, next))
 }
 
-/// The whole streams with these untold events besides their own; nothing if one of them is in a
-/// process that isn't listed, which nobody asks for.
+/// The marked streams with these untold events besides their own; none if a pid that one of these
+/// names isn't listed.
 pub(crate) fn with_insertions(
     alloc: Global,
-    whole: MarkedStreams<'_>,
-    mut untold: Insertions,
-) -> Result<Option<LongerStreams>, AllocError> {
-    untold.sends.sort_by_key(|one| one.key())?;
-    untold.receives.sort_by_key(|one| one.key())?;
-    let (draft, told) = draft_with(alloc, whole, &untold)?;
-    match draft.close() {
-        Err(_) => Ok(None),
-        Ok(streams) => Ok(Some(LongerStreams { streams, told })),
+    streams: &Streams,
+    marks: &[Sequence<bool>],
+    mut untold: Vec<Insertion>,
+) -> Result<Option<MarkedStreams>, AllocError>
+    ensures { IfOk result (λ some. IfSome some (TellsAs (wholes_with streams.now marks.now))) }
+{
+    untold.sort_by_key(|one| one.key())?;
+    let mut draft = MarkedDraft::new(alloc);
+    let mut next: usize = 0;
+    for (process, &pid) in streams.pids().iter().enumerate() {
+        let events = streams.events(pid);
+        let own = marks_at(marks, process);
+        let all = merged(alloc, events, own, untold.as_slice(), next, process)?;
+        let whole = all.0.as_slice();
+        draft.add(alloc, pid, whole)?;
+        next = all.1;
     }
-}
-
-/// The same, with the untold events by rising count before one event, whatever they are.
-pub(crate) fn with_insertions_by_count(
-    alloc: Global,
-    whole: MarkedStreams<'_>,
-    untold: Vec<Insertion>,
-) -> Result<Option<LongerStreams>, AllocError> {
-    let untold = Insertions {
-        sends: untold,
-        receives: Vec::new(alloc),
-    };
-    with_insertions(alloc, whole, untold)
+    Ok(draft.close())
 }

@@ -1,15 +1,18 @@
-//! The acts of a completion with few changes of tokens, as a person would write them: a token is
-//! set once, and then travels with the messages.
+//! The acts of whole streams with few changes of tokens: a token is set once, and then travels with
+//! the messages.
 //!
-//! A stamp wants of its token only what decides whether its event, or the receive of its message,
-//! is told. The label and the other flags are left as they are. The acts are judged by the checker,
-//! so a mistake here costs time and no more.
+//! Each act is stepped in a world that begins at zero clocks, so the acts have a run. That the run
+//! shows the told events is for the checker to find out: a mistake here costs time and no more.
 
-use crate::marked_streams::MarkedStreams;
-use lack_needs::{Left, is_marked, marks_at};
-use st_core::{
-    Act, Component, Event, Flags, Kind, Label, Pid, Sequence, Serial, Streams, Token, Want,
-};
+ghost use Rattle.std.specs.Prelude.{◌≡◌, ◌∷◌, ◌++◌, [], false, IfOk, OnOk};
+ghost use Rattle.st_core.specs.Laws.{is_reset};
+ghost use Rattle.st_core.specs.Run.{pids_of};
+ghost use Rattle.lack_acts.specs.Acts.{Extends, IsBegun, RunsWithin};
+
+use crate::demands::{TokenDemand, change_act};
+use crate::marked_streams::is_told;
+use crate::tallies::{missing_in, usual_flags};
+use st_core::{Act, Component, Event, Flags, Kind, Label, Pid, Sequence, Streams, Want};
 use st_order::{Item, order};
 use st_pair::{PairFault, Pairing, pair};
 use st_world::{StepFault, World};
@@ -27,216 +30,22 @@ pub enum LeanFault {
     Stopped,
 }
 
-/// What a stamp wants of its token; none of a flag that decides nothing.
-#[derive(Clone, Copy)]
-struct Wanted {
-    /// The label of the event.
-    label: Label,
-    /// Whether the label is told.
-    is_label_told: bool,
-    send: Option<bool>,
-    receive: Option<bool>,
-    print: Option<bool>,
-}
-
-/// Whether a flag is as it is wanted.
-fn is_right(wanted: Option<bool>, flag: bool) -> bool {
-    match wanted {
-        None => true,
-        Some(value) => value == flag,
-    }
-}
-
-impl Wanted {
-    /// By a print that nobody sees, which stands for a count that is missing.
-    fn by_silent_print(label: Label) -> Wanted {
-        Wanted {
-            label,
-            is_label_told: false,
-            send: None,
-            receive: None,
-            print: Some(false),
-        }
-    }
-
-    /// By a print.
-    fn by_print(label: Label, is_told: bool) -> Wanted {
-        Wanted {
-            label,
-            is_label_told: is_told,
-            send: None,
-            receive: None,
-            print: Some(is_told),
-        }
-    }
-
-    /// By a send. Of its receive it is known whether it is told, if there is one.
-    fn by_send(label: Label, is_told: bool, is_receive_told: Option<bool>) -> Wanted {
-        Wanted {
-            label,
-            is_label_told: is_told || is_receive_told == Some(true),
-            send: Some(is_told),
-            receive: is_receive_told,
-            print: None,
-        }
-    }
-
-    /// A component that the token has otherwise than wanted.
-    fn change(self, token: Token) -> Option<Component> {
-        if self.is_label_told && token.label.0 != self.label.0 {
-            return Some(Component::Label(self.label));
-        }
-        if !is_right(self.send, token.flags.send) {
-            return Some(Component::Send(!token.flags.send));
-        }
-        if !is_right(self.receive, token.flags.receive) {
-            return Some(Component::Receive(!token.flags.receive));
-        }
-        if !is_right(self.print, token.flags.print) {
-            return Some(Component::Print(!token.flags.print));
-        }
-        None
-    }
-
-    /// The token as it is restored. The stamp gives it a serial.
-    fn token(self, pid: Pid, usual: Flags) -> Token {
-        Token {
-            label: self.label,
-            flags: Flags {
-                send: self.send.unwrap_or(usual.send),
-                receive: self.receive.unwrap_or(usual.receive),
-                print: self.print.unwrap_or(usual.print),
-            },
-            serial: Serial { prev: 0, this: 0 },
-            from: pid,
-        }
-    }
-}
-
-/// Whether a token has a flag. One without may have been made just now, so its flags say nothing
-/// of what comes.
-fn has_flag(token: Token) -> bool {
-    token.flags.send || token.flags.receive || token.flags.print
-}
-
-/// The act that gives the process a token as it is wanted; none if it has one.
-fn change_of(pid: Pid, token: Option<Token>, wanted: Wanted, usual: Flags) -> Option<Act> {
-    let Some(token) = token else {
-        return Some(Act::Restore(pid, wanted.token(pid, usual)));
-    };
-    let component = wanted.change(token)?;
-    if has_flag(token) && wanted.change(token.with(component)).is_none() {
-        return Some(Act::Set(pid, component));
-    }
-    Some(Act::Restore(pid, wanted.token(pid, usual)))
-}
-
-/// How many events of one kind are told, and how many aren't.
-#[derive(Clone, Copy)]
-struct Tally {
-    told: u64,
-    untold: u64,
-}
-
-impl Tally {
-    /// Of no events.
-    fn of_none() -> Tally {
-        Tally { told: 0, untold: 0 }
-    }
-
-    /// With one event more.
-    fn count(&mut self, is_told: bool) {
-        if is_told {
-            self.told = self.told.saturating_add(1);
-        } else {
-            self.untold = self.untold.saturating_add(1);
-        }
-    }
-
-    /// The flag that is right for most.
-    fn flag(self) -> bool {
-        self.told >= self.untold
-    }
-}
-
-/// The same for each kind, and how many counts are missing in all.
-#[derive(Clone, Copy)]
-struct Tallies {
-    sends: Tally,
-    receives: Tally,
-    prints: Tally,
-    missing: u64,
-}
-
-impl Tallies {
-    /// Counts the events of a process, and silent prints in a row as one print that isn't told.
-    fn count_process(&mut self, events: &[Event], marks: &[bool]) {
-        let mut left = Left::by_none();
-        for (index, event) in events.iter().enumerate() {
-            let is_told = is_marked(marks, index);
-            match event.kind {
-                Kind::Send => self.sends.count(is_told),
-                Kind::Receive => self.receives.count(is_told),
-                Kind::Print => self.prints.count(is_told),
-            }
-            let missing = missing_before(left, event);
-            self.missing = self.missing.saturating_add(missing);
-            if missing > 0 {
-                self.prints.count(false);
-            }
-            left = left.after(event);
-        }
-    }
-
-    /// Of all events.
-    fn of(whole: MarkedStreams<'_>) -> Tallies {
-        let mut tallies = Tallies {
-            sends: Tally::of_none(),
-            receives: Tally::of_none(),
-            prints: Tally::of_none(),
-            missing: 0,
-        };
-        for (process, &pid) in whole.streams.pids().iter().enumerate() {
-            tallies.count_process(whole.streams.events(pid), marks_at(whole.told, process));
-        }
-        tallies
-    }
-
-    /// The flags that are right for most events: a restored token gets them if a stamp leaves the
-    /// choice.
-    fn flags(self) -> Flags {
-        Flags {
-            send: self.sends.flag(),
-            receive: self.receives.flag(),
-            print: self.prints.flag(),
-        }
-    }
-}
-
-/// How many counts the process passed unreported between these events and the next one.
-pub(crate) fn missing_before(left: Left, next: &Event) -> u64 {
-    match next.kind {
-        Kind::Receive => 0,
-        Kind::Send | Kind::Print => next
-            .serial
-            .this
-            .saturating_sub(1)
-            .saturating_sub(left.greatest),
-    }
-}
-
 /// The acts so far, and the world that they lead to.
 #[derive(Drop)]
 struct Acts<const TOP: u64> {
     world: World<TOP>,
     acts: Sequence<Act>,
+    /// The most acts that the caller takes.
     most: u64,
+    /// The flags of a token that is restored, if its stamp leaves the choice.
     usual: Flags,
 }
 
 impl<const TOP: u64> Acts<TOP> {
-    /// No acts yet of these processes, and so many at most.
-    fn new(alloc: Global, pids: &[Pid], most: u64, usual: Flags) -> Result<Acts<TOP>, LeanFault> {
+    /// No acts yet of these processes.
+    fn new(alloc: Global, pids: &[Pid], most: u64, usual: Flags) -> Result<Acts<TOP>, LeanFault>
+        ensures { IfOk result (IsBegun pids.now most) }
+    {
         match World::<TOP>::new(alloc, pids) {
             Ok(world) => Ok(Acts {
                 world,
@@ -249,7 +58,11 @@ impl<const TOP: u64> Acts<TOP> {
     }
 
     /// Puts the act at the end, and steps it.
-    fn perform(&mut self, act: Act) -> Result<(), LeanFault> {
+    fn perform(&mut self, act: Act) -> Result<(), LeanFault>
+        requires { is_reset act ≡ false }
+        ensures goes_on { OnOk result (Extends self.old self.new) }
+        ensures appended { OnOk result (self.new.acts ≡ self.old.acts ++ act ∷ []) }
+    {
         if self.acts.len() as u64 >= self.most {
             return Err(LeanFault::TooMany);
         }
@@ -264,7 +77,9 @@ impl<const TOP: u64> Acts<TOP> {
     }
 
     /// Puts a tracer on each node, by its least pid.
-    fn open(&mut self, pids: &[Pid]) -> Result<(), LeanFault> {
+    fn open(&mut self, pids: &[Pid]) -> Result<(), LeanFault>
+        ensures { OnOk result (Extends self.old self.new) }
+    {
         let mut node: Option<u16> = None;
         for &pid in pids {
             if node != Some(pid.node()) {
@@ -275,37 +90,62 @@ impl<const TOP: u64> Acts<TOP> {
         Ok(())
     }
 
-    /// Gives the process a token as it is wanted, if it has none such.
-    fn dress(&mut self, pid: Pid, wanted: Wanted) -> Result<(), LeanFault> {
-        match change_of(pid, self.world.token(pid), wanted, self.usual) {
+    /// Changes the token of the process as it is demanded.
+    fn dress(&mut self, pid: Pid, demand: TokenDemand) -> Result<(), LeanFault>
+        ensures { OnOk result (Extends self.old self.new) }
+    {
+        match change_act(pid, self.world.token(pid), demand, self.usual) {
             None => Ok(()),
             Some(act) => self.perform(act),
         }
     }
 
     /// Brings the process's clock up to this count by silent prints, if it is below.
-    fn climb(&mut self, pid: Pid, label: Label, count: u64) -> Result<(), LeanFault> {
+    fn climb(&mut self, pid: Pid, label: Label, count: u64) -> Result<(), LeanFault>
+        ensures { OnOk result (Extends self.old self.new) }
+    {
         let clock = self.world.clock(pid).unwrap_or(count);
         if clock >= count {
             return Ok(());
         }
-        self.dress(pid, Wanted::by_silent_print(label))?;
+        self.dress(pid, TokenDemand::by_print(label, false))?;
         for _ in clock..count {
             self.perform(Act::Print(pid, 0))?;
         }
         Ok(())
     }
 
+    /// Takes the token from the process, if it has one.
+    fn clear(&mut self, pid: Pid) -> Result<(), LeanFault>
+        ensures { OnOk result (Extends self.old self.new) }
+    {
+        match self.world.token(pid) {
+            None => Ok(()),
+            Some(_) => self.perform(Act::Clear(pid)),
+        }
+    }
+
     /// Begins a new trace with the clock at this count, which then is the last count.
-    fn begin(&mut self, pid: Pid, label: Label, count: u64) -> Result<(), LeanFault> {
+    fn begin(&mut self, pid: Pid, label: Label, count: u64) -> Result<(), LeanFault>
+        ensures { OnOk result (Extends self.old self.new) }
+    {
         self.climb(pid, label, count)?;
         if self.world.clock(pid) != Some(count) {
             return Err(LeanFault::Stopped);
         }
-        if self.world.token(pid).is_some() {
-            self.perform(Act::Clear(pid))?;
+        self.clear(pid)?;
+        self.perform(Act::Set(pid, Component::Label(label)))?;
+        Ok(())
+    }
+
+    /// Begins a new trace at the event's prev, if that isn't the last count.
+    fn renew(&mut self, pid: Pid, event: &Event) -> Result<(), LeanFault>
+        ensures { OnOk result (Extends self.old self.new) }
+    {
+        if self.world.last(pid) == Some(event.serial.prev) {
+            return Ok(());
         }
-        self.perform(Act::Set(pid, Component::Label(label)))
+        self.begin(pid, event.label, event.serial.prev)
     }
 
     /// Stamps the event's serial by this act.
@@ -313,20 +153,23 @@ impl<const TOP: u64> Acts<TOP> {
         &mut self,
         pid: Pid,
         event: &Event,
-        wanted: Wanted,
+        demand: TokenDemand,
         act: Act,
-    ) -> Result<(), LeanFault> {
-        let Serial { prev, this } = event.serial;
-        if self.world.last(pid) != Some(prev) {
-            self.begin(pid, event.label, prev)?;
-        }
-        self.climb(pid, event.label, this.saturating_sub(1))?;
-        self.dress(pid, wanted)?;
-        self.perform(act)
+    ) -> Result<(), LeanFault>
+        requires { is_reset act ≡ false }
+        ensures { OnOk result (Extends self.old self.new) }
+    {
+        self.renew(pid, event)?;
+        self.climb(pid, event.label, event.serial.this.saturating_sub(1))?;
+        self.dress(pid, demand)?;
+        self.perform(act)?;
+        Ok(())
     }
 
     /// Lets the process take the message of the event.
-    fn receive(&mut self, pid: Pid, event: &Event) -> Result<(), LeanFault> {
+    fn receive(&mut self, pid: Pid, event: &Event) -> Result<(), LeanFault>
+        ensures { OnOk result (Extends self.old self.new) }
+    {
         match self.world.place_of(pid, event.from, event.serial.this) {
             None => Err(LeanFault::Stopped),
             Some(place) => self.perform(Act::Receive(pid, Want::Place(place))),
@@ -336,27 +179,32 @@ impl<const TOP: u64> Acts<TOP> {
     /// Puts the acts of the event at this place at the end.
     fn append(
         &mut self,
-        whole: MarkedStreams<'_>,
+        streams: &Streams,
+        marks: &[Sequence<bool>],
         pairing: &Pairing,
         pid: Pid,
         index: u64,
-    ) -> Result<(), LeanFault> {
-        let Some(event) = whole.streams.event(pid, index) else {
+    ) -> Result<(), LeanFault>
+        ensures { OnOk result (Extends self.old self.new) }
+    {
+        let Some(event) = streams.event(pid, index) else {
             return Err(LeanFault::Stopped);
         };
-        let is_told = whole.is_told((pid, index));
+        let is_event_told = is_told(streams, marks, pid, index);
         match (event.kind, event.to) {
             (Kind::Receive, _) => self.receive(pid, &event),
             (Kind::Print, _) => {
-                let wanted = Wanted::by_print(event.label, is_told);
-                self.stamp(pid, &event, wanted, Act::Print(pid, event.value))
+                let demand = TokenDemand::by_print(event.label, is_event_told);
+                self.stamp(pid, &event, demand, Act::Print(pid, event.value))
             }
             (Kind::Send, None) => Err(LeanFault::Stopped),
             (Kind::Send, Some(to)) => {
-                let receiver = pairing.receiver(pid, index);
-                let is_receive_told = receiver.map(|place| whole.is_told(place));
-                let wanted = Wanted::by_send(event.label, is_told, is_receive_told);
-                self.stamp(pid, &event, wanted, Act::Send(pid, to, event.value))
+                let is_receive_told = match pairing.receiver(pid, index) {
+                    None => None,
+                    Some((receiver, place)) => Some(is_told(streams, marks, receiver, place)),
+                };
+                let demand = TokenDemand::by_send(event.label, is_event_told, is_receive_told);
+                self.stamp(pid, &event, demand, Act::Send(pid, to, event.value))
             }
         }
     }
@@ -364,22 +212,27 @@ impl<const TOP: u64> Acts<TOP> {
     /// Puts the acts of all items at the end.
     fn append_all(
         &mut self,
-        whole: MarkedStreams<'_>,
+        streams: &Streams,
+        marks: &[Sequence<bool>],
         pairing: &Pairing,
         items: &[Item],
-    ) -> Result<(), LeanFault> {
-        self.open(whole.streams.pids())?;
+    ) -> Result<(), LeanFault>
+        ensures { OnOk result (Extends self.old self.new) }
+    {
+        self.open(streams.pids())?;
         for &item in items {
-            match item {
-                Item::Reported(pid, index) => self.append(whole, pairing, pid, index)?,
-                Item::Hidden(..) => return Err(LeanFault::Stopped),
-            }
+            let Item::Reported(pid, index) = item else {
+                return Err(LeanFault::Stopped);
+            };
+            self.append(streams, marks, pairing, pid, index)?;
         }
         Ok(())
     }
 
     /// The acts.
-    fn into_acts(self) -> Sequence<Act> {
+    fn into_acts(self) -> Sequence<Act>
+        ensures { result ≡ self.entry.acts }
+    {
         let Acts { acts, .. } = self;
         acts
     }
@@ -388,37 +241,43 @@ impl<const TOP: u64> Acts<TOP> {
 /// The acts of all items, in their order.
 fn acts_in_order<const TOP: u64>(
     alloc: Global,
-    whole: MarkedStreams<'_>,
+    streams: &Streams,
+    marks: &[Sequence<bool>],
     pairing: &Pairing,
     items: &[Item],
     most: u64,
-) -> Result<Sequence<Act>, LeanFault> {
-    let tallies = Tallies::of(whole);
+) -> Result<Sequence<Act>, LeanFault>
+    ensures { IfOk result (RunsWithin TOP most (pids_of streams.now)) }
+{
     // Each event takes an act, and each missing count.
-    if whole.streams.total().saturating_add(tallies.missing) > most {
+    if streams.total().saturating_add(missing_in(streams)) > most {
         return Err(LeanFault::TooMany);
     }
-    let mut acts = Acts::<TOP>::new(alloc, whole.streams.pids(), most, tallies.flags())?;
-    acts.append_all(whole, pairing, items)?;
+    let usual = usual_flags(streams, marks);
+    let mut acts = Acts::<TOP>::new(alloc, streams.pids(), most, usual)?;
+    acts.append_all(streams, marks, pairing, items)?;
     Ok(acts.into_acts())
 }
 
-/// Acts without a reset that show the told events, at most so many.
+/// Acts for the told events.
 ///
 /// It sorts on several threads, with one result for every number of threads.
 pub(crate) fn acts_of<const TOP: u64>(
     rt: &(impl Threads + Sync),
     alloc: Global,
-    whole: MarkedStreams<'_>,
+    streams: &Streams,
+    marks: &[Sequence<bool>],
     most: u64,
-) -> Result<Sequence<Act>, LeanFault> {
-    let pairing = match pair(alloc, whole.streams) {
+) -> Result<Sequence<Act>, LeanFault>
+    ensures { IfOk result (RunsWithin TOP most (pids_of streams.now)) }
+{
+    let pairing = match pair(alloc, streams) {
         Ok(pairing) => pairing,
         Err(PairFault::Memory) => return Err(LeanFault::Memory),
         Err(_) => return Err(LeanFault::Stopped),
     };
-    let Ok(items) = order(rt, alloc, whole.streams, &pairing) else {
+    let Ok(items) = order(rt, alloc, streams, &pairing) else {
         return Err(LeanFault::Memory);
     };
-    acts_in_order::<TOP>(alloc, whole, &pairing, items.as_slice(), most)
+    acts_in_order::<TOP>(alloc, streams, marks, &pairing, items.as_slice(), most)
 }

@@ -1,15 +1,21 @@
-//! Nothing is proved of the acts that are written here but that writing them is safe and returns.
-//! `lack_decide` lets the checker judge them, and wrong acts cost time and no more.
+//! Acts for a completion, as a person would write them: a token is set once and then travels.
 //!
-//! `lean_acts` writes few acts for a completion, as a person would write them.
+//! The acts have a run, and none of them is a reset. That they show the told events is for
+//! `lack_decide` to find out, which lets the checker judge them.
 #![tactic(auto)]
 
 mod acts;
 mod climbs;
+mod demands;
+mod gaps;
 mod homes;
 mod insertion;
 mod lean;
 mod marked_streams;
+mod messages;
+mod offers;
+mod strays;
+mod tallies;
 
 pub use acts::lean_acts;
 pub use lean::LeanFault;

@@ -1,0 +1,6 @@
+-- What was put in so far is the processes' own.
+use Rattle.lack_acts.specs.Insertions.{AreInsertions}
+use Rattle.lack_acts.proofs.climbs.take_waiting.Given as goal
+
+abbrev pub invariant-loop-gap : goal.invariant-loop-gap
+invariant-loop-gap l = AreInsertions l.fn.streams l.untold.items

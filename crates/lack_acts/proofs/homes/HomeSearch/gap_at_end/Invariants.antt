@@ -1,0 +1,6 @@
+-- Only ends were taken out.
+use Rattle.std.proofs.Common.{◌≡◌}
+use Rattle.lack_acts.proofs.homes.HomeSearch.gap_at_end.Given as goal
+
+abbrev pub invariant-loop : goal.invariant-loop
+invariant-loop l = l.self.untold.items ≡ l.fn.self.untold.items

@@ -1,0 +1,8 @@
+-- The acts of each call come after those of the calls before.
+use Rattle.lack_acts.proofs.Running.{extends_then}
+use Rattle.lack_acts.proofs.lean.Acts.begin.Goals as goal
+
+pub returns : goal.returns
+returns g c =
+    extends_then _ _ _ (extends_then _ _ _ c.in_ok-climb.ensures c.in_ok-clear.ensures)
+    c.in_ok-perform.ensures.goes_on

@@ -1,0 +1,6 @@
+-- The strays so far are some.
+use Rattle.lack_acts.specs.Strays.{AreStrays}
+use Rattle.lack_acts.proofs.strays.Strays.note_process.Given as goal
+
+abbrev pub invariant-loop-index : goal.invariant-loop-index
+invariant-loop-index l = AreStrays l.fn.streams l.self

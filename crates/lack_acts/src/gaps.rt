@@ -1,0 +1,179 @@
+//! Gaps: the counts that a process passes unreported before one of its sends or prints.
+
+ghost use Rattle.std.specs.Prelude.{◌≡◌, true, All, OnOk, IfOk, Some, slice_get};
+ghost use Rattle.st_core.specs.Run.{pids_of};
+ghost use Rattle.st_pair.specs.Places.{is_stamp};
+ghost use Rattle.lack_acts.specs.Gaps.{opens_trace, entered, entry, gains_by, gap_before, serial_at};
+ghost use Rattle.lack_acts.specs.Gaps.{target, IsGapIn};
+
+use crate::tallies::missing_before;
+use lack_needs::{Left, is_stamp};
+use st_core::{Event, Label, Pid, Serial, Streams};
+use std::alloc::{AllocError, Global};
+
+/// What a message costs besides its send, which stands for a silent print: its receive, and changes
+/// of the tokens of both processes.
+pub(crate) const MESSAGE_ACTS: u64 = 4;
+
+/// Counts that a process passes unreported before one of its sends or prints.
+#[derive(Clone, Copy)]
+pub(crate) struct Gap {
+    /// The process, by its place in the streams.
+    pub process: usize,
+    /// The index of the send or print.
+    pub index: usize,
+    /// Its label.
+    pub label: Label,
+    /// Its serial.
+    pub serial: Serial,
+    /// What the events before it leave.
+    pub left: Left,
+    /// Whether the event right before it is a receive.
+    is_behind_receive: bool,
+    /// Whether a message was found for it.
+    pub is_served: bool,
+    /// The count of the message that the process takes; if it takes none, the greatest count of the
+    /// events before. It passes those above this one by one.
+    pub start: u64,
+    /// The prev of a send right above the start.
+    prev: u64,
+}
+
+impl Gap {
+    /// The gap before an event, if the process takes no message.
+    pub(crate) fn before(
+        process: usize,
+        index: usize,
+        label: Label,
+        serial: Serial,
+        left: Left,
+        is_behind_receive: bool,
+    ) -> Gap
+        ensures { result ≡ gap_before process index label serial left is_behind_receive }
+    {
+        Gap {
+            process,
+            index,
+            label,
+            serial,
+            left,
+            is_behind_receive,
+            is_served: false,
+            start: left.greatest,
+            prev: left.prev,
+        }
+    }
+
+    /// Whether the event begins a new trace.
+    pub(crate) fn opens_trace(&self) -> bool
+        ensures { result ≡ opens_trace self.now }
+    {
+        self.serial.prev != self.left.prev && self.serial.prev >= self.left.greatest
+    }
+
+    /// The greatest count of a message after which the event can still come, if the process can
+    /// take one, and took none yet.
+    pub(crate) fn target(&self) -> Option<u64>
+        ensures { result ≡ target self.now }
+    {
+        if self.is_served {
+            return None;
+        }
+        if self.opens_trace() {
+            return Some(self.serial.prev);
+        }
+        if self.is_behind_receive {
+            return Some(self.serial.this.saturating_sub(1));
+        }
+        None
+    }
+
+    /// The index of the event before which the process takes it.
+    pub(crate) fn entry(&self) -> usize
+        ensures { result ≡ entry self.now }
+    {
+        if self.opens_trace() {
+            self.index
+        } else {
+            self.index.saturating_sub(1)
+        }
+    }
+
+    /// Whether a message of this count saves more than half of the acts.
+    pub(crate) fn gains_by(&self, count: u64) -> bool
+        ensures { result ≡ gains_by self.now count }
+    {
+        let top = self.serial.this.saturating_sub(1);
+        let half = top.saturating_sub(self.left.greatest) / 2;
+        top.saturating_sub(count) < half.saturating_sub(MESSAGE_ACTS)
+    }
+
+    /// Lets the process take a message of this count.
+    pub(crate) fn enter(&mut self, count: u64)
+        ensures { self.new ≡ entered self.old count }
+    {
+        self.start = count;
+        if self.opens_trace() {
+            self.prev = count;
+        }
+    }
+
+    /// The serial of a send of this count, which the process passes.
+    pub(crate) fn serial_at(&self, count: u64) -> Serial
+        ensures { result ≡ serial_at self.now count }
+    {
+        let prev = if self.opens_trace() && count > self.serial.prev {
+            self.serial.prev
+        } else {
+            self.prev
+        };
+        Serial { prev, this: count }
+    }
+}
+
+/// Whether the gap is noted before the event: more counts than `most` are missing, or a new trace
+/// begins.
+fn is_noted(gap: &Gap, event: &Event, most: u64) -> bool
+    ensures { result ≡ true → is_stamp event.now ≡ true }
+{
+    is_stamp(event) && (missing_before(gap.left, event) > most || gap.opens_trace())
+}
+
+/// Notes the gaps of a process in which more counts than `most` are missing, or that end in a new
+/// trace.
+fn note_gaps(
+    gaps: &mut Vec<Gap>,
+    streams: &Streams,
+    process: usize,
+    pid: Pid,
+    most: u64,
+) -> Result<(), AllocError>
+    requires listed { slice_get (pids_of streams.now) process ≡ Some pid }
+    requires gaps { All (IsGapIn streams.now) gaps.old.items }
+    ensures { OnOk result (All (IsGapIn streams.now) gaps.new.items) }
+{
+    let mut left = Left::by_none();
+    let mut is_behind_receive = false;
+    for (index, event) in streams.events(pid).iter().enumerate() {
+        let Event { label, serial, .. } = *event;
+        let gap = Gap::before(process, index, label, serial, left, is_behind_receive);
+        if is_noted(&gap, event, most) {
+            gaps.push(gap)?;
+        }
+        left = left.after(event);
+        is_behind_receive = !is_stamp(event);
+    }
+    Ok(())
+}
+
+/// The gaps of all processes in which more counts than `most` are missing, or that end in a new
+/// trace.
+pub(crate) fn gaps_of(alloc: Global, streams: &Streams, most: u64) -> Result<Vec<Gap>, AllocError>
+    ensures { IfOk result (λ gaps. All (IsGapIn streams.now) gaps.items) }
+{
+    let mut gaps = Vec::new(alloc);
+    for (process, &pid) in streams.pids().iter().enumerate() {
+        note_gaps(&mut gaps, streams, process, pid, most)?;
+    }
+    Ok(gaps)
+}
