@@ -1,6 +1,7 @@
 -- Acts that are put after acts with a run have a run: none, one that has a step, and several in a
 -- row, since the run of all is that of the first and, from where it leads, that of the others.
-use Rattle.std.proofs.Common.{◌≡◌, ℕ, ◌<◌, ◌≤◌, false, List, [], ◌∷◌, ◌++◌, length, Some, option_map}
+use Rattle.std.proofs.Common.{◌≡◌, ℕ, ◌<◌, ◌≤◌, false, List, [], ◌∷◌, ◌++◌, length}
+use Rattle.std.proofs.Common.{Some, option_map}
 use Rattle.std.proofs.Common.{option_and_then, append-nil, append_assoc, length-append, refl, sym}
 use Rattle.std.proofs.Common.{◌∙◌, ap, subst, arith}
 use Rattle.st_core.specs.declared.types.Pid.{Pid}

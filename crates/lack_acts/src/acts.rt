@@ -13,7 +13,7 @@ use st_core::{Act, Sequence, Streams};
 use std::alloc::Global;
 use std::thread::Threads;
 
-/// The acts of marked streams, in which processes share climbs first.
+/// Returns acts for the told events, in which processes share climbs.
 fn shared_acts<const TOP: u64>(
     rt: &(impl Threads + Sync),
     alloc: Global,
@@ -35,8 +35,8 @@ fn shared_acts<const TOP: u64>(
     }
 }
 
-/// Acts for the told events of a completion, with few changes of tokens and few silent acts. That
-/// they show these events isn't proved: `lack_decide` lets the checker judge them.
+/// Returns acts for the told events of a completion, with few changes of tokens and few silent
+/// acts. That they show these events isn't proved: `lack_decide` lets the checker judge them.
 ///
 /// It sorts on several threads, with one result for every number of threads.
 pub fn lean_acts<const TOP: u64>(

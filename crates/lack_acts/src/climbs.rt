@@ -38,8 +38,8 @@ struct Wish {
     gap: usize,
 }
 
-/// The gaps that a message can help over, by rising count of it. All counts of the others are
-/// offered.
+/// Returns the gaps that a message can help over, by rising count of it. Offers all counts of the
+/// others.
 fn wishes_of(alloc: Global, gaps: &[Gap], offers: &mut Offers) -> Result<Vec<Wish>, AllocError>
     ensures { IfOk result (λ wishes. All (IsWishFor gaps.now) wishes.items) }
 {
@@ -66,8 +66,8 @@ struct Sharing {
 }
 
 impl Sharing {
-    /// Lets the process of the gap take the offered message, if this saves enough. It returns
-    /// what is left of the offer.
+    /// Lets the process of the gap take the offered message, if this saves enough. Returns what is
+    /// left of the offer.
     fn accept(
         &mut self,
         streams: &Streams,
@@ -133,7 +133,7 @@ struct Waiting {
 }
 
 impl Waiting {
-    /// Notes those of a process.
+    /// Notes the sends of a process that nobody receives.
     fn note_process(
         &mut self,
         streams: &Streams,
@@ -155,7 +155,7 @@ impl Waiting {
         Ok(())
     }
 
-    /// Takes out the one for a process that begins a new trace at its count, and returns its
+    /// Takes out the send that waits for a process at the count of its new trace, and returns the
     /// receive.
     fn take(&mut self, streams: &Streams, gap: &Gap) -> Option<Insertion>
         ensures own { IfSome result (IsInsertion streams.now) }
@@ -173,7 +173,7 @@ impl Waiting {
     }
 }
 
-/// The sends that nobody receives; none if that doesn't matter to any gap.
+/// Finds the sends that nobody receives; none if no gap ends in a new trace.
 fn waiting_for(alloc: Global, streams: &Streams, gaps: &[Gap]) -> Result<Waiting, AllocError>
     ensures { IfOk result (λ waiting. All (λ gap. opens_trace gap ≡ false) gaps.now
         → btree_map_len waiting.sends ≡ 0) }
@@ -195,7 +195,7 @@ fn waiting_for(alloc: Global, streams: &Streams, gaps: &[Gap]) -> Result<Waiting
     Ok(waiting)
 }
 
-/// The receive of a waiting message by the process of the gap.
+/// Returns the receive of a waiting message by the process of the gap.
 fn receipt_of(streams: &Streams, gap: &Gap, sent: &Event) -> Option<Insertion>
     ensures { IfSome result (IsInsertion streams.now) }
 {
@@ -213,7 +213,7 @@ fn receipt_of(streams: &Streams, gap: &Gap, sent: &Event) -> Option<Insertion>
 }
 
 /// Lets each process that begins a new trace take a message of that count, if one waits: then it
-/// needn't begin one.
+/// needn't begin a trace.
 fn take_waiting(
     waiting: &mut Waiting,
     streams: &Streams,
@@ -233,7 +233,7 @@ fn take_waiting(
     Ok(())
 }
 
-/// The messages by which processes share climbs, and those that waited.
+/// Returns the messages by which processes share climbs, and those that waited.
 fn shared_messages(alloc: Global, streams: &Streams) -> Result<Vec<Insertion>, AllocError>
     ensures { IfOk result (λ untold. AreInsertions streams.now untold.items) }
 {
@@ -257,8 +257,7 @@ fn shared_messages(alloc: Global, streams: &Streams) -> Result<Vec<Insertion>, A
     Ok(untold)
 }
 
-/// The marked streams with messages by which processes share climbs; none if no message saves
-/// enough.
+/// Adds messages by which processes share climbs; returns none if no message saves enough.
 pub(crate) fn with_shared_climbs(
     alloc: Global,
     streams: &Streams,

@@ -22,7 +22,6 @@ pub(crate) struct TokenDemand {
     print: Option<bool>,
 }
 
-/// Whether a flag is as it is demanded.
 fn is_right(demanded: Option<bool>, flag: bool) -> bool
     ensures { result ≡ is_right demanded flag }
 {
@@ -33,7 +32,7 @@ fn is_right(demanded: Option<bool>, flag: bool) -> bool
 }
 
 impl TokenDemand {
-    /// A print's demand. A print that nobody sees is untold.
+    /// Returns the demand of a print. A print that stands for a missing count is untold.
     pub(crate) fn by_print(label: Label, is_told: bool) -> TokenDemand
         ensures { result ≡ print_demand label is_told }
     {
@@ -46,7 +45,7 @@ impl TokenDemand {
         }
     }
 
-    /// A send's demand, with whether its receive is told, if there is one.
+    /// Returns the demand of a send. Takes whether its receive is told, if there is one.
     pub(crate) fn by_send(label: Label, is_told: bool, is_receive_told: Option<bool>) -> TokenDemand
         ensures { result ≡ send_demand label is_told is_receive_told }
     {
@@ -59,7 +58,7 @@ impl TokenDemand {
         }
     }
 
-    /// A component that the token needs and hasn't; none if the token meets the demand.
+    /// Returns a component that the token lacks; none if the token meets the demand.
     fn change(self, token: Token) -> Option<Component>
         ensures { result ≡ change self token }
     {
@@ -78,8 +77,8 @@ impl TokenDemand {
         None
     }
 
-    /// The token as it is restored, with the usual flags if the choice is free. The stamp gives it
-    /// a serial.
+    /// Returns the token to restore, with the usual flags if the choice is free. The stamp gives
+    /// it a serial.
     fn token(self, pid: Pid, usual: Flags) -> Token
         ensures { result ≡ demanded_token self pid usual }
     {
@@ -96,15 +95,15 @@ impl TokenDemand {
     }
 }
 
-/// Whether a token has a flag. One without may have been made just now, so its flags say nothing
-/// of what comes.
+/// Tells a token with flags from one without, which may have been made just now: then its flags
+/// say nothing of what comes.
 fn has_flag(token: Token) -> bool
     ensures { result ≡ has_flag token }
 {
     token.flags.send || token.flags.receive || token.flags.print
 }
 
-/// The act after which the process's token meets the demand; none if it does already.
+/// Returns the act after which the process's token meets the demand; none if it does already.
 pub(crate) fn change_act(
     pid: Pid,
     token: Option<Token>,

@@ -3,7 +3,8 @@
 ghost use Rattle.std.specs.Prelude.{◌≡◌, true, All, OnOk, IfOk, Some, slice_get};
 ghost use Rattle.st_core.specs.Run.{pids_of};
 ghost use Rattle.st_pair.specs.Places.{is_stamp};
-ghost use Rattle.lack_acts.specs.Gaps.{opens_trace, entered, entry, gains_by, gap_before, serial_at};
+ghost use Rattle.lack_acts.specs.Gaps.{opens_trace, entered, entry, gains_by};
+ghost use Rattle.lack_acts.specs.Gaps.{gap_before, serial_at};
 ghost use Rattle.lack_acts.specs.Gaps.{target, IsGapIn};
 
 use crate::tallies::missing_before;
@@ -40,7 +41,7 @@ pub(crate) struct Gap {
 }
 
 impl Gap {
-    /// The gap before an event, if the process takes no message.
+    /// Returns the gap before an event, if the process takes no message.
     pub(crate) fn before(
         process: usize,
         index: usize,
@@ -64,15 +65,15 @@ impl Gap {
         }
     }
 
-    /// Whether the event begins a new trace.
+    /// Returns whether the event begins a new trace.
     pub(crate) fn opens_trace(&self) -> bool
         ensures { result ≡ opens_trace self.now }
     {
         self.serial.prev != self.left.prev && self.serial.prev >= self.left.greatest
     }
 
-    /// The greatest count of a message after which the event can still come, if the process can
-    /// take one, and took none yet.
+    /// Returns the greatest count of a message after which the event can still come; none if the
+    /// process can take no message, or took one.
     pub(crate) fn target(&self) -> Option<u64>
         ensures { result ≡ target self.now }
     {
@@ -88,7 +89,7 @@ impl Gap {
         None
     }
 
-    /// The index of the event before which the process takes it.
+    /// Returns the index of the event before which the process takes the message.
     pub(crate) fn entry(&self) -> usize
         ensures { result ≡ entry self.now }
     {
@@ -99,7 +100,7 @@ impl Gap {
         }
     }
 
-    /// Whether a message of this count saves more than half of the acts.
+    /// Returns whether a message of this count saves more than half of the acts.
     pub(crate) fn gains_by(&self, count: u64) -> bool
         ensures { result ≡ gains_by self.now count }
     {
@@ -118,7 +119,7 @@ impl Gap {
         }
     }
 
-    /// The serial of a send of this count, which the process passes.
+    /// Returns the serial of a send of this count, which the process passes.
     pub(crate) fn serial_at(&self, count: u64) -> Serial
         ensures { result ≡ serial_at self.now count }
     {
@@ -131,8 +132,7 @@ impl Gap {
     }
 }
 
-/// Whether the gap is noted before the event: more counts than `most` are missing, or a new trace
-/// begins.
+/// Returns whether more counts than `most` are missing before the event, or a new trace begins.
 fn is_noted(gap: &Gap, event: &Event, most: u64) -> bool
     ensures { result ≡ true → is_stamp event.now ≡ true }
 {
@@ -166,8 +166,8 @@ fn note_gaps(
     Ok(())
 }
 
-/// The gaps of all processes in which more counts than `most` are missing, or that end in a new
-/// trace.
+/// Returns the gaps of all processes in which more counts than `most` are missing, or that end in
+/// a new trace.
 pub(crate) fn gaps_of(alloc: Global, streams: &Streams, most: u64) -> Result<Vec<Gap>, AllocError>
     ensures { IfOk result (λ gaps. All (IsGapIn streams.now) gaps.items) }
 {

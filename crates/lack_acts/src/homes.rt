@@ -30,7 +30,6 @@ struct ProcessEnd {
     event_count: usize,
 }
 
-/// What the events leave.
 fn left_by(events: &[Event]) -> Left
     ensures { result ≡ left_by events.now }
 {
@@ -41,7 +40,7 @@ fn left_by(events: &[Event]) -> Left
     left
 }
 
-/// The ends of all processes, by how high they count.
+/// Returns the ends of all processes, by how high they count.
 fn ends_of(alloc: Global, streams: &Streams) -> Result<Vec<ProcessEnd>, AllocError>
     ensures { IfOk result (λ ends. All (IsEndIn streams.now) ends.items) }
 {
@@ -60,7 +59,7 @@ fn ends_of(alloc: Global, streams: &Streams) -> Result<Vec<ProcessEnd>, AllocErr
     Ok(ends)
 }
 
-/// The gap before a send of this message after all events of a process.
+/// Returns the gap before a send of this message after all events of a process.
 fn gap_after(end: ProcessEnd, stray: Stray) -> Gap
     ensures { result ≡ gap_after end stray }
 {
@@ -93,7 +92,7 @@ struct HomeSearch {
 }
 
 impl HomeSearch {
-    /// No message has a home yet in these streams.
+    /// Begins with no message at home.
     fn new(alloc: Global, streams: &Streams) -> Result<HomeSearch, AllocError>
         ensures ends { IfOk result (λ search. All (IsEndIn streams.now) search.ends.items) }
         ensures untold { IfOk result (λ search. search.untold.items ≡ []) }
@@ -111,7 +110,7 @@ impl HomeSearch {
         })
     }
 
-    /// A gap whose process passes this count, which is then taken.
+    /// Returns a gap whose process passes this count, and takes the count.
     fn gap_with(&mut self, count: u64) -> Result<Option<Gap>, AllocError>
         ensures found { IfOk result (λ some. IfSome some (Contains self.old.gaps.items)) }
         ensures untold { self.new.untold.items ≡ self.old.untold.items }
@@ -130,7 +129,8 @@ impl HomeSearch {
         Ok(self.gaps.get(offer.gap).copied())
     }
 
-    /// The process whose counts end next below the message's. It passes those between.
+    /// Returns a gap after the process whose counts end next below the message's. The process
+    /// passes the counts between.
     fn gap_at_end(&mut self, stray: Stray) -> Result<Option<Gap>, AllocError>
         ensures found { IfOk result (λ some. IfSome some (IsGapFor stray)) }
         ensures untold { OnOk result (self.new.untold.items ≡ self.old.untold.items) }
@@ -161,7 +161,7 @@ impl HomeSearch {
         Ok(home)
     }
 
-    /// Gives the message a home. It returns false if there is none.
+    /// Gives the message a home. Returns false if there is none.
     fn settle(&mut self, streams: &Streams, stray: Stray) -> Result<bool, AllocError>
         requires { AreInsertions streams.now self.old.untold.items }
         ensures { OnOk result (AreInsertions streams.now self.new.untold.items) }
@@ -180,8 +180,8 @@ impl HomeSearch {
     }
 }
 
-/// The sends and receives of the messages, at homes that need few silent stamps; none if some
-/// message has no home, though its old one is there.
+/// Returns the sends and receives of the messages, at homes that need few silent stamps; none if
+/// some message has no home, though its old one is there.
 fn settle_all(
     alloc: Global,
     streams: &Streams,
@@ -200,8 +200,8 @@ fn settle_all(
     Ok(Some(untold))
 }
 
-/// The marked streams with their stray messages at homes that need few silent stamps; none if this
-/// saves nothing.
+/// Moves the stray messages to homes that need few silent stamps; returns none if this saves
+/// nothing.
 pub(crate) fn with_near_homes(
     alloc: Global,
     streams: &Streams,

@@ -24,7 +24,7 @@ pub(crate) struct Insertion {
 }
 
 impl Insertion {
-    /// The key by which insertions are sorted: those with one place by count.
+    /// Returns the key by which insertions are sorted: those with one place by count.
     fn key(&self) -> (usize, usize, bool, u64)
         ensures { result ≡ (
           self.now.process,
@@ -43,7 +43,7 @@ impl Insertion {
 }
 
 /// Adds the untold events from `first` on that are before the event at this index of the process.
-/// It returns the place of the first that isn't.
+/// Returns the place of the next one.
 fn add_untold(
     whole: &mut Vec<MarkedEvent>,
     untold: &[Insertion],
@@ -68,8 +68,8 @@ fn add_untold(
     Ok(untold.len())
 }
 
-/// The events of a process, each after the untold ones that are before it. It takes these from
-/// `first` on, and returns the place of the first that is another process's.
+/// Puts the untold events of a process before its own. Takes them from `first` on, and returns the
+/// place of the first that is another process's.
 fn merged(
     alloc: Global,
     events: &[Event],
@@ -94,8 +94,8 @@ fn merged(
     Ok((whole, next))
 }
 
-/// The marked streams with these untold events besides their own; none if a pid that one of these
-/// names isn't listed.
+/// Adds these untold events to the marked streams; returns none if a pid that one of them names
+/// isn't listed.
 pub(crate) fn with_insertions(
     alloc: Global,
     streams: &Streams,

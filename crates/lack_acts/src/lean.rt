@@ -42,7 +42,7 @@ struct Acts<const TOP: u64> {
 }
 
 impl<const TOP: u64> Acts<TOP> {
-    /// No acts yet of these processes.
+    /// Begins with no acts.
     fn new(alloc: Global, pids: &[Pid], most: u64, usual: Flags) -> Result<Acts<TOP>, LeanFault>
         ensures { IfOk result (IsBegun pids.now most) }
     {
@@ -229,7 +229,6 @@ impl<const TOP: u64> Acts<TOP> {
         Ok(())
     }
 
-    /// The acts.
     fn into_acts(self) -> Sequence<Act>
         ensures { result ≡ self.entry.acts }
     {
@@ -238,7 +237,7 @@ impl<const TOP: u64> Acts<TOP> {
     }
 }
 
-/// The acts of all items, in their order.
+/// Returns the acts of all items, in their order.
 fn acts_in_order<const TOP: u64>(
     alloc: Global,
     streams: &Streams,
@@ -259,7 +258,7 @@ fn acts_in_order<const TOP: u64>(
     Ok(acts.into_acts())
 }
 
-/// Acts for the told events.
+/// Returns acts for the told events.
 ///
 /// It sorts on several threads, with one result for every number of threads.
 pub(crate) fn acts_of<const TOP: u64>(

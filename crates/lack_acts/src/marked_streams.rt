@@ -19,7 +19,7 @@ pub(crate) struct MarkedStreams {
     pub marks: Vec<Sequence<bool>>,
 }
 
-/// Whether the event at this index of the process is told; false if there is no event.
+/// Returns whether the event at this index of the process is told; false if there is no event.
 pub(crate) fn is_told(streams: &Streams, marks: &[Sequence<bool>], pid: Pid, index: u64) -> bool
     ensures { result ≡ option_map_or (λ m. m.told)
         (slice_get (marked_of (wholes_with streams.now marks.now) pid) index) false }
@@ -31,7 +31,6 @@ pub(crate) fn is_told(streams: &Streams, marks: &[Sequence<bool>], pid: Pid, ind
     index < streams.len(pid) && is_marked(marks_at(marks, place), index as usize)
 }
 
-/// The pid of the process at this place.
 pub(crate) fn pid_at(streams: &Streams, process: usize) -> Option<Pid>
     ensures { result ≡ slice_get (pids_of streams.now) process }
 {
@@ -68,7 +67,6 @@ fn add_events(draft: &mut Draft, pid: Pid, events: &[MarkedEvent]) -> Result<(),
     Ok(())
 }
 
-/// The marks of these events.
 fn told_marks(alloc: Global, events: &[MarkedEvent]) -> Result<Vec<bool>, AllocError>
     ensures { IfOk result (λ marks. marks.items ≡ map (λ m. m.is_told) events.now) }
 {
@@ -76,7 +74,7 @@ fn told_marks(alloc: Global, events: &[MarkedEvent]) -> Result<Vec<bool>, AllocE
 }
 
 impl MarkedDraft {
-    /// No processes.
+    /// Begins with no processes.
     pub(crate) fn new(alloc: Global) -> MarkedDraft
         ensures streams { result.draft ≡ [] }
         ensures marks { result.marks.items ≡ [] }
@@ -105,7 +103,7 @@ impl MarkedDraft {
         Ok(())
     }
 
-    /// The streams with their marks; none if an event names a pid that isn't listed.
+    /// Returns the streams with their marks; none if an event names a pid that isn't listed.
     pub(crate) fn close(self) -> Option<MarkedStreams>
         ensures { IfSome result (λ closed. wholes_with closed.streams closed.marks.items
             ≡ wholes_with self.draft self.marks.items) }

@@ -22,7 +22,7 @@ pub(crate) struct Receipt {
     pub comes_last: bool,
 }
 
-/// The send of this count from a gap, and its receive; none if a process isn't listed.
+/// Returns the send of this count from a gap, and its receive; none if a process isn't listed.
 fn message(streams: &Streams, from: &Gap, to: Receipt, count: u64) -> Option<(Insertion, Insertion)>
     ensures { IfSome result (λ pair. IsMessage streams.now count pair.0 pair.1) }
 {
@@ -54,8 +54,8 @@ fn message(streams: &Streams, from: &Gap, to: Receipt, count: u64) -> Option<(In
     Some((send, receive))
 }
 
-/// Puts the send of this count from a gap, and its receive, among the untold events. It returns
-/// false if a process isn't listed.
+/// Puts the send of this count from a gap, and its receive, among the untold events. Returns false
+/// if a process isn't listed.
 pub(crate) fn put_message(
     untold: &mut Vec<Insertion>,
     streams: &Streams,

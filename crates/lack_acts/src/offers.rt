@@ -52,7 +52,7 @@ impl Offers {
         Ok(())
     }
 
-    /// Moves those that reach up to this count to the ready ones. Takes out the first of the
+    /// Moves the offers that reach up to this count to the ready ones. Takes out the first of the
     /// others.
     fn make_ready(&mut self, count: u64) -> Result<Option<Offer>, AllocError>
         ensures reach { All (λ o. count ≤ o.next) self.old.ready.items
@@ -91,7 +91,7 @@ impl Offers {
     }
 }
 
-/// All counts that the process of the gap passes.
+/// Returns all counts that the process of the gap passes.
 pub(crate) fn offer_of(gap: &Gap, number: usize) -> Offer
     ensures { result ≡ offer_of gap.now number }
 {

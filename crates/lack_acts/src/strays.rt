@@ -37,7 +37,6 @@ struct Removal {
     message: Option<usize>,
 }
 
-/// Whether the event is a send that nobody reported.
 fn is_untold_send(event: &Event, is_told: bool) -> bool
     ensures { result ≡ is_untold_send (record { event = event.now; told = is_told }) }
 {
@@ -47,7 +46,7 @@ fn is_untold_send(event: &Event, is_told: bool) -> bool
     }
 }
 
-/// How many counts are missing before the untold sends at the end, with one event more.
+/// Returns how many counts are missing before the untold sends at the end, with one event more.
 fn missing_with(missing: u64, left: Left, event: &Event, is_told: bool) -> u64
     ensures { result ≡ missing_with missing left (record { event = event.now; told = is_told }) }
 {
@@ -58,7 +57,7 @@ fn missing_with(missing: u64, left: Left, event: &Event, is_told: bool) -> u64
     }
 }
 
-/// How many counts are missing before the last events of a process, its untold sends.
+/// Returns how many counts are missing before the last events of a process, its untold sends.
 fn missing_at_end(events: &[Event], marks: &[bool]) -> u64
     ensures { result ≡ missing_at_end 0 [] (marked_with events.now marks.now) }
 {
@@ -71,8 +70,8 @@ fn missing_at_end(events: &[Event], marks: &[bool]) -> u64
     missing
 }
 
-/// Whether some process passes counts for the sake of invented messages alone, as it seems
-/// without a pairing.
+/// Returns whether some process seems to pass counts for invented messages alone. No pairing is
+/// needed to tell.
 pub(crate) fn may_save(streams: &Streams, marks: &[Sequence<bool>]) -> bool
     ensures { result ≡ may_save (wholes_with streams.now marks.now) }
 {
@@ -92,8 +91,8 @@ pub(crate) struct Strays {
 }
 
 impl Strays {
-    /// Notes the message of this untold send. It returns false if its receive is told, or if there
-    /// is none.
+    /// Notes the message of this untold send. Returns false if its receive is told, or if there is
+    /// none.
     fn note(
         &mut self,
         streams: &Streams,
@@ -178,7 +177,7 @@ impl Strays {
         Ok(())
     }
 
-    /// Whether the removal at this place is of the event, which stays if it is told.
+    /// Returns whether the removal at this place takes out the event. A told event stays.
     fn is_removed(&self, place: usize, process: usize, index: usize, is_told: bool) -> bool
         ensures untold { result ≡ true → is_told ≡ false }
         ensures there { result ≡ true → place < vec_len self.now.removals }
@@ -203,8 +202,8 @@ impl Strays {
         }
     }
 
-    /// The events of a process that stay: all but the untold ones that are removed. It takes the
-    /// removals from `first` on, and returns the place of the first that is another process's.
+    /// Returns the events of a process that stay: all but the untold ones that are removed. Takes
+    /// the removals from `first` on, and returns the place of the first that is another process's.
     fn kept(
         &mut self,
         alloc: Global,
@@ -233,8 +232,8 @@ impl Strays {
         Ok((stay, next))
     }
 
-    /// The marked streams without the stray messages; none if a pid that an event names isn't
-    /// listed.
+    /// Takes the stray messages out of the marked streams; returns none if a pid that an event
+    /// names isn't listed.
     pub(crate) fn keep(
         &mut self,
         alloc: Global,
@@ -258,7 +257,7 @@ impl Strays {
     }
 }
 
-/// The stray messages of marked streams; none if these can't be paired.
+/// Finds the stray messages of marked streams; none if these can't be paired.
 pub(crate) fn strays_of(
     alloc: Global,
     streams: &Streams,

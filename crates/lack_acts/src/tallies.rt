@@ -17,7 +17,6 @@ pub(crate) struct FlagTally {
 }
 
 impl FlagTally {
-    /// Counts one event more.
     fn count(&mut self, is_told: bool)
         ensures { self.new ≡ counted self.old is_told }
     {
@@ -28,7 +27,7 @@ impl FlagTally {
         }
     }
 
-    /// The flag that is right for most.
+    /// Returns the flag that is right for most.
     fn flag(self) -> bool
         ensures { result ≡ nat_le self.untold self.told }
     {
@@ -45,7 +44,6 @@ pub(crate) struct FlagTallies {
 }
 
 impl FlagTallies {
-    /// Tallies of no events.
     fn new() -> FlagTallies
         ensures { result ≡ no_flags }
     {
@@ -57,7 +55,6 @@ impl FlagTallies {
         }
     }
 
-    /// Counts one event more.
     fn count(&mut self, kind: Kind, is_told: bool)
         ensures { self.new ≡ counted_by_kind self.old kind is_told }
     {
@@ -89,7 +86,7 @@ impl FlagTallies {
         }
     }
 
-    /// Tallies of all events.
+    /// Counts all events.
     fn of(streams: &Streams, marks: &[Sequence<bool>]) -> FlagTallies
         ensures { result ≡ counted_whole no_flags (wholes_with streams.now marks.now) }
     {
@@ -101,8 +98,8 @@ impl FlagTallies {
     }
 }
 
-/// The flags that are right for most events. A restored token gets them if its stamp leaves the
-/// choice.
+/// Returns the flags that are right for most events. A restored token gets them if its stamp
+/// leaves the choice.
 pub(crate) fn usual_flags(streams: &Streams, marks: &[Sequence<bool>]) -> Flags
     ensures { result ≡ usual_flags (wholes_with streams.now marks.now) }
 {
@@ -114,7 +111,7 @@ pub(crate) fn usual_flags(streams: &Streams, marks: &[Sequence<bool>]) -> Flags
     }
 }
 
-/// How many counts the process passed unreported between these events and the next one.
+/// Returns how many counts the process passed unreported between these events and the next one.
 pub(crate) fn missing_before(left: Left, next: &Event) -> u64
     ensures { result ≡ missing_before left next.now }
 {
@@ -128,7 +125,7 @@ pub(crate) fn missing_before(left: Left, next: &Event) -> u64
     }
 }
 
-/// How many counts are missing before the events of a process.
+/// Returns how many counts are missing before the events of a process.
 fn missing_from(events: &[Event]) -> u64
     ensures { result ≡ missing_from 0 [] events.now }
 {
@@ -141,7 +138,7 @@ fn missing_from(events: &[Event]) -> u64
     missing
 }
 
-/// How many counts are missing before all events.
+/// Returns how many counts are missing before all events.
 pub(crate) fn missing_in(streams: &Streams) -> u64
     ensures { result ≡ missing_in 0 streams.now }
 {
