@@ -223,7 +223,12 @@ many_processes_test_() ->
         Name = seqaudit_audits:file("many_processes"),
         ok = file:write_file(Name ++ ".terms", Terms),
         #{{node, <<"2">>} := <<"a@h">>, {node, <<"3">>} := <<"a@h">>} =
-            seqaudit_test_traces:terms(Name)
+            seqaudit_test_traces:terms(Name),
+        ok = file:write_file(Name ++ ".seqtrace", Text),
+        seqaudit_audits:with_gemshowal("many processes", fun(_) ->
+            {0, <<"fits: 163,841 events of 163,841 processes", _/binary>>} =
+                seqaudit_audits:gemshowal(["audit", Name])
+        end)
     end}.
 
 lost_test() ->

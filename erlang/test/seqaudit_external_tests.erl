@@ -177,4 +177,9 @@ newer_test() ->
      || Text <- [<<"\t{reply,#Newer<68>,...}\n">>, <<"#Newer<68>">>, <<"\t[#Newer<68>]\n">>]],
     [{_, _} = {1, string:find(lists:append(Notes), Part)}
      || Part <- ["left out 1 entry with terms of a newer Erlang/OTP", "left out 1 entry that can't be read"],
-        string:find(lists:append(Notes), Part) =/= nomatch orelse error(Notes)].
+        string:find(lists:append(Notes), Part) =/= nomatch orelse error(Notes)],
+    seqaudit_audits:with_gemshowal("newer terms", fun(_) ->
+        {0, Said} = seqaudit_audits:gemshowal(["audit", Name]),
+        {_, _} = binary:match(Said, <<"The trace isn't whole:\n  convert left out 1 entry that can't be read">>),
+        {_, _} = binary:match(Said, <<"\n  convert left out 1 entry with terms of a newer Erlang/OTP">>)
+    end).

@@ -158,7 +158,8 @@ impl Sentences<'_> {
         let events = || waiting.iter().filter_map(|&(pid, i)| self.shown.streams.event(pid, i));
         let to_port = events().any(|it| it.to.is_some_and(|to| names.is_port(to)));
         let late = events().any(|it| names.is_reply_to_alias(it.value));
-        let far = events().any(|it| it.to.is_some_and(|to| to.node() != it.from.node()));
+        let far = !names.has_further_nodes()
+            && events().any(|it| it.to.is_some_and(|to| to.node() != it.from.node()));
         let mut ways = String::new();
         for (is_so, way) in [
             (to_port, ", or went to a port"),

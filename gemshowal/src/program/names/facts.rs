@@ -8,7 +8,7 @@ use std::path::Path;
 const HEADER: &str = "seqaudit facts 1";
 
 /// The kinds of facts that tell of a loss. The others say how the trace was made.
-const LOSSES: [&str; 12] = [
+const LOSSES: [&str; 13] = [
     "nothing",
     "lost",
     "unread",
@@ -16,6 +16,7 @@ const LOSSES: [&str; 12] = [
     "dropped",
     "left",
     "damaged",
+    "newer",
     "no_events",
     "pauses",
     "written_over",

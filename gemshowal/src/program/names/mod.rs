@@ -142,6 +142,11 @@ impl Names {
         format!("{}#{index}", self.process(pid))
     }
 
+    /// Returns whether two node numbers may mean one node.
+    pub(crate) fn has_further_nodes(&self) -> bool {
+        self.terms.has_further_nodes()
+    }
+
     pub(crate) fn losses(&self) -> &[String] {
         &self.losses
     }

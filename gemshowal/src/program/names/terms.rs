@@ -1,11 +1,12 @@
 //! `NAME.terms`: the names of processes, labels and messages. A line is an entry, with tabs between
-//! its parts: `process PID NAME ABOUT`, `label NUMBER TERM` or `value NUMBER TERM`.
+//! its parts: `process PID NAME ABOUT`, `label NUMBER TERM`, `value NUMBER TERM`, or `node NUMBER
+//! NAME` for a further number of a node that has more than one.
 
 use super::elixir;
 use super::entry::{lines, number, Fault};
 use super::shown::escaped;
 use gemshowal::{Label, Pid};
-use std::collections::HashMap;
+use std::collections::{HashMap, HashSet};
 use std::path::Path;
 
 const HEADER: &str = "seqaudit terms 1";
@@ -21,6 +22,7 @@ pub(super) struct Terms {
     processes: HashMap<Pid, Process>,
     labels: HashMap<u32, Box<str>>,
     values: HashMap<u64, Box<str>>,
+    further_nodes: HashSet<u64>,
     are_elixir: bool,
 }
 
@@ -58,6 +60,7 @@ impl Terms {
             }
             "label" => self.labels.insert(number(of)?.try_into().ok()?, text).is_none(),
             "value" => self.values.insert(number(of)?, text).is_none(),
+            "node" => self.further_nodes.insert(number(of)?),
             _ => false,
         };
         (is_new && parts.next().is_none()).then_some(())
@@ -75,6 +78,11 @@ impl Terms {
     /// them.
     pub(super) fn are_elixir(&self) -> bool {
         self.are_elixir
+    }
+
+    /// Returns whether two node numbers may mean one node.
+    pub(super) fn has_further_nodes(&self) -> bool {
+        !self.further_nodes.is_empty()
     }
 
     pub(super) fn is_empty(&self) -> bool {
