@@ -30,7 +30,8 @@ all(Nodes) ->
     end, lists:seq(From, To)),
     seqaudit_audits:with_gemshowal("truth", fun(_) ->
         Audits = [seqaudit_audits:gemshowal(["audit", name(Seed)]) || Seed <- lists:seq(max(From, To - 19), To)],
-        [] = [Said || {Status, Said} <- Audits, Status > 1]
+        [] = [Said || {Status, Said} <- Audits, Status > 1],
+        ok
     end).
 
 %% Half of them with all flags, the others with one off or a tracer that comes on late; half of them on two nodes.
