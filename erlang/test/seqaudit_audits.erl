@@ -1,4 +1,4 @@
-%% What the tests ask the programs. The auditor's model is asked if there is Python, and the program
+%% Asks the programs for the tests. The auditor's model is asked if there is Python, and the program
 %% if it is built; then both must write the same.
 -module(seqaudit_audits).
 
@@ -29,7 +29,7 @@ home(Folder) ->
         false -> home(filename:dirname(Folder))
     end.
 
-%% The tests of the programs, beside the folder of the application.
+%% The tests of the programs, next to the folder of the application.
 tests() ->
     filename:join(filename:dirname(home()), "tests").
 

@@ -15,7 +15,7 @@ event(Line) ->
     #{label => Label, kind => Kind, prev => binary_to_integer(Prev),
       this => binary_to_integer(This), from => From, to => To, value => Value}.
 
-%% What the processes, labels and values are called.
+%% The names of the processes, labels and values.
 terms(Name) ->
     {ok, <<"seqaudit terms 1\n", Text/binary>>} = file:read_file(Name ++ ".terms"),
     maps:from_list(lists:append([entry(binary:split(Line, <<"\t">>, [global]))
@@ -26,7 +26,7 @@ entry([<<"label">>, Number, Term]) -> [{{label, Term}, Number}];
 entry([<<"value">>, Number, Term]) -> [{{value, Number}, Term}];
 entry([<<"node">>, Number, Name]) -> [{{node, Number}, Name}].
 
-%% How many events have a time, and how long each message took.
+%% The number of events that have a time, and the time that each message took.
 times(Name) ->
     {ok, <<"seqaudit times 1\n", Text/binary>>} = file:read_file(Name ++ ".times"),
     Entries = [binary:split(Line, <<" ">>, [global])
@@ -34,7 +34,7 @@ times(Name) ->
     {length([Pid || [<<"event">>, Pid, _, _] <- Entries]),
      [binary_to_integer(Took) || [<<"message">>, _, _, _, _, Took] <- Entries]}.
 
-%% The sentences of what is gone.
+%% The sentences on what is gone.
 losses(Name) ->
     {ok, Facts} = file:read_file(Name ++ ".facts"),
     seqaudit_notes:losses(Facts).

@@ -34,7 +34,7 @@ run(Seed, #{nodes := Nodes, flags := Flags, late := Late}, Name) ->
     {Reported -- [{Kind, Number} || {_, _, Kind, Number} <- Log], [One || Whole, One <- missing(Reported, Log)],
      Changed}.
 
-%% What the trace has, and the messages that it has with two contents.
+%% Returns what the trace has, and the messages that it has with two contents.
 reported(Name) ->
     Terms = seqaudit_test_traces:terms(Name),
     Contents = [{Event, content_of(maps:get({value, Value}, Terms))}
@@ -56,7 +56,7 @@ happened(<<"send">>) -> sent;
 happened(<<"'receive'">>) -> received;
 happened(<<"print">>) -> printed.
 
-%% What happened under a token between two reported events of its process, and isn't in the trace.
+%% Returns what happened under a token between two reported events of its process, and isn't in the trace.
 missing(Reported, Log) ->
     Known = maps:from_keys(Reported, reported),
     ByPid = maps:groups_from_list(fun({_, Pid, _, _}) -> Pid end, lists:sort(Log)),

@@ -1,4 +1,4 @@
-%% What `watch' learns of a trace from gemshowal, and from a program that isn't it.
+%% The verdicts that `watch' gets from gemshowal, and from a program that isn't it.
 -module(seqaudit_verdict_tests).
 
 -export([verdicts_test_/0, other_programs_test/0, json_test/0, no_json_test/0]).

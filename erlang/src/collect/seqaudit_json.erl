@@ -9,7 +9,7 @@
 
 -define(IS_BLANK(C), C =:= $\s; C =:= $\t; C =:= $\n; C =:= $\r).
 
-%% @doc The value that a text has.
+%% @doc Returns the value of a text.
 -spec decode(binary()) -> {ok, value()} | {error, not_json}.
 decode(Text) ->
     try value(blank(Text)) of

@@ -1,4 +1,4 @@
-%% @doc What `gemshowal audit' says of a trace.
+%% @doc Asks `gemshowal audit' for its verdict on a trace.
 -module(seqaudit_verdict).
 
 -export([of_trace/1, find/0, format_error/1]).
@@ -8,15 +8,15 @@
 
 -define(PROGRAM, "gemshowal").
 -define(VARIABLE, "GEMSHOWAL").
-%% The first line of a trace with counts as the node prints them, which the program doesn't read.
+%% The first line of a trace whose counts have signs, which the program doesn't read.
 -define(WRAPPED, "seqtrace 3\n").
-%% What the program says on standard error is in its JSON too.
+%% Drops what the program writes to standard error, as its JSON has that too.
 -define(SHELL, "exec \"$0\" \"$@\" 2>/dev/null").
 
 -type reason() :: {no_program, [file:filename()]} | {missing, file:filename()} | wrapped
                 | {ended, file:filename(), Status :: non_neg_integer()} | {refused, binary()}.
 
-%% @doc Whether a run has the trace of this name, and the sentence that says so.
+%% @doc Returns whether a run has the trace of this name, and the sentence that says so.
 -spec of_trace(file:filename()) -> {fits | unfit, Headline :: binary()} | {error, reason()}.
 of_trace(Name) ->
     File = Name ++ ".seqtrace",
@@ -34,8 +34,8 @@ said(Program, {Status, Output}) ->
         _ -> {error, {ended, Program, Status}}
     end.
 
-%% @doc Where the program is: where the variable says; in the folder of this application, or in
-%% `bin' beside that; on the path; or where `make rust' builds it.
+%% @doc Finds the program: the one that the variable names; else one in the folder of this
+%% application, or in `bin' next to that; one on the path; or the one that `make rust' builds.
 -spec find() -> {ok, file:filename()} | {error, reason()}.
 find() ->
     case os:getenv(?VARIABLE) of

@@ -1,4 +1,5 @@
-%% @doc `NAME.notes': what the conversion decided, what it left out, and what `gemshowal' won't take.
+%% @doc `NAME.notes': what the conversion decided, what it left out, and what `gemshowal' won't
+%% take.
 %%
 %% `NAME.facts' has the same sentences, each behind the kind of fact that it says: below the line
 %% `seqaudit facts 1' a line each, with a tab between. What a trace lacks is computed from the
@@ -325,8 +326,8 @@ samples(Count, Samples) ->
                   end]).
 
 limits(Sizes) ->
-    [text("the programs don't take this trace: it has ~ts ~ts, and `gemshowal' takes ~ts; trace for "
-          "a shorter time",
+    [text("the programs don't take this trace: it has ~ts ~ts, and `gemshowal' takes ~ts; trace "
+          "for a shorter time",
           [seqaudit_errors:number(count(Kind, Sizes)), Kind, seqaudit_errors:number(Most)])
      || {Kind, Most} <- [{bytes, ?MOST_BYTES}, {processes, ?MOST_PROCESSES},
                          {events, ?MOST_EVENTS}],

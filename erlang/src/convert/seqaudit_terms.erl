@@ -72,9 +72,9 @@ number_label(Label, {Numbers, Next, Taken}) -> {Numbers#{Label => Next}, Next + 
 encoded(Term) ->
     encoded(Term, #{}).
 
-%% @doc The term of these bytes as Erlang prints it, on one line, cut if it is large. A process with a
-%% number in the bundle is spelled by it: how Erlang prints one of another node differs from node to
-%% node.
+%% @doc The term of these bytes as Erlang prints it, on one line, cut if it is large. A process with
+%% a number in the bundle is spelled by it: how Erlang prints one of another node differs from node
+%% to node.
 -spec encoded(seqaudit_external:encoded(), numbers()) -> string().
 encoded(Term, Numbers) ->
     unicode:characters_to_list(append(Term, Numbers, <<>>)).
