@@ -98,8 +98,7 @@ audited(#state{name = Name, number = Number, rest = Rest, again = Again}) ->
             outcome(Period, 0, ["" | lists:map(fun became/1, Rotated)], []);
         {ok, Joined} ->
             {Own, Later, How} =
-                cut(Joined, Period,
-                    lists:any(fun({_, Written}) -> has_ended(Written) end, Rotated)),
+                cut(Joined, lists:any(fun({_, Written}) -> has_ended(Written) end, Rotated)),
             case seqaudit_convert:from_files(Own, Period) of
                 {ok, #{events := Events}} ->
                     outcome(Period, Events, [How | lists:map(fun became/1, Rotated)], Later);
@@ -163,11 +162,9 @@ join([{_, [Former, Later]} | Others], Period, Joined) ->
     end.
 
 %% What came before a node stopped collecting isn't joined with what comes after that.
-cut([], _Period, _HasEnded) ->
-    {[], [], "no node was asked"};
-cut(Files, _Period, true) ->
+cut(Files, true) ->
     {Files, [], "cut at its end"};
-cut(Files, _Period, false) ->
+cut(Files, false) ->
     Own = [part(File, "own") || File <- Files],
     Rest = [part(File, "rest") || File <- Files],
     case seqaudit_quiet:cut(Files, Own, Rest) of
