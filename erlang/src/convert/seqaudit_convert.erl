@@ -38,6 +38,8 @@
 -define(SHARE, 5_000).
 %% A process makes the whole texts of messages with so many bytes together, or of one.
 -define(WHOLE_SHARE, 1_000_000).
+%% The size of a spelled process, `<65535.65535.0>', with a byte for its length.
+-define(SLOT, 16).
 
 %% The parts of a bundle, each a function that hands its text on piece by piece.
 -type part() :: fun((fun((iodata()) -> ok)) -> ok).
@@ -209,15 +211,15 @@ parts(#build{actors = Actors, others = Others} = Build) ->
     LabelTexts =
         list_to_tuple([integer_to_binary(maps:get(Label, LabelNumbers)) || Label <- Labels]),
     Spawns = seqaudit_spawns:read(Build#build.values),
-    OfActors = list_to_tuple(element(1, Listed)),
-    Births = seqaudit_spawns:births(Packed, OfActors, Spawns),
+    Senders = seqaudit_spawns:senders(element(1, Listed)),
+    Births = seqaudit_spawns:births(Packed, Senders, Spawns),
     {Streams, Nameless, Placed} = streams(Packed, Spelled, Births),
     Wrapped = seqaudit_spawns:has_wrapped(Packed, Spawns),
     Sorted = lists:sort([{Number, Party} || {Party, Number} <- maps:to_list(Numbers)]),
     Counts = maps:merge(Build#build.counts, Resolved#{nameless => Nameless}),
     IsAnswer = case Wrapped of
                    true -> fun(Before, Event) ->
-                       seqaudit_spawns:is_answer(Before, Event, OfActors, Spawns) end;
+                       seqaudit_spawns:is_answer(Before, Event, Senders, Spawns) end;
                    false -> fun(_, _) -> false end
                end,
     ByLabel = lists:sort([{Number, Label} || {Label, Number} <- maps:to_list(LabelNumbers)]),
@@ -226,7 +228,8 @@ parts(#build{actors = Actors, others = Others} = Build) ->
                      bundle(Sorted, Streams, Packed, {Spelled, LabelTexts, IsAnswer}, Out)
              end,
     Values = Build#build.values,
-    Known = seqaudit_spawns:learn(Births, Packed, OfActors, Values, Build#build.known),
+    Known = seqaudit_spawns:learn(Births, Packed, element(1, Listed), Values,
+                                  Build#build.known),
     Dots = atomics:new(seqaudit_numbers:size(Values) + 1, []),
     Terms = fun(Out) -> terms(Sorted, ByLabel, {Known, Values}, {Numbers, Dots}, Out) end,
     Messages = fun(Out) -> messages(Values, {Numbers, Dots}, Out) end,
@@ -262,24 +265,38 @@ use(?NOBODY, _) -> ok;
 use(Party, {_, Others}) when Party >= ?OTHER -> atomics:put(Others, Party - ?OTHER + 1, 1);
 use(Party, {Actors, _}) -> atomics:put(Actors, Party + 1, 1).
 
-seen(Parties, Seen) ->
-    [Party || {Place, Party} <- lists:zip(lists:seq(1, length(Parties)), Parties),
-              atomics:get(Seen, Place) =:= 1].
+seen(Parties, Seen) -> seen(Parties, 1, Seen).
 
-%% Each party in the spelling of the bundle; `none' if no number was left for it.
+seen([], _Place, _Seen) ->
+    [];
+seen([Party | Parties], Place, Seen) ->
+    case atomics:get(Seen, Place) of
+        1 -> [Party | seen(Parties, Place + 1, Seen)];
+        0 -> seen(Parties, Place + 1, Seen)
+    end.
+
+%% Spells each party as the bundle does, in one binary that processes share. A party that no number
+%% was left for has none.
 spelled({Actors, Others}, Numbers) ->
-    Spell = fun(Party) ->
-                    case Numbers of
-                        #{Party := Number} -> list_to_binary(seqaudit_processes:spell(Number));
-                        #{} -> none
-                    end
-            end,
-    {list_to_tuple([Spell(Actor) || Actor <- Actors]),
-     list_to_tuple([Spell(Other) || Other <- Others])}.
+    {<< <<(slot(Actor, Numbers))/binary>> || Actor <- Actors >>,
+     << <<(slot(Other, Numbers))/binary>> || Other <- Others >>}.
+
+slot(Party, Numbers) ->
+    Spelled = case Numbers of
+                  #{Party := Number} -> list_to_binary(seqaudit_processes:spell(Number));
+                  #{} -> <<>>
+              end,
+    Size = byte_size(Spelled),
+    <<Size, Spelled/binary, 0:(?SLOT - 1 - Size)/unit:8>>.
 
 spell(?NOBODY, _) -> <<"[]">>;
-spell(Party, {_, Others}) when Party >= ?OTHER -> element(Party - ?OTHER + 1, Others);
-spell(Party, {Actors, _}) -> element(Party + 1, Actors).
+spell(Party, {_, Others}) when Party >= ?OTHER -> in_slot(Party - ?OTHER, Others);
+spell(Party, {Actors, _}) -> in_slot(Party, Actors).
+
+in_slot(Place, Slots) ->
+    Before = Place * ?SLOT,
+    <<_:Before/binary, Size, Spelled:Size/binary, _/binary>> = Slots,
+    Spelled.
 
 %% The places of each process's events in the records, by its spelling; how many events name a party
 %% without a number, and how many don't.
@@ -293,13 +310,14 @@ streams(Packed, Spelled, Births) ->
                                              Before, More), None + Other}
                     end, {#{}, 0}, Looked),
     Ordered = seqaudit_spawns:births_first(Streams, Births),
-    {maps:from_list([{spell(Party, Spelled), Places} || {Party, Places} <- maps:to_list(Ordered)]),
+    {maps:from_list([{binary:copy(spell(Party, Spelled)), Places}
+                     || {Party, Places} <- maps:to_list(Ordered)]),
      Nameless, byte_size(Packed) div ?PACKED_SIZE - Nameless}.
 
 streams(<<?PACKED(Kind, _Label, _Prev, _This, From, To, _Value, _Time), Rest/binary>>, Place,
         Spelled,
         Streams, Nameless) ->
-    case spell(From, Spelled) =:= none orelse spell(To, Spelled) =:= none of
+    case spell(From, Spelled) =:= <<>> orelse spell(To, Spelled) =:= <<>> of
         true -> streams(Rest, Place + 1, Spelled, Streams, Nameless + 1);
         false when Kind =:= ?RECEIVE ->
             streams(Rest, Place + 1, Spelled, placed(To, Place, Streams), Nameless);
@@ -362,7 +380,7 @@ word(?PRINT) -> <<",{print,{">>.
 %% The legend, whose first lines `seqaudit_legend' makes. The values may be many, so a process makes
 %% the texts of some. It notes which of them have dots: all those that are cut do.
 terms(Sorted, Labels, {Known, Values}, {Numbers, Dots}, Out) ->
-    ok = Out(seqaudit_legend:text(named(Sorted, Known, Numbers))),
+    ok = seqaudit_legend:write(Sorted, Known, Numbers, Out),
     ok = Out([["node\t", integer_to_binary(Node), $\t,
                unicode:characters_to_binary(seqaudit_terms:plain(Name)), $\n]
               || {Node, Name} <- seqaudit_processes:further_nodes(Sorted)]),
@@ -438,34 +456,6 @@ entry(Kind, Number, Term, Numbers, Before) ->
                                  <<Before/binary, Kind/binary, $\t,
                                    (integer_to_binary(Number))/binary, $\t>>),
     <<Text/binary, $\n>>.
-
-%% What the legend says of each process. A name that several had, one after the other, is told apart
-%% by the number.
-named(Listed, Known, Numbers) ->
-    Homes = [seqaudit_processes:home(Party) || {_, Party} <- Listed],
-    Many = length(lists:usort(Homes)) > 1,
-    Named = [begin
-                 About = maps:get(Party, Known, #{}),
-                 Caller = caller(About, Known, Numbers),
-                 {seqaudit_processes:spell(Number),
-                  seqaudit_processes:name({Party, Number}, About, Many, Caller),
-                  seqaudit_processes:what(Party, About, Caller)}
-             end || {Number, Party} <- Listed],
-    Count = lists:foldl(fun({_, Name, _},
-                            Count) -> Count#{Name => maps:get(Name, Count, 0) + 1} end,
-                        #{}, Named),
-    [{Pid, case Count of
-               #{Name := 1} -> Name;
-               #{} -> Name ++ " " ++ Pid
-           end, What} || {Pid, Name, What} <- Named].
-
-caller(#{caller := Caller}, Known, Numbers) ->
-    case Known of
-        #{Caller := #{name := Name}} -> seqaudit_terms:atom(Name);
-        #{} -> seqaudit_terms:encoded(Caller, Numbers)
-    end;
-caller(_About, _Known, _Numbers) ->
-    "".
 
 %% @doc A reason of this module in words, with what to do about it.
 -spec format_error({unwritten, file:filename(), term()}) -> string().

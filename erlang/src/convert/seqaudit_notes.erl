@@ -81,15 +81,10 @@ facts(#{collections := Collections, counts := Counts, samples := Samples, wrappe
                   Known,
                   of_kind(wrapped, [wrapped() || Wrapped]),
                   of_kind(limits, limits(Sizes)),
-                  of_kind(nodes, several("nodes are numbered by name: ", nodes_of(Listed))),
+                  of_kind(nodes, nodes_of(Listed)),
                   of_kind(further_nodes, further_nodes(seqaudit_processes:further_nodes(Listed))),
-                  of_kind(renumbered,
-                          several("no processes, or their number was taken, so they have free "
-                                  "numbers: ",
-                                              renumbered(Listed))),
-                  of_kind(labels, several("labels that aren't numbers from 0 to 4294967295 have "
-                                          "numbers: ",
-                                          labels(Labels, Listed)))]).
+                  of_kind(renumbered, renumbered(Listed)),
+                  of_kind(labels, labels(Labels, Listed))]).
 
 of_kind(Kind, Sentences) -> [{Kind, Sentence} || Sentence <- Sentences].
 
@@ -342,26 +337,43 @@ further_nodes(Further) ->
 
 nodes_of(Listed) ->
     Further = maps:from_list(seqaudit_processes:further_nodes(Listed)),
-    case lists:usort([{Node, seqaudit_processes:home(Party)}
-                      || {{Node, _}, Party} <- Listed, not is_map_key(Node, Further)]) of
-        [_, _ | _] = Nodes -> [text("~b is ~ts", [Number, seqaudit_terms:plain(Node)])
-                               || {Number, Node} <- Nodes];
+    Homes = maps:from_list([{Node, Party} || {{Node, _}, Party} <- Listed,
+                                             not is_map_key(Node, Further)]),
+    case lists:sort(maps:to_list(Homes)) of
+        [_, _ | _] = Nodes ->
+            several("nodes are numbered by name: ", Nodes,
+                    fun({Number, Party}) ->
+                            text("~b is ~ts", [Number, seqaudit_terms:plain(
+                                                         seqaudit_processes:home(Party))])
+                    end);
         _ -> []
     end.
 
 renumbered(Listed) ->
-    [text("~ts is ~ts", [seqaudit_processes:spell(Number), seqaudit_processes:what(Party, #{}, "")])
-     || {Number, Party} <- Listed, not seqaudit_processes:is_own(Party, Number)].
+    several("no processes, or their number was taken, so they have free numbers: ",
+            [Each || {Number, Party} = Each <- Listed,
+                     not seqaudit_processes:is_own(Party, Number)],
+            fun({Number, Party}) ->
+                    text("~ts is ~ts", [seqaudit_processes:spell(Number),
+                                        seqaudit_processes:what(Party, #{}, "")])
+            end).
 
 %% A label is spelled as `NAME.terms' has it, and as `--label' takes it.
 labels(Labels, Listed) ->
     Numbers = maps:from_list([{Party, Number} || {Number, Party} <- Listed]),
-    [text("~b is ~ts", [Number, seqaudit_terms:short(seqaudit_terms:encoded(Term, Numbers), 100)])
-     || {Number, Term} <- Labels, Number =/= seqaudit_external:number(Term)].
+    several("labels that aren't numbers from 0 to 4294967295 have numbers: ",
+            [Each || {Number, Term} = Each <- Labels, Number =/= seqaudit_external:number(Term)],
+            fun({Number, Term}) ->
+                    text("~b is ~ts", [Number, seqaudit_terms:short(
+                                                 seqaudit_terms:encoded(Term, Numbers), 100)])
+            end).
 
-several(_What, []) -> [];
-several(What, Entries) when length(Entries) =< ?LISTED ->
-    [What ++ lists:append(lists:join("; ", Entries))];
-several(What, Entries) ->
-    Shown = lists:append(lists:join("; ", lists:sublist(Entries, ?LISTED))),
-    [What ++ text("~ts; and ~b more, see NAME.terms", [Shown, length(Entries) - ?LISTED])].
+%% There may be millions of entries, so a text is made only of those that are listed.
+several(_What, [], _Text) -> [];
+several(What, Entries, Text) ->
+    Shown = lists:append(lists:join("; ", [Text(Entry) || Entry <- lists:sublist(Entries,
+                                                                                 ?LISTED)])),
+    case length(Entries) - ?LISTED of
+        More when More > 0 -> [What ++ text("~ts; and ~b more, see NAME.terms", [Shown, More])];
+        _ -> [What ++ Shown]
+    end.

@@ -6,7 +6,8 @@
 %% 65,535, and for what is no process, a number is taken that nobody has, from 65,535 downwards.
 -module(seqaudit_processes).
 
--export([number/1, further_nodes/1, is_own/2, home/1, spell/1, name/4, what/3]).
+-export([number/1, further_nodes/1, is_own/2, home/1, has_several_homes/1, spell/1, registered/3,
+         name/3, what/3]).
 -export_type([party/0, pid_number/0, numbers/0]).
 
 -define(GREATEST, 65_535).
@@ -22,16 +23,16 @@
 %% no number is left for has none.
 -spec number([party()]) -> numbers().
 number(Parties) ->
-    Names = lists:usort([home(Party) || Party <- Parties]),
+    Names = lists:sort(maps:keys(maps:from_keys([home(Party) || Party <- Parties], []))),
     Nodes = maps:from_list(lists:zip(lists:sublist(Names, ?GREATEST + 1),
                                      lists:seq(0, min(length(Names) - 1, ?GREATEST)))),
     Here = [Party || Party <- Parties, is_map_key(home(Party), Nodes)],
-    {Own, Rest} = own_numbers(lists:usort([{maps:get(Node, Nodes), {Number, Serial}, Pid}
+    {Own, Rest, Taken} = own_numbers(lists:usort([{maps:get(Node, Nodes), {Number, Serial}, Pid}
                                            || Pid <- Here,
                                               {process, Node, Number, Serial} <- [view(Pid)]])),
     Others = [Party || Party <- Here, element(1, view(Party)) =/= process],
     Wanting = Rest ++ [{maps:get(home(Party), Nodes), Party} || Party <- Others],
-    {Numbers, _} = lists:foldl(fun free_number/2, {Own, {taken(Own), #{}, length(Names)}}, Wanting),
+    {Numbers, _} = lists:foldl(fun free_number/2, {Own, {Taken, #{}, length(Names)}}, Wanting),
     Numbers.
 
 %% @doc The node numbers that aren't the first of their node, with its name.
@@ -47,7 +48,7 @@ further_nodes(Listed) ->
 
 %% The first process with a number in range keeps it; the others are left over.
 own_numbers(Sorted) ->
-    {Own, Rest, _} =
+    {Own, Rest, Taken} =
         lists:foldl(fun({Node, {Number, _}, Pid}, {Own, Rest, Taken}) ->
                             Wanted = {Node, Number},
                             case Number > ?GREATEST orelse is_map_key(Wanted, Taken) of
@@ -55,10 +56,7 @@ own_numbers(Sorted) ->
                                 false -> {Own#{Pid => Wanted}, Rest, Taken#{Wanted => Pid}}
                             end
                     end, {#{}, [], #{}}, Sorted),
-    {Own, lists:reverse(Rest)}.
-
-taken(Numbers) ->
-    maps:from_list([{Number, Party} || {Party, Number} <- maps:to_list(Numbers)]).
+    {Own, lists:reverse(Rest), Taken}.
 
 %% `Next' has where the free numbers of a node go on, and `Further' is the first node number that no
 %% node has.
@@ -86,6 +84,13 @@ home(Party) ->
         Other -> element(2, Other)
     end.
 
+%% @doc Whether the parties are of several nodes.
+-spec has_several_homes([party()]) -> boolean().
+has_several_homes([]) -> false;
+has_several_homes([First | Others]) ->
+    Home = home(First),
+    lists:any(fun(Party) -> home(Party) =/= Home end, Others).
+
 %% @doc Whether the party is a process that kept its number.
 -spec is_own(party(), pid_number()) -> boolean().
 is_own(Party, {_, Number}) ->
@@ -103,17 +108,24 @@ view(Party) -> seqaudit_external:view(seqaudit_external:from_term(Party)).
 spell({Node, Number}) ->
     "<" ++ integer_to_list(Node) ++ "." ++ integer_to_list(Number) ++ ".0>".
 
-%% @doc A short name for people: the registered name, else for whom a task works or what was called
-%% first, and the number. `Many' says whether there are several nodes, and the name is to say which
-%% one is meant; `Caller' is the word for whom the process works for.
--spec name({party(), pid_number()}, seqaudit_events:about(), boolean(), Caller :: string()) ->
-          string().
-name({Party, Number}, About, Many, Caller) ->
+%% @doc The registered name of a party. If there are several nodes (`Many'), it says which one is
+%% meant.
+-spec registered(party(), seqaudit_events:about(), Many :: boolean()) -> string() | none.
+registered(Party, #{name := Name}, Many) ->
+    seqaudit_terms:atom(Name) ++ on(Party, Many);
+registered(Party, About, _Many) ->
+    case view(Party) of
+        {name, Name, _} when map_size(About) =:= 0 -> seqaudit_terms:atom(Name) ++ on(Party, true);
+        _ -> none
+    end.
+
+%% @doc A short name of a party without a registered one: for whom a task works, what was called
+%% first, or what it is, and the number. `Caller' is the word for whom the process works for.
+-spec name({party(), pid_number()}, seqaudit_events:about(), Caller :: string()) -> string().
+name({Party, Number}, About, Caller) ->
     case {view(Party), About} of
-        {_, #{name := Name}} -> seqaudit_terms:atom(Name) ++ on(Party, Many);
         {_, #{caller := _}} -> "task of " ++ Caller ++ " " ++ spell(Number);
         {_, #{call := Call}} -> called(seqaudit_terms:call(Call), Number);
-        {{name, Name, _}, _} -> seqaudit_terms:atom(Name) ++ on(Party, true);
         {{port, _, _}, _} -> "port " ++ spell(Number);
         {{reference, _, _}, _} -> "alias " ++ spell(Number);
         {_, _} -> spell(Number)
@@ -131,7 +143,8 @@ on(Party, true) -> " on " ++ seqaudit_terms:plain(home(Party)).
 what(Party, About, Caller) ->
     [kind(view(Party)), " of node ", seqaudit_terms:plain(home(Party)), known(About, Caller)].
 
-kind({process, _, Number, Serial}) -> io_lib:format("process <0.~b.~b>", [Number, Serial]);
+kind({process, _, Number, Serial}) ->
+    ["process <0.", integer_to_list(Number), $., integer_to_list(Serial), $>];
 kind({port, _, Number}) -> io_lib:format("port #Port<0.~b>", [Number]);
 kind({reference, _, Ids}) ->
     ["alias #Ref<0.", lists:join($., [integer_to_list(Id) || Id <- Ids]),

@@ -13,8 +13,8 @@
 
 -include("seqaudit_packed.hrl").
 
--export([read/1, births/3, births_first/2, learn/5, has_wrapped/2, is_answer/4]).
--export_type([spawns/0, births/0]).
+-export([read/1, senders/1, births/3, births_first/2, learn/5, has_wrapped/2, is_answer/4]).
+-export_type([spawns/0, senders/0, births/0]).
 
 %% What a value is. The rest of its number is a hash of the process that has to be its sender.
 -define(OTHER_MESSAGE, 0).
@@ -31,6 +31,9 @@
 
 -opaque spawns() :: atomics:atomics_ref().
 %% What each value is, by its number.
+
+-opaque senders() :: binary().
+%% The hash of each actor, by its number.
 
 -opaque births() :: #{Process :: non_neg_integer() =>
                           #{request | remote | reply => Place :: non_neg_integer()}}.
@@ -76,15 +79,20 @@ message(_) ->
 
 sent_by(Process, Kind) -> erlang:phash2(Process) * ?KINDS + Kind.
 
+%% @doc The hashes of the actors, in the order of their numbers.
+-spec senders([seqaudit_external:encoded()]) -> senders().
+senders(Actors) ->
+    << <<(erlang:phash2(Actor)):32>> || Actor <- Actors >>.
+
 %% What an event's message is. One that another process sends on is no spawn.
-kind(From, Value, Actors, Spawns) ->
+kind(From, Value, Senders, Spawns) ->
     case atomics:get(Spawns, Value + 1) of
         ?OTHER_MESSAGE ->
             ?OTHER_MESSAGE;
         Spawn when From < ?OTHER ->
-            Kind = Spawn rem ?KINDS,
-            case sent_by(element(From + 1, Actors), Kind) of
-                Spawn -> Kind;
+            Hash = Spawn div ?KINDS,
+            case binary:part(Senders, 4 * From, 4) of
+                <<Hash:32>> -> Spawn rem ?KINDS;
                 _ -> ?OTHER_MESSAGE
             end;
         _ ->
@@ -92,10 +100,11 @@ kind(From, Value, Actors, Spawns) ->
     end.
 
 %% @doc Looks for the events of births.
--spec births(seqaudit_build:packed(), Actors :: tuple(), spawns()) -> births().
-births(Packed, Actors, Spawns) ->
-    Shares = seqaudit_workers:shares(Packed, fun(Part, First) -> births(Part, First, Actors, Spawns,
-                                                                        #{}) end),
+-spec births(seqaudit_build:packed(), senders(), spawns()) -> births().
+births(Packed, Senders, Spawns) ->
+    Shares = seqaudit_workers:shares(Packed, fun(Part, First) ->
+                                                     births(Part, First, Senders, Spawns, #{})
+                                             end),
     lists:foldl(fun(Later, Earlier) ->
                         maps:merge_with(fun(_, One, Other) -> maps:merge(Other, One) end,
                                         Earlier, Later)
@@ -112,18 +121,18 @@ births_first(Streams, Births) ->
              end, Streams).
 
 %% Keeps the first places of what may be a process's birth.
-births(<<?PACKED(Kind, _L, _P, _T, From, To, Value, _Time), Rest/binary>>, Place, Actors, Spawns,
+births(<<?PACKED(Kind, _L, _P, _T, From, To, Value, _Time), Rest/binary>>, Place, Senders, Spawns,
        Births) ->
-    case {Kind, Kind =/= ?PRINT andalso kind(From, Value, Actors, Spawns)} of
+    case {Kind, Kind =/= ?PRINT andalso kind(From, Value, Senders, Spawns)} of
         {?SEND, ?REPLY} ->
-            births(Rest, Place + 1, Actors, Spawns, birth(From, reply, Place, Births));
+            births(Rest, Place + 1, Senders, Spawns, birth(From, reply, Place, Births));
         {?RECEIVE, ?REMOTE_REQUEST} ->
-            births(Rest, Place + 1, Actors, Spawns, birth(To, remote, Place, Births));
+            births(Rest, Place + 1, Senders, Spawns, birth(To, remote, Place, Births));
         {?RECEIVE, Request} when Request =:= ?REQUEST; Request =:= ?ASYNCHRONOUS_REQUEST ->
-            births(Rest, Place + 1, Actors, Spawns, birth(To, request, Place, Births));
-        _ -> births(Rest, Place + 1, Actors, Spawns, Births)
+            births(Rest, Place + 1, Senders, Spawns, birth(To, request, Place, Births));
+        _ -> births(Rest, Place + 1, Senders, Spawns, Births)
     end;
-births(<<>>, _Place, _Actors, _Spawns, Births) ->
+births(<<>>, _Place, _Senders, _Spawns, Births) ->
     Births.
 
 birth(Process, What, Place, Births) ->
@@ -144,9 +153,12 @@ first(Birth, Places) ->
 
 %% @doc What is known of processes, and of those that nobody asked in time what they were called
 %% with, by the requests that spawned them.
--spec learn(births(), seqaudit_build:packed(), Actors :: tuple(), seqaudit_numbers:table(),
-            known()) -> known().
-learn(Births, Packed, Actors, Values, Known) ->
+-spec learn(births(), seqaudit_build:packed(), Actors :: [seqaudit_external:encoded()],
+            seqaudit_numbers:table(), known()) -> known().
+learn(Births, _Packed, _Actors, _Values, Known) when map_size(Births) =:= 0 ->
+    Known;
+learn(Births, Packed, Listed, Values, Known) ->
+    Actors = list_to_tuple(Listed),
     Wanted = [{value(Place, Packed), Process}
               || {Actor, Birth} <- maps:to_list(Births),
                  What <- [request, remote], #{What := Place} <- [Birth],
@@ -233,10 +245,10 @@ wraps(<<>>, _Spawns) -> false.
 
 %% @doc Whether an event is the answer of a spawn, by the event that comes before it in its
 %% process's stream.
--spec is_answer(binary(), binary(), tuple(), spawns()) -> boolean().
+-spec is_answer(binary(), binary(), senders(), spawns()) -> boolean().
 is_answer(<<?PACKED(?SEND, _, _, _, Parent, Child, Request, _)>>,
-          <<?PACKED(?RECEIVE, _, _, _, Child, Parent, Reply, _)>>, Actors, Spawns) ->
-    kind(Parent, Request, Actors, Spawns) =:= ?REQUEST
-        andalso kind(Child, Reply, Actors, Spawns) =:= ?REPLY;
-is_answer(_Before, _Event, _Actors, _Spawns) ->
+          <<?PACKED(?RECEIVE, _, _, _, Child, Parent, Reply, _)>>, Senders, Spawns) ->
+    kind(Parent, Request, Senders, Spawns) =:= ?REQUEST
+        andalso kind(Child, Reply, Senders, Spawns) =:= ?REPLY;
+is_answer(_Before, _Event, _Senders, _Spawns) ->
     false.
