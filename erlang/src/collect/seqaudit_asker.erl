@@ -9,7 +9,7 @@
 
 %% Nobody waits longer for names; a process whose name isn't known by then has a number alone.
 -define(PATIENCE_MS, 5_000).
-%% So many living processes keep their names from one folder to the next.
+%% Living processes that keep their names from one folder to the next.
 -define(CARRIED, 20_000).
 
 -opaque asker() :: pid().
@@ -36,7 +36,7 @@ await(Asker) ->
     Asker ! {await, {self(), Asked}},
     turned(Asked).
 
-%% @doc What is met from now on is noted in another folder, which begins with the processes that are
+%% @doc Notes what is met from now on in another folder, which begins with the processes that are
 %% known and live. When the former folder has what it gets, this process is told ({@link turned/1}).
 -spec turn(file:filename(), {pid(), reference()}, asker()) -> ok.
 turn(Folder, Tell, Asker) ->
@@ -55,8 +55,7 @@ turned(Turned) ->
 close(Asker) ->
     seqaudit_scribe:closed(Asker, ?PATIENCE_MS, fun(_) -> ok end).
 
-%% What was learned goes to the disk when nobody waits to be met, so that a slow disk delays no
-%% name.
+%% Writes what was learned when nobody waits to be met, so that a slow disk delays no name.
 -spec ask_on(file:filename(), known(), known()) -> ok.
 ask_on(Folder, Known, Unnoted) ->
     receive

@@ -49,8 +49,8 @@ captured(Word, Pattern) ->
         nomatch -> none
     end.
 
-%% @doc What a label is: a term, or what replaces it at each call: an argument, or the number of the
-%% call (`_').
+%% @doc Reads a label: a term, or what replaces it at each call, which is an argument or the number
+%% of the call (`_').
 %%
 %% Nothing is made of them: on all releases up to 29 a match specification that builds a term for a
 %% label gives another one, or ends the node.

@@ -30,10 +30,10 @@
 -define(SETTLE_MS, 50).
 %% The port's buffer goes to the disk, and new processes are looked for, in these steps.
 -define(TICK_MS, 100).
-%% So many bytes of new events are looked through for processes in one step: of a busy node the
+%% Bytes of new events that are looked through for processes in one step. If a node is busy, the
 %% collector looks at a part, and never works more than a few milliseconds in each tick.
 -define(LOOK_BYTES, 262_144).
-%% So many processes are asked what they are called; a node may have millions.
+%% Processes that are asked what they are called; a node may have millions.
 -define(PROCESSES, 20_000).
 %% The wrapped files share the total size.
 -define(FILES, 8).
@@ -156,8 +156,8 @@ stop_all(Collectors) ->
 adopt(Collector, Owner) ->
     gen_server:call(Collector, {adopt, Owner}).
 
-%% @doc What these processes of this node are called, each given by its bytes in the external term
-%% format.
+%% @doc Asks what these processes of this node are called, each given by its bytes in the external
+%% term format.
 -spec names([binary()]) -> #{pid() => seqaudit_spool:about()}.
 names(Processes) ->
     maps:from_list([{Pid, About} || Bytes <- Processes, Pid <- local(Bytes),
@@ -435,7 +435,7 @@ count_calls(#state{trigger = {pulled, Pulled}} = State) ->
 count_calls(State) ->
     State.
 
-%% What the port has goes to the disk, so that a node that is killed leaves it there.
+%% Has the port write what it holds, so that a node that is killed leaves it on the disk.
 tick(#state{by = {port, Port}} = State) ->
     try erlang:port_control(Port, $f, "") of
         _ -> look(note_written(written(Port), State))
@@ -636,7 +636,7 @@ close(#state{asker = Asker} = State) ->
     _ = seqaudit_spool:note(State#state.folder, last_facts(Closed)),
     Closed#state{asker = undefined}.
 
-%% What the files lack if the last of it couldn't be written is said by the facts.
+%% Closes the files. If the last of them couldn't be written, the facts say what they lack.
 closed(#state{by = closed} = State) ->
     State;
 closed(#state{by = {port, Port}} = State) ->

@@ -1,6 +1,6 @@
 %% @doc Loads modules on another node, whichever release of OTP it runs.
 %%
-%% What the compiler of one release writes, another one may refuse. So a node of another release
+%% A release may refuse what the compiler of another one writes. So a node of another release
 %% than this one compiles the modules itself, from the forms that they have as debug information;
 %% nothing of that touches its disk. A node of the same release loads them as they are, and so does
 %% one without a compiler, which works where it is newer and still takes them.

@@ -39,7 +39,7 @@ unload(Node) ->
                           end
                   end, on(Node)).
 
-%% @doc What is to be said of what a node keeps.
+%% @doc Says what a node keeps.
 -spec say(node(), Unload :: boolean()) -> string().
 say(Node, Unload) ->
     _ = Unload andalso unload(Node),

@@ -15,7 +15,7 @@
 -define(FITS, 0).
 -define(UNFIT, 1).
 -define(SYSTEM, 4).
-%% Of the periods that are kept the last ones stay, if the command isn't told how many.
+%% Kept periods that stay if the command isn't told how many: the last ones.
 -define(KEPT, 100).
 
 -type options() :: #{name := file:filename(), every := pos_integer(), keep => pos_integer(),
@@ -31,7 +31,7 @@
                 say :: fun((iodata()) -> ok),
                 again :: fun((node()) -> term()),
                 number = 1 :: pos_integer(),
-                %% What was behind the cut of the last period.
+                %% Events after the cut of the last period.
                 rest = [] :: [file:filename()],
                 last = none :: none | fits | unfit,
                 %% A period that fits, whose next neighbour isn't known yet.
@@ -53,7 +53,7 @@ run(#state{asked = Asked, every = Every} = State, Began) ->
         elapsed -> period(State, erlang:monotonic_time(millisecond))
     end.
 
-%% What was collected is looked at by a process of its own, so that the command can end meanwhile.
+%% Has a process of its own look at what was collected, so that the command can end meanwhile.
 period(#state{asked = Asked} = State, Began) ->
     Self = self(),
     {Worker, Monitor} = spawn_monitor(fun() -> Self ! {self(), audited(State)} end),
@@ -79,7 +79,7 @@ ended(#state{name = Name, number = Number, unfit = Unfit, open = Open, say = Say
     ok = seqaudit_trace:cancel(),
     ok = lists:foreach(fun(File) -> file:delete(File) end, State#state.rest),
     ok = lists:foreach(fun(One) -> remove(name(Name, One)) end, [Open || Open =/= none]),
-    %% What a look at this period may have left for the next one goes too.
+    %% A look at this period may have left something for the next one.
     ok = remove(name(Name, Number), fun(_) -> true end),
     ok = Say(text("~ts, ~b kept; period ~b, which was running, isn't audited~n",
                   [count(Number - 1, "period"), length(State#state.kept),
@@ -129,7 +129,7 @@ why(_Node, unreachable) -> "it can't be reached";
 why(_Node, other_tracer) -> "somebody else's system tracer is on there";
 why(Node, Reason) -> seqaudit_trace:format_error({node, Node, Reason}).
 
-%% What was left of the last period comes first, in the file of the same node.
+%% Puts what was left of the last period first, in its node's file.
 joined(Files, Period) ->
     ByNode = lists:foldl(fun(File, Known) ->
                                  maps:update_with(number(File), fun(Others) -> Others
@@ -161,7 +161,7 @@ join([{_, [Former, Later]} | Others], Period, Joined) ->
         {_, {error, Reason}} -> {error, {file, Former, Reason}}
     end.
 
-%% What came before a node stopped collecting isn't joined with what comes after that.
+%% Joins nothing that came before a node stopped collecting with what comes after that.
 cut(Files, true) ->
     {Files, [], "cut at its end"};
 cut(Files, false) ->
@@ -204,7 +204,7 @@ lost(Period) ->
 unaudited(Events, Reason) ->
     [count(Events, "event"), ", not audited: ", seqaudit_verdict:format_error(Reason)].
 
-%% What fits goes once its next neighbour fits too.
+%% Removes a period that fits once its next neighbour fits too.
 judged(Verdict, Line, #state{number = Number, say = Say, last = Last, open = Open} = State) ->
     Kept = case {Verdict, Open, Last} of
                {unfit, none, _} -> [Number];

@@ -19,8 +19,8 @@
 %% Where an event is: the number of its file and its place among the events there.
 -type place() :: {pos_integer(), non_neg_integer()}.
 
-%% What a collection has behind the moment: the entry that begins it, what is known of its node and
-%% its processes, and its events, the last first.
+%% The rest of a collection after the moment: the entry that begins it, what is known of its node
+%% and its processes, and its events, the last first.
 -record(later, {collection :: iodata(),
                 facts = #{} :: #{binary() => seqaudit_external:encoded()},
                 processes = #{} :: #{seqaudit_external:encoded() => seqaudit_external:encoded()},
@@ -140,7 +140,7 @@ is_before({Number, Place}, Ends) -> Place < element(Number, Ends).
 
 end_at({Number, Place}, Ends) -> setelement(Number, Ends, Place).
 
-%% What is known of the collection as a whole, as how many bytes came, goes with the first part; the
+%% Puts what is known of the collection as a whole, as how many bytes came, with the first part; the
 %% clock of its node, and what the processes are called that the part names, with both. So what is
 %% left of one period to the next doesn't grow.
 split(File, Count, Before, Behind) ->

@@ -157,6 +157,6 @@ format_error({distribution, Reason}) ->
               _ -> ""
           end, brief(Reason)]).
 
-%% What the supervisors of `kernel' say beside the reason helps nobody.
+%% Leaves out what the supervisors of `kernel' add to the reason, which helps nobody.
 brief({{shutdown, {failed_to_start_child, Child, Reason}}, _}) -> {Child, Reason};
 brief(Reason) -> Reason.

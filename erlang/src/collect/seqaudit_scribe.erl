@@ -1,7 +1,7 @@
 %% @doc Writes for a collector that is the tracer itself.
 %%
-%% Such a collector has to be back at its queue at once, and a disk may be slow. So a process of its
-%% own writes, through a thread that may wait, and the collector knows how many bytes that process
+%% A collector has to be back at its queue at once, and a disk may be slow. So a process of its own
+%% writes, through a thread that may wait, and the collector knows how many bytes that process
 %% still has to write.
 %%
 %% It ends with the collector, and first writes what it was given.

@@ -22,12 +22,10 @@
                    strays => non_neg_integer(), tracer => put_back | taken | gone,
                    pauses => seqaudit_watch:pauses(), ended => {term(), calendar:datetime()},
                    atom() => term()}.
-%% What is known of a collection. Later facts take the place of earlier ones; of `processes' they
-%% are added.
+%% The facts of a collection. Later ones replace earlier ones, but those of `processes' are added.
 
 -type about() :: #{name => atom(), call => mfa(), caller => pid()}.
-%% What is known of a process: its registered name, its initial call, and for whom a task of Elixir
-%% works.
+%% The name of a process, its initial call, and for whom a task of Elixir works.
 
 %% @doc Makes the folder, in the one that is named or the system's for temporary files.
 -spec create(file:filename() | default) -> {ok, file:filename()} | {error, term()}.
@@ -53,7 +51,7 @@ crypto_bytes() ->
     erlang:md5([Bytes, term_to_binary({node(), self(), make_ref(), os:system_time(),
                                        os:getpid()})]).
 
-%% @doc What the names of the files of events begin with, and how they end.
+%% @doc Returns how the names of the files of events begin and end.
 -spec base(file:filename()) -> {file:filename(), string()}.
 base(Folder) ->
     {filename:join(Folder, "events"), ?SUFFIX}.
@@ -129,7 +127,7 @@ remove(Folder) ->
             {error, Reason}
     end.
 
-%% @doc What the processes of this node are called. A process that was made by `proc_lib' has in its
+%% @doc Returns what a process of this node is called. One that was made by `proc_lib' has in its
 %% dictionary what was really called.
 -spec about(pid()) -> about().
 about(Pid) ->

@@ -62,7 +62,7 @@
 -type rotated() :: {ok, file:filename()} | {again, file:filename() | none}
           | {gone, file:filename(), term()}
                  | {error, term()}.
-%% What a rotation wrote of a node: its events, while its collecting goes on; those until its
+%% The result of a rotation for a node: its events, while its collecting goes on; those until its
 %% collecting ended, if they weren't written before, and it began again; those until it ended, and
 %% why it couldn't begin again; or nothing, and why.
 
@@ -172,7 +172,7 @@ recover(State) ->
         {error, Reason} -> {error, Reason}
     end.
 
-%% What is collected now is noted beside the process that leads it, which may be killed.
+%% Returns a collection whose leader was killed: it is noted outside of that process.
 left_over() ->
     case {whereis(?MODULE), application:get_env(seqaudit, collection)} of
         {undefined, {ok, State}} -> State;
@@ -472,7 +472,7 @@ rotated(Name, #state{nodes = Nodes} = State) ->
                               Name ++ "." ++ integer_to_list(Number), State)}
      || {Number, Node} <- lists:enumerate(Nodes)].
 
-%% What the node has now, and what was written.
+%% Returns what the node has now, and what was written.
 rotated({_, {ok, Folder}}, Node, File, State) ->
     {{on, Folder}, fetched(Node#node{is = {gone, normal}}, File, State)};
 rotated({_, {error, ended}}, #node{collector = Collector} = Node, File, State) ->
@@ -609,7 +609,7 @@ convert(Name, Fetched) ->
             {error, Reason}
     end.
 
-%% What processes are called of which nobody saw an event yet. It is noted in NAME.events too.
+%% Asks what processes are called of which nobody saw an event yet, and notes it in NAME.events too.
 ask(Wanted, Nodes, Name) ->
     Facts = [#{processes => Names}
              || Node <- Nodes,
@@ -666,7 +666,7 @@ fetch(#node{node = Node, folder = Folder, is = {gone, Reason}, split = Split} = 
                                          #{kept => 0, kept_bytes => 0, dropped_here => 0,
                                            came => 0},
                                          Files),
-                    %% What couldn't be read is still there, and nothing else has it.
+                    %% The rest that couldn't be read is still there, and nothing else has it.
                     Facts = case Copied of
                                 #{unread := _} -> Copied#{where => Folder};
                                 #{} -> Copied

@@ -26,14 +26,14 @@
 -define(ASKED, 1_000).
 -define(SECOND_MS, 1_000).
 
-%% Of calls in a second so many bits of the word count them; the others number the second.
+%% Bits of the word that count the calls in a second; the others number the second.
 -define(SECOND_BITS, 12).
 -define(MOST_IN_SECOND, (1 bsl ?SECOND_BITS - 1)).
 -define(WORD, 16#FFFF_FFFF).
 
 -type clause() :: {Head :: '_' | [term()], Guards :: [term()]}
                 | {Head :: [term()], Guards :: [term()], Label :: term()}.
-%% What the arguments have to be, as in a match specification; and the label as an expression in its
+%% The pattern of the arguments, as in a match specification; and the label as an expression in its
 %% body, if it isn't that of the trigger.
 
 -type trigger() :: #{function => mfa(), functions => [{mfa(), [clause()]}], label := term(),
@@ -160,7 +160,7 @@ allowed(infinity) -> [];
 allowed({Calls, second}) -> [{'<', {'band', {get_tcw}, ?MOST_IN_SECOND}, Calls}];
 allowed(Calls) -> [{'<', {get_tcw}, Calls}].
 
-%% What of somebody else's tracing is in the way. Patterns that a killed collector left have no
+%% Looks for somebody else's tracing in the way. Patterns that a killed collector left have no
 %% effect.
 in_use(Functions) ->
     [{function_in_use, Function, owners()}

@@ -26,7 +26,7 @@
 -define(ANSWERS, 10).
 %% After so many pauses the tracer stays off.
 -define(MOST_PAUSES, 1_000).
-%% So many pauses are noted one by one.
+%% Pauses that are noted one by one.
 -define(LISTED, 10).
 
 -opaque watch() :: pid().
@@ -40,7 +40,7 @@
                 folder :: file:filename(),
                 collector :: pid(),
                 asker :: pid(),
-                %% What the port had written, and what the binaries took, when it was last in time.
+                %% Bytes that the port had written and the binaries took when it was last in time.
                 written = 0 :: non_neg_integer(),
                 binaries :: non_neg_integer(),
                 answers = 0 :: non_neg_integer(),

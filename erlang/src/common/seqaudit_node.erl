@@ -20,7 +20,7 @@
 %% @doc Runs the command and halts with its status.
 -spec main([string()]) -> no_return().
 main(Words) ->
-    %% What was collected is written even if nobody reads what is said of it.
+    %% Events that were collected are written even if nobody reads what is said of them.
     ok = seqaudit_output:open(case Words of
                                   [Command | _]
                                     when Command =:= "collect"; Command =:= "watch" -> stop;
@@ -130,7 +130,7 @@ collect(#{"--node" := Nodes, "-o" := [[_ | _] = Name]} = Options)
 collect(Options) ->
     lacks("collect", [{"--node", " NAME@HOST"}, {"-o", " NAME"}], Options).
 
-%% What a command line lacks that has only options.
+%% Says what a command line lacks that has only options.
 lacks(Command, Needed, Options) ->
     case {[Option ++ Value || {Option, Value} <- Needed, not is_given(Option, Options)], Options} of
         {[_ | _] = Missing, _} -> needs(Command, Missing);

@@ -8,14 +8,13 @@
 
 -export([open/1, flush/0]).
 
-%% What shells report of a command that such a signal ended: 128 and the signal's number.
+%% The status that shells report of a command that the signal ended: 128 and its number.
 -define(BROKEN_PIPE, 141).
 -define(SYSTEM, 4).
 -define(DRAIN_MS, 5).
 
 -type closed() :: halt | stop.
-%% What happens when nobody reads any more: the command halts, or it is asked to stop, as by a
-%% signal.
+%% The end when nobody reads any more: the command halts, or it is asked to stop, as by a signal.
 
 %% @doc From now on what the caller, and whoever it starts, writes to its group leader and to
 %% `standard_error' goes there.
@@ -66,7 +65,7 @@ serve(Port, Closed) ->
             exit(Reason)
     end.
 
-%% What the file hasn't taken yet is held by the port.
+%% Waits for the port, which holds what the file hasn't taken yet.
 drained(none) -> ok;
 drained(Port) ->
     case erlang:port_info(Port, queue_size) of

@@ -17,7 +17,7 @@
 -define(LEAST, -(1 bsl 59)).
 -define(NANOSECONDS, 1_000_000_000).
 -define(NOWHERE, <<"nonode@nohost">>).
-%% So many entries of each kind that are no events are shown, and so many characters of each.
+%% Entries of each kind that are shown if they are no events, and characters of each.
 -define(SAMPLES, 3).
 -define(SHOWN, 80).
 
@@ -35,7 +35,7 @@
 -type home() :: binary() | unknown.
 
 -opaque context() :: {home(), seqaudit_external:encoded() | none, {integer(), pos_integer()}}.
-%% What events are read by: where they were collected, by which process, and what its clock means.
+%% The node where events were collected, the process that did so, and what its clock means.
 
 -record(part, {home :: home(),
                own :: seqaudit_external:encoded() | none,
@@ -63,7 +63,7 @@
                 own_events :: non_neg_integer()}).
 
 -opaque found() :: #found{}.
-%% What a part has beside its records: above all its terms, in the order of their numbers there.
+%% All of a part but its records: above all its terms, in the order of their numbers there.
 
 -opaque numbers() :: {Actors :: tuple(), Others :: tuple(), Labels :: tuple(), Values :: tuple()}.
 %% The numbers of a part's terms in the tables, by their numbers in the part.
@@ -81,7 +81,7 @@ fold(Do, Acc, <<?PACKED(Kind, Label, Prev, This, From, To, Value, Time), Rest/bi
 fold(_Do, Acc, <<>>) ->
     Acc.
 
-%% @doc What the next events are read by.
+%% @doc Returns by what the next events are read.
 -spec context(build()) -> context().
 context(#build{home = Home, own = Own, clock = Clock}) ->
     {Home, Own, Clock}.
@@ -175,7 +175,7 @@ item({stray, Where, Term}, #build{counts = Counts, samples = Samples} = Build) -
 item({event, Bytes}, Build) ->
     add(part([Bytes], context(Build)), Build).
 
-%% What is asked last is best, but a name that a process had stays.
+%% Prefers what was asked last, but keeps a name that a process had.
 learn({Pid, About}, Known) ->
     maps:update_with(Pid, fun(Before) -> maps:merge(Before, About) end, About, Known).
 
@@ -305,7 +305,7 @@ index({other, Bytes, _}, Actors, Others) ->
     {Number, More} = seqaudit_numbers:number_few(Bytes, Others),
     {?OTHER bor Number, Actors, More}.
 
-%% What ttb's triple says a process is called.
+%% Notes what ttb's triple says a process is called.
 called({actor, Pid, Info}, #part{known = Known} = Part)
   when Info =/= none, not is_map_key(Pid, Known) ->
     About = case {seqaudit_external:view(Info), seqaudit_external:tuple(Info)} of

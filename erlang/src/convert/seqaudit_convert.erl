@@ -31,9 +31,9 @@
 
 -type ask() :: fun((#{Node :: binary() => [seqaudit_external:encoded()]}) ->
                        [seqaudit_events:facts()]).
-%% What the processes of each node are called that nobody asked yet.
+%% Asks processes of each node what they are called, which nobody did yet.
 
-%% So many lines are made at once, and the texts of so many values.
+%% Lines that are made at once, and values whose texts are.
 -define(AT_ONCE, 1_000).
 -define(SHARE, 5_000).
 %% A process makes the whole texts of messages with so many bytes together, or of one.
@@ -126,7 +126,7 @@ asked(#build{actors = Actors, known = Known} = Build, Ask) ->
 
 write(Build, Name) ->
     {Parts, Facts} = parts(Build),
-    %% What was needed until here may be large.
+    %% The tables that were needed until here may be large.
     true = garbage_collect(),
     case write_parts(Parts, Name) of
         {ok, Files} ->
@@ -197,7 +197,7 @@ own(File) ->
         false -> ok
     end.
 
-%% What is written, and what the notes are made of.
+%% Returns the parts of the bundle, and what the notes are made of.
 -spec parts(seqaudit_build:build()) -> {#{atom() => part()}, map()}.
 parts(#build{actors = Actors, others = Others} = Build) ->
     {Packed, Resolved} = seqaudit_resolve:resolve(Build),

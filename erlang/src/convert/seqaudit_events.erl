@@ -26,7 +26,7 @@
 -define(DROPPED, 1).
 -define(COLLECTION, 2).
 -define(FACTS, 3).
-%% What version 1.0 wrote: one term.
+%% The name of the one term that version 1.0 wrote.
 -define(FORMAT_1, <<"seqaudit_events_1">>).
 -define(EXTERNAL, 131).
 -define(COMPRESSED, 80).
@@ -64,9 +64,9 @@
                                                       Where :: string()} | stray
               | {stray, Where :: string(), binary()}
               | {passed, Lines :: pos_integer(), Where :: string()}.
-%% What a file holds, in its order: a collection begins; facts about it; an event's bytes; events
-%% that were dropped there; so many bytes that aren't understood; a term that is no event; lines of
-%% a log that have none, and where the first is.
+%% The parts of a file, in its order: a collection begins; facts about it; an event's bytes; events
+%% that were dropped there; a number of bytes that aren't understood; a term that is no event; lines
+%% of a log that have none, and where the first is.
 
 %% @doc Goes through what a file holds, whatever form it has.
 -spec fold(file:filename(), fun((item(), Acc) -> Acc), Acc) -> {ok, Acc} | {error, term()}.
@@ -107,7 +107,7 @@ fold_file(File, Do, Acc) ->
 
 fold_form({ok, <<?HEADER>>}, File, Device, Do, Acc) ->
     fold_entries(File, Device, length(?HEADER), Do, Acc);
-%% What `convert' writes begins with its name.
+%% Refuses what `convert' writes, which begins with its name.
 fold_form({ok, <<"seqtrace ", _/binary>>}, File, _Device, _Do, _Acc) ->
     {error, {converted, File}};
 fold_form({ok, <<"seqaudit ", _/binary>>}, File, _Device, _Do, _Acc) ->

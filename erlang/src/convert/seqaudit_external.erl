@@ -55,13 +55,13 @@
         Tag =< ?NEWER_REFERENCE;
         Tag >= ?SMALL_INTEGER, Tag =< ?MAP; Tag >= ?ATOM_UTF8, Tag =< ?V4_PORT).
 
-%% So many pairs of a map are sorted as a list, which takes far more memory than their bytes; larger
-%% maps are merged of parts that are.
+%% Pairs of a map that are sorted as a list, which takes far more memory than their bytes. Larger
+%% maps are merged of sorted parts.
 -define(SORTED_PAIRS, 10_000).
 %% Maps that are so many maps deep have their pairs sorted. Each copies what is in it, and a file
 %% could have millions, one in another.
 -define(SORTED_DEPTH, 1_000).
-%% What the one form of a fun has for its size, which Erlang doesn't look at, and for a process.
+%% The size of a fun in its one form, at which Erlang doesn't look, and its process.
 -define(NO_SIZE, 0).
 -define(NO_PROCESS, ?NEW_PID, ?ATOM, 0:16, 0:96).
 %% An atom has at most this many characters.
@@ -82,7 +82,7 @@
               | {atom, Name :: binary()}
               | {first, encoded(), encoded()}
               | other.
-%% What a place for a process may hold: one of these, or `ttb''s triple of it (`first': the
+%% The kinds of what stands for a process: one of these, or `ttb''s triple of it (`first': the
 %% process, and what `ttb' knows of it).
 
 -type event() :: {send | 'receive' | print, Label :: encoded(),
@@ -220,8 +220,7 @@ walk(<<?NEW_FLOAT, Bytes:8/binary, Rest/binary>>, Left, Depth, Done) ->
 walk(<<Bytes/binary>>, Left, Depth, Done) ->
     walk_other(Bytes, Left, Depth, Done).
 
-%% The same where the first term is a map, a large tuple, a fun, or one that has its node's name in
-%% it.
+%% Goes on if the first term is a map, a large tuple, a fun, or one that has its node's name in it.
 walk_other(<<?MAP, Pairs:32, Rest/binary>>, Left, Depth, Done)
   when Pairs > 1, Depth < ?SORTED_DEPTH ->
     {Sorted, After} = sorted_pairs(Pairs, Rest, Depth + 1),
@@ -261,7 +260,7 @@ without_parts(<<?NEWER_REFERENCE, Words:16, Rest/binary>>) when Words =< 5 ->
 without_parts(Bytes) ->
     seldom(Bytes).
 
-%% What is seldom written, and what only older releases write.
+%% Takes a term that is seldom written, or that only older releases write.
 seldom(<<?V4_PORT, Rest0/binary>>) ->
     with_node(Rest0, 12, fun(Node, Numbers) -> <<?V4_PORT, Node/binary, Numbers/binary>> end);
 seldom(<<?NEW_PORT, Rest0/binary>>) ->
@@ -473,7 +472,7 @@ behind_name({_Node, Bytes}, Size) ->
     <<_:Size/binary, Rest/binary>> = Bytes,
     {0, Rest}.
 
-%% @doc What replaces a process.
+%% @doc Returns what stands for a process.
 -spec view(encoded()) -> view().
 view(<<?NEW_PID, Rest0/binary>>) ->
     {Node, <<Number:32, Serial:32, _Creation:32>>} = atom_name(Rest0),
@@ -659,7 +658,7 @@ map(Left, Bytes) ->
 list(<<?LIST, Length:32, Rest/binary>>) -> lists:droplast(elements(Length + 1, Rest));
 list(_) -> [].
 
-%% @doc What is known of a process as a term.
+%% @doc Returns what is known of a process as a term.
 -spec about_term(seqaudit_events:about()) -> #{name | call | caller => term()}.
 about_term(About) ->
     maps:map(fun(name, Name) -> to_term(atom(Name)); (_, Term) -> to_term(Term) end, About).

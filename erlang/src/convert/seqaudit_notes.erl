@@ -15,7 +15,7 @@
 -define(MOST_BYTES, 17_179_869_184).
 -define(MOST_PROCESSES, 1_000_000).
 -define(MOST_EVENTS, 16_000_000).
-%% This many entries of one kind are listed; `NAME.terms' has them all.
+%% Entries of one kind that are listed; `NAME.terms' has them all.
 -define(LISTED, 5).
 %% Reasons come from files, so little of them is shown.
 -define(REASON, 200).
@@ -23,7 +23,7 @@
 -define(BEFORE_EVENT, 5).
 
 -define(HEADER, <<"seqaudit facts 1">>).
-%% What is gone if there is a fact of this kind.
+%% Kinds of facts that say that something is gone.
 -define(LOSSES, [nothing, lost, unread, ended, dropped, left, damaged, newer, no_events, pauses,
                  written_over, taken,
                  nameless]).
@@ -45,7 +45,7 @@ dropped(Collections, Counts) ->
 count(Kind, Counts) ->
     maps:get(Kind, Counts, 0).
 
-%% What a collection says of itself and what was found in it.
+%% Adds what a collection says of itself to what was found in it.
 known(dropped, #{facts := Facts} = Collection) ->
     count(dropped, Facts) + count(dropped_here, Facts) + count(dropped, Collection);
 known(left, #{facts := Facts} = Collection) ->
@@ -95,14 +95,14 @@ facts_text(Facts) ->
      [[atom_to_binary(Kind), $\t, unicode:characters_to_binary(Sentence), $\n]
       || {Kind, Sentence} <- Facts]].
 
-%% @doc What is gone by these facts, a sentence each.
+%% @doc Returns a sentence for each thing that is gone by these facts.
 -spec losses(binary()) -> [binary()].
 losses(Text) ->
     Kinds = [atom_to_binary(Kind) || Kind <- ?LOSSES],
     [Sentence || Line <- binary:split(Text, <<"\n">>, [global, trim]),
                  [Kind, Sentence] <- [binary:split(Line, <<"\t">>)], lists:member(Kind, Kinds)].
 
-%% @doc What is said if nothing came, and nothing is known to be gone.
+%% @doc Says that nothing came, though nothing is known to be gone.
 -spec nothing() -> string().
 nothing() ->
     "no events came; set a token while the tracer is on, as seqaudit_trace:with_trace/2 does".
@@ -173,7 +173,7 @@ lost(Node, #{lost := Reason} = Facts) ->
 lost(_Node, _Facts) ->
     [].
 
-%% Of a folder that is converted itself nobody says where it is.
+%% Says where the rest is, unless the folder itself is converted.
 unread(Node, #{unread := Bytes} = Facts) ->
     [text("~ts: ~ts of what was collected couldn't be read~ts",
           [Node, seqaudit_errors:count(Bytes, "byte"),

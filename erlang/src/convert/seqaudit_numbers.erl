@@ -50,7 +50,7 @@ numbers(Terms, #table{numbers = Numbers, listed = Listed} = Table) ->
 size(#table{numbers = Numbers}) ->
     ets:info(Numbers, size).
 
-%% @doc So many terms from this number on, in the order of their numbers.
+%% @doc Returns a count of terms from this number on, in the order of their numbers.
 -spec part(non_neg_integer(), non_neg_integer(), table()) -> [seqaudit_external:encoded()].
 part(First, Count, #table{listed = Listed}) ->
     case ets:prev(Listed, First + 1) of

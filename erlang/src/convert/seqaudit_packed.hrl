@@ -3,7 +3,7 @@
 -define(PACKED(Kind, Label, Prev, This, From, To, Value, Time),
         Kind:8, From:32, Label:32, Prev:72/signed, This:72/signed, Value:32, To:32, Time:64/signed).
 -define(PACKED_SIZE, 43).
-%% The same record; the key is what a send and its receive have in common.
+%% The record with a key for what a send and its receive have in common.
 -define(KEYED(Kind, Key, To, Time), Kind:8, Key:30/binary, To:32, Time:8/binary).
 
 -define(SEND, 0).
@@ -27,7 +27,7 @@
                 counts = #{} :: #{atom() => non_neg_integer()},
                 %% The first entries that are no events, by kind, last first.
                 samples = #{} :: #{atom() => [string()]},
-                %% Of the collection whose events come now.
+                %% The collection whose events come now: its node, process and clock.
                 home = unknown :: binary() | unknown,
                 own = none :: seqaudit_external:encoded() | none,
                 clock = {0, 1_000_000_000} :: {integer(), pos_integer()}}).

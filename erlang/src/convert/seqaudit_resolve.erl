@@ -13,7 +13,7 @@
 -export([resolve/1]).
 -export_type([counts/0]).
 
-%% So many messages are taken from their table at once.
+%% Messages that are taken from their table at once.
 -define(AT_ONCE, 1_000).
 
 -type counts() :: #{by_receive | by_request | ambiguous | unresolved => non_neg_integer()}.

@@ -16,21 +16,21 @@
 -export([read/1, senders/1, births/3, births_first/2, learn/5, has_wrapped/2, is_answer/4]).
 -export_type([spawns/0, senders/0, births/0]).
 
-%% What a value is. The rest of its number is a hash of the process that has to be its sender.
+%% Kinds of values. The rest of the number is a hash of the process that has to be the sender.
 -define(OTHER_MESSAGE, 0).
 -define(REQUEST, 1).
 -define(ASYNCHRONOUS_REQUEST, 2).
 -define(REMOTE_REQUEST, 3).
 -define(REPLY, 4).
 -define(KINDS, 8).
-%% So many values are taken from their table at once.
+%% Values that are taken from their table at once.
 -define(AT_ONCE, 1_000).
 %% An answer moves the counter to 16 T + 15. From this T on that is more than the 59 bits which a
 %% serial shows without a minus.
 -define(LEAST_TO_WRAP, (1 bsl 55)).
 
 -opaque spawns() :: atomics:atomics_ref().
-%% What each value is, by its number.
+%% The kind of each value, by its number.
 
 -opaque senders() :: binary().
 %% The hash of each actor, by its number.
@@ -84,7 +84,7 @@ sent_by(Process, Kind) -> erlang:phash2(Process) * ?KINDS + Kind.
 senders(Actors) ->
     << <<(erlang:phash2(Actor)):32>> || Actor <- Actors >>.
 
-%% What an event's message is. One that another process sends on is no spawn.
+%% Returns the kind of an event's message. One that another process sends on is no spawn.
 kind(From, Value, Senders, Spawns) ->
     case atomics:get(Spawns, Value + 1) of
         ?OTHER_MESSAGE ->
@@ -151,8 +151,8 @@ first(Birth, Places) ->
                                 not lists:member(Place, Birth) >>/binary >>
     end.
 
-%% @doc What is known of processes, and of those that nobody asked in time what they were called
-%% with, by the requests that spawned them.
+%% @doc Adds to what is known of processes the calls by which those began that nobody asked in time:
+%% the requests that spawned them say it.
 -spec learn(births(), seqaudit_build:packed(), Actors :: [seqaudit_external:encoded()],
             seqaudit_numbers:table(), known()) -> known().
 learn(Births, _Packed, _Actors, _Values, Known) when map_size(Births) =:= 0 ->

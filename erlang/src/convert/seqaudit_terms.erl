@@ -13,9 +13,8 @@
 %% Labels that aren't numbers from 0 to the greatest are numbered from here.
 -define(FIRST_LABEL, 1_000_000).
 
-%% What is printed of a term: this many parts of it, this deep, this many bytes of a binary and
-%% digits of a number, and this many characters of it all. A reader takes in no more at once, and
-%% what prints a term isn't quick on every term.
+%% Parts of a term that are printed, how deep, the bytes of a binary and digits of a number, and the
+%% characters of it all. A reader takes in no more at once, and some terms take long to print.
 -define(PARTS, 1_000).
 -define(DEPTH, 40).
 -define(BYTES, 500).
@@ -27,7 +26,7 @@
 %% a part takes memory while it is printed, and a file of some bytes can have millions.
 -define(WHOLE_DEPTH, 10_000).
 -define(ALL, 1_000_000_000_000).
-%% So many characters are put in quotes at once.
+%% Characters that are put in quotes at once.
 -define(QUOTED, 1_000).
 
 %% The characters with which an atom without quotes begins, and which it may have behind that.
@@ -219,7 +218,7 @@ print_string(String, Parts, #style{bytes = Most}, Before) ->
             <<Shown/binary, (separator(Parts))/binary, "...]">>
     end.
 
-%% What separates so many parts from the next.
+%% Returns the comma after parts, if there are any.
 separator(0) -> <<>>;
 separator(_) -> <<$,>>.
 
@@ -377,7 +376,7 @@ process(Process, Numbers) ->
            end,
     formatted("<~ts.~b.~b>", [Home, Number, Serial]).
 
-%% @doc What a process was started with, as `module:function/3'.
+%% @doc Returns the call that a process was started with, as `module:function/3'.
 -spec call(seqaudit_external:encoded()) -> string().
 call(Call) ->
     case seqaudit_external:call(Call) of

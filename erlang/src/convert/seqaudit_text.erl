@@ -32,17 +32,17 @@
 %% A pid or a fun has at most so many bytes between its angles.
 -define(INNER, 2_000).
 
-%% Of what isn't understood so many characters are shown.
+%% Characters that are shown of what isn't understood.
 -define(SHOWN, 30).
 
-%% So many terms that are no events are handed on with their line.
+%% Terms that are handed on with their line if they are no events.
 -define(STRAYS, 3).
 
 -record(place, {node = ?NOWHERE :: binary(), channels = #{} :: #{binary() => binary()}}).
 
-%% What is known of a text up to where it is read: whether there was an event yet, the first line
-%% that is no term, how many lines were passed over, and how many terms are no events. `torn' are
-%% bytes of a character that isn't whole, which come behind the text.
+%% The state of a text up to where it is read: whether there was an event yet, the first line that
+%% is no term, how many lines were passed over, and how many terms are no events. `torn' counts the
+%% bytes of a character that isn't whole, after the text.
 -record(scan, {text :: binary(), torn :: non_neg_integer(), place = #place{} :: #place{},
                found = false :: boolean(),
                fault = none :: none | {pos_integer(), string()}, passed = 0 :: non_neg_integer(),
@@ -422,7 +422,7 @@ bits(Bits) ->
     Padded = <<Bits/bitstring, 0:(8 - Last)>>,
     <<77, (byte_size(Padded)):32, Last, Padded/binary>>.
 
-%% What is between the angles; of a pid, port or reference numbers and dots alone.
+%% Takes what is between the angles: numbers and dots of a pid, port or reference.
 opaque(Kind, Bytes, Place) ->
     case angle(Bytes) of
         {Size, 1} ->

@@ -55,7 +55,7 @@ event({Spelled, I}, <<?PACKED(Kind, Label, Prev, This, From, _To, Value, Time)>>
     Kind =:= ?SEND andalso sent({Label, Prev, This, From, Value}, Spelled, {I, Time}, Sends),
     [<<"event ">>, Spelled, $\s, integer_to_binary(I), $\s, integer_to_binary(Time - First), $\n].
 
-%% Of messages that are alike the sends are gathered, the last one first.
+%% Gathers the sends of messages that are alike, the last one first.
 sent(Message, Sender, Send, Sends) ->
     case ets:insert_new(Sends, {Message, Sender, [Send], 0, nobody}) of
         true -> true;

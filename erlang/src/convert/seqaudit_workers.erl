@@ -17,7 +17,7 @@ begun(Do) ->
     Self = self(),
     spawn_opt(fun() -> Self ! {self(), Do()} end, [monitor, {fullsweep_after, 10}]).
 
-%% @doc What came of it; fails as it did.
+%% @doc Returns the result of the work, or fails as it did.
 -spec result(worker()) -> term().
 result({Worker, Monitor}) ->
     receive
@@ -48,7 +48,7 @@ shares(Packed, Do) ->
 in_turn(Makes, Out) ->
     fold(Makes, fun(Text, ok) -> Out(Text) end, ok).
 
-%% @doc The same with any results, which the function takes in turn.
+%% @doc Makes results side by side, which the function takes in turn.
 -spec fold([fun(() -> Result)], fun((Result, Acc) -> Acc), Acc) -> Acc.
 fold(Makes, Take, Acc) ->
     {Now, Later} = lists:split(min(length(Makes), erlang:system_info(schedulers_online)), Makes),
