@@ -1,7 +1,7 @@
 //! The times at which events are drawn: when they happened, if there are times, else by the counts.
 
 use super::scene::{Place, Scene};
-use gemshowal::{Kind, OutOfMemory, Partner};
+use gemshowal::{Kind, OutOfMemory, Partner, Pid};
 
 /// The times of events. Without measured ones: twice the rank of an event's count among all counts,
 /// and one more for a receive, whose send has the same count. If that isn't later than the event
@@ -59,6 +59,13 @@ impl Clock {
         if let Some(own) = scene.number(place).and_then(|number| self.times.get_mut(number)) {
             *own = Some(time);
         }
+    }
+
+    /// Returns the times of a process's events.
+    pub(super) fn of_process(&self, scene: &Scene<'_>, pid: Pid) -> &[Option<i64>] {
+        let start = scene.number((pid, 0)).unwrap_or(self.times.len());
+        let own = self.times.get(start..).unwrap_or_default();
+        own.get(..scene.trace.streams().len(pid) as usize).unwrap_or_default()
     }
 
     pub(super) fn at(&self, scene: &Scene<'_>, place: Place) -> Option<i64> {

@@ -131,34 +131,44 @@ impl Writer<'_> {
             self.put_process(line, lane.pid);
             line.text("\"}}");
         })?;
+        let times = self.clock.of_process(self.scene, lane.pid);
         let mut enclosing = enclosing.into_iter().peekable();
         for (index, event) in (0..).zip(events) {
             while let Some(slice) = enclosing.next_if(|slice| slice.first == index) {
-                out.put(|line| self.put_enclosing(line, lane, slice, event))?;
+                out.put(|line| self.put_enclosing(line, lane, slice, event, times))?;
             }
-            if let Some(span) = self.span((lane.pid, index)) {
+            if let Some(span) = self.span(times, index) {
+                let place = (lane.pid, index);
+                let partner = self.scene.partner(place, event);
                 out.put(|line| {
-                    self.put_event(line, lane, (lane.pid, index), event, span);
-                    self.put_flow(line, lane, (lane.pid, index), event, span.0);
+                    self.put_event(line, lane, place, event, span, partner);
+                    self.put_flow(line, lane, place, partner, span.0);
                 })?;
             }
         }
         Ok(())
     }
 
-    fn span(&self, (pid, index): Place) -> Option<Span> {
-        let at = |index| self.clock.at(self.scene, (pid, index));
+    fn span(&self, times: &[Option<i64>], index: u64) -> Option<Span> {
+        let at = |index: u64| *times.get(index as usize)?;
         let time = at(index)?;
         let gap = at(index + 1).map_or(LONGEST, |next| (next - time) as f64 / 2.0);
         let longest = if self.clock.is_measured { LONGEST } else { 0.5 };
         Some((time as f64, gap.clamp(0.5, longest)))
     }
 
-    fn put_enclosing(&self, line: &mut Line<'_>, lane: Lane, slice: Enclosing, event: &Event) {
+    fn put_enclosing(
+        &self,
+        line: &mut Line<'_>,
+        lane: Lane,
+        slice: Enclosing,
+        event: &Event,
+        times: &[Option<i64>],
+    ) {
         let (around, cat) =
             if slice.is_call { (AROUND_CALL, "call") } else { (AROUND_WORK, "work") };
-        let first = self.span((lane.pid, slice.first));
-        let last = (slice.first..=slice.last).rev().find_map(|it| self.span((lane.pid, it)));
+        let first = self.span(times, slice.first);
+        let last = (slice.first..=slice.last).rev().find_map(|it| self.span(times, it));
         let Some(((start, _), (end, len))) = first.zip(last) else { return };
         let name = match slice.is_call {
             true => kind::sent(self.scene, event.value),
@@ -182,6 +192,7 @@ impl Writer<'_> {
         place: Place,
         event: &Event,
         span: Span,
+        partner: Partner,
     ) {
         let (kind, names) = (kind_word(event.kind), self.scene.names);
         let has_terms = self.scene.has_terms();
@@ -209,7 +220,7 @@ impl Writer<'_> {
             self.put_process(line, to);
             line.text("\"");
         }
-        line.text(match self.scene.partner(place, event) {
+        line.text(match partner {
             Partner::NoReceive => ",\"receive\":\"not reported\"}}",
             Partner::NoSend => ",\"send\":\"not reported\"}}",
             _ => "}}",
@@ -217,9 +228,16 @@ impl Writer<'_> {
     }
 
     /// Appends an end of the arrow of a message, if both ends are drawn.
-    fn put_flow(&self, line: &mut Line<'_>, lane: Lane, place: Place, event: &Event, time: f64) {
+    fn put_flow(
+        &self,
+        line: &mut Line<'_>,
+        lane: Lane,
+        place: Place,
+        partner: Partner,
+        time: f64,
+    ) {
         let has_time = |other| self.clock.at(self.scene, other).is_some();
-        let (phase, sent, end) = match self.scene.partner(place, event) {
+        let (phase, sent, end) = match partner {
             Partner::Receive(pid, index) if has_time((pid, index)) => ("s", place, "}"),
             Partner::Send(pid, index) if has_time((pid, index)) => {
                 ("f", (pid, index), ",\"bp\":\"e\"}")
@@ -251,9 +269,7 @@ impl Writer<'_> {
         let decimals = [rest / 1_000, rest / 100 % 10, rest / 10 % 10, rest % 10];
         let shown = decimals.iter().rposition(|&decimal| decimal > 0).unwrap_or(0);
         line.text(if parts < 0 { "-" } else { "" }).number(whole).text(".");
-        for &decimal in decimals.iter().take(shown + 1) {
-            line.number(decimal);
-        }
+        line.0.extend(decimals.iter().take(shown + 1).map(|&decimal| b'0' + decimal as u8));
     }
 }
 

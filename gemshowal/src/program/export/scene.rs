@@ -59,7 +59,7 @@ impl<'a> Scene<'a> {
     /// Returns the events that are drawn, each after those that it follows.
     pub(super) fn in_order(&self) -> Result<Vec<Place>, OutOfMemory> {
         let order = self.paired.order()?;
-        let reported = order.as_ref().iter().filter_map(|item| match *item {
+        let reported = order.into_iter().filter_map(|item| match item {
             Item::Reported(pid, index) => Some((pid, index)),
             Item::Hidden(..) => None,
         });
