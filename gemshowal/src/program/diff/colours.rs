@@ -16,8 +16,15 @@ pub(super) fn mix(one: u64, other: u64) -> u64 {
     mixed ^ (mixed >> 31)
 }
 
-#[derive(Debug)]
-pub(super) struct Ranks(Vec<u64>);
+/// A table of ranks may have this number of entries for each count.
+const ENTRIES_A_COUNT: u64 = 4;
+
+#[derive(Debug, PartialEq, Eq)]
+pub(super) struct Ranks {
+    counts: Vec<u64>,
+    /// The ranks by the counts, if these are dense: a search takes longer.
+    table: Vec<u32>,
+}
 
 impl Ranks {
     pub(super) fn of(side: &Side<'_>) -> Ranks {
@@ -27,11 +34,21 @@ impl Ranks {
         counts.sort_unstable();
         counts.dedup();
         counts.shrink_to_fit();
-        Ranks(counts)
+        let mut table = Vec::new();
+        let is_dense = |last: &&u64| **last <= ENTRIES_A_COUNT * counts.len() as u64;
+        if let Some(&last) = counts.last().filter(is_dense) {
+            table = vec![0; last as usize + 1];
+            counts.iter().zip(0..).for_each(|(&count, rank)| table[count as usize] = rank);
+        }
+        Ranks { counts, table }
     }
 
     pub(super) fn of_serial(&self, serial: Serial) -> [u64; 2] {
-        let below = |count| self.0.partition_point(|&other| other < count) as u64;
+        let search = |count| self.counts.partition_point(|&other| other < count) as u64;
+        let below = |count: u64| match self.table.get(count as usize) {
+            Some(&rank) => rank.into(),
+            None => search(count),
+        };
         [below(serial.prev), below(serial.this)]
     }
 }

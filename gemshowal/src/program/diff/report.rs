@@ -48,9 +48,14 @@ impl Moved {
         if changes.len() > 0 || pairs.all().len() < first.len().max(second.len()) {
             return None;
         }
+        let has_same_counts = ones == others;
         let moved = |pair: Pair| {
             let events = first.events(pair.first).iter().zip(second.events(pair.second));
-            events.enumerate().filter_map(move |(index, (one, other))| {
+            let events = events.enumerate();
+            let may_move = events.filter(move |(_, (one, other))| {
+                !has_same_counts || one.serial != other.serial
+            });
+            may_move.filter_map(move |(index, (one, other))| {
                 let ranks = [ones.of_serial(one.serial), others.of_serial(other.serial)];
                 (ranks[0] != ranks[1]).then_some(Moved { pair, index, ranks, count: 1 })
             })
