@@ -43,8 +43,9 @@ impl<'a> Paired<'a> {
 
     /// Orders all events, with the sends that only their receives tell of. If a run without a reset
     /// reports the streams, each event comes after those that it follows.
-    pub fn order(&self) -> Result<impl AsRef<[Item]>, OutOfMemory> {
-        Ok(Order(st_order::order(&HostRuntime, Global, self.streams, &self.pairing)?))
+    pub fn order(&self) -> Result<Vec<Item>, OutOfMemory> {
+        let order = st_order::order(&HostRuntime, Global, self.streams, &self.pairing)?;
+        Ok(order.as_slice().to_vec())
     }
 
     /// Returns what each event pairs with.
@@ -63,6 +64,11 @@ impl Hops<'_> {
         Some(self.0.hop(pid, index, &event))
     }
 
+    /// Returns what this event, which is at this place, follows.
+    pub fn hop_of(&self, pid: Pid, index: u64, event: &Event) -> Hop {
+        self.0.hop(pid, index, event)
+    }
+
     /// Returns the event at this place, the event that it follows, and so on back.
     pub fn way(&self, reach: Reach, place: (Pid, u64)) -> Result<impl AsRef<[Node]>, OutOfMemory> {
         Ok(crate::List(node_why::way(Global, &self.0, reach, place)?))
@@ -71,14 +77,5 @@ impl Hops<'_> {
     /// Returns the event at this place, and after each event those that follow it.
     pub fn tree(&self, reach: Reach, place: (Pid, u64)) -> Result<impl AsRef<[Node]>, OutOfMemory> {
         Ok(crate::List(node_why::tree(Global, &self.0, reach, place)?))
-    }
-}
-
-/// The items of an order.
-struct Order(st_core::Sequence<Item>);
-
-impl AsRef<[Item]> for Order {
-    fn as_ref(&self) -> &[Item] {
-        self.0.as_slice()
     }
 }

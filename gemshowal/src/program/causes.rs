@@ -103,7 +103,7 @@ pub(crate) fn with_causes<T>(
     let (never, hops) = (paired.refusal()?, paired.hops()?);
     let shown = Shown::reported(view);
     let own = Causes { shown, never, hops, paired: &paired, whole: None };
-    if never.is_some() || own.are_reported() || is_enough(&own) {
+    if never.is_some() || is_enough(&own) || own.are_reported() {
         return Ok(Ok(run(&own)?));
     }
     let Answer::Whole(completion) = view.trace.complete()? else { return Ok(Ok(run(&own)?)) };
@@ -173,10 +173,9 @@ impl Causes<'_> {
     /// Returns whether it is known of each event what it follows, and that was reported, so that a
     /// completion adds nothing.
     fn are_reported(&self) -> bool {
-        let is_open = |hop| matches!(hop, Some(Hop::Unsent | Hop::BeginsOrUnreported));
-        let mut processes = self.trace().processes();
-        !processes.any(|(pid, events)| {
-            (0..events.len() as u64).any(|index| is_open(self.hops.hop(pid, index)))
+        let is_open = |hop| matches!(hop, Hop::Unsent | Hop::BeginsOrUnreported);
+        !self.trace().processes().any(|(pid, events)| {
+            (0..).zip(events).any(|(index, event)| is_open(self.hops.hop_of(pid, index, event)))
         })
     }
 
@@ -187,7 +186,7 @@ impl Causes<'_> {
     /// Returns the events that are shown, each after its cause if the trace has a run.
     pub(crate) fn order(&self) -> Result<Vec<Item>, OutOfMemory> {
         let paired = self.whole.as_ref().map_or(self.paired, |whole| whole.paired);
-        Ok(paired.order()?.as_ref().to_vec())
+        paired.order()
     }
 
     pub(crate) fn added(&self) -> Added {

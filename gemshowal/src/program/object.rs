@@ -8,6 +8,16 @@ use serde::{Serialize, Serializer};
 /// The greatest number that every reader of JSON keeps exactly.
 pub(crate) const EXACT: u64 = 1 << 53;
 
+/// Serializes an object with these fields, in their order.
+macro_rules! object {
+    ($serializer:expr, $($name:literal: $value:expr),* $(,)?) => {{
+        let mut object = $serializer.serialize_map(None)?;
+        $(object.serialize_entry($name, &$value)?;)*
+        object.end()
+    }};
+}
+pub(crate) use object;
+
 /// A number; one that a reader may round is a string.
 #[derive(Clone, Copy, Debug, PartialEq, Eq)]
 pub(crate) struct Number(pub(crate) u64);

@@ -2,14 +2,16 @@
 
 use crate::args::Why;
 use crate::causes::{with_each, Cause, Causes, Grade, Link};
-use crate::object::{kind_word, Number};
+use crate::object::{kind_word, object, Number};
 use crate::output::Output;
 use crate::reason::write_unpaired;
 use crate::view::View;
 use crate::words;
 use crate::{Failure, Status, Task};
-use gemshowal::{Item, OutOfMemory, Pid, Premises, Text, Trace};
+use gemshowal::{Item, Kind, LineNumbers, Pid, Premises, Text};
+use serde::ser::{SerializeMap, Serializer};
 use serde::Serialize;
+use std::collections::HashMap;
 use std::io::{self, Write};
 
 /// The greatest number of hops that are indented: more would move a line off the screen.
@@ -25,6 +27,7 @@ pub(crate) fn run(args: &Why, task: Task<'_>) -> Result<Status, Failure> {
         let first = causes.item_at(place).filter(|_| !args.effects && !json);
         first.is_some_and(|item| Way::back(causes, item, args).is_reported())
     };
+    let lines = trace.lines()?;
     let told = with_each(&whole, is_enough, |causes, part| {
         let Some(item) = causes.item_at(place) else { return Ok(None) };
         let way = if args.effects {
@@ -34,7 +37,7 @@ pub(crate) fn run(args: &Why, task: Task<'_>) -> Result<Status, Failure> {
         };
         if json {
             let result = if causes.never().is_some() { "never" } else { "found" };
-            out.report(result, &way.object(causes, &trace, part)?)?;
+            out.report(result, &way.object(causes, &lines, part))?;
         } else {
             way.write(causes, part, out)?;
         }
@@ -86,14 +89,14 @@ impl Way {
 
     /// Collects the event, and after each event those that follow it.
     fn forth(causes: &Causes<'_>, first: Item, args: &Why) -> Way {
-        let children = Children::of(causes, args.across);
+        let mut children = Children { causes, across: args.across, stamps: HashMap::new() };
         let mut steps = Vec::new();
         let mut waiting = vec![(0, first)];
         while let Some((depth, item)) = waiting.pop() {
             steps.push(Step { depth, item, link: causes.link(item) });
             if (depth as u64) + 1 < args.most() {
-                let below = children.of_parent(item).iter().rev();
-                waiting.extend(below.map(|&(_, item)| (depth + 1, item)));
+                let below = children.of_parent(item).into_iter().rev();
+                waiting.extend(below.map(|item| (depth + 1, item)));
             }
         }
         Way { is_back: false, steps }
@@ -161,46 +164,51 @@ impl Way {
         Ok(())
     }
 
-    fn object(
-        &self,
-        causes: &Causes<'_>,
-        trace: &Trace,
+    fn object<'a>(
+        &'a self,
+        causes: &'a Causes<'a>,
+        lines: &'a LineNumbers<'a>,
         part: Option<(usize, usize)>,
-    ) -> Result<Told, Failure> {
-        let found = self.steps.iter().map(|step| Found::of(causes, trace, step).transpose());
-        let events = found.flatten().collect::<Result<_, _>>()?;
-        let direction = if self.is_back { "back" } else { "forth" };
-        Ok(Told {
+    ) -> Told<'a> {
+        Told {
             headline: words::headline(causes),
             part: part.map(|(which, _)| which),
-            direction,
-            events,
+            direction: if self.is_back { "back" } else { "forth" },
+            events: self.steps.iter().map(|step| Found { causes, lines, step }).collect(),
             rests_on: words::premises(self.grades()),
-        })
+        }
     }
 }
 
-/// The events that follow others directly, each after the event that it follows, by that event.
-/// Those that follow one event are of one process.
-struct Children(Vec<(Item, Item)>);
+/// The events that follow others directly: a message's receive follows its send, and sends and
+/// prints follow a receive of their process.
+struct Children<'a> {
+    causes: &'a Causes<'a>,
+    across: bool,
+    /// For each process that was asked about, its sends and prints by what they follow.
+    stamps: HashMap<Pid, Vec<(Item, Item)>>,
+}
 
-impl Children {
-    fn of(causes: &Causes<'_>, across: bool) -> Children {
-        let streams = causes.streams();
-        let items = streams.pids().iter().flat_map(|&pid| {
-            (0..streams.len(pid)).map(move |index| Item::Reported(pid, index))
-        });
-        let child = |item| Some((parent(&causes.link(item), across)?, item));
-        let mut children: Vec<_> = items.filter_map(child).collect();
-        children.sort_unstable();
-        Children(children)
+impl Children<'_> {
+    fn of_parent(&mut self, item: Item) -> Vec<Item> {
+        match self.causes.event(item).map(|event| event.kind) {
+            Some(Kind::Send) => self.causes.other_end(item).into_iter().collect(),
+            Some(Kind::Receive) => self.of_receive(item),
+            Some(Kind::Print) | None => Vec::new(),
+        }
     }
 
-    fn of_parent(&self, item: Item) -> &[(Item, Item)] {
-        let first = self.0.partition_point(|&(parent, _)| parent < item);
-        let own = self.0.get(first..).unwrap_or_default();
-        let count = own.iter().take_while(|&&(parent, _)| parent == item).count();
-        own.get(..count).unwrap_or_default()
+    fn of_receive(&mut self, item: Item) -> Vec<Item> {
+        let (causes, across, (pid, _)) = (self.causes, self.across, item.place());
+        let stamps = self.stamps.entry(pid).or_insert_with(|| {
+            let items = (0..causes.streams().len(pid)).map(|index| Item::Reported(pid, index));
+            let child = |item| Some((parent(&causes.link(item), across)?, item));
+            let mut stamps: Vec<_> = items.filter_map(child).collect();
+            stamps.sort_unstable();
+            stamps
+        });
+        let own = &stamps[stamps.partition_point(|&(parent, _)| parent < item)..];
+        own.iter().take_while(|&&(parent, _)| parent == item).map(|&(_, child)| child).collect()
     }
 }
 
@@ -213,67 +221,47 @@ fn parent(link: &Link, across: bool) -> Option<Item> {
 }
 
 #[derive(Serialize)]
-pub(crate) struct Told {
+struct Told<'a> {
     direction: &'static str,
     headline: String,
     /// The part between supposed resets in which the event is.
     #[serde(skip_serializing_if = "Option::is_none")]
     part: Option<usize>,
-    events: Vec<Found>,
+    events: Vec<Found<'a>>,
     rests_on: Vec<&'static str>,
 }
 
-#[derive(Serialize)]
-struct Found {
-    depth: usize,
-    event: String,
-    /// The process of the event, its number there and its line, unless nobody reported it.
-    pid: Option<Text<Pid>>,
-    index: Option<u64>,
-    line: Option<u64>,
-    kind: &'static str,
-    label: String,
-    from: String,
-    to: Option<String>,
-    prev: Number,
-    this: Number,
-    /// The message, if one of its ends was reported.
-    message: Option<String>,
-    /// Nanoseconds after the first event.
-    at: Option<i64>,
-    cause: &'static str,
-    after: Option<String>,
-    grade: &'static str,
-    premises: &'static [u8],
+struct Found<'a> {
+    causes: &'a Causes<'a>,
+    lines: &'a LineNumbers<'a>,
+    step: &'a Step,
 }
 
-impl Found {
-    fn of(causes: &Causes<'_>, trace: &Trace, step: &Step) -> Result<Option<Found>, OutOfMemory> {
-        let names = causes.names();
-        let Some(event) = causes.event(step.item) else { return Ok(None) };
-        let place = causes.place(step.item);
-        let line = place.map(|(pid, index)| trace.line(pid, index)).transpose()?.flatten();
-        let (cause, after) = cause(causes, step.link);
-        let (grade, premises) = grade(step.link.grade);
-        Ok(Some(Found {
-            depth: step.depth,
-            event: causes.name(step.item),
-            pid: place.map(|(pid, _)| Text(pid)),
-            index: place.map(|(_, index)| index),
-            line,
-            kind: kind_word(event.kind),
-            label: names.label(event.label).into_owned(),
-            from: causes.process(event.from).into_owned(),
-            to: event.to.map(|to| causes.process(to).into_owned()),
-            prev: Number(event.serial.prev),
-            this: Number(event.serial.this),
-            message: causes.message(step.item).map(|value| names.value(value).into_owned()),
-            at: names.times().zip(place).and_then(|(times, place)| times.of_event(place)),
-            cause,
-            after,
-            grade,
-            premises,
-        }))
+impl Serialize for Found<'_> {
+    fn serialize<S: Serializer>(&self, serializer: S) -> Result<S::Ok, S::Error> {
+        let Found { causes, lines, step: Step { depth, item, link } } = *self;
+        let (names, event, place) = (causes.names(), causes.event(*item), causes.place(*item));
+        let (cause, after) = cause(causes, *link);
+        let (grade, premises) = grade(link.grade);
+        object!(serializer,
+            "depth": depth,
+            "event": causes.name(*item),
+            "pid": place.map(|(pid, _)| Text(pid)),
+            "index": place.map(|(_, index)| index),
+            "line": place.and_then(|(pid, index)| lines.line(pid, index)),
+            "kind": event.map(|event| kind_word(event.kind)),
+            "label": event.map(|event| names.label(event.label)),
+            "from": event.map(|event| causes.process(event.from)),
+            "to": event.and_then(|event| event.to).map(|to| causes.process(to)),
+            "prev": event.map(|event| Number(event.serial.prev)),
+            "this": event.map(|event| Number(event.serial.this)),
+            "message": causes.message(*item).map(|value| names.value(value)),
+            "at": names.times().zip(place).and_then(|(times, place)| times.of_event(place)),
+            "cause": cause,
+            "after": after,
+            "grade": grade,
+            "premises": premises,
+        )
     }
 }
 

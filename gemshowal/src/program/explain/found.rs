@@ -3,9 +3,9 @@
 use super::reasons::{reasons, Reason};
 use super::rerun::Run;
 use super::{line_of, queue::nearest};
-use crate::object::Number;
+use crate::object::{object, Number};
 use gemshowal::{Act, Came, Event, Kind, OutOfMemory, Pid, State, Text, Token, Trace};
-use serde::Serialize;
+use serde::ser::{Serialize, SerializeMap, Serializer};
 
 /// The greatest number of a queue's messages that are shown.
 const SHOWN: usize = 10;
@@ -123,33 +123,34 @@ impl Found {
     pub(super) fn queued(&self) -> u64 {
         self.waiting.len() as u64 + self.more
     }
+}
 
-    pub(super) fn object(&self) -> Object {
+impl Serialize for Found {
+    fn serialize<S: Serializer>(&self, serializer: S) -> Result<S::Ok, S::Error> {
         let report = |came: Came| match came {
             Came::Step(report, _) => report.map(|event| Text(&event).to_string()),
             Came::Stuck => None,
         };
-        let refused = self.act.as_ref();
-        Object {
-            process: Text(self.pid),
-            act: refused.map(|it| it.number),
-            line: refused.and_then(|it| it.line),
-            text: refused.map(|it| Text(&it.act).to_string()),
-            came: refused.and_then(|it| report(it.came)),
-            due: self.due.as_ref().map(|due| Text(&due.event).to_string()),
-            due_index: self.due.as_ref().map(|due| due.index),
-            due_line: self.due.as_ref().and_then(|due| due.line),
-            token: self.state.and_then(|state| state.token).map(|token| token_words(&token)),
-            clock: self.state.map(|state| Number(state.clock)),
-            last: self.state.map(|state| Number(state.last)),
-            messages: self.queued(),
-            next: self
-                .next
-                .as_ref()
-                .filter(|next| next.is_reported)
-                .and_then(|next| next.tried.as_ref().map(|(act, _)| Text(act).to_string())),
-            reasons: self.next.iter().flat_map(|it| &it.reasons).map(Reason::to_string).collect(),
-        }
+        let (refused, due) = (self.act.as_ref(), self.due.as_ref());
+        let tried = |next: &Next| next.tried.filter(|_| next.is_reported);
+        let next = self.next.as_ref().and_then(tried);
+        let reasons = self.next.iter().flat_map(|next| &next.reasons);
+        object!(serializer,
+            "process": Text(self.pid),
+            "act": refused.map(|it| it.number),
+            "line": refused.and_then(|it| it.line),
+            "text": refused.map(|it| Text(&it.act)),
+            "came": refused.and_then(|it| report(it.came)),
+            "due": due.map(|due| Text(&due.event)),
+            "due_index": due.map(|due| due.index),
+            "due_line": due.and_then(|due| due.line),
+            "token": self.state.and_then(|state| state.token).map(|token| token_words(&token)),
+            "clock": self.state.map(|state| Number(state.clock)),
+            "last": self.state.map(|state| Number(state.last)),
+            "messages": self.queued(),
+            "next": next.as_ref().map(|(act, _)| Text(act)),
+            "reasons": reasons.map(Reason::to_string).collect::<Vec<_>>(),
+        )
     }
 }
 
@@ -165,22 +166,4 @@ pub(super) fn token_words(token: &Token) -> String {
     let flags: String = flags.iter().filter(|(is_set, _)| *is_set).map(|it| it.1).collect();
     let (serial, from) = (Text(token.serial), Text(token.from));
     format!("label {}, flags{flags}, serial {serial}, from {from}", token.label.0)
-}
-
-#[derive(Serialize)]
-pub(super) struct Object {
-    process: Text<Pid>,
-    act: Option<u64>,
-    line: Option<u64>,
-    text: Option<String>,
-    came: Option<String>,
-    due: Option<String>,
-    due_index: Option<u64>,
-    due_line: Option<u64>,
-    token: Option<String>,
-    clock: Option<Number>,
-    last: Option<Number>,
-    messages: u64,
-    next: Option<String>,
-    reasons: Vec<String>,
 }

@@ -32,7 +32,7 @@ pub(crate) fn run(task: Task<'_>) -> Result<Status, Failure> {
         (None, false) => {
             writeln!(out, "yes: each process reports exactly its events in a run of these acts")?
         }
-        (Some(found), true) => out.report("no", &found.object())?,
+        (Some(found), true) => out.report("no", found)?,
         (Some(found), false) => write!(out, "{found}")?,
     }
     Ok(if found.is_some() { Status::No } else { Status::Yes })
