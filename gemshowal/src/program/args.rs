@@ -10,7 +10,12 @@ use std::path::{Path, PathBuf};
 /// What a trace of Erlang's seq_trace says: whether it could have happened, what it lacks, and what
 /// caused what.
 #[derive(Parser)]
-#[command(name = "gemshowal", bin_name = "gemshowal", version, after_help = AFTER)]
+#[command(name = "gemshowal", bin_name = "gemshowal", version, after_help = "\
+A trace is NAME.seqtrace, with NAME.terms, NAME.facts and NAME.times beside it if
+they are there, or any text of that form (docs/FORMATS.md), also packed by gzip.
+
+Status 0 yes, 1 no, 2 faulty text, 3 bad words, 4 memory, a device, or programs that
+disagree, 5 too long.")]
 pub(crate) struct Args {
     #[command(subcommand)]
     pub(crate) command: Command,
@@ -19,46 +24,150 @@ pub(crate) struct Args {
 #[derive(Subcommand)]
 pub(crate) enum Command {
     /// Says whether the events fit together, and what is missing
-    #[command(after_help = AUDIT)]
+    #[command(after_help = "\
+Example:
+  gemshowal audit examples/receives_off
+
+Status 0: the trace fits, if need be with events that nobody reported. Status 1:
+no run without a reset reports it, and why, or it has no events.
+Label and process are numbers and pids, or what NAME.terms calls them.")]
     Audit(Audit),
     /// Prints the messages of a trace with what each event follows, or draws them
-    #[command(after_help = CHART)]
+    #[command(after_help = "\
+Example:
+  gemshowal chart examples/order --svg order.svg
+  label {order,7}
+  lane 1 client
+  ..
+     S   |   |   .  client#0  send    {0,1} call {order,apple,3}  begins here
+     .   |   |   R  shop#0    receive {0,1} call {order,apple,3}  after client#0
+S is a send, R a receive, P a print, and a dot the other end. Small letters are
+events that nobody reported, and that gemshowal complete adds; their names have
+a ~, and in the drawing they are dashed. No row is above what it follows.
+Status 1: the trace can't be paired, or has no such label.")]
     Chart(Chart),
     /// Says whether the acts in a text are a run that reports exactly its events
-    #[command(after_help = CHECK)]
+    #[command(after_help = "\
+Example:
+  gemshowal audit --acts acts.txt order && gemshowal check acts.txt
+
+A no names the act and its line; gemshowal explain says more.")]
     Check(Reported),
     /// Adds unreported events until each event has what it follows, or says why not
-    #[command(after_help = COMPLETE)]
+    #[command(after_help = "\
+Example:
+  gemshowal complete examples/crossing.txt
+
+Events that counts alone show aren't added (gemshowal audit counts them), and a
+message whose receive isn't reported may still wait.
+Status 1: no run without a reset has the trace, whatever nobody reported, and why.
+Status 5, with --as acts or streams: there is a completion, too long to be read.")]
     Complete(Complete),
     /// Writes a smaller trace, of the events that meet conditions
-    #[command(after_help = CUT)]
+    #[command(after_help = "\
+Example:
+  gemshowal cut --label 17 trace.txt | gemshowal audit
+
+Messages whose other end is cut off look as if nobody had reported that: a smaller
+trace can fit where the whole one doesn't. Standard error says how many those are.")]
     Cut(Cut),
     /// Says why check refuses acts: the act, what was due, what came
-    #[command(after_help = EXPLAIN)]
+    #[command(after_help = "\
+Example:
+  gemshowal explain examples/request_tampered.txt
+
+It makes the run again up to the first act that reports something else than the
+trace has, and shows the act, the event that was due, what came, and the state of
+the process before it, with the messages that wait.")]
     Explain(Reported),
     /// Compares two traces of one program: what is new, gone or elsewhere in the second
-    #[command(after_help = DIFF)]
+    #[command(after_help = "\
+Example:
+  gemshowal diff before.txt after.txt
+
+Status 0: `same`, one renaming of the pids, and one of the counts that keeps
+their order, make the one trace of the other. Status 1: `different`.
+Processes are matched by their names, by their pids if that leaves no more
+changes than another way, and by what they report; a guess is told. If both
+traces have terms, these are compared, and else the numbers of labels and values.")]
     Diff(Diff),
     /// Writes the trace for another program that draws
-    #[command(after_help = EXPORT)]
+    #[command(after_help = "\
+Example:
+  gemshowal export --as perfetto order >order.json
+
+It opens in ui.perfetto.dev. A collector of OpenTelemetry takes what --as otlp
+writes, for Jaeger and the like. Times are those of NAME.times; --as perfetto
+without them draws by the order of the counts. Status 1: the trace can't be
+paired or has a late event (gemshowal audit), no event is drawn, or --as otlp
+and there are no times. Status 5, with --as shiviz: the clocks would be too long.")]
     Export(Export),
     /// Names the mistakes of a text, or mends them
-    #[command(after_help = LINT)]
+    #[command(after_help = "\
+Example:
+  gemshowal lint trace.txt
+  line 3, column 12: expected a label up to 4294967295
+    {seq_trace,foo,{print,{0,1},<0.30.0>,[],7}}
+               ^
+  labels are numbers: seqaudit-node convert gives each term one
+
+--fix mends line ends, blanks, a mark of UTF-8, the last newline, the quotes of
+'receive', the header and #Pid; standard error says what, and what is left.
+Status 1: it can be read, but no run reports some event (a serial's second count
+isn't above its first).")]
     Lint(Lint),
     /// Lists events: line, name, label, serial, message, partner
-    #[command(after_help = LIST)]
+    #[command(after_help = "\
+Example:
+  gemshowal list --process client examples/order
+  3: client#0  send    {order,7} {0,1} call {order,apple,3} to shop, received as shop#0
+
+An event has to meet all conditions that are given. If the trace can't be paired
+(gemshowal audit says why), the partners are left out.")]
     List(List),
     /// Writes a page for a browser, with all labels: by cause, by time, searched, one chain alone
-    #[command(after_help = PAGE)]
+    #[command(after_help = "\
+Example:
+  gemshowal page examples/order -o order.html
+
+The page is one file and needs no network. Whole messages are in it, so whoever
+gets the file gets them. page.html#shop%232 opens it at the event shop#2.
+Status 1: the trace can't be paired (gemshowal audit).")]
     Page(Page),
     /// Counts events and messages by process, pair and label
-    #[command(after_help = STATS)]
+    #[command(after_help = "\
+Depth is the number of messages on the longest way of a label, each sent behind the
+receive of the one before (as gemshowal why tells it); width is the most messages at
+one depth.
+Status 1: the trace can't be paired (gemshowal audit).")]
     Stats(Reported),
     /// Says how long messages and labels took
-    #[command(after_help = TIMES)]
+    #[command(after_help = "\
+Example:
+  gemshowal times order --label '{order,7}'
+
+A message takes from its send until its receiver took it, so its time in the
+mailbox is in that. Between two nodes it may seem to take less than no time, as
+far as their clocks differ.
+Status 1: the events have no times, or there is no such label.")]
     Times(Times),
     /// Says what an event follows, and so on back, or what follows it
-    #[command(after_help = WHY)]
+    #[command(after_help = "\
+Example:
+  gemshowal why examples/order stock#0
+  stock#0 received call {take,apple,3} from shop, label {order,7}
+  because shop#1 sent call {take,apple,3} to stock
+  because shop#0 received call {order,apple,3} from client (1, 2)
+  because client#0 sent call {order,apple,3} to shop
+  client#0 begins this chain
+  this holds in each run without a reset that reports the trace
+  (1) if each receive of a token was reported
+  (2) if no process cleared or lost its token, began again and reported an
+  earlier label again
+  ..
+The numbers behind a line are the premises on which the because in front of it
+rests. An event with ~ in its name wasn't reported: gemshowal complete adds it.
+Status 1: there is no such event, or the trace can't be paired.")]
     Why(Why),
     /// Traces running nodes: a command of the Erlang application
     #[command(disable_help_flag = true)]
@@ -433,142 +542,3 @@ fn span(text: &str) -> Result<Span, &'static str> {
     };
     ends().ok_or("write one number as 7, several as 7-9, all from 7 on as 7-")
 }
-
-const AFTER: &str = "\
-A trace is NAME.seqtrace, with NAME.terms, NAME.facts and NAME.times beside it if
-they are there, or any text of that form (docs/FORMATS.md), also packed by gzip.
-
-Status 0 yes, 1 no, 2 faulty text, 3 bad words, 4 memory, a device, or programs that
-disagree, 5 too long.";
-
-const AUDIT: &str = "\
-Example:
-  gemshowal audit examples/receives_off
-
-Status 0: the trace fits, if need be with events that nobody reported. Status 1:
-no run without a reset reports it, and why, or it has no events.
-Label and process are numbers and pids, or what NAME.terms calls them.";
-
-const CHECK: &str = "\
-Example:
-  gemshowal audit --acts acts.txt order && gemshowal check acts.txt
-
-A no names the act and its line; gemshowal explain says more.";
-
-const COMPLETE: &str = "\
-Example:
-  gemshowal complete examples/crossing.txt
-
-Events that counts alone show aren't added (gemshowal audit counts them), and a
-message whose receive isn't reported may still wait.
-Status 1: no run without a reset has the trace, whatever nobody reported, and why.
-Status 5, with --as acts or streams: there is a completion, too long to be read.";
-
-const CUT: &str = "\
-Example:
-  gemshowal cut --label 17 trace.txt | gemshowal audit
-
-Messages whose other end is cut off look as if nobody had reported that: a smaller
-trace can fit where the whole one doesn't. Standard error says how many those are.";
-
-const EXPLAIN: &str = "\
-Example:
-  gemshowal explain examples/request_tampered.txt
-
-It makes the run again up to the first act that reports something else than the
-trace has, and shows the act, the event that was due, what came, and the state of
-the process before it, with the messages that wait.";
-
-const LINT: &str = "\
-Example:
-  gemshowal lint trace.txt
-  line 3, column 12: expected a label up to 4294967295
-    {seq_trace,foo,{print,{0,1},<0.30.0>,[],7}}
-               ^
-  labels are numbers: seqaudit-node convert gives each term one
-
---fix mends line ends, blanks, a mark of UTF-8, the last newline, the quotes of
-'receive', the header and #Pid; standard error says what, and what is left.
-Status 1: it can be read, but no run reports some event (a serial's second count
-isn't above its first).";
-
-const LIST: &str = "\
-Example:
-  gemshowal list --process client examples/order
-  3: client#0  send    {order,7} {0,1} call {order,apple,3} to shop, received as shop#0
-
-An event has to meet all conditions that are given. If the trace can't be paired
-(gemshowal audit says why), the partners are left out.";
-
-const STATS: &str = "\
-Depth is the number of messages on the longest way of a label, each sent behind the
-receive of the one before (as gemshowal why tells it); width is the most messages at
-one depth.
-Status 1: the trace can't be paired (gemshowal audit).";
-
-const CHART: &str = "\
-Example:
-  gemshowal chart examples/order --svg order.svg
-  label {order,7}
-  lane 1 client
-  ..
-     S   |   |   .  client#0  send    {0,1} call {order,apple,3}  begins here
-     .   |   |   R  shop#0    receive {0,1} call {order,apple,3}  after client#0
-S is a send, R a receive, P a print, and a dot the other end. Small letters are
-events that nobody reported, and that gemshowal complete adds; their names have
-a ~, and in the drawing they are dashed. No row is above what it follows.
-Status 1: the trace can't be paired, or has no such label.";
-
-const PAGE: &str = "\
-Example:
-  gemshowal page examples/order -o order.html
-
-The page is one file and needs no network. Whole messages are in it, so whoever
-gets the file gets them. page.html#shop%232 opens it at the event shop#2.
-Status 1: the trace can't be paired (gemshowal audit).";
-
-const TIMES: &str = "\
-Example:
-  gemshowal times order --label '{order,7}'
-
-A message takes from its send until its receiver took it, so its time in the
-mailbox is in that. Between two nodes it may seem to take less than no time, as
-far as their clocks differ.
-Status 1: the events have no times, or there is no such label.";
-
-const WHY: &str = "\
-Example:
-  gemshowal why examples/order stock#0
-  stock#0 received call {take,apple,3} from shop, label {order,7}
-  because shop#1 sent call {take,apple,3} to stock
-  because shop#0 received call {order,apple,3} from client (1, 2)
-  because client#0 sent call {order,apple,3} to shop
-  client#0 begins this chain
-  this holds in each run without a reset that reports the trace
-  (1) if each receive of a token was reported
-  (2) if no process cleared or lost its token, began again and reported an
-  earlier label again
-  ..
-The numbers behind a line are the premises on which the because in front of it
-rests. An event with ~ in its name wasn't reported: gemshowal complete adds it.
-Status 1: there is no such event, or the trace can't be paired.";
-
-const DIFF: &str = "\
-Example:
-  gemshowal diff before.txt after.txt
-
-Status 0: `same`, one renaming of the pids, and one of the counts that keeps
-their order, make the one trace of the other. Status 1: `different`.
-Processes are matched by their names, by their pids if that leaves no more
-changes than another way, and by what they report; a guess is told. If both
-traces have terms, these are compared, and else the numbers of labels and values.";
-
-const EXPORT: &str = "\
-Example:
-  gemshowal export --as perfetto order >order.json
-
-It opens in ui.perfetto.dev. A collector of OpenTelemetry takes what --as otlp
-writes, for Jaeger and the like. Times are those of NAME.times; --as perfetto
-without them draws by the order of the counts. Status 1: the trace can't be
-paired or has a late event (gemshowal audit), no event is drawn, or --as otlp
-and there are no times. Status 5, with --as shiviz: the clocks would be too long.";
