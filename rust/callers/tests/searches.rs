@@ -44,7 +44,7 @@ fn a_pid_is_looked_for_if_its_guess_is_another_one() -> Tried {
 #[test]
 fn each_receive_of_a_send_that_nobody_reported_is_kept_in_the_map() -> Tried {
     let before = searches();
-    pair(Global, &receives(&[1, 2, 5])?).map_err(|fault| format!("{fault:?}"))?;
+    pair(Global, &receives(&[1, 2, 5])?)?;
     assert_eq!(searches().maps, before.maps + 3);
     Ok(())
 }
