@@ -37,7 +37,7 @@ def inputs():
 
 
 def compare(programs, words, source, folder):
-    """What differs, or None."""
+    """The difference, or None."""
     written = [os.path.join(folder, str(place)) for place in range(len(programs))]
     statuses = {run_once([program, *words], source, path)[0] for program, path in zip(programs, written)}
     if len(statuses) > 1:

@@ -53,7 +53,7 @@ def ratio_of(name, results):
 
 
 def cell(name, results):
-    """What a cell says of the program."""
+    """The words of a cell about the program."""
     seconds, peak, events = results[name]
     ratio = "" if name == TUNED else f" = {ratio_of(name, results)}"
     said = f"{seconds:.2f} s{ratio}, {peak} MB"
@@ -73,7 +73,7 @@ def results_of(command, programs, folder, rounds):
 
 
 def legend(rounds, command, results):
-    """What a cell says, for instance this command's first."""
+    """The words of a cell, for instance this command's first."""
     seconds, peak, _ = results[PROVED]
     said = f"`{command}` took {seconds:.2f} s, {ratio_of(PROVED, results)} times as long as the tuned program"
     return f"Each cell has the median of {rounds} runs in turn. The first one says that {said}, with a peak of {peak} MB.\n"

@@ -24,7 +24,7 @@ def count_events(path):
 
 
 def difference(checker, words, source, written):
-    """What is wrong with what the programs wrote of the source, in files, or None."""
+    """The fault of the programs' outputs for the source, in files, or None."""
     if words != ["drive"]:
         differs = any(not filecmp.cmp(written[0], path, shallow=False) for path in written[1:])
         return "the programs write different texts" if differs else None

@@ -20,7 +20,7 @@ from itertools import groupby
 from operator import itemgetter
 from pathlib import Path
 
-# What Same.v and SameReasons.v speak about: the verdict, streams, and the law of the open world; and
+# The definitions that Same.v and SameReasons.v speak about: the verdict, streams, and the law of the open world; and
 # what SameNode.v does: the standard node's runs, and which stamps its events give.
 ROOTS = ["IsVerdict", "IsStreams", "IsFollowing", "AllPaired", "NoReset", "IsShownWithOthers", "IsNever",
          "node_run", "seen_stream", "NoNodeReset", "ReportsTokens", "PutsBackOwn", "IsGiven"]
@@ -190,7 +190,7 @@ class Sources:
         return self.module(paths[0]).defined[name]
 
     def find(self, module, name):
-        """What a name means in a module: a definition, a Rust type as (file, name), or None."""
+        """The meaning of a name in a module: a definition, a Rust type as (file, name), or None."""
         if name in module.defined:
             return module.defined[name]
         if name not in module.taken:
@@ -222,7 +222,7 @@ class Reader:
         self.at += 1
 
     def as_type(self, read):
-        """What `read` reads, which is a type and no proposition."""
+        """The type that `read` reads, which is no proposition."""
         before, self.prop = self.prop, False
         result, self.prop = read(), before
         return result
@@ -426,7 +426,7 @@ class Reader:
 # ---- the book of all that is translated
 
 class Book:
-    """What was translated so far, in an order in which each comes after what it cites."""
+    """The definitions translated so far, in an order in which each comes after what it cites."""
 
     def __init__(self, sources, asked):
         self.sources, self.asked = sources, asked
@@ -702,7 +702,7 @@ Global Instance : forall A B, Has _1 (A * B) B := @snd."""
 
 
 def used(out):
-    """What of `out` is used: no field is read or replaced that no definition reads or replaces."""
+    """The used part of `out`: no field is read or replaced that no definition reads or replaces."""
     calls = set(re.findall(r"\b(get|put) (_\w+)", " ".join(out))) | {("get", "_0"), ("get", "_1")}
     word = {"Has": "get", "Sets": "put"}
     rows = [(each, re.match(r"Global Instance : .*?\b(Has|Sets) (_\w+)", each)) for each in out]

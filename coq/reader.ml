@@ -37,7 +37,7 @@ let rec positive_of_int n =
 
 let n_of_int n = if n = 0 then N0 else Npos (positive_of_int n)
 
-(* Of a number of 64 bits that OCaml's integers don't have. *)
+(* A number of 64 bits that OCaml's integers don't have. *)
 let n_of_bits bits =
   let rec positive bits =
     if bits = 1L then XH
@@ -107,7 +107,7 @@ let number line =
 
 let truth line = takes line "true" || (expect line "false"; false)
 
-(* What is known of all lines so far *)
+(* The state after all lines so far *)
 
 module Codes = Hashtbl.Make (struct
   type t = int
@@ -271,7 +271,7 @@ let next_line known =
 
 let fault known word = raise (Fault (Printf.sprintf "%s %d" word known.number_of_line))
 
-(* What `read` makes of the line; a fault if it's no such line. A line of which too many came
+(* The result of `read` on the line; a fault if it's no such line. A line of which too many came
    is faulty for that only if nothing else is. *)
 let read_line known read count most =
   match read known with

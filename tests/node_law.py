@@ -90,7 +90,7 @@ def each_is_given(events):
 
 
 def steps(state, event):
-    """What a process may do next, with the tokens that it puts back for it."""
+    """The next acts that a process may do, with the tokens that it puts back for each."""
     done, clock, last, token, held = state
     if event.kind != "answer":  # between a request and its answer a process does nothing
         yield 0, (done, clock, last, None, held)

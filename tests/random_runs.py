@@ -44,7 +44,7 @@ class Run:
             self.any_act()
 
     def flags(self):
-        """Of a token; in a run that is reported whole each token has all flags."""
+        """The flags of a token; in a run that is reported whole each token has all."""
         return ["true" if self.reported else self.chosen.choice(["true", "true", "false"]) for _ in range(3)]
 
     def act(self, word, pid, *rest):
@@ -186,7 +186,7 @@ def compare_run(program, number, counted):
 
 
 def compare_streams(program, streams, counted, called):
-    """What the auditor says of streams; a fits must pass the check. And the charts of all labels."""
+    """The auditor's answer about streams; a fits must pass the check. And the charts of all labels."""
     bare = text(line for line in model.write(streams, []) if line != "acts")
     answer, status = compare(program, ["audit"], bare)
     counted[f"{called}: " + ("fits" if status == 0 else answer[0].split(" ")[3])] += 1

@@ -75,7 +75,7 @@ CHOSEN = (own_receives((0, 2), (0, 1), (1, 3), (2, 4)), own_receives((0, 3), (0,
 
 
 def word_of(lines):
-    """What an output says: a completion, or the reason of a `never`."""
+    """The meaning of an output: a completion, or the reason of a `never`."""
     word, *rest = lines[0].split(" ")
     return {"added": "whole", "never": rest[-1] if word != "never" else rest[2]}[word]
 
@@ -121,7 +121,7 @@ def compare_acts(seqaudit, seqtool, trace):
 
 
 def compare(seqaudit, seqtool, streams):
-    """What the model and the program say of streams, in a few words."""
+    """The answers of the model and the program about streams, in a few words."""
     trace = Trace(streams)
     said, status = lines_of(seqtool, ["complete"], trace.text)
     assert (said, status) == (trace.lines, trace.status), (trace.text, trace.lines, said)

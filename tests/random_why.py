@@ -167,7 +167,7 @@ def judge(run, place, lines, counted):
 
 
 def ask(program, run, place):
-    """What the program writes of an event; what it says must be the model's."""
+    """The program's output about an event, which must be the model's."""
     (pid, i), bundle = place, "".join(line + "\n" for line in model.write(run.streams, None))
     for options in ((), ("--effects",)):
         words = [program, "why", model.show(pid), str(i), *options]

@@ -97,7 +97,7 @@ def ring(processes, events):
 
 
 def run_of(reported, processes, events):
-    """Of a run of such processes these kinds of events are reported."""
+    """A run of these processes, of which some kinds of events are reported."""
     return Run(processes, reported).go_until(events)
 
 
@@ -121,7 +121,7 @@ def stretch(events):
 
 
 def damaged(prev, events):
-    """The same with another prev at the event in the middle of the first process."""
+    """The streams with another prev at the event in the middle of the first process."""
     streams = stretch(events)
     middle = events // 4
     streams[0][middle] = event("'receive'", (prev(middle), middle + 1), 1, 0, middle)

@@ -33,7 +33,7 @@ def key_of(event):
 
 
 def causes_of(events):
-    """What gives each stamp its prev in these events: a receive's sender and count, `BEGUN`, or None at first."""
+    """The causes of the stamps in these events: a receive's sender and count, `BEGUN`, or None at first."""
     found, left, cause = {}, 0, None
     for event in events:
         if event.kind == "receive":

@@ -62,7 +62,7 @@ impl<'a> Checker<'a> {
     }
 }
 
-/// What an audit came to: acts, or why there are none, with those that were tried if they say it.
+/// The result of an audit: acts, or why there are none, with those that were tried if they say it.
 pub enum Answer {
     Fits(Vec<Act>),
     Unfit(Unfit),

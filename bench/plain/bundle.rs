@@ -15,7 +15,7 @@ pub enum Kind {
     Print,
 }
 
-/// What a process reports; `to` of a print is 0.
+/// An event of a process; `to` of a print is 0.
 #[derive(Clone, Copy, PartialEq, Eq)]
 pub struct Event {
     pub value: u64,

@@ -21,7 +21,7 @@ struct Step<'a> {
     line: &'a [u8],
 }
 
-/// What a lock holds: a process, and the greatest rank of the acts that touched it. Neighbours share no pair of cache
+/// The content of a lock: a process, and the greatest rank of the acts that touched it. Neighbours share no pair of cache
 /// lines.
 #[repr(align(128))]
 struct Held {
@@ -29,7 +29,7 @@ struct Held {
     rank: usize,
 }
 
-/// What a process's acts came to: the rank of each, and the lines of what it reported.
+/// The record of a process's acts: the rank of each, and the lines of what it reported.
 struct Made {
     ranks: Vec<usize>,
     events: Vec<u8>,
@@ -53,7 +53,7 @@ impl System<'_> {
         System { pids, locks: pids.iter().map(held).collect() }
     }
 
-    /// What this process's lock holds; whatever a thread left that panicked.
+    /// Returns the content of this process's lock, even if a thread panicked.
     #[inline]
     fn lock(&self, place: usize) -> MutexGuard<'_, Held> {
         self.locks[place].lock().unwrap_or_else(PoisonError::into_inner)

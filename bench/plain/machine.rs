@@ -22,7 +22,7 @@ pub struct Process {
     pub queue: VecDeque<Message>,
 }
 
-/// What an act reports, and of a receive the act that sent its message.
+/// The report of an act, and for a receive the act that sent its message.
 pub struct Outcome {
     pub report: Option<Event>,
     pub sent: u32,

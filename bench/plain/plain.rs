@@ -1,4 +1,4 @@
-//! What `seqaudit` does, in plain Rust: `plain check | replay | audit | chart --label N | drive`.
+//! The commands of `seqaudit`, in plain Rust: `plain check | replay | audit | chart --label N | drive`.
 //!
 //! It is written from the rules and tuned, to be timed with the program: it proves nothing, has no
 //! limits, and writes the same bytes for bundles that the program takes, but for `drive`: of the same acts it may write

@@ -136,7 +136,7 @@ class Comparison:
 
 
 def check_cases():
-    """What a node does that the machine has no acts for."""
+    """The deeds of a node that the machine has no acts for."""
     if subprocess.run(erl("conformance_cases"), stdin=subprocess.DEVNULL, timeout=CASES_SECONDS, check=False).returncode:
         raise Failure("a case doesn't hold")
 

@@ -27,7 +27,7 @@ renew(Pid, Count) ->
 act(Pid, Actor, Act) ->
     gen_server:call(Pid, {act, Actor, Act}, ?CALL_MS).
 
-%% What the system tracer got since it was last asked, in the order that it came.
+%% Returns the messages to the system tracer since the last question, in their order.
 events(Pid) ->
     gen_server:call(Pid, events, ?CALL_MS).
 

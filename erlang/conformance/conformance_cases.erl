@@ -1,4 +1,4 @@
-%% What a standard node does that the machine has no acts for: ports, timers, exits, spawning, names.
+%% Deeds of a standard node that the machine has no acts for: ports, timers, exits, spawning, names.
 %%
 %% Each case is a small program that a fresh process runs with a token, all three flags on; the case
 %% says what the program comes to and which events the system tracer gets. Where a node does
@@ -109,7 +109,7 @@ port_has_no_token() ->
     [{send, {0, 1}, P, Port, {P, {command, "text"}}}] = Events,
     true = is_port(Port).
 
-%% What a socket receives has no token, is no event, and leaves the receiver's.
+%% A message from a socket has no token, is no event, and leaves the receiver's.
 socket_has_no_token() ->
     {_, {{7, 1, _, _, _} = Token, Token}, []} =
         traced(0, fun() ->

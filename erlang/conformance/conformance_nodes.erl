@@ -25,7 +25,7 @@ second() ->
 name(Word, Host) ->
     list_to_atom(Word ++ os:getpid() ++ Host).
 
-%% What ran, in words.
+%% Says in words what ran.
 title() ->
     File = filename:join([code:root_dir(), "releases", erlang:system_info(otp_release), "OTP_VERSION"]),
     Version = case file:read_file(File) of

@@ -35,7 +35,7 @@ run([["seqtrace", _] | Lines], Parts) ->
     {Replies, _} = lists:mapfoldl(fun(Act, Queued) -> act(Act, Queued, World) end, #{}, Acts),
     lists:append([Replies, streams(Names, World)]).
 
-%% What a script calls a process, with the process and the node's part that keeps it; and the parts.
+%% The processes by their names in a script, each with the node's part that keeps it; and the parts.
 world(Names, Parts) ->
     Processes = [{Name, {Part, Pid}}
                  || {Number, Part} <- lists:enumerate(0, Parts),

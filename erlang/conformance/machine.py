@@ -16,7 +16,7 @@ import slow_seqaudit as model  # noqa: E402 (it lies in the folder just named)
 
 @dataclass(frozen=True)
 class Rule:
-    """What is done in place of the machine's rule.
+    """The rules that replace those of the machine.
 
     `act` gives the act that is done in place of one. Where the rule applies to an act that was done,
     `state` mends the world after it, and `reply` is its reply. It shows on so many nodes.
@@ -50,7 +50,7 @@ class Step:
         return self.world.of[self.actor]
 
 
-# What a standard node does
+# A standard node
 
 def sets_without_token(step):
     return step.act[0] == "set" and not step.old.token
@@ -92,7 +92,7 @@ RULES = {
 }
 
 
-# What nobody does
+# Nobody
 
 def receives_token(step):
     return step.act[0] == "receive" and step.sent is not None and step.new.token is not None

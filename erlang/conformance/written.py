@@ -17,7 +17,7 @@ WRITTEN = {
     "restore-reply": ("restore a 1 false false false 0 0 a", ["restore-reply"]),
     # A receive that matches nothing moves no token.
     "no-match": ("set a label 1; send b a 1; receive a value 2; look a", ["set-reply"]),
-    # Of two queued messages the one that is taken gives the token.
+    # The one that is taken of two queued messages gives the token.
     "taken": ("tracer a true; set a receive true; send a b 1; set a label 1; send a b 2;"
               "receive b value 2; look b; receive b first; look b", ["set-reply"]),
     # A message that a process sent without a token takes the receiver's token away.

@@ -101,7 +101,7 @@ taken_in_pause_test_() ->
         Own = erpc:call(There, seq_trace, get_system_tracer, [])
     end).
 
-%% What a port is sent in a moment, and has soon written, is collected whole.
+%% A port is sent many events in a moment, soon writes them, and all are collected.
 small_load_test() ->
     seqaudit_test_nodes:on_port("small_load", fun small_load/0).
 
@@ -134,7 +134,7 @@ watch_ends(Why, End) ->
     ok = one_note("collecting ended early, at 2", Notes),
     ok = one_note(Why, Notes).
 
-%% What the notes say of pauses, and of facts that have no such form nothing.
+%% The notes tell of pauses, and say nothing of facts that have another form.
 notes_test() ->
     At = 1_000 * (calendar:datetime_to_gregorian_seconds({{2026, 11, 25}, {18, 50, 1}})
                   - calendar:datetime_to_gregorian_seconds({{1970, 1, 1}, {0, 0, 0}})) + 20,

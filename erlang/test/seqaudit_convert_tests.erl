@@ -9,7 +9,7 @@
          text_test/0, text_faults_test/0, external_test/0, trace_file_test/0,
          damaged_event_test/0]).
 
-%% What the auditor says of traces of real programs that were captured on a node.
+%% The verdicts on traces of real programs that were captured on a node.
 captures_test_() ->
     [{Name, {timeout, 60, fun() -> capture(Name, Said) end}}
      || {Name, Said} <- [{"bank", fits}, {"gs_chain", fits}, {"call_timeout", fits},
@@ -92,9 +92,9 @@ reset_aliases_test() ->
     First = Reply(one, A, R1, ok) ++ Reply(two, B, R2, ok),
     ["<0.31.0>", "<0.32.0>"] = receivers(send, convert(First)),
     ["<0.32.0>", "<0.31.0>"] = receivers(send, convert(Reply(two, B, R2, ok) ++ Reply(one, A, R1, ok))),
-    %% The same label: the message tells them apart.
+    %% Two events of one label: the message tells them apart.
     ["<0.31.0>", "<0.32.0>"] = receivers(send, convert(Reply(one, A, R1, ok) ++ Reply(one, B, R2, ok))),
-    %% The same message: the label does.
+    %% Two events of one message: the label tells them apart.
     ["<0.31.0>", "<0.32.0>"] = receivers(send, convert(Reply(one, A, R1, ok) ++ Reply(two, B, R1, ok))).
 
 %% If two receives or two requests fit, nobody is named.
@@ -179,7 +179,7 @@ spawned_test() ->
      [<<"<0.84.0>">>, <<"post:parcel/2 <0.84.0>">>], [<<"<0.85.0>">>, <<"<0.85.0>">>]] =
         [[Pid, Name] || Line <- Lines, [<<"process">>, Pid, Name, _] <- [binary:split(Line, <<"\t">>, [global])]].
 
-%% What is no event is counted.
+%% An entry that is no event is counted.
 counts_test() ->
     Strays = [hello, {seq_trace, 1, {send, {0, 1}, self(), "x", x}}, {seq_trace, 1, 2},
               {seq_trace, 1, {print, {0, -1 bsl 60}, self(), [], x}}, {seq_trace, 1, {spawn, {0, 1}, 2, 3, 4}},
@@ -194,7 +194,7 @@ counts_test() ->
     true = has(Unknown, "; {seq_trace,1,2}; "),
     true = has(Unknown, "; and 2 more").
 
-%% What the program's reader won't take is said.
+%% A trace that the program's reader won't take is told.
 limits_test() ->
     Facts = fun(Processes) ->
                     seqaudit_notes:facts(#{collections => [], counts => #{}, samples => #{}, listed => [],
@@ -255,7 +255,7 @@ hostile_test_() ->
                            || Line <- lists:nthtail(Length - 2, Lines)])
     end}.
 
-%% The same on their way through the tracer of a node.
+%% The events on their way through the tracer of a node.
 hostile_trace_test_() ->
     {timeout, 120, fun() ->
         seqaudit_test_nodes:on_port("hostile_trace", fun() -> hostile_trace("hostile", true, hostile()) end)

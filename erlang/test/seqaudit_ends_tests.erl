@@ -93,7 +93,7 @@ closed_output_test_() ->
         {ok, <<"141\n">>} = file:read_file(filename:join(Folder, "status"))
     end}.
 
-%% What was collected is written though nobody reads what the command says, and nothing is left on the node.
+%% The events are written though nobody reads what the command says, and nothing is left on the node.
 closed_collect_test_() ->
     {timeout, 120, fun() ->
         seqaudit_test_nodes:with_second("a collection without a reader", fun(There) ->
@@ -129,7 +129,7 @@ unicode_errors_test_() ->
                                               {4, "convert /no/käse→ -o x", "/no/käse→: no such file"}]]
     end}.
 
-%% What a file says is shown with its control characters escaped.
+%% The words of a file are shown with their control characters escaped.
 control_characters_test_() ->
     {timeout, 120, fun() ->
         Name = seqaudit_audits:file("controls"),

@@ -13,7 +13,7 @@ written(Term) ->
     <<131, Bytes/binary>> = term_to_binary(Term),
     Bytes.
 
-%% What one term is written as, by the node where it is and by another one, by OTP 25 and by later releases.
+%% The bytes of one term, written by the node where it is and by another one, by OTP 25 and by later releases.
 one_form_test() ->
     Pid = fun(Node, Number) -> <<88, 119, (byte_size(Node)), Node/binary, Number:32, 0:32, 7:32>> end,
     Fun = fun(Atom, Process, Free) -> new_fun(<<1:128>>, [Atom, <<97, 5>>, <<98, 99:32>>, Process, Free]) end,
@@ -68,7 +68,7 @@ fun_is_a_term_test() ->
     {Fun, x} = seqaudit_external:to_term(Form),
     "{#Fun<" ++ _ = seqaudit_terms:encoded(Form).
 
-%% Of a map of any size, and of maps deep in others, the order of the pairs doesn't matter.
+%% The order of pairs doesn't matter, in a map of any size and in maps deep in others.
 large_maps_test_() ->
     {timeout, 60, fun() ->
         Map = fun(Pairs) -> <<116, (length(Pairs)):32, (iolist_to_binary(Pairs))/binary>> end,
@@ -156,7 +156,7 @@ native_record_test() ->
         seqaudit_terms:encoded(form(<<104, 3, 108, 1:32, Empty/binary, 106, Record/binary, 97, 7>>)),
     error = seqaudit_external:read(<<131, 67, 1:32, 0, 119, 2, "nr", 119, 5, "point", 119, 1, "x">>).
 
-%% Of a message with a tag that isn't known what comes before it is shown, and its event is kept; elsewhere in an event it
+%% A message with a tag that isn't known is shown up to the tag, and its event is kept; elsewhere in an event it
 %% is said to be newer, not damaged.
 newer_test() ->
     Newer = fun(Event) ->

@@ -1,4 +1,4 @@
-%% What docs/ERLANG.md and docs/ERLANG-REFERENCE.md quote is what the commands print of the traces that the first tells how
+%% The quotations in docs/ERLANG.md and docs/ERLANG-REFERENCE.md are what the commands print of the traces that the first tells how
 %% to collect.
 -module(seqaudit_guide_tests).
 

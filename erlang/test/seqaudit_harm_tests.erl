@@ -64,7 +64,7 @@ peak(What, Begin, End) ->
         Peak
     end).
 
-%% Of events that were written over the bytes are counted. Their number is taken from the size of the
+%% Events that were written over are counted by their bytes. Their number is taken from the size of the
 %% kept ones, whose numbers are larger here and take some bytes more.
 written_over_test() ->
     seqaudit_test_nodes:on_port("written_over", fun written_over/0).
@@ -195,7 +195,7 @@ file_modes_test() ->
     6 = length(Files),
     [8#600 = seqaudit_audits:mode(File) || File <- Files].
 
-%% What can't be understood is said in a sentence, without a stack.
+%% A command that can't be understood gets a sentence, without a stack.
 collect_errors_test_() ->
     {timeout, 60, fun() ->
         Name = seqaudit_audits:file("errors"),

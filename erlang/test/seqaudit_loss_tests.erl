@@ -1,4 +1,4 @@
-%% What happens to nodes and processes while a trace is collected: nothing that came is lost.
+%% Nodes and processes end while a trace is collected: nothing that came is lost.
 -module(seqaudit_loss_tests).
 
 -export([net_split_test_/0, killed_node_test_/0, out_of_reach_test_/0, killed_collector_test_/0,
@@ -75,7 +75,7 @@ killed_node_test_() ->
         removed(Folders)
     end).
 
-%% Of a node that is gone with its disk the notes say where the events are.
+%% A node is gone with its disk: the notes say where the events are.
 out_of_reach_test_() ->
     on_two("out of reach", fun(There) ->
         {File, [_, Folder] = Folders} = begin_on(There, "no_reach", #{}),
@@ -90,7 +90,7 @@ out_of_reach_test_() ->
         [ok = seqaudit_spool:remove(Each) || Each <- Folders, filelib:is_dir(Each)]
     end).
 
-%% What can't be fetched, as while a connection is away, stays where it is, and the notes say where.
+%% Events that can't be fetched, as while a connection is away, stay where they are, and the notes say where.
 unread_test_() ->
     on_two("unread", fun(There) ->
         {File, [_, Folder] = Folders} = begin_on(There, "unread", #{}),
@@ -256,7 +256,7 @@ broken_port() ->
     {ok, #{events := 1, notes := Notes}} = seqaudit_trace:stop(),
     ok = one_note("the trace file couldn't be written (enospc)", Notes).
 
-%% The same without a trace port: a disk that is full, and a process that wrote and is gone.
+%% Without a trace port: a disk that is full, and a process that wrote and is gone.
 broken_disk_test_() ->
     [{timeout, 60, fun() ->
          ok = seqaudit_trace:start(#{name => seqaudit_audits:file("broken_disk"), port => false}),
@@ -273,7 +273,7 @@ broken_disk_test_() ->
      end} || {Why, Break} <- [{"enospc", fun(To, Writer) -> To ! {seqaudit_scribe, Writer, enospc} end},
                              {"killed", fun(_, Writer) -> exit(Writer, kill) end}]].
 
-%% What is on its way when the tracer is taken off is waited for.
+%% The collector waits for events that are on their way when the tracer is taken off.
 late_events_test() ->
     Name = seqaudit_audits:file("late"),
     ok = seqaudit_trace:start(#{name => Name, port => false}),

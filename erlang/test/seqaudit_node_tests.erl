@@ -112,7 +112,7 @@ collect(There) ->
     {0, Said} = seqaudit_test_shell:terminated_when(Collect, Name, fun() -> traced(There) end),
     {_, _} = binary:match(Said, <<"1 event of 1 process">>),
     false = erpc:call(There, seq_trace, get_system_tracer, []),
-    %% What the node was sent is what collects; what was collected is converted here.
+    %% The modules that the node was sent collect there; the events are converted here.
     Loaded = [Module || Module <- erpc:call(There, erlang, loaded, []),
                         string:prefix(atom_to_list(Module), "seqaudit_") =/= nomatch],
     [seqaudit_asker, seqaudit_collector, seqaudit_scribe, seqaudit_spool, seqaudit_trace, seqaudit_trigger,

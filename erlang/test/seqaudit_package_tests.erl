@@ -39,7 +39,7 @@ collected(There, Command, Folder) ->
     {0, _} = seqaudit_test_shell:run(["cd / && ", Command, " convert ", Name, ".events -o ", Name]),
     seqaudit_audits:fits(Name).
 
-%% What a registry of packages needs is there, and says the same to rebar3 and mix.
+%% The data that a registry of packages needs are there, alike for rebar3 and mix.
 metadata_test() ->
     Home = seqaudit_audits:home(),
     {ok, [{application, seqaudit, About}]} = file:consult(filename:join([Home, "src", "seqaudit.app.src"])),
@@ -50,7 +50,7 @@ metadata_test() ->
      || Text <- [Description, Version, License, Title, Link | Files]],
     [] = [File || File <- Files, not filelib:is_file(filename:join(Home, File))].
 
-%% What is too old is said, of this Erlang and of a node.
+%% An Erlang that is too old is named, here and on a node.
 release_test() ->
     "this Erlang is OTP 24, and collecting needs OTP 25 or later" = seqaudit_trace:format_error({otp, "24"}),
     "node a@h is OTP 24, and collecting needs OTP 25 or later" =

@@ -152,7 +152,7 @@ begin_slow() ->
 read_slow(Facts, Seconds) ->
     [] = os:cmd(lists:concat(["timeout ", Seconds, " cat <>", Facts, " >/dev/null"])).
 
-%% Of these events 1,000 would be too many for the collector's queue. A process that is new has to be asked for its
+%% 1,000 of these events would be too many for the collector's queue. A process that is new has to be asked for its
 %% name.
 print_in_pace(First, Last) ->
     lists:foreach(fun(N) ->
@@ -191,11 +191,11 @@ quiet_test() ->
     {4, 2} = cut([[Send(1), Receive(1), Send(2), Receive(2), Send(3), Print(4)]]),
     {6, 0} = cut([[Send(1), Send(2), Receive(2), Send(3), Receive(3), Print(4)]]),
     {4, 0} = cut([[Receive(9), Send(2), Receive(2), Print(4)]]),
-    %% Of two that are alike, as when a token is put back, one is under way yet; of three that were received, none is.
+    %% One of two that are alike, as when a token is put back, is under way yet; none of three that were received is.
     {2, 3} = cut([[Send(1), Receive(1), Send(1), Print(3), Print(4)]]),
     {4, 1} = cut([[Send(1), Send(1), Receive(1), Receive(1), Send(1)]]),
     {7, 0} = cut([[Send(1), Send(1), Receive(1), Send(1), Receive(1), Receive(1), Print(3)]]),
-    %% Of three on two nodes one is under way.
+    %% One of three on two nodes is under way.
     {4, 4, 2, 1} = cut([[Print(7), Print(8), Send(1), Receive(1), Send(2), Send(2), Send(2), Receive(2)],
                         [Print(3), Print(4), Receive(2)]]),
     %% On two nodes: what was sent here wasn't received there yet.
@@ -226,7 +226,7 @@ count(File) ->
     [#{name := tester} = maps:get(self(), Processes) || Events =/= []],
     length(Events).
 
-%% What is left of a period has its own collections and processes alone, or watching would take more with each period.
+%% The rest of a period has its own collections and processes alone, or watching would take more with each period.
 rest_test() ->
     [A, B, C] = [spawn(fun() -> ok end) || _ <- [a, b, c]],
     Name = seqaudit_audits:file("rest"),
@@ -382,7 +382,7 @@ unaudited_test_() ->
         end)
     end}.
 
-%% So many requests a second, each with a process and a label of its own; whoever makes them has no token.
+%% Makes this many requests a second, each with a process and a label of its own; whoever makes them has no token.
 serve(InSecond) ->
     drive(spawn_link(?MODULE, answer, []), InSecond, erlang:monotonic_time(millisecond), 0).
 

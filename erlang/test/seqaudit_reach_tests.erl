@@ -39,7 +39,7 @@ cookie_of_user_test_() ->
         end)
     end}.
 
-%% What is known of a node that can't be reached is said.
+%% The words about a node that can't be reached say what is known of it.
 unreachable_test_() ->
     {timeout, 60, fun() ->
         with_node([], fun(Node) ->

@@ -51,7 +51,7 @@ originals() ->
          || {seq_trace, Label, {Kind, Serial, From, To, Message}, Time} <- Events,
             Bytes <- [term_to_binary({seq_trace, Label, {Kind, Serial, Triple(From), Triple(To), Message},
                                       Time})]]),
-    %% What ttb writes beside its trace: what each process is called.
+    %% The file that ttb writes next to its trace: the name of each process.
     Pids = lists:usort([Pid || {seq_trace, _, {_, _, From, To, _}, _} <- Events, Pid <- [From, To], is_pid(Pid)]),
     ok = file:write_file(Name ++ ".trace.ti",
         [[byte_size(Bytes), Bytes] || Pid <- Pids, Called <- [server, {erlang, apply, 2}],
@@ -250,7 +250,7 @@ pid(Node, Number) ->
     <<131, Atom/binary>> = term_to_binary(Node),
     binary_to_term(<<131, 88, Atom/binary, Number:32, 0:32, 0:32>>).
 
-%% What logger and others write in front of an event is passed over, with lines of other things.
+%% The words that logger and others write in front of an event are passed over, with lines of other things.
 log_lines_test() ->
     Event = fun(K) -> io_lib:format("~p", [{seq_trace, 1, {print, {K, K + 1}, self(), [], {a, "long text", K}}}]) end,
     Text = iolist_to_binary(["2026-11-23T10:00:00.123456+00:00 notice: application started\n",
@@ -354,7 +354,7 @@ equal_maps_test() ->
     Nested = fun(Inner) -> Read(<<131, 104, 1, 116, 2:32, 97, 9, Inner/binary, 97, 1, 97, 2>>) end,
     [Deep, Deep] = [Nested(<<116, 2:32, 97, 1, 97, 2, 97, 3, 106>>), Nested(<<116, 2:32, 97, 3, 106, 97, 1, 97, 2>>)].
 
-%% What version 1.0 wrote is read.
+%% A file of version 1.0 is read.
 version_1_test() ->
     File = seqaudit_audits:file("version_1.events"),
     Event = {seq_trace, 1, {print, {0, 1}, self(), [], x}},

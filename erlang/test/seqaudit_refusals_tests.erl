@@ -1,4 +1,4 @@
-%% What is refused, and what was said too much of, without another node.
+%% Refusals, without another node.
 -module(seqaudit_refusals_tests).
 
 -export([long_wait_ends_when_asked_test/0, long_name_is_no_function_test/0, wrong_option_is_usage_test_/0,
@@ -31,7 +31,7 @@ wrong_option_is_usage_test_() ->
                       Collect ++ ["-o", "x", "--trigger", "mess:deep/300", "--label", "1"]]]
     end}.
 
-%% What is missing is named.
+%% A missing word is named.
 lacking_option_is_named_test_() ->
     {timeout, 60, fun() ->
         [begin

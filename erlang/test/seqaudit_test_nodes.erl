@@ -7,7 +7,7 @@
 %% A machine that is busy takes a while for what is done at once otherwise.
 -define(DEADLINE_MS, 30_000).
 
-%% What the test of a second node returns; the collecting and the node are stopped behind it. If there can be no such
+%% Returns what the test of a second node returns, after it stopped the collecting and the node. If there can be no such
 %% node, it says that the test is skipped, and returns that.
 with_second(What, Test) ->
     case start() of

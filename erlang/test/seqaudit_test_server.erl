@@ -38,7 +38,7 @@ flood(Times) ->
     seqaudit_trace:with_trace(1, fun() -> [seq_trace:print(Large) || _ <- lists:seq(1, Times)] end),
     ok.
 
-%% So many pairs write lists of 500 numbers to each other for so long, all under tokens; how many
+%% Lets pairs write lists of 500 numbers to each other for some time, all under tokens; returns how many
 %% messages that was.
 load(Pairs, Milliseconds) ->
     End = erlang:monotonic_time(millisecond) + Milliseconds,

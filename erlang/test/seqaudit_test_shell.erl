@@ -16,7 +16,7 @@ run(Words) -> run(Words, []).
 run(Words, Variables) ->
     execute("/bin/sh", ["-c", unicode:characters_to_list(Words)], Variables).
 
-%% The same of a program with these arguments.
+%% Runs a program with these arguments.
 execute(File, Arguments, Variables) ->
     Port = open_port({spawn_executable, File},
                      [{args, Arguments}, {env, Variables}, binary, exit_status, stderr_to_stdout]),

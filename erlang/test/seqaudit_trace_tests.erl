@@ -119,7 +119,7 @@ timestamps_test() ->
     {4, _} = seqaudit_test_traces:times(File),
     ok_or_skipped(seqaudit_audits:fits(File)).
 
-%% What belongs to an earlier trace of the same name doesn't stay beside a new one.
+%% The files of an earlier trace with this name don't stay next to a new one.
 same_name_test() ->
     Name = seqaudit_audits:file("same_name"),
     Traced = fun(Flags) ->

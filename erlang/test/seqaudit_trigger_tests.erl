@@ -85,7 +85,7 @@ in_session() ->
     0 = erlang:trace(new, false, [call]),
     1 = erlang:trace_pattern({?MODULE, ordered, 1}, false, [local]).
 
-%% This process traces calls, and is told of this one.
+%% The test's process traces calls, and is told of one of its own.
 told(What) ->
     called(ordered, What),
     receive {trace, _, call, {?MODULE, ordered, [What]}} -> ok after 5_000 -> error({not_told, What}) end.
@@ -221,7 +221,7 @@ label_words_test() ->
     {error, _} = seqaudit_calls:labelled("shop:order/2", Unbound),
     ok.
 
-%% What was printed under the tokens that these calls set.
+%% The prints under the tokens that these calls set.
 triggered(Trigger, Do) ->
     Name = seqaudit_audits:file("triggered"),
     ok = seqaudit_trace:start(#{name => Name, trigger => trigger(Trigger)}),

@@ -67,7 +67,7 @@ missing(Reported, Log) ->
                       [One || {false, One} <- To]
                   end || Entries <- maps:values(ByPid)]).
 
-%% What happened under tokens on a node, the Nth of so many: a table, as a message would be an event. The numbers that
+%% The record of what happened under tokens on a node, the Nth of several: a table, as a message would be an event. The numbers that
 %% it gives are N, N + Nodes, N + 2 * Nodes and so on, so that no other node gives them too.
 begin_log(N, Nodes) ->
     Self = self(),
@@ -96,7 +96,7 @@ play_all(Steps, Numbered, Servers) ->
     [receive {played, Pid} -> ok after 20_000 -> error({stuck, Pid}) end || Pid <- maps:values(Numbered)],
     ok.
 
-%% What the players do, in one order: messages are received behind their sends, in any order.
+%% The deeds of the players, in one order: messages are received after their sends, in any order.
 steps(Count, Length, Servers) ->
     Players = lists:seq(1, Count),
     {Steps, _} = lists:mapfoldl(fun(K, Open) -> step(K, Players, length(Servers), Open) end, [], lists:seq(1, Length)),

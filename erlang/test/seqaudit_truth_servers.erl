@@ -29,7 +29,7 @@ stop({_, Server}) -> gen_server:stop(Server).
 %% Returns when the server has done what it was told before.
 wait({_, Server}) -> gen_server:call(Server, wait).
 
-%% What a client does with its token.
+%% The ways in which a client uses its token.
 ask({pool, Pool}) ->
     {Worker, Lent} = gen_server:call(Pool, {lend, content(sent)}, ?PATIENCE_MS),
     got(Lent),

@@ -1,4 +1,4 @@
-%% What is collected of random programs is what happened: nothing else, and all of it that was to be reported. gemshowal
+%% The trace of a random program is what happened: nothing else, and all of it that was to be reported. gemshowal
 %% reads each trace.
 %%
 %% The variable TRUTH says which programs are run in place of the first 300: 301-700, or those up to a number.

@@ -8,7 +8,7 @@ import { causes, chosen, effects } from "./choice.js";
 import { drawArrows, drawEnd, drawMark, drawPassing } from "./marks.js";
 import { drawList, drawNames } from "./grid.js";
 
-// What is drawn. Each colour has a shape or a dash of its own beside it.
+// The parts of a drawing. Each colour has a shape or a dash of its own, too.
 const LIGHT = { message: "#333333", cause: "#0072b2", effect: "#d55e00", unreported: "#7a3e9d", dim: "#c8c8c8",
                 life: "#b5b5b5", paper: "#ffffff", odd: "#f7f7f7", text: "#111111", faint: "#767676" };
 const DARK = { message: "#d0d0d0", cause: "#56b4e9", effect: "#f5955a", unreported: "#c79be8", dim: "#4a4a4a",
@@ -121,7 +121,7 @@ export const isLit = row => row === chosen || causes.has(row) || effects.has(row
 export const ink = row => chosen < 0 ? (isPlain(row) ? INK.message : INK.unreported)
   : row === chosen || causes.has(row) ? INK.cause : effects.has(row) ? INK.effect : INK.dim;
 
-// What leads from event to event within a process is drawn for the chain alone.
+// The lines from event to event within a process are drawn for the chain alone.
 function drawChain(pen) {
   if (chosen < 0) return;
   const [first, last] = sight();

@@ -1,4 +1,4 @@
-// What is in the document of the rows in sight: the names of lanes and a row for each event.
+// The elements of the rows in sight: the names of lanes and a row for each event.
 import { byId, element } from "./elements.js";
 import {
   VERBS, brief, causeText, eventName, isPlain, labels, laneName, lanes, rows, seconds, sentence, visible

@@ -1,4 +1,4 @@
-// What the page begins with.
+// The beginning of the page.
 import { byId, element } from "./elements.js";
 import { count, data, eventName, visible } from "./trace.js";
 import { fitLanes } from "./layout.js";

@@ -4,7 +4,7 @@ import { arrowsWithin, beginOf, column, laneWidth, listWidth, place, rowHeight }
 import { chosen, effects } from "./choice.js";
 import { INK, ink, isLit, stroke, x, y } from "./drawing.js";
 
-// So many arrows are drawn at once.
+// The number of arrows that are drawn at once.
 const MOST_ARROWS = 3000;
 
 // Arrows with an end in sight come first; the number of those that aren't drawn is the result.

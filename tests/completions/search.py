@@ -40,7 +40,7 @@ def is_stamp(event):
 
 
 class Told:
-    """What streams tell of messages and of stamps."""
+    """The messages and stamps of which streams tell."""
 
     def __init__(self, streams):
         self.streams = streams
@@ -50,7 +50,7 @@ class Told:
         self.hidden, self.received = defaultdict(dict), {}
         for receive in (event for events in streams.values() for event in events if not is_stamp(event)):
             self.tell(receive)
-        # Of each process, how many reported sends to it have no reported receive, by count.
+        # For each process, how many reported sends to it have no reported receive, by count.
         self.waiting = {pid: Counter(event.this for key, event in self.stamps.items()
                                      if event.to == pid and key not in self.received) for pid in streams}
 
@@ -118,7 +118,7 @@ class Ways:
                 self.reach((i, this, prev), Way(way.taken, way.given | 1 << this, way, ("stamp", this, prev)))
 
     def receive(self, i, clock, last, way):
-        # What it must stamp can't be passed.
+        # A count that the process must stamp can't be passed.
         counts = [this for this in range(1, self.told.most + 1) if not any(clock < due <= this for due in self.due)]
         if i < len(self.events) and not is_stamp(self.events[i]) and self.events[i].this in counts:
             this = self.events[i].this

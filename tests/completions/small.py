@@ -61,7 +61,7 @@ def some_events(chosen, is_careful):
 
 
 def some_run(chosen):
-    """What a run of the machine reports, a part of which is lost."""
+    """The reports of a run of the machine, a part of which is lost."""
     pids = PIDS[:chosen.randint(1, len(PIDS))]
     world, streams, lost = machine.World(pids), {pid: [] for pid in pids}, chosen.choice([0, 0.2, 0.5, 0.8])
     world.step(["tracer", machine.show(pids[0]), "true"])
@@ -83,17 +83,17 @@ def some_streams(number, seed):
     return some_run(chosen) if sort == "run" else some_events(chosen, sort == "careful")
 
 
-# What a completion is
+# Completions
 
 def lines_of(streams, whole, added):
-    """What has to be written if these are all events and those at these places were added."""
+    """The lines that have to come if these are all events and those at these places were added."""
     unlisted = [f"unlisted {machine.show(pid)}" for pid in whole if pid not in streams]
     return [f"added {len(added)}", *unlisted, *(f"added {machine.show(pid)} {i} {event}"
                                                 for (pid, i), event in machine.places(whole) if (pid, i) in added)]
 
 
 def fault_of_text(streams, whole, lines):
-    """What is wrong with the lines of `complete`, if `--as streams` writes these events."""
+    """The fault of the lines of `complete`, if `--as streams` writes these events."""
     places = [line.split(" ")[1:3] for line in lines[1:] if line.startswith("added ")]
     added = {(machine.parse_pid(pid), int(i)) for pid, i in places}
     if lines != lines_of(streams, whole, added):
@@ -105,7 +105,7 @@ def fault_of_text(streams, whole, lines):
 
 
 def fault_of_messages(streams, whole):
-    """What is missing among sends and receives, or was added for nothing."""
+    """The send or receive that is missing, or that was added for nothing."""
     taken = Counter(replace(event, kind="send") for events in whole.values() for event in events if not is_stamp(event))
     sent = [event for events in whole.values() for event in events if event.kind == "send"]
     if max(taken.values(), default=0) > 1 or any(event not in sent for event in taken):
@@ -116,7 +116,7 @@ def fault_of_messages(streams, whole):
 
 
 def fault_of_counts(streams, events):
-    """What is wrong with a process's events in turn."""
+    """The fault of a process's events in turn."""
     told = {event for some in streams.values() for event in some}
     # The clock also as it would be without invented sends: these come last, and what was added before them may stay.
     clock = clock_before = left = 0
@@ -154,7 +154,7 @@ def ask(seqtool, words, given):
 
 
 def judge(seqtool, streams):
-    """What the program says in a few words, and what is wrong with it."""
+    """The program's answer in a few words, and its fault."""
     given = "".join(f"{line}\n" for line in machine.write(streams, None))
     lines, status = ask(seqtool, ["complete"], given)
     said, fault = judge_lines(seqtool, streams, given, lines, status)

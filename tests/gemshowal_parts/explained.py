@@ -65,7 +65,7 @@ def explained(program, text):
 
 
 def queue_of(program, event, acts):
-    """What is said of these acts, which leave this event; and the places from which `check` accepts its receive."""
+    """The words about these acts, which leave this event; and the places from which `check` accepts its receive."""
     text = f"seqtrace 2\nprocess <1.30.0>\nprocess <2.31.0>\n{event}\nacts\n{acts}"
     said = explained(program, text)
     count = int(re.search(r"  messages in its queue (\d+)\n", said)[1])
@@ -138,7 +138,7 @@ def random_left(rng):
 
 
 def told(world, act):
-    """What an act would report now."""
+    """The report that an act would make now."""
     return copy.deepcopy(world).step(act)[0]
 
 
@@ -205,7 +205,7 @@ def other_act(world, event):
 
 
 def false_words(world, event, said):
-    """What is said falsely of the event that is left, None if nothing is."""
+    """The false sentence about the event that is left, or None."""
     if marks := false_marks(world, event, said):
         return marks
     reporting = reporting_acts(world, event)
@@ -220,7 +220,7 @@ def false_words(world, event, said):
 
 
 def random_dues(program):
-    """Of random runs with an event left: the next act, what is due and each reason are true of the machine's state; and what
+    """Random runs with an event left: the next act, what is due and each reason are true of the machine's state; and what
     is due is also below an act that reports something else."""
     rng, wrong, denied, refused = random.Random(7), None, 0, 0
     for _ in range(RUNS):

@@ -1,4 +1,4 @@
-"""What `lint` says of mistakes in a text, one and several, what `lint --fix` makes of them, and both on long texts.
+"""The words of `lint` about mistakes in a text, one and several, the texts of `lint --fix`, and both on long texts.
 `tests/gemshowal` runs these checks.
 
 The mistakes of a text are planted here, so their lines are known; whether a text is faulty says another command."""
@@ -51,7 +51,7 @@ def received(quoted):
     return HEAD + RECEIVE.replace("'receive'", quoted) + f"\n{TWO}"
 
 
-# What is wrong, the text, the line and the column of the mistake, what is allowed there, and the remedy.
+# The mistake, the text, its line and column, what is allowed there, and the remedy.
 BY_HAND = (
     ("a comment", "seqtrace 1\n% my trace\nprocess <0.30.0>\n", 2, 1, BELOW_THE_HEADER,
      "a bundle has no comments: leave the line out"),
@@ -155,7 +155,7 @@ BY_HAND = (
     ("a process twice", "seqtrace 1\nprocess <0.30.0>\nprocess <0.30.0>\n", 3, 14, "a pid above <0.30.0>", RISING),
 )
 
-# The same of those that `--fix` mends, with the text that it writes.
+# Mistakes that `--fix` mends, with the text that it writes.
 GOOD = f"{HEAD}{PRINT}\n"
 BY_FIX = (
     ("no header", f"process <0.30.0>\n{PRINT}\n", 1, 1, HEADER, HEADER_1, GOOD),
@@ -259,7 +259,7 @@ SHOWN, IN_FRONT = 150, 60
 
 
 def diagnosis(text, number, column, expected, remedy):
-    """What `lint` writes of a mistake: it shows the line with a mark below the column, if there is anything to show."""
+    """The lines of `lint` about a mistake: it shows the line with a mark below the column, if there is anything to show."""
     line = text.split(b"\n" if b"\n" in text else b"\r")[number - 1]
     lines = [f"line {number}, column {column}: expected {expected}"]
     if line:
@@ -349,7 +349,7 @@ def mistake_object(line, column, expected, remedy):
 
 
 def lint_objects(program):
-    """The same as JSON."""
+    """The mistakes as JSON."""
     fixed = {it[0] for it in BY_FIX}
     for name, text, *mistake in MISTAKES:
         if mistake[-1] is None:
@@ -415,7 +415,7 @@ NO_BUNDLE = ("a text of blanks", "a mark of UTF-8 alone", "a log of events", "a 
 
 
 def fixes(program):
-    """What has one remedy is mended, and nothing else."""
+    """A mistake that has one remedy is mended, and no other."""
     for name, text, *_, fixed in BY_FIX:
         got = program.run(("lint", "--fix"), text.encode())
         is_right = (got.status, got.output) == (0, fixed.encode()) and got.complaint.endswith(b"\nleft: nothing\n")
@@ -439,7 +439,7 @@ def fixes(program):
 
 # ---- mistakes that are planted
 
-# What may become of an event's line, and whether `--fix` mends it.
+# The changes of an event's line, and whether `--fix` mends them.
 PLANTS = (
     (lambda line: line.replace("{seq_trace,", "{seq_trace,a"), False),
     (lambda line: line + " ", True),

@@ -30,7 +30,7 @@ def joined(left, right):
 
 
 def folded(hashed):
-    """What a table takes the low bits of."""
+    """The hash of which a table takes the low bits."""
     return hashed ^ hashed >> 32
 
 

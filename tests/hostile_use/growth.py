@@ -28,7 +28,7 @@ SECONDS = 20
 MEGABYTES = 2_048
 MOST_BYTES = 500_000_000  # What reads and writes more may take longer.
 LEAST_SECONDS = 0.02  # A shorter run tells nothing.
-# What a command is measured with in the part `great`: most of the bytes that `seqaudit` reads.
+# The texts with which the part `great` measures a command: most of the bytes that `seqaudit` reads.
 GREAT_BYTES = model.MOST_BYTES * 95 // 100
 
 
@@ -54,7 +54,7 @@ seqaudit replay
 seqaudit drive
 seqtool check
 seqtool renumber""")
-# Of certificates that `audit` found for streams.
+# The families of certificates that `audit` found for streams.
 OF_CERTIFICATES = words("""
 seqaudit check
 seqaudit replay""")
@@ -142,7 +142,7 @@ class Text:
             yield from of_text.get(word, lambda word=word: [word])()
 
     def cost(self, program, words, seconds=SECONDS):
-        """What one run costs, and its status, which is negative if it was killed."""
+        """The cost of one run, and its status, which is negative if it was killed."""
         written = f"{self.path}.written"
         command = [program.path, *self.filled(words)]
         status, _, taken, peak = run_once(command, self.path, written, seconds)
@@ -207,7 +207,7 @@ def named(part, family, program, words, certified):
 
 
 def numbers():
-    """Of each family the numbers of its group and of itself, by which a task names it to another process."""
+    """For each family the numbers of its group and of itself, by which a task names it to another process."""
     return [(of, number) for of, group in enumerate(GROUPS) for number in range(len(group.families))]
 
 

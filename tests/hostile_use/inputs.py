@@ -20,7 +20,7 @@ process <0.31.0>
 {seq_trace,17,{print,{2,3},<0.31.0>,[],8}}
 """
 
-# The same with the acts that explain it: the good text that is tampered with.
+# The trace with the acts that explain it: the good text that is tampered with.
 CERTIFICATE = HIDDEN_SENDS + b"""acts
 tracer <0.30.0> true
 restore <0.30.0> 17 false false true 0 0 <0.30.0>

@@ -1,4 +1,4 @@
-"""What the program has to write, by slow readings of `docs/FORMATS.md` and of the rules: the reader's first refusal,
+"""The output that the program owes, by slow readings of `docs/FORMATS.md` and of the rules: the reader's first refusal,
 and what the slow auditor of `tests/models` says of a text that has none."""
 
 import importlib.util
@@ -43,7 +43,7 @@ def pids_of(line, shapes):
 
 
 def first_fault(text):
-    """What the reader refuses first, as a line of the program has it after `fault`, or None."""
+    """The reader's first refusal, as a line of the program has it after `fault`, or None."""
     if len(text) > MOST_BYTES:
         return "too large"
     *lines, rest = text.decode("latin-1").split("\n")
@@ -106,7 +106,7 @@ def replayed(text):
 
 
 def expected(words, text):
-    """What each command but `drive` has to write of the bytes; of `drive` only if it refuses them."""
+    """The output that each command but `drive` owes for the bytes; that of `drive` only if it refuses them."""
     fault = first_fault(text)
     if fault is None and words[0] in ("check", "replay", "drive") and b"\nacts\n" not in text:
         fault = "no acts"

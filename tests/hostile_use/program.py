@@ -38,7 +38,7 @@ FAULT_MEMORY = Answer(4, b"fault memory\n")
 
 
 def cut(text):
-    """What a person has to see of a text: its length and its first and last bytes."""
+    """The parts of a text that a person has to see: its length and its first and last bytes."""
     text = bytes(text)
     return repr(text) if len(text) <= 1_000 else f"{len(text):,} bytes {text[:160]!r} .. {text[-60:]!r}"
 

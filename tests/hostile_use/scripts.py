@@ -14,7 +14,7 @@ KINDS = (("send {me} %p %v", 40), ("receive {me} first", 20), ("receive {me} fro
          ("restore {me} %v %b %b %b %v %v %p", 3))
 
 
-# Of the whole node: each of a few scripts has two of each kind, and all other kinds at least once.
+# Acts on the whole node: each of a few scripts has two of each kind, and all other kinds at least once.
 WIDE = ("reset {me}", "tracer {me} true")
 FEW, FIFTY, TIMES = 4, 50, 20
 

@@ -57,7 +57,7 @@ def tried(programs):
 
 
 def within(program, kilobytes, command, text):
-    """What a command writes in so much stack."""
+    """The output of a command with a stack of this size."""
     said = f"stacks: {program.name} {' '.join(command)}, {os.path.getsize(text.path):,} bytes within {kilobytes} KB"
     command = list(text.filled(command))
     with open(text.path, "rb") as given:

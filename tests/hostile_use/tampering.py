@@ -16,7 +16,7 @@ RANDOM_CHANGES = 300
 
 
 def others(word):
-    """What a word of the text is changed to."""
+    """The words to which a word of the text is changed."""
     if word.startswith("<"):
         return [pid for pid in PIDS if pid != word]
     if not word.isdigit():
@@ -70,7 +70,7 @@ def texts():
 
 
 def answered(program, words, part, parts):
-    """What the programs say of each changed text; if `audit` says fits, what it wrote has to be a yes of `check`."""
+    """The programs' answers for each changed text; if `audit` says fits, what it wrote has to be a yes of `check`."""
     for what, text in list(texts())[part::parts]:
         called = f"tampering: {' '.join(words)}: {what}"
         got = program.run(words, text)

@@ -1,4 +1,4 @@
-"""What the families of growing texts are made of: a bundle's text."""
+"""The parts of the families of growing texts: a bundle's text."""
 
 import re
 import sys
@@ -29,7 +29,7 @@ def bundle(streams, acts=()):
 
 
 def on_nodes(lines):
-    """The same bundle with each process on a node of its own."""
+    """The bundle with each process on a node of its own."""
     return (re.sub(r"<0\.(\d+)\.0>", r"<\1.0.0>", line).replace("seqtrace 1", "seqtrace 2") for line in lines)
 
 

@@ -403,7 +403,7 @@ def audit(streams):
     return builder.acts
 
 
-# What is written
+# The output
 
 def report(streams, unfit):
     words = ["unfit", show(unfit.place[0]), str(unfit.place[1]), unfit.word]
@@ -478,7 +478,7 @@ def answer(words, text):
 
 
 def main():
-    # What reads the output may end first, as `head` does.
+    # The reader of the output may end first, as `head` does.
     signal.signal(signal.SIGPIPE, signal.SIG_DFL)
     lines, status = answer(sys.argv[1:], sys.stdin.read())
     sys.stdout.writelines(line + "\n" for line in lines)

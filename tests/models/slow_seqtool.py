@@ -62,7 +62,7 @@ def is_stamp(event):
     return event.kind != "receive"
 
 
-# What a process's events leave to its next one: the greatest count (its clock), and the prev of a stamp that goes on.
+# The state that a process's events leave to its next one: the greatest count (its clock), and the prev of a stamp that goes on.
 
 START = (0, 0)
 
@@ -104,7 +104,7 @@ def unfounded(streams, source):
 # Hidden sends and their places
 
 def hidden_sends(streams, source):
-    """Of each process the sends that only their receives tell of, by rising count."""
+    """For each process the sends that only their receives tell of, by rising count."""
     found = {pid: [] for pid in streams}
     for (pid, i), sent in source.items():
         if sent is None:
@@ -352,7 +352,7 @@ def acts(whole):
     return builder.acts
 
 
-# What is written
+# The output
 
 # A pid as a command's word, with its angle brackets or without.
 PID = re.compile(r"<?(\d+)\.(\d+)\.0>?")
@@ -431,13 +431,13 @@ def asked(words):
 
 
 def text_of(file):
-    """What a file has, or standard input if none is named."""
+    """The content of a file, or of standard input if none is named."""
     with open(file[0] if file else 0, encoding="utf-8", errors="surrogateescape", newline="\n") as given:
         return given.read()
 
 
 def main():
-    # What reads the output may end first, as `head` does.
+    # The reader of the output may end first, as `head` does.
     signal.signal(signal.SIGPIPE, signal.SIG_DFL)
     words = asked(sys.argv[1:])
     if words is None:

@@ -1,4 +1,4 @@
-"""What `why` writes: a slow model of crates/node_why and of the lines of crates/seqtool_commands."""
+"""The output of `why`: a slow model of crates/node_why and of the lines of crates/seqtool_commands."""
 
 from collections import namedtuple
 
@@ -14,7 +14,7 @@ UNSENT = "its send wasn't reported"
 # The hops that spaces show.
 INDENT = 16
 
-# What an event follows: the kind of hop, the place that it names, and the premises that it rests on.
+# The cause of an event: the kind of hop, the place that it names, and the premises that it rests on.
 Hop = namedtuple("Hop", "kind place premises")
 
 

@@ -1,4 +1,4 @@
-%% @doc What `seqaudit-node --help' prints, and the help of each command.
+%% @doc The help of `seqaudit-node' and of each command.
 -module(seqaudit_help).
 
 -export([all/0, version/0, usage/1, of_command/1]).

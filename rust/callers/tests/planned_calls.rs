@@ -417,7 +417,7 @@ impl Gate for Silent {
     fn after(&self, _pid: Pid, _n: u64) {}
 }
 
-/// What the seat's process does: 30 sends to 31, which receives that.
+/// The acts of the seat's process: 30 sends to 31, which receives that.
 fn play(system: &System<9, 9>, seat: &mut Seat) {
     let act = if seat.pid() == p30() { Act::Send(p30(), p31(), 5) } else { Act::Receive(p31(), Want::First) };
     assert!(system.act(&HostRuntime, &Silent, seat, &act).is_ok());

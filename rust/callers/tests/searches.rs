@@ -11,11 +11,11 @@ use std::error::Error;
 
 type Tried = Result<(), Box<dyn Error>>;
 
-/// Of these one slot of the table of guesses has the number of the second.
+/// Two pids that share a slot of the table of guesses, which has the number of the second.
 const MISSED: Pid = Pid::on(0, 67);
 const GUESSED: Pid = Pid::on(1, 0);
 
-/// What process 1 received from process 0, which reported nothing.
+/// The stream of process 1, which received these from process 0, which reported nothing.
 fn receives(counts: &[u64]) -> Result<Streams, Box<dyn Error>> {
     let (from, to) = (Pid::new(0), Pid::new(1));
     let mut draft = Draft::new(Global);

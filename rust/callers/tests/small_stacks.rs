@@ -17,7 +17,7 @@ const MESSAGES: usize = 10_000;
 /// More bytes than a command writes here.
 const ROOM: usize = 64 << 20;
 
-/// Of streams alone, as the words of the command line.
+/// The commands on streams alone, as the words of the command line.
 const OF_STREAMS: &str = "
 seqtool audit
 seqtool complete
@@ -29,19 +29,19 @@ seqtool why 0.31.0 0 --effects
 seqaudit audit
 seqaudit chart --label 17";
 
-/// Of streams with acts.
+/// The commands on streams with acts.
 const OF_ACTS: &str = "
 seqtool check
 seqaudit check
 seqaudit replay
 seqaudit drive";
 
-/// Of texts with mistakes.
+/// The commands on texts with mistakes.
 const OF_MISTAKES: &str = "
 seqtool check
 seqaudit check";
 
-/// What a call wrote, and the status that it returned.
+/// The output of a call, and the status that it returned.
 type Answer = (Vec<u8>, u8);
 
 fn sink(rt: &HostRuntime) -> MemorySink {

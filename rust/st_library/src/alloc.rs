@@ -22,7 +22,7 @@ impl std::error::Error for AllocError {}
 /// Memory ran out, and what was to be kept comes back. As theirs.
 #[derive(Clone, Copy)]
 pub struct AllocFailed<T> {
-    /// What wasn't kept.
+    /// The value that wasn't kept.
     pub value: T,
 }
 

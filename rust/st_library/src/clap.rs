@@ -40,7 +40,7 @@ impl From<AllocError> for Error {
     }
 }
 
-/// What an argument's values may be.
+/// The values that an argument may have.
 pub trait IntoParser {
     /// Clap's own form of it.
     fn into_parser(self) -> ValueParser;
@@ -123,7 +123,7 @@ impl<'a> Command<'a> {
     }
 }
 
-/// What the words gave.
+/// The values that the words gave.
 #[derive(Debug)]
 pub struct ArgMatches<'a> {
     inner: ::clap::ArgMatches,

@@ -4,7 +4,7 @@ pub use std::fmt::*;
 
 use crate::alloc::AllocError;
 
-/// What `format!` returns.
+/// The result of `format!`.
 pub fn written(text: String) -> std::result::Result<String, AllocError> {
     Ok(text)
 }

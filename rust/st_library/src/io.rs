@@ -2,7 +2,7 @@
 
 pub use std::io::{Error, ErrorKind, Read, Result, Write};
 
-/// What was closed when the program began. Rust's runtime opens `/dev/null` in its place before `main`, so that nobody would
+/// The standard files that were closed when the program began. Rust's runtime opens `/dev/null` in its place before `main`, so that nobody would
 /// see that nothing is read or that all that is written is lost. So it's asked for before that.
 #[cfg(target_os = "linux")]
 mod closed {

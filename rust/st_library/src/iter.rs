@@ -16,7 +16,7 @@ pub trait CollectIn: Iterator + Sized {
 
 impl<I: Iterator> CollectIn for I {}
 
-/// What `collect_in` makes.
+/// A collection that `collect_in` makes.
 pub trait FromIteratorIn<T>: Sized {
     /// Why it can't be made.
     type Error;

@@ -1,4 +1,4 @@
-//! What each file of the sources sees without naming it.
+//! The names that each file of the sources sees without an import.
 
 pub use crate::boxed::Box;
 pub use crate::iter::CollectIn;

@@ -11,10 +11,10 @@ impl Abort for HostRuntime {}
 
 /// Their `expect` takes the runtime too, so here it has another name.
 pub trait Expect {
-    /// What is there.
+    /// The value that is there.
     type Value;
 
-    /// What is there; if nothing is, the program ends.
+    /// Returns the value; if there is none, the program ends.
     fn expect_on<R: Abort>(self, rt: &R, why: &str) -> Self::Value;
 }
 

@@ -1,6 +1,6 @@
 //! Work on several threads.
 
-/// What the sources import.
+/// The names that the sources import.
 pub mod prelude {
     use crate::alloc::{AllocError, Global};
     use crate::thread::Threads;

@@ -1,4 +1,4 @@
-//! What a test returns.
+//! The result of a test.
 
 use crate::rt::HostRuntime;
 use std::fmt::{Debug, Display};
@@ -21,7 +21,7 @@ impl<E: Debug> From<E> for Fail {
     }
 }
 
-/// What a test returns.
+/// The result of a test.
 pub trait Outcome {
     /// Fails the test if it failed.
     fn judge(self);

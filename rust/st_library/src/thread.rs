@@ -15,7 +15,7 @@ pub trait Threads {}
 
 impl Threads for HostRuntime {}
 
-/// What a thread's contract says of its result; nothing in the program.
+/// The contract of a thread about its result; nothing in the program.
 pub trait Promise<T> {}
 
 /// Theirs ties the scope to its environment; here Rust does that by itself.
@@ -52,7 +52,7 @@ impl<T> ScopedJoinHandle<'_, T> {
     }
 }
 
-/// What a thread is started with.
+/// The function that a thread is started with.
 #[derive(Debug, Default)]
 pub struct Builder {
     stack: usize,
@@ -84,7 +84,7 @@ impl Builder {
     }
 }
 
-/// The same with a promise, which only contracts see.
+/// Starts a thread with a promise, which only contracts see.
 #[derive(Debug, Default)]
 pub struct Stack {
     builder: Builder,
@@ -116,7 +116,7 @@ impl Stack {
     }
 }
 
-/// What the threads return, in order. As theirs.
+/// Returns the results of the threads, in order. As theirs.
 pub fn join_promised<R: Wait, T>(
     rt: &R,
     threads: Vec<ScopedJoinHandle<'_, T>>,
