@@ -8,9 +8,11 @@ use std::path::PathBuf;
 use std::process::Command;
 
 const PROGRAM: &str = "seqaudit-node";
+/// The variable that tells the application which `gemshowal` to ask.
+const ASKED: &str = "GEMSHOWAL";
 
-/// Runs the application's command in place of this program. Returns the status only if there is
-/// none to run.
+/// Runs the application's command in place of this program, which the application asks in turn
+/// unless the variable says another. Returns the status only if there is none to run.
 pub(crate) fn hand_over(word: &str, words: &[OsString]) -> u8 {
     let Some(program) = find(PROGRAM) else {
         output::say_red(format_args!(
@@ -19,7 +21,11 @@ pub(crate) fn hand_over(word: &str, words: &[OsString]) -> u8 {
         ));
         return 4;
     };
-    let reason = Command::new(&program).arg(word).args(words).exec();
+    let mut command = Command::new(&program);
+    if let (None, Ok(own)) = (env::var_os(ASKED), env::current_exe()) {
+        command.env(ASKED, own);
+    }
+    let reason = command.arg(word).args(words).exec();
     output::say_red(format_args!("error: {} can't be run: {reason}\n", program.display()));
     4
 }
