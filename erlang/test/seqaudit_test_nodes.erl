@@ -1,7 +1,7 @@
 %% A second node on this machine, waiting for what happens there, and what has to be there or gone for a test.
 -module(seqaudit_test_nodes).
 
--export([with_second/2, start/0, kill/1, again/1, on_port/2, clear/0, until/1, on_disk/2, met/2,
+-export([with_second/2, start/0, kill/1, again/1, on_port/2, clear/0, until/1, until_within/2, on_disk/2, met/2,
          await_collector/0, keep_pace/0, is_traced/1, print_when_traced/1, peak/1]).
 
 %% A machine that is busy takes a while for what is done at once otherwise.
@@ -98,6 +98,10 @@ end_process(Name) ->
 %% Waits until the function returns true, and fails if it takes too long.
 until(Done) ->
     until(Done, deadline()).
+
+%% Waits for this number of seconds at most.
+until_within(Seconds, Done) ->
+    until(Done, erlang:monotonic_time(millisecond) + 1_000 * Seconds).
 
 until(Done, Deadline) ->
     case {Done(), erlang:monotonic_time(millisecond) < Deadline} of
