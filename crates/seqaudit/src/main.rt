@@ -9,7 +9,7 @@ ghost use Rattle.std.specs.Prelude.{◌≡◌, ◌≢◌};
 
 use st_commands::{Pipe, Refusal, run, tell_refusal};
 use st_core::{ReadFrom, WriteTo};
-use std::io::{ErrorKind, Write};
+use std::io::ErrorKind;
 use std::process::ExitCode;
 use std::{env, io};
 
@@ -31,22 +31,13 @@ fn words_of(rt: &HostRuntime) -> io::Result<Vec<String>> {
     Ok(words)
 }
 
-/// Does what the words ask for, and returns the status.
-fn serve<W: Write>(rt: &HostRuntime, output: W) -> u8 {
-    let mut writer = WriteTo::new(output);
-    match words_of(rt) {
-        Ok(words) => run(
-            rt,
-            words.as_slice(),
-            &mut ReadFrom::new(rt.stdin()),
-            &mut writer,
-        ),
-        Err(error) => tell_refusal(&mut writer, why_unread(&error)),
-    }
-}
-
 fn main(rt: HostRuntime) -> ExitCode {
+    let mut reader = ReadFrom::new(rt.stdin());
     let mut output = Pipe::new(rt.stdout());
-    let status = serve(&rt, &mut output);
+    let mut writer = WriteTo::new(&mut output);
+    let status = match words_of(&rt) {
+        Ok(words) => run(&rt, words.as_slice(), &mut reader, &mut writer),
+        Err(error) => tell_refusal(&mut writer, why_unread(&error)),
+    };
     ExitCode::from(output.status_of(status))
 }
