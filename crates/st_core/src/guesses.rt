@@ -8,9 +8,10 @@ use std::alloc::{AllocError, Global};
 /// As many bits as the number of a slot has at most: a guess has no more.
 const MOST_SLOT_BITS: u32 = 16;
 
-/// How far apart the slots of equal numbers on neighbouring nodes lie, so that these don't meet: a
-/// prime, which shares no factor with the slots.
-const NODE_STEP: usize = 67;
+/// How far apart the slots of equal numbers on neighbouring nodes lie: a prime, which shares no
+/// factor with the slots. Numbers that rise by one from node to node lie one farther apart, which
+/// shares the factor 2 alone.
+const NODE_STEP: usize = 661;
 
 /// For each slot, where the last pid of that slot is. The table is on the heap, so that whoever
 /// hands on what has it copies no guesses.

@@ -12,7 +12,7 @@ use std::error::Error;
 type Tried = Result<(), Box<dyn Error>>;
 
 /// Two pids that share a slot of the table of guesses, which has the number of the second.
-const MISSED: Pid = Pid::on(0, 67);
+const MISSED: Pid = Pid::on(0, 661);
 const GUESSED: Pid = Pid::on(1, 0);
 
 /// The stream of process 1, which received these from process 0, which reported nothing.
