@@ -1,22 +1,67 @@
--- When pairing accepts streams, said of their events two at a time: the least place at which a rule
--- holds would be one of two events that don't fit.
-use Rattle.std.proofs.Common.{[], ◌≡◌, ℕ, zero, suc, ◌+◌, ◌<◌, ◌==◌, ◌&&◌, ◌||◌, nat_lt, Bool, true, false, not, cond, List}
-use Rattle.std.proofs.Common.{◌∷◌, Option, Some, None, slice_get, refl, sym, ◌∙◌, ap, subst, arith}
-use Rattle.std.proofs.lemmas.Bool.{eq-eqb, eqb-true, and_from, and_parts, false≢true}
-use Rattle.std.proofs.lemmas.Bool.Decides.{nat_tests}
+-- When pairing accepts streams, said of their events two at a time. If any two fit, no rule holds:
+-- the least place at which it would hold is one of two events that don't fit. If pairing accepts
+-- streams, any two fit; and a receive's send isn't hidden exactly if it is there.
+use Rattle.std.proofs.Common.{[], ◌≡◌, ℕ, Bool, true, false, cond, List, ◌∷◌, Option, Some, None}
+use Rattle.std.proofs.Common.{is_none, is_some, slice_get, refl, sym, ◌∙◌, ap, zero, suc, ◌+◌, ◌<◌}
+use Rattle.std.proofs.Common.{◌==◌, ◌&&◌, ◌||◌, nat_lt, not, subst, arith}
+use Rattle.std.proofs.Common.{option_and_then}
+use Rattle.std.proofs.lemmas.Bool.{and_parts, false≢true, eq-eqb, eqb-true, and_from}
 use Rattle.std.proofs.lemmas.Option.{none-some, same_Some, option_and_then_some}
+use Rattle.std.proofs.lemmas.Bool.Decides.{nat_tests}
 use Rattle.st_core.specs.declared.types.Pid.{Pid}
+use Rattle.st_core.specs.declared.types.Kind.{Kind}
 use Rattle.st_core.specs.declared.types.Event.{Event}
 use Rattle.st_core.specs.Pid.{pid_eq, IsRising}
 use Rattle.st_core.specs.Run.{Stream, pids_of}
-use Rattle.st_core.specs.Streams.{events_of}
-use Rattle.st_core.proofs.ForCallers.{pid_eq-refl, pid_same}
-use Rattle.st_pair.specs.declared.answer.PairFault.{PairFault}
-use Rattle.st_pair.specs.declared.answer.PairFault.TheVariants as fault
+use Rattle.st_core.specs.Streams.{AreOwn, is_of, is_own, stream_of, events_of}
+use Rattle.st_core.specs.declared.types.Kind.TheVariants as kind
+use Rattle.st_core.proofs.ForCallers.{all_at, pid_same, pid_eq-refl}
 use Rattle.st_pair.specs.Places.{event_at, first, is_stamp}
+use Rattle.st_pair.specs.declared.answer.PairFault.{PairFault}
 use Rattle.st_pair.specs.Pairing.{agrees, first_rule, mismatch, not_rising, prev_not_before}
 use Rattle.st_pair.specs.Pairing.{receive_of, refusal, repeated, stamp_before, stamp_of}
-use Rattle.st_pair.proofs.ForCallers.{given_at, given_from, got_rule, own_rule, Rule}
+use Rattle.st_pair.specs.declared.answer.Source.{Source}
+use Rattle.st_pair.specs.declared.answer.PairFault.TheVariants as fault
+use Rattle.st_pair.specs.declared.answer.Source.TheVariants as source
+use Rattle.st_pair.proofs.ForCallers.{events_in, given_at, given_from, got_rule, own_rule, Rule}
+use Rattle.st_pair.proofs.ForCallers.{from_none, cond_none, event_none, IsPaired, once_place}
+use Rattle.st_pair.proofs.ForCallers.{serial_rises, stamp_counts_rise, stamp_once}
+use Rattle.st_order.specs.Items.{is_hidden}
+
+-- WHO AN EVENT IS FROM
+
+-- a stamp is from its own process, and a receive is to it
+pub stamper : (k : Kind) (from : Pid) (to : Option Pid) (p : Pid)
+    → (let b : Bool = elim k [ kind.Send ↦ true | kind.Receive ↦ false | kind.Print ↦ true ] in b)
+    ≡ true
+    → is_of k from to p ≡ true → from ≡ p
+stamper kind.Send from to p stamps own = pid_same from p
+    (and_parts (pid_eq from p) (is_some to) own).0
+stamper kind.Receive from to p stamps own = absurd (false≢true stamps)
+stamper kind.Print from to p stamps own = pid_same from p
+    (and_parts (pid_eq from p) (is_none to) own).0
+
+pub received_to : (k : Kind) (from : Pid) (to : Option Pid) (p : Pid)
+    → (let b : Bool = elim k [ kind.Send ↦ true | kind.Receive ↦ false | kind.Print ↦ true ] in b)
+    ≡ false
+    → is_of k from to p ≡ true → to ≡ Some p
+received_to kind.Send from to p receives own = absurd (false≢true (sym receives))
+received_to kind.Print from to p receives own = absurd (false≢true (sym receives))
+received_to kind.Receive from None p receives own = absurd (false≢true own)
+received_to kind.Receive from (Some q) p receives own = ap (λ (x : Pid). Some x) (pid_same q p own)
+
+pub own_at : (streams : List Stream) (p : Pid) (i : ℕ) (e : Event) → AreOwn streams
+    → event_at streams p i ≡ Some e
+    → is_own p e ≡ true
+own_at [] p i e own at = absurd (none-some e at)
+own_at (x ∷ streams) p i e own at =
+    elim (pid_eq x.pid p) as (λ b. pid_eq x.pid p ≡ b
+    → slice_get (events_in (cond b (Some x) (stream_of streams p))) i ≡ Some e
+    → is_own p e ≡ true) [
+      | true ↦ λ same at. ap (λ q. is_own q e) (sym (pid_same x.pid p same))
+          ∙ all_at (λ d. is_own x.pid d ≡ true) x.events i e own.0 at
+      | false ↦ λ other at. own_at streams p i e own.1 at
+    ] refl at
 
 -- WHAT RULES SAY
 
@@ -53,7 +98,8 @@ pub fit_as : (xs ys : List Stream) → ((p : Pid) (i : ℕ) (e : Event) → even
     → event_at ys p i ≡ Some e) → FitTogether ys → FitTogether xs
 fit_as xs ys there fit = record {
   rises = λ p i e at. fit.rises p i e (there p i e at);
-  grows = λ p j i d e less at_d at_e. fit.grows p j i d e less (there p j d at_d) (there p i e at_e);
+  grows = λ p j i d e less at_d at_e.
+      fit.grows p j i d e less (there p j d at_d) (there p i e at_e);
   once = λ p q i j d e at_d at_e. fit.once p q i j d e (there p i d at_d) (there q j e at_e);
   agree = λ p i j e f at_e receives at_f. fit.agree p i j e f (there p i e at_e) receives
       (there e.from j f at_f);
@@ -141,8 +187,8 @@ module _ (streams : List Stream) (rising : IsRising (pids_of streams)) (fit : Fi
         (receive_of streams e.from e.serial.this) x h (λ y is rest.
         let g = given_at (got_rule e.from e.serial.this) streams y rising is in
         let d = g.event in
-        let says = given_unless (is_stamp d) (pid_eq d.from e.from && d.serial.this == e.serial.this)
-        (g.pid, g.index) y
+        let says = given_unless (is_stamp d)
+        (pid_eq d.from e.from && d.serial.this == e.serial.this) (g.pid, g.index) y
         g.gives in
         let parts = and_parts (pid_eq d.from e.from) (d.serial.this == e.serial.this) says.1 in
         let passes : test (is_stamp e) y ≡ true = elim (is_stamp e)
@@ -196,3 +242,110 @@ module _ (streams : List Stream) (rising : IsRising (pids_of streams)) (fit : Fi
         (nowhere (not_rising streams) no_fall)
         (next_rule (repeated streams) (mismatch streams ∷ []) (nowhere (repeated streams) no_second)
         (next_rule (mismatch streams) [] (nowhere (mismatch streams) no_other) refl)))
+
+-- q's stamp of this count
+pub record HasStamp (streams : List Stream) (q : Pid) (v : ℕ) : Type 0 where
+  pub index : ℕ
+  pub event : Event
+  pub at : event_at streams q index ≡ Some event
+  pub stamps : is_stamp event ≡ true
+  pub count : event.serial.this ≡ v
+
+pub stamp_if : (streams : List Stream) (q : Pid) (v : ℕ) (f : ℕ × Event)
+    → stamp_of streams q v ≡ Some f
+    → (s : HasStamp streams q v) × (f.1 ≡ s.event)
+stamp_if streams q v f is =
+    let found = given_from (own_rule v) q 0 (events_of streams q) f is in
+    let g = found.1 in
+    let says = given_if (is_stamp g && g.serial.this == v) (0 + found.0, g) f found.3 in
+    let parts = and_parts (is_stamp g) (g.serial.this == v) says.0 in (
+      record {
+        index = found.0;
+        event = g;
+        at = found.2;
+        stamps = parts.0;
+        count = eqb-true g.serial.this v parts.1;
+      },
+      ap (λ (x : ℕ × Event). x.1) (sym says.1),
+    )
+
+pub none_stamped : (streams : List Stream) (q : Pid) (v : ℕ) → stamp_of streams q v ≡ None
+    → HasStamp streams q v → ⊥
+none_stamped streams q v none s =
+    let e = s.event in
+    none-some (0 + s.index, e)
+    (sym (from_none (own_rule v) q 0 (events_of streams q) none s.index e s.at)
+    ∙ ap (λ b. cond b (Some (0 + s.index, e)) None)
+    (and_from (is_stamp e) (e.serial.this == v) s.stamps (eq-eqb e.serial.this v s.count)))
+
+-- WHAT PAIRING ACCEPTS
+
+module _ (streams : List Stream) (ok : IsPaired streams) where
+  once_together : (p q : Pid) (i j : ℕ) (d e : Event) → event_at streams p i ≡ Some d
+      → event_at streams q j ≡ Some e
+      → is_stamp d ≡ false → is_stamp e ≡ false → d.from ≡ e.from → d.serial.this ≡ e.serial.this
+      → (p ≡ q) × (i ≡ j)
+  once_together p q i j d e at_d at_e receives_d receives_e from count =
+      let same = same_Some (p, i) (q, j) (sym (once_place streams ok p i d at_d receives_d)
+      ∙ ap (λ x. receive_of streams x d.serial.this) from
+      ∙ ap (receive_of streams e.from) count
+      ∙ once_place streams ok q j e at_e receives_e) in
+      (ap (λ (y : Pid × ℕ). y.0) same, ap (λ (y : Pid × ℕ). y.1) same)
+
+  agree_together : (p : Pid) (i j : ℕ) (e f : Event) → event_at streams p i ≡ Some e
+      → is_stamp e ≡ false
+      → event_at streams e.from j ≡ Some f → is_stamp f ≡ true → f.serial.this ≡ e.serial.this
+      → agrees f e ≡ true
+  agree_together p i j e f at_e receives at_f stamps count =
+      let stamp : stamp_of streams e.from e.serial.this ≡ Some (j, f) =
+      ap (stamp_of streams e.from) (sym count) ∙ stamp_once streams ok e.from j f at_f stamps in
+      let passes : (is_stamp e || agrees f e) ≡ true =
+      cond_none (is_stamp e || agrees f e) (fault.Mismatch p i e.from j)
+      (ap (option_and_then (λ (h : ℕ × Event). cond (is_stamp e || agrees h.1 e) None
+      (Some (fault.Mismatch p i e.from h.0)))) (sym stamp)
+      ∙ event_none (mismatch streams) streams ok.matched p i e at_e) in
+      ap (λ b. b || agrees f e) (sym receives) ∙ passes
+
+  pub fit_together : FitTogether streams
+  fit_together = record {
+    rises = serial_rises streams ok;
+    grows = stamp_counts_rise streams ok;
+    once = once_together;
+    agree = agree_together;
+  }
+
+-- a receive whose send isn't hidden has it
+pub sent_if : (streams : List Stream) (e : Event) → is_hidden streams e ≡ false → is_stamp e ≡ false
+    → HasStamp streams e.from e.serial.this
+sent_if streams e seen receives =
+    let source_in = λ (o : Option (ℕ × Event)). let s : Source =
+    elim o [ None ↦ source.Hidden | Some f ↦ source.Event e.from f.0 ] in s in
+    let hides = λ (s : Source). let b : Bool = elim s
+    [ source.Hidden ↦ true | source.Event q j ↦ false ] in b in
+    let shown : hides (source_in (stamp_of streams e.from e.serial.this)) ≡ false =
+    ap (λ b. cond b false (hides (source_in (stamp_of streams e.from e.serial.this))))
+    (sym receives) ∙ seen in
+    elim (stamp_of streams e.from e.serial.this) as (λ o. stamp_of streams e.from e.serial.this ≡ o
+    → hides (source_in o) ≡ false → HasStamp streams e.from e.serial.this) [
+      | None ↦ λ _ h. absurd (false≢true (sym h))
+      | Some f ↦ λ is _. (stamp_if streams e.from e.serial.this f is).0
+    ] refl shown
+
+-- and one that has it isn't of a hidden send
+pub seen_if : (streams : List Stream) (e : Event) → (is_stamp e ≡ false
+    → HasStamp streams e.from e.serial.this)
+    → is_hidden streams e ≡ false
+seen_if streams e sent =
+    let source_in = λ (o : Option (ℕ × Event)). let s : Source =
+    elim o [ None ↦ source.Hidden | Some f ↦ source.Event e.from f.0 ] in s in
+    let hides = λ (s : Source). let b : Bool = elim s
+    [ source.Hidden ↦ true | source.Event q j ↦ false ] in b in
+    elim (is_stamp e) as (λ b. is_stamp e ≡ b
+    → cond b false (hides (source_in (stamp_of streams e.from e.serial.this))) ≡ false) [
+      | true ↦ λ _. refl
+      | false ↦ λ receives. elim (stamp_of streams e.from e.serial.this)
+          as (λ o. stamp_of streams e.from e.serial.this ≡ o → hides (source_in o) ≡ false) [
+            | None ↦ λ none. absurd (none_stamped streams e.from e.serial.this none (sent receives))
+            | Some f ↦ λ _. refl
+          ] refl
+    ] refl

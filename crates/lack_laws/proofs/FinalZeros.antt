@@ -1,8 +1,9 @@
 -- In a run without a reset no stamp with prev 0 comes after a receive, or after a stamp with
 -- another prev. In a full completion each stamp goes on from all events before it, so once these
 -- leave another prev than 0, each later stamp has another one.
-use Rattle.std.proofs.Common.{[], ◌≡◌, inl, inr, ℕ, zero, suc, ◌<◌, true, false, not, cond, List, ◌∷◌, ◌++◌, take}
-use Rattle.std.proofs.Common.{Some, slice_get, append-nil, append_assoc, refl, sym, ◌∙◌, ap, subst, arith}
+use Rattle.std.proofs.Common.{[], ◌≡◌, inl, inr, ℕ, zero, suc, ◌<◌, true, false, not, cond, List}
+use Rattle.std.proofs.Common.{◌∷◌, ◌++◌, take, Some, slice_get, append-nil, append_assoc, refl, sym}
+use Rattle.std.proofs.Common.{◌∙◌, ap, subst, arith}
 use Rattle.std.proofs.lemmas.Bool.{cases_lt, false≢true}
 use Rattle.std.proofs.lemmas.Option.{none-some, same_Some}
 use Rattle.st_core.specs.declared.types.Pid.{Pid}
@@ -20,12 +21,10 @@ use Rattle.st_plan.proofs.ForCallers.{leaves}
 use Rattle.lack_laws.specs.Completed.{IsShownInOneTrace}
 use Rattle.lack_laws.specs.Needs.{marked_of}
 use Rattle.lack_laws.specs.OpenReasons.{IsBehindReceive, IsUnfounded, IsZeroBehind}
-use Rattle.lack_laws.proofs.AcceptedStreams.{FitTogether}
-use Rattle.lack_laws.proofs.Equivalences.{shown_full}
-use Rattle.lack_laws.proofs.FittingStreams.{fit_together, sent_if}
-use Rattle.lack_laws.proofs.Lookups.{HasStamp}
+use Rattle.lack_laws.proofs.AcceptedStreams.{FitTogether, fit_together, sent_if, HasStamp, own_at}
+use Rattle.lack_laws.proofs.AcceptedStreams.{stamper}
+use Rattle.lack_laws.proofs.RunCompletions.{shown_full}
 use Rattle.lack_laws.proofs.ToldEvents.{at_mark, told_at, told_there}
-use Rattle.lack_laws.proofs.OwnEvents.{own_at, stamper}
 
 -- ALONG A PROCESS
 
@@ -52,7 +51,7 @@ along_from before (d ∷ es) each =
           )),
     )
 
--- what these events leave to the next isn't 0, nor a count that it may take
+-- these events leave a prev that isn't 0 to the next, and a greatest count that isn't
 record LeavesSome (es : List Event) : Type 0 where
   left : 0 < prev_after es
   high : 0 < greatest_count es

@@ -1,15 +1,16 @@
 -- The lemmas that proofs of the crates above may cite.
 
 -- ---- streams, and what pairing says of them
-pub use Rattle.lack_laws.proofs.Lookups.{unlisted_events}
-pub use Rattle.lack_laws.proofs.SameNames.{streams_with}
+pub use Rattle.lack_laws.proofs.InsertedEvents.{unlisted_events}
+pub use Rattle.lack_laws.proofs.Renumbering.{streams_with}
 pub use Rattle.lack_laws.proofs.AcceptedStreams.{accepted_if, FitTogether}
-pub use Rattle.lack_laws.proofs.OwnEvents.{own_at, received_to}
+pub use Rattle.lack_laws.proofs.AcceptedStreams.{own_at, received_to}
 -- ---- whole streams, and reasons
 pub use Rattle.lack_laws.proofs.ToldEvents.{events_all}
 pub use Rattle.lack_laws.proofs.NeedlessStreams.{above_if}
 -- ---- lists of counts that rise
 pub use Rattle.lack_laws.proofs.Ranks.{AllAbove, Climbs, IsIn, above_in, insert_climbs}
 -- ---- streams with further processes that report nothing
-pub use Rattle.lack_laws.proofs.SilentStreams.{above_first, listed_rest, silent_events, silent_lists}
-pub use Rattle.lack_laws.proofs.SilentStreams.{silent_sound, silent_total, unlisted_with}
+pub use Rattle.lack_laws.proofs.SilentStreams.{above_first, listed_rest, silent_events}
+pub use Rattle.lack_laws.proofs.SilentStreams.{silent_lists, silent_sound, silent_total}
+pub use Rattle.lack_laws.proofs.SilentStreams.{unlisted_with}

@@ -9,11 +9,11 @@ use Rattle.std.specs.Option.{option_map_or}
 use Rattle.std.proofs.lemmas.Bool.{and_from, and_parts, cases_lt, false≢true, ltb-false, ltb-true}
 use Rattle.std.proofs.lemmas.Option.{none-some, same_Some}
 use Rattle.st_core.specs.declared.types.Pid.{Pid}
-use Rattle.st_core.specs.declared.types.Kind.TheVariants as kind
 use Rattle.st_core.specs.declared.types.Event.{Event}
 use Rattle.st_core.specs.Pid.{pid_eq}
 use Rattle.st_core.specs.Run.{Stream}
 use Rattle.st_core.specs.Streams.{events_of, lists, stream_of}
+use Rattle.st_core.specs.declared.types.Kind.TheVariants as kind
 use Rattle.st_core.proofs.ForCallers.{all_at, names_among_listed, pid_eq-refl}
 use Rattle.st_pair.specs.Places.{event_at, is_stamp}
 use Rattle.st_pair.specs.Pairing.{agrees, stamp_of}
@@ -22,11 +22,11 @@ use Rattle.st_order.proofs.ForCallers.{all_found, AreFound}
 use Rattle.st_plan.specs.Marks.{all_streams, told_streams, Whole}
 use Rattle.st_plan.proofs.ForCallers.{named}
 use Rattle.lack_laws.proofs.InsertedEvents.{is_placed, more, new_there, stays, all_from}
-use Rattle.lack_laws.proofs.Lookups.{HasStamp, none_stamped, stamp_if}
+use Rattle.lack_laws.proofs.AcceptedStreams.{HasStamp, none_stamped, stamp_if, own_at, received_to}
+use Rattle.lack_laws.proofs.AcceptedStreams.{stamper}
 use Rattle.lack_laws.proofs.OpenStreams.{AreSent, CanJoin, IsOpen, Leads, open_with, stamp_stays}
 use Rattle.lack_laws.proofs.NeedlessStreams.{all_same, marks_all, told_same}
-use Rattle.lack_laws.proofs.OwnEvents.{own_at, received_to, stamper}
-use Rattle.lack_laws.proofs.PutEvents.{put, put_more, put_told}
+use Rattle.lack_laws.proofs.ToldEvents.{put, put_more, put_told}
 
 -- THE PLACE
 

@@ -6,22 +6,21 @@ use Rattle.std.proofs.Common.{List, ◌∷◌, ◌++◌, map, take, drop, length
 use Rattle.std.proofs.Common.{inr, slice_get, refl, sym, ◌∙◌, ap, subst, arith}
 use Rattle.std.proofs.lemmas.Bool.{false≢true}
 use Rattle.std.proofs.lemmas.Option.{none-some, same_Some}
+use Rattle.std.specs.List.{AllByRecursion}
 use Rattle.st_core.specs.declared.types.Pid.{Pid}
 use Rattle.st_core.specs.declared.types.Event.{Event}
 use Rattle.st_core.specs.Pid.{pid_eq, IsRising}
 use Rattle.st_core.specs.Run.{Stream, pids_of}
-use Rattle.st_core.specs.Streams.{events_of, lists, stream_of, IsStreams}
-use Rattle.st_core.proofs.ForCallers.{pid_eq-refl, pid_same}
-use Rattle.st_core.proofs.ForCallers.{are_own, AreReports, names_among_listed, unlisted_none}
+use Rattle.st_core.specs.Streams.{events_of, lists, stream_of, IsStreams, is_among}
+use Rattle.st_core.specs.Laws.{IsReportAmong}
+use Rattle.st_core.proofs.ForCallers.{pid_eq-refl, pid_same, are_own, AreReports}
+use Rattle.st_core.proofs.ForCallers.{names_among_listed, unlisted_none, lists_among}
 use Rattle.st_pair.specs.Places.{event_at, is_stamp}
 use Rattle.st_pair.specs.Pairing.{agrees}
 use Rattle.st_pair.proofs.ForCallers.{events_in}
-use Rattle.lack_laws.proofs.AcceptedStreams.{FitTogether}
-use Rattle.std.specs.List.{AllByRecursion}
-use Rattle.st_core.specs.Laws.{IsReportAmong}
 use Rattle.st_order.proofs.ForCallers.{all_found, AreFound}
-use Rattle.lack_laws.proofs.OwnEvents.{own_at}
 use Rattle.st_plan.proofs.ForCallers.{named}
+use Rattle.lack_laws.proofs.AcceptedStreams.{FitTogether, own_at}
 
 -- THE STREAMS WITH IT
 
@@ -37,38 +36,55 @@ pub with_pids : (p : Pid) (i : ℕ) (r : Event) (streams : List Stream)
 with_pids p i r [] = refl
 with_pids p i r (x ∷ streams) = ap (λ ps. x.pid ∷ ps) (with_pids p i r streams)
 
--- what a process has then
-pub with_events : (p : Pid) (i : ℕ) (r : Event) (streams : List Stream) (q : Pid)
-    → lists streams q ≡ true
-    → events_of (more p i r streams) q
-    ≡ cond (pid_eq q p) (take i (events_of streams q) ++ r ∷ drop i (events_of streams q))
-    (events_of streams q)
-with_events p i r [] q there = absurd (false≢true there)
-with_events p i r (x ∷ streams) q there =
-    let put = λ (b : Bool) (es : List Event). cond b (take i es ++ r ∷ drop i es) es in
-    let y : Stream = record { pid = x.pid; events = put (pid_eq x.pid p) x.events } in
+-- then p has the event, and each other process has the events that it had
+pub own_with : (p : Pid) (i : ℕ) (r : Event) (streams : List Stream) → lists streams p ≡ true
+    → events_of (more p i r streams) p
+    ≡ take i (events_of streams p) ++ r ∷ drop i (events_of streams p)
+own_with p i r [] there = absurd (false≢true there)
+own_with p i r (x ∷ streams) there =
+    let put = λ (es : List Event). take i es ++ r ∷ drop i es in
+    elim (pid_eq x.pid p) as (λ b. is_some (cond b (Some x) (stream_of streams p)) ≡ true
+    → events_in (cond b (Some (let y : Stream =
+    record { pid = x.pid; events = cond b (put x.events) x.events } in y))
+    (stream_of (more p i r streams) p))
+    ≡ put (events_in (cond b (Some x) (stream_of streams p))))
+    [ true ↦ λ _. refl | false ↦ own_with p i r streams ] there
+
+pub others_with : (p : Pid) (i : ℕ) (r : Event) (streams : List Stream) (q : Pid)
+    → pid_eq q p ≡ false → events_of (more p i r streams) q ≡ events_of streams q
+others_with p i r [] q other = refl
+others_with p i r (x ∷ streams) q other =
+    let put = λ (b : Bool). cond b (take i x.events ++ r ∷ drop i x.events) x.events in
+    let y : Stream = record { pid = x.pid; events = put (pid_eq x.pid p) } in
     elim (pid_eq x.pid q) as (λ b. pid_eq x.pid q ≡ b
-    → is_some (cond b (Some x) (stream_of streams q)) ≡ true
     → events_in (cond b (Some y) (stream_of (more p i r streams) q))
-    ≡ put (pid_eq q p) (events_in (cond b (Some x) (stream_of streams q)))) [
-      | true ↦ λ same _. ap (λ z. put (pid_eq z p) x.events) (pid_same x.pid q same)
-      | false ↦ λ _ there. with_events p i r streams q there
-    ] refl there
+    ≡ events_in (cond b (Some x) (stream_of streams q))) [
+      | true ↦ λ same. ap put (ap (λ z. pid_eq z p) (pid_same x.pid q same) ∙ other)
+      | false ↦ λ _. others_with p i r streams q other
+    ] refl
+
+-- who has an event is listed
+pub listed_at : (streams : List Stream) (q : Pid) (k : ℕ) (e : Event)
+    → event_at streams q k ≡ Some e
+    → lists streams q ≡ true
+listed_at streams q k e at = elim (stream_of streams q) as (λ o. slice_get (events_in o) k ≡ Some e
+    → is_some o ≡ true) [ None ↦ λ at. absurd (none-some e at) | Some x ↦ λ at. refl ] at
+
+pub unlisted_events : (streams : List Stream) (q : Pid) → lists streams q ≡ false
+    → events_of streams q ≡ []
+unlisted_events streams q none = elim (stream_of streams q)
+    as (λ o. is_some o ≡ false → events_in o ≡ []) [
+      | None ↦ λ _. refl
+      | Some x ↦ λ h. absurd (false≢true (sym h))
+    ] none
 
 listed_with : (p : Pid) (i : ℕ) (r : Event) (streams : List Stream) (q : Pid) (k : ℕ) (e : Event)
     → event_at (more p i r streams) q k ≡ Some e → lists streams q ≡ true
-listed_with p i r [] q k e at = absurd (none-some e at)
-listed_with p i r (x ∷ streams) q k e at =
-    let y : Stream = record {
-      pid = x.pid;
-      events = cond (pid_eq x.pid p) (take i x.events ++ r ∷ drop i x.events) x.events;
-    } in
-    elim (pid_eq x.pid q) as (λ b. slice_get (events_in
-    (cond b (Some y) (stream_of (more p i r streams) q))) k ≡ Some e
-    → is_some (cond b (Some x) (stream_of streams q)) ≡ true) [
-      | true ↦ λ _. refl
-      | false ↦ λ at. listed_with p i r streams q k e at
-    ] at
+listed_with p i r streams q k e at =
+    lists_among streams q
+    ∙ ap (λ ps. is_among ps q) (sym (with_pids p i r streams))
+    ∙ sym (lists_among (more p i r streams) q)
+    ∙ listed_at (more p i r streams) q k e at
 
 -- PLACES
 
@@ -149,64 +165,63 @@ kept_put [] (suc i) r m e at = absurd (none-some e at)
 kept_put (x ∷ es) (suc i) r zero e at = (zero, at)
 kept_put (x ∷ es) (suc i) r (suc m) e at = let rest = kept_put es i r m e at in (suc rest.0, rest.1)
 
--- who has an event is listed
-pub listed_at : (streams : List Stream) (q : Pid) (k : ℕ) (e : Event)
-    → event_at streams q k ≡ Some e
-    → lists streams q ≡ true
-listed_at streams q k e at = elim (stream_of streams q) as (λ o. slice_get (events_in o) k ≡ Some e
-    → is_some o ≡ true) [ None ↦ λ at. absurd (none-some e at) | Some x ↦ λ at. refl ] at
-
 -- WITH THE EVENT
 
 module _ (p : Pid) (i : ℕ) (r : Event) (streams : List Stream) where
-  -- an event of the longer streams is the new one or an old one
-  placed : i ≤ length (events_of streams p) → (q : Pid) (k : ℕ) (e : Event) → lists streams q ≡ true
-      → event_at (more p i r streams) q k ≡ Some e
-      → ((q ≡ p) × IsNew i r k e) ⊎ IsOld (events_of streams q) (pid_eq q p) i k e
-  placed within q k e there at =
-      let es = events_of streams q in
-      elim (pid_eq q p) as (λ b. pid_eq q p ≡ b → slice_get (cond b (take i es ++ r ∷ drop i es) es)
-      k ≡ Some e
-      → ((q ≡ p) × IsNew i r k e) ⊎ IsOld es b i k e) [
-        | true ↦ λ same at.
-            let who = pid_same q p same in
-            elim (at_put es i r k e (subst (λ x. i ≤ length (events_of streams x)) (sym who) within)
-            at) [
-              | inl new ↦ inl (who, new)
-              | inr old ↦ inr old
-            ]
-        | false ↦ λ _ at. inr (record { index = k; at = at; moved = refl })
-      ] refl (ap (λ xs. slice_get xs k) (sym (with_events p i r streams q there)) ∙ at)
+  abbrev longer : List Stream
+  longer = more p i r streams
 
+  -- an event of the longer streams is the new one or an old one
   pub is_placed : i ≤ length (events_of streams p) → (q : Pid) (k : ℕ) (e : Event)
-      → event_at (more p i r streams) q k ≡ Some e
+      → event_at longer q k ≡ Some e
       → ((q ≡ p) × IsNew i r k e) ⊎ IsOld (events_of streams q) (pid_eq q p) i k e
-  is_placed within q k e at = placed within q k e (listed_with p i r streams q k e at) at
+  is_placed within q k e at = elim (pid_eq q p) as (λ b. pid_eq q p ≡ b
+      → ((q ≡ p) × IsNew i r k e) ⊎ IsOld (events_of streams q) b i k e) [
+        | false ↦ λ other. inr (record {
+          index = k;
+          at = ap (λ es. slice_get es k) (sym (others_with p i r streams q other)) ∙ at;
+          moved = refl;
+        })
+        | true ↦ λ same.
+            let who = pid_same q p same in
+            let here = ap (λ x. event_at longer x k) (sym who) ∙ at in
+            let own = own_with p i r streams (listed_with p i r streams p k e here) in
+            subst (λ x. ((x ≡ p) × IsNew i r k e) ⊎ IsOld (events_of streams x) true i k e)
+            (sym who)
+            (elim (at_put (events_of streams p) i r k e within
+            (ap (λ es. slice_get es k) (sym own) ∙ here)) [
+              | inl new ↦ inl (refl, new)
+              | inr old ↦ inr old
+            ])
+      ] refl
 
   -- and each old one stays
   pub stays : (q : Pid) (m : ℕ) (e : Event) → event_at streams q m ≡ Some e
-      → (k : ℕ) × (event_at (more p i r streams) q k ≡ Some e)
-  stays q m e at =
-      let es = events_of streams q in
-      let there = with_events p i r streams q (listed_at streams q m e at) in
-      let stay = elim (pid_eq q p) as (λ b. (k : ℕ)
-      × (slice_get (cond b (take i es ++ r ∷ drop i es) es) k ≡ Some e)) [
-        | true ↦ kept_put es i r m e at
-        | false ↦ (m, at)
-      ] in
-      (stay.0, ap (λ xs. slice_get xs stay.0) there ∙ stay.1)
+      → (k : ℕ) × (event_at longer q k ≡ Some e)
+  stays q m e at = elim (pid_eq q p) as (λ b. pid_eq q p ≡ b
+      → (k : ℕ) × (event_at longer q k ≡ Some e)) [
+        | false ↦ λ other.
+            (m, ap (λ es. slice_get es m) (others_with p i r streams q other) ∙ at)
+        | true ↦ λ same.
+            let who = pid_same q p same in
+            let here = ap (λ x. event_at streams x m) (sym who) ∙ at in
+            let own = own_with p i r streams (listed_at streams p m e here) in
+            let stay = kept_put (events_of streams p) i r m e here in (
+              stay.0,
+              ap (λ x. event_at longer x stay.0) who ∙ ap (λ es. slice_get es stay.0) own
+                  ∙ stay.1,
+            )
+      ] refl
 
   pub new_there : i ≤ length (events_of streams p) → lists streams p ≡ true
-      → event_at (more p i r streams) p i ≡ Some r
-  new_there within there =
-      let es = events_of streams p in
-      ap (λ xs. slice_get xs i) (with_events p i r streams p there
-      ∙ ap (λ b. cond b (take i es ++ r ∷ drop i es) es) (pid_eq-refl p))
-      ∙ put_there es i r within
+      → event_at longer p i ≡ Some r
+  new_there within there = ap (λ es. slice_get es i) (own_with p i r streams there)
+      ∙ put_there (events_of streams p) i r within
 
 module _ (p : Pid) (i : ℕ) (r : Event) (streams : List Stream)
     (within : i ≤ length (events_of streams p)) where
-  -- what holds of any two events of a process in turn, if it holds of the new one and each old one
+  -- a relation holds of any two events of a process in turn, if it held of the old ones, and holds
+  -- of the new one and each of its process
   pub in_turn_with : (R : Event → Event → Type 0)
       → ((q : Pid) (j k : ℕ) (d e : Event) → j < k → event_at streams q j ≡ Some d
       → event_at streams q k ≡ Some e → R d e)

@@ -2,27 +2,18 @@
 pub mod LoudActs
 pub mod LoudRuns
 pub mod RunCompletions
-pub mod Equivalences
 pub mod NeedlessStreams
-pub mod OwnEvents
 pub mod AcceptedStreams
 pub mod InsertedEvents
 pub mod ToldEvents
-pub mod CountMaps
-pub mod ReplacedCounts
-pub mod SameNames
 pub mod Renumbering
 pub mod Ranks
-pub mod Lookups
-pub mod FittingStreams
 mod Cases
 -- With processes that a trace doesn't list; the laws in `src/open_world.rt` say the main ones.
 pub mod SilentStreams
 pub mod FinalZeros
-pub mod PutEvents
 pub mod OpenStreams
 pub mod HiddenSends
 pub mod SilentSenders
-pub mod OpenCompletions
 pub mod OpenReasons
 pub mod ForCallers

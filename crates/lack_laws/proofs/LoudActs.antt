@@ -13,21 +13,22 @@ use Rattle.st_core.specs.declared.types.Label.{Label}
 use Rattle.st_core.specs.declared.types.Token.{Token}
 use Rattle.st_core.specs.declared.types.Message.{Message}
 use Rattle.st_core.specs.declared.types.Kind.{Kind}
-use Rattle.st_core.specs.declared.types.Kind.TheVariants as kind
 use Rattle.st_core.specs.declared.types.Event.{Event}
 use Rattle.st_core.specs.declared.types.Want.{Want}
-use Rattle.st_core.specs.declared.types.Want.TheVariants as want
 use Rattle.st_core.specs.declared.types.Act.{Act}
-use Rattle.st_core.specs.declared.types.Act.TheVariants as act
-use Rattle.st_core.specs.declared.types.Reply.TheVariants as reply
 use Rattle.st_core.specs.Pid.{pid_eq, node_eq}
 use Rattle.st_core.specs.State.{LocalState, Process}
 use Rattle.st_core.specs.Stamp.{stamp, stamp_any, stamped_token}
 use Rattle.st_core.specs.Local.{received, has_label}
 use Rattle.st_core.specs.Pick.{matches, pick, pick_from}
 use Rattle.st_core.specs.Report.{flag_of, report, token_event}
-use Rattle.st_core.specs.Step.{Acted, acted, actor, answers, changed, prints, reached, receiver, receives, sends}
+use Rattle.st_core.specs.Step.{Acted, acted, actor, answers, changed, prints, reached, receiver}
+use Rattle.st_core.specs.Step.{receives, sends}
 use Rattle.st_core.specs.Laws.{is_reset, moves_token}
+use Rattle.st_core.specs.declared.types.Kind.TheVariants as kind
+use Rattle.st_core.specs.declared.types.Want.TheVariants as want
+use Rattle.st_core.specs.declared.types.Act.TheVariants as act
+use Rattle.st_core.specs.declared.types.Reply.TheVariants as reply
 use Rattle.st_core.proofs.ForCallers.{mapped}
 use Rattle.lack_laws.specs.Wholes.{event_by, loud, loud_local, loud_message, loud_token}
 
@@ -98,7 +99,8 @@ report_loud : (traced : Bool) (k : Kind) (token : Option Token) (to : Option Pid
 report_loud traced k None to v e h = absurd (none-some e h)
 report_loud traced k (Some t) to v e h =
     report_says k t to v
-    ∙ ap (λ (x : Event). Some x) (cond_some (traced && flag_of k t.flags) (token_event k t to v) e h).1
+    ∙ ap (λ (x : Event). Some x)
+    (cond_some (traced && flag_of k t.flags) (token_event k t to v) e h).1
 
 report_some : (k : Kind) (token : Option Token) (to : Option Pid) (v : ℕ) → is_some token ≡ true
     → IsSome (report true k (option_map loud_token token) to v)

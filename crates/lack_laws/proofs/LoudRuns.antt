@@ -12,20 +12,23 @@ use Rattle.st_core.specs.declared.types.Token.{Token}
 use Rattle.st_core.specs.declared.types.Component.{Component}
 use Rattle.st_core.specs.declared.types.Event.{Event}
 use Rattle.st_core.specs.declared.types.Act.{Act}
-use Rattle.st_core.specs.declared.types.Act.TheVariants as act
-use Rattle.st_core.specs.declared.types.Reply.TheVariants as reply
 use Rattle.st_core.specs.Pid.{pid_eq}
 use Rattle.st_core.specs.State.{LocalState, Process, State, process}
 use Rattle.st_core.specs.Local.{default_token, old_component, with_component, with_set}
 use Rattle.st_core.specs.Step.{Outcome, acted, actor, answers, changed, outcome_of, receiver, step}
 use Rattle.st_core.specs.Run.{run_from, stream}
 use Rattle.st_core.specs.Laws.{is_reset, moves_token, NoReset, ReportsEverything}
-use Rattle.st_core.proofs.ForCallers.{changed_pid, leaves_others, pid_eq-refl, pid_same, process-map, process_after}
-use Rattle.st_core.proofs.ForCallers.{process_pid, run_from-one, run_parts, step_done, step_parts, Stepped}
+use Rattle.st_core.specs.declared.types.Act.TheVariants as act
+use Rattle.st_core.specs.declared.types.Reply.TheVariants as reply
+use Rattle.st_core.proofs.ForCallers.{changed_pid, leaves_others, pid_eq-refl, pid_same}
+use Rattle.st_core.proofs.ForCallers.{process-map, process_after, process_pid, run_from-one}
+use Rattle.st_core.proofs.ForCallers.{run_parts, step_done, step_parts, Stepped}
 use Rattle.st_plan.specs.Build.{state_after}
 use Rattle.st_plan.specs.Marks.{Marked, told_events}
-use Rattle.st_plan.proofs.ForCallers.{append_none, IsQuiet, lifted, QuietRun, run_append, stream_append, stream_silent}
-use Rattle.lack_laws.specs.Wholes.{event_by, event_in, loud, loud_local, loud_token, marked_if, whole_from}
+use Rattle.st_plan.proofs.ForCallers.{append_none, IsQuiet, lifted, QuietRun, run_append}
+use Rattle.st_plan.proofs.ForCallers.{stream_append, stream_silent}
+use Rattle.lack_laws.specs.Wholes.{event_by, event_in, loud, loud_local, loud_token, marked_if}
+use Rattle.lack_laws.specs.Wholes.{whole_from}
 use Rattle.lack_laws.proofs.LoudActs.{acted_louder, changed_loud, is_set, IsLouder, louder}
 use Rattle.lack_laws.proofs.LoudActs.{louder_actor, louder_plain, louder_receiver, report_of}
 
@@ -76,7 +79,8 @@ module _ (top : ℕ) (s t : State) (a : Act) (o : Outcome) (x : Stepped top s a 
           (option_map loud found)
           ≡ option_map loud (option_map (changed a x.done) found)) [
             | None ↦ refl
-            | Some r ↦ ap (λ (y : Process). Some y) (changed_loud top x.before a x.done part plain r)
+            | Some r ↦ ap (λ (y : Process). Some y)
+                (changed_loud top x.before a x.done part plain r)
           ]
           ∙ ap (option_map loud) (sym (process_after top s a o x p))
 
@@ -216,7 +220,7 @@ step_heard top s t a o h plain is = elim (set_or_not a) [
       same_heard top s t a o x is plain (acted_louder top a x.before x.done x.is_done other)
 ]
 
--- what an act reports is its event
+-- an act reports its event
 step_agrees : (top : ℕ) (s : State) (a : Act) (o : Outcome) → step top s a ≡ Some o → (e : Event)
     → o.report ≡ Some e
     → event_in top s a ≡ Some e
@@ -303,7 +307,7 @@ are_heard top s t (a ∷ acts) os h none is =
           (sym x.is_whole);
     }
 
--- what is told of the events is what is reported
+-- the told events are those that are reported
 pub told_append : (xs ys : List Marked) → told_events (xs ++ ys) ≡ told_events xs ++ told_events ys
 told_append [] ys = refl
 told_append (m ∷ xs) ys =

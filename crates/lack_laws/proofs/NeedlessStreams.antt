@@ -1,7 +1,8 @@
 -- Streams without a need are settled: if each stamp is above the events of its process before it,
 -- the order keeps these in turn, so that the counts at each move are those of the events before it.
-use Rattle.std.proofs.Common.{[], ◌≡◌, ◌↔◌, ℕ, ◌<◌, ◌⊎◌, ◌==◌, inl, inr, ◌&&◌, nat_lt, Bool, true, false, not, List}
-use Rattle.std.proofs.Common.{◌∷◌, ◌++◌, take, map, reverse, refl, sym, ◌∙◌, ap, subst, arith}
+use Rattle.std.proofs.Common.{[], ◌≡◌, ◌↔◌, ℕ, ◌<◌, ◌⊎◌, ◌==◌, inl, inr, ◌&&◌, nat_lt, Bool, true}
+use Rattle.std.proofs.Common.{false, not, List, ◌∷◌, ◌++◌, take, map, reverse, refl, sym, ◌∙◌, ap}
+use Rattle.std.proofs.Common.{subst, arith}
 use Rattle.std.proofs.lemmas.Bool.{eq-eqb, false≢true, ltb-true}
 use Rattle.std.proofs.lemmas.Bool.Decides.{nat_tests}
 use Rattle.st_core.specs.declared.types.Pid.{Pid}
@@ -19,12 +20,13 @@ use Rattle.st_plan.specs.Marks.{all_streams, told_streams, Marked, told_events, 
 use Rattle.st_plan.specs.Moves.{Move, clock, last, moves}
 use Rattle.st_plan.specs.Reasons.{uncaused}
 use Rattle.st_plan.specs.Plain.{IsSettled, out_of_turn, event_count}
-use Rattle.lack_laws.specs.Completed.{IsCompleted, IsShownInOneTrace}
 use Rattle.st_plan.specs.Full.{IsFull}
+use Rattle.st_plan.proofs.ForCallers.{After, at_each, event_move, greatest_has, next_event}
+use Rattle.lack_laws.specs.Completed.{IsCompleted, IsShownInOneTrace}
 use Rattle.lack_laws.specs.Local.{IsNeedless}
 use Rattle.lack_laws.specs.Needs.{HoldsOfNone, is_late, is_need}
-use Rattle.lack_laws.proofs.Equivalences.{settled_shown, shown_full}
-use Rattle.st_plan.proofs.ForCallers.{After, at_each, event_move, greatest_has, next_event}
+use Rattle.lack_laws.proofs.RunCompletions.{settled_shown, shown_full}
+use Rattle.lack_laws.proofs.ToldEvents.{events, streams_by}
 
 -- a stamp that isn't late is above the greatest count
 pub above_if : (stamp less : Bool) → stamp ≡ true → (stamp && not less) ≡ false → less ≡ true
@@ -161,21 +163,21 @@ all_there : (es : List Event) → map (λ (m : Marked). m.event)
 all_there [] = refl
 all_there (e ∷ es) = ap (λ xs. e ∷ xs) (all_there es)
 
-pub told_same : (streams : List Stream) → told_streams (map marks_all streams) ≡ streams
-told_same [] = refl
-told_same (x ∷ streams) =
+marks_same : (g : List Marked → List Event)
+    → ((es : List Event) → g (map (λ e. record { event = e; told = true }) es) ≡ es)
+    → (streams : List Stream) → streams_by g (map marks_all streams) ≡ streams
+marks_same g same [] = refl
+marks_same g same (x ∷ streams) =
     ap (λ es. let y : Stream = record { pid = x.pid; events = es } in
-    y ∷ told_streams (map marks_all streams))
-    (all_told x.events)
-    ∙ ap (λ ys. x ∷ ys) (told_same streams)
+    y ∷ streams_by g (map marks_all streams))
+    (same x.events)
+    ∙ ap (λ ys. x ∷ ys) (marks_same g same streams)
+
+pub told_same : (streams : List Stream) → told_streams (map marks_all streams) ≡ streams
+told_same = marks_same told_events all_told
 
 pub all_same : (streams : List Stream) → all_streams (map marks_all streams) ≡ streams
-all_same [] = refl
-all_same (x ∷ streams) =
-    ap (λ es. let y : Stream = record { pid = x.pid; events = es } in
-    y ∷ all_streams (map marks_all streams))
-    (all_there x.events)
-    ∙ ap (λ ys. x ∷ ys) (all_same streams)
+all_same = marks_same events all_there
 
 -- streams that are so are a completion of themselves
 pub own_completion : (Is : ℕ → List Stream → Type 0) (top : ℕ) (streams : List Stream)

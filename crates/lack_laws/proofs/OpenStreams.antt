@@ -1,7 +1,7 @@
 -- Streams against which no reason stands, said of their events two at a time. So they stay if one
 -- more event is put in where it fits, and if a process that reports nothing is listed.
-use Rattle.std.proofs.Common.{◌≡◌, ℕ, ◌<◌, ◌≤◌, true, false, List, Some, length, slice_get}
-use Rattle.std.proofs.Common.{inl, inr, sym, ◌∙◌, ap, subst, arith}
+use Rattle.std.proofs.Common.{◌≡◌, ℕ, ◌<◌, ◌≤◌, true, false, List, Some, length, slice_get, inl}
+use Rattle.std.proofs.Common.{inr, sym, ◌∙◌, ap, subst, arith}
 use Rattle.st_core.specs.declared.types.Pid.{Pid}
 use Rattle.st_core.specs.declared.types.Event.{Event}
 use Rattle.st_core.specs.Laws.{IsReportAmong}
@@ -9,10 +9,9 @@ use Rattle.st_core.specs.Run.{Stream, pids_of}
 use Rattle.st_core.specs.Streams.{events_of, IsStreams, lists}
 use Rattle.st_pair.specs.Places.{event_at, is_stamp}
 use Rattle.lack_laws.specs.Silent.{inserted}
-use Rattle.lack_laws.proofs.AcceptedStreams.{fit_as, FitTogether}
+use Rattle.lack_laws.proofs.AcceptedStreams.{fit_as, FitTogether, HasStamp}
 use Rattle.lack_laws.proofs.InsertedEvents.{any_two_with, fit_with, FitsIn, in_turn_with, is_placed}
 use Rattle.lack_laws.proofs.InsertedEvents.{more, stays, sound_with}
-use Rattle.lack_laws.proofs.Lookups.{HasStamp}
 use Rattle.lack_laws.proofs.SilentStreams.{events_inserted, streams_inserted}
 
 -- e comes after d in its process: if e is a stamp, it is above d; and if it has prev 0, d is none
@@ -21,7 +20,8 @@ abbrev pub Leads : Event → Event → Type 0
 Leads d e = is_stamp e ≡ true
     → (d.serial.this < e.serial.this) × (e.serial.prev ≡ 0 → is_stamp d ≡ true)
 
--- if e tells of a stamp with prev 0, and d of one of its process with a lower count, that has prev 0
+-- if e tells of a stamp with prev 0, and d of one of its process with a lower count, that one has
+-- prev 0
 abbrev pub Roots : Event → Event → Type 0
 Roots d e = e.serial.prev ≡ 0 → d.from ≡ e.from → d.serial.this < e.serial.this
     → d.serial.prev ≡ 0

@@ -10,11 +10,11 @@ use Rattle.st_core.specs.declared.types.Event.{Event}
 use Rattle.st_core.specs.Pid.{IsRising}
 use Rattle.st_core.specs.Run.{Stream, pids_of}
 use Rattle.lack_laws.specs.Completed.{IsShownInOneTrace}
-use Rattle.lack_laws.specs.Renumbering.{count_of_rank, counts_of, event_with, insert_count, insert_counts}
-use Rattle.lack_laws.specs.Renumbering.{KeepsOrder, rank, renumbered_streams, with_counts}
+use Rattle.lack_laws.specs.Renumbering.{count_of_rank, counts_of, event_with, insert_count}
+use Rattle.lack_laws.specs.Renumbering.{insert_counts, KeepsOrder, rank, renumbered_streams}
+use Rattle.lack_laws.specs.Renumbering.{with_counts}
 use Rattle.lack_laws.proofs.NeedlessStreams.{exactly_needless, needless_shown}
-use Rattle.lack_laws.proofs.ReplacedCounts.{pids_with}
-use Rattle.lack_laws.proofs.Renumbering.{shown_with}
+use Rattle.lack_laws.proofs.Renumbering.{pids_with, shown_with}
 
 -- all of these are above b
 abbrev pub AllAbove : ℕ → List ℕ → Type 0

@@ -1,7 +1,9 @@
 -- Each run without a reset has a full completion: after a tracer on each node the loud run begins,
--- and its streams are all the run's events, of which the run's streams are told.
-use Rattle.std.proofs.Common.{◌≡◌, ℕ, ◌==◌, zero, suc, Bool, true, false, cond, List, [], ◌∷◌, ◌++◌, map, Option, Some, None}
-use Rattle.std.proofs.Common.{is_some, option_map, get_or, refl, sym, ◌∙◌, ap, subst}
+-- and its streams are all the run's events, of which the run's streams are told. A full completion
+-- is settled, and a settled one is shown by acts that report what is told of it.
+use Rattle.std.proofs.Common.{◌≡◌, ℕ, ◌==◌, suc, Bool, true, false, cond, List, [], ◌∷◌, ◌++◌}
+use Rattle.std.proofs.Common.{map, Option, Some, None, is_some, option_map, get_or, refl, sym, ◌∙◌}
+use Rattle.std.proofs.Common.{ap, subst, ◌↔◌}
 use Rattle.std.specs.Prelude.{All}
 use Rattle.std.specs.List.{AllByRecursion, slice_get}
 use Rattle.std.specs.Option.{option_map_or}
@@ -10,22 +12,27 @@ use Rattle.std.proofs.lemmas.List.Elements.{All-head, All-map, All-tail}
 use Rattle.std.proofs.lemmas.Option.{same_Some, none-some}
 use Rattle.st_core.specs.declared.types.Pid.{Pid}
 use Rattle.st_core.specs.declared.types.Act.{Act}
-use Rattle.st_core.specs.declared.types.Act.TheVariants as act
 use Rattle.st_core.specs.Pid.{pid_eq, node_eq, IsRising}
 use Rattle.st_core.specs.State.{Process, State, process, zero_local, zero_state}
 use Rattle.st_core.specs.Step.{Outcome, answers, changed, step}
-use Rattle.st_core.specs.declared.types.Reply.TheVariants as reply
 use Rattle.st_core.specs.Run.{Shows, Stream, pids_of, run, run_from, stream}
 use Rattle.st_core.specs.Streams.{IsStreams}
 use Rattle.st_core.specs.Laws.{moves_token, NoReset, ReportsEverything}
-use Rattle.st_core.proofs.ForCallers.{mapped, pid_same, process_after, process_pid, run_parts, step_parts, some_of, shown_are_streams}
+use Rattle.st_core.specs.declared.types.Act.TheVariants as act
+use Rattle.st_core.specs.declared.types.Reply.TheVariants as reply
+use Rattle.st_core.proofs.ForCallers.{mapped, pid_same, process_after, process_pid, run_parts}
+use Rattle.st_core.proofs.ForCallers.{step_parts, some_of, shown_are_streams}
 use Rattle.st_plan.specs.Build.{state_after, tracers_after}
 use Rattle.st_plan.specs.Marks.{all_streams, all_told, Marked, told_events, told_streams, Whole}
-use Rattle.st_plan.proofs.ForCallers.{append_none, IsOpened, opens, tracers_none, run_append, stream_append, stream_silent, run_full}
 use Rattle.st_plan.specs.Full.{IsFull}
+use Rattle.st_plan.specs.Plain.{IsSettled}
+use Rattle.st_plan.proofs.ForCallers.{append_none, IsOpened, opens, tracers_none, run_append}
+use Rattle.st_plan.proofs.ForCallers.{stream_append, stream_silent, run_full, completion_is_shown}
+use Rattle.st_plan.proofs.ForCallers.{full_streams_plain}
 use Rattle.lack_laws.specs.Wholes.{loud, whole_from, wholes_of}
-use Rattle.lack_laws.proofs.LoudRuns.{are_heard, AreHeard, IsLoud, stays_whole}
-use Rattle.lack_laws.proofs.LoudRuns.{whole_append, whole_told}
+use Rattle.lack_laws.specs.Completed.{IsCompleted, IsShownInOneTrace}
+use Rattle.lack_laws.proofs.LoudRuns.{are_heard, AreHeard, IsLoud, stays_whole, whole_append}
+use Rattle.lack_laws.proofs.LoudRuns.{whole_told}
 
 -- AFTER THE TRACERS
 
@@ -176,31 +183,32 @@ module _ (top : ℕ) (streams : List Stream) (acts : List Act) (shows : Shows to
   same_pids (x ∷ some) = ap (λ ps. x.pid ∷ ps) (same_pids some)
 
   module _ (none : NoReset acts) where
-    begun : IsOpened top start (tracers_after None pids) pids
+    abbrev tracers : List Act
+    tracers = tracers_after None pids
+
+    begun : IsOpened top start tracers pids
     begun = (opens top streams all_told).0
 
-    then_heard : AreHeard top start (state_after start begun.os) acts shows.0
-    then_heard = are_heard top start (state_after start begun.os) acts shows.0 shows.1 none
-        (zero_loud top pids (tracers_after None pids) begun (are_tracers None pids))
+    later : AreHeard top start (state_after start begun.os) acts shows.0
+    later = are_heard top start (state_after start begun.os) acts shows.0 shows.1 none
+        (zero_loud top pids tracers begun (are_tracers None pids))
 
     abbrev heard : List Act
-    heard = tracers_after None pids ++ then_heard.heard
+    heard = tracers ++ later.heard
 
     abbrev outcomes : List Outcome
-    outcomes = begun.os ++ then_heard.outcomes
+    outcomes = begun.os ++ later.outcomes
 
     heard_runs : run top pids heard ≡ Some outcomes
-    heard_runs = run_append top start (tracers_after None pids) then_heard.heard begun.os then_heard.outcomes
-        begun.runs
-        then_heard.runs
+    heard_runs = run_append top start tracers later.heard begun.os later.outcomes begun.runs
+        later.runs
 
     heard_tells : (p : Pid) → stream heard outcomes p ≡ map (λ m. m.event) (marks p)
     heard_tells p =
-        stream_append top start (tracers_after None pids) then_heard.heard begun.os then_heard.outcomes p
-        begun.runs
-        ∙ ap (λ es. es ++ stream then_heard.heard then_heard.outcomes p)
-        (stream_silent (tracers_after None pids) begun.os p begun.silent)
-        ∙ then_heard.tells p
+        stream_append top start tracers later.heard begun.os later.outcomes p begun.runs
+        ∙ ap (λ es. es ++ stream later.heard later.outcomes p)
+        (stream_silent tracers begun.os p begun.silent)
+        ∙ later.tells p
 
     heard_shows : Shows top (all_streams wholes) heard
     heard_shows = (
@@ -218,16 +226,15 @@ module _ (top : ℕ) (streams : List Stream) (acts : List Act) (shows : Shows to
     )
 
     heard_plain : NoReset heard
-    heard_plain = append_none (tracers_after None pids) then_heard.heard (tracers_none None pids)
-        then_heard.one_trace
+    heard_plain = append_none tracers later.heard (tracers_none None pids)
+        later.one_trace
 
     heard_whole : ReportsEverything (zero_state (pids_of (all_streams wholes))) heard outcomes
     heard_whole = subst (λ ps. ReportsEverything (zero_state ps) heard outcomes)
         (sym (same_pids streams))
-        (whole_append top start (tracers_after None pids) then_heard.heard begun.os then_heard.outcomes
-        begun.runs
-        (stays_whole start (tracers_after None pids) begun.os
-        (tracers_stay (tracers_after None pids) (are_tracers None pids))) then_heard.whole)
+        (whole_append top start tracers later.heard begun.os later.outcomes begun.runs
+        (stays_whole start tracers begun.os (tracers_stay tracers (are_tracers None pids)))
+        later.whole)
 
     pub wholes_full : IsFull top (all_streams wholes)
     unfolding heard_shows
@@ -249,3 +256,41 @@ run_completed top streams acts shows none rising = (
   wholes_are_streams top streams acts shows none rising,
   wholes_full top streams acts shows none,
 )
+
+module _ (top : ℕ) (streams : List Stream) where
+  pub shown_full : IsRising (pids_of streams) → IsShownInOneTrace top streams
+      → IsCompleted IsFull top streams
+  shown_full rising shown =
+      let done = run_completed top streams shown.acts shown.shows shown.one_trace rising in
+      record {
+        wholes = wholes_of top streams shown.acts shown.shows.0;
+        told = done.0;
+        sound =
+            done.1;
+        is = done.2;
+      }
+
+  pub full_settled : IsCompleted IsFull top streams → IsCompleted IsSettled top streams
+  full_settled done = record {
+    wholes = done.wholes;
+    told = done.told;
+    sound = done.sound;
+    is = (full_streams_plain top _ done.sound.draft.rising done.is).settled;
+  }
+
+  pub settled_shown : IsCompleted IsSettled top streams → IsShownInOneTrace top streams
+  settled_shown done =
+      let shown = completion_is_shown top done.wholes done.sound done.is in
+      record {
+        acts = shown.0;
+        shows = subst (λ ss. Shows top ss shown.0) done.told shown.2;
+        one_trace = shown.3;
+      }
+
+  pub exactly : IsRising (pids_of streams)
+      → (IsShownInOneTrace top streams ↔ IsCompleted IsFull top streams)
+      × (IsShownInOneTrace top streams ↔ IsCompleted IsSettled top streams)
+  exactly rising = (
+    (shown_full rising, λ full. settled_shown (full_settled full)),
+    (λ shown. full_settled (shown_full rising shown), settled_shown),
+  )

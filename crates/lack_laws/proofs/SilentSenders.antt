@@ -1,37 +1,38 @@
 -- Each stamp that needs a receive gets a process of its own that reported nothing: this process
 -- sends one message, whose count is the stamp's prev, and the message is received right before the
 -- stamp. Events are gone through in turn, process after process, until nothing is needed.
-use Rattle.std.proofs.Common.{[], Bool, ◌≡◌, inl, inr, ℕ, zero, suc, ◌<◌, ◌≤◌, ◌==◌, ◌&&◌, ◌||◌, nat_lt, true, false, not, cond}
-use Rattle.std.proofs.Common.{List, ◌∷◌, ◌++◌, map, take, drop, length, Some, slice_get, append-nil, append_assoc}
-use Rattle.std.proofs.Common.{refl, sym, ◌∙◌, ap, subst, arith}
+use Rattle.std.proofs.Common.{[], Bool, ◌≡◌, inl, inr, ℕ, zero, suc, ◌<◌, ◌≤◌, ◌==◌, ◌&&◌, ◌||◌}
+use Rattle.std.proofs.Common.{nat_lt, true, false, not, cond, List, ◌∷◌, ◌++◌, map, take, drop}
+use Rattle.std.proofs.Common.{length, Some, slice_get, append-nil, append_assoc, refl, sym, ◌∙◌, ap}
+use Rattle.std.proofs.Common.{subst, arith}
 use Rattle.std.specs.Option.{option_map_or}
 use Rattle.std.proofs.Math.Seq.{drop-append_seam, take-append_seam}
 use Rattle.std.proofs.lemmas.Bool.{and_from, and_parts, cases_lt, eq-eqb, false≢true}
 use Rattle.std.proofs.lemmas.Option.{none-some, same_Some, slice_get_within}
 use Rattle.st_core.specs.declared.types.Pid.{Pid}
-use Rattle.st_core.specs.declared.types.Kind.TheVariants as kind
 use Rattle.st_core.specs.declared.types.Event.{Event}
 use Rattle.st_core.specs.Laws.{greatest_count, prev_after}
 use Rattle.st_core.specs.Pid.{pid_eq}
 use Rattle.st_core.specs.Run.{Stream, pids_of}
 use Rattle.st_core.specs.Streams.{events_of, is_among, lists}
+use Rattle.st_core.specs.declared.types.Kind.TheVariants as kind
 use Rattle.st_core.proofs.ForCallers.{lists_among, pid_eq-refl, pid_eq-swap, pid_same, prev_push}
 use Rattle.st_pair.specs.Places.{event_at, is_stamp}
 use Rattle.st_pair.specs.Pairing.{agrees}
 use Rattle.st_pair.proofs.ForCallers.{agrees_if}
-use Rattle.st_plan.specs.Marks.{all_streams, told_streams, Whole}
+use Rattle.st_plan.specs.Marks.{all_streams, told_streams, Whole, told_events}
 use Rattle.st_plan.proofs.ForCallers.{leaves, named}
 use Rattle.lack_laws.specs.Needs.{is_need}
 use Rattle.lack_laws.specs.Silent.{inserted, with_silent}
-use Rattle.lack_laws.proofs.SilentStreams.{fresh, fresh_unlisted}
-use Rattle.lack_laws.proofs.SilentStreams.{events_inserted, lists_inserted, still_listed}
+use Rattle.lack_laws.proofs.SilentStreams.{fresh, fresh_unlisted, events_inserted, lists_inserted}
+use Rattle.lack_laws.proofs.SilentStreams.{still_listed}
 use Rattle.lack_laws.proofs.InsertedEvents.{is_placed, listed_at, more, new_there, with_pids}
-use Rattle.lack_laws.proofs.Lookups.{events_with, unlisted_events}
+use Rattle.lack_laws.proofs.InsertedEvents.{own_with, others_with, unlisted_events}
 use Rattle.lack_laws.proofs.OpenStreams.{AreSent, CanJoin, IsOpen, Leads, open_silent, open_with}
 use Rattle.lack_laws.proofs.OpenStreams.{sent_silent, sent_with, there_before}
-use Rattle.lack_laws.proofs.OwnEvents.{own_at, stamper, told_pids}
-use Rattle.lack_laws.proofs.PutEvents.{all_inserted, put, put_more, put_told, told_inserted}
-use Rattle.lack_laws.proofs.PutEvents.{whole_inserted}
+use Rattle.lack_laws.proofs.AcceptedStreams.{own_at, stamper}
+use Rattle.lack_laws.proofs.ToldEvents.{told_pids, by_inserted, put, put_more, put_told}
+use Rattle.lack_laws.proofs.ToldEvents.{whole_inserted, events}
 
 -- ONE NEED
 
@@ -140,10 +141,7 @@ module _ (top : ℕ) (streams : List Stream) (good : IsOpen top streams) (p : Pi
 
   others_sent : (q : Pid) → pid_eq q z ≡ false → events_of sent q ≡ events_of streams q
   others_sent q other =
-      events_with z 0 send silent_there z_there joins_sent.inside q
-      ∙ ap (λ b. cond b (take 0 (events_of silent_there q) ++ send ∷ drop 0
-      (events_of silent_there q)) (events_of silent_there q)) other
-      ∙ events_inserted z streams unlisted q
+      others_with z 0 send silent_there q other ∙ events_inserted z streams unlisted q
 
   at_sent : event_at sent p i ≡ Some e
   at_sent = ap (λ es. slice_get es i) (others_sent p apart) ∙ at
@@ -179,7 +177,8 @@ module _ (top : ℕ) (streams : List Stream) (good : IsOpen top streams) (p : Pi
         | inr not_later ↦
             let here : i ≡ j = omega arith in
             let same = same_Some e d (sym at_sent ∙ ap (event_at sent p) here ∙ at_d) in
-            subst (λ (x : Event). (v < x.serial.this) × (x.serial.prev ≡ 0 → is_stamp receive ≡ true)) same
+            subst (λ (x : Event). (v < x.serial.this)
+            × (x.serial.prev ≡ 0 → is_stamp receive ≡ true)) same
             (rise, λ none. absurd (omega arith))
       ]
 
@@ -240,29 +239,18 @@ module _ (top : ℕ) (streams : List Stream) (good : IsOpen top streams) (p : Pi
   pub events_fed : events_of fed p
       ≡ take i (events_of streams p) ++ receive ∷ drop i (events_of streams p)
   events_fed =
-      events_with p i receive sent p_sent inside p
-      ∙ ap (λ b. cond b (take i (events_of sent p) ++ receive ∷ drop i (events_of sent p))
-      (events_of sent p)) (pid_eq-refl p)
+      own_with p i receive sent p_sent
       ∙ ap (λ es. take i es ++ receive ∷ drop i es) (others_sent p apart)
-
-  others_fed : (q : Pid) → pid_eq q p ≡ false → events_of fed q ≡ events_of sent q
-  others_fed q other =
-      events_with p i receive sent p_sent inside q
-      ∙ ap (λ b. cond b (take i (events_of sent q) ++ receive ∷ drop i (events_of sent q))
-      (events_of sent q)) other
 
   -- another process has the events that it had, or it is the new one
   pub kept : (P : List Event → Type 0) → P (send ∷ []) → (q : Pid) → pid_eq q p ≡ false
       → P (events_of streams q) → P (events_of fed q)
-  kept P new q other before = subst P (sym (others_fed q other))
+  kept P new q other before = subst P (sym (others_with p i receive sent q other))
       (elim (pid_eq q z) as (λ b. pid_eq q z ≡ b → P (events_of sent q)) [
         | false ↦ λ old. subst P (sym (others_sent q old)) before
         | true ↦ λ same.
             let now : events_of sent z ≡ send ∷ [] =
-            events_with z 0 send silent_there z_there joins_sent.inside z
-            ∙ ap (λ b. cond b (send ∷ events_of silent_there z) (events_of silent_there z))
-            (pid_eq-refl z)
-            ∙ ap (λ es. send ∷ es) empty in
+            own_with z 0 send silent_there z_there ∙ ap (λ es. send ∷ es) empty in
             subst (λ x. P (events_of sent x)) (sym (pid_same q z same)) (subst P (sym now) new)
       ] refl)
 
@@ -296,7 +284,8 @@ caused_push before (d ∷ es) e caused none = (
 -- a receive needs nothing
 no_need : (xs : List Event) (e : Event) → is_stamp e ≡ false → is_need xs e ≡ false
 no_need xs e receives =
-    ap (λ b. b && (not (e.serial.prev == prev_after xs) && nat_lt e.serial.prev (greatest_count xs)))
+    ap (λ b. b && (not (e.serial.prev == prev_after xs)
+    && nat_lt e.serial.prev (greatest_count xs)))
     receives
 
 both_false : (a b : Bool) → (a && (false && b)) ≡ false
@@ -416,7 +405,7 @@ module _ (top : ℕ) (streams : List Stream) where
       let same : all_streams wholes ≡ after =
       put_more p i r (map (put z 0 s) (whole_inserted z grown.wholes))
       ∙ ap (more p i r) (put_more z 0 s (whole_inserted z grown.wholes)
-      ∙ ap (more z 0 s) (all_inserted z grown.wholes)) in
+      ∙ ap (more z 0 s) (by_inserted events refl z grown.wholes)) in
       let none : lists (with_silent streams grown.others) z ≡ false =
       ap (λ ss. lists ss z) (sym grown.told)
       ∙ lists_among (told_streams grown.wholes) z
@@ -425,7 +414,7 @@ module _ (top : ℕ) (streams : List Stream) where
       let told : told_streams wholes ≡ with_silent streams (z ∷ grown.others) =
       put_told p i r (map (put z 0 s) (whole_inserted z grown.wholes))
       ∙ put_told z 0 s (whole_inserted z grown.wholes)
-      ∙ told_inserted z grown.wholes
+      ∙ by_inserted told_events refl z grown.wholes
       ∙ ap (inserted z) grown.told
       ∙ ap (λ b. cond b (with_silent streams grown.others)
       (inserted z (with_silent streams grown.others))) (sym none) in

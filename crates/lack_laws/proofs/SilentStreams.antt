@@ -1,7 +1,7 @@
 -- A process without events, put in by its pid, leaves the streams of all others as they are, and
 -- streams stay streams. There always is a pid for one more.
 use Rattle.std.proofs.Common.{[], ◌≡◌, ℕ, suc, ◌<◌, map, ◌||◌, Bool, true, false, cond, List, ◌∷◌}
-use Rattle.std.proofs.Common.{Option, Some, None, is_some, length, refl, sym, ◌∙◌, ap, subst, arith}
+use Rattle.std.proofs.Common.{Option, Some, None, is_some, length, refl, sym, ◌∙◌, ap, arith}
 use Rattle.std.specs.declared.cmp.Ordering.TheVariants.{Less, Equal, Greater}
 use Rattle.std.specs.Ordering.{is_lt, ordering_reverse}
 use Rattle.std.specs.List.{AllByRecursion}
@@ -13,15 +13,14 @@ use Rattle.st_core.specs.declared.types.Event.{Event}
 use Rattle.st_core.specs.Pid.{pid_cmp, pid_eq, pid_on, IsBelow, IsRising}
 use Rattle.st_core.specs.Run.{Stream, pids_of}
 use Rattle.st_core.specs.Streams.{events_of, is_among, IsStreams, lists, stream_of, total_of}
-use Rattle.st_core.proofs.ForCallers.{is_lt-true, pid_cmp-Equal, pid_eq-refl}
-use Rattle.st_core.proofs.ForCallers.{pid_same, IsBelow-trans, not_below_itself, or_right}
-use Rattle.st_core.proofs.ForCallers.{AreReports, lists_among}
-use Rattle.st_pair.proofs.ForCallers.{events_in, pid_total}
 use Rattle.st_core.specs.Laws.{IsReportAmong}
+use Rattle.st_core.proofs.ForCallers.{is_lt-true, pid_cmp-Equal, pid_eq-refl, pid_same}
+use Rattle.st_core.proofs.ForCallers.{IsBelow-trans, or_right, AreReports, lists_among}
+use Rattle.st_core.proofs.ForCallers.{all_apart, is_among-missing}
+use Rattle.st_pair.proofs.ForCallers.{events_in, pid_total}
 use Rattle.st_order.specs.Items.{greatest}
-use Rattle.lack_laws.proofs.InsertedEvents.{reports_of, sound_of}
-use Rattle.lack_laws.proofs.Lookups.{unlisted_events}
 use Rattle.lack_laws.specs.Silent.{inserted, silent, with_silent}
+use Rattle.lack_laws.proofs.InsertedEvents.{reports_of, sound_of, unlisted_events}
 
 -- ONE PROCESS MORE
 
@@ -249,20 +248,12 @@ module _ (streams : List Stream) (sound : IsStreams streams) where
 
 -- PROCESSES BY RISING PID
 
--- a pid below all of these is none of them
-above_none : (q : Pid) (qs : List Pid) → AllByRecursion (IsBelow q) qs → is_among qs q ≡ false
-above_none q [] below = refl
-above_none q (r ∷ rs) below =
-    elim (pid_eq r q) as (λ b. pid_eq r q ≡ b → (b || is_among rs q) ≡ false) [
-      | true ↦ λ same. absurd (not_below_itself q (subst (IsBelow q) (pid_same r q same) below.0))
-      | false ↦ λ _. above_none q rs below.1
-    ] refl
-
 pub unlisted_with : (streams : List Stream) → IsStreams streams → (q : Pid) (qs : List Pid)
     → lists streams q ≡ false
     → AllByRecursion (IsBelow q) qs → lists (with_silent streams qs) q ≡ false
 unlisted_with streams sound q qs none below =
-    silent_lists streams sound qs q ∙ ap (λ b. b || is_among qs q) none ∙ above_none q qs below
+    silent_lists streams sound qs q ∙ ap (λ b. b || is_among qs q) none
+    ∙ is_among-missing qs q (all_apart qs q below)
 
 -- A PID THAT ISN'T LISTED
 

@@ -1,14 +1,18 @@
--- The told events of whole streams are some of all, in turn. If all streams are full, no
--- told stamp is late, since the counts before it among all events are no lower than among the told.
-use Rattle.std.proofs.Common.{[], ◌≡◌, ℕ, zero, suc, ◌≤◌, ◌&&◌, max, nat_lt, Bool, true, false, not, cond, List, ◌∷◌}
-use Rattle.std.proofs.Common.{map, take, Option, Some, None, find, slice_get, refl, sym, ◌∙◌, ap, subst, arith}
+-- Whole streams: all that is in them, and what is told of it. The told events are some of all, in
+-- turn. If all streams are full, no told stamp is late, since the counts before it among all events
+-- are no lower than among the told. Putting in an untold event, or a process that did nothing,
+-- leaves the told ones as they are.
+use Rattle.std.proofs.Common.{[], ◌≡◌, ℕ, zero, suc, ◌≤◌, ◌&&◌, max, nat_lt, Bool, true, false, not}
+use Rattle.std.proofs.Common.{cond, List, ◌∷◌, map, take, Option, Some, None, find, slice_get, refl}
+use Rattle.std.proofs.Common.{sym, ◌∙◌, ap, subst, arith, ◌++◌, drop, if◌then◌else◌}
 use Rattle.std.proofs.lemmas.Bool.Decides.{nat_tests}
 use Rattle.std.proofs.lemmas.Option.{none-some, same_Some}
+use Rattle.std.specs.Ordering.{is_lt}
 use Rattle.st_core.specs.declared.types.Pid.{Pid}
 use Rattle.st_core.specs.declared.types.Event.{Event}
 use Rattle.st_core.specs.Laws.{greatest_count, GoesOnFrom}
-use Rattle.st_core.specs.Pid.{pid_eq}
-use Rattle.st_core.specs.Run.{Stream}
+use Rattle.st_core.specs.Pid.{pid_eq, pid_cmp}
+use Rattle.st_core.specs.Run.{Stream, pids_of}
 use Rattle.st_core.specs.Streams.{events_of, stream_of}
 use Rattle.st_pair.specs.Places.{event_at, is_stamp}
 use Rattle.st_pair.proofs.ForCallers.{events_in}
@@ -16,6 +20,8 @@ use Rattle.st_plan.specs.Full.{IsFull}
 use Rattle.st_plan.specs.Marks.{all_streams, Marked, told_events, told_streams, Whole}
 use Rattle.st_plan.proofs.ForCallers.{AreWithin}
 use Rattle.lack_laws.specs.Needs.{HoldsOfNone, is_late, marked_of}
+use Rattle.lack_laws.specs.Silent.{inserted, silent}
+use Rattle.lack_laws.proofs.InsertedEvents.{more}
 
 -- every event of these
 abbrev pub events : List Marked → List Event
@@ -115,33 +121,29 @@ never_late ms k e go_on at =
 abbrev marked_in : Option Whole → List Marked
 marked_in o = elim o [ None ↦ [] | Some w ↦ w.marked ]
 
-abbrev all_of : Whole → Stream
-all_of w = record { pid = w.pid; events = events w.marked }
+-- streams with what g finds in each whole one: `all_streams` with `events`, and `told_streams` with
+-- `told_events`
+abbrev pub streams_by : (List Marked → List Event) → List Whole → List Stream
+streams_by g wholes = map (λ w. record { pid = w.pid; events = g w.marked }) wholes
 
-abbrev told_of : Whole → Stream
-told_of w = record { pid = w.pid; events = told_events w.marked }
+module _ (g : List Marked → List Event) (none : g [] ≡ []) where
+  events_by : (wholes : List Whole) (p : Pid)
+      → events_of (streams_by g wholes) p ≡ g (marked_of wholes p)
+  events_by [] p = sym none
+  events_by (w ∷ wholes) p =
+      let x : Stream = record { pid = w.pid; events = g w.marked } in
+      elim (pid_eq w.pid p) as (λ b.
+      events_in (cond b (Some x) (stream_of (streams_by g wholes) p))
+      ≡ g (marked_in (cond b (Some w) (find (λ (y : Whole). pid_eq y.pid p) wholes))))
+      [ true ↦ refl | false ↦ events_by wholes p ]
 
 pub events_all : (wholes : List Whole) (p : Pid) → events_of (all_streams wholes) p
     ≡ events (marked_of wholes p)
-events_all [] p = refl
-events_all (w ∷ wholes) p =
-    elim (pid_eq w.pid p) as (λ b. events_in (cond b (Some (all_of w))
-    (stream_of (all_streams wholes) p))
-    ≡ events (marked_in (cond b (Some w) (find (λ (x : Whole). pid_eq x.pid p) wholes)))) [
-      | true ↦ refl
-      | false ↦ events_all wholes p
-    ]
+events_all = events_by events refl
 
 pub events_told : (wholes : List Whole) (p : Pid)
     → events_of (told_streams wholes) p ≡ told_events (marked_of wholes p)
-events_told [] p = refl
-events_told (w ∷ wholes) p =
-    elim (pid_eq w.pid p) as (λ b. events_in (cond b (Some (told_of w))
-    (stream_of (told_streams wholes) p))
-    ≡ told_events (marked_in (cond b (Some w) (find (λ (x : Whole). pid_eq x.pid p) wholes)))) [
-      | true ↦ refl
-      | false ↦ events_told wholes p
-    ]
+events_told = events_by told_events refl
 
 -- a marked event of p is in its whole stream
 pub at_mark : (wholes : List Whole) (p : Pid) (k : ℕ) (m : Marked)
@@ -175,3 +177,100 @@ module _ (top : ℕ) (wholes : List Whole) (full : IsFull top (all_streams whole
       ap (λ es. is_late (take i es) e) (events_told wholes p)
       ∙ ap (λ es. is_late es e) (sym place.before)
       ∙ never_late (marked_of wholes p) place.index e (go_on p) place.at
+
+-- ONE MORE EVENT
+
+-- with an untold event before event i of p
+abbrev pub put : Pid → ℕ → Event → Whole → Whole
+put p i e w =
+    if pid_eq w.pid p then record w {
+      marked = take i w.marked ++ record { event = e; told = false } ∷ drop i w.marked;
+    } else w
+
+abbrev untold : Event → Marked
+untold e = record { event = e; told = false }
+
+abbrev with_at : ℕ → Marked → List Marked → List Marked
+with_at i m ms = take i ms ++ m ∷ drop i ms
+
+inserted_told : (i : ℕ) (e : Event) (ms : List Marked)
+    → told_events (with_at i (untold e) ms) ≡ told_events ms
+inserted_told zero e ms = refl
+inserted_told (suc i) e [] = refl
+inserted_told (suc i) e (m ∷ ms) =
+    ap (λ es. cond m.told (m.event ∷ es) es) (inserted_told i e ms)
+
+inserted_all : (i : ℕ) (e : Event) (ms : List Marked)
+    → events (with_at i (untold e) ms) ≡ take i (events ms) ++ e ∷ drop i (events ms)
+inserted_all zero e ms = refl
+inserted_all (suc i) e [] = refl
+inserted_all (suc i) e (m ∷ ms) = ap (λ es. m.event ∷ es) (inserted_all i e ms)
+
+module _ (p : Pid) (i : ℕ) (e : Event) where
+  pub put_told : (ws : List Whole) → told_streams (map (put p i e) ws) ≡ told_streams ws
+  put_told [] = refl
+  put_told (w ∷ ws) =
+      ap (λ x. x ∷ told_streams (map (put p i e) ws))
+      (elim (pid_eq w.pid p) as (λ b. (let u : Whole =
+      cond b (record { pid = w.pid; marked = with_at i (untold e) w.marked }) w in
+      let x : Stream = record { pid = u.pid; events = told_events u.marked } in x)
+      ≡ (let x : Stream = record { pid = w.pid; events = told_events w.marked } in x)) [
+        | true ↦ ap (λ es. let x : Stream = record { pid = w.pid; events = es } in x)
+            (inserted_told i e w.marked)
+        | false ↦ refl
+      ])
+      ∙ ap (λ xs. let x : Stream = record { pid = w.pid; events = told_events w.marked } in x ∷ xs)
+      (put_told ws)
+
+  -- all of them are the streams with the event
+  pub put_more : (ws : List Whole) → all_streams (map (put p i e) ws) ≡ more p i e (all_streams ws)
+  put_more [] = refl
+  put_more (w ∷ ws) =
+      let es = events w.marked in
+      ap (λ x. x ∷ all_streams (map (put p i e) ws))
+      (elim (pid_eq w.pid p) as (λ b. (let u : Whole =
+      cond b (record { pid = w.pid; marked = with_at i (untold e) w.marked }) w in
+      let x : Stream = record { pid = u.pid; events = events u.marked } in x)
+      ≡ (let x : Stream = record { pid = w.pid; events = cond b (take i es ++ e ∷ drop i es) es } in
+      x)) [
+        | true ↦ ap (λ xs. let x : Stream = record { pid = w.pid; events = xs } in x)
+            (inserted_all i e w.marked)
+        | false ↦ refl
+      ])
+      ∙ ap (λ xs. let x : Stream =
+      record { pid = w.pid; events = cond (pid_eq w.pid p) (take i es ++ e ∷ drop i es) es } in
+      x ∷ xs) (put_more ws)
+
+-- ONE MORE PROCESS
+
+-- a process that did nothing
+abbrev pub silent_whole : Pid → Whole
+silent_whole q = record { pid = q; marked = [] }
+
+-- the processes with it, before the first one of a higher pid
+abbrev pub whole_inserted : Pid → List Whole → List Whole
+whole_inserted q [] = silent_whole q ∷ []
+whole_inserted q (w ∷ rest) =
+    if is_lt (pid_cmp q w.pid) then silent_whole q ∷ w ∷ rest else w ∷ whole_inserted q rest
+
+pub by_inserted : (g : List Marked → List Event) → g [] ≡ [] → (q : Pid) (wholes : List Whole)
+    → streams_by g (whole_inserted q wholes) ≡ inserted q (streams_by g wholes)
+by_inserted g none q wholes = along wholes
+  where
+    first : (ws : List Whole) → streams_by g (silent_whole q ∷ ws) ≡ silent q ∷ streams_by g ws
+    first ws =
+        ap (λ es. let x : Stream = record { pid = q; events = es } in x ∷ streams_by g ws) none
+
+    along : (ws : List Whole) → streams_by g (whole_inserted q ws) ≡ inserted q (streams_by g ws)
+    along [] = first []
+    along (w ∷ rest) = elim (is_lt (pid_cmp q w.pid)) as (λ b.
+        streams_by g (cond b (silent_whole q ∷ w ∷ rest) (w ∷ whole_inserted q rest))
+        ≡ cond b (silent q ∷ streams_by g (w ∷ rest))
+        (streams_by g (w ∷ []) ++ inserted q (streams_by g rest))) [
+          | true ↦ first (w ∷ rest)
+          | false ↦ ap (λ xs. streams_by g (w ∷ []) ++ xs) (along rest)
+        ]
+
+pub told_pids : (wholes : List Whole) → pids_of (told_streams wholes) ≡ pids_of (all_streams wholes)
+told_pids [] = refl
+told_pids (w ∷ wholes) = ap (λ ps. w.pid ∷ ps) (told_pids wholes)

@@ -1,7 +1,8 @@
 -- Streams with their counts replaced by others in the same order. Whether streams have a run
 -- without a reset depends on the order of their counts alone, so counts of any size can be replaced
 -- by their ranks.
-use Rattle.std.specs.Prelude.{[], ◌≡◌, ℕ, ◌+◌, ◌<◌, zero, suc, nat_lt, List, ◌∷◌, map, if◌then◌else◌}
+use Rattle.std.specs.Prelude.{[], ◌≡◌, ℕ, ◌+◌, ◌<◌, zero, suc, nat_lt, List, ◌∷◌, map}
+use Rattle.std.specs.Prelude.{if◌then◌else◌}
 use Rattle.st_core.specs.declared.types.Event.{Event}
 use Rattle.st_core.specs.Run.{Stream}
 

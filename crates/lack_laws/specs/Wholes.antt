@@ -1,7 +1,7 @@
 -- All that the processes of a run do: each stamp and each receive of a token, whether it is
 -- reported or not.
-use Rattle.std.specs.Prelude.{[], ℕ, Bool, true, List, ◌∷◌, ◌++◌, map, Option, Some, None, if◌then◌else◌}
-use Rattle.std.specs.Prelude.{is_some, option_map, option_and_then}
+use Rattle.std.specs.Prelude.{[], ℕ, Bool, true, List, ◌∷◌, ◌++◌, map, Option, Some, None}
+use Rattle.std.specs.Prelude.{if◌then◌else◌, is_some, option_map, option_and_then}
 use Rattle.st_core.specs.declared.types.Pid.{Pid}
 use Rattle.st_core.specs.declared.types.Token.{Token}
 use Rattle.st_core.specs.declared.types.Message.{Message}

@@ -1,4 +1,4 @@
--- This many prints were planned.
+-- Counts the prints that were planned.
 use Rattle.std.proofs.Common.{◌≡◌, ◌++◌}
 use Rattle.st_plan.specs.Build.{silent_prints}
 use Rattle.st_plan.proofs.plan.print_silently.Given as goal
