@@ -1,4 +1,4 @@
--- What is told stays told: an untold event more or less changes nothing, and a told one that is
+-- Told events stay told: an untold event more or less changes nothing, and a told one that is
 -- passed is put at the end. So each process that is added tells what it told, and so do all.
 use Rattle.std.proofs.Common.{◌≡◌, ℕ, ◌+◌, ◌<◌, ◌≤◌, zero, suc, Bool, true, false, cond, List, []}
 use Rattle.std.proofs.Common.{◌∷◌, ◌++◌, length, map, take, drop, get_or, slice_get}

@@ -1,5 +1,5 @@
--- What a stamp demands of its token, and the act that changes the token so: a component is set, or
--- if several are wrong a token is restored.
+-- Demands of a stamp on its token, and the act that makes a token meet them: a component is set, or
+-- a token is restored if several are wrong.
 use Rattle.std.specs.Prelude.{◌==◌, ◌&&◌, ◌||◌, Bool, true, false, not, Option, Some, None, is_none}
 use Rattle.std.specs.Prelude.{if◌then◌else◌, unwrap_or}
 use Rattle.st_core.specs.declared.types.Pid.{Pid}

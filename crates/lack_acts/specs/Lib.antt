@@ -1,6 +1,6 @@
--- What is promised of the acts: they have a run.
+-- Promises that the acts have a run.
 pub mod Acts
--- For the parts alone: what a stamp demands of its token; which flags are usual; how many counts
+-- For the parts alone: the demands of a stamp on its token; which flags are usual; how many counts
 -- are missing; which events stay told; which are put in; and where messages are sent and received.
 pub mod Demands
 pub mod Missing

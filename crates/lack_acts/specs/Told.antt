@@ -1,4 +1,4 @@
--- What stays if streams change that tell some of their events: the told ones, and their processes.
+-- The told events and the processes stay if streams change that tell some of their events.
 use Rattle.std.specs.Prelude.{◌≡◌, List, [], ◌∷◌, if◌then◌else◌}
 use Rattle.st_core.specs.declared.types.Event.{Event}
 use Rattle.st_plan.specs.Marks.{told_streams, Whole}

@@ -1,4 +1,4 @@
-//! What a stamp demands of its token, and the act that changes the token so.
+//! Demands of a stamp on its token, and the act that makes a token meet them.
 //!
 //! A stamp demands only what decides whether its event, or the receive of its message, is told. The
 //! label and the other flags are left as they are.
@@ -10,7 +10,7 @@ ghost use Rattle.lack_acts.specs.Demands.{print_demand, send_demand};
 
 use st_core::{Act, Component, Flags, Label, Pid, Serial, Token};
 
-/// What a stamp demands of its token; nothing of a flag that decides nothing.
+/// The label and the flags that a stamp demands of its token; no flag that decides nothing.
 #[derive(Clone, Copy)]
 pub(crate) struct TokenDemand {
     /// The label of the event.

@@ -12,7 +12,7 @@ use lack_needs::{Left, is_stamp};
 use st_core::{Event, Label, Pid, Serial, Streams};
 use std::alloc::{AllocError, Global};
 
-/// What a message costs besides its send, which stands for a silent print: its receive, and changes
+/// The acts of a message besides its send, which replaces a silent print: its receive, and changes
 /// of the tokens of both processes.
 pub(crate) const MESSAGE_ACTS: u64 = 4;
 
@@ -27,7 +27,7 @@ pub(crate) struct Gap {
     pub label: Label,
     /// Its serial.
     pub serial: Serial,
-    /// What the events before it leave.
+    /// The counters after the events before it.
     pub left: Left,
     /// Whether the event right before it is a receive.
     is_behind_receive: bool,

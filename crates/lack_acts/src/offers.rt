@@ -18,7 +18,7 @@ pub(crate) struct Offer {
     pub gap: usize,
 }
 
-/// What is offered. It is asked for falling counts.
+/// Offers by their counts, for a caller that asks for falling counts.
 #[derive(Drop)]
 pub(crate) struct Offers {
     /// Those that reach up to the count that was asked for last.

@@ -1,4 +1,4 @@
--- What the events that were passed leave, and the gaps so far.
+-- Keeps what the events before this one leave, and their gaps.
 use Rattle.std.proofs.Common.{◌≡◌, take, All}
 use Rattle.st_core.specs.Streams.{events_of}
 use Rattle.lack_needs.specs.Flaws.{left_by}

@@ -1,4 +1,4 @@
--- What the events that were passed leave.
+-- Keeps what the events before this one leave.
 use Rattle.std.proofs.Common.{◌≡◌, take}
 use Rattle.lack_needs.specs.Flaws.{left_by}
 use Rattle.lack_acts.proofs.homes.left_by.Given as goal

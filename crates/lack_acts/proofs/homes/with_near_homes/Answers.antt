@@ -1,4 +1,4 @@
--- What is kept tells what was told, and so does what is made of it.
+-- The streams that are kept tell what was told, and so do those made of them.
 use Rattle.std.proofs.Common.{IfSome, ◌∙◌, ap, subst}
 use Rattle.std.proofs.lemmas.Option.{IfSome_then}
 use Rattle.st_plan.specs.Marks.{told_streams}
