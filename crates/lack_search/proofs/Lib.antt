@@ -1,1 +1,3 @@
--- No lemma is of the crate's own.
+-- The lemmas on what a candidate tells, and on lists.
+pub mod Telling
+pub mod Lists

@@ -1,4 +1,13 @@
--- For the parts alone: hidden sends and their receipts, and unlisted processes.
+-- For the parts alone, but for what a candidate tells.
 pub mod Sends
 pub mod Receipts
 pub mod Unlisted
+pub mod Walk
+pub mod Asks
+pub mod MergedEvents
+pub mod LostMessages
+pub mod Senders
+pub mod Inventions
+pub mod Positions
+pub mod Links
+pub mod Assembly

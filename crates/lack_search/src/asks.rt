@@ -1,8 +1,11 @@
 //! The stamps that ask for a message: sends and prints whose prev isn't what is before them
 //! leaves.
 
-use crate::entries::Entries;
+ghost use Rattle.std.specs.Prelude.{◌≡◌, ◌++◌, All, IfOk, OnOk};
+ghost use Rattle.lack_search.specs.Asks.{sent_for, AreGivenLost, HasNoInvention};
+
 use crate::hidden_sends::{HiddenSend, split_hidden};
+use crate::merged_events::MergedEvents;
 use crate::short::short;
 use lack_needs::{Left, is_stamp};
 use st_core::{Event, Kind, Label, Pid, Serial, Streams};
@@ -11,7 +14,7 @@ use std::cmp::Ordering;
 
 /// The message that a stamp gets.
 #[derive(Clone, Copy, PartialEq, Eq)]
-pub(crate) enum Message {
+pub(crate) enum GivenMessage {
     /// None.
     Missing,
     /// That of a reported send which nobody received, of this process and with this index there:
@@ -33,24 +36,18 @@ pub(crate) struct Ask {
     /// The stamp's prev.
     pub count: u64,
     /// What it got.
-    pub message: Message,
+    pub message: GivenMessage,
 }
 
 impl Ask {
-    /// The sender of the message that it got.
-    pub(crate) fn sender(&self) -> Option<Pid> {
-        match self.message {
-            Message::Missing => None,
-            Message::Lost(from, _) | Message::Invented(from, _) => Some(from),
-        }
-    }
-
     /// The send of the message that it got.
-    pub(crate) fn sent(&self, streams: &Streams) -> Option<Event> {
+    pub(crate) fn sent(&self, streams: &Streams) -> Option<Event>
+        ensures { result ≡ sent_for streams.now self.now self.now.message }
+    {
         match self.message {
-            Message::Missing => None,
-            Message::Lost(from, index) => streams.event(from, u64::from(index)),
-            Message::Invented(from, prev) => Some(Event {
+            GivenMessage::Missing => None,
+            GivenMessage::Lost(from, index) => streams.event(from, u64::from(index)),
+            GivenMessage::Invented(from, prev) => Some(Event {
                 label: self.label,
                 kind: Kind::Send,
                 to: Some(self.process),
@@ -83,7 +80,10 @@ impl Asks {
         index: usize,
         left: Left,
         event: &Event,
-    ) -> Result<(), AllocError> {
+    ) -> Result<(), AllocError>
+        requires { AreGivenLost self.old }
+        ensures { OnOk result (AreGivenLost self.new) }
+    {
         let count = event.serial.prev;
         if !is_stamp(event) || count == left.prev {
             return Ok(());
@@ -93,7 +93,7 @@ impl Asks {
             index: short(index),
             label: event.label,
             count,
-            message: Message::Missing,
+            message: GivenMessage::Missing,
         };
         match count.cmp(&left.greatest) {
             Ordering::Less => self.needs.push(ask)?,
@@ -105,11 +105,16 @@ impl Asks {
     }
 
     /// Notes what the events of a process ask for.
-    fn note_all(&mut self, process: Pid, entries: Entries<'_>) -> Result<(), AllocError> {
+    fn note_all(&mut self, process: Pid, mut events: MergedEvents<'_>) -> Result<(), AllocError>
+        requires { AreGivenLost self.old }
+        ensures { OnOk result (AreGivenLost self.new) }
+    {
         let mut left = Left::by_none();
-        for (index, entry) in entries.enumerate() {
-            self.note(process, index, left, &entry.event)?;
-            left = left.after(&entry.event);
+        let mut index: usize = 0;
+        while let Some(next) = events.take_next() {
+            self.note(process, index, left, &next.event)?;
+            left = left.after(&next.event);
+            index = index.saturating_add(1);
         }
         Ok(())
     }
@@ -119,7 +124,9 @@ impl Asks {
         alloc: Global,
         streams: &Streams,
         hidden: &[HiddenSend],
-    ) -> Result<Asks, AllocError> {
+    ) -> Result<Asks, AllocError>
+        ensures { IfOk result AreGivenLost }
+    {
         let mut asks = Asks {
             needs: Vec::new(alloc),
             beginnings: Vec::new(alloc),
@@ -127,20 +134,26 @@ impl Asks {
         let mut rest = hidden;
         for &pid in streams.pids() {
             let (own, later) = split_hidden(rest, pid);
-            asks.note_all(pid, Entries::new(streams, streams.events(pid), own, &[]))?;
+            asks.note_all(
+                pid,
+                MergedEvents::new(streams, streams.events(pid), own, &[]),
+            )?;
             rest = later;
         }
         Ok(asks)
     }
 
     /// All needs, and the beginnings that got a message, by process and index.
-    pub(crate) fn into_fed(self) -> Result<Vec<Ask>, AllocError> {
+    pub(crate) fn into_fed(self) -> Result<Vec<Ask>, AllocError>
+        requires { AreGivenLost self }
+        ensures { IfOk result (λ fed. All HasNoInvention fed.items) }
+    {
         let Asks {
             needs: mut fed,
             beginnings,
         } = self;
         for ask in &beginnings {
-            if ask.message != Message::Missing {
+            if ask.message != GivenMessage::Missing {
                 fed.push(*ask)?;
             }
         }
@@ -153,7 +166,9 @@ impl Asks {
 }
 
 /// The stamps that ask of the processes up to this one, and the others.
-pub(crate) fn split_asks(asks: &[Ask], pid: Pid) -> (&[Ask], &[Ask]) {
+pub(crate) fn split_asks(asks: &[Ask], pid: Pid) -> (&[Ask], &[Ask])
+    ensures { result.0.now ++ result.1.now ≡ asks.now }
+{
     let count = asks.partition_point(|ask| ask.process <= pid);
     asks.split_at(count)
 }

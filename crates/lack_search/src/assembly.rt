@@ -1,14 +1,22 @@
 //! The whole streams of a candidate, put together from its parts.
 
+ghost use Rattle.std.specs.Prelude.{◌≡◌, [], IfOk, IfSome, OnOk};
+ghost use Rattle.lack_search.specs.Assembly.{streams_of_pids, AddsTold, IsAdded, IsUnderWay, TellsStreams};
+ghost use Rattle.lack_search.specs.MergedEvents.{told_if};
+ghost use Rattle.lack_search.specs.Unlisted.{AreUnlisted};
+ghost use Rattle.lack_needs.specs.Completions.{wholes_with};
+ghost use Rattle.st_plan.specs.Marks.{told_streams};
+
 use crate::asks::{Ask, split_asks};
-use crate::candidate::{Candidate, items_from};
-use crate::entries::{Entries, Origin};
+use crate::candidate::Candidate;
 use crate::hidden_sends::{HiddenSend, split_hidden};
-use crate::inventions::Invention;
+use crate::inventions::{Invention, split_inventions};
 use crate::links::links_of;
+use crate::merged_events::{MergedEvents, Origin};
 use crate::positions::Positions;
 use crate::short::short;
-use st_core::{Draft, Event, Pid, Sequence, Streams};
+use lack_needs::pids_with;
+use st_core::{Draft, Event, Pid, Sequence, Streams, is_rising};
 use st_pair::Pairing;
 use std::alloc::{AllocError, Global};
 use std::mem::replace;
@@ -29,7 +37,6 @@ pub(crate) struct Parts {
 /// Whole streams that are being put together, with the parts that are left.
 #[derive(Drop)]
 struct Assembly<'a> {
-    streams: &'a Streams,
     draft: Draft,
     /// Where the events are that were added.
     positions: Positions,
@@ -40,34 +47,15 @@ struct Assembly<'a> {
     inventions_left: &'a [Invention],
 }
 
-/// All pids of the candidate, by rising pid.
-fn all_pids(alloc: Global, streams: &Streams, unlisted: &[Pid]) -> Result<Vec<Pid>, AllocError> {
-    let mut pids = Vec::new(alloc);
-    pids.extend_from_slice(streams.pids())?;
-    pids.extend_from_slice(unlisted)?;
-    pids.sort()?;
-    Ok(pids)
-}
-
-/// The invented sends of the processes up to this one, and the others.
-fn split_inventions(inventions: &[Invention], pid: Pid) -> (&[Invention], &[Invention]) {
-    let count = inventions.partition_point(|invention| invention.sender <= pid);
-    inventions.split_at(count)
-}
-
 impl<'a> Assembly<'a> {
-    /// Streams with these processes, to which nothing was added yet.
-    fn open(
-        alloc: Global,
-        streams: &'a Streams,
-        pids: &[Pid],
-        parts: &'a Parts,
-    ) -> Result<Assembly<'a>, AllocError> {
-        let positions = Positions::new(alloc, streams, parts)?;
+    /// No processes yet.
+    fn new(alloc: Global, streams: &Streams, parts: &'a Parts) -> Result<Assembly<'a>, AllocError>
+        ensures draft { IfOk result (λ assembly. assembly.draft ≡ []) }
+        ensures marks { IfOk result (λ assembly. assembly.marks.items ≡ []) }
+    {
         Ok(Assembly {
-            streams,
-            draft: open_draft(alloc, pids)?,
-            positions,
+            draft: Draft::new(alloc),
+            positions: Positions::new(alloc, streams, parts)?,
             marks: Vec::new(alloc),
             hidden_left: &parts.hidden,
             fed_left: &parts.fed,
@@ -75,14 +63,25 @@ impl<'a> Assembly<'a> {
         })
     }
 
-    /// Makes room for so many events of the process.
-    fn make_room(&mut self, pid: Pid, most: usize) -> Result<(), AllocError> {
+    /// Begins the next process, with room for so many events.
+    fn begin(&mut self, streams: &Streams, pid: Pid, most: usize) -> Result<(), AllocError>
+        requires { self.old.marks.items ≡ [] }
+        ensures { OnOk result (IsUnderWay self.old.draft pid [] self.new) }
+    {
+        let Ok(()) = self.draft.open(pid) else {
+            return Err(AllocError);
+        };
+        if streams.place_of(pid).is_some() {
+            self.positions.begin()?;
+        }
         self.draft.reserve(pid, most)?;
         self.marks.reserve(most)
     }
 
     /// Adds an event of the process.
-    fn add(&mut self, pid: Pid, event: Event, origin: Origin) -> Result<(), AllocError> {
+    fn add(&mut self, pid: Pid, event: Event, origin: Origin) -> Result<(), AllocError>
+        ensures { OnOk result (AddsTold pid (told_if origin event) self.old self.new) }
+    {
         let Ok(()) = self.draft.add(pid, event) else {
             return Err(AllocError);
         };
@@ -97,14 +96,16 @@ impl<'a> Assembly<'a> {
         pid: Pid,
         sends: &'b [Invention],
         most: u64,
-    ) -> Result<&'b [Invention], AllocError> {
+    ) -> Result<&'b [Invention], AllocError>
+        ensures { OnOk result (AddsTold pid [] self.old self.new) }
+    {
         let mut left = sends;
-        for invention in sends {
-            if invention.count > most {
+        while let Some((send, others)) = left.split_first() {
+            if send.count > most {
                 return Ok(left);
             }
-            self.add(pid, invention.sent(), Origin::Invented)?;
-            left = items_from(left, 1);
+            self.add(pid, send.sent(), Origin::Invented)?;
+            left = others;
         }
         Ok(left)
     }
@@ -113,48 +114,74 @@ impl<'a> Assembly<'a> {
     fn add_process(
         &mut self,
         pid: Pid,
-        entries: Entries<'_>,
+        mut events: MergedEvents<'_>,
         sends: &[Invention],
-    ) -> Result<(), AllocError> {
+    ) -> Result<(), AllocError>
+        ensures { OnOk result (AddsTold pid events.entry.reported.now self.old self.new) }
+    {
         let mut left = sends;
-        for entry in entries {
-            left = self.add_sends(pid, left, entry.event.serial.this)?;
-            self.add(pid, entry.event, entry.origin)?;
+        while let Some(next) = events.take_next() {
+            left = self.add_sends(pid, left, next.event.serial.this)?;
+            self.add(pid, next.event, next.origin)?;
         }
         self.add_sends(pid, left, u64::MAX)?;
         Ok(())
     }
 
     /// Adds all events of the next process, and returns their marks.
-    fn add_next(&mut self, alloc: Global, pid: Pid) -> Result<Vec<bool>, AllocError> {
+    fn add_next(
+        &mut self,
+        alloc: Global,
+        streams: &Streams,
+        pid: Pid,
+    ) -> Result<Vec<bool>, AllocError>
+        requires { self.old.marks.items ≡ [] }
+        ensures added { IfOk result
+            (λ marks. IsAdded streams.now pid self.old.draft self.new.draft marks.items) }
+        ensures marks { OnOk result (self.new.marks.items ≡ []) }
+    {
         let (hidden, hidden_left) = split_hidden(self.hidden_left, pid);
         let (fed, fed_left) = split_asks(self.fed_left, pid);
         let (sends, inventions_left) = split_inventions(self.inventions_left, pid);
         self.hidden_left = hidden_left;
         self.fed_left = fed_left;
         self.inventions_left = inventions_left;
-        let reported = self.streams.events(pid);
-        if self.streams.place_of(pid).is_some() {
-            self.positions.begin()?;
-        }
-        let entries = Entries::new(self.streams, reported, hidden, fed);
-        self.make_room(pid, entries.most().saturating_add(sends.len()))?;
-        self.add_process(pid, entries, sends)?;
+        let reported = streams.events(pid);
+        let received = reported.len().saturating_add(fed.len());
+        let sent = hidden.len().saturating_add(sends.len());
+        self.begin(streams, pid, received.saturating_add(sent))?;
+        self.add_process(
+            pid,
+            MergedEvents::new(streams, reported, hidden, fed),
+            sends,
+        )?;
         Ok(replace(&mut self.marks, Vec::new(alloc)))
     }
 
     /// Adds all events of these processes, and returns the marks of each.
-    fn add_all(&mut self, alloc: Global, pids: &[Pid]) -> Result<Vec<Sequence<bool>>, AllocError> {
+    fn add_all(
+        &mut self,
+        alloc: Global,
+        streams: &Streams,
+        pids: &[Pid],
+    ) -> Result<Vec<Sequence<bool>>, AllocError>
+        requires draft { self.old.draft ≡ [] }
+        requires marks { self.old.marks.items ≡ [] }
+        ensures { IfOk result (λ told. told_streams (wholes_with self.new.draft told.items)
+            ≡ streams_of_pids streams.now pids.now) }
+    {
         let mut told = Vec::with_capacity(alloc, pids.len())?;
         for &pid in pids {
-            let marks = self.add_next(alloc, pid)?;
+            let marks = self.add_next(alloc, streams, pid)?;
             told.push(Sequence::from_vec(marks))?;
         }
         Ok(told)
     }
 
     /// The draft of all that was added, and where it is.
-    fn into_draft(self) -> (Draft, Positions) {
+    fn into_draft(self) -> (Draft, Positions)
+        ensures { result.0 ≡ self.entry.draft }
+    {
         let Assembly {
             draft,
             positions,
@@ -164,27 +191,23 @@ impl<'a> Assembly<'a> {
     }
 }
 
-/// The draft of streams with these processes, without events.
-fn open_draft(alloc: Global, pids: &[Pid]) -> Result<Draft, AllocError> {
-    let mut draft = Draft::new(alloc);
-    for &pid in pids {
-        let Ok(()) = draft.open(pid) else {
-            return Err(AllocError);
-        };
-    }
-    Ok(draft)
-}
-
 /// The streams with what is added; nothing if the parts don't make streams.
 pub(crate) fn assemble(
     alloc: Global,
     streams: &Streams,
     pairing: &Pairing,
     parts: Parts,
-) -> Result<Option<Candidate>, AllocError> {
-    let pids = all_pids(alloc, streams, &parts.unlisted)?;
-    let mut assembly = Assembly::open(alloc, streams, &pids, &parts)?;
-    let told = assembly.add_all(alloc, &pids)?;
+) -> Result<Option<Candidate>, AllocError>
+    requires { AreUnlisted streams.now parts.unlisted.items }
+    ensures { IfOk result (λ found. IfSome found (TellsStreams streams.now)) }
+{
+    if !is_rising(&parts.unlisted) {
+        return Ok(None);
+    }
+    let _pids = streams.pids();
+    let pids = pids_with(alloc, streams, &parts.unlisted)?;
+    let mut assembly = Assembly::new(alloc, streams, &parts)?;
+    let told = assembly.add_all(alloc, streams, &pids)?;
     let (draft, positions) = assembly.into_draft();
     let Ok(whole) = draft.close() else {
         return Ok(None);

@@ -4,13 +4,19 @@
 //! same streams, in nearly linear time:
 //!
 //! 1. Hidden sends get places among their process's receives (`walk`).
-//! 2. Messages that were sent and never received are given to stamps that ask for them (`lost`).
+//! 2. Messages that were sent and never received are given to stamps that ask for them
+//!    (`lost_messages`).
 //! 3. The needs that are left get messages that are invented, of listed processes that stamp their
 //!    count nowhere, then of processes that the streams don't list (`senders`, `inventions`).
 
-use crate::asks::{Ask, Asks};
+ghost use Rattle.std.specs.Prelude.{IfOk, IfSome};
+ghost use Rattle.lack_search.specs.Assembly.{TellsStreams};
+ghost use Rattle.lack_search.specs.Sends.{AreSendsIn};
+ghost use Rattle.lack_search.specs.Unlisted.{AreUnlisted};
+
+use crate::asks::Asks;
 use crate::assembly::{Parts, assemble};
-use crate::hidden_sends::{HiddenSend, hidden_sends};
+use crate::hidden_sends::hidden_sends;
 use crate::inventions::invent;
 use crate::lost_messages::give_lost;
 use crate::senders::{Senders, find_senders};
@@ -34,49 +40,16 @@ pub struct Candidate {
     pub unlisted: Vec<Pid>,
 }
 
-/// The items from this index on.
-pub(crate) fn items_from<T>(items: &[T], index: usize) -> &[T] {
-    if index < items.len() {
-        return &items[index..];
-    }
-    &[]
-}
-
-/// The items from one index on and before another.
-pub(crate) fn items_between<T>(items: &[T], start: usize, end: usize) -> &[T] {
-    if start <= end && end <= items.len() {
-        return &items[start..end];
-    }
-    &[]
-}
-
-/// The hidden sends, at their places.
-fn hidden_in_place(
-    alloc: Global,
-    streams: &Streams,
-    pairing: &Pairing,
-) -> Result<Vec<HiddenSend>, AllocError> {
+/// The parts that are added to the streams.
+fn parts_of(alloc: Global, streams: &Streams, pairing: &Pairing) -> Result<Parts, AllocError>
+    ensures hidden { IfOk result (λ parts. AreSendsIn streams.now parts.hidden.items) }
+    ensures unlisted { IfOk result (λ parts. AreUnlisted streams.now parts.unlisted.items) }
+{
     let mut hidden = hidden_sends(alloc, streams, pairing)?;
     place_hidden(alloc, streams, &mut hidden)?;
-    Ok(hidden)
-}
-
-/// The stamps that ask for messages, with the lost ones that they get.
-fn fed_by_lost(
-    alloc: Global,
-    streams: &Streams,
-    pairing: &Pairing,
-    hidden: &[HiddenSend],
-) -> Result<Vec<Ask>, AllocError> {
-    let mut asks = Asks::of(alloc, streams, hidden)?;
+    let mut asks = Asks::of(alloc, streams, &hidden)?;
     give_lost(alloc, streams, pairing, &mut asks)?;
-    asks.into_fed()
-}
-
-/// What is added to the streams.
-fn parts_of(alloc: Global, streams: &Streams, pairing: &Pairing) -> Result<Parts, AllocError> {
-    let hidden = hidden_in_place(alloc, streams, pairing)?;
-    let mut fed = fed_by_lost(alloc, streams, pairing, &hidden)?;
+    let mut fed = asks.into_fed()?;
     let Senders {
         turns,
         senders,
@@ -92,13 +65,16 @@ fn parts_of(alloc: Global, streams: &Streams, pairing: &Pairing) -> Result<Parts
 }
 
 /// Builds the candidate of streams of which no reason holds: pairing accepts them, no event is
-/// late, none is unfounded, none counts too high. Nothing has to hold of what it builds: the judge
-/// looks at all of it. It returns none only if what it builds isn't streams, which never happens.
+/// late, none is unfounded, none counts too high. The judge finds out whether anything is missing in
+/// it. It returns none only if what it builds isn't streams, or if a further process was found
+/// twice; no test has seen either.
 pub fn build_candidate(
     alloc: Global,
     streams: &Streams,
     pairing: &Pairing,
-) -> Result<Option<Candidate>, AllocError> {
+) -> Result<Option<Candidate>, AllocError>
+    ensures { IfOk result (λ found. IfSome found (TellsStreams streams.now)) }
+{
     let parts = parts_of(alloc, streams, pairing)?;
     assemble(alloc, streams, pairing, parts)
 }

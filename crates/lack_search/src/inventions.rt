@@ -1,10 +1,14 @@
 //! The sends of the messages that are invented, and their prevs.
 
-use crate::asks::{Ask, Message, split_asks};
-use crate::entries::Entries;
+ghost use Rattle.std.specs.Prelude.{◌≡◌, ◌++◌, [], length, vec_len, All, Contains, IfOk, IfSome, OnOk};
+ghost use Rattle.std.specs.Option.{option_copied};
+ghost use Rattle.lack_search.specs.Inventions.{prev_before, sent_as, without_messages, IsSendFor, LeavesPrevs};
+
+use crate::asks::{Ask, GivenMessage, split_asks};
 use crate::hidden_sends::{HiddenSend, split_hidden};
+use crate::merged_events::MergedEvents;
 use crate::senders::Turn;
-use crate::sorting::Places;
+use crate::sorting::sorted_by_number;
 use lack_needs::{Left, is_stamp};
 use st_core::{Event, Kind, Label, Pid, Serial, Streams};
 use std::alloc::{AllocError, Global};
@@ -28,21 +32,10 @@ pub(crate) struct Invention {
 }
 
 impl Invention {
-    /// What is in a list of sends before its sends are put there.
-    fn blank() -> Invention {
-        let nobody = Pid::on(0, 0);
-        Invention {
-            count: 0,
-            prev: 0,
-            sender: nobody,
-            to: nobody,
-            label: Label(0),
-            ask: 0,
-        }
-    }
-
     /// The send itself.
-    pub(crate) fn sent(&self) -> Event {
+    pub(crate) fn sent(&self) -> Event
+        ensures { result ≡ sent_as self.now }
+    {
         Event {
             label: self.label,
             kind: Kind::Send,
@@ -57,10 +50,20 @@ impl Invention {
     }
 }
 
+/// The invented sends of the processes up to this one, and the others.
+pub(crate) fn split_inventions(inventions: &[Invention], pid: Pid) -> (&[Invention], &[Invention])
+    ensures { result.0.now ++ result.1.now ≡ inventions.now }
+{
+    let count = inventions.partition_point(|invention| invention.sender <= pid);
+    inventions.split_at(count)
+}
+
 /// The prev of an invented send before an event: what is before leaves, so that it costs
 /// nothing; or the event's own prev, if that lies between the clock and the send's count. Then the
 /// trace of the event begins before the invented send, and the event costs nothing behind it.
-fn prev_before(left: Left, count: u64, next: Option<&Event>) -> u64 {
+fn prev_before(left: Left, count: u64, next: Option<&Event>) -> u64
+    ensures { result ≡ prev_before left count (option_copied next.entry) }
+{
     match next {
         Some(event)
             if is_stamp(event) && left.greatest <= event.serial.prev && event.serial.prev < count =>
@@ -72,144 +75,165 @@ fn prev_before(left: Left, count: u64, next: Option<&Event>) -> u64 {
 /// The invented sends of one process, on a walk over its events.
 #[derive(Drop)]
 struct Inventor<'a> {
-    inventions: &'a mut [Invention],
-    /// How many of them have their prevs.
-    done: usize,
+    /// The sends that have no prev yet.
+    inventions: &'a [Invention],
     /// What is before leaves.
     left: Left,
+    /// The prevs of all sends so far.
+    prevs: Vec<u64>,
 }
 
 impl Inventor<'_> {
-    /// Gives prevs to the sends that are before this event, or to all if there is no more event.
-    fn come_to(&mut self, next: Option<&Event>) {
-        for number in self.done..self.inventions.len() {
-            let Some(invention) = self.inventions.get_mut(number) else {
-                return;
-            };
+    /// Finds the prevs of the sends that are before this event, or of all if there is no more event.
+    fn come_to(&mut self, next: Option<&Event>) -> Result<(), AllocError>
+        ensures prevs { OnOk result (LeavesPrevs self.old self.new) }
+        ensures all { next.entry ≡ None → OnOk result (self.new.inventions.now ≡ []) }
+    {
+        while let Some((invention, others)) = self.inventions.split_first() {
             let count = invention.count;
             if next.is_some_and(|event| event.serial.this < count) {
-                return;
+                return Ok(());
             }
-            invention.prev = prev_before(self.left, count, next);
+            let prev = prev_before(self.left, count, next);
+            self.prevs.push(prev)?;
             self.left = Left {
                 greatest: self.left.greatest.max(count),
-                prev: invention.prev,
+                prev,
             };
-            self.done = number.saturating_add(1);
+            self.inventions = others;
         }
+        Ok(())
     }
 
-    /// Gives prevs to all sends.
-    fn walk(&mut self, entries: Entries<'_>) {
-        for entry in entries {
-            self.come_to(Some(&entry.event));
-            self.left = self.left.after(&entry.event);
+    /// Finds the prevs of all sends.
+    fn walk(&mut self, mut events: MergedEvents<'_>) -> Result<(), AllocError>
+        ensures prevs { OnOk result (LeavesPrevs self.old self.new) }
+        ensures all { OnOk result (self.new.inventions.now ≡ []) }
+    {
+        while let Some(next) = events.take_next() {
+            self.come_to(Some(&next.event))?;
+            self.left = self.left.after(&next.event);
         }
-        self.come_to(None);
+        self.come_to(None)
     }
 }
 
-/// Gives their prevs to invented sends, which come by sender and count. A process that the streams
+/// Finds the prevs of invented sends, which come by sender and count. A process that the streams
 /// don't list sends all of its messages with prev 0.
-fn give_prevs(streams: &Streams, hidden: &[HiddenSend], fed: &[Ask], inventions: &mut [Invention]) {
+fn prevs_of(
+    alloc: Global,
+    streams: &Streams,
+    hidden: &[HiddenSend],
+    fed: &[Ask],
+    inventions: &[Invention],
+) -> Result<Vec<u64>, AllocError>
+    ensures { IfOk result (λ prevs. vec_len prevs ≡ length inventions.now) }
+{
+    let mut inventor = Inventor {
+        inventions: &[],
+        left: Left::by_none(),
+        prevs: Vec::new(alloc),
+    };
     let mut hidden_left = hidden;
     let mut fed_left = fed;
     let mut left = inventions;
     for &pid in streams.pids() {
         let (own_hidden, later_hidden) = split_hidden(hidden_left, pid);
         let (own_fed, later_fed) = split_asks(fed_left, pid);
-        let others = left.partition_point(|invention| invention.sender < pid);
-        let (_, listed) = left.split_at_mut(others);
-        let count = listed.partition_point(|invention| invention.sender <= pid);
-        let (own, later) = listed.split_at_mut(count);
-        if !own.is_empty() {
-            let mut inventor = Inventor {
-                inventions: own,
-                done: 0,
-                left: Left::by_none(),
-            };
-            inventor.walk(Entries::new(streams, streams.events(pid), own_hidden, own_fed));
+        let (sends, later) = split_inventions(left, pid);
+        let others = sends.partition_point(|invention| invention.sender < pid);
+        let known = inventor.prevs.len().saturating_add(others);
+        inventor.prevs.resize(known, 0)?;
+        inventor.inventions = &sends[others..];
+        inventor.left = Left::by_none();
+        if others < sends.len() {
+            let events = streams.events(pid);
+            inventor.walk(MergedEvents::new(streams, events, own_hidden, own_fed))?;
         }
         hidden_left = later_hidden;
         fed_left = later_fed;
         left = later;
     }
+    let Inventor { mut prevs, .. } = inventor;
+    prevs.resize(inventions.len(), 0)?;
+    Ok(prevs)
 }
 
-/// Tells the stamps that get invented messages the prevs of these. They know of prev 0.
-fn note_prevs(fed: &mut [Ask], inventions: &[Invention]) {
-    for invention in inventions.iter().filter(|invention| invention.prev != 0) {
-        if let Some(ask) = fed.get_mut(invention.ask as usize) {
-            ask.message = Message::Invented(invention.sender, invention.prev);
+/// Gives invented sends their prevs, and tells the stamps that get their messages. Both know of
+/// prev 0.
+fn set_prevs(sends: &mut [Invention], fed: &mut [Ask], prevs: &[u64])
+    ensures { without_messages fed.new ≡ without_messages fed.old }
+{
+    for (number, &prev) in prevs.iter().enumerate() {
+        if prev != 0 && number < sends.len() {
+            sends[number].prev = prev;
+            let sender = sends[number].sender;
+            let place = sends[number].ask as usize;
+            if place < fed.len() {
+                fed[place].message = GivenMessage::Invented(sender, prev);
+            }
         }
     }
 }
 
-/// How many sends pay for a table of all numbers of a node.
-const MANY: usize = 1 << 16;
-
 /// The send, with prev 0, of a message for the stamp whose turn it is, which learns of it.
-fn give(fed: &mut [Ask], turn: Turn, sender: Pid) -> Option<Invention> {
-    let ask = fed.get_mut(turn.ask as usize)?;
-    ask.message = Message::Invented(sender, 0);
+fn give(fed: &mut [Ask], turn: Turn, sender: Pid) -> Option<Invention>
+    ensures send { IfSome result (IsSendFor turn sender) }
+    ensures stamps { without_messages fed.new ≡ without_messages fed.old }
+{
+    let place = turn.ask as usize;
+    if place >= fed.len() {
+        return None;
+    }
+    fed[place].message = GivenMessage::Invented(sender, 0);
     Some(Invention {
         count: turn.count,
         prev: 0,
         sender,
-        to: ask.process,
-        label: ask.label,
+        to: fed[place].process,
+        label: fed[place].label,
         ask: turn.ask,
     })
 }
 
-/// Gives these stamps the messages of their senders. Returns the sends, with prev 0, by sender and
-/// count.
+/// Gives these stamps the messages of their senders. Returns the sends, with prev 0.
 fn give_all(
     alloc: Global,
     turns: &[Turn],
     senders: &[Pid],
     fed: &mut [Ask],
-) -> Result<Vec<Invention>, AllocError> {
-    let is_sorted = senders.is_sorted();
-    if !is_sorted && senders.len() >= MANY && is_one_node(senders) {
-        return deal_sends(alloc, turns, senders, fed);
-    }
+) -> Result<Vec<Invention>, AllocError>
+    ensures { OnOk result (without_messages fed.new ≡ without_messages fed.old) }
+{
     let mut sends = Vec::with_capacity(alloc, turns.len())?;
     for (turn, sender) in turns.iter().zip(senders) {
         if let Some(send) = give(fed, *turn, *sender) {
             sends.push(send)?;
         }
     }
-    if !is_sorted {
-        sends.sort_by_key(|send| send.sender)?;
-    }
     Ok(sends)
 }
 
-/// Whether these processes are on one node.
-fn is_one_node(pids: &[Pid]) -> bool {
-    let Some(first) = pids.first() else {
-        return true;
-    };
-    pids.iter().all(|pid| pid.node() == first.node())
-}
+/// How many sends pay for a table of all numbers of a node.
+const MANY: usize = 1 << 16;
 
-/// As `give_all`, if all senders are on one node, in a time linear in the sends and the numbers of a
-/// node.
-fn deal_sends(
-    alloc: Global,
-    turns: &[Turn],
-    senders: &[Pid],
-    fed: &mut [Ask],
-) -> Result<Vec<Invention>, AllocError> {
-    let number_of = |pid: &Pid| Some(usize::from(pid.number()));
-    let mut places = Places::of(alloc, senders, usize::from(u16::MAX), &number_of)?;
-    let mut sends = vec![in alloc; Invention::blank(); senders.len()]?;
-    for (turn, sender) in turns.iter().zip(senders) {
-        if let Some(send) = give(fed, *turn, *sender) {
-            places.put(&mut sends, usize::from(sender.number()), send);
-        }
+/// These sends by sender, and those of one sender as they stood.
+fn sends_by_sender(alloc: Global, mut sends: Vec<Invention>) -> Result<Vec<Invention>, AllocError>
+    ensures count { IfOk result (λ sorted. vec_len sorted ≡ vec_len sends) }
+    ensures sends { IfOk result (λ sorted. All (Contains sends.items) sorted.items) }
+{
+    if sends.is_sorted_by_key(|send| send.sender) {
+        return Ok(sends);
     }
+    let node = match sends.first() {
+        None => 0,
+        Some(first) => first.sender.node(),
+    };
+    if sends.len() >= MANY && sends.iter().all(|send| send.sender.node() == node) {
+        let number_of = |send: &Invention| usize::from(send.sender.number());
+        return sorted_by_number(alloc, &sends, usize::from(u16::MAX), &number_of);
+    }
+    sends.sort_by_key(|send| send.sender)?;
     Ok(sends)
 }
 
@@ -222,9 +246,12 @@ pub(crate) fn invent(
     fed: &mut [Ask],
     turns: &[Turn],
     senders: &[Pid],
-) -> Result<Vec<Invention>, AllocError> {
-    let mut sends = give_all(alloc, turns, senders, fed)?;
-    give_prevs(streams, hidden, fed, &mut sends);
-    note_prevs(fed, &sends);
+) -> Result<Vec<Invention>, AllocError>
+    ensures { OnOk result (without_messages fed.new ≡ without_messages fed.old) }
+{
+    let sends = give_all(alloc, turns, senders, fed)?;
+    let mut sends = sends_by_sender(alloc, sends)?;
+    let prevs = prevs_of(alloc, streams, hidden, fed, &sends)?;
+    set_prevs(&mut sends, fed, &prevs);
     Ok(sends)
 }

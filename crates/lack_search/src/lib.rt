@@ -1,19 +1,18 @@
-//! Nothing is proved of a whole candidate but that building it is safe and returns. `lack_decide`
-//! judges all of it, and a wrong candidate or link costs time and no more. Hidden sends, stretches
-//! and unlisted processes have clauses.
+//! Whole streams that may be a completion of streams, and which sends and receives of them are
+//! paired.
 //!
-//! `build_candidate` builds whole streams that may be a completion of streams, and pairs their sends
-//! and receives.
+//! It is proved that a candidate tells the streams. Whether anything is missing in it isn't: the
+//! judge of `lack_decide` looks at all of it, and a wrong part or link costs time and no more.
 #![tactic(auto)]
 
 mod asks;
 mod assembly;
 mod candidate;
-mod entries;
 mod hidden_sends;
 mod inventions;
 mod links;
 mod lost_messages;
+mod merged_events;
 mod positions;
 mod senders;
 mod short;

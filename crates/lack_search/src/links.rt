@@ -3,7 +3,11 @@
 //! searched. The judge looks at both ends of a message before it believes them, so nothing has to
 //! hold of what is found here.
 
-use crate::asks::{Ask, Message};
+ghost use Rattle.std.specs.Prelude.{◌≡◌, length, map, vec_len, IfOk, IfSome};
+ghost use Rattle.st_core.specs.Run.{pids_of};
+ghost use Rattle.lack_search.specs.Links.{event_counts, lengths_of, IsMessageEndIn, KeepsShape};
+
+use crate::asks::{Ask, GivenMessage};
 use crate::assembly::Parts;
 use crate::hidden_sends::HiddenSend;
 use crate::inventions::Invention;
@@ -14,7 +18,7 @@ use std::alloc::{AllocError, Global};
 
 /// One end of a message: an event of the whole streams.
 #[derive(Clone, Copy)]
-struct End {
+struct MessageEnd {
     /// The place of its process.
     process: usize,
     /// Its index there.
@@ -34,28 +38,38 @@ struct Linker<'a> {
 
 impl Linker<'_> {
     /// The end at an event of this process, by its index in the whole streams.
-    fn end_at(&self, pid: Pid, index: u32) -> Option<End> {
+    fn end_at(&self, pid: Pid, index: u32) -> Option<MessageEnd>
+        ensures { IfSome result (IsMessageEndIn self.now.whole.now pid) }
+    {
         let process = self.whole.place_of(pid)?;
-        Some(End { process, index })
+        Some(MessageEnd { process, index })
     }
 
     /// The end at a reported event.
-    fn end_at_reported(&self, pid: Pid, index: usize) -> Option<End> {
+    fn end_at_reported(&self, pid: Pid, index: usize) -> Option<MessageEnd>
+        ensures { IfSome result (IsMessageEndIn self.now.whole.now pid) }
+    {
         let process = self.streams.place_of(pid)?;
         self.end_at(pid, self.positions.of_reported(process, index)?)
     }
 
     /// Notes what is at the other end of the message at this one.
-    fn note(&mut self, end: End, other: End) {
-        if let Some(row) = self.rows.get_mut(end.process) {
-            if let Some(slot) = row.get_mut(end.index as usize) {
-                *slot = other.index;
+    fn note(&mut self, end: MessageEnd, other: MessageEnd)
+        ensures { KeepsShape self.old self.new }
+    {
+        if end.process < self.rows.len() {
+            let row = &mut self.rows[end.process];
+            let index = end.index as usize;
+            if index < row.len() {
+                row[index] = other.index;
             }
         }
     }
 
     /// Links both ends of a message.
-    fn link(&mut self, send: Option<End>, receive: Option<End>) {
+    fn link(&mut self, send: Option<MessageEnd>, receive: Option<MessageEnd>)
+        ensures { KeepsShape self.old self.new }
+    {
         if let (Some(sent), Some(received)) = (send, receive) {
             self.note(sent, received);
             self.note(received, sent);
@@ -63,7 +77,9 @@ impl Linker<'_> {
     }
 
     /// Links the reported sends of a process with their reported receives.
-    fn link_reported(&mut self, pairing: &Pairing, pid: Pid, events: &[Event]) {
+    fn link_reported(&mut self, pairing: &Pairing, pid: Pid, events: &[Event])
+        ensures { KeepsShape self.old self.new }
+    {
         for (index, event) in events.iter().enumerate() {
             if event.kind != Kind::Send {
                 continue;
@@ -76,8 +92,10 @@ impl Linker<'_> {
     }
 
     /// Links hidden sends with their receives.
-    fn link_hidden(&mut self, hidden: &[HiddenSend]) {
-        for (send, &index) in hidden.iter().zip(self.positions.hidden()) {
+    fn link_hidden(&mut self, hidden: &[HiddenSend])
+        ensures { KeepsShape self.old self.new }
+    {
+        for (send, &index) in hidden.iter().zip(&self.positions.hidden) {
             if let Some(to) = send.event.to {
                 let received = self.end_at_reported(to, send.receipt as usize);
                 self.link(self.end_at(send.event.from, index), received);
@@ -86,9 +104,11 @@ impl Linker<'_> {
     }
 
     /// Links the sends whose receives were lost.
-    fn link_lost(&mut self, fed: &[Ask]) {
-        for (ask, &index) in fed.iter().zip(self.positions.fed()) {
-            if let Message::Lost(from, sent) = ask.message {
+    fn link_lost(&mut self, fed: &[Ask])
+        ensures { KeepsShape self.old self.new }
+    {
+        for (ask, &index) in fed.iter().zip(&self.positions.fed) {
+            if let GivenMessage::Lost(from, sent) = ask.message {
                 let received = self.end_at(ask.process, index);
                 self.link(self.end_at_reported(from, sent as usize), received);
             }
@@ -96,9 +116,11 @@ impl Linker<'_> {
     }
 
     /// Links invented sends with their receives.
-    fn link_invented(&mut self, inventions: &[Invention]) {
-        for (invention, &index) in inventions.iter().zip(self.positions.invented()) {
-            if let Some(received) = self.positions.of_fed(invention.ask as usize) {
+    fn link_invented(&mut self, inventions: &[Invention])
+        ensures { KeepsShape self.old self.new }
+    {
+        for (invention, &index) in inventions.iter().zip(&self.positions.invented) {
+            if let Some(&received) = self.positions.fed.get(invention.ask as usize) {
                 let end = self.end_at(invention.to, received);
                 self.link(self.end_at(invention.sender, index), end);
             }
@@ -106,7 +128,9 @@ impl Linker<'_> {
     }
 
     /// The links.
-    fn into_links(self, alloc: Global) -> Result<Vec<Sequence<u32>>, AllocError> {
+    fn into_links(self, alloc: Global) -> Result<Vec<Sequence<u32>>, AllocError>
+        ensures { IfOk result (λ links. map length links.items ≡ lengths_of self.entry) }
+    {
         let Linker {
             streams: _,
             whole: _,
@@ -122,7 +146,9 @@ impl Linker<'_> {
 }
 
 /// No links yet of the events of whole streams.
-fn no_links(alloc: Global, whole: &Streams) -> Result<Vec<Vec<u32>>, AllocError> {
+fn no_links(alloc: Global, whole: &Streams) -> Result<Vec<Vec<u32>>, AllocError>
+    ensures { IfOk result (λ rows. map (λ row. length row.items) rows.items ≡ event_counts whole.now) }
+{
     let mut rows = Vec::with_capacity(alloc, whole.pids().len())?;
     for &pid in whole.pids() {
         rows.push(vec![in alloc; 0u32; whole.events(pid).len()]?)?;
@@ -138,7 +164,9 @@ pub(crate) fn links_of(
     parts: &Parts,
     positions: &Positions,
     whole: &Streams,
-) -> Result<Vec<Sequence<u32>>, AllocError> {
+) -> Result<Vec<Sequence<u32>>, AllocError>
+    ensures { IfOk result (λ links. map length links.items ≡ event_counts whole.now) }
+{
     let mut linker = Linker {
         streams,
         whole,

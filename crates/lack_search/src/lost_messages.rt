@@ -5,9 +5,11 @@
 //! one from a need. If all sends were reported there are as many such sends as needs, so that no
 //! message is invented.
 
-use crate::asks::{Ask, Asks, Message};
-use crate::candidate::items_from;
-use crate::short::short;
+ghost use Rattle.std.specs.Prelude.{◌≡◌, ◌≤◌, false, length, slice_get, All, IfOk, IfSome, OnOk};
+ghost use Rattle.lack_search.specs.Asks.{AreGivenLost, HasNoInvention};
+ghost use Rattle.lack_search.specs.LostMessages.{key_of, AreLostIn};
+
+use crate::asks::{Ask, Asks, GivenMessage};
 use st_core::{Event, Kind, Label, Pid, Streams};
 use st_pair::Pairing;
 use std::alloc::{AllocError, Global};
@@ -41,61 +43,64 @@ enum Choice {
 /// What a stamp and a message must have in common: the receiver, the count, and the label where it
 /// counts, else no label.
 #[derive(Clone, Copy, PartialEq, Eq, PartialOrd, Ord)]
-struct Key {
+struct MessageKey {
     to: Pid,
     count: u64,
     label: Option<Label>,
 }
 
 impl Choice {
-    /// The label, if it counts.
-    fn label(self, label: Label) -> Option<Label> {
-        match self {
+    /// The key of a message to this process with this count and label, which a stamp asks for too.
+    fn key(self, to: Pid, count: u64, label: Label) -> MessageKey
+        ensures { result ≡ key_of self to count label }
+    {
+        let label = match self {
             Choice::OwnLabel => Some(label),
             Choice::AnyLabel => None,
-        }
+        };
+        MessageKey { to, count, label }
     }
 
     /// What this stamp asks for.
-    fn key_of_ask(self, ask: &Ask) -> Key {
-        Key {
-            to: ask.process,
-            count: ask.count,
-            label: self.label(ask.label),
-        }
+    fn key_of_ask(self, ask: &Ask) -> MessageKey
+        ensures { result ≡ key_of self ask.now.process ask.now.count ask.now.label }
+    {
+        self.key(ask.process, ask.count, ask.label)
     }
 
     /// What this message has.
-    fn key_of_message(self, message: &LostMessage) -> Key {
-        Key {
-            to: message.to,
-            count: message.count,
-            label: self.label(message.label),
-        }
+    fn key_of_message(self, message: &LostMessage) -> MessageKey
+        ensures { result ≡ key_of self message.now.to message.now.count message.now.label }
+    {
+        self.key(message.to, message.count, message.label)
     }
 }
 
 /// Notes the sends of a process that have no receive.
 fn note_lost(
+    streams: &Streams,
     pairing: &Pairing,
     pid: Pid,
-    events: &[Event],
     lost: &mut Vec<LostMessage>,
-) -> Result<(), AllocError> {
-    for (index, event) in events.iter().enumerate() {
-        if event.kind != Kind::Send || pairing.receiver(pid, index as u64).is_some() {
+) -> Result<(), AllocError>
+    requires { AreLostIn streams.now pairing.now lost.old.items }
+    ensures { OnOk result (AreLostIn streams.now pairing.now lost.new.items) }
+{
+    for (place, event) in streams.events(pid).iter().enumerate() {
+        if event.kind != Kind::Send || pairing.receiver(pid, place as u64).is_some() {
             continue;
         }
-        if let Some(to) = event.to {
-            lost.push(LostMessage {
-                count: event.serial.this,
-                to,
-                from: pid,
-                index: short(index),
-                label: event.label,
-                given: false,
-            })?;
-        }
+        let (Some(to), Ok(index)) = (event.to, u32::try_from(place)) else {
+            continue;
+        };
+        lost.push(LostMessage {
+            count: event.serial.this,
+            to,
+            from: pid,
+            index,
+            label: event.label,
+            given: false,
+        })?;
     }
     Ok(())
 }
@@ -105,51 +110,57 @@ fn lost_messages(
     alloc: Global,
     streams: &Streams,
     pairing: &Pairing,
-) -> Result<Vec<LostMessage>, AllocError> {
+) -> Result<Vec<LostMessage>, AllocError>
+    ensures { IfOk result (λ lost. AreLostIn streams.now pairing.now lost.items) }
+{
     let mut lost = Vec::new(alloc);
     for &pid in streams.pids() {
-        note_lost(pairing, pid, streams.events(pid), &mut lost)?;
+        note_lost(streams, pairing, pid, &mut lost)?;
     }
     Ok(lost)
 }
 
 /// The number of the first message from this one on that isn't given and whose key isn't less.
-fn first_left(lost: &[LostMessage], start: usize, choice: Choice, key: Key) -> usize {
-    let mut number = start;
-    for message in items_from(lost, start) {
+fn first_left(lost: &[LostMessage], start: usize, choice: Choice, key: MessageKey) -> usize
+    requires { start ≤ length lost.now }
+    ensures from { start ≤ result }
+    ensures within { result ≤ length lost.now }
+    ensures left { IfSome (slice_get lost.now result) (λ message. message.given ≡ false) }
+{
+    for number in start..lost.len() {
+        let message = &lost[number];
         if !message.given && choice.key_of_message(message) >= key {
             return number;
         }
-        number = number.saturating_add(1);
     }
-    number
+    lost.len()
 }
 
 /// Gives each stamp without a message the first that is left of its key. Stamps and messages both
 /// come by rising key, so that no message is looked at twice.
-fn deal(asks: &mut [Ask], lost: &mut [LostMessage], choice: Choice) {
+fn deal(asks: &mut [Ask], lost: &mut [LostMessage], choice: Choice)
+    requires { All HasNoInvention asks.old }
+    ensures { All HasNoInvention asks.new }
+{
     let mut next = 0;
     for ask in asks.iter_mut() {
-        if ask.message != Message::Missing {
+        if ask.message != GivenMessage::Missing {
             continue;
         }
         let key = choice.key_of_ask(ask);
         next = first_left(lost, next, choice, key);
-        if let Some(message) = lost.get_mut(next) {
-            if choice.key_of_message(message) == key {
-                message.given = true;
-                ask.message = Message::Lost(message.from, message.index);
-            }
+        if next < lost.len() && choice.key_of_message(&lost[next]) == key {
+            lost[next].given = true;
+            ask.message = GivenMessage::Lost(lost[next].from, lost[next].index);
         }
     }
 }
 
 /// Gives these stamps messages: stamps by rising index, messages by rising sender.
-fn give(
-    asks: &mut Vec<Ask>,
-    lost: &mut Vec<LostMessage>,
-    choice: Choice,
-) -> Result<(), AllocError> {
+fn give(asks: &mut Vec<Ask>, lost: &mut Vec<LostMessage>, choice: Choice) -> Result<(), AllocError>
+    requires { All HasNoInvention asks.old.items }
+    ensures { OnOk result (All HasNoInvention asks.new.items) }
+{
     if asks.is_empty() || lost.is_empty() {
         return Ok(());
     }
@@ -167,7 +178,10 @@ pub(crate) fn give_lost(
     streams: &Streams,
     pairing: &Pairing,
     asks: &mut Asks,
-) -> Result<(), AllocError> {
+) -> Result<(), AllocError>
+    requires { AreGivenLost asks.old }
+    ensures { OnOk result (AreGivenLost asks.new) }
+{
     if asks.needs.is_empty() && asks.beginnings.is_empty() {
         return Ok(());
     }

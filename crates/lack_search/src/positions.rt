@@ -1,7 +1,11 @@
 //! Where the events of a candidate are in its whole streams.
 
+ghost use Rattle.std.specs.Prelude.{◌≡◌, [], ◌∷◌, ◌++◌, vec_len, IfOk, OnOk};
+ghost use Rattle.std.specs.Option.{option_and_then};
+ghost use Rattle.lack_search.specs.Positions.{index_of_reported, AreEmpty, IsIndexNoted};
+
 use crate::assembly::Parts;
-use crate::entries::Origin;
+use crate::merged_events::Origin;
 use st_core::Streams;
 use std::alloc::{AllocError, Global};
 
@@ -11,15 +15,15 @@ use std::alloc::{AllocError, Global};
 pub(crate) struct Positions {
     /// For each process of the streams, by its place, the number of its first event among the reported
     /// ones of all.
-    starts: Vec<usize>,
+    pub starts: Vec<usize>,
     /// The reported events.
-    reported: Vec<u32>,
+    pub reported: Vec<u32>,
     /// The hidden sends.
-    hidden: Vec<u32>,
+    pub hidden: Vec<u32>,
     /// The receives that stamps got.
-    fed: Vec<u32>,
+    pub fed: Vec<u32>,
     /// The invented sends.
-    invented: Vec<u32>,
+    pub invented: Vec<u32>,
 }
 
 impl Positions {
@@ -28,7 +32,9 @@ impl Positions {
         alloc: Global,
         streams: &Streams,
         parts: &Parts,
-    ) -> Result<Positions, AllocError> {
+    ) -> Result<Positions, AllocError>
+        ensures { IfOk result AreEmpty }
+    {
         Ok(Positions {
             starts: Vec::with_capacity(alloc, streams.pids().len())?,
             reported: Vec::with_capacity(alloc, streams.total() as usize)?,
@@ -39,14 +45,19 @@ impl Positions {
     }
 
     /// Begins the next process of the streams.
-    pub(crate) fn begin(&mut self) -> Result<(), AllocError> {
+    pub(crate) fn begin(&mut self) -> Result<(), AllocError>
+        ensures { OnOk result (self.new.starts.items
+            ≡ self.old.starts.items ++ vec_len self.old.reported ∷ []) }
+    {
         let start = self.reported.len();
         self.starts.push(start)?;
         Ok(())
     }
 
     /// Notes the index of an event of this origin.
-    pub(crate) fn note(&mut self, origin: Origin, index: u32) -> Result<(), AllocError> {
+    pub(crate) fn note(&mut self, origin: Origin, index: u32) -> Result<(), AllocError>
+        ensures { OnOk result (IsIndexNoted origin index self.old self.new) }
+    {
         match origin {
             Origin::Reported => self.reported.push(index)?,
             Origin::Hidden => self.hidden.push(index)?,
@@ -58,28 +69,10 @@ impl Positions {
 
     /// The index of the event that has this index among the reported ones of the process at this
     /// place.
-    pub(crate) fn of_reported(&self, process: usize, index: usize) -> Option<u32> {
+    pub(crate) fn of_reported(&self, process: usize, index: usize) -> Option<u32>
+        ensures { result ≡ index_of_reported self.now process index }
+    {
         let start = self.starts.get(process)?;
         self.reported.get(start.saturating_add(index)).copied()
-    }
-
-    /// The index of the receive that the stamp of this number got.
-    pub(crate) fn of_fed(&self, number: usize) -> Option<u32> {
-        self.fed.get(number).copied()
-    }
-
-    /// Those of the hidden sends.
-    pub(crate) fn hidden(&self) -> &[u32] {
-        &self.hidden
-    }
-
-    /// Those of the receives that stamps got.
-    pub(crate) fn fed(&self) -> &[u32] {
-        &self.fed
-    }
-
-    /// Those of the invented sends.
-    pub(crate) fn invented(&self) -> &[u32] {
-        &self.invented
     }
 }

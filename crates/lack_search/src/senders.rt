@@ -4,11 +4,16 @@
 //! listed processes, by rising pid, then from processes that the streams don't list. A process
 //! stamps each count at most once, so each may send one message of a count.
 
-use crate::asks::{Ask, Message};
-use crate::candidate::items_from;
+ghost use Rattle.std.specs.Prelude.{◌≡◌, ◌*◌, ◌-◌, ◌%◌, ◌<◌, ◌^◌, length, min, true, vec_len, All, Contains, IfOk, IfSome, OnOk};
+ghost use Rattle.std.specs.List.Sorted.{IsPermutation};
+ghost use Rattle.st_core.specs.Run.{pids_of};
+ghost use Rattle.lack_search.specs.Senders.{may_have, AreAsked, AreTurnsOf, KeepsStreams};
+ghost use Rattle.lack_search.specs.Unlisted.{AreUnlisted};
+
+use crate::asks::{Ask, GivenMessage};
 use crate::hidden_sends::HiddenSend;
 use crate::short::short;
-use crate::sorting::Places;
+use crate::sorting::sorted_by_number;
 use crate::unlisted_pids::UnlistedPids;
 use lack_needs::is_stamp;
 use st_core::{Event, Pid, Streams};
@@ -32,21 +37,26 @@ struct Asked {
 
 impl Asked {
     /// The counts of these needs.
-    fn of(alloc: Global, turns: &[Turn]) -> Result<Asked, AllocError> {
+    fn of(alloc: Global, turns: &[Turn]) -> Result<Asked, AllocError>
+        ensures { IfOk result (λ asked. vec_len asked.remainders
+            ≡ min (length turns.now * 2) (2 ^ 64 - 1)) }
+    {
         let mut asked = Asked {
             remainders: vec![in alloc; false; turns.len().saturating_mul(2)]?,
         };
         for turn in turns {
             let place = asked.place_of(turn.count);
-            if let Some(slot) = asked.remainders.get_mut(place) {
-                *slot = true;
+            if place < asked.remainders.len() {
+                asked.remainders[place] = true;
             }
         }
         Ok(asked)
     }
 
     /// The remainder of a count.
-    fn place_of(&self, count: u64) -> usize {
+    fn place_of(&self, count: u64) -> usize
+        ensures { 0 < vec_len self.now.remainders → result ≡ count % vec_len self.now.remainders }
+    {
         let places = self.remainders.len() as u64;
         if places == 0 {
             return 0;
@@ -55,10 +65,11 @@ impl Asked {
     }
 
     /// Whether a need may ask for this count.
-    fn may_have(&self, count: u64) -> bool {
-        self.remainders
-            .get(self.place_of(count))
-            .is_some_and(|asked| *asked)
+    fn may_have(&self, count: u64) -> bool
+        ensures { result ≡ may_have self.now count }
+    {
+        let place = self.place_of(count);
+        place < self.remainders.len() && self.remainders[place]
     }
 }
 
@@ -68,34 +79,37 @@ fn note_stamps(
     asked: &Asked,
     process: Pid,
     events: &[Event],
-) -> Result<(), AllocError> {
+) -> Result<(), AllocError>
+    requires { AreAsked asked.now stamps.old.items }
+    ensures { OnOk result (AreAsked asked.now stamps.new.items) }
+{
     for event in events {
-        if is_stamp(event) && asked.may_have(event.serial.this) {
-            stamps.push(Stamp {
-                count: event.serial.this,
-                process,
-            })?;
+        let count = event.serial.this;
+        if is_stamp(event) && asked.may_have(count) {
+            stamps.push(Stamp { count, process })?;
         }
     }
     Ok(())
 }
 
-/// The stamps, reported and hidden, whose counts these needs may ask for, by count and process.
+/// The stamps, reported and hidden, whose counts needs may ask for, by count and process.
 fn stamps_in_the_way(
     alloc: Global,
     streams: &Streams,
     hidden: &[HiddenSend],
-    turns: &[Turn],
-) -> Result<Vec<Stamp>, AllocError> {
-    let asked = Asked::of(alloc, turns)?;
+    asked: &Asked,
+) -> Result<Vec<Stamp>, AllocError>
+    ensures { IfOk result (λ stamps. AreAsked asked.now stamps.items) }
+{
     let mut stamps = Vec::new(alloc);
     for &pid in streams.pids() {
-        note_stamps(&mut stamps, &asked, pid, streams.events(pid))?;
+        note_stamps(&mut stamps, asked, pid, streams.events(pid))?;
     }
     for send in hidden {
-        if asked.may_have(send.event.serial.this) {
+        let count = send.event.serial.this;
+        if asked.may_have(count) {
             stamps.push(Stamp {
-                count: send.event.serial.this,
+                count,
                 process: send.event.from,
             })?;
         }
@@ -125,31 +139,43 @@ struct Giver<'a> {
 impl Giver<'_> {
     /// Whether the process stamps this count. Stamps are by count and process, and so are the
     /// questions, so that no stamp is looked at twice.
-    fn is_stamped(&mut self, count: u64, process: Pid) -> bool {
+    fn is_stamped(&mut self, count: u64, process: Pid) -> bool
+        ensures stamped { result ≡ true
+            → Contains self.old.stamps.items (record { count = count; process = process }) }
+        ensures rest { KeepsStreams self.old self.new }
+    {
         let wanted = Stamp { count, process };
-        for stamp in items_from(&self.stamps, self.stamp) {
-            if *stamp >= wanted {
-                return *stamp == wanted;
+        for number in self.stamp..self.stamps.len() {
+            let stamp = self.stamps[number];
+            if stamp >= wanted {
+                return stamp == wanted;
             }
-            self.stamp = self.stamp.saturating_add(1);
+            self.stamp = number + 1;
         }
         false
     }
 
     /// The next listed process that may send this count.
-    fn next_listed(&mut self, count: u64) -> Option<Pid> {
-        let streams = self.streams;
-        for &pid in items_from(streams.pids(), self.listed) {
-            self.listed = self.listed.saturating_add(1);
-            if !self.is_stamped(count, pid) {
-                return Some(pid);
+    fn next_listed(&mut self, count: u64) -> Option<Pid>
+        ensures listed { IfSome result (Contains (pids_of self.old.streams.now)) }
+        ensures rest { KeepsStreams self.old self.new }
+    {
+        let pids = self.streams.pids();
+        for number in self.listed..pids.len() {
+            self.listed = number + 1;
+            if !self.is_stamped(count, pids[number]) {
+                return Some(pids[number]);
             }
         }
         None
     }
 
     /// The next process that may send this count.
-    fn next(&mut self, count: u64) -> Result<Option<Pid>, AllocError> {
+    fn next(&mut self, count: u64) -> Result<Option<Pid>, AllocError>
+        requires { AreUnlisted self.old.streams.now self.old.unlisted.pids.items }
+        ensures unlisted { AreUnlisted self.old.streams.now self.new.unlisted.pids.items }
+        ensures streams { self.new.streams ≡ self.old.streams }
+    {
         if self.count != count {
             self.count = count;
             self.listed = 0;
@@ -164,7 +190,9 @@ impl Giver<'_> {
     }
 
     /// The unlisted processes that were given out, by rising pid.
-    fn into_unlisted(self) -> Result<Vec<Pid>, AllocError> {
+    fn into_unlisted(self) -> Result<Vec<Pid>, AllocError>
+        ensures { IfOk result (λ pids. IsPermutation self.entry.unlisted.pids.items pids.items) }
+    {
         let Giver {
             streams: _,
             stamps: _,
@@ -198,91 +226,46 @@ pub(crate) struct Senders {
     pub unlisted: Vec<Pid>,
 }
 
-/// The count of a stamp, if it has no message.
-fn count_of_need(ask: &Ask) -> Option<u64> {
-    match ask.message {
-        Message::Missing => Some(ask.count),
-        Message::Lost(..) | Message::Invented(..) => None,
-    }
-}
-
-/// The counts of the needs that are left.
-#[derive(Clone, Copy)]
-struct NeedCounts {
-    /// How many they are.
-    needs: usize,
-    /// The greatest count.
-    greatest: u64,
-    /// Whether their counts never go down.
-    is_sorted: bool,
-}
-
-/// Those of the needs that are left among these stamps.
-fn need_counts(fed: &[Ask]) -> NeedCounts {
-    let mut seen = NeedCounts {
-        needs: 0,
-        greatest: 0,
-        is_sorted: true,
-    };
-    let mut last = 0;
-    for count in fed.iter().filter_map(count_of_need) {
-        seen.needs = seen.needs.saturating_add(1);
-        seen.greatest = seen.greatest.max(count);
-        seen.is_sorted = seen.is_sorted && last <= count;
-        last = count;
-    }
-    seen
-}
-
-/// The needs that are left among these stamps, by count, and those of one count in their order here.
-fn turns_of(alloc: Global, fed: &[Ask]) -> Result<Vec<Turn>, AllocError> {
-    let NeedCounts {
-        needs,
-        greatest,
-        is_sorted,
-    } = need_counts(fed);
-    // Counts are mostly no higher than a few times the needs.
-    if !is_sorted && greatest <= (needs as u64).saturating_mul(4) {
-        return deal_turns(alloc, fed, needs, greatest as usize);
-    }
-    let mut turns = Vec::with_capacity(alloc, needs)?;
+/// The needs that are left among these stamps, in their order here.
+fn turns_of(alloc: Global, fed: &[Ask]) -> Result<Vec<Turn>, AllocError>
+    ensures { IfOk result (λ turns. AreTurnsOf fed.now turns.items) }
+{
+    let mut turns = Vec::new(alloc);
     for (number, ask) in fed.iter().enumerate() {
-        if let Some(count) = count_of_need(ask) {
-            let ask = short(number);
-            turns.push(Turn { count, ask })?;
+        if ask.message == GivenMessage::Missing {
+            turns.push(Turn {
+                count: ask.count,
+                ask: short(number),
+            })?;
         }
-    }
-    if !is_sorted {
-        turns.sort_by_key(|turn| turn.count)?;
     }
     Ok(turns)
 }
 
-/// The same for so many needs with counts up to this one, in a time linear in both.
-fn deal_turns(
-    alloc: Global,
-    fed: &[Ask],
-    needs: usize,
-    greatest: usize,
-) -> Result<Vec<Turn>, AllocError> {
-    let number_of = |ask: &Ask| count_of_need(ask).map(|count| count as usize);
-    let mut places = Places::of(alloc, fed, greatest, &number_of)?;
-    let mut turns = vec![in alloc; Turn { count: 0, ask: 0 }; needs]?;
-    for (number, ask) in fed.iter().enumerate() {
-        if let Some(count) = count_of_need(ask) {
-            let ask = short(number);
-            places.put(&mut turns, count as usize, Turn { count, ask });
-        }
+/// These needs by count, and those of one count as they stood.
+fn turns_by_count(alloc: Global, mut turns: Vec<Turn>) -> Result<Vec<Turn>, AllocError>
+    ensures count { IfOk result (λ sorted. vec_len sorted ≡ vec_len turns) }
+    ensures turns { IfOk result (λ sorted. All (Contains turns.items) sorted.items) }
+{
+    if turns.is_sorted_by_key(|turn| turn.count) {
+        return Ok(turns);
     }
+    let greatest = turns.iter().map(|turn| turn.count).max().unwrap_or(0);
+    // Counts are mostly no higher than a few times the needs.
+    if greatest <= (turns.len() as u64).saturating_mul(4) {
+        let count_of = |turn: &Turn| turn.count as usize;
+        return sorted_by_number(alloc, &turns, greatest as usize, &count_of);
+    }
+    turns.sort_by_key(|turn| turn.count)?;
     Ok(turns)
 }
 
 /// The senders of the messages of these needs. It fails too if no pid is left for one.
-fn take_turns(
-    alloc: Global,
-    giver: &mut Giver<'_>,
-    turns: &[Turn],
-) -> Result<Vec<Pid>, AllocError> {
+fn take_turns(alloc: Global, giver: &mut Giver<'_>, turns: &[Turn]) -> Result<Vec<Pid>, AllocError>
+    requires { AreUnlisted giver.old.streams.now giver.old.unlisted.pids.items }
+    ensures senders { IfOk result (λ senders. vec_len senders ≡ length turns.now) }
+    ensures unlisted { AreUnlisted giver.old.streams.now giver.new.unlisted.pids.items }
+{
     let mut senders = Vec::with_capacity(alloc, turns.len())?;
     for turn in turns {
         let Some(sender) = giver.next(turn.count)? else {
@@ -300,8 +283,13 @@ pub(crate) fn find_senders(
     streams: &Streams,
     hidden: &[HiddenSend],
     fed: &[Ask],
-) -> Result<Senders, AllocError> {
+) -> Result<Senders, AllocError>
+    ensures turns { IfOk result (λ found. AreTurnsOf fed.now found.turns.items) }
+    ensures senders { IfOk result (λ found. vec_len found.senders ≡ vec_len found.turns) }
+    ensures unlisted { IfOk result (λ found. AreUnlisted streams.now found.unlisted.items) }
+{
     let turns = turns_of(alloc, fed)?;
+    let turns = turns_by_count(alloc, turns)?;
     if turns.is_empty() {
         return Ok(Senders {
             turns,
@@ -309,15 +297,17 @@ pub(crate) fn find_senders(
             unlisted: Vec::new(alloc),
         });
     }
+    let asked = Asked::of(alloc, &turns)?;
     let mut giver = Giver {
         streams,
-        stamps: stamps_in_the_way(alloc, streams, hidden, &turns)?,
+        stamps: stamps_in_the_way(alloc, streams, hidden, &asked)?,
         stamp: 0,
         count: 0,
         listed: 0,
         others: 0,
         unlisted: UnlistedPids::new(alloc, streams),
     };
+    drop(asked);
     let senders = take_turns(alloc, &mut giver, &turns)?;
     let unlisted = giver.into_unlisted()?;
     Ok(Senders {

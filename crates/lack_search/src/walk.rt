@@ -12,8 +12,11 @@
 //! back gives no send a last place before the one that it had in that run, so that the walk forth
 //! finds one that costs nothing up to there.
 
-use crate::candidate::items_between;
-use crate::hidden_sends::HiddenSend;
+ghost use Rattle.std.specs.Prelude.{◌≡◌, ◌+◌, ◌≤◌, [], drop, length, max, vec_len, All, None, IfOk, OnOk};
+ghost use Rattle.lack_search.specs.Sends.{AreSendsIn};
+ghost use Rattle.lack_search.specs.Walk.{may_stand_at, AreWithin};
+
+use crate::hidden_sends::{HiddenSend, split_hidden};
 use crate::short::short;
 use crate::stretch::{GapTables, Stretch};
 use lack_needs::is_stamp;
@@ -22,7 +25,7 @@ use std::alloc::{AllocError, Global};
 
 /// A hidden send of the stretch that is walked.
 #[derive(Clone, Copy)]
-struct Step {
+struct StretchSend {
     label: Label,
     prev: u64,
     this: u64,
@@ -44,7 +47,9 @@ enum Next {
 impl Next {
     /// Whether what comes next may be at this gap, which isn't past its last place, the limit. A
     /// hidden send may move back to it, but the reported stamp has one place, its limit.
-    fn may_stand_at(self, gap: usize, limit: usize) -> bool {
+    fn may_stand_at(self, gap: usize, limit: usize) -> bool
+        ensures { result ≡ may_stand_at self gap limit }
+    {
         match self {
             Next::Nothing => false,
             Next::Send(_) => true,
@@ -54,7 +59,10 @@ impl Next {
 
     /// The last gap for a send from which what comes next can still cost nothing; `limit` is the
     /// last place of what comes next.
-    fn last_gap_before(self, ground: &mut GapTables, send: &Step, limit: usize) -> usize {
+    fn last_gap_before(self, ground: &mut GapTables, send: &StretchSend, limit: usize) -> usize
+        ensures gap { result ≤ limit }
+        ensures tables { ground.new.by_count ≡ ground.old.by_count }
+    {
         let prev = match self {
             Next::Nothing => return limit,
             Next::Send(prev) | Next::Stamp(prev) => prev,
@@ -85,17 +93,22 @@ impl Next {
 /// The walk back: gives each send its last place, the last gap from which what comes next in the
 /// stretch can still cost nothing. If there is no such gap, the send's last place is that of what
 /// comes next. No place is behind a receive that doesn't count lower than the send.
-fn walk_back(ground: &mut GapTables, stretch: Stretch<'_>, steps: &mut [Step]) {
+fn walk_back(ground: &mut GapTables, stretch: Stretch<'_>, sends: &mut [StretchSend])
+    requires { AreWithin (vec_len ground.old.by_count) sends.old }
+    ensures gaps { AreWithin (vec_len ground.old.by_count) sends.new }
+    ensures tables { ground.new.by_count ≡ ground.old.by_count }
+{
     let mut limit = ground.end();
     let mut next = match stretch.stamp {
         None => Next::Nothing,
         Some(stamp) => Next::Stamp(stamp.serial.prev),
     };
-    for step in steps.iter_mut().rev() {
-        limit = next.last_gap_before(ground, step, limit);
-        limit = limit.min(ground.last_below(step.this));
-        step.gap = limit;
-        next = Next::Send(step.prev);
+    for number in (0..sends.len()).rev() {
+        let send = &mut sends[number];
+        limit = next.last_gap_before(ground, send, limit);
+        limit = limit.min(ground.last_below(send.this));
+        send.gap = limit;
+        next = Next::Send(send.prev);
     }
 }
 
@@ -114,7 +127,9 @@ struct Standing {
 
 impl Standing {
     /// Before the receives of a stretch.
-    fn at_start(stretch: Stretch<'_>) -> Standing {
+    fn at_start(stretch: Stretch<'_>) -> Standing
+        ensures { result.gap ≡ 0 }
+    {
         Standing {
             gap: 0,
             prev: stretch.before.map_or(0, |stamp| stamp.serial.prev),
@@ -126,7 +141,10 @@ impl Standing {
     /// The place of the next send, up to its last place. It goes no further than it must, since
     /// what costs nothing here costs nothing later for the sends behind it, too. Labels come first:
     /// they tell calls apart that have the same counts.
-    fn place_of(self, ground: &mut GapTables, send: &Step) -> usize {
+    fn place_of(self, ground: &mut GapTables, send: &StretchSend) -> usize
+        ensures gap { result ≤ max self.gap send.now.gap }
+        ensures tables { ground.new.by_count ≡ ground.old.by_count }
+    {
         if self.prev == send.prev && self.label == Some(send.label) {
             return self.gap;
         }
@@ -149,7 +167,10 @@ impl Standing {
     }
 
     /// Behind the next send, at its place.
-    fn after(self, ground: &GapTables, send: &Step) -> Standing {
+    fn after(self, ground: &GapTables, send: &StretchSend) -> Standing
+        ensures gap { result.gap ≡ send.now.gap }
+        ensures clock { self.clock ≤ result.clock }
+    {
         Standing {
             gap: send.gap,
             prev: send.prev,
@@ -160,18 +181,25 @@ impl Standing {
 }
 
 /// The walk forth: gives each send its place.
-fn walk_forth(ground: &mut GapTables, stretch: Stretch<'_>, steps: &mut [Step]) {
+fn walk_forth(ground: &mut GapTables, stretch: Stretch<'_>, sends: &mut [StretchSend])
+    requires { AreWithin (vec_len ground.old.by_count) sends.old }
+    ensures gaps { AreWithin (vec_len ground.old.by_count) sends.new }
+    ensures tables { ground.new.by_count ≡ ground.old.by_count }
+{
     let mut standing = Standing::at_start(stretch);
-    for step in steps.iter_mut() {
-        step.gap = standing.place_of(ground, step);
-        standing = standing.after(ground, step);
+    for send in sends.iter_mut() {
+        send.gap = standing.place_of(ground, send);
+        standing = standing.after(ground, send);
     }
 }
 
 /// How many sends at the end of the stretch go right before the reported stamp: those of its prev,
 /// if no receive gives it to them and a trace could begin there. Then they and the stamp are one
 /// trace, that began behind all receives of the stretch.
-fn last_with_stamp(ground: &GapTables, stretch: Stretch<'_>, steps: &[Step]) -> usize {
+fn last_with_stamp(ground: &GapTables, stretch: Stretch<'_>, sends: &[StretchSend]) -> usize
+    ensures within { result ≤ length sends.now }
+    ensures end { stretch.entry.stamp ≡ None → result ≡ 0 }
+{
     let Some(stamp) = stretch.stamp else {
         return 0;
     };
@@ -181,18 +209,18 @@ fn last_with_stamp(ground: &GapTables, stretch: Stretch<'_>, steps: &[Step]) -> 
             return 0;
         }
     }
-    let count = steps
+    let count = sends
         .iter()
         .rev()
-        .take_while(|step| step.prev == prev)
+        .take_while(|send| send.prev == prev)
         .count();
-    let others = steps.len().saturating_sub(count);
+    let others = sends.len().saturating_sub(count);
     let before = match others.checked_sub(1) {
         None => None,
-        Some(last) => steps.get(last),
+        Some(last) => sends.get(last),
     };
     let clock = before
-        .map_or(0, |step| step.this)
+        .map_or(0, |send| send.this)
         .max(ground.clock(ground.end()));
     if prev < clock {
         return 0;
@@ -201,25 +229,49 @@ fn last_with_stamp(ground: &GapTables, stretch: Stretch<'_>, steps: &[Step]) -> 
 }
 
 /// Puts the last sends of the stretch right before the reported stamp.
-fn move_to_stamp(ground: &GapTables, steps: &mut [Step], count: usize) {
-    for step in steps.iter_mut().rev().take(count) {
-        step.gap = ground.end();
+fn move_to_stamp(ground: &GapTables, sends: &mut [StretchSend], count: usize)
+    requires { AreWithin (vec_len ground.now.by_count) sends.old }
+    ensures { AreWithin (vec_len ground.now.by_count) sends.new }
+{
+    let others = sends.len().saturating_sub(count);
+    for (number, send) in sends.iter_mut().enumerate() {
+        if number >= others {
+            send.gap = ground.end();
+        }
     }
+}
+
+/// Notes the places of the sends of a stretch; `start` is the index of its first event.
+fn note_places(sends: &[StretchSend], start: usize, places: &mut Vec<u32>) -> Result<(), AllocError>
+    ensures { OnOk result (vec_len places.new ≡ vec_len places.old + length sends.now) }
+{
+    for send in sends {
+        places.push(short(start.saturating_add(send.gap)))?;
+    }
+    Ok(())
 }
 
 /// The walk over the stretches of one process after the other.
 #[derive(Drop)]
-struct Walk {
+struct StretchWalk {
     ground: GapTables,
-    steps: Vec<Step>,
+    /// The hidden sends of the stretch that is walked.
+    sends: Vec<StretchSend>,
+    /// The places of all hidden sends so far.
+    places: Vec<u32>,
 }
 
-impl Walk {
-    /// Takes up the hidden sends of a stretch.
-    fn take_steps(&mut self, hidden: &[HiddenSend]) -> Result<(), AllocError> {
-        self.steps.clear();
+impl StretchWalk {
+    /// Takes up the hidden sends of a stretch, before all of its receives.
+    fn take_sends(&mut self, hidden: &[HiddenSend]) -> Result<(), AllocError>
+        ensures count { OnOk result (vec_len self.new.sends ≡ length hidden.now) }
+        ensures start { OnOk result (AreWithin 0 self.new.sends.items) }
+        ensures ground { self.new.ground ≡ self.old.ground }
+        ensures places { self.new.places ≡ self.old.places }
+    {
+        self.sends.clear();
         for send in hidden {
-            self.steps.push(Step {
+            self.sends.push(StretchSend {
                 label: send.event.label,
                 prev: send.event.serial.prev,
                 this: send.event.serial.this,
@@ -229,35 +281,32 @@ impl Walk {
         Ok(())
     }
 
-    /// Puts the hidden sends of a stretch at their places; `start` is the index of its first event.
+    /// Finds the places of the hidden sends of a stretch; `start` is the index of its first event.
     fn place_stretch(
         &mut self,
         stretch: Stretch<'_>,
         start: usize,
-        hidden: &mut [HiddenSend],
-    ) -> Result<(), AllocError> {
+        hidden: &[HiddenSend],
+    ) -> Result<(), AllocError>
+        ensures { OnOk result (vec_len self.new.places ≡ vec_len self.old.places + length hidden.now) }
+    {
         if hidden.is_empty() {
             return Ok(());
         }
         self.ground.fill(stretch)?;
-        self.take_steps(hidden)?;
-        walk_back(&mut self.ground, stretch, &mut self.steps);
-        walk_forth(&mut self.ground, stretch, &mut self.steps);
-        let count = last_with_stamp(&self.ground, stretch, &self.steps);
-        move_to_stamp(&self.ground, &mut self.steps, count);
-        for (send, step) in hidden.iter_mut().zip(self.steps.iter()) {
-            send.place = short(start.saturating_add(step.gap));
-        }
-        Ok(())
+        self.take_sends(hidden)?;
+        walk_back(&mut self.ground, stretch, &mut self.sends);
+        walk_forth(&mut self.ground, stretch, &mut self.sends);
+        let count = last_with_stamp(&self.ground, stretch, &self.sends);
+        move_to_stamp(&self.ground, &mut self.sends, count);
+        note_places(&self.sends, start, &mut self.places)
     }
 
-    /// Puts the hidden sends of a process, which come by rising count, at their places among its
+    /// Finds the places of the hidden sends of a process, which come by rising count, among its
     /// events.
-    fn place_process(
-        &mut self,
-        events: &[Event],
-        hidden: &mut [HiddenSend],
-    ) -> Result<(), AllocError> {
+    fn place_process(&mut self, events: &[Event], hidden: &[HiddenSend]) -> Result<(), AllocError>
+        ensures { OnOk result (vec_len self.new.places ≡ vec_len self.old.places + length hidden.now) }
+    {
         let mut rest = hidden;
         let mut start = 0;
         let mut before = None;
@@ -266,24 +315,49 @@ impl Walk {
                 continue;
             }
             let count = rest.partition_point(|send| send.event.serial.this < event.serial.this);
-            let (now, later) = rest.split_at_mut(count);
+            let (now, later) = rest.split_at(count);
             let stretch = Stretch {
                 before,
-                receives: items_between(events, start, end),
+                receives: &events[start..end],
                 stamp: Some(event),
             };
             self.place_stretch(stretch, start, now)?;
             rest = later;
-            start = end.saturating_add(1);
+            start = end + 1;
             before = Some(event);
         }
         let stretch = Stretch {
             before,
-            receives: items_between(events, start, events.len()),
+            receives: &events[start..],
             stamp: None,
         };
         self.place_stretch(stretch, start, rest)
     }
+}
+
+/// Finds the places of hidden sends, which come by sender and count.
+fn places_of(
+    alloc: Global,
+    streams: &Streams,
+    hidden: &[HiddenSend],
+) -> Result<Vec<u32>, AllocError>
+    ensures { IfOk result (λ places. vec_len places ≤ length hidden.now) }
+{
+    let mut walk = StretchWalk {
+        ground: GapTables::new(alloc),
+        sends: Vec::new(alloc),
+        places: Vec::new(alloc),
+    };
+    let mut rest = hidden;
+    for &pid in streams.pids() {
+        let (own, later) = split_hidden(rest, pid);
+        if !own.is_empty() {
+            walk.place_process(streams.events(pid), own)?;
+        }
+        rest = later;
+    }
+    let StretchWalk { places, .. } = walk;
+    Ok(places)
 }
 
 /// Puts hidden sends, which come by sender and count, at their places.
@@ -291,18 +365,14 @@ pub(crate) fn place_hidden(
     alloc: Global,
     streams: &Streams,
     hidden: &mut [HiddenSend],
-) -> Result<(), AllocError> {
-    let mut walk = Walk {
-        ground: GapTables::new(alloc),
-        steps: Vec::new(alloc),
-    };
-    let mut rest = hidden;
-    for &pid in streams.pids() {
-        let count = rest.partition_point(|send| send.event.from <= pid);
-        let (own, later) = rest.split_at_mut(count);
-        rest = later;
-        if !own.is_empty() {
-            walk.place_process(streams.events(pid), own)?;
+) -> Result<(), AllocError>
+    requires { AreSendsIn streams.now hidden.old }
+    ensures { OnOk result (AreSendsIn streams.now hidden.new) }
+{
+    let places = places_of(alloc, streams, hidden)?;
+    for (number, &place) in places.iter().enumerate() {
+        if number < hidden.len() {
+            hidden[number].place = place;
         }
     }
     Ok(())

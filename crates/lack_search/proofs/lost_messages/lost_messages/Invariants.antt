@@ -1,0 +1,6 @@
+-- The messages so far are lost.
+use Rattle.lack_search.specs.LostMessages.{AreLostIn}
+use Rattle.lack_search.proofs.lost_messages.lost_messages.Given as goal
+
+abbrev pub invariant-loop-pid : goal.invariant-loop-pid
+invariant-loop-pid l = AreLostIn l.streams l.pairing l.lost.items

@@ -1,0 +1,6 @@
+-- Only the place changes.
+use Rattle.lack_search.specs.Senders.{KeepsStreams}
+use Rattle.lack_search.proofs.senders.Giver.is_stamped.Given as goal
+
+abbrev pub invariant-loop-number : goal.invariant-loop-number
+invariant-loop-number l = KeepsStreams l.fn.self l.self

@@ -1,0 +1,6 @@
+-- The counts so far may be asked for.
+use Rattle.lack_search.specs.Senders.{AreAsked}
+use Rattle.lack_search.proofs.senders.note_stamps.Given as goal
+
+abbrev pub invariant-loop-event : goal.invariant-loop-event
+invariant-loop-event l = AreAsked l.asked l.stamps.items

@@ -1,0 +1,6 @@
+-- The sends that are left have no place yet.
+use Rattle.std.proofs.Common.{◌≡◌, ◌+◌, length, vec_len}
+use Rattle.lack_search.proofs.walk.places_of.Given as goal
+
+abbrev pub invariant-loop-pid : goal.invariant-loop-pid
+invariant-loop-pid l = vec_len l.walk.places + length l.rest ≡ length l.hidden
