@@ -9,6 +9,7 @@ pub mod Givens
 pub mod Decided
 pub mod Ways
 pub mod Needs
+pub mod NeedsOfAll
 pub mod Places
 pub mod Lasts
 pub mod NeedsAnyway

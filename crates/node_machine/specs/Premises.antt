@@ -2,7 +2,7 @@
 use Rattle.std.specs.Prelude.{◌≡◌, ◌⊎◌, ℕ, ◌+◌, Bool, true, false, ◌&&◌, List, [], ◌∷◌, ◌++◌}
 use Rattle.std.specs.Prelude.{length, Option, Some, None}
 use Rattle.std.specs.Prelude.{if◌then◌else◌, is_some, IsSome, option_map, option_to_list}
-use Rattle.std.specs.Prelude.{option_and_then}
+use Rattle.std.specs.Prelude.{count_by, option_and_then}
 use Rattle.std.specs.List.{AllByRecursion}
 use Rattle.st_core.specs.declared.types.Pid.{Pid}
 use Rattle.st_core.specs.declared.types.Serial.{Serial}
@@ -58,6 +58,10 @@ abbrev pub put_backs : Pid → List NodeAct → ℕ
 put_backs p [] = 0
 put_backs p (a ∷ rest) =
     (if pid_eq (node_actor a) p && is_some (token_put_back a) then 1 else 0) + put_backs p rest
+
+-- how many tokens all processes put back
+abbrev pub all_put_backs : List NodeAct → ℕ
+all_put_backs acts = count_by (λ a. is_some (token_put_back a)) acts
 
 -- what is seen of p by an act
 abbrev pub told_by : Pid → NodeAct → Outcome → List Seen

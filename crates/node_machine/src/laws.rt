@@ -6,6 +6,8 @@ ghost use Rattle.std.specs.Prelude.{◌≡◌, ◌≢◌, ◌≤◌, ℕ, true, 
 ghost use Rattle.std.specs.Prelude.{slice_get, take};
 ghost use Rattle.st_core.specs.declared.types.Kind.TheVariants as kind;
 ghost use Rattle.st_core.specs.declared.types.Pid.{Pid};
+ghost use Rattle.std.specs.List.{AllByRecursion, sum_by};
+ghost use Rattle.st_core.specs.Pid.{IsRising};
 ghost use Rattle.st_core.specs.State.{zero_state};
 ghost use Rattle.st_core.specs.Step.{Outcome};
 ghost use Rattle.node_machine.specs.Example.{all_home, printer, prints_again, sender};
@@ -16,7 +18,7 @@ ghost use Rattle.node_machine.specs.Origins.{AnswersComeNext, Can, Home, TokenOr
 ghost use Rattle.node_machine.specs.Origins.{origins_told};
 ghost use Rattle.node_machine.specs.Premises.{IsAmong, NoNodeReset, PutsBackOwn, ReportsTaken};
 ghost use Rattle.node_machine.specs.Premises.{ReportsTokens};
-ghost use Rattle.node_machine.specs.Premises.{places, put_backs};
+ghost use Rattle.node_machine.specs.Premises.{all_put_backs, places, put_backs};
 ghost use Rattle.node_machine.specs.Readings.{NeedsAtLeast, NeedsPutBack};
 ghost use Rattle.node_machine.specs.Ways.{IsInSomeWay, lasts};
 
@@ -49,6 +51,15 @@ pub fn each_need_is_a_put_back()
         → node_run pids acts ≡ Some os → NoNodeReset acts → (p : Pid)
         → ReportsTokens p (zero_state pids) acts os
         → (n : ℕ) → NeedsAtLeast (seen_stream acts os p) n → n ≤ put_backs p acts }
+{}
+
+/// The needs of several processes that report these add up: each put-back is of one process.
+pub fn needs_of_all_add_up()
+    ensures { (pids : List Pid) (acts : List NodeAct) (os : List Outcome)
+        → node_run pids acts ≡ Some os → NoNodeReset acts → (ps : List Pid) → IsRising ps
+        → AllByRecursion (λ p. ReportsTokens p (zero_state pids) acts os) ps → (needs : Pid → ℕ)
+        → AllByRecursion (λ p. NeedsAtLeast (seen_stream acts os p) (needs p)) ps
+        → sum_by needs ps ≤ all_put_backs acts }
 {}
 
 /// And a stamp that doesn't go on from the counts before it, however the events before it are read,
