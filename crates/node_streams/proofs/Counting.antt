@@ -1,0 +1,166 @@
+-- One event more: how many pass a test, which is the nth that does, and contents that are one.
+use Rattle.std.proofs.Common.{◌≡◌, ℕ, ◌+◌, ◌<◌, ◌==◌, ◌&&◌, zero, suc, cond, Bool, true, false}
+use Rattle.std.proofs.Common.{List, [], ◌∷◌, ◌++◌}
+use Rattle.std.proofs.Common.{length, get_or, Option, Some, None, refl, arith, sym, ◌∙◌, ap, take}
+use Rattle.std.specs.List.{count_by, slice_get}
+use Rattle.std.specs.HashMap.{get}
+use Rattle.std.specs.Option.{option_map, unwrap_or}
+use Rattle.std.proofs.lemmas.Bool.{and_parts, eqb-true}
+use Rattle.std.proofs.lemmas.Bool.Decides.{nat_tests}
+use Rattle.std.proofs.lemmas.List.Sums.{sum_by-append, sum_by-cons}
+use Rattle.std.proofs.lemmas.Option.{same_Some}
+use Rattle.st_core.specs.declared.types.Pid.{Pid}
+use Rattle.st_core.specs.declared.types.Event.{Event}
+use Rattle.st_core.specs.Pid.{pid_eq}
+use Rattle.st_core.specs.Event.{to_eq}
+use Rattle.st_core.proofs.ForCallers.{pid_eq-true, to_eq-true}
+use Rattle.node_streams.specs.declared.content.MessageContent.{MessageContent}
+use Rattle.node_streams.specs.declared.counter.Counter.{Counter}
+use Rattle.node_streams.specs.Messages.{content_eq, nth}
+use Rattle.node_streams.specs.Order.{turns}
+use Rattle.node_streams.specs.Tables.{count_in}
+
+pub not_both : (a b : Bool) → b ≡ false → (a && b) ≡ false
+not_both true b is = is
+not_both false b is = refl
+
+pub count_first : {A : Type 0} (test : A → Bool) (x : A) (xs : List A)
+    → count_by test (x ∷ xs) ≡ cond (test x) 1 0 + count_by test xs
+count_first {A} test x xs = sum_by-cons (λ (y : A). cond (test y) 1 0) x xs
+
+pub turns_more : (p : Pid) (order : List Pid) (q : Pid)
+    → turns q (p ∷ order) ≡ cond (pid_eq p q) 1 0 + turns q order
+turns_more p order q = count_first (λ r. pid_eq r q) p order
+
+pub add_zero : (n : ℕ) → n + 0 ≡ n
+add_zero n = omega arith
+
+pub count_more : {A : Type 0} (test : A → Bool) (xs : List A) (x : A)
+    → count_by test (xs ++ x ∷ []) ≡ count_by test xs + cond (test x) 1 0
+count_more {A} test xs x =
+    let f : A → ℕ = λ y. cond (test y) 1 0 in
+    let all = sum_by-append f xs (x ∷ []) in
+    omega arith
+
+pub at_get_or : {A : Type 0} (xs : List A) (i : ℕ) (d : A) → i < length xs
+    → slice_get xs i ≡ Some (get_or xs i d)
+at_get_or [] i d within = absurd (omega arith)
+at_get_or (x ∷ xs) zero d within = refl
+at_get_or (x ∷ xs) (suc i) d within = at_get_or xs i d (omega arith)
+
+-- the events with the next one
+pub taken_more : {A : Type 0} (xs : List A) (i : ℕ) (x : A) → slice_get xs i ≡ Some x
+    → take (suc i) xs ≡ take i xs ++ x ∷ []
+taken_more [] i x at = absurd (cc)
+taken_more (y ∷ xs) zero x at = ap (λ z. z ∷ []) (same_Some y x at)
+taken_more (y ∷ xs) (suc i) x at = ap (λ ys. y ∷ ys) (taken_more xs i x at)
+
+shifted : (b : Bool) (n : ℕ) (o : Option ℕ)
+    → option_map suc (cond b (Some n) o) ≡ cond b (Some (suc n)) (option_map suc o)
+shifted true n o = refl
+shifted false n o = refl
+
+zero_add : (n : ℕ) → 0 + n ≡ n
+zero_add n = omega arith
+
+zero_apart : (k : ℕ) → (1 + k == 0) ≡ false
+zero_apart k = grind (arith, nat_tests)
+
+same_below : (k m : ℕ) → (1 + k == suc m) ≡ (k == m)
+same_below k m = grind (arith, nat_tests)
+
+never : (b : Bool) (k : ℕ) (u v : Option ℕ) → cond (b && (1 + k == 0)) u v ≡ v
+never true k u v = ap (λ a. cond a u v) (zero_apart k)
+never false k u v = refl
+
+alone : (b : Bool) → cond {A = Option ℕ} b (Some 0) None ≡ cond (b && 0 == 0) (Some 0) None
+alone true = refl
+alone false = refl
+
+zero_later : (n : ℕ) → (0 == suc n) ≡ false
+zero_later n = grind (arith, nat_tests)
+
+alone_later : (b : Bool) (n : ℕ) → cond {A = Option ℕ} b (option_map suc None) None
+    ≡ cond (b && 0 == suc n) (Some 0) None
+alone_later true n = ap (λ b. cond b (Some 0) None) (sym (zero_later n))
+alone_later false n = refl
+
+-- the nth event that passes a test, with an event more
+pub nth_more : (test : Event → Bool) (n : ℕ) (es : List Event) (e : Event)
+    → nth test n (es ++ e ∷ [])
+    ≡ cond (test e && count_by test es == n) (Some (length es)) (nth test n es)
+nth_more test zero [] e = alone (test e)
+nth_more test (suc n) [] e = alone_later (test e) n
+nth_more test zero (d ∷ es) e =
+    (elim (test d) as (λ b. cond b (Some 0) (option_map suc (nth test zero (es ++ e ∷ [])))
+    ≡ cond (test e && (cond b 1 0 + count_by test es) == zero) (Some (suc (length es)))
+    (cond b (Some 0) (option_map suc (nth test zero es)))) [
+      | true ↦ sym (never (test e) (count_by test es) (Some (suc (length es))) (Some 0))
+      | false ↦ ap (option_map suc) (nth_more test zero es e)
+          ∙ shifted (test e && count_by test es == zero) (length es) (nth test zero es)
+          ∙ ap (λ m. cond (test e && m == zero) (Some (suc (length es)))
+          (option_map suc (nth test zero es)))
+          (sym (zero_add (count_by test es)))
+    ])
+    ∙ ap (λ m. cond (test e && m == zero) (Some (suc (length es))) (nth test zero (d ∷ es)))
+    (sym (count_first test d es))
+nth_more test (suc n) (d ∷ es) e =
+    (elim (test d) as (λ b.
+    cond b (option_map suc (nth test n (es ++ e ∷ [])))
+    (option_map suc (nth test (suc n) (es ++ e ∷ [])))
+    ≡ cond (test e && (cond b 1 0 + count_by test es) == suc n) (Some (suc (length es)))
+    (cond b (option_map suc (nth test n es)) (option_map suc (nth test (suc n) es)))) [
+      | true ↦ ap (option_map suc) (nth_more test n es e)
+          ∙ shifted (test e && count_by test es == n) (length es) (nth test n es)
+          ∙ ap (λ a. cond (test e && a) (Some (suc (length es))) (option_map suc (nth test n es)))
+          (sym (same_below (count_by test es) n))
+      | false ↦ ap (option_map suc) (nth_more test (suc n) es e)
+          ∙ shifted (test e && count_by test es == suc n) (length es) (nth test (suc n) es)
+          ∙ ap (λ m. cond (test e && m == suc n) (Some (suc (length es)))
+          (option_map suc (nth test (suc n) es)))
+          (sym (zero_add (count_by test es)))
+    ])
+    ∙ ap (λ m. cond (test e && m == suc n) (Some (suc (length es))) (nth test (suc n) (d ∷ es)))
+    (sym (count_first test d es))
+
+-- the next index is one more
+pub taken_next : {A : Type 0} (xs : List A) (i : ℕ) (x : A) → slice_get xs i ≡ Some x
+    → take (i + 1) xs ≡ take i xs ++ x ∷ []
+taken_next xs i x at =
+    let next : i + 1 ≡ suc i = omega arith in
+    ap (λ n. take n xs) next ∙ taken_more xs i x at
+
+pub content_same : (c d : MessageContent) → content_eq c d ≡ true → c ≡ d
+content_same c d is =
+    let a = and_parts (pid_eq c.from d.from) _ is in
+    let b = and_parts (to_eq c.to d.to) _ a.1 in
+    let l = and_parts (c.label == d.label) _ b.1 in
+    let p = and_parts (c.prev == d.prev) _ l.1 in
+    let t = and_parts (c.this == d.this) _ p.1 in
+    let from = pid_eq-true c.from d.from a.0 in
+    let to = to_eq-true c.to d.to b.0 in
+    let label = eqb-true c.label d.label l.0 in
+    let prev = eqb-true c.prev d.prev p.0 in
+    let this = eqb-true c.this d.this t.0 in
+    let value = eqb-true c.value d.value t.1 in
+    λ i. record {
+      from = from i;
+      to = to i;
+      label = label i;
+      prev = prev i;
+      this = this i;
+      value = value i;
+    }
+
+-- a counter with one more of a content
+pub noted : (before after : Counter) (d : MessageContent) (more : ℕ) → more ≡ count_in before d + 1
+    → ((c : MessageContent) → get content_eq after.counts c ≡ cond (content_eq d c) (Some more)
+    (get content_eq before.counts c))
+    → (c : MessageContent) → count_in after c ≡ count_in before c + cond (content_eq d c) 1 0
+noted before after d more is now c = ap (λ o. unwrap_or o 0) (now c) ∙
+    (elim (content_eq d c) as (λ b. content_eq d c ≡ b
+    → unwrap_or (cond b (Some more) (get content_eq before.counts c)) 0
+    ≡ count_in before c + cond b 1 0) [
+      | true ↦ λ same. is ∙ ap (λ x. count_in before x + 1) (content_same d c same)
+      | false ↦ λ _. sym (add_zero (count_in before c))
+    ]) refl

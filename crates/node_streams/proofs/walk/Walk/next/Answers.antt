@@ -1,0 +1,15 @@
+-- The candidates were asked at the same place.
+use Rattle.node_streams.proofs.Turns.{same_walk}
+use Rattle.node_streams.proofs.walk.Walk.next.Goals as goal
+
+pub returns-clause-free : goal.returns-clause-free
+returns-clause-free c = λ order at sends.
+    c.free_process.ensures.free order
+    (same_walk c.args.streams.now order c.args.self.now c.candidate.new.self
+    c.in_ok-found.ensures.done c.in_ok-found.ensures.received at) sends
+
+pub returns-clause-none : goal.returns-clause-none
+returns-clause-none c = λ order at sends.
+    c.free_process.ensures.none order
+    (same_walk c.args.streams.now order c.args.self.now c.candidate.new.self
+    c.in_ok-found.ensures.done c.in_ok-found.ensures.received at) sends

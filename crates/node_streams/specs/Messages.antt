@@ -1,0 +1,66 @@
+-- Which send a receive took. Counts may repeat on a node, so a message is known by all that its
+-- events say of it, and messages that are alike are taken in order.
+use Rattle.std.specs.Prelude.{ℕ, ◌==◌, ◌&&◌, zero, suc, Bool, List, [], ◌∷◌, ◌++◌, length}
+use Rattle.std.specs.Prelude.{Option, Some, None, option_map, if◌then◌else◌, is_none, count_by}
+use Rattle.st_core.specs.declared.types.Pid.{Pid}
+use Rattle.st_core.specs.declared.types.Kind.{Kind}
+use Rattle.st_core.specs.declared.types.Kind.TheVariants as kind
+use Rattle.st_core.specs.declared.types.Event.{Event}
+use Rattle.st_core.specs.Pid.{pid_eq}
+use Rattle.st_core.specs.Event.{kind_eq, to_eq}
+use Rattle.st_core.specs.Run.{Stream}
+use Rattle.st_core.specs.Streams.{events_of}
+use Rattle.node_streams.specs.declared.content.MessageContent.{MessageContent}
+
+-- what an event says of its message
+abbrev pub content_of : Event → MessageContent
+content_of e = record {
+  from = e.from;
+  to = e.to;
+  label = e.label.0;
+  prev = e.serial.prev;
+  this = e.serial.this;
+  value = e.value;
+}
+
+abbrev pub content_eq : MessageContent → MessageContent → Bool
+content_eq c d = pid_eq c.from d.from && (to_eq c.to d.to
+    && (c.label == d.label && (c.prev == d.prev && (c.this == d.this && c.value == d.value))))
+
+-- the event is of this kind, and its message has this content
+abbrev pub tells : Kind → MessageContent → Event → Bool
+tells k c e = kind_eq e.kind k && content_eq (content_of e) c
+
+-- the index of the event that passes the test after n others that do
+abbrev pub nth : (Event → Bool) → ℕ → List Event → Option ℕ
+nth test n [] = None
+nth test n (e ∷ es) = if test e
+    then elim n [ zero ↦ Some 0 | suc m ↦ option_map suc (nth test m es) ]
+    else option_map suc (nth test n es)
+
+-- the index of the send that a receive took, in its sender's stream: as many alike messages were
+-- sent before it as were received among the events before the receive. None if too few were sent
+abbrev pub send_of : List Stream → List Event → Event → Option ℕ
+send_of streams before e =
+    (let c = content_of e in
+    nth (tells kind.Send c) (count_by (tells kind.Receive c) before) (events_of streams e.from))
+
+abbrev pub takes_message : Event → Bool
+takes_message e = kind_eq e.kind kind.Receive
+
+-- a receive of a message that nobody sent, as far as was reported
+abbrev pub is_unsent : List Stream → List Event → Event → Bool
+is_unsent streams before e = takes_message e && is_none (send_of streams before e)
+
+-- the places of such receives among these events of p, which reported the others before
+abbrev pub unsent_from : List Stream → Pid → List Event → List Event → List (Pid × ℕ)
+unsent_from streams p before [] = []
+unsent_from streams p before (e ∷ es) =
+    (if is_unsent streams before e then (p, length before) ∷ [] else [])
+    ++ unsent_from streams p (before ++ e ∷ []) es
+
+-- those of these processes
+abbrev pub unsent_among : List Stream → List Pid → List (Pid × ℕ)
+unsent_among streams [] = []
+unsent_among streams (p ∷ ps) =
+    unsent_from streams p [] (events_of streams p) ++ unsent_among streams ps

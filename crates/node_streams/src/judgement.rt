@@ -1,0 +1,39 @@
+//! The judge of streams as a whole.
+
+ghost use Rattle.std.specs.Prelude.{◌≡◌, ◌≢◌, [], IfOk};
+ghost use Rattle.st_core.specs.Run.{pids_of};
+ghost use Rattle.node_streams.specs.Messages.{unsent_among};
+ghost use Rattle.node_streams.specs.Order.{HaveOrder};
+
+use crate::order::cycle;
+use crate::receives::unsent;
+use crate::sends::Sends;
+use st_core::{Pid, Streams};
+use std::alloc::{AllocError, Global};
+
+/// The findings about the messages of streams. A place is a process and the index of one of its events.
+#[derive(Drop)]
+pub struct Judgement {
+    /// The receives of messages of which no send is left, in the order of the text: as many alike
+    /// ones were received before as were sent, as far as was reported.
+    pub unsent: Vec<(Pid, u64)>,
+    /// No places if all events have an order in which each comes after those of its process before
+    /// it, and a receive after its send. Else the next events, all of them receives that wait for
+    /// their sends, of the processes that can't go on.
+    pub cycle: Vec<(Pid, u64)>,
+}
+
+/// Pairs each receive with its send, and looks for an order of all events. Fails only if memory
+/// runs out.
+pub fn judge(alloc: Global, streams: &Streams) -> Result<Judgement, AllocError>
+    ensures unsent { IfOk result (λ j. j.unsent.items
+        ≡ unsent_among streams.now (pids_of streams.now)) }
+    ensures ordered { IfOk result (λ j. j.cycle.items ≡ [] → HaveOrder streams.now) }
+    ensures cyclic { IfOk result (λ j. j.cycle.items ≢ [] → ¬ (HaveOrder streams.now)) }
+{
+    let sends = Sends::of(alloc, streams)?;
+    Ok(Judgement {
+        unsent: unsent(alloc, streams, &sends)?,
+        cycle: cycle(alloc, streams, &sends)?,
+    })
+}

@@ -1,0 +1,16 @@
+//! Judges the streams of a standard node as a whole: which send each receive took, and whether all
+//! events have an order.
+#![tactic(auto)]
+
+mod content;
+mod counter;
+mod judgement;
+mod order;
+mod receives;
+mod sends;
+#[cfg(test)]
+mod tests;
+mod walk;
+
+pub use content::MessageContent;
+pub use judgement::{Judgement, judge};

@@ -1,0 +1,49 @@
+//! Whether all events have an order.
+
+ghost use Rattle.std.specs.Prelude.{◌≡◌, ◌≢◌, [], List, None, Some, IfOk};
+ghost use Rattle.st_core.specs.Streams.{events_of};
+ghost use Rattle.st_core.specs.declared.types.Event.{Event as EventValue};
+ghost use Rattle.st_core.specs.declared.types.Pid.{Pid as PidValue};
+ghost use Rattle.node_streams.specs.Order.{HaveOrder, next_event};
+ghost use Rattle.node_streams.specs.Tables.{AreSends, IsAt};
+
+use crate::sends::Sends;
+use crate::walk::Walk;
+use st_core::{Pid, Streams};
+use std::alloc::{AllocError, Global};
+
+/// The next event of each process that has one left.
+fn events_left(alloc: Global, streams: &Streams, walk: &Walk) -> Result<Vec<(Pid, u64)>, AllocError>
+    ensures none { (order : List PidValue) → IsAt streams.now order walk.now → IfOk result (λ v.
+        v.items ≡ [] → (p : PidValue) → next_event streams.now order p ≡ None) }
+    ensures some { (order : List PidValue) → IsAt streams.now order walk.now → IfOk result (λ v.
+        v.items ≢ []
+        → (p : PidValue) × (e : EventValue) × (next_event streams.now order p ≡ Some e)) }
+{
+    let mut left = Vec::new(alloc);
+    for &pid in streams.pids() {
+        let index = walk.done_of(pid);
+        if streams.event(pid, index).is_some() {
+            left.push((pid, index))?;
+        }
+    }
+    Ok(left)
+}
+
+/// Finds out whether all events have an order. If not, it returns for each process that can't go on
+/// the place of its next event.
+pub(crate) fn cycle(
+    alloc: Global,
+    streams: &Streams,
+    sends: &Sends,
+) -> Result<Vec<(Pid, u64)>, AllocError>
+    requires { AreSends (events_of streams.now) sends.now }
+    ensures none { IfOk result (λ v. v.items ≡ [] → HaveOrder streams.now) }
+    ensures some { IfOk result (λ v. v.items ≢ [] → ¬ (HaveOrder streams.now)) }
+{
+    let mut walk = Walk::new(alloc, streams.pids())?;
+    while let Some((pid, event)) = walk.next(streams, sends)? {
+        walk.go(pid, &event)?;
+    }
+    events_left(alloc, streams, &walk)
+}

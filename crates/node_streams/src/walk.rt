@@ -1,0 +1,201 @@
+//! The walk over all events, each receive after its send.
+
+ghost use Rattle.std.specs.Prelude.{◌≡◌, ◌+◌, ◌<◌, [], ◌∷◌, true, List, None, Some, IfOk, OnOk};
+ghost use Rattle.std.specs.Prelude.{IfNone, IfSome, if◌then◌else◌};
+ghost use Rattle.std.specs.Option.{unwrap_or};
+ghost use Rattle.st_core.specs.Pid.{pid_eq};
+ghost use Rattle.st_core.specs.Run.{Stream};
+ghost use Rattle.st_core.specs.Streams.{AreOwn, events_of, is_own};
+ghost use Rattle.st_core.specs.declared.types.Pid.{Pid as PidValue};
+ghost use Rattle.node_streams.specs.Order.{CanGo, next_event};
+ghost use Rattle.node_streams.specs.Tables.{AreSends, IsAt, IsTurn, done_in};
+
+use crate::content::MessageContent;
+use crate::counter::Counter;
+use crate::sends::Sends;
+use st_core::{Event, Kind, Pid, Streams};
+use std::alloc::{AllocError, Global};
+use std::collections::HashMap;
+
+/// The next turn of a process.
+#[derive(Clone, Copy, Debug, PartialEq, Eq)]
+pub(crate) enum Turn {
+    /// Nothing: it has no event left.
+    Over,
+    /// Its next event, which waits for none.
+    Free(Event),
+    /// Its next event waits for this one of another process.
+    Waits(Pid, u64),
+}
+
+/// The state of the walk.
+#[derive(Drop)]
+pub(crate) struct Walk {
+    /// How many events of each process came.
+    pub(crate) done: HashMap<Pid, u64>,
+    /// How many messages of each content were received.
+    pub(crate) received: Counter,
+    /// The process that waits for an event. Only time depends on it.
+    waiting: HashMap<(Pid, u64), Pid>,
+    /// Processes that may go on. Only time depends on them.
+    candidates: Vec<Pid>,
+}
+
+impl Walk {
+    /// Before all events.
+    pub(crate) fn new(alloc: Global, pids: &[Pid]) -> Result<Walk, AllocError>
+        ensures { IfOk result (λ walk. (streams : List Stream) → IsAt streams [] walk) }
+    {
+        let mut candidates = Vec::new(alloc);
+        candidates.extend_from_slice(pids)?;
+        Ok(Walk {
+            done: HashMap::new(alloc),
+            received: Counter::new(alloc),
+            waiting: HashMap::new(alloc),
+            candidates,
+        })
+    }
+
+    /// How many events of a process came.
+    pub(crate) fn done_of(&self, pid: Pid) -> u64
+        ensures { result ≡ done_in self.now pid }
+    {
+        self.done.get(&pid).copied().unwrap_or(0)
+    }
+
+    /// Finds the next turn of the process.
+    pub(crate) fn turn(&self, streams: &Streams, sends: &Sends, pid: Pid) -> Turn
+        requires { AreOwn streams.now }
+        ensures { (order : List PidValue) → IsAt streams.now order self.now
+            → AreSends (events_of streams.now) sends.now → IsTurn streams.now order pid result }
+    {
+        let Some(event) = streams.event(pid, self.done_of(pid)) else {
+            return Turn::Over;
+        };
+        match event.kind {
+            Kind::Send | Kind::Print => Turn::Free(event),
+            Kind::Receive => {
+                let content = MessageContent::of(&event);
+                match sends.place(content, self.received.number(content)) {
+                    None => Turn::Free(event),
+                    Some(index) => {
+                        if index < self.done_of(event.from) {
+                            Turn::Free(event)
+                        } else {
+                            Turn::Waits(event.from, index)
+                        }
+                    }
+                }
+            }
+        }
+    }
+
+    /// The last candidate that can go on, with its next event. Those after it are candidates no
+    /// longer, and each is noted to wait.
+    fn candidate(
+        &mut self,
+        streams: &Streams,
+        sends: &Sends,
+    ) -> Result<Option<(Pid, Event)>, AllocError>
+        requires { AreOwn streams.now }
+        ensures done { OnOk result (self.new.done ≡ self.old.done) }
+        ensures received { OnOk result (self.new.received ≡ self.old.received) }
+        ensures free { (order : List PidValue) → IsAt streams.now order self.old
+            → AreSends (events_of streams.now) sends.now → IfOk result (λ o. IfSome o (λ x.
+            CanGo streams.now order x.0 × (next_event streams.now order x.0 ≡ Some x.1))) }
+    {
+        while let Some(pid) = self.candidates.pop() {
+            match self.turn(streams, sends, pid) {
+                Turn::Over => {}
+                Turn::Free(event) => {
+                    self.candidates.push(pid)?;
+                    return Ok(Some((pid, event)));
+                }
+                Turn::Waits(sender, index) => {
+                    let Ok(_) = self.waiting.insert((sender, index), pid) else {
+                        return Err(AllocError);
+                    };
+                }
+            }
+        }
+        Ok(None)
+    }
+
+    /// The first process that can go on, with its next event.
+    fn free_process(&self, streams: &Streams, sends: &Sends) -> Option<(Pid, Event)>
+        requires { AreOwn streams.now }
+        ensures free { (order : List PidValue) → IsAt streams.now order self.now
+            → AreSends (events_of streams.now) sends.now → IfSome result (λ x.
+            CanGo streams.now order x.0 × (next_event streams.now order x.0 ≡ Some x.1)) }
+        ensures none { (order : List PidValue) → IsAt streams.now order self.now
+            → AreSends (events_of streams.now) sends.now
+            → IfNone result ((p : PidValue) → ¬ (CanGo streams.now order p)) }
+    {
+        for &pid in streams.pids() {
+            if let Turn::Free(event) = self.turn(streams, sends, pid) {
+                return Some((pid, event));
+            }
+        }
+        None
+    }
+
+    /// A process that can go on, with its next event.
+    pub(crate) fn next(
+        &mut self,
+        streams: &Streams,
+        sends: &Sends,
+    ) -> Result<Option<(Pid, Event)>, AllocError>
+        requires { AreOwn streams.now }
+        ensures done { OnOk result (self.new.done ≡ self.old.done) }
+        ensures received { OnOk result (self.new.received ≡ self.old.received) }
+        ensures free { (order : List PidValue) → IsAt streams.now order self.old
+            → AreSends (events_of streams.now) sends.now → IfOk result (λ o. IfSome o (λ x.
+            CanGo streams.now order x.0 × (next_event streams.now order x.0 ≡ Some x.1))) }
+        ensures none { (order : List PidValue) → IsAt streams.now order self.old
+            → AreSends (events_of streams.now) sends.now → IfOk result (λ o. IfNone o
+            ((p : PidValue) → ¬ (CanGo streams.now order p))) }
+    {
+        if let Some(found) = self.candidate(streams, sends)? {
+            return Ok(Some(found));
+        }
+        Ok(self.free_process(streams, sends))
+    }
+
+    /// Goes on with the next event of a process.
+    pub(crate) fn go(&mut self, pid: Pid, event: &Event) -> Result<(), AllocError>
+        requires { is_own pid event.now ≡ true }
+        ensures at { (streams : List Stream) (order : List PidValue) → IsAt streams order self.old
+            → next_event streams order pid ≡ Some event.now
+            → OnOk result (IsAt streams (pid ∷ order) self.new) }
+        ensures done { OnOk result ((p : PidValue)
+            → done_in self.new p ≡ done_in self.old p + (if pid_eq pid p then 1 else 0)) }
+    {
+        let index = self.done_of(pid);
+        // There is one more, since memory holds the events.
+        let Some(more) = index.checked_add(1) else {
+            return Err(AllocError);
+        };
+        let Ok(_) = self.done.insert(pid, more) else {
+            return Err(AllocError);
+        };
+        match event.kind {
+            Kind::Print => Ok(()),
+            Kind::Receive => {
+                self.received.note(MessageContent::of(event))?;
+                Ok(())
+            }
+            Kind::Send => self.wake(pid, index),
+        }
+    }
+
+    /// Makes the process a candidate that waits for this event, if there is one.
+    fn wake(&mut self, pid: Pid, index: u64) -> Result<(), AllocError>
+        ensures done { self.new.done ≡ self.old.done }
+        ensures received { self.new.received ≡ self.old.received }
+    {
+        if let Some(&waiter) = self.waiting.get(&(pid, index)) {
+            self.candidates.push(waiter)?;
+        }
+        Ok(())
+    }
+}
