@@ -1,0 +1,172 @@
+-- Why the first of candidates is the first of all: each that is so has a candidate at its place.
+use Rattle.std.proofs.Common.{◌≡◌, ◌⊎◌, ℕ, ◌+◌, zero, suc, List, [], ◌∷◌, ◌++◌, Option, Some, None}
+use Rattle.std.proofs.Common.{inl, inr, length, slice_get, refl, sym, ◌∙◌, subst, arith}
+use Rattle.std.proofs.lemmas.Option.{same_Some}
+use Rattle.st_core.specs.declared.types.Pid.{Pid}
+use Rattle.st_pair.specs.Laws.{IsEarlier}
+use Rattle.lack_decide.specs.Answers.{reason_rank}
+use Rattle.lack_pieces.specs.declared.placed_reason.PlacedReason.{PlacedReason}
+use Rattle.lack_pieces.specs.Firsts.{IsEarliest, IsFirstWith}
+use Rattle.lack_pieces.specs.Verdicts.{ComesBefore, IsVerdictAmong, IsFirstAmong}
+use Rattle.lack_pieces.proofs.Order.{not_before, not_both, not_earlier, not_earlier_back}
+
+-- two reasons at one place
+pub record IsBeside (a b : PlacedReason) : Type 0 where
+  pub pid : a.pid ≡ b.pid
+  pub index : a.index ≡ b.index
+
+-- what is beside one that isn't earlier isn't earlier
+beside_not_earlier : (a b c : PlacedReason) → IsBeside a b → ¬ IsEarlier b.pid b.index c.pid c.index
+    → ¬ IsEarlier a.pid a.index c.pid c.index
+beside_not_earlier a b c beside none earlier = none
+    (subst (λ (q : Pid). IsEarlier q b.index c.pid c.index) beside.pid
+    (subst (λ (n : ℕ). IsEarlier a.pid n c.pid c.index) beside.index earlier))
+
+pub not_before_itself : (a : PlacedReason) → ¬ IsEarlier a.pid a.index a.pid a.index
+not_before_itself a earlier = not_earlier_back a a earlier earlier
+
+module _ (Is More : PlacedReason → Type 0) where
+  -- no candidate more
+  pub first_still : (least : Option PlacedReason) → ((r : PlacedReason) → Is r → More r)
+      → ((r : PlacedReason) → More r → Is r) → IsEarliest Is least → IsEarliest More least
+  first_still None more less none = λ other is. none other (less other is)
+  first_still (Some found) more less first =
+      (more found first.0, λ other is. first.1 other (less other is))
+
+  -- candidates for all that is so
+  pub first_of_all : (least : Option PlacedReason) → ((r : PlacedReason) → Is r → More r)
+      → ((r : PlacedReason) → More r → (c : PlacedReason) × Is c × IsBeside r c) → IsEarliest Is least
+      → IsEarliest More least
+  first_of_all None more has none = λ other is. let c = has other is in none c.0 c.1
+  first_of_all (Some found) more has first = (
+    more found first.0,
+    λ other is. let c = has other is in
+        beside_not_earlier other c.0 found c.2 (first.1 c.0 c.1),
+  )
+
+  -- one candidate more
+  module _ (rank : ℕ) (next : PlacedReason) (ranked : (r : PlacedReason) → Is r → reason_rank r.never ≡ rank)
+      (same : reason_rank next.never ≡ rank) (here : More next)
+      (more : (r : PlacedReason) → Is r → More r)
+      (less : (r : PlacedReason) → More r → Is r ⊎ IsBeside r next) where
+    earlier_if : (found : PlacedReason) → Is found → ComesBefore next found
+        → IsEarlier next.pid next.index found.pid found.index
+    earlier_if found is before = elim before [
+      | inl lower ↦ let a = ranked found is in absurd (omega (arith, lower, a, same))
+      | inr both ↦ both.1
+    ]
+
+    pub first_with : (least : Option PlacedReason) (result : PlacedReason) → IsFirstWith least next result
+        → IsEarliest Is least → IsEarliest More (Some result)
+    first_with None result with none = (
+      subst More (sym with) here,
+      λ other is. elim (less other is) [
+        | inl old ↦ absurd (none other old)
+        | inr beside ↦ subst (λ (r : PlacedReason). ¬ IsEarlier other.pid other.index r.pid r.index)
+            (sym with) (beside_not_earlier other next next beside (not_before_itself next))
+      ],
+    )
+    first_with (Some found) result with first = elim with [
+      | inl kept ↦ subst (λ (r : PlacedReason). IsEarliest More (Some r)) (sym kept.0) (
+        more found first.0,
+        λ other is. elim (less other is) [
+          | inl old ↦ first.1 other old
+          | inr beside ↦ beside_not_earlier other next found beside
+              (λ earlier. kept.1 (inr (same ∙ sym (ranked found first.0), earlier)))
+        ],
+      )
+      | inr new ↦ subst (λ (r : PlacedReason). IsEarliest More (Some r)) (sym new.0) (
+        here,
+        λ other is. elim (less other is) [
+          | inl old ↦ not_earlier other found next (first.1 other old)
+              (not_earlier_back next found (earlier_if found first.0 new.1))
+          | inr beside ↦ beside_not_earlier other next next beside (not_before_itself next)
+        ],
+      )
+    ]
+
+-- THE FIRST OF VERDICTS
+
+get_left : {A : Type 0} (xs ys : List A) (k : ℕ) (x : A) → slice_get xs k ≡ Some x
+    → slice_get (xs ++ ys) k ≡ Some x
+get_left [] ys k x at = absurd (cc)
+get_left (y ∷ xs) ys zero x at = at
+get_left (y ∷ xs) ys (suc k) x at = get_left xs ys k x at
+
+get_last : {A : Type 0} (xs : List A) (x : A) → slice_get (xs ++ x ∷ []) (length xs) ≡ Some x
+get_last [] x = refl
+get_last (y ∷ xs) x = get_last xs x
+
+get_either : {A : Type 0} (xs : List A) (y : A) (k : ℕ) (x : A)
+    → slice_get (xs ++ y ∷ []) k ≡ Some x → (slice_get xs k ≡ Some x) ⊎ (y ≡ x)
+get_either [] y zero x at = inr (same_Some y x at)
+get_either [] y (suc k) x at = absurd (cc)
+get_either (z ∷ xs) y zero x at = inl at
+get_either (z ∷ xs) y (suc k) x at = get_either xs y k x at
+
+module _ (verdicts : List (Option PlacedReason)) where
+  among_more : (next : Option PlacedReason) (r : PlacedReason) → IsVerdictAmong verdicts r
+      → IsVerdictAmong (verdicts ++ next ∷ []) r
+  among_more next r a = record {
+    place = a.place;
+    at = get_left verdicts (next ∷ []) a.place (Some r) a.at;
+  }
+
+  among_last : (r : PlacedReason) → IsVerdictAmong (verdicts ++ Some r ∷ []) r
+  among_last r = record { place = length verdicts; at = get_last verdicts (Some r) }
+
+  among_either : (next : Option PlacedReason) (r : PlacedReason) → IsVerdictAmong (verdicts ++ next ∷ []) r
+      → IsVerdictAmong verdicts r ⊎ (next ≡ Some r)
+  among_either next r a = elim (get_either verdicts next a.place (Some r) a.at) [
+    | inl old ↦ inl (record { place = a.place; at = old })
+    | inr new ↦ inr new
+  ]
+
+  pub first_from_none : (next : Option PlacedReason) → IsFirstAmong verdicts None
+      → IsFirstAmong (verdicts ++ next ∷ []) next
+  first_from_none None none = λ other a. elim (among_either None other a) [
+    | inl old ↦ none other old
+    | inr new ↦ cc
+  ]
+  first_from_none (Some r) none = (
+    among_last r,
+    λ other a before. elim (among_either (Some r) other a) [
+      | inl old ↦ none other old
+      | inr new ↦ not_both other r before
+          (subst (λ (x : PlacedReason). ComesBefore x other) (sym (same_Some r other new))
+          (subst (λ (x : PlacedReason). ComesBefore other x) (same_Some r other new) before))
+    ],
+  )
+
+  pub first_and_none : (found : PlacedReason) → IsFirstAmong verdicts (Some found)
+      → IsFirstAmong (verdicts ++ None ∷ []) (Some found)
+  first_and_none found first = (
+    among_more None found first.0,
+    λ other a. elim (among_either None other a) [
+      | inl old ↦ first.1 other old
+      | inr new ↦ absurd (cc)
+    ],
+  )
+
+  pub first_and_next : (found next result : PlacedReason) → IsFirstAmong verdicts (Some found)
+      → ((result ≡ found) × ¬ ComesBefore next found)
+      ⊎ ((result ≡ next) × ComesBefore next found)
+      → IsFirstAmong (verdicts ++ Some next ∷ []) (Some result)
+  first_and_next found next result first (inl kept) =
+      subst (λ (r : PlacedReason). IsFirstAmong (verdicts ++ Some next ∷ []) (Some r)) (sym kept.0) (
+        among_more (Some next) found first.0,
+        λ other a. elim (among_either (Some next) other a) [
+          | inl old ↦ first.1 other old
+          | inr new ↦ subst (λ (r : PlacedReason). ¬ ComesBefore r found) (same_Some next other new)
+              kept.1
+        ],
+      )
+  first_and_next found next result first (inr new) =
+      subst (λ (r : PlacedReason). IsFirstAmong (verdicts ++ Some next ∷ []) (Some r)) (sym new.0) (
+        among_last next,
+        λ other a. elim (among_either (Some next) other a) [
+          | inl old ↦ not_before other found next (first.1 other old) (not_both next found new.1)
+          | inr same ↦ subst (λ (r : PlacedReason). ¬ ComesBefore r next) (same_Some next other same)
+              (λ before. not_both next next before before)
+        ],
+      )

@@ -1,0 +1,418 @@
+-- Why the lowest counts tell what is unfounded: a lower one is there exactly if the lowest is lower,
+-- and the first one that a walk meets is the lowest, since counts rise.
+use Rattle.std.proofs.Common.{◌≡◌, ◌⊎◌, ℕ, ◌<◌, ◌+◌, zero, Bool, true, false}
+use Rattle.std.proofs.Common.{List, Option, Some, None, inl, inr, slice_get, refl, sym, ◌∙◌, ap, subst, arith}
+use Rattle.std.proofs.lemmas.Bool.{cases_lt, false≢true}
+use Rattle.std.proofs.lemmas.Option.{same_Some}
+use Rattle.st_core.specs.declared.types.Pid.{Pid}
+use Rattle.st_core.specs.declared.types.Event.{Event}
+use Rattle.st_pair.specs.Laws.{IsEarlier}
+use Rattle.st_pair.specs.Pairing.{stamp_of}
+use Rattle.st_pair.specs.Places.{is_stamp}
+use Rattle.lack_decide.specs.declared.answer.Never.TheVariants as never
+use Rattle.lack_decide.specs.Answers.{reason_rank, IsAfterReceive}
+use Rattle.lack_pieces.specs.declared.placed_reason.Receipt.{Receipt}
+use Rattle.lack_pieces.specs.declared.placed_reason.PlacedReason.{PlacedReason}
+use Rattle.lack_pieces.specs.declared.unfounded_events.Lowest.{Lowest}
+use Rattle.lack_pieces.specs.Firsts.{HoldsOfRank, IsEarliest, IsFirstOfRank, IsFirstWith, StampsRise}
+use Rattle.lack_pieces.specs.Lowest.{IsKnownBelow, IsLowestIn, IsLowestOfReceipts, IsLowestOfStamps}
+use Rattle.lack_pieces.specs.Lowest.{IsReceiptCounted, IsStampCounted, IsUnfoundedReceipt, IsUnfoundedStamp}
+use Rattle.lack_pieces.specs.Pieces.{Piece}
+use Rattle.lack_pieces.specs.Reasons.{own_streams, HasStampBelow, IsAgainstIn}
+use Rattle.lack_pieces.specs.Verdicts.{AreInOrder, ComesBefore}
+use Rattle.lack_pieces.proofs.Candidates.{first_of_all, first_still, first_with, IsBeside}
+use Rattle.lack_pieces.proofs.Order.{not_earlier, not_earlier_back}
+use Rattle.lack_pieces.proofs.Readings.{own_events}
+use Rattle.lack_pieces.proofs.ReceivedCounts.{counts_climb, reason_at}
+use Rattle.lack_pieces.proofs.Walks.{more_passed, unfounded}
+
+-- THE LOWEST COUNT
+
+below_stamp : (es : List Event) (low : Option ℕ) (count : ℕ) → IsLowestOfStamps es low
+    → IsKnownBelow low count → (n : ℕ) × IsStampCounted es n × (n < count)
+below_stamp es None count lowest known = absurd known
+below_stamp es (Some low) count lowest known = (low, lowest.0, known)
+
+stamp_below : (es : List Event) (low : Option ℕ) (n count : ℕ) → IsLowestOfStamps es low
+    → IsStampCounted es n → n < count → IsKnownBelow low count
+stamp_below es None n count lowest is less = absurd (lowest n is)
+stamp_below es (Some low) n count lowest is less = let least = lowest.1 n is in
+    omega (arith, less, least)
+
+below_receipt : (rs : List Receipt) (low : Option ℕ) (count : ℕ) → IsLowestOfReceipts rs low
+    → IsKnownBelow low count → (n : ℕ) × IsReceiptCounted rs n × (n < count)
+below_receipt rs None count lowest known = absurd known
+below_receipt rs (Some low) count lowest known = (low, lowest.0, known)
+
+receipt_below : (rs : List Receipt) (low : Option ℕ) (n count : ℕ) → IsLowestOfReceipts rs low
+    → IsReceiptCounted rs n → n < count → IsKnownBelow low count
+receipt_below rs None n count lowest is less = absurd (lowest n is)
+receipt_below rs (Some low) n count lowest is less = let least = lowest.1 n is in
+    omega (arith, less, least)
+
+module _ (piece : Piece) (lowest : Lowest) (is : IsLowestIn piece lowest) (e : Event) where
+  pub behind_known : IsKnownBelow lowest.stamps e.serial.this
+      ⊎ IsKnownBelow lowest.receipts e.serial.this → HasStampBelow piece e
+  behind_known (inl known) =
+      let f = below_stamp piece.events lowest.stamps e.serial.this is.stamps known in
+      let s = f.1 in
+      let less = f.2 in
+      let same = s.is in
+      record {
+        pid = piece.pid;
+        index = s.place;
+        first = s.event;
+        tells = inl (record { own = refl; at = s.at }, s.stamps);
+        lower = omega (arith, less, same);
+        above = s.above;
+      }
+  behind_known (inr known) =
+      let f = below_receipt piece.receipts lowest.receipts e.serial.this is.receipts known in
+      let s = f.1 in
+      let less = f.2 in
+      let same = s.is in
+      record {
+        pid = s.receipt.pid;
+        index = s.receipt.index;
+        first = s.receipt.event;
+        tells = inr (record { place = s.place; at = s.at });
+        lower = omega (arith, less, same);
+        above = s.above;
+      }
+
+  pub known_behind : HasStampBelow piece e → IsKnownBelow lowest.stamps e.serial.this
+      ⊎ IsKnownBelow lowest.receipts e.serial.this
+  known_behind b = elim b.tells [
+    | inl stamp ↦ inl (stamp_below piece.events lowest.stamps b.first.serial.this e.serial.this
+        is.stamps (record {
+          place = b.index;
+          event = b.first;
+          at = stamp.0.at;
+          stamps = stamp.1;
+          above = b.above;
+          is = refl;
+        }) b.lower)
+    | inr receipt ↦ inr (receipt_below piece.receipts lowest.receipts b.first.serial.this
+        e.serial.this is.receipts (record {
+          place = receipt.place;
+          receipt = record { pid = b.pid; index = b.index; event = b.first };
+          at = receipt.at;
+          above = b.above;
+          is = refl;
+        }) b.lower)
+  ]
+
+-- THE FIRST UNFOUNDED EVENT
+
+module _ (top : ℕ) (piece : Piece) where
+  -- of either sort
+  abbrev pub IsEither : PlacedReason → Type 0
+  IsEither r = IsUnfoundedStamp piece r ⊎ IsUnfoundedReceipt piece r
+
+  either_holds : (r : PlacedReason) → IsEither r → HoldsOfRank top piece 5 r
+  either_holds r (inl s) = record {
+    event = s.event;
+    holds = subst (λ n. IsAgainstIn top piece r.pid r.index s.event n) (sym s.is) (
+      s.zero,
+      elim s.why [ inl after ↦ inl (s.own.0, after) | inr below ↦ inr (inl s.own, below) ],
+    );
+    of_rank = ap reason_rank s.is;
+  }
+  either_holds r (inr t) = record {
+    event = t.event;
+    holds = subst (λ n. IsAgainstIn top piece r.pid r.index t.event n) (sym t.is)
+        (t.zero, inr (inr t.hidden, t.behind));
+    of_rank = ap reason_rank t.is;
+  }
+
+  holds_either : (r : PlacedReason) → HoldsOfRank top piece 5 r → (c : PlacedReason) × IsEither c × IsBeside r c
+  holds_either r h =
+      let c : PlacedReason = record { pid = r.pid; index = r.index; never = never.Unfounded } in
+      let x = unfounded top piece r h in
+      let beside : IsBeside r c = record { pid = refl; index = refl } in
+      elim x.1 [
+        | inl own ↦ (
+          c,
+          inl (record {
+            event = h.event;
+            own = (own.0, own.1.0);
+            zero = x.0;
+            why = inl own.1;
+            is = refl;
+          }),
+          beside,
+        )
+        | inr both ↦ elim both.0 [
+          | inl stamp ↦ (
+            c,
+            inl (record {
+              event = h.event;
+              own = stamp;
+              zero = x.0;
+              why = inr both.1;
+              is = refl;
+            }),
+            beside,
+          )
+          | inr hidden ↦ (
+            c,
+            inr (record {
+              event = h.event;
+              hidden = hidden;
+              zero = x.0;
+              behind = both.1;
+              is = refl;
+            }),
+            beside,
+          )
+        ]
+      ]
+
+  ranks : (a b : PlacedReason) → IsEither a → IsEither b → reason_rank a.never ≡ reason_rank b.never
+  ranks a b first second = (either_holds a first).of_rank ∙ sym (either_holds b second).of_rank
+
+  at_earlier : (a b : PlacedReason) → IsEither a → IsEither b → ComesBefore a b
+      → IsEarlier a.pid a.index b.pid b.index
+  at_earlier a b first second before = elim before [
+    | inl less ↦ let same = ranks a b first second in absurd (omega (arith, less, same))
+    | inr both ↦ both.1
+  ]
+
+  -- the first of both sorts: there is no receipt
+  pub first_stamp : (stamp : Option PlacedReason) → IsEarliest (IsUnfoundedStamp piece) stamp
+      → IsEarliest (IsUnfoundedReceipt piece) None → IsFirstOfRank top piece 5 stamp
+  first_stamp stamp first none = first_of_all (IsUnfoundedStamp piece) (HoldsOfRank top piece 5) stamp
+      (λ r is. either_holds r (inl is))
+      (λ r h. let c = holds_either r h in (
+        c.0,
+        elim c.1 [
+          | inl is ↦ is
+          | inr is ↦ absurd (none c.0 is)
+        ],
+        c.2,
+      )) first
+
+  -- or the first of the two: what comes before neither first comes before none
+  pub first_both : (stamp : Option PlacedReason) (receipt result : PlacedReason)
+      → IsEarliest (IsUnfoundedStamp piece) stamp
+      → IsEarliest (IsUnfoundedReceipt piece) (Some receipt) → IsFirstWith stamp receipt result
+      → IsFirstOfRank top piece 5 (Some result)
+  first_both None receipt result stamps receipts with =
+      subst (λ (r : PlacedReason). IsFirstOfRank top piece 5 (Some r)) (sym with)
+      (first_of_all (IsUnfoundedReceipt piece) (HoldsOfRank top piece 5) (Some receipt)
+      (λ r is. either_holds r (inr is))
+      (λ r h. let c = holds_either r h in (
+        c.0,
+        elim c.1 [
+          | inl is ↦ absurd (stamps c.0 is)
+          | inr is ↦ is
+        ],
+        c.2,
+      )) receipts)
+  first_both (Some stamp) receipt result stamps receipts with = elim with [
+    | inl kept ↦ subst (λ (r : PlacedReason). IsFirstOfRank top piece 5 (Some r)) (sym kept.0)
+        (first_of_all IsEither (HoldsOfRank top piece 5) (Some stamp) either_holds holds_either (
+          inl stamps.0,
+          λ other is. elim is [
+            | inl s ↦ stamps.1 other s
+            | inr t ↦ not_earlier other receipt stamp (receipts.1 other t)
+                (λ earlier. kept.1 (inr (
+                  ranks receipt stamp (inr receipts.0) (inl stamps.0),
+                  earlier,
+                )))
+          ],
+        ))
+    | inr new ↦ subst (λ (r : PlacedReason). IsFirstOfRank top piece 5 (Some r)) (sym new.0)
+        (first_of_all IsEither (HoldsOfRank top piece 5) (Some receipt) either_holds holds_either (
+          inr receipts.0,
+          λ other is. elim is [
+            | inl s ↦ not_earlier other stamp receipt (stamps.1 other s)
+                (not_earlier_back receipt stamp (at_earlier receipt stamp (inr receipts.0)
+                (inl stamps.0) new.1))
+            | inr t ↦ receipts.1 other t
+          ],
+        ))
+  ]
+
+-- THE WALKS
+
+-- whether an event before index i is a receive
+abbrev pub IsReceived : List Event → ℕ → Bool → Type 0
+IsReceived es i true = (j : ℕ) × (f : Event) × (j < i) × (slice_get es j ≡ Some f)
+    × (is_stamp f ≡ false)
+IsReceived es i false = (j : ℕ) (f : Event) → j < i → slice_get es j ≡ Some f → is_stamp f ≡ true
+
+-- no send or print before index i is unfounded
+abbrev pub IsFoundedBelow : Piece → ℕ → Type 0
+IsFoundedBelow piece i = (other : PlacedReason) → IsUnfoundedStamp piece other → other.index < i → ⊥
+
+-- the receipt of an unfounded send that nobody reported is before place n
+pub record IsUnfoundedBelow (piece : Piece) (n : ℕ) (found : PlacedReason) : Type 0 where
+  pub is : IsUnfoundedReceipt piece found
+  pub within : is.hidden.0.place < n
+
+module _ (piece : Piece) (i : ℕ) (e : Event) (at : slice_get piece.events i ≡ Some e) where
+  pub received_here : is_stamp e ≡ false → IsReceived piece.events (i + 1) true
+  received_here receives = (i, e, omega arith, at, receives)
+
+  pub received_kept : (b : Bool) → is_stamp e ≡ true → IsReceived piece.events i b
+      → IsReceived piece.events (i + 1) b
+  received_kept true stamps h = let less = h.2 in (h.0, h.1, omega (arith, less), h.3, h.4)
+  received_kept false stamps none =
+      more_passed (λ (f : Event). is_stamp f ≡ true) piece.events i e at none stamps
+
+  pub after_receive : is_stamp e ≡ true → IsReceived piece.events i true
+      → IsAfterReceive (own_streams piece) piece.pid i e
+  after_receive stamps h = (
+    stamps,
+    h.0,
+    h.1,
+    h.2,
+    subst (λ es. slice_get es h.0 ≡ Some h.1) (sym (own_events piece)) h.3,
+    h.4,
+  )
+
+  pub not_after_receive : IsReceived piece.events i false
+      → ¬ IsAfterReceive (own_streams piece) piece.pid i e
+  not_after_receive none h =
+      let there = subst (λ es. slice_get es h.1 ≡ Some h.2) (own_events piece) h.4 in
+      false≢true (sym h.5 ∙ none h.1 h.2 h.3 there)
+
+  pub founded_more : IsFoundedBelow piece i
+      → (is_stamp e ≡ true → e.serial.prev ≡ 0
+      → ¬ (IsAfterReceive (own_streams piece) piece.pid i e ⊎ HasStampBelow piece e))
+      → IsFoundedBelow piece (i + 1)
+  founded_more before here other s less = elim (cases_lt other.index i) [
+    | inl below ↦ before other s below
+    | inr high ↦
+        let one : other.index ≡ i = omega (arith, less, high) in
+        let same : s.event ≡ e = same_Some s.event e (sym s.own.0.at
+        ∙ ap (slice_get piece.events) one ∙ at) in
+        here (ap is_stamp (sym same) ∙ s.own.1)
+        (ap (λ (x : Event). x.serial.prev) (sym same) ∙ s.zero)
+        (subst (λ (x : Event). IsAfterReceive (own_streams piece) piece.pid i x
+        ⊎ HasStampBelow piece x) same
+        (subst (λ (n : ℕ). IsAfterReceive (own_streams piece) piece.pid n s.event
+        ⊎ HasStampBelow piece s.event) one
+        (subst (λ (q : Pid). IsAfterReceive (own_streams piece) q other.index s.event
+        ⊎ HasStampBelow piece s.event) s.own.0.own s.why)))
+  ]
+
+-- THE LOWEST COUNT IS THE FIRST
+
+pub lowest_stamp : (es : List Event) (i : ℕ) (e : Event) → StampsRise es → slice_get es i ≡ Some e
+    → is_stamp e ≡ true → 0 < e.serial.prev
+    → ((k : ℕ) (f : Event) → k < i → slice_get es k ≡ Some f → is_stamp f ≡ true
+    → f.serial.prev ≡ 0)
+    → IsLowestOfStamps es (Some e.serial.this)
+lowest_stamp es i e rise at stamps above none = (
+  record { place = i; event = e; at = at; stamps = stamps; above = above; is = refl },
+  λ count s.
+      let same = s.is in
+      elim (cases_lt s.place i) [
+        | inl less ↦
+            let zero_prev = none s.place s.event less s.at s.stamps in
+            let positive = s.above in
+            absurd (omega (arith, zero_prev, positive))
+        | inr high ↦ elim (cases_lt i s.place) [
+          | inl less ↦ let low = rise i s.place e s.event less at s.at stamps s.stamps in
+              omega (arith, low, same)
+          | inr equal ↦
+              let one : s.place ≡ i = omega (arith, high, equal) in
+              let event = ap (λ (x : Event). x.serial.this) (same_Some s.event e (sym s.at
+              ∙ ap (slice_get es) one ∙ at)) in
+              omega (arith, event, same)
+        ]
+      ],
+)
+
+pub lowest_receipt : (rs : List Receipt) (i : ℕ) (r : Receipt) → AreInOrder rs
+    → slice_get rs i ≡ Some r → 0 < r.event.serial.prev
+    → ((k : ℕ) (s : Receipt) → k < i → slice_get rs k ≡ Some s → s.event.serial.prev ≡ 0)
+    → IsLowestOfReceipts rs (Some r.event.serial.this)
+lowest_receipt rs i r order at above none = (
+  record { place = i; receipt = r; at = at; above = above; is = refl },
+  λ count s.
+      let same = s.is in
+      elim (cases_lt s.place i) [
+        | inl less ↦
+            let zero_prev = none s.place s.receipt less s.at in
+            let positive = s.above in
+            absurd (omega (arith, zero_prev, positive))
+        | inr high ↦ elim (cases_lt i s.place) [
+          | inl less ↦ let low = counts_climb rs order i s.place r s.receipt less at s.at in
+              omega (arith, low, same)
+          | inr equal ↦
+              let one : s.place ≡ i = omega (arith, high, equal) in
+              let receipt = ap (λ (x : Receipt). x.event.serial.this) (same_Some s.receipt r
+              (sym s.at ∙ ap (slice_get rs) one ∙ at)) in
+              omega (arith, receipt, same)
+        ]
+      ],
+)
+
+-- ONE RECEIPT MORE
+
+pub below_ranked : (piece : Piece) (n : ℕ) (r : PlacedReason) → IsUnfoundedBelow piece n r
+    → reason_rank r.never ≡ 5
+below_ranked piece n r u = ap reason_rank u.is.is
+
+module _ (piece : Piece) (n : ℕ) (receipt : Receipt)
+    (at : slice_get piece.receipts n ≡ Some receipt) (least : Option PlacedReason)
+    (first : IsEarliest (IsUnfoundedBelow piece n) least) where
+  older : (r : PlacedReason) → IsUnfoundedBelow piece n r → IsUnfoundedBelow piece (n + 1) r
+  older r u = record { is = u.is; within = let less = u.within in omega (arith, less) }
+
+  -- one of those before, or the receipt
+  older_or : (r : PlacedReason) (u : IsUnfoundedBelow piece (n + 1) r)
+      → IsUnfoundedBelow piece n r ⊎ (record { pid = r.pid; index = r.index; event = u.is.event }
+      ≡ receipt)
+  older_or r u = elim (cases_lt u.is.hidden.0.place n) [
+    | inl less ↦ inl (record { is = u.is; within = less })
+    | inr high ↦
+        let within = u.within in
+        let one : u.is.hidden.0.place ≡ n = omega (arith, within, high) in
+        let here : Receipt = record { pid = r.pid; index = r.index; event = u.is.event } in
+        inr (same_Some here receipt (sym u.is.hidden.0.at ∙ ap (slice_get piece.receipts) one ∙ at))
+  ]
+
+  pub unfounded_still : (receipt.event.serial.prev ≡ 0
+      → stamp_of (own_streams piece) piece.pid receipt.event.serial.this ≡ None
+      → ¬ HasStampBelow piece receipt.event)
+      → IsEarliest (IsUnfoundedBelow piece (n + 1)) least
+  unfounded_still none = first_still (IsUnfoundedBelow piece n) (IsUnfoundedBelow piece (n + 1))
+      least older (λ r u. elim (older_or r u) [
+        | inl old ↦ old
+        | inr same ↦
+            let event : u.is.event ≡ receipt.event = ap (λ (x : Receipt). x.event) same in
+            absurd (none (ap (λ (x : Event). x.serial.prev) (sym event) ∙ u.is.zero)
+            (subst (λ (x : Event). stamp_of (own_streams piece) piece.pid x.serial.this ≡ None)
+            event u.is.hidden.1)
+            (subst (λ (x : Event). HasStampBelow piece x) event u.is.behind))
+      ]) first
+
+  pub unfounded_more : (next result : PlacedReason) → receipt.event.serial.prev ≡ 0
+      → stamp_of (own_streams piece) piece.pid receipt.event.serial.this ≡ None
+      → HasStampBelow piece receipt.event → next ≡ reason_at receipt never.Unfounded
+      → IsFirstWith least next result → IsEarliest (IsUnfoundedBelow piece (n + 1)) (Some result)
+  unfounded_more next result zero_prev hidden behind is with =
+      let more : IsUnfoundedBelow piece (n + 1) (reason_at receipt never.Unfounded) = record {
+        is = record {
+          event = receipt.event;
+          hidden = (record { place = n; at = at }, hidden);
+          zero = zero_prev;
+          behind = behind;
+          is = refl;
+        };
+        within = omega arith;
+      } in
+      first_with (IsUnfoundedBelow piece n) (IsUnfoundedBelow piece (n + 1)) 5 next
+      (below_ranked piece n) (ap (λ (x : PlacedReason). reason_rank x.never) is)
+      (subst (IsUnfoundedBelow piece (n + 1)) (sym is) more) older
+      (λ r u. elim (older_or r u) [
+        | inl old ↦ inl old
+        | inr same ↦ inr (record {
+          pid = ap (λ (x : Receipt). x.pid) same ∙ sym (ap (λ (x : PlacedReason). x.pid) is);
+          index = ap (λ (x : Receipt). x.index) same ∙ sym (ap (λ (x : PlacedReason). x.index) is);
+        })
+      ]) least result with first

@@ -1,0 +1,11 @@
+-- The lemmas: reasons have one order, a reason of the streams is one of a piece, and what a walk
+-- over a piece finds first; and the verdict is the one of `complete`.
+pub mod Order
+pub mod Readings
+pub mod Verdicts
+pub mod Walks
+pub mod Candidates
+pub mod ReceivedCounts
+pub mod Founding
+pub mod Named
+mod Cases

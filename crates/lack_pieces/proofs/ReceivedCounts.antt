@@ -1,0 +1,539 @@
+-- Why one walk over the receipts finds what repeats, and what isn't the send of a receipt: receipts of
+-- one count are next to each other, and the sends and prints come in the order of the counts too.
+use Rattle.std.proofs.Common.{◌≡◌, ◌⊎◌, ℕ, ◌<◌, ◌≤◌, ◌+◌, ◌-◌, ◌==◌, ◌&&◌, zero, suc, true, false, cond}
+use Rattle.std.proofs.Common.{List, [], ◌∷◌, Option, Some, None, inl, inr, length, slice_get, refl, sym, ◌∙◌, ap, subst, arith}
+use Rattle.std.proofs.lemmas.Bool.{and_from, and_parts, cases_lt, eq-eqb, eqb-true}
+use Rattle.std.proofs.lemmas.Option.{same_Some}
+use Rattle.st_core.specs.declared.types.Pid.{Pid}
+use Rattle.st_core.specs.declared.types.Event.{Event}
+use Rattle.st_core.proofs.ForCallers.{some_if}
+use Rattle.st_pair.specs.Laws.{IsEarlier}
+use Rattle.st_pair.specs.Pairing.{stamp_of}
+use Rattle.st_pair.specs.Places.{first_from, is_stamp, or_else}
+use Rattle.st_pair.proofs.ForCallers.{blank, given_from, own_rule}
+use Rattle.lack_decide.specs.declared.answer.Never.{Never}
+use Rattle.lack_decide.specs.declared.answer.Never.TheVariants as never
+use Rattle.lack_decide.specs.Answers.{reason_rank, IsSendOf}
+use Rattle.lack_pieces.specs.declared.placed_reason.Receipt.{Receipt}
+use Rattle.lack_pieces.specs.declared.placed_reason.PlacedReason.{PlacedReason}
+use Rattle.lack_pieces.specs.Firsts.{HoldsOfRank, IsEarliest, IsFirstWith, IsNextStamp, StampsRise}
+use Rattle.lack_pieces.specs.Pieces.{Piece}
+use Rattle.lack_pieces.specs.Reasons.{own_streams}
+use Rattle.lack_pieces.specs.Verdicts.{AreInOrder}
+use Rattle.lack_pieces.proofs.Candidates.{first_still, first_with, not_before_itself, IsBeside}
+use Rattle.lack_pieces.proofs.Order.{not_earlier_back}
+use Rattle.lack_pieces.proofs.Readings.{own_events}
+use Rattle.lack_pieces.proofs.Walks.{mismatch, repeated, within_length}
+
+-- RECEIPTS IN ORDER
+
+-- before something in a list there is something
+pub at_before : {A : Type 0} (xs : List A) (j k : ℕ) (x : A) → j < k → slice_get xs k ≡ Some x
+    → (y : A) × (slice_get xs j ≡ Some y)
+at_before [] j k x less at = absurd (cc)
+at_before (y ∷ xs) zero k x less at = (y, refl)
+at_before (y ∷ xs) (suc j) zero x less at = absurd (omega (arith, less))
+at_before (y ∷ xs) (suc j) (suc k) x less at = at_before xs j k x (omega (arith, less)) at
+
+pub counts_climb : (receipts : List Receipt) → AreInOrder receipts → (j k : ℕ) (a b : Receipt)
+    → j < k → slice_get receipts j ≡ Some a → slice_get receipts k ≡ Some b
+    → a.event.serial.this ≤ b.event.serial.this
+counts_climb receipts order j k a b less at there = elim (order j k a b less at there) [
+  | inl lower ↦ omega (arith, lower)
+  | inr both ↦ let same = both.0 in omega (arith, same)
+]
+
+-- the reason at the place of a receipt
+abbrev pub reason_at : Receipt → Never → PlacedReason
+reason_at r reason = record { pid = r.pid; index = r.index; never = reason }
+
+-- what a walk names past the end
+abbrev pub blank_receipt : Receipt
+blank_receipt = record { pid = record { node = 0; number = 0 }; index = 0; event = blank }
+
+-- WHAT REPEATS
+
+-- a receipt before place n, and the one before it, have one count
+pub record IsRepeatBelow (receipts : List Receipt) (n : ℕ) (found : PlacedReason) : Type 0 where
+  pub first : ℕ
+  pub place : ℕ
+  pub next : first + 1 ≡ place
+  pub before : Receipt
+  pub receipt : Receipt
+  pub at_first : slice_get receipts first ≡ Some before
+  pub at : slice_get receipts place ≡ Some receipt
+  pub within : place < n
+  pub same : before.event.serial.this ≡ receipt.event.serial.this
+  pub is : found ≡ reason_at receipt (never.Repeated before.pid before.index)
+
+pub repeat_ranked : (receipts : List Receipt) (n : ℕ) (r : PlacedReason) → IsRepeatBelow receipts n r
+    → reason_rank r.never ≡ 2
+repeat_ranked receipts n r c = ap (λ (x : PlacedReason). reason_rank x.never) c.is
+
+pub repeat_widened : (receipts : List Receipt) (m n : ℕ) (r : PlacedReason) → m ≤ n
+    → IsRepeatBelow receipts m r → IsRepeatBelow receipts n r
+repeat_widened receipts m n r wide c = record {
+  first = c.first;
+  place = c.place;
+  next = c.next;
+  before = c.before;
+  receipt = c.receipt;
+  at_first = c.at_first;
+  at = c.at;
+  within = let less = c.within in omega (arith, less, wide);
+  same = c.same;
+  is = c.is;
+}
+
+module _ (top : ℕ) (piece : Piece) (order : AreInOrder piece.receipts) where
+  repeat_earlier : (n : ℕ) (r : PlacedReason) (c : IsRepeatBelow piece.receipts n r)
+      → IsEarlier c.before.pid c.before.index c.receipt.pid c.receipt.index
+  repeat_earlier n r c = elim (order c.first c.place c.before c.receipt
+      (let next = c.next in omega (arith, next)) c.at_first c.at) [
+        | inl less ↦ let same = c.same in absurd (omega (arith, less, same))
+        | inr both ↦ both.1
+      ]
+
+  pub repeat_holds : (n : ℕ) (r : PlacedReason) → IsRepeatBelow piece.receipts n r
+      → HoldsOfRank top piece 2 r
+  repeat_holds n r c = subst (HoldsOfRank top piece 2) (sym c.is) (record {
+    event = c.receipt.event;
+    holds = (
+      record { place = c.place; at = c.at },
+      repeat_earlier n r c,
+      c.before.event,
+      record { place = c.first; at = c.at_first },
+      c.same,
+    );
+    of_rank = refl;
+  })
+
+  -- a receipt with the count of one at an earlier place comes behind it
+  behind : (j k : ℕ) (a b : Receipt) → slice_get piece.receipts j ≡ Some a
+      → slice_get piece.receipts k ≡ Some b → a.event.serial.this ≡ b.event.serial.this
+      → IsEarlier a.pid a.index b.pid b.index → j < k
+  behind j k a b at there same earlier = elim (cases_lt j k) [
+    | inl less ↦ less
+    | inr high ↦ elim (cases_lt k j) [
+      | inl less ↦ absurd (elim (order k j b a less there at) [
+        | inl lower ↦ omega (arith, lower, same)
+        | inr both ↦ not_earlier_back (reason_at a never.TooHigh) (reason_at b never.TooHigh)
+            earlier both.1
+      ])
+      | inr low ↦
+          let one : j ≡ k = omega (arith, high, low) in
+          let receipt = same_Some a b (sym at
+          ∙ ap (slice_get piece.receipts) one ∙ there) in
+          absurd (not_before_itself (reason_at b never.TooHigh)
+          (subst (λ (r : Receipt). IsEarlier r.pid r.index b.pid b.index) receipt earlier))
+    ]
+  ]
+
+  -- the one before a receipt has its count, if an earlier one has
+  count_before : (j k : ℕ) (a b c : Receipt) → j < suc k → slice_get piece.receipts j ≡ Some a
+      → slice_get piece.receipts k ≡ Some b → slice_get piece.receipts (suc k) ≡ Some c
+      → a.event.serial.this ≡ c.event.serial.this → b.event.serial.this ≡ c.event.serial.this
+  count_before j k a b c less at there last same =
+      let climbs = counts_climb piece.receipts order k (suc k) b c (omega arith) there last in
+      elim (cases_lt j k) [
+        | inl before ↦
+            let low = counts_climb piece.receipts order j k a b before at there in
+            omega (arith, low, climbs, same)
+        | inr high ↦
+            let one : j ≡ k = omega (arith, less, high) in
+            let receipt = same_Some a b (sym at ∙ ap (slice_get piece.receipts) one ∙ there) in
+            ap (λ (r : Receipt). r.event.serial.this) (sym receipt) ∙ same
+      ]
+
+  repeat_at : (r : PlacedReason) (here first : Receipt) (k j : ℕ) → slice_get piece.receipts k ≡ Some here
+      → slice_get piece.receipts j ≡ Some first
+      → first.event.serial.this ≡ here.event.serial.this → here.pid ≡ r.pid
+      → here.index ≡ r.index → j < k
+      → (c : PlacedReason) × IsRepeatBelow piece.receipts (length piece.receipts) c × IsBeside r c
+  repeat_at r here first zero j at there same pid index less = absurd (omega (arith, less))
+  repeat_at r here first (suc k) j at there same pid index less =
+      let before = at_before piece.receipts k (suc k) here (omega arith) at in (
+        reason_at here (never.Repeated before.0.pid before.0.index),
+        record {
+          first = k;
+          place = suc k;
+          next = omega arith;
+          before = before.0;
+          receipt = here;
+          at_first = before.1;
+          at = at;
+          within = within_length piece.receipts (suc k) here at;
+          same = count_before j k first before.0 here less there before.1 at same;
+          is = refl;
+        },
+        record { pid = sym pid; index = sym index },
+      )
+
+  pub repeat_found : (r : PlacedReason) → HoldsOfRank top piece 2 r
+      → (c : PlacedReason) × IsRepeatBelow piece.receipts (length piece.receipts) c × IsBeside r c
+  repeat_found r h =
+      let x = repeated top piece r h in
+      let here : Receipt = record { pid = r.pid; index = r.index; event = h.event } in
+      let first : Receipt = record { pid = x.0; index = x.1; event = x.2.2 } in
+      repeat_at r here first x.2.0.place x.2.3.place x.2.0.at x.2.3.at x.2.4 refl refl
+      (behind x.2.3.place x.2.0.place first here x.2.3.at x.2.0.at x.2.4 x.2.1)
+
+-- one receipt more
+module _ (receipts : List Receipt) (i : ℕ) (before receipt : Receipt) (positive : 1 ≤ i)
+    (at_first : slice_get receipts (i - 1) ≡ Some before)
+    (at : slice_get receipts i ≡ Some receipt) (least : Option PlacedReason)
+    (first : IsEarliest (IsRepeatBelow receipts i) least) where
+  older : (r : PlacedReason) → IsRepeatBelow receipts i r → IsRepeatBelow receipts (i + 1) r
+  older r = repeat_widened receipts i (i + 1) r (omega arith)
+
+  -- one of those before, or the receipt and the one before it
+  older_or : (r : PlacedReason) (c : IsRepeatBelow receipts (i + 1) r)
+      → IsRepeatBelow receipts i r ⊎ ((c.before ≡ before) × (c.receipt ≡ receipt))
+  older_or r c = elim (cases_lt c.place i) [
+    | inl less ↦ inl (record {
+      first = c.first;
+      place = c.place;
+      next = c.next;
+      before = c.before;
+      receipt = c.receipt;
+      at_first = c.at_first;
+      at = c.at;
+      within = less;
+      same = c.same;
+      is = c.is;
+    })
+    | inr high ↦
+        let within = c.within in
+        let next = c.next in
+        let one : c.place ≡ i = omega (arith, within, high) in
+        let two : c.first ≡ i - 1 = omega (arith, next, one, positive) in
+        inr (
+          same_Some c.before before
+              (sym c.at_first ∙ ap (slice_get receipts) two ∙ at_first),
+          same_Some c.receipt receipt (sym c.at ∙ ap (slice_get receipts) one ∙ at),
+        )
+  ]
+
+  pub repeat_still : (before.event.serial.this ≡ receipt.event.serial.this → ⊥)
+      → IsEarliest (IsRepeatBelow receipts (i + 1)) least
+  repeat_still other = first_still (IsRepeatBelow receipts i) (IsRepeatBelow receipts (i + 1)) least
+      older (λ r c. elim (older_or r c) [
+        | inl old ↦ old
+        | inr new ↦ absurd (other (ap (λ (x : Receipt). x.event.serial.this) (sym new.0) ∙ c.same
+            ∙ ap (λ (x : Receipt). x.event.serial.this) new.1))
+      ]) first
+
+  pub repeat_more : (next result : PlacedReason) → before.event.serial.this ≡ receipt.event.serial.this
+      → next ≡ reason_at receipt (never.Repeated before.pid before.index)
+      → IsFirstWith least next result → IsEarliest (IsRepeatBelow receipts (i + 1)) (Some result)
+  repeat_more next result same is with =
+      first_with (IsRepeatBelow receipts i) (IsRepeatBelow receipts (i + 1)) 2 next
+      (repeat_ranked receipts i) (ap (λ (x : PlacedReason). reason_rank x.never) is) (record {
+        first = i - 1;
+        place = i;
+        next = omega (arith, positive);
+        before = before;
+        receipt = receipt;
+        at_first = at_first;
+        at = at;
+        within = omega arith;
+        same = same;
+        is = is;
+      }) older (λ r c. elim (older_or r c) [
+        | inl old ↦ inl old
+        | inr new ↦ inr (record {
+          pid = ap (λ (x : PlacedReason). x.pid) c.is ∙ ap (λ (x : Receipt). x.pid) new.1
+              ∙ sym (ap (λ (x : PlacedReason). x.pid) is);
+          index = ap (λ (x : PlacedReason). x.index) c.is ∙ ap (λ (x : Receipt). x.index) new.1
+              ∙ sym (ap (λ (x : PlacedReason). x.index) is);
+        })
+      ]) least result with first
+
+-- THE SEND OR PRINT OF A COUNT
+
+none_first : (q : Pid) (this i : ℕ) (es : List Event) → ((k : ℕ) (f : Event) → slice_get es k ≡ Some f
+    → is_stamp f ≡ true → f.serial.this ≡ this → ⊥) → first_from (own_rule this) q i es ≡ None
+none_first q this i [] none = refl
+none_first q this i (e ∷ es) none =
+    elim (is_stamp e && e.serial.this == this) as (λ b. (is_stamp e && e.serial.this == this) ≡ b
+    → or_else (cond b (Some (i, e)) None) (first_from (own_rule this) q (i + 1) es) ≡ None) [
+      | true ↦ λ is. let both = and_parts (is_stamp e) (e.serial.this == this) is in
+          absurd (none 0 e refl both.0 (eqb-true e.serial.this this both.1))
+      | false ↦ λ is. none_first q this (i + 1) es (λ k f at. none (suc k) f at)
+    ] refl
+
+some_first : (q : Pid) (this i n : ℕ) (es : List Event) (e : Event) → slice_get es n ≡ Some e
+    → is_stamp e ≡ true → e.serial.this ≡ this
+    → ((k : ℕ) (f : Event) → k < n → slice_get es k ≡ Some f → is_stamp f ≡ true
+    → f.serial.this ≡ this → ⊥)
+    → first_from (own_rule this) q i es ≡ Some (i + n, e)
+some_first q this i n [] e at stamps count none = absurd (cc)
+some_first q this i zero (d ∷ es) e at stamps count none =
+    let same = same_Some d e at in
+    let test : (is_stamp d && d.serial.this == this) ≡ true =
+    and_from (is_stamp d) (d.serial.this == this) (ap is_stamp same ∙ stamps)
+    (eq-eqb d.serial.this this (ap (λ (x : Event). x.serial.this) same ∙ count)) in
+    let index : i ≡ i + zero = omega arith in
+    ap (λ b. or_else (cond b (Some (i, d)) None) (first_from (own_rule this) q (i + 1) es)) test
+    ∙ ap (λ (n : ℕ). Some (n, d)) index ∙ ap (λ (x : Event). Some (i + zero, x)) same
+some_first q this i (suc n) (d ∷ es) e at stamps count none =
+    let index : (i + 1) + n ≡ i + suc n = omega arith in
+    elim (is_stamp d && d.serial.this == this) as (λ b. (is_stamp d && d.serial.this == this) ≡ b
+    → or_else (cond b (Some (i, d)) None) (first_from (own_rule this) q (i + 1) es)
+    ≡ Some (i + suc n, e)) [
+      | true ↦ λ is. let both = and_parts (is_stamp d) (d.serial.this == this) is in
+          absurd (none 0 d (omega arith) refl both.0 (eqb-true d.serial.this this both.1))
+      | false ↦ λ is. some_first q this (i + 1) n es e at stamps count
+          (λ k f less there. none (suc k) f (omega (arith, less)) there)
+          ∙ ap (λ (m : ℕ). Some (m, e)) index
+    ] refl
+
+module _ (piece : Piece) where
+  -- the process has no send or print of this count
+  abbrev pub HasNone : ℕ → Type 0
+  HasNone count = (k : ℕ) (f : Event) → slice_get piece.events k ≡ Some f → is_stamp f ≡ true
+      → f.serial.this ≡ count → ⊥
+
+  pub stamp_none : (count : ℕ) → HasNone count
+      → stamp_of (own_streams piece) piece.pid count ≡ None
+  stamp_none count none = ap (λ es. first_from (own_rule count) piece.pid 0 es) (own_events piece)
+      ∙ none_first piece.pid count 0 piece.events none
+
+  pub stamp_some : StampsRise piece.events → (count n : ℕ) (e : Event)
+      → slice_get piece.events n ≡ Some e → is_stamp e ≡ true → e.serial.this ≡ count
+      → stamp_of (own_streams piece) piece.pid count ≡ Some (n, e)
+  stamp_some rise count n e at stamps is =
+      ap (λ es. first_from (own_rule count) piece.pid 0 es) (own_events piece)
+      ∙ some_first piece.pid count 0 n piece.events e at stamps is (λ k f less there first same.
+      let low = rise k n f e less there at first stamps in omega (arith, low, same, is))
+      ∙ ap (λ (m : ℕ). Some (m, e)) (let zero_more : 0 + n ≡ n = omega arith in zero_more)
+
+  -- the one that is found is there
+  pub stamp_there : (count j : ℕ) (f : Event)
+      → stamp_of (own_streams piece) piece.pid count ≡ Some (j, f)
+      → (slice_get piece.events j ≡ Some f) × (is_stamp f ≡ true) × (f.serial.this ≡ count)
+  stamp_there count j f found =
+      let g = given_from (own_rule count) piece.pid 0 piece.events (j, f)
+      (sym (ap (λ es. first_from (own_rule count) piece.pid 0 es) (own_events piece)) ∙ found) in
+      let k = g.0 in
+      let d = g.1 in
+      let test = some_if (is_stamp d && d.serial.this == count) (0 + k, d) (j, f) g.3 in
+      let event : d ≡ f = ap (λ (x : ℕ × Event). x.1) test.1 in
+      let index : k ≡ j = let raw : 0 + k ≡ j = ap (λ (x : ℕ × Event). x.0) test.1 in
+      omega (arith, raw) in
+      let both = and_parts (is_stamp d) (d.serial.this == count) test.0 in (
+        subst (λ (n : ℕ). slice_get piece.events n ≡ Some f) index
+            (g.2 ∙ ap (λ (x : Event). Some x) event),
+        subst (λ (x : Event). is_stamp x ≡ true) event both.0,
+        subst (λ (x : Event). x.serial.this ≡ count) event
+            (eqb-true d.serial.this count both.1),
+      )
+
+-- two sends or prints of one count are one
+pub one_stamp : (es : List Event) → StampsRise es → (j k : ℕ) (f e : Event)
+    → slice_get es j ≡ Some f → slice_get es k ≡ Some e → is_stamp f ≡ true → is_stamp e ≡ true
+    → f.serial.this ≡ e.serial.this → f ≡ e
+one_stamp es rise j k f e at there first second same = elim (cases_lt j k) [
+  | inl less ↦ let low = rise j k f e less at there first second in
+      absurd (omega (arith, low, same))
+  | inr high ↦ elim (cases_lt k j) [
+    | inl less ↦ let low = rise k j e f less there at second first in
+        absurd (omega (arith, low, same))
+    | inr low ↦
+        let one : j ≡ k = omega (arith, high, low) in
+        same_Some f e (sym at ∙ ap (slice_get es) one ∙ there)
+  ]
+]
+
+-- THE NEXT SEND OR PRINT
+
+-- each send or print before this index counts below each receipt from place n on
+abbrev pub IsPassed : List Event → List Receipt → ℕ → ℕ → Type 0
+IsPassed events receipts next n = (k : ℕ) (f : Event) (m : ℕ) (r : Receipt) → k < next
+    → slice_get events k ≡ Some f → is_stamp f ≡ true → n ≤ m → slice_get receipts m ≡ Some r
+    → f.serial.this < r.event.serial.this
+
+module _ (events : List Event) (receipts : List Receipt) (order : AreInOrder receipts) (n : ℕ)
+    (receipt : Receipt) (at : slice_get receipts n ≡ Some receipt) (start next : ℕ)
+    (passed : IsPassed events receipts start n)
+    (is : IsNextStamp events start receipt.event.serial.this next) where
+  -- those before the next one count below the receipt
+  pub below_next : (k : ℕ) (f : Event) → k < next → slice_get events k ≡ Some f → is_stamp f ≡ true
+      → f.serial.this < receipt.event.serial.this
+  below_next k f less there stamps = elim (cases_lt k start) [
+    | inl before ↦ passed k f n receipt before there stamps (omega arith) at
+    | inr after ↦ is.passed k f after less there stamps
+  ]
+
+  pub passed_next : IsPassed events receipts next (n + 1)
+  passed_next k f m r less there stamps after here =
+      let low = below_next k f less there stamps in
+      let high = counts_climb receipts order n m receipt r (omega (arith, after)) at here in
+      omega (arith, low, high)
+
+  -- if the next one has another count, none has the receipt's
+  pub none_has : StampsRise events
+      → ((f : Event) → slice_get events next ≡ Some f
+      → f.serial.this ≡ receipt.event.serial.this → ⊥)
+      → (k : ℕ) (f : Event) → slice_get events k ≡ Some f → is_stamp f ≡ true
+      → f.serial.this ≡ receipt.event.serial.this → ⊥
+  none_has rise other k f there stamps same = elim (cases_lt k next) [
+    | inl less ↦ let low = below_next k f less there stamps in omega (arith, low, same)
+    | inr high ↦ elim (cases_lt next k) [
+      | inl less ↦
+          let here = at_before events next k f less there in
+          let stamp = is.here here.0 here.1 in
+          let reaches = stamp.1 in
+          let above = rise next k here.0 f less here.1 there stamp.0 stamps in
+          omega (arith, reaches, above, same)
+      | inr low ↦
+          let one : k ≡ next = omega (arith, high, low) in
+          other f (subst (λ (i : ℕ). slice_get events i ≡ Some f) one there) same
+    ]
+  ]
+
+-- WHAT ISN'T THE SEND OF A RECEIPT
+
+-- the process has a send or print of the count of a receipt before place n, which isn't its send
+pub record IsMismatchBelow (piece : Piece) (n : ℕ) (found : PlacedReason) : Type 0 where
+  pub place : ℕ
+  pub receipt : Receipt
+  pub at : slice_get piece.receipts place ≡ Some receipt
+  pub within : place < n
+  pub index : ℕ
+  pub event : Event
+  pub own : slice_get piece.events index ≡ Some event
+  pub stamps : is_stamp event ≡ true
+  pub count : event.serial.this ≡ receipt.event.serial.this
+  pub other : ¬ IsSendOf event receipt.event
+  pub is : found ≡ reason_at receipt (never.Mismatch piece.pid index)
+
+pub mismatch_ranked : (piece : Piece) (n : ℕ) (r : PlacedReason) → IsMismatchBelow piece n r
+    → reason_rank r.never ≡ 3
+mismatch_ranked piece n r c = ap (λ (x : PlacedReason). reason_rank x.never) c.is
+
+pub mismatch_widened : (piece : Piece) (m n : ℕ) (r : PlacedReason) → m ≤ n → IsMismatchBelow piece m r
+    → IsMismatchBelow piece n r
+mismatch_widened piece m n r wide c = record {
+  place = c.place;
+  receipt = c.receipt;
+  at = c.at;
+  within = let less = c.within in omega (arith, less, wide);
+  index = c.index;
+  event = c.event;
+  own = c.own;
+  stamps = c.stamps;
+  count = c.count;
+  other = c.other;
+  is = c.is;
+}
+
+module _ (top : ℕ) (piece : Piece) where
+  pub mismatch_holds : StampsRise piece.events → (n : ℕ) (r : PlacedReason) → IsMismatchBelow piece n r
+      → HoldsOfRank top piece 3 r
+  mismatch_holds rise n r c = subst (HoldsOfRank top piece 3) (sym c.is) (record {
+    event = c.receipt.event;
+    holds = (
+      record { place = c.place; at = c.at },
+      refl,
+      c.event,
+      stamp_some piece rise c.receipt.event.serial.this c.index c.event c.own c.stamps c.count,
+      c.other,
+    );
+    of_rank = refl;
+  })
+
+  pub mismatch_found : (r : PlacedReason) → HoldsOfRank top piece 3 r
+      → (c : PlacedReason) × IsMismatchBelow piece (length piece.receipts) c × IsBeside r c
+  mismatch_found r h =
+      let x = mismatch top piece r h in
+      let receipt : Receipt = record { pid = r.pid; index = r.index; event = h.event } in
+      let own = stamp_there piece h.event.serial.this x.1 x.2.2
+      (subst (λ (q : Pid). stamp_of (own_streams piece) q h.event.serial.this
+      ≡ Some (x.1, x.2.2)) x.2.1 x.2.3) in (
+        reason_at receipt (never.Mismatch piece.pid x.1),
+        record {
+          place = x.2.0.place;
+          receipt = receipt;
+          at = x.2.0.at;
+          within = within_length piece.receipts x.2.0.place receipt x.2.0.at;
+          index = x.1;
+          event = x.2.2;
+          own = own.0;
+          stamps = own.1;
+          count = own.2;
+          other = x.2.4;
+          is = refl;
+        },
+        record { pid = refl; index = refl },
+      )
+
+-- one receipt more
+module _ (piece : Piece) (n : ℕ) (receipt : Receipt)
+    (at : slice_get piece.receipts n ≡ Some receipt) (least : Option PlacedReason)
+    (first : IsEarliest (IsMismatchBelow piece n) least) where
+  older_mismatch : (r : PlacedReason) → IsMismatchBelow piece n r → IsMismatchBelow piece (n + 1) r
+  older_mismatch r = mismatch_widened piece n (n + 1) r (omega arith)
+
+  older_mismatch_or : (r : PlacedReason) (c : IsMismatchBelow piece (n + 1) r)
+      → IsMismatchBelow piece n r ⊎ (c.receipt ≡ receipt)
+  older_mismatch_or r c = elim (cases_lt c.place n) [
+    | inl less ↦ inl (record {
+      place = c.place;
+      receipt = c.receipt;
+      at = c.at;
+      within = less;
+      index = c.index;
+      event = c.event;
+      own = c.own;
+      stamps = c.stamps;
+      count = c.count;
+      other = c.other;
+      is = c.is;
+    })
+    | inr high ↦
+        let within = c.within in
+        let one : c.place ≡ n = omega (arith, within, high) in
+        inr (same_Some c.receipt receipt (sym c.at ∙ ap (slice_get piece.receipts) one ∙ at))
+  ]
+
+  -- the process has no send or print of its count but its send
+  pub mismatch_still : ((k : ℕ) (f : Event) → slice_get piece.events k ≡ Some f
+      → is_stamp f ≡ true → f.serial.this ≡ receipt.event.serial.this
+      → ¬ ¬ IsSendOf f receipt.event) → IsEarliest (IsMismatchBelow piece (n + 1)) least
+  mismatch_still none = first_still (IsMismatchBelow piece n) (IsMismatchBelow piece (n + 1)) least
+      older_mismatch (λ r c. elim (older_mismatch_or r c) [
+        | inl old ↦ old
+        | inr same ↦ absurd (none c.index c.event c.own c.stamps
+            (c.count ∙ ap (λ (x : Receipt). x.event.serial.this) same)
+            (subst (λ (x : Receipt). ¬ IsSendOf c.event x.event) same c.other))
+      ]) first
+
+  pub mismatch_more : (index : ℕ) (event : Event) (next result : PlacedReason)
+      → slice_get piece.events index ≡ Some event → is_stamp event ≡ true
+      → event.serial.this ≡ receipt.event.serial.this → ¬ IsSendOf event receipt.event
+      → next ≡ reason_at receipt (never.Mismatch piece.pid index) → IsFirstWith least next result
+      → IsEarliest (IsMismatchBelow piece (n + 1)) (Some result)
+  mismatch_more index event next result own stamps count other is with =
+      first_with (IsMismatchBelow piece n) (IsMismatchBelow piece (n + 1)) 3 next
+      (mismatch_ranked piece n) (ap (λ (x : PlacedReason). reason_rank x.never) is) (record {
+        place = n;
+        receipt = receipt;
+        at = at;
+        within = omega arith;
+        index = index;
+        event = event;
+        own = own;
+        stamps = stamps;
+        count = count;
+        other = other;
+        is = is;
+      }) older_mismatch (λ r c. elim (older_mismatch_or r c) [
+        | inl old ↦ inl old
+        | inr same ↦ inr (record {
+          pid = ap (λ (x : PlacedReason). x.pid) c.is ∙ ap (λ (x : Receipt). x.pid) same
+              ∙ sym (ap (λ (x : PlacedReason). x.pid) is);
+          index = ap (λ (x : PlacedReason). x.index) c.is ∙ ap (λ (x : Receipt). x.index) same
+              ∙ sym (ap (λ (x : PlacedReason). x.index) is);
+        })
+      ]) least result with first

@@ -1,0 +1,42 @@
+-- The receipts so far that repeat one are known, and so is whether the next one does.
+use Rattle.std.proofs.Common.{◌+◌, ◌-◌, get_or, length, sym, subst, arith}
+use Rattle.st_pair.proofs.ForCallers.{at_get_or}
+use Rattle.lack_pieces.specs.Firsts.{HoldsOfRank, IsEarliest}
+use Rattle.lack_pieces.specs.Pieces.{Piece}
+use Rattle.lack_pieces.proofs.Candidates.{first_of_all}
+use Rattle.lack_pieces.proofs.ReceivedCounts.{blank_receipt, repeat_found, repeat_holds, repeat_more, repeat_still, repeat_widened, IsRepeatBelow}
+use Rattle.lack_pieces.proofs.receipts.find_repeated.Goals as goal
+use Rattle.lack_pieces.proofs.receipts.find_repeated.Goals.{then-before-receipt, else-before-receipt}
+
+pub loop-i-init : goal.loop-i-init
+loop-i-init c = λ other r. let next = r.next in let within = r.within in omega (arith, next, within)
+
+pub loop-i-preserved : goal.loop-i-preserved
+loop-i-preserved c =
+    let rs = c.args.receipts.now in
+    let i = c.loop-i.i in
+    let positive = c.loop-i.auto.i in
+    let before = get_or rs (i - 1) blank_receipt in
+    let receipt = get_or rs i blank_receipt in
+    let at_first = at_get_or rs (i - 1) blank_receipt (omega arith) in
+    let at = at_get_or rs i blank_receipt c.loop-i-test.true in
+    elim c.if-before-receipt.branch [
+      | then-before-receipt w ↦ subst (IsEarliest (IsRepeatBelow rs (i + 1))) (sym w.least-is)
+          (repeat_more rs i before receipt positive at_first at c.loop-i.least c.loop-i.invariant
+          w.reason.result w.least_with.result w.if-before-receipt.true w.reason.ensures
+          w.least_with.ensures)
+      | else-before-receipt w ↦ subst (IsEarliest (IsRepeatBelow rs (i + 1))) (sym w.least-is)
+          (repeat_still rs i before receipt positive at_first at c.loop-i.least c.loop-i.invariant
+          w.if-before-receipt.false)
+    ]
+
+pub returns : goal.returns
+returns c = λ top pid events.
+    let rs = c.args.receipts.now in
+    let i = c.loop-i.i in
+    let piece : Piece = record { pid = pid; events = events; receipts = rs } in
+    first_of_all (IsRepeatBelow rs i) (HoldsOfRank top piece 2) c.loop-i.least
+    (repeat_holds top piece c.requires i)
+    (λ r h. let found = repeat_found top piece c.requires r h in
+    (found.0, repeat_widened rs (length rs) i found.0 c.loop-i-test.false found.1, found.2))
+    c.loop-i.invariant

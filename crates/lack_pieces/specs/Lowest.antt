@@ -1,0 +1,67 @@
+-- For the parts alone: the lowest counts with another prev than 0, and what is unfounded by them.
+use Rattle.std.specs.Prelude.{◌≡◌, ◌⊎◌, ℕ, ◌<◌, ◌≤◌, true, List, Option, Some, None, slice_get}
+use Rattle.st_core.specs.declared.types.Event.{Event}
+use Rattle.st_pair.specs.Places.{is_stamp}
+use Rattle.lack_decide.specs.declared.answer.Never.TheVariants as never
+use Rattle.lack_decide.specs.Answers.{IsAfterReceive}
+use Rattle.lack_pieces.specs.declared.placed_reason.Receipt.{Receipt}
+use Rattle.lack_pieces.specs.declared.placed_reason.PlacedReason.{PlacedReason}
+use Rattle.lack_pieces.specs.declared.unfounded_events.Lowest.{Lowest}
+use Rattle.lack_pieces.specs.Pieces.{Piece}
+use Rattle.lack_pieces.specs.Reasons.{own_streams, HasStampBelow, IsHiddenReceipt, IsOwnStamp}
+
+-- event i is a send or print with another prev than 0, and has this count
+pub record IsStampCounted (es : List Event) (count : ℕ) : Type 0 where
+  pub place : ℕ
+  pub event : Event
+  pub at : slice_get es place ≡ Some event
+  pub stamps : is_stamp event ≡ true
+  pub above : 0 < event.serial.prev
+  pub is : event.serial.this ≡ count
+
+-- the lowest count of a send or print with another prev than 0, if there is one
+abbrev pub IsLowestOfStamps : List Event → Option ℕ → Type 0
+IsLowestOfStamps es None = (count : ℕ) → ¬ IsStampCounted es count
+IsLowestOfStamps es (Some low) = IsStampCounted es low
+    × ((count : ℕ) → IsStampCounted es count → low ≤ count)
+
+-- a receipt with another prev than 0 has this count
+pub record IsReceiptCounted (receipts : List Receipt) (count : ℕ) : Type 0 where
+  pub place : ℕ
+  pub receipt : Receipt
+  pub at : slice_get receipts place ≡ Some receipt
+  pub above : 0 < receipt.event.serial.prev
+  pub is : receipt.event.serial.this ≡ count
+
+-- the lowest count of a receipt with another prev than 0, if there is one
+abbrev pub IsLowestOfReceipts : List Receipt → Option ℕ → Type 0
+IsLowestOfReceipts receipts None = (count : ℕ) → ¬ IsReceiptCounted receipts count
+IsLowestOfReceipts receipts (Some low) = IsReceiptCounted receipts low
+    × ((count : ℕ) → IsReceiptCounted receipts count → low ≤ count)
+
+-- the lowest counts of both
+pub record IsLowestIn (piece : Piece) (lowest : Lowest) : Type 0 where
+  pub stamps : IsLowestOfStamps piece.events lowest.stamps
+  pub receipts : IsLowestOfReceipts piece.receipts lowest.receipts
+
+-- a count is known, and below this one
+abbrev pub IsKnownBelow : Option ℕ → ℕ → Type 0
+IsKnownBelow None count = ⊥
+IsKnownBelow (Some known) count = known < count
+
+-- a send or print with prev 0 is after a receive, or after another one with a prev
+pub record IsUnfoundedStamp (piece : Piece) (found : PlacedReason) : Type 0 where
+  pub event : Event
+  pub own : IsOwnStamp piece found.pid found.index event
+  pub zero : event.serial.prev ≡ 0
+  pub why : IsAfterReceive (own_streams piece) found.pid found.index event
+      ⊎ HasStampBelow piece event
+  pub is : found.never ≡ never.Unfounded
+
+-- a send with prev 0 that nobody reported is after a send or print with a prev
+pub record IsUnfoundedReceipt (piece : Piece) (found : PlacedReason) : Type 0 where
+  pub event : Event
+  pub hidden : IsHiddenReceipt piece found.pid found.index event
+  pub zero : event.serial.prev ≡ 0
+  pub behind : HasStampBelow piece event
+  pub is : found.never ≡ never.Unfounded

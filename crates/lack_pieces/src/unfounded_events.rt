@@ -1,0 +1,142 @@
+//! The stamps with prev 0 that no trace founds, by the process's own events and by the receives of its
+//! messages.
+
+ghost use Rattle.std.specs.Prelude.{◌↔◌, ℕ, IsTrue, List};
+ghost use Rattle.st_core.specs.declared.types.Pid.{Pid as PidValue};
+ghost use Rattle.lack_pieces.specs.declared.placed_reason.Receipt.{Receipt as ReceiptValue};
+ghost use Rattle.lack_pieces.specs.Firsts.{IsEarliest, IsFirstOfRank, StampsRise};
+ghost use Rattle.lack_pieces.specs.Lowest.{IsLowestIn, IsLowestOfReceipts, IsLowestOfStamps};
+ghost use Rattle.lack_pieces.specs.Lowest.{IsKnownBelow, IsUnfoundedReceipt, IsUnfoundedStamp};
+ghost use Rattle.lack_pieces.specs.Pieces.{Piece};
+ghost use Rattle.lack_pieces.specs.Reasons.{HasStampBelow};
+ghost use Rattle.lack_pieces.specs.Verdicts.{AreInOrder};
+
+use crate::placed_reason::{PlacedReason, Receipt};
+use crate::receipts::{has_count, least_with, next_stamp};
+use lack_decide::Never;
+use lack_needs::is_stamp;
+use st_core::{Event, Pid};
+
+/// The lowest counts with another prev than 0: of a process's sends and prints, and of the receives of
+/// its messages.
+#[derive(Clone, Copy, Debug)]
+struct Lowest {
+    stamps: Option<u64>,
+    receipts: Option<u64>,
+}
+
+/// The lowest count of a send or print with another prev than 0.
+fn lowest_of_stamps(events: &[Event]) -> Option<u64>
+    requires { StampsRise events.now }
+    ensures { IsLowestOfStamps events.now result }
+{
+    for event in events {
+        if is_stamp(event) && event.serial.prev != 0 {
+            return Some(event.serial.this);
+        }
+    }
+    None
+}
+
+/// The lowest count of a receipt with another prev than 0.
+fn lowest_of_receipts(receipts: &[Receipt]) -> Option<u64>
+    requires { AreInOrder receipts.now }
+    ensures { IsLowestOfReceipts receipts.now result }
+{
+    for receipt in receipts {
+        if receipt.event.serial.prev != 0 {
+            return Some(receipt.event.serial.this);
+        }
+    }
+    None
+}
+
+/// Whether the count is known, and below this one.
+fn is_below(known: Option<u64>, count: u64) -> bool
+    ensures { IsTrue result ↔ IsKnownBelow known count }
+{
+    match known {
+        None => false,
+        Some(known) => known < count,
+    }
+}
+
+/// Whether some event tells of a send or print of the process with a lower count than this event, and
+/// another prev than 0.
+fn is_behind_stamp(lowest: Lowest, event: &Event) -> bool
+    ensures { (piece : Piece) → IsLowestIn piece lowest
+        → (IsTrue result ↔ HasStampBelow piece event.now) }
+{
+    is_below(lowest.stamps, event.serial.this) || is_below(lowest.receipts, event.serial.this)
+}
+
+/// The first send or print that is unfounded.
+fn find_unfounded_stamp(pid: Pid, events: &[Event], lowest: Lowest) -> Option<PlacedReason>
+    ensures { (receipts : List ReceiptValue)
+        → (let piece : Piece = record { pid = pid; events = events.now; receipts = receipts } in
+        IsLowestIn piece lowest → IsEarliest (IsUnfoundedStamp piece) result) }
+{
+    let mut received = false;
+    for (i, event) in events.iter().enumerate() {
+        if !is_stamp(event) {
+            received = true;
+        } else if event.serial.prev == 0 && (received || is_behind_stamp(lowest, event)) {
+            return Some(PlacedReason {
+                pid,
+                index: i as u64,
+                never: Never::Unfounded,
+            });
+        }
+    }
+    None
+}
+
+/// The first receipt of a message whose send nobody reported and is unfounded.
+fn find_unfounded_receipt(
+    events: &[Event],
+    receipts: &[Receipt],
+    lowest: Lowest,
+) -> Option<PlacedReason>
+    requires rise { StampsRise events.now }
+    requires order { AreInOrder receipts.now }
+    ensures { (pid : PidValue)
+        → (let piece : Piece = record { pid = pid; events = events.now; receipts = receipts.now } in
+        IsLowestIn piece lowest → IsEarliest (IsUnfoundedReceipt piece) result) }
+{
+    let mut least = None;
+    let mut next = 0;
+    for receipt in receipts {
+        let count = receipt.event.serial.this;
+        next = next_stamp(events, next, count);
+        if receipt.event.serial.prev == 0
+            && !has_count(events, next, count)
+            && is_behind_stamp(lowest, &receipt.event)
+        {
+            least = Some(least_with(least, receipt.reason(Never::Unfounded)));
+        }
+    }
+    least
+}
+
+/// The first event that is unfounded: a send or print, or the receive of a message whose send nobody
+/// reported.
+pub(crate) fn find_unfounded(
+    pid: Pid,
+    events: &[Event],
+    receipts: &[Receipt],
+) -> Option<PlacedReason>
+    requires rise { StampsRise events.now }
+    requires order { AreInOrder receipts.now }
+    ensures { (top : ℕ) → IsFirstOfRank top
+        (record { pid = pid; events = events.now; receipts = receipts.now }) 5 result }
+{
+    let lowest = Lowest {
+        stamps: lowest_of_stamps(events),
+        receipts: lowest_of_receipts(receipts),
+    };
+    let stamp = find_unfounded_stamp(pid, events, lowest);
+    match find_unfounded_receipt(events, receipts, lowest) {
+        None => stamp,
+        Some(receipt) => Some(least_with(stamp, receipt)),
+    }
+}
