@@ -157,6 +157,8 @@ bench: bin/seqaudit ## times the commands on bundles of 600,000 events, with pla
 
 hostile: bin/seqaudit bin/seqtool ## faults, tampered text and inputs at the limits, docs/HOSTILE.md (about 10 minutes, after program)
 	tests/hostile
+	@if [ -x bin/rust/gemshowal ]; then scale/test bin/rust/gemshowal; \
+	else echo 'A verdict by Dask with a worker that is killed is skipped: make rust builds gemshowal.'; fi
 
 clean: ## removes what was built; keeps the proofs
 	rm -rf bin

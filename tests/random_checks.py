@@ -1,12 +1,13 @@
 #!/usr/bin/env python3
-"""Compares seqcheck, which is extracted from coq/, with the slow reading of the rules on random bundles.
+"""Compares seqcheck, which is extracted from coq/, with the slow reading of the rules on worked cases and random bundles.
 
     random_checks.py SEQCHECK COUNT [FIRST] [SEQAUDIT]
 
-Each number from FIRST (1) on makes a random run of the machine and five bundles of it: as it is, with
-its acts tampered with, and three times with a word or a line of its text changed. seqcheck must write
-just what the rules say, named faults too; with SEQAUDIT, what this program writes. Of 1,000 bundles or
-more each verdict and the reader's faults must have come."""
+It checks the input of each worked case, whatever the case's command is. Each number from FIRST (1) on makes
+a random run of the machine and five bundles of it: as it is, with its acts tampered with, and three times
+with a word or a line of its text changed. seqcheck must write just what the rules say, named faults too;
+with SEQAUDIT, what this program writes. Of 1,000 bundles or more each verdict and the reader's faults must
+have come."""
 
 import random
 import subprocess
@@ -67,6 +68,11 @@ def bundles(number):
         yield changed(whole, chosen)
 
 
+def worked():
+    """The input of each worked case."""
+    return [path.read_bytes() for path in sorted(TESTS.glob("worked*/*/stdin"))]
+
+
 def judged(program, given):
     if program:
         done = subprocess.run([program, "check"], input=given, capture_output=True, check=False)
@@ -80,11 +86,19 @@ def main():
     first = int(sys.argv[3]) if len(sys.argv) > 3 else 1
     program = sys.argv[4] if len(sys.argv) > 4 else None
     checker, counted, done = Checker(seqcheck), Counter(), 0
+
+    def compare(given):
+        said, wanted = checker.answer(given), judged(program, given)
+        assert said == wanted, (given, wanted, said)
+        return said
+
+    cases = worked()
+    for given in cases:
+        compare(given)
+    print(f"the inputs of {len(cases)} worked cases, byte for byte")
     for number in range(first, first + count // 5):
         for bundle in bundles(number):
-            given = bundle.encode("latin-1")
-            said, wanted = checker.answer(given), judged(program, given)
-            assert said == wanted, (number, given, wanted, said)
+            said = compare(bundle.encode("latin-1"))
             counted[b" ".join(said[1].split()[:1 if said[0] == 0 else 2]).decode()] += 1
             done += 1
     never = [outcome for outcome in OUTCOMES if not counted[outcome]]

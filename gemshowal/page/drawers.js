@@ -73,8 +73,8 @@ drawer("help", section => section.replaceChildren(
     "dashed: unreported, as gemshowal complete adds it; its name has a ~",
     "?: what the event follows may be something else, or may not have been reported",
     "a cause holds in each run without a reset that reports the trace, with a number behind it (1) if each receive "
-      + "of a token was reported, and (2) if no process cleared or lost its token, began again and reported an "
-      + "earlier label again; perhaps: it is so in the run that gemshowal complete finds",
+      + "of a token was reported, (2) if no process cleared or lost its token, began again and reported an "
+      + "earlier label again, (3) on a standard node, where a process keeps its token while it spawns; perhaps: it is so in the run that gemshowal complete finds",
     "\u25cf the chosen event; \u2191 its causes, blue; \u2193 its effects, orange",
     "by time: events by their nodes' clocks, with a scale; pauses take room, the longest up to 8 rows",
     "arrow keys, Page Up and Down, Home, End: go to another event",

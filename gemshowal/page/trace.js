@@ -50,7 +50,7 @@ export const sentence = row => {
 };
 
 // On which premises it rests what an event follows, by its grade; the legend has their words.
-const PREMISES = { c: "", 1: " (1)", 2: " (1, 2)", p: "" };
+const PREMISES = { c: "", 1: " (1)", 2: " (1, 2)", 3: " (3)", 4: " (1, 3)", 5: " (1, 2, 3)", p: "" };
 
 // In the words of `gemshowal chart`.
 export const causeText = row => {

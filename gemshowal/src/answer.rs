@@ -1,7 +1,10 @@
 //! The questions that a program asks of a trace, each with a result of its own type.
 
 use crate::device::Sink;
-use crate::{Act, Completion, Event, Finding, OutOfMemory, Pid, Reason, Text, Trace};
+use crate::{
+    Act, Answer, CompleteError, Completion, Event, Finding, Hop, Node, OutOfMemory, Paired,
+};
+use crate::{Pid, Reach, Reason, Text, Trace};
 use std::collections::{BTreeMap, BTreeSet};
 use std::fmt::{self, Display, Formatter};
 use std::io::{self, Write};
@@ -101,6 +104,48 @@ pub fn audit(trace: &Trace) -> Result<Fits, AuditError> {
     }
 }
 
+/// Finds what the trace lacks, or why no run without a reset reports it, whatever processes that the
+/// trace doesn't list did.
+///
+/// # Guarantees
+///
+/// The judge has accepted a completion: each event of it has what it follows, and each addition is
+/// needed. A reason means that no run without a reset reports the trace.
+pub fn complete(trace: &Trace) -> Result<Answer, CompleteError> {
+    trace.complete()
+}
+
+/// An event on the way back from another: its process, its number there, and what it follows.
+#[derive(Clone, Copy, Debug)]
+pub struct Because {
+    /// The process that reported the event, and the event's number there.
+    pub place: (Pid, u64),
+    /// The event that it follows, or why none is known.
+    pub hop: Hop,
+}
+
+/// Returns the event at this place, the one that it follows, and so on back, as far as its label goes;
+/// nothing if no event is there.
+///
+/// # Guarantees
+///
+/// Each hop holds in every run without a reset that reports the trace and meets the hop's
+/// [premises](Hop::premises).
+pub fn why(trace: &Trace, place: (Pid, u64)) -> Result<Vec<Because>, AuditError> {
+    let paired = match Paired::of(trace.streams())? {
+        Ok(paired) => paired,
+        Err(Finding::Fits(..)) => return Ok(Vec::new()),
+        Err(Finding::Unfit(pid, index, reason)) => {
+            return Err(AuditError::Unfit(Unfit { pid, index, reason }))
+        }
+    };
+    let hops = paired.hops()?;
+    let because =
+        |&Node { place, .. }: &Node| Some(Because { place, hop: hops.hop(place.0, place.1)? });
+    let way = hops.way(Reach::LABEL, place)?;
+    Ok(way.as_ref().iter().filter_map(because).collect())
+}
+
 impl Trace {
     /// Returns the trace with each count replaced by its rank among all counts, and whether that
     /// changed any. If a run has these counts, one has the trace's own.
@@ -128,7 +173,8 @@ impl Trace {
         };
         let mut listed: BTreeSet<Pid> = kept.keys().copied().collect();
         for (pid, event) in events() {
-            listed.extend([Some(event.from), event.to].into_iter().flatten().filter(|&it| it != pid));
+            listed
+                .extend([Some(event.from), event.to].into_iter().flatten().filter(|&it| it != pid));
         }
         let mut draft = st_core::Draft::new(crate::Global);
         for pid in listed {

@@ -1,9 +1,12 @@
 //! A run, made again act by act: the report of each act, and the state of a process after it.
 
 use crate::{Act, Event, OutOfMemory, Pid, Streams, TOP};
-use st_core::{Local, Token};
 use st_library::alloc::Global;
 use st_world::{StepFault, World};
+
+/// The tracing state of a process: its token, its clock, the count that it received last with a
+/// token, or that of a new trace's start, and whether a tracer is set on its node.
+pub type State = st_core::Local<TOP>;
 
 /// A run under way.
 pub struct Rerun {
@@ -17,30 +20,6 @@ pub enum Came {
     Step(Option<Event>, Option<u64>),
     /// No step: a process isn't there, or a clock is at its greatest value.
     Stuck,
-}
-
-/// The tracing state of a process.
-#[derive(Clone, Copy, Debug)]
-pub struct State {
-    /// The process's token.
-    pub token: Option<Token>,
-    /// The process's trace clock.
-    pub clock: u64,
-    /// The count that it received last with a token, or that of a new trace's start.
-    pub last: u64,
-    /// Tells whether a tracer is set on its node.
-    pub is_traced: bool,
-}
-
-impl From<Local<TOP>> for State {
-    fn from(local: Local<TOP>) -> State {
-        State {
-            token: local.token(),
-            clock: local.clock(),
-            last: local.last(),
-            is_traced: local.traced(),
-        }
-    }
 }
 
 impl Rerun {
@@ -61,6 +40,6 @@ impl Rerun {
 
     /// Returns the state of a process, or `None` if the run hasn't the process.
     pub fn state(&self, pid: Pid) -> Option<State> {
-        self.world.local(pid).map(State::from)
+        self.world.local(pid)
     }
 }

@@ -19,7 +19,7 @@ LINE = 66
 # The processes whose pids share places, and their acts: of MANY, 64 MB.
 PROCESSES, ACTS, MANY = 16_000, 400_000, 3_400_000
 # How far apart the slots of equal numbers on neighbouring nodes lie in the tables of guesses; the numbers of a node.
-NODE_STEP, NUMBERS = 67, 1 << 16
+NODE_STEP, NUMBERS = 661, 1 << 16
 # How many times as long as another text of its size a flood may take, and the seconds that don't count.
 TIMES, LEAST = 2, 0.2
 

@@ -5,7 +5,8 @@
 //! on, which say what is so in one run of several: so that is said with `perhaps`.
 
 use crate::audit;
-use crate::names::Names;
+use crate::names::{Line, Names};
+use crate::spawns;
 use crate::view::{Kept, Place, Shown, View};
 use crate::Failure;
 use gemshowal::{
@@ -14,6 +15,7 @@ use gemshowal::{
 };
 use gemshowal::{Pid, Premises, Streams, Trace};
 use std::borrow::Cow;
+use std::collections::HashMap;
 
 #[derive(Clone, Copy, Debug, PartialEq, Eq)]
 pub(crate) enum Grade {
@@ -21,6 +23,9 @@ pub(crate) enum Grade {
     Certain,
     /// Holds in each of these runs that meets the premises.
     Under(Premises),
+    /// Holds of the request of a spawn in each of these runs that meets the premises, and of what
+    /// its process did after the answer by the rules of a standard node.
+    Kept(Premises),
     /// Holds in the run that `complete` finds.
     Perhaps,
 }
@@ -70,22 +75,14 @@ pub(crate) struct Added {
     pub(crate) receives: u64,
 }
 
-impl Added {
-    fn count(&mut self, kind: Kind, is_known: bool) {
-        match kind {
-            Kind::Receive => self.receives += 1,
-            Kind::Send | Kind::Print if is_known => self.certain += 1,
-            Kind::Send | Kind::Print => self.sends += 1,
-        }
-    }
-}
-
 pub(crate) struct Causes<'a> {
     shown: Shown<'a>,
     never: Option<(Pid, u64, Never)>,
     hops: Hops<'a>,
     paired: &'a Paired<'a>,
     whole: Option<Whole<'a>>,
+    /// The requests of the spawns from whose answers sends and prints go on.
+    requests: HashMap<Place, Place>,
 }
 
 /// Does something with the causes of a trace, unless its events can't be paired. Those of its own
@@ -102,7 +99,8 @@ pub(crate) fn with_causes<T>(
     };
     let (never, hops) = (paired.refusal()?, paired.hops()?);
     let shown = Shown::reported(view);
-    let own = Causes { shown, never, hops, paired: &paired, whole: None };
+    let requests = spawns::requests(view);
+    let own = Causes { shown, never, hops, paired: &paired, whole: None, requests };
     if never.is_some() || is_enough(&own) || own.are_reported() {
         return Ok(Ok(run(&own)?));
     }
@@ -174,8 +172,11 @@ impl Causes<'_> {
     /// completion adds nothing.
     fn are_reported(&self) -> bool {
         let is_open = |hop| matches!(hop, Hop::Unsent | Hop::BeginsOrUnreported);
-        !self.trace().processes().any(|(pid, events)| {
-            (0..).zip(events).any(|(index, event)| is_open(self.hops.hop_of(pid, index, event)))
+        self.trace().processes().all(|(pid, events)| {
+            (0..).zip(events).all(|(index, event)| {
+                !is_open(self.hops.hop_of(pid, index, event))
+                    || self.requests.contains_key(&(pid, index))
+            })
         })
     }
 
@@ -192,12 +193,12 @@ impl Causes<'_> {
     pub(crate) fn added(&self) -> Added {
         let mut added = Added::default();
         let Some(whole) = &self.whole else { return added };
-        for &pid in whole.completion.streams().pids() {
-            for (event, index) in whole.completion.streams().events(pid).iter().zip(0..) {
-                if whole.completion.told(pid, index) == Some(false) {
-                    let is_known = self.message(Item::Reported(pid, index)).is_some();
-                    added.count(event.kind, is_known);
-                }
+        for (pid, index, event) in gemshowal::added(whole.completion) {
+            let is_known = self.message(Item::Reported(pid, index)).is_some();
+            match event.kind {
+                Kind::Receive => added.receives += 1,
+                Kind::Send | Kind::Print if is_known => added.certain += 1,
+                Kind::Send | Kind::Print => added.sends += 1,
             }
         }
         added
@@ -273,11 +274,26 @@ impl Causes<'_> {
             return certain(Cause::Unknown);
         };
         let all = self.whole.as_ref().and_then(|whole| whole.hops.hop(pid, index));
-        match (self.reported(item).and_then(|(pid, index)| self.hops.hop(pid, index)), all) {
-            (Some(hop), all) => self.own_link(item, hop, all),
-            (None, Some(hop)) => Link { cause: in_completion(pid, hop), grade: Grade::Perhaps },
-            (None, None) => certain(Cause::Unknown),
+        let place = self.reported(item);
+        let own = place.and_then(|(pid, index)| self.hops.hop(pid, index));
+        let request = place.and_then(|place| self.requests.get(&place).copied());
+        match (own, request, all) {
+            (Some(Hop::BeginsOrUnreported), Some(request), _) => self.kept_link(request),
+            (Some(hop), _, all) => self.own_link(item, hop, all),
+            (None, _, Some(hop)) => Link { cause: in_completion(pid, hop), grade: Grade::Perhaps },
+            (None, _, None) => certain(Cause::Unknown),
         }
+    }
+
+    /// Returns the cause of a send or print whose process kept the token of this request.
+    fn kept_link(&self, request: Place) -> Link {
+        let link = self.link(self.item(request));
+        let grade = match link.grade {
+            Grade::Certain => Grade::Kept(Premises::Neither),
+            Grade::Under(premises) => Grade::Kept(premises),
+            other => other,
+        };
+        Link { grade, ..link }
     }
 
     /// Returns the cause of a reported event, by its hop among the trace's own events, and its hop
@@ -325,6 +341,24 @@ impl Causes<'_> {
             }
             Item::Reported(pid, index) => self.shown.event((pid, index)),
         }
+    }
+
+    pub(crate) fn put_name(&self, line: &mut Line<'_>, item: Item) {
+        let (pid, index) = item.place();
+        if let Item::Hidden(..) = item {
+            line.text("the send of ");
+        }
+        match self.whole {
+            None => line.event(self.names(), (pid, self.view().number(pid, index))),
+            Some(_) => line.text(&self.shown.event((pid, index))),
+        };
+    }
+
+    pub(crate) fn put_process(&self, line: &mut Line<'_>, pid: Pid) {
+        match self.is_unlisted(pid) {
+            false => line.process(self.names(), pid),
+            true => line.text(&self.process(pid)),
+        };
     }
 
     /// Returns the number of an event in its name; a hidden send has none.

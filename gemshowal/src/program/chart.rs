@@ -2,14 +2,13 @@
 //! as a drawing.
 
 use crate::args::Chart as Args;
-use crate::causes::{with_each, Causes, Grade, Link};
-use crate::object::{kind_word, Number};
+use crate::causes::{with_each, Causes, Link};
+use crate::object::kind_word;
 use crate::output::Output;
 use crate::reason::write_unpaired;
 use crate::view::View;
 use crate::{moment, svg, words, Failure, Status, Task};
 use gemshowal::{Event, Item, Kind, Label, Pid};
-use serde::Serialize;
 use std::collections::{BTreeMap, BTreeSet};
 use std::io::{self, Write};
 use std::path::{Path, PathBuf};
@@ -37,45 +36,38 @@ pub(crate) struct Chart {
 }
 
 pub(crate) fn run(args: &Args, task: Task<'_>) -> Result<Status, Failure> {
-    let Task { json, input, out, notes } = task;
+    let Task { input, out, notes, .. } = task;
     let (trace, names) = input.read(notes)?;
     let label = match (&args.label, &args.svg) {
         (None, None) => None,
         (label, _) => Some(names.find_label(&trace, label.as_deref())?),
     };
     let whole = View::whole(&trace, &names);
-    let mut charts = Vec::new();
-    let told = with_each(&whole, |_| false, |causes, part| {
-        let found = Chart::of(causes, label)?;
-        if found.iter().any(Chart::is_long) {
-            return Err(Failure::LongChart(input.line_name().into()));
-        }
-        if let (Some(file), Some(chart)) = (&args.svg, found.first()) {
-            svg::write(&part_file(file, part), causes, chart)?;
-        }
-        if json {
-            charts.extend(found.iter().map(|chart| Charted::of(causes, chart, part)));
-        } else {
+    let told = with_each(
+        &whole,
+        |_| false,
+        |causes, part| {
+            let found = Chart::of(causes, label)?;
+            if found.iter().any(Chart::is_long) {
+                return Err(Failure::LongChart(input.line_name().into()));
+            }
+            if let (Some(file), Some(chart)) = (&args.svg, found.first()) {
+                svg::write(&part_file(file, part), causes, chart)?;
+            }
             write(causes, part, &found, out)?;
-        }
-        let grades = found.iter().flat_map(|chart| &chart.rows).map(|row| row.link.grade);
-        Ok((words::headline(causes), !found.is_empty(), words::chart_note(grades)))
-    })?;
+            let grades = found.iter().flat_map(|chart| &chart.rows).map(|row| row.link.grade);
+            Ok((!found.is_empty(), words::chart_note(grades)))
+        },
+    )?;
     let told = match told {
         Ok(told) => told,
         Err(finding) => {
-            write_unpaired(json, &whole, &finding, out)?;
+            write_unpaired(false, &whole, &finding, out)?;
             return Ok(Status::No);
         }
     };
-    told.iter().find_map(|(.., note)| *note).into_iter().for_each(|note| notes.say(note));
-    if json {
-        let headlines: Vec<String> = told.into_iter().map(|(headline, ..)| headline).collect();
-        let headline = headlines.join("; ");
-        out.report("charted", &Told { headline, charts })?;
-        return Ok(Status::Yes);
-    }
-    Ok(if told.iter().any(|(_, is_any, _)| *is_any) { Status::Yes } else { Status::No })
+    told.iter().find_map(|(_, note)| *note).into_iter().for_each(|note| notes.say(note));
+    Ok(if told.iter().any(|(is_any, _)| *is_any) { Status::Yes } else { Status::No })
 }
 
 /// Names the file for the drawing of a part: `shop-2.svg`.
@@ -197,9 +189,7 @@ impl Chart {
 }
 
 fn time(causes: &Causes<'_>, item: Item) -> String {
-    let times = causes.names().times().zip(causes.place(item));
-    let time = times.and_then(|(times, place)| Some(moment::moment(times, times.of_event(place)?)));
-    time.map(|time| format!("  {time}")).unwrap_or_default()
+    words::time(causes, item).map(|time| format!("  {time}")).unwrap_or_default()
 }
 
 /// Says how long after its send a receive was reported.
@@ -214,63 +204,5 @@ pub(crate) fn short(text: &str, most: usize) -> String {
         text.into()
     } else {
         text.chars().take(most - 3).chain("...".chars()).collect()
-    }
-}
-
-#[derive(Serialize)]
-struct Told {
-    headline: String,
-    charts: Vec<Charted>,
-}
-
-#[derive(Serialize)]
-struct Charted {
-    /// The part between supposed resets that the chart shows.
-    #[serde(skip_serializing_if = "Option::is_none")]
-    part: Option<usize>,
-    label: String,
-    lanes: Vec<String>,
-    rows: Vec<ChartedRow>,
-}
-
-#[derive(Serialize)]
-struct ChartedRow {
-    event: String,
-    is_reported: bool,
-    kind: &'static str,
-    lane: usize,
-    other: Option<usize>,
-    prev: Number,
-    this: Number,
-    message: String,
-    /// The row of the event that it follows.
-    after: Option<usize>,
-    follows: String,
-    is_perhaps: bool,
-}
-
-impl Charted {
-    fn of(causes: &Causes<'_>, chart: &Chart, part: Option<(usize, usize)>) -> Charted {
-        let places: BTreeMap<Item, usize> =
-            chart.rows.iter().map(|row| row.item).zip(0..).collect();
-        let row = |row: &Row| ChartedRow {
-            event: causes.name(row.item),
-            is_reported: causes.reported(row.item).is_some(),
-            kind: kind_word(row.event.kind),
-            lane: row.lane,
-            other: row.other,
-            prev: Number(row.event.serial.prev),
-            this: Number(row.event.serial.this),
-            message: words::message(causes, row.item),
-            after: row.link.after().and_then(|item| places.get(&item).copied()),
-            follows: words::follows(causes, row.item, row.link),
-            is_perhaps: row.link.grade == Grade::Perhaps,
-        };
-        Charted {
-            part: part.map(|(which, _)| which),
-            label: causes.names().label(chart.label).into_owned(),
-            lanes: chart.lanes.iter().map(|&pid| causes.process(pid).into_owned()).collect(),
-            rows: chart.rows.iter().map(row).collect(),
-        }
     }
 }

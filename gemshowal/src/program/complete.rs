@@ -49,7 +49,7 @@ fn write_never(
         return out.report("never", &against.no(shown));
     }
     if form != Form::Added {
-        notes.say_no(against.headline(shown));
+        notes.say(against.headline(shown));
         return Ok(());
     }
     writeln!(out, "{}", against.headline(shown))?;
@@ -79,11 +79,7 @@ fn write_text(
     Ok(Status::Yes)
 }
 
-fn write_added(
-    completion: &Completion,
-    view: &View<'_>,
-    out: &mut Output,
-) -> Result<(), Failure> {
+fn write_added(completion: &Completion, view: &View<'_>, out: &mut Output) -> Result<(), Failure> {
     if completion.added() == 0 {
         writeln!(
             out,

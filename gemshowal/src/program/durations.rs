@@ -6,7 +6,7 @@
 use crate::export::kind;
 use crate::names::{Names, Times};
 use crate::view::Place;
-use gemshowal::{Event, Kind, Label, Trace};
+use gemshowal::{Event, Label, Trace};
 use serde::Serialize;
 use std::cmp::Reverse;
 use std::collections::{BTreeMap, HashMap};
@@ -57,11 +57,9 @@ fn by(
     key: impl Fn(&Event) -> String,
 ) -> Vec<Durations> {
     let mut groups: HashMap<String, Vec<(i64, Place)>> = HashMap::new();
-    for (pid, events) in trace.processes() {
-        for (event, index) in events.iter().zip(0..) {
-            if let Some((_, took)) = times.of_message((pid, index)) {
-                groups.entry(key(event)).or_default().push((took, (pid, index)));
-            }
+    for (place, event) in trace.events() {
+        if let Some((_, took)) = times.of_message(place) {
+            groups.entry(key(event)).or_default().push((took, place));
         }
     }
     let mut found: Vec<Durations> =
@@ -82,12 +80,10 @@ pub(crate) fn by_kind(trace: &Trace, names: &Names, times: &Times) -> Vec<Durati
 /// Returns the time of each label, the slowest first.
 pub(crate) fn by_label(trace: &Trace, names: &Names, times: &Times) -> Vec<LabelTime> {
     let mut labels: BTreeMap<u32, (usize, i64, i64)> = BTreeMap::new();
-    for (pid, events) in trace.processes() {
-        for (event, index) in events.iter().zip(0..) {
-            if let Some(at) = times.of_event((pid, index)) {
-                let (events, first, last) = labels.entry(event.label.0).or_insert((0, at, at));
-                (*events, *first, *last) = (*events + 1, at.min(*first), at.max(*last));
-            }
+    for (place, event) in trace.events() {
+        if let Some(at) = times.of_event(place) {
+            let (events, first, last) = labels.entry(event.label.0).or_insert((0, at, at));
+            (*events, *first, *last) = (*events + 1, at.min(*first), at.max(*last));
         }
     }
     let of = |(label, (events, first, last)): (u32, (usize, i64, i64))| LabelTime {
@@ -103,30 +99,8 @@ pub(crate) fn by_label(trace: &Trace, names: &Names, times: &Times) -> Vec<Label
 
 /// Returns the times of all messages of which both ends have one, sorted.
 pub(crate) fn all(trace: &Trace, times: &Times) -> Vec<i64> {
-    let receives = |(pid, events): (_, &[Event])| {
-        let places = events.iter().zip(0..).filter(|(event, _)| event.kind == Kind::Receive);
-        let took = places.filter_map(|(_, index)| Some(times.of_message((pid, index))?.1));
-        took.collect::<Vec<_>>()
-    };
-    let mut all: Vec<i64> = trace.processes().flat_map(receives).collect();
+    let took = |(place, _)| Some(times.of_message(place)?.1);
+    let mut all: Vec<i64> = trace.events().filter_map(took).collect();
     all.sort_unstable();
     all
-}
-
-#[cfg(test)]
-mod tests {
-    use super::*;
-    use gemshowal::Pid;
-
-    #[test]
-    fn ranks_are_those_of_the_sorted_times() {
-        let pid = Pid::on(0, 2);
-        let times = (1..=100).map(|at| (101 - at as i64, (pid, at))).collect();
-        let found = Durations::of("pair".into(), times, &Names::default()).unwrap();
-        assert_eq!((found.count, found.median, found.percent_99, found.greatest), (100, 50, 99, 100));
-        assert_eq!(found.slowest, "<0.2.0>#1");
-        let one = Durations::of("one".into(), vec![(7, (pid, 0))], &Names::default()).unwrap();
-        assert_eq!((one.median, one.percent_99, one.greatest), (7, 7, 7));
-        assert_eq!(Durations::of("none".into(), Vec::new(), &Names::default()), None);
-    }
 }

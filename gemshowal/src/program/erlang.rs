@@ -7,15 +7,16 @@ use std::os::unix::process::CommandExt;
 use std::path::PathBuf;
 use std::process::Command;
 
+pub(crate) const COMMANDS: [&str; 3] = ["collect", "watch", "convert"];
 const PROGRAM: &str = "seqaudit-node";
 /// The variable that tells the application which `gemshowal` to ask.
 const ASKED: &str = "GEMSHOWAL";
 
 /// Runs the application's command in place of this program, which the application asks in turn
 /// unless the variable says another. Returns the status only if there is none to run.
-pub(crate) fn hand_over(word: &str, words: &[OsString]) -> u8 {
+pub(crate) fn hand_over(word: &str, words: impl Iterator<Item = OsString>) -> u8 {
     let Some(program) = find(PROGRAM) else {
-        output::say_red(format_args!(
+        output::complain(format_args!(
             "error: {word} is a command of the Erlang application, and there is no {PROGRAM} beside \
              this program or on the path: make -C erlang builds it\n"
         ));
@@ -26,7 +27,7 @@ pub(crate) fn hand_over(word: &str, words: &[OsString]) -> u8 {
         command.env(ASKED, own);
     }
     let reason = command.arg(word).args(words).exec();
-    output::say_red(format_args!("error: {} can't be run: {reason}\n", program.display()));
+    output::complain(format_args!("error: {} can't be run: {reason}\n", program.display()));
     4
 }
 

@@ -26,22 +26,29 @@ pub(crate) enum Failure {
     Memory(#[from] OutOfMemory),
     #[error("the completion that was built isn't one")]
     Uncompleted,
-    #[error("{0} can't be opened: {2}{1}")]
-    Unopened(String, String, #[source] io::Error),
+    #[error("{0} can't be opened: {1}")]
+    Unopened(String, #[source] io::Error),
     #[error("{0} can't be read: {1}")]
     Unread(String, #[source] io::Error),
     #[error("{0} has more than {most} bytes", most = gemshowal::LIMITS.bytes)]
     TooLarge(String),
     #[error("{0}{1}; see gemshowal lint")]
     Faulty(String, String),
+    #[error(
+        "the counters of {0} have wrapped: such a trace is audited as a whole, and without --acts, \
+         --proved and --second"
+    )]
+    Wrapped(String),
+    #[error("{0}")]
+    Torn(String),
     #[error("{0} has no acts: look for some with gemshowal audit --acts")]
     NoActs(String),
     #[error(transparent)]
     Beside(#[from] names::Fault),
     #[error(transparent)]
     NotFound(#[from] names::NotFound),
-    #[error("{0} has no times: events need the flag timestamp, and NAME.times beside the trace")]
-    NoTimes(String),
+    #[error("the trace has no times: events need the flag timestamp, and NAME.times beside it")]
+    NoTimes,
     #[error("the cut leaves none of {0}: no event has all that the options ask for")]
     NothingLeft(String),
     #[error("{0} has a completion, with more acts or processes than are read")]
@@ -70,12 +77,12 @@ impl Failure {
         match self {
             Failure::TooLarge(_)
             | Failure::Faulty(..)
+            | Failure::Wrapped(_)
+            | Failure::Torn(_)
             | Failure::NoActs(_)
             | Failure::Beside(names::Fault::Wrong { .. }) => Status::Faulty as u8,
             Failure::NotFound(names::NotFound::Memory(_)) => 4,
-            Failure::NotFound(_) | Failure::NoTimes(_) | Failure::NothingLeft(_) => {
-                Status::No as u8
-            }
+            Failure::NotFound(_) | Failure::NoTimes | Failure::NothingLeft(_) => Status::No as u8,
             Failure::TooLong(_) | Failure::LargeForSecond(_) => Status::Long as u8,
             Failure::Unread(_, reason) if reason.kind() == ErrorKind::InvalidData => {
                 Status::Faulty as u8

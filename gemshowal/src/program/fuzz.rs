@@ -31,14 +31,14 @@ const COMMANDS: &str = "audit|audit --json|audit --each-label|audit --each-label
     complete --as streams|complete --as acts|cut --label 17|cut --lines 2-5|explain|explain --json|\
     lint|lint --json --most 50|lint --fix|list|list --json --counts 1-|stats|stats --json|\
     export --as mermaid|export --as dot|export --as perfetto|export --as shiviz|export --as otlp|\
-    why NAME 3|why NAME 4 --effects --json|chart|chart --json|diff NAME NAME --json|page|times|\
-    times --json --label 1000000|why NAME shop#2|list --label {order,7}";
+    why NAME 3|why NAME 4 --effects --json|chart|chart --label 1000000|diff NAME NAME --json|page|times|\
+    times --json|why NAME shop#2|list --label {order,7}";
 
 /// Numbers that look like chance (xorshift).
-struct Chance(u64);
+pub(crate) struct Chance(pub(crate) u64);
 
 impl Chance {
-    fn below(&mut self, most: usize) -> usize {
+    pub(crate) fn below(&mut self, most: usize) -> usize {
         self.0 ^= self.0 << 13;
         self.0 ^= self.0 >> 7;
         self.0 ^= self.0 << 17;
@@ -122,13 +122,11 @@ impl Example {
 fn times_of(trace: &Trace) -> String {
     let mut text = "seqaudit times 1\nbegin 1795742538123456789\n".to_owned();
     let pairing = trace.pair().unwrap();
-    for (pid, events) in trace.processes() {
-        for (event, index) in events.iter().zip(0..) {
-            text += &format!("event {} {index} {}\n", Text(pid), 1_000 * event.serial.this);
-            let partner = |pairing| gemshowal::partner_at(pairing, pid, index, event.kind);
-            if let Ok(Partner::Send(from, sent)) = pairing.as_ref().map(partner) {
-                text += &format!("message {} {sent} {} {index} 350\n", Text(from), Text(pid));
-            }
+    for ((pid, index), event) in trace.events() {
+        text += &format!("event {} {index} {}\n", Text(pid), 1_000 * event.serial.this);
+        let partner = |pairing| gemshowal::partner_at(pairing, pid, index, event.kind);
+        if let Ok(Partner::Send(from, sent)) = pairing.as_ref().map(partner) {
+            text += &format!("message {} {sent} {} {index} 350\n", Text(from), Text(pid));
         }
     }
     text
@@ -146,23 +144,23 @@ fn examples() -> Vec<Example> {
 }
 
 /// Returns the first word of a command line, and the command.
-fn command(words: &'static str) -> (&'static str, Command) {
+fn command(words: &'static str) -> (&'static str, Args) {
     let args = Args::try_parse_from(["gemshowal"].into_iter().chain(words.split(' '))).unwrap();
-    (words.split(' ').next().unwrap(), args.command)
+    (words.split(' ').next().unwrap(), args)
 }
 
 /// Does a command on a text, and a comparison with the one that it was made of, and returns whether
 /// the status is a yes. An object is whole, whatever the result.
-fn run((word, command): &(&str, Command), name: &str, text: &[u8], whole: &[u8]) -> bool {
-    let (mut input, mut notes) = (Input::of_bytes(text, name), Notes::new(false));
-    let (mut out, json) = (Output::to_nowhere(word), command.is_json());
-    let task = Task { json, input: &mut input, out: &mut out, notes: &mut notes };
-    let ended = match command {
+fn run((word, args): &(&str, Args), name: &str, text: &[u8], whole: &[u8]) -> bool {
+    let (mut input, mut notes) = (Input::of_bytes(text, name), Notes::default());
+    let mut out = Output::to_nowhere(word);
+    let task = Task { json: args.json, input: &mut input, out: &mut out, notes: &mut notes };
+    let ended = match &args.command {
         Command::Diff(_) => diff::run(task, Input::of_bytes(whole, name)),
-        _ => run_on(command, task),
+        command => run_on(command, task),
     };
     out.finish().unwrap();
-    if command.is_json() && ended.is_ok() {
+    if args.json && ended.is_ok() {
         let object: serde_json::Value = serde_json::from_slice(out.taken()).unwrap();
         assert_eq!(object["command"], *word);
     }

@@ -3,10 +3,10 @@
 use crate::lint;
 use crate::names::{self, Messages, Names};
 use crate::output::Notes;
-use crate::spool::Spool;
+use crate::spool::Spooled;
 use crate::Failure;
 use flate2::read::MultiGzDecoder;
-use gemshowal::{ReadError, Trace};
+use gemshowal::{NodeTrace, ReadError, Trace, WRAPPED};
 use std::fs::File;
 use std::io::{self, BufReader, Cursor, ErrorKind, Read, Seek};
 use std::path::{Path, PathBuf};
@@ -35,8 +35,8 @@ impl Input {
         }
         let name = path.to_string_lossy().into_owned();
         let opened = File::open(&path).and_then(|file| Ok((file.try_clone()?, file)));
-        let (again, file) = opened
-            .map_err(|reason| Failure::Unopened(on_one_line(&name).into(), hint(&path), reason))?;
+        let (again, file) =
+            opened.map_err(|reason| Failure::Unopened(on_one_line(&name).into(), reason))?;
         let reader = unpacked(Box::new(file));
         let reader = reader.map_err(|reason| Failure::Unread(on_one_line(&name).into(), reason))?;
         Ok(Input { name, path, file: Some(again), reader })
@@ -68,6 +68,27 @@ impl Input {
         path.strip_suffix(".seqtrace").unwrap_or(&path).to_owned()
     }
 
+    /// Returns whether the text is that of a node whose counters have wrapped. It is read later.
+    pub(crate) fn is_wrapped(&mut self) -> Result<bool, Failure> {
+        let mut front = Vec::new();
+        let read = self.reader.by_ref().take(WRAPPED.len() as u64).read_to_end(&mut front);
+        read.map_err(|reason| self.unread(reason))?;
+        let is_wrapped = front == WRAPPED;
+        let rest = std::mem::replace(&mut self.reader, Box::new(io::empty()));
+        self.reader = Box::new(Cursor::new(front).chain(rest));
+        Ok(is_wrapped)
+    }
+
+    /// Reads a trace whose counters have wrapped, and the names that the files next to it give it.
+    pub(crate) fn read_wrapped(&mut self, notes: &mut Notes) -> Result<(NodeTrace, Names), Failure> {
+        let text = self.bytes()?;
+        // No other command knows this version, so lint has no words for its faults.
+        let no_text = |_: &mut Input| Err(ErrorKind::Unsupported.into());
+        let trace = NodeTrace::read(&text).map_err(|error| self.refused(error, no_text))?;
+        let names = Names::beside(&self.path, trace.trace(), notes)?;
+        Ok((trace, names))
+    }
+
     /// Reads the trace, and the names that the files next to it give it.
     pub(crate) fn read(&mut self, notes: &mut Notes) -> Result<(Trace, Names), Failure> {
         let trace = self.trace()?;
@@ -86,19 +107,36 @@ impl Input {
     }
 
     pub(crate) fn trace(&mut self) -> Result<Trace, Failure> {
-        let mut spool = self.file.is_none().then(Spool::default);
-        let read = Trace::read(Kept { reader: &mut self.reader, spool: spool.as_mut() });
-        read.map_err(|error| match error {
+        if self.file.is_some() {
+            let read = Trace::read(&mut self.reader);
+            return read.map_err(|error| self.refused(error, Input::again));
+        }
+        let mut spooled = Spooled::new(&mut self.reader);
+        let read = Trace::read(&mut spooled);
+        let bytes = if read.is_err() { spooled.bytes() } else { Ok(Vec::new()) };
+        read.map_err(|error| self.refused(error, |_| bytes))
+    }
+
+    fn refused(
+        &mut self,
+        error: ReadError,
+        text: impl FnOnce(&mut Input) -> io::Result<Vec<u8>>,
+    ) -> Failure {
+        match error {
             ReadError::Memory(error) => error.into(),
             ReadError::Io(reason) => self.unread(reason),
             ReadError::TooLarge => Failure::TooLarge(self.line_name().into()),
             ReadError::Faulty(fault) => {
-                let text = spool.map_or_else(|| self.again(), Spool::bytes);
-                let words = text.ok().and_then(|text| lint::first_refused(&text));
+                let words = text(self).ok().and_then(|text| lint::first_refused(&text));
                 let words = words.unwrap_or_else(|| format!(": {fault}"));
                 Failure::Faulty(self.line_name().into(), words)
             }
-        })
+        }
+    }
+
+    /// Returns the reader of its bytes, unpacked.
+    pub(crate) fn into_reader(self) -> Box<dyn Read> {
+        self.reader
     }
 
     pub(crate) fn bytes(&mut self) -> Result<Vec<u8>, Failure> {
@@ -155,31 +193,6 @@ impl<R: Read> Read for Unpacking<R> {
             _ => error,
         })
     }
-}
-
-struct Kept<'a> {
-    reader: &'a mut dyn Read,
-    spool: Option<&'a mut Spool>,
-}
-
-impl Read for Kept<'_> {
-    fn read(&mut self, piece: &mut [u8]) -> io::Result<usize> {
-        let taken = self.reader.read(piece)?;
-        if let (Some(spool), Some(bytes)) = (&mut self.spool, piece.get(..taken)) {
-            spool.keep(bytes);
-        }
-        Ok(taken)
-    }
-}
-
-/// Hints at another file if the one that was asked for isn't there.
-fn hint(path: &Path) -> String {
-    let name = path.with_extension("");
-    let is_beside = path.extension().is_some_and(|it| it != "seqtrace");
-    if is_beside && name.with_extension("seqtrace").is_file() {
-        return format!(" (there is a trace of the name {})", name.display());
-    }
-    String::new()
 }
 
 fn on_one_line(name: &str) -> &str {

@@ -10,22 +10,25 @@ pub(crate) fn run(args: &List, task: Task<'_>) -> Result<Status, Failure> {
     let Task { json, input, out, notes } = task;
     let (trace, names) = input.read(notes)?;
     let rows = trace.list(&args.conditions.filter(&trace, &names)?)?;
-    let rows = rows.as_ref();
+    let is_listed = |row: &&Row| args.conditions.are_met(row, &names);
+    let rows = || rows.as_ref().iter().filter(is_listed);
     let pairing = trace.pair()?.ok();
-    if pairing.is_none() && !rows.is_empty() {
+    if pairing.is_none() && rows().next().is_some() {
         notes.say(
             "note: the trace can't be paired, so no partners are shown; gemshowal audit says why",
         );
     }
     let partner = |row: &Row| {
         let pairing = pairing.as_ref();
-        pairing.map_or(Partner::Nobody, |pairing| gemshowal::partner(pairing, row))
+        pairing.map_or(Partner::Nobody, |pairing| {
+            gemshowal::partner_at(pairing, row.pid, row.index, row.event.kind)
+        })
     };
     if json {
         let put = |line: &mut Line<'_>, row: &Row| put_object(line, row, partner(row), &names);
-        out.report_rows("listed", "events", rows, put)?;
+        out.report_rows("listed", "events", rows().count(), rows(), put)?;
     } else {
-        for row in rows {
+        for row in rows() {
             out.put(|line| put_row(line, row, partner(row), &names))?;
         }
     }
@@ -57,8 +60,8 @@ fn put_row(line: &mut Line<'_>, row: &Row, partner: Partner, names: &Names) {
     line.text("\n");
 }
 
-/// Appends an event as JSON. Its other end is null if nobody reported it, and left out of a print
-/// and if the trace can't be paired.
+/// Appends an event as JSON: serde takes four times as long. Its other end is null if nobody reported
+/// it, and left out of a print and if the trace can't be paired.
 fn put_object(line: &mut Line<'_>, row: &Row, partner: Partner, names: &Names) {
     let event = &row.event;
     line.text("{\"line\":").json_number(row.line).text(",");
@@ -78,16 +81,14 @@ fn put_object(line: &mut Line<'_>, row: &Row, partner: Partner, names: &Names) {
     if names.has_terms() {
         line.text(",\"message\":").string(&names.brief(event.value));
     }
-    match partner {
-        Partner::Receive(pid, index) | Partner::Send(pid, index) => {
-            line.text(",\"partner\":{");
-            put_place(line, (pid, index), names);
-            line.text("}");
+    match partner.place() {
+        Some(place) => {
+            put_place(line.text(",\"partner\":{"), place, names);
+            line.text("}}");
         }
-        Partner::NoReceive | Partner::NoSend => drop(line.text(",\"partner\":null")),
-        Partner::Nobody => {}
+        None if matches!(partner, Partner::Nobody) => drop(line.text("}")),
+        None => drop(line.text(",\"partner\":null}")),
     }
-    line.text("}");
 }
 
 fn put_place(line: &mut Line<'_>, place: (Pid, u64), names: &Names) {

@@ -14,7 +14,6 @@ mod cut;
 mod diff;
 mod durations;
 mod erlang;
-mod explain;
 mod export;
 mod failure;
 #[cfg(test)]
@@ -28,7 +27,9 @@ mod names;
 mod object;
 mod output;
 mod page;
+mod pieces;
 mod reason;
+mod spawns;
 mod spool;
 mod stats;
 mod svg;
@@ -37,11 +38,12 @@ mod view;
 mod why;
 mod words;
 
-use crate::args::Command;
+use crate::args::{Args, Command};
 use crate::failure::{Failure, Status, PIPE};
 use crate::input::Input;
 use crate::output::{Headings, Notes, Output};
 use serde::Serialize;
+use std::env;
 use std::io::ErrorKind;
 use std::path::Path;
 use std::process::ExitCode;
@@ -66,30 +68,32 @@ struct Task<'a> {
 fn run_on(command: &Command, task: Task<'_>) -> Result<Status, Failure> {
     match command {
         Command::Audit(args) => audit::run(args, task),
-        Command::Check(_) => check::run(task),
+        Command::Check(_) | Command::Explain(_) => check::run(task),
         Command::Complete(args) => complete::run(args, task),
         Command::Cut(args) => cut::run(args, task),
-        Command::Explain(_) => explain::run(task),
         Command::Lint(args) => lint::run(args, task),
         Command::List(args) => list::run(args, task),
         Command::Page(args) => page::run(args, task),
         Command::Stats(_) => stats::run(task),
-        Command::Collect(_) | Command::Watch(_) | Command::Convert(_) => Ok(Status::Yes),
+        Command::Collect | Command::Watch | Command::Convert | Command::Pieces(_) => {
+            Ok(Status::Yes)
+        }
         Command::Chart(args) => chart::run(args, task),
         Command::Diff(args) => diff::run(task, Input::open(&args.second)?),
         Command::Export(args) => export::run(args, task),
-        Command::Times(args) => times::run(args, task),
+        Command::Times(_) => times::run(task),
         Command::Why(args) => why::run(args, task),
     }
 }
 
 /// Opens an input, and does the command on it. In place of a result JSON has an object too.
 fn run_on_path(
-    command: &Command,
+    args: &Args,
     path: &Path,
     headings: &mut Headings,
     notes: &mut Notes,
 ) -> Result<Status, Failure> {
+    let Args { command, json, .. } = args;
     let mut opened = Input::open(path);
     let name = match &opened {
         Ok(input) => input.name().to_owned(),
@@ -98,12 +102,12 @@ fn run_on_path(
     let mut out = headings.output(&name)?;
     let ended = match &mut opened {
         Ok(input) => {
-            let task = Task { json: command.is_json(), input, out: &mut out, notes };
-            run_on(command, task).and_then(|status| out.finish().map(|()| status).map_err(Failure::from))
+            let task = Task { json: *json, input, out: &mut out, notes };
+            run_on(command, task).and_then(|status| Ok(out.finish().map(|()| status)?))
         }
         Err(_) => opened.map(|_| Status::Yes),
     };
-    let ended = ended.or_else(|failure| report(failure, command.is_json(), &mut out));
+    let ended = ended.or_else(|failure| report(failure, *json, &mut out));
     headings.note(&out);
     ended
 }
@@ -119,21 +123,23 @@ fn report(failure: Failure, is_json: bool, out: &mut Output) -> Result<Status, F
 }
 
 /// Does the command on one input after the other. The status is that of the worst.
-fn run(word: &str, command: &Command) -> u8 {
+fn run(word: &str, args: &Args) -> u8 {
     let mut status = 0;
-    let several = command.files().len() > 1 && !command.is_json();
-    let mut headings = Headings::new(word, several, command.is_quiet());
-    for path in command.files() {
-        let mut notes = Notes::new(command.is_quiet());
-        let ended = run_on_path(command, path, &mut headings, &mut notes);
+    let files = args.command.files();
+    let mut headings = Headings::new(word, files.len() > 1 && !args.json, args.quiet);
+    for path in files {
+        let mut notes = Notes::default();
+        let ended = run_on_path(args, path, &mut headings, &mut notes);
         if ended.as_ref().is_err_and(|failure| failure.status() == PIPE) {
             return PIPE;
         }
-        notes.send();
+        if !args.quiet {
+            notes.send();
+        }
         match ended {
             Ok(ended) => status = status.max(ended as u8),
             Err(failure) => {
-                output::say_red(format_args!("error: {failure}\n"));
+                output::complain(format_args!("error: {failure}\n"));
                 status = status.max(failure.status());
                 if matches!(failure, Failure::Unwritten(_)) {
                     break;
@@ -149,7 +155,7 @@ fn print(error: &clap::Error) -> u8 {
     match error.print() {
         Err(reason) if reason.kind() == ErrorKind::BrokenPipe => PIPE,
         Err(reason) => {
-            output::say_red(format_args!("error: {}\n", Failure::Unwritten(reason)));
+            output::complain(format_args!("error: {}\n", Failure::Unwritten(reason)));
             4
         }
         Ok(()) if error.use_stderr() => USAGE,
@@ -158,11 +164,16 @@ fn print(error: &clap::Error) -> u8 {
 }
 
 fn main() -> ExitCode {
-    ExitCode::from(match Command::read() {
-        Ok((word, command)) => match command.handed() {
-            Some(args) => erlang::hand_over(&word, &args.words),
-            None => run(&word, &command),
-        },
+    let mut words = env::args_os().skip(1);
+    let first = words.next().unwrap_or_default();
+    if let Some(word) = erlang::COMMANDS.into_iter().find(|word| first == *word) {
+        return ExitCode::from(erlang::hand_over(word, words));
+    }
+    ExitCode::from(match Args::read() {
+        Ok((_, Args { command: Command::Pieces(pieces), quiet, .. })) => {
+            pieces::run(&pieces, quiet)
+        }
+        Ok((word, args)) => run(&word, &args),
         Err(error) => print(&error),
     })
 }

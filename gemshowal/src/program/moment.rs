@@ -74,28 +74,3 @@ pub(crate) fn moment(times: &Times, after_first: i64) -> String {
         None => seconds(after_first),
     }
 }
-
-#[cfg(test)]
-mod tests {
-    use super::*;
-
-    #[test]
-    fn times_are_shown_in_their_unit() {
-        assert_eq!(seconds(-1_500_000_000), "-1.500000 s");
-        assert_eq!(seconds(350_999), "0.000350 s");
-        assert_eq!(
-            [9_999, 10_000, 9_999_999, 10_000_000_000].map(span),
-            ["9999 ns", "10 us", "9999 us", "10 s"]
-        );
-        assert_eq!(spans(&[1_500, 20_000]), ["1.500 us", "20.000 us"]);
-        assert_eq!(spans(&[7]), ["7 ns"]);
-    }
-
-    #[test]
-    fn dates_are_those_of_the_calendar() {
-        assert_eq!(clock(0), "1970-01-01T00:00:00.000000Z");
-        assert_eq!(clock(951_782_400 * SECOND), "2000-02-29T00:00:00.000000Z");
-        assert_eq!(clock(1_795_742_538 * SECOND + 123_456_789), "2026-11-27T01:22:18.123456Z");
-        assert_eq!(clock(-SECOND), "1969-12-31T23:59:59.000000Z");
-    }
-}

@@ -1,16 +1,11 @@
 //! The reasons why no run reports a trace, for an event of it: in sentences, and as JSON.
-//!
-//! Of the causes that a reason can have, the one that fits the trace best comes first: a reset, or
-//! a second run, sets the counters of several processes back, and a token that is put back that of
-//! one. If nothing tells them apart, the most common one comes first.
 
 use crate::object::{Fields, Place as PlaceObject};
 use crate::output::Output;
 use crate::view::{Place, Shown, View};
 use crate::Failure;
-use gemshowal::{Event, Finding, Kind, Never, Pid, Reason, Streams};
+use gemshowal::{Event, Finding, Never, Pid, Reason};
 use serde::Serialize;
-use std::collections::HashSet;
 use std::io::{self, Write};
 
 /// An event, the reason against it, and the second event that this may be about.
@@ -37,7 +32,7 @@ impl Against {
         Against { place: (pid, index), never }
     }
 
-    fn other(&self) -> Option<Place> {
+    pub(crate) fn other(&self) -> Option<Place> {
         match self.never {
             Never::NotRising(index) | Never::Late(index) => Some((self.place.0, index)),
             Never::Repeated(pid, index) | Never::Mismatch(pid, index) => Some((pid, index)),
@@ -90,7 +85,7 @@ impl Against {
     /// Says which causes the reason can have, the likeliest first.
     fn look_at(&self, shown: &Shown<'_>) -> String {
         let found: Vec<Event> = self.events(shown).into_iter().map(|(_, event)| event).collect();
-        causes(self.never, &found, shown.streams).join("; ")
+        causes(self.never, &found).join("; ")
     }
 
     pub(crate) fn no(&self, shown: &Shown<'_>) -> No {
@@ -189,8 +184,7 @@ fn meaning(never: Never) -> &'static str {
 }
 
 // The causes that a trace which doesn't fit may have.
-const PUT_BACK: &str =
-    "a token that set_token/1 put back (Old = seq_trace:set_token([]), .., \
+const PUT_BACK: &str = "a token that set_token/1 put back (Old = seq_trace:set_token([]), .., \
      seq_trace:set_token(Old)) would explain it: that moves the counter of a standard node back to \
      what the token had";
 const PUT_BACK_EARLY: &str =
@@ -207,64 +201,21 @@ const CHANGED: &str = "a file that was changed";
 const WRONG_PROCESS: &str =
     "sends to aliases and names, which may be taken for sends to the wrong process (NAME.notes)";
 
-/// Returns the likeliest cause first.
-fn causes(never: Never, found: &[Event], streams: &Streams) -> Vec<&'static str> {
-    let went_back = || match went_back_of(streams) {
-        0 | 1 => [PUT_BACK, TWO_RUNS, RESET],
-        _ => [RESET, TWO_RUNS, PUT_BACK],
-    };
-    let in_turn = |first: &[&'static str], last: &[&'static str]| [first, &went_back(), last].concat();
-    match (never, found) {
-        (Never::PrevNotBefore, _) => vec![PUT_BACK_EARLY, CHANGED, SET_BY_HAND],
-        (Never::NotRising(_), _) => in_turn(&[], &[OTHER_ORDER]),
-        (Never::Repeated(..), [one, other]) if one == other => {
-            in_turn(&[COLLECTED_TWICE], &[WRONG_PROCESS, CHANGED])
+/// Returns the likeliest cause first, as far as the events tell it.
+fn causes(never: Never, found: &[Event]) -> &'static [&'static str] {
+    let are_copies = matches!(found, [one, other] if one == other);
+    let are_apart = matches!(found, [one, other] if other.to.is_some() && one.to != other.to);
+    match never {
+        Never::PrevNotBefore => &[PUT_BACK_EARLY, CHANGED, SET_BY_HAND],
+        Never::NotRising(_) | Never::Repeated(..) if are_copies => {
+            &[COLLECTED_TWICE, TWO_RUNS, RESET, PUT_BACK, CHANGED]
         }
-        (Never::Repeated(..), _) => in_turn(&[], &[CHANGED, COLLECTED_TWICE, WRONG_PROCESS]),
-        (Never::Mismatch(..), [one, other]) if other.to.is_some() && one.to != other.to => {
-            in_turn(&[WRONG_PROCESS, CHANGED], &[])
-        }
-        (Never::Mismatch(..), _) => in_turn(&[CHANGED, WRONG_PROCESS], &[]),
-        (Never::Late(_), [first, ..]) if follows_earlier(first, streams) => {
-            vec![OTHER_ORDER, PUT_BACK, TWO_RUNS, RESET, CHANGED]
-        }
-        (Never::Late(_), _) if went_back_of(streams) == 0 => {
-            vec![CHANGED, RESET, TWO_RUNS, OTHER_ORDER, PUT_BACK]
-        }
-        (Never::Late(_), _) => vec![RESET, TWO_RUNS, OTHER_ORDER, PUT_BACK, CHANGED],
-        (Never::Unfounded, _) => vec![PUT_BACK, CHANGED, TWO_RUNS, RESET_BEFORE],
-        (Never::TooHigh, _) => vec![CHANGED, SET_BY_HAND],
+        Never::NotRising(_) => &[RESET, TWO_RUNS, PUT_BACK, OTHER_ORDER],
+        Never::Repeated(..) => &[RESET, TWO_RUNS, PUT_BACK, CHANGED, WRONG_PROCESS],
+        Never::Mismatch(..) if are_apart => &[WRONG_PROCESS, CHANGED, RESET, TWO_RUNS, PUT_BACK],
+        Never::Mismatch(..) => &[CHANGED, WRONG_PROCESS, RESET, TWO_RUNS, PUT_BACK],
+        Never::Late(_) => &[RESET, TWO_RUNS, OTHER_ORDER, PUT_BACK, CHANGED],
+        Never::Unfounded => &[PUT_BACK, CHANGED, TWO_RUNS, RESET_BEFORE],
+        Never::TooHigh => &[CHANGED, SET_BY_HAND],
     }
-}
-
-/// Counts the processes that used a count twice, or a lower one after a higher, as their own events
-/// or the receives of what they sent show it.
-fn went_back_of(streams: &Streams) -> usize {
-    let mut fallen = HashSet::new();
-    let mut received = HashSet::new();
-    for &pid in streams.pids() {
-        let mut last = None;
-        for event in streams.events(pid) {
-            let this = event.serial.this;
-            if event.kind == Kind::Receive {
-                if !received.insert((event.from, this)) {
-                    fallen.insert(event.from);
-                }
-            } else {
-                if last.is_some_and(|last| this <= last) {
-                    fallen.insert(pid);
-                }
-                last = Some(this);
-            }
-        }
-    }
-    fallen.len()
-}
-
-/// Returns whether a stamp follows a message that its process received before, as it does in
-/// another place, or with a token that was put back.
-fn follows_earlier(stamp: &Event, streams: &Streams) -> bool {
-    let is_cause =
-        |event: &Event| event.kind == Kind::Receive && event.serial.this == stamp.serial.prev;
-    streams.events(stamp.from).iter().any(is_cause)
 }

@@ -1,9 +1,9 @@
-//! The bytes that were read of standard input, kept so that a fault in it can be explained: it
+//! The bytes that were read of standard input, kept so that a fault in them can be explained: it
 //! can't be read twice.
 
 use std::env;
 use std::fs::{self, File, OpenOptions};
-use std::io::{self, ErrorKind, Read, Seek, Write};
+use std::io::{self, Read, Seek, Write};
 use std::os::unix::fs::OpenOptionsExt;
 use std::process;
 
@@ -11,53 +11,49 @@ use std::process;
 /// name any more.
 const IN_MEMORY: usize = 16_777_216;
 
-#[derive(Debug, Default)]
-pub(crate) struct Spool {
+/// A reader that keeps what it reads. If that fails, it goes on, and the text is lost.
+pub(crate) struct Spooled<R> {
+    reader: R,
     held: Vec<u8>,
-    file: Option<File>,
-    is_lost: bool,
+    file: io::Result<Option<File>>,
 }
 
-impl Spool {
-    /// Keeps these bytes too, as far as there is room.
-    pub(crate) fn keep(&mut self, bytes: &[u8]) {
-        if self.is_lost {
-            return;
-        }
-        self.held.extend_from_slice(bytes);
-        if self.held.len() > IN_MEMORY && self.pour().is_err() {
-            *self = Spool { is_lost: true, ..Spool::default() };
-        }
+impl<R: Read> Spooled<R> {
+    pub(crate) fn new(reader: R) -> Spooled<R> {
+        Spooled { reader, held: Vec::new(), file: Ok(None) }
     }
 
-    fn pour(&mut self) -> io::Result<()> {
-        if self.file.is_none() {
-            self.file = Some(nameless()?);
-        }
-        if let Some(file) = &mut self.file {
-            file.write_all(&self.held)?;
-        }
-        self.held.clear();
-        Ok(())
-    }
-
-    /// Returns all that was kept; fails if that isn't the whole text.
+    /// Returns all that was read.
     pub(crate) fn bytes(self) -> io::Result<Vec<u8>> {
+        let Some(mut file) = self.file? else { return Ok(self.held) };
         let mut bytes = Vec::new();
-        if let Some(mut file) = self.file {
-            file.rewind()?;
-            file.read_to_end(&mut bytes)?;
-        }
+        file.rewind()?;
+        file.read_to_end(&mut bytes)?;
         bytes.extend_from_slice(&self.held);
-        if self.is_lost {
-            Err(ErrorKind::Unsupported.into())
-        } else {
-            Ok(bytes)
-        }
+        Ok(bytes)
     }
 }
 
-/// Makes a file for this process alone, which is gone when it ends.
+impl<R: Read> Read for Spooled<R> {
+    fn read(&mut self, piece: &mut [u8]) -> io::Result<usize> {
+        let taken = self.reader.read(piece)?;
+        if let Ok(file) = &mut self.file {
+            self.held.extend_from_slice(&piece[..taken]);
+            if self.held.len() > IN_MEMORY {
+                self.file = poured(file.take(), &self.held).map(Some);
+                self.held.clear();
+            }
+        }
+        Ok(taken)
+    }
+}
+
+fn poured(file: Option<File>, bytes: &[u8]) -> io::Result<File> {
+    let mut file = file.map_or_else(nameless, Ok)?;
+    file.write_all(bytes)?;
+    Ok(file)
+}
+
 fn nameless() -> io::Result<File> {
     let path = env::temp_dir().join(format!("gemshowal-{}", process::id()));
     let file =

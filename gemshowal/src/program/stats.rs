@@ -129,20 +129,18 @@ impl Process {
 /// both ends reported is counted at its send.
 fn pairs(trace: &Trace, pairing: &Pairing, names: &Names) -> Vec<Pair> {
     let mut pairs = BTreeMap::<_, [u64; 3]>::new();
-    for (pid, events) in trace.processes() {
-        for (event, index) in events.iter().zip(0..) {
-            let Some(to) = event.to else { continue };
-            let [messages, unreceived, unsent] = pairs.entry((event.from, to)).or_default();
-            let other = match gemshowal::partner_at(pairing, pid, index, event.kind) {
-                Partner::Nobody | Partner::Send(..) => continue,
-                Partner::Receive(..) => None,
-                Partner::NoReceive => Some(unreceived),
-                Partner::NoSend => Some(unsent),
-            };
-            *messages += 1;
-            if let Some(count) = other {
-                *count += 1;
-            }
+    for ((pid, index), event) in trace.events() {
+        let Some(to) = event.to else { continue };
+        let [messages, unreceived, unsent] = pairs.entry((event.from, to)).or_default();
+        let other = match gemshowal::partner_at(pairing, pid, index, event.kind) {
+            Partner::Nobody | Partner::Send(..) => continue,
+            Partner::Receive(..) => None,
+            Partner::NoReceive => Some(unreceived),
+            Partner::NoSend => Some(unsent),
+        };
+        *messages += 1;
+        if let Some(count) = other {
+            *count += 1;
         }
     }
     let pair = |((from, to), [messages, unreceived, unsent]): (_, [u64; 3])| Pair {
@@ -174,15 +172,13 @@ impl<'a> Depths<'a> {
         let sent = trace.processes().map(|(pid, events)| (pid, vec![0; events.len()])).collect();
         let mut depths = Depths { trace, hops, sent, widths: HashMap::new() };
         let mut sends = Vec::new();
-        for (pid, events) in trace.processes() {
-            for (event, index) in events.iter().zip(0_u64..) {
-                match event.kind {
-                    Kind::Send => sends.push((event.serial.this, pid, index)),
-                    Kind::Receive if depths.hops.hop(pid, index) == Some(Hop::Unsent) => {
-                        *depths.widths.entry((event.label.0, 1)).or_default() += 1;
-                    }
-                    Kind::Receive | Kind::Print => {}
+        for ((pid, index), event) in trace.events() {
+            match event.kind {
+                Kind::Send => sends.push((event.serial.this, pid, index)),
+                Kind::Receive if depths.hops.hop(pid, index) == Some(Hop::Unsent) => {
+                    *depths.widths.entry((event.label.0, 1)).or_default() += 1;
                 }
+                Kind::Receive | Kind::Print => {}
             }
         }
         sends.sort_unstable();
@@ -220,7 +216,7 @@ impl<'a> Depths<'a> {
 
     fn labels(self, names: &Names) -> Vec<LabelStats> {
         let mut labels = BTreeMap::<u32, (u64, u64, u64)>::new();
-        for event in self.trace.processes().flat_map(|(_, events)| events) {
+        for (_, event) in self.trace.events() {
             labels.entry(event.label.0).or_default().0 += 1;
         }
         for ((label, depth), number) in self.widths {

@@ -36,26 +36,10 @@ const TEXT: usize = 44;
 const NAME: usize = 24;
 const HEADING: usize = 160;
 
-const STYLE: &str = "text{font:11px 'DejaVu Sans',Verdana,sans-serif;fill:#222}\
-    .t{paint-order:stroke;stroke:#fff;stroke-width:3px}\
-    .n{fill:#767676;text-anchor:end}.h{font-size:15px}.w{fill:#a00000;font-weight:bold}\
-    .b{fill:#eef2f7;stroke:#9fb3c8}\
-    .l{stroke:#cbd5e0}.z{fill:#fafbfc}\
-    .s{stroke:#1a5fb4;fill:none;stroke-width:1.4}.r{fill:#1a5fb4}\
-    .d{stroke:#b35900;fill:none;stroke-width:1.4;stroke-dasharray:6 4}\
-    .o{fill:#fff;stroke:#1a5fb4;stroke-width:1.4}\
-    .u{fill:#fff;stroke:#b35900;stroke-width:1.4;stroke-dasharray:2 2}\
-    .q{fill:#b35900;font-weight:bold}.p{fill:#26803b}\
-    g:hover>.s,g:hover>.d{stroke-width:3}g:hover>.t{font-weight:bold}";
+const STYLE: &str = include_str!("../../page/chart.css");
 
 /// The ends of arrows: of a message that was reported, of one that wasn't, and the bar.
-const ENDS: &str = r##"<defs>
-<marker id="s" viewBox="0 0 10 10" refX="9" refY="5" markerWidth="8" markerHeight="8" orient="auto">
-<path d="M0 0L10 5L0 10z" fill="#1a5fb4"/></marker>
-<marker id="d" viewBox="0 0 10 10" refX="9" refY="5" markerWidth="8" markerHeight="8" orient="auto">
-<path d="M0 0L10 5L0 10z" fill="#b35900"/></marker>
-<marker id="x" viewBox="0 0 4 10" refX="2" refY="5" markerWidth="5" markerHeight="10" orient="auto">
-<path d="M2 0V10" stroke="#1a5fb4" stroke-width="2"/></marker></defs>"##;
+const ENDS: &str = include_str!("../../page/arrows.svg");
 
 pub(crate) fn write(file: &Path, causes: &Causes<'_>, chart: &Chart) -> Result<(), Failure> {
     if chart.rows.len() > MOST_ROWS {
@@ -97,7 +81,7 @@ impl<'a> Drawing<'a> {
             "<svg xmlns=\"http://www.w3.org/2000/svg\" width=\"{width}\" height=\"{height}\" \
              viewBox=\"0 0 {width} {height}\">"
         )?;
-        writeln!(out, "<style>{STYLE}</style>\n{ENDS}")?;
+        write!(out, "<style>\n{STYLE}</style>\n{ENDS}")?;
         writeln!(out, "<rect width=\"100%\" height=\"100%\" fill=\"#fff\"/>")?;
         self.heading(out)?;
         self.key(out)?;

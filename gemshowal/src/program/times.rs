@@ -1,17 +1,13 @@
-//! The command `times`: the times that messages and labels took, and what the last event of a label
-//! waited for.
+//! The command `times`: the times that messages and labels took.
 
-use crate::args::Times as Args;
-use crate::causes::{with_each, Causes, Grade};
 use crate::chart::short;
 use crate::durations::{self, Durations, LabelTime};
 use crate::moment::{clock, seconds, span, spans};
 use crate::names::{Names, Times};
 use crate::output::Output;
-use crate::view::{count, Place, View};
-use crate::words;
+use crate::view::count;
 use crate::{Failure, Status, Task};
-use gemshowal::{Item, Kind, Label, Trace};
+use gemshowal::Trace;
 use serde::Serialize;
 use std::io::{self, Write};
 
@@ -23,34 +19,17 @@ const CELL: usize = 40;
 const MEANING: &str =
     "A message takes from its send until its receiver took it: waiting in the mailbox is in that.";
 
-pub(crate) fn run(args: &Args, task: Task<'_>) -> Result<Status, Failure> {
+pub(crate) fn run(task: Task<'_>) -> Result<Status, Failure> {
     let Task { json, input, out, notes } = task;
     let (trace, names) = input.read(notes)?;
     let Some(times) = names.times().filter(|times| times.count() > 0) else {
-        return Err(Failure::NoTimes(input.line_name().into()));
+        return Err(Failure::NoTimes);
     };
-    let label =
-        args.label.as_deref().map(|label| names.find_label(&trace, Some(label))).transpose()?;
     let tables = Tables::of(&trace, &names, times);
-    let path = match label {
-        None => None,
-        Some(label) => Path::to_last(&View::whole(&trace, &names), times, label)?,
-    };
     if json {
-        out.report("timed", &Told { tables: &tables, path: &path })?;
-        return Ok(Status::Yes);
-    }
-    tables.write(&names, out)?;
-    match (&path, label) {
-        (Some(path), Some(label)) => path.write(&names, label, out)?,
-        (None, Some(label)) => {
-            writeln!(
-                out,
-                "what the last event of label {} waited for isn't known",
-                names.label(label)
-            )?;
-        }
-        _ => {}
+        out.report("timed", &tables)?;
+    } else {
+        tables.write(&names, out)?;
     }
     Ok(Status::Yes)
 }
@@ -169,102 +148,4 @@ fn write_table(out: &mut Output, titles: &[&str], rows: Vec<Vec<String>>) -> io:
         writeln!(out, "  and {more} more")?;
     }
     Ok(())
-}
-
-/// The chain of causes of a label's last event, from its beginning.
-#[derive(Serialize)]
-struct Path {
-    steps: Vec<Step>,
-}
-
-#[derive(Serialize)]
-struct Step {
-    event: String,
-    what: String,
-    /// The time after the step before, if both have a time.
-    after: Option<i64>,
-    is_way: bool,
-    /// Tells whether it isn't sure that it follows the step before.
-    is_perhaps: bool,
-}
-
-impl Path {
-    fn to_last(whole: &View<'_>, times: &Times, label: Label) -> Result<Option<Path>, Failure> {
-        let Some(last) = last_event(whole.trace, times, label) else { return Ok(None) };
-        let paths = with_each(whole, |_| false, |causes, _| {
-            Ok(causes.item_at(last).map(|last| Path::to(causes, times, last)))
-        })?;
-        Ok(paths.unwrap_or_default().into_iter().flatten().next())
-    }
-
-    fn to(causes: &Causes<'_>, times: &Times, last: Item) -> Path {
-        let mut items = vec![(last, Grade::Certain)];
-        while let Some(&(item, _)) = items.last() {
-            let link = causes.link(item);
-            match link.after() {
-                Some(before) => items.push((before, link.grade)),
-                None => break,
-            }
-        }
-        let time = |item: Item| times.of_event(causes.place(item)?);
-        let behind = items
-            .iter()
-            .skip(1)
-            .map(|&(item, grade)| (Some(item), grade))
-            .chain([(None, Grade::Certain)]);
-        let steps = items.iter().zip(behind).map(|(&(item, _), (before, grade))| Step {
-            event: causes.name(item),
-            what: words::named(causes, item),
-            after: before.and_then(|before| time(item)?.checked_sub(time(before)?)),
-            is_way: causes.event(item).is_some_and(|event| event.kind == Kind::Receive),
-            is_perhaps: grade == Grade::Perhaps,
-        });
-        let mut steps: Vec<Step> = steps.collect();
-        steps.reverse();
-        Path { steps }
-    }
-
-    fn write(&self, names: &Names, label: Label, out: &mut Output) -> io::Result<()> {
-        let sum = |is_way| {
-            self.steps
-                .iter()
-                .filter(|step| step.is_way == is_way)
-                .filter_map(|step| step.after)
-                .sum()
-        };
-        let (ways, waits): (i64, i64) = (sum(true), sum(false));
-        let are_known = self.steps.iter().skip(1).all(|step| step.after.is_some());
-        let sums = if are_known {
-            format!(" ({} from send to receive, {} in processes)", span(ways), span(waits))
-        } else {
-            String::new()
-        };
-        writeln!(out, "what the last event of label {} waited for{sums}:", names.label(label))?;
-        for (step, number) in self.steps.iter().zip(0..) {
-            let after = match (step.after, number) {
-                (_, 0) => String::new(),
-                (None, _) => "?".into(),
-                (Some(time), _) => span(time),
-            };
-            let perhaps = if step.is_perhaps { "perhaps until " } else { "" };
-            writeln!(out, "{after:>10}  {perhaps}{}", step.what)?;
-        }
-        Ok(())
-    }
-}
-
-fn last_event(trace: &Trace, times: &Times, label: Label) -> Option<Place> {
-    let places = trace.processes().flat_map(|(pid, events)| {
-        let of_label =
-            events.iter().zip(0_u64..).filter(move |(event, _)| event.label.0 == label.0);
-        of_label.map(move |(_, index)| (pid, index))
-    });
-    places.filter_map(|place| Some((times.of_event(place)?, place))).max().map(|(_, place)| place)
-}
-
-#[derive(Serialize)]
-struct Told<'a> {
-    #[serde(flatten)]
-    tables: &'a Tables,
-    path: &'a Option<Path>,
 }

@@ -59,19 +59,6 @@ impl<'a> View<'a> {
             }
         }
     }
-
-    /// Returns the events for which `is_in` is true, without the processes that have none.
-    pub(crate) fn kept(&self, is_in: impl Fn(Pid, u64, &Event) -> bool) -> Kept {
-        let own = |(pid, events): (Pid, &[Event])| {
-            let chosen = events.iter().zip(0..).filter(|&(event, index)| is_in(pid, index, event));
-            (pid, chosen.map(|(_, index)| index).collect())
-        };
-        self.trace
-            .processes()
-            .map(own)
-            .filter(|(_, kept): &(_, Vec<u64>)| !kept.is_empty())
-            .collect()
-    }
 }
 
 pub(crate) struct Shown<'a> {

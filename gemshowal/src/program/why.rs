@@ -16,6 +16,7 @@ use std::io::{self, Write};
 
 /// The greatest number of hops that are indented: more would move a line off the screen.
 const INDENT: usize = 16;
+const BLANKS: &str = "                 ";
 
 pub(crate) fn run(args: &Why, task: Task<'_>) -> Result<Status, Failure> {
     let Task { json, input, out, notes } = task;
@@ -91,12 +92,12 @@ impl Way {
     fn forth(causes: &Causes<'_>, first: Item, args: &Why) -> Way {
         let mut children = Children { causes, across: args.across, stamps: HashMap::new() };
         let mut steps = Vec::new();
-        let mut waiting = vec![(0, first)];
-        while let Some((depth, item)) = waiting.pop() {
-            steps.push(Step { depth, item, link: causes.link(item) });
+        let mut waiting = vec![(0, first, causes.link(first))];
+        while let Some((depth, item, link)) = waiting.pop() {
+            steps.push(Step { depth, item, link });
             if (depth as u64) + 1 < args.most() {
                 let below = children.of_parent(item).into_iter().rev();
-                waiting.extend(below.map(|item| (depth + 1, item)));
+                waiting.extend(below.map(|(item, link)| (depth + 1, item, link)));
             }
         }
         Way { is_back: false, steps }
@@ -132,12 +133,13 @@ impl Way {
         let mut grade = None;
         for step in &self.steps {
             let (because, behind) = grade.map_or(("", ""), words::because);
-            let (named, at) = (words::named(causes, step.item), words::at(causes, step.item));
-            let label = match grade {
-                None => format!(", label {}", words::label(causes, step.item)),
-                Some(_) => String::new(),
-            };
-            writeln!(out, "{because}{named}{label}{at}{behind}")?;
+            out.put(|line| {
+                words::put_named(line.text(because), causes, step.item);
+                if grade.is_none() {
+                    line.text(", label ").text(&words::label(causes, step.item));
+                }
+                line.text(&words::at(causes, step.item)).text(behind).text("\n");
+            })?;
             grade = Some(step.link.grade);
         }
         let Some(last) = self.steps.last() else { return Ok(()) };
@@ -145,21 +147,14 @@ impl Way {
     }
 
     fn write_forth(&self, causes: &Causes<'_>, out: &mut Output) -> io::Result<()> {
-        for step in &self.steps {
-            let (depth, item) = (step.depth, step.item);
-            let (named, at) = (words::named(causes, item), words::at(causes, item));
-            let (perhaps, behind) = match step.link.grade {
-                _ if depth == 0 => ("", ""),
-                Grade::Perhaps => ("perhaps ", ""),
-                Grade::Under(premises) => ("", words::numbers(premises)),
-                Grade::Certain => ("", ""),
-            };
-            writeln!(
-                out,
-                "{depth} {:indent$}{perhaps}{named}{at}{behind}",
-                "",
-                indent = depth.min(INDENT)
-            )?;
+        for &Step { depth, item, link } in &self.steps {
+            let grade = if depth == 0 { Grade::Certain } else { link.grade };
+            let perhaps = if grade == Grade::Perhaps { "perhaps " } else { "" };
+            out.put(|line| {
+                line.number(depth as u64).text(&BLANKS[..=depth.min(INDENT)]).text(perhaps);
+                words::put_named(line, causes, item);
+                line.text(&words::at(causes, item)).text(words::numbers(grade)).text("\n");
+            })?;
         }
         Ok(())
     }
@@ -186,29 +181,34 @@ struct Children<'a> {
     causes: &'a Causes<'a>,
     across: bool,
     /// For each process that was asked about, its sends and prints by what they follow.
-    stamps: HashMap<Pid, Vec<(Item, Item)>>,
+    stamps: HashMap<Pid, Vec<(Item, Item, Link)>>,
 }
 
 impl Children<'_> {
-    fn of_parent(&mut self, item: Item) -> Vec<Item> {
+    fn of_parent(&mut self, item: Item) -> Vec<(Item, Link)> {
+        let with_link = |item| (item, self.causes.link(item));
         match self.causes.event(item).map(|event| event.kind) {
-            Some(Kind::Send) => self.causes.other_end(item).into_iter().collect(),
+            Some(Kind::Send) => self.causes.other_end(item).map(with_link).into_iter().collect(),
             Some(Kind::Receive) => self.of_receive(item),
             Some(Kind::Print) | None => Vec::new(),
         }
     }
 
-    fn of_receive(&mut self, item: Item) -> Vec<Item> {
+    fn of_receive(&mut self, item: Item) -> Vec<(Item, Link)> {
         let (causes, across, (pid, _)) = (self.causes, self.across, item.place());
         let stamps = self.stamps.entry(pid).or_insert_with(|| {
             let items = (0..causes.streams().len(pid)).map(|index| Item::Reported(pid, index));
-            let child = |item| Some((parent(&causes.link(item), across)?, item));
+            let child = |item| {
+                let link = causes.link(item);
+                Some((parent(&link, across)?, item, link))
+            };
             let mut stamps: Vec<_> = items.filter_map(child).collect();
-            stamps.sort_unstable();
+            stamps.sort_unstable_by_key(|&(parent, item, _)| (parent, item));
             stamps
         });
-        let own = &stamps[stamps.partition_point(|&(parent, _)| parent < item)..];
-        own.iter().take_while(|&&(parent, _)| parent == item).map(|&(_, child)| child).collect()
+        let own = &stamps[stamps.partition_point(|&(parent, ..)| parent < item)..];
+        let own = own.iter().take_while(|&&(parent, ..)| parent == item);
+        own.map(|&(_, child, link)| (child, link)).collect()
     }
 }
 
@@ -280,6 +280,9 @@ fn grade(grade: Grade) -> (&'static str, &'static [u8]) {
         Grade::Certain | Grade::Under(Premises::Neither) => ("certain", &[]),
         Grade::Under(Premises::First) => ("premises", &[1]),
         Grade::Under(Premises::Both) => ("premises", &[1, 2]),
+        Grade::Kept(Premises::Neither) => ("premises", &[3]),
+        Grade::Kept(Premises::First) => ("premises", &[1, 3]),
+        Grade::Kept(Premises::Both) => ("premises", &[1, 2, 3]),
         Grade::Perhaps => ("perhaps", &[]),
     }
 }

@@ -3,10 +3,12 @@
 
 use crate::causes::{Cause, Causes, Grade, Link};
 use crate::moment::moment;
+use crate::names::Line;
 use crate::reason::Against;
 use crate::view::{count, Shown};
 use gemshowal::{Item, Kind, Premises};
 
+const UNKNOWN: &str = "an unknown message";
 const RUNS: &str = "this holds in each run without a reset that reports the trace";
 const FIRST: &str = "(1) if each receive of a token was reported";
 const SECOND: &str = "(2) if no process cleared or lost its token, began again and reported an \
@@ -14,12 +16,29 @@ const SECOND: &str = "(2) if no process cleared or lost its token, began again a
 /// The difference between a standard node and the runs that are meant.
 const NODE: &str = "on a standard node (2) belongs to each (1), and behind a spawn or a token put \
                     back neither is enough";
+const THIRD: &str = "(3) on a standard node, where a process keeps its token while it spawns";
 const PERHAPS: &str =
     "perhaps: it is so in the run that gemshowal complete finds, and another may \
                        have something else there";
-/// Names an event and says what it is, as `post#1 printed {parcel,apple,3}`.
-pub(crate) fn named(causes: &Causes<'_>, item: Item) -> String {
-    format!("{} {}{}", causes.name(item), deed(causes, item), unreported(causes, item))
+/// Appends an event's name and what it is, as `post#1 printed {parcel,apple,3}`.
+pub(crate) fn put_named(line: &mut Line<'_>, causes: &Causes<'_>, item: Item) {
+    causes.put_name(line, item);
+    let Some(event) = causes.event(item) else { return };
+    line.text(match event.kind {
+        Kind::Send => " sent ",
+        Kind::Receive => " received ",
+        Kind::Print => " printed ",
+    });
+    match causes.message(item) {
+        Some(value) => line.brief(causes.names(), value),
+        None => line.text(UNKNOWN),
+    };
+    match (event.kind, event.to) {
+        (Kind::Send, Some(to)) => causes.put_process(line.text(" to "), to),
+        (Kind::Receive, _) => causes.put_process(line.text(" from "), event.from),
+        (Kind::Send | Kind::Print, _) => {}
+    }
+    line.text(unreported(causes, item));
 }
 
 fn unreported(causes: &Causes<'_>, item: Item) -> &'static str {
@@ -30,21 +49,10 @@ fn unreported(causes: &Causes<'_>, item: Item) -> &'static str {
     }
 }
 
-/// Says what its process did, as `sent call {take,apple,3} to stock`.
-fn deed(causes: &Causes<'_>, item: Item) -> String {
-    let Some(event) = causes.event(item) else { return "did nothing".into() };
-    let message = message(causes, item);
-    match (event.kind, event.to) {
-        (Kind::Send, Some(to)) => format!("sent {message} to {}", causes.process(to)),
-        (Kind::Receive, _) => format!("received {message} from {}", causes.process(event.from)),
-        (Kind::Send | Kind::Print, _) => format!("printed {message}"),
-    }
-}
-
 pub(crate) fn message(causes: &Causes<'_>, item: Item) -> String {
     match causes.message(item) {
         Some(value) => causes.names().brief(value).into_owned(),
-        None => "an unknown message".into(),
+        None => UNKNOWN.into(),
     }
 }
 
@@ -79,27 +87,27 @@ pub(crate) fn follows(causes: &Causes<'_>, item: Item, link: Link) -> String {
 pub(crate) fn because(grade: Grade) -> (&'static str, &'static str) {
     match grade {
         Grade::Certain => ("because ", ""),
-        Grade::Under(premises) => ("because ", numbers(premises)),
+        Grade::Under(_) | Grade::Kept(_) => ("because ", numbers(grade)),
         Grade::Perhaps => ("perhaps because ", ""),
     }
 }
 
 /// Returns the numbers of premises, to be put after what rests on them.
-pub(crate) fn numbers(premises: Premises) -> &'static str {
-    match premises {
-        Premises::Neither => "",
-        Premises::First => " (1)",
-        Premises::Both => " (1, 2)",
+pub(crate) fn numbers(grade: Grade) -> &'static str {
+    match grade {
+        Grade::Certain | Grade::Perhaps | Grade::Under(Premises::Neither) => "",
+        Grade::Under(Premises::First) => " (1)",
+        Grade::Under(Premises::Both) => " (1, 2)",
+        Grade::Kept(Premises::Neither) => " (3)",
+        Grade::Kept(Premises::First) => " (1, 3)",
+        Grade::Kept(Premises::Both) => " (1, 2, 3)",
     }
 }
 
 pub(crate) fn ending(causes: &Causes<'_>, item: Item, link: Link) -> String {
     let name = causes.name(item);
-    let (perhaps, behind) = match link.grade {
-        Grade::Certain => ("", ""),
-        Grade::Under(premises) => ("", numbers(premises)),
-        Grade::Perhaps => ("perhaps ", ""),
-    };
+    let perhaps = if link.grade == Grade::Perhaps { "perhaps " } else { "" };
+    let behind = numbers(link.grade);
     match link.cause {
         Cause::After(cause) => format!("{name} {perhaps}follows {}{behind}", causes.name(cause)),
         Cause::OtherLabel(had) => format!(
@@ -109,11 +117,11 @@ pub(crate) fn ending(causes: &Causes<'_>, item: Item, link: Link) -> String {
             causes.name(had),
             label(causes, had)
         ),
-        Cause::Begins => format!("{name} {perhaps}begins this chain"),
+        Cause::Begins => format!("{name} {perhaps}begins this chain{behind}"),
         Cause::BeginsOrUnreported => {
             format!(
                 "{name} {perhaps}begins this chain, or follows a message whose receive wasn't \
-                 reported"
+                 reported{behind}"
             )
         }
         Cause::Unknown => format!("nothing is known of what {name} follows"),
@@ -122,21 +130,34 @@ pub(crate) fn ending(causes: &Causes<'_>, item: Item, link: Link) -> String {
 
 /// Says on what sentences of these grades rest, a line each.
 pub(crate) fn premises(grades: impl Iterator<Item = Grade>) -> Vec<&'static str> {
-    let (mut first, mut second, mut perhaps) = (false, false, false);
+    let [mut first, mut second, mut third, mut perhaps] = [false; 4];
     for grade in grades {
-        first |= matches!(grade, Grade::Under(_));
-        second |= grade == Grade::Under(Premises::Both);
+        let numbers = numbers(grade);
+        first |= numbers.contains('1');
+        second |= numbers.contains('2');
+        third |= numbers.contains('3');
         perhaps |= grade == Grade::Perhaps;
     }
-    let lines = [(true, RUNS), (first, FIRST), (second, SECOND), (first, NODE), (perhaps, PERHAPS)];
+    let lines = [
+        (true, RUNS),
+        (first, FIRST),
+        (second, SECOND),
+        (third, THIRD),
+        (first, NODE),
+        (perhaps, PERHAPS),
+    ];
     lines.into_iter().filter(|&(is_used, _)| is_used).map(|(_, line)| line).collect()
+}
+
+/// Says when a reported event happened.
+pub(crate) fn time(causes: &Causes<'_>, item: Item) -> Option<String> {
+    let (times, place) = causes.names().times().zip(causes.place(item))?;
+    Some(moment(times, times.of_event(place)?))
 }
 
 /// Says when a reported event happened, to be put after what it is.
 pub(crate) fn at(causes: &Causes<'_>, item: Item) -> String {
-    let times = causes.names().times().zip(causes.place(item));
-    let time = times.and_then(|(times, place)| Some(moment(times, times.of_event(place)?)));
-    time.map(|time| format!(", at {time}")).unwrap_or_default()
+    time(causes, item).map(|time| format!(", at {time}")).unwrap_or_default()
 }
 
 /// Says whether a run has the trace, and what is added to it, in a line.
@@ -161,7 +182,7 @@ pub(crate) fn headline(causes: &Causes<'_>) -> String {
 }
 
 pub(crate) fn chart_note(grades: impl Iterator<Item = Grade>) -> Option<&'static str> {
-    let is_under = |grade| matches!(grade, Grade::Under(_));
+    let is_under = |grade| matches!(grade, Grade::Under(_) | Grade::Kept(_));
     grades.into_iter().any(is_under).then_some(
         "note: what a send or print follows holds if its process reported each receive of a token \
          and began no label twice; gemshowal why says of which event that is needed",

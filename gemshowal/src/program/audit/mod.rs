@@ -9,6 +9,8 @@ mod region;
 mod report;
 mod resets;
 mod sentences;
+mod unexplained;
+mod wrapped;
 
 pub(crate) use outcome::{Outcome, Said};
 pub(crate) use region::open as open_ends;
@@ -17,12 +19,13 @@ use crate::args::Audit;
 use crate::input::Input;
 use crate::output::Output;
 use crate::times::summary;
-use crate::view::{Kept, Place, View};
+use crate::view::{Kept, View};
 use crate::{Failure, Status, Task};
-use gemshowal::{CompleteError, OutOfMemory, Trace};
+use gemshowal::{CertificateError, CompleteError, Event, OutOfMemory, Trace};
 use missing::Missing;
 use others::Comparison;
 use sentences::{write_losses, Sentences};
+use std::collections::HashSet;
 use std::fs::File;
 use std::io::{BufWriter, Write};
 use std::path::Path;
@@ -37,10 +40,13 @@ const NOT_PROVED: &str =
      and its words are only tested; --proved asks the proved programs.";
 
 pub(crate) fn run(args: &Audit, task: Task<'_>) -> Result<Status, Failure> {
+    if task.input.is_wrapped()? {
+        return wrapped::run(args, task);
+    }
     let Task { json, input, out, notes } = task;
     let (trace, names) = input.read(notes)?;
     let whole = View::whole(&trace, &names);
-    let kept = region::kept(&args.region, &whole, input.line_name())?;
+    let kept = region::kept(&args.conditions, &whole)?;
     let Some(kept) = kept else {
         return Auditor { args, json, cut: None, view: &whole, input, word: input.word() }.run(out);
     };
@@ -64,8 +70,7 @@ struct Auditor<'a> {
 struct Audited<'a> {
     outcome: &'a Outcome,
     missing: Missing,
-    /// The events that are copies of others, if a run has the trace without them.
-    copies: Vec<(Place, Place)>,
+    /// The parts between possible resets, if the trace doesn't fit and a reset may explain it.
     parts: Vec<Part>,
 }
 
@@ -75,10 +80,24 @@ struct Part {
     outcome: Outcome,
 }
 
-/// Splits the trace at possible resets; returns no parts if there is one alone, or too many.
-fn split(view: &View<'_>) -> Result<Vec<(Kept, Trace)>, OutOfMemory> {
+/// Returns whether an event is twice in the trace, and its node gave the two no different times.
+fn has_copies(view: &View<'_>) -> bool {
+    let time = |pid, index| view.names.times()?.of_event((pid, view.number(pid, index)));
+    view.trace.processes().any(|(pid, events)| {
+        let mut seen = HashSet::new();
+        !events.iter().zip(0..).all(|(event, index)| {
+            let Event { kind, label, serial, from, to, value } = *event;
+            let (kind, serial) = (kind as u8, (serial.prev, serial.this));
+            seen.insert((kind, label.0, serial, from, to, value, time(pid, index)))
+        })
+    })
+}
+
+/// Splits the trace at possible resets; returns no parts if there is one alone, or too many, or if
+/// events are twice in it: then nothing says that there was a reset.
+pub(crate) fn parts(view: &View<'_>) -> Result<Vec<(Kept, Trace)>, OutOfMemory> {
     let split = resets::split(view.trace, PARTS).unwrap_or_default();
-    if split.len() < 2 {
+    if split.len() < 2 || has_copies(view) {
         return Ok(Vec::new());
     }
     let part = |part: resets::Part| {
@@ -90,16 +109,6 @@ fn split(view: &View<'_>) -> Result<Vec<(Kept, Trace)>, OutOfMemory> {
     split.into_iter().map(part).collect()
 }
 
-/// Splits the trace at possible resets, unless events are copies of others: then nothing says that
-/// there was a reset.
-pub(crate) fn parts(view: &View<'_>) -> Result<Vec<(Kept, Trace)>, OutOfMemory> {
-    if outcome::copies(view).is_empty() {
-        split(view)
-    } else {
-        Ok(Vec::new())
-    }
-}
-
 impl Auditor<'_> {
     fn run(&self, out: &mut Output) -> Result<Status, Failure> {
         if self.args.each_label {
@@ -109,8 +118,7 @@ impl Auditor<'_> {
         if let Some(path) = &self.args.acts {
             self.write_acts(&outcome, path)?;
         }
-        let others =
-            others::ask(self.args, self.view.trace, &outcome, self.input.line_name())?;
+        let others = others::ask(self.args, self.view.trace, &outcome, self.input.line_name())?;
         let audited = self.audited(&outcome)?;
         if self.json {
             report::write(self, &audited, &others, out)?;
@@ -124,58 +132,43 @@ impl Auditor<'_> {
         })
     }
 
-    /// Audits the trace; if it doesn't fit, asks whether copies or resets explain it.
+    /// Audits the trace, and if it doesn't fit the parts between possible resets, each by itself.
     fn audited<'a>(&self, outcome: &'a Outcome) -> Result<Audited<'a>, CompleteError> {
-        let shown = outcome.shown(self.view);
-        let missing = outcome.missing(&shown)?;
-        let mut audited = Audited { outcome, missing, copies: Vec::new(), parts: Vec::new() };
-        if let Said::Never(against) = &outcome.said {
-            audited.copies = self.copies()?;
-            if audited.copies.is_empty() && against.allows_reset() {
-                audited.parts = self.parts()?;
-            }
-        }
-        Ok(audited)
-    }
-
-    fn copies(&self) -> Result<Vec<(Place, Place)>, CompleteError> {
-        let copies = outcome::copies(self.view);
-        if copies.is_empty() {
-            return Ok(copies);
-        }
-        let is_copy = |place| copies.binary_search_by_key(&place, |(copy, _)| *copy).is_ok();
-        let kept = self.view.kept(|pid, index, _| !is_copy((pid, index)));
-        let is_fit = Outcome::of(&self.view.trace.part(&kept)?)?.is_fit();
-        Ok(if is_fit { copies } else { Vec::new() })
-    }
-
-    /// Audits the parts between possible resets, each by itself.
-    fn parts(&self) -> Result<Vec<Part>, CompleteError> {
+        let missing = outcome.missing(&outcome.shown(self.view))?;
         let audited = |(kept, trace): (Kept, Trace)| {
             let outcome = Outcome::of(&trace)?;
             Ok(Part { kept, trace, outcome })
         };
-        split(self.view)?.into_iter().map(audited).collect()
+        let parts = match &outcome.said {
+            Said::Never(against) if against.allows_reset() => {
+                parts(self.view)?.into_iter().map(audited).collect::<Result<_, CompleteError>>()?
+            }
+            _ => Vec::new(),
+        };
+        Ok(Audited { outcome, missing, parts })
     }
 
     fn write_acts(&self, outcome: &Outcome, path: &Path) -> Result<(), Failure> {
         let unkept = |reason| Failure::Unkept(path.display().to_string(), reason);
-        let trace = outcome.ranked.as_ref().unwrap_or(self.view.trace);
-        let mut file = match outcome.said {
+        let file = || File::create(path).map(BufWriter::new).map_err(unkept);
+        let mut file = match &outcome.said {
             Said::Never(_) => return Ok(()),
-            _ => BufWriter::new(File::create(path).map_err(unkept)?),
-        };
-        match &outcome.said {
-            Said::Fits(fits) => trace.write_fits(&mut file, fits).map_err(unkept)?,
-            Said::Completed(completion) => {
-                let name = self.input.line_name();
-                self.view.trace.write_acts(&mut file, completion).map_err(|error| match error {
-                    gemshowal::CertificateError::Io(reason) => unkept(reason),
-                    error => Failure::of_acts(error, name),
-                })?;
+            Said::Fits(fits) => {
+                let trace = outcome.ranked.as_ref().unwrap_or(self.view.trace);
+                let mut file = file()?;
+                trace.write_fits(&mut file, fits).map_err(unkept)?;
+                file
             }
-            Said::Never(_) => {}
-        }
+            Said::Completed(completion) => {
+                let mut file = file()?;
+                let written = self.view.trace.write_acts(&mut file, completion);
+                written.map_err(|error| match error {
+                    CertificateError::Io(reason) => unkept(reason),
+                    error => Failure::of_acts(error, self.input.line_name()),
+                })?;
+                file
+            }
+        };
         file.flush().map_err(unkept)
     }
 
@@ -190,12 +183,8 @@ impl Auditor<'_> {
         if let Some(cut) = &self.cut {
             writeln!(out, "cut: {cut}")?;
         }
-        if audited.copies.is_empty() {
-            writeln!(out, "{}", sentences.headline())?;
-            sentences.write_details(out)?;
-        } else {
-            report::write_copies(&shown, audited, out)?;
-        }
+        writeln!(out, "{}", sentences.headline())?;
+        sentences.write_details(out)?;
         if !audited.parts.is_empty() {
             report::write_parts(self, &audited.parts, out)?;
         }

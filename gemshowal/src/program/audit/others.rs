@@ -45,20 +45,17 @@ impl Comparison {
 impl Display for Comparison {
     fn fmt(&self, f: &mut Formatter<'_>) -> fmt::Result {
         let command = &self.command;
-        match (&self.difference, self.asked) {
-            (Some(how), Asked::Proved) => write!(f, "The proved programs differ: {command} {how}."),
-            (Some(how), Asked::Second) => write!(f, "The second checker differs: {command} {how}."),
-            (None, asked) => {
-                let by = match asked {
-                    Asked::Proved => "the proved programs",
-                    Asked::Second => "the second checker",
-                };
-                write!(
-                    f,
-                    "This answer is confirmed by {by} ({command}); words and names are gemshowal's \
-                     own, and only tested."
-                )
-            }
+        let (others, differ) = match self.asked {
+            Asked::Proved => ("the proved programs", "The proved programs differ"),
+            Asked::Second => ("the second checker", "The second checker differs"),
+        };
+        match &self.difference {
+            Some(how) => write!(f, "{differ}: {command} {how}."),
+            None => write!(
+                f,
+                "This answer is confirmed by {others} ({command}); words and names are gemshowal's \
+                 own, and only tested."
+            ),
         }
     }
 }
@@ -69,14 +66,9 @@ pub(super) fn ask(
     outcome: &Outcome,
     name: &str,
 ) -> Result<Vec<Comparison>, Failure> {
-    let mut compared = Vec::new();
-    if args.proved {
-        compared.push(proved_question(trace, outcome)?.compare(Asked::Proved)?);
-    }
-    if args.second {
-        compared.push(second_question(trace, outcome, name)?.compare(Asked::Second)?);
-    }
-    Ok(compared)
+    let proved = args.proved.then(|| proved_question(trace, outcome)?.compare(Asked::Proved));
+    let second = args.second.then(|| second_question(trace, outcome, name)?.compare(Asked::Second));
+    proved.into_iter().chain(second).collect()
 }
 
 /// A text for another program, and what that program does if it agrees.
@@ -97,7 +89,8 @@ fn proved_question(trace: &Trace, outcome: &Outcome) -> Result<Question, Failure
     let (command, status) = match &outcome.said {
         Said::Fits(fits) => {
             if is_standard {
-                program = self::program("SEQAUDIT", "seqaudit", "make program builds the proved one")?;
+                program =
+                    self::program("SEQAUDIT", "seqaudit", "make program builds the proved one")?;
             }
             asked.write_fits(&mut answer, fits)?;
             ("audit", 0)

@@ -2,9 +2,8 @@
 
 use super::missing::Missing;
 use crate::reason::Against;
-use crate::view::{Place, Shown, View};
-use gemshowal::{Answer, AuditError, CompleteError, Completion, Event, Fits, OutOfMemory, Paired, Trace};
-use std::collections::HashMap;
+use crate::view::{Shown, View};
+use gemshowal::{Answer, AuditError, CompleteError, Completion, Fits, OutOfMemory, Paired, Trace};
 
 pub(crate) struct Outcome {
     pub(crate) said: Said,
@@ -78,34 +77,4 @@ impl Outcome {
             Err(_) => Ok(Missing::default()),
         }
     }
-}
-
-/// Finds the events that are copies of an earlier one of their process, each with that one, unless
-/// the node gave the two different times.
-pub(crate) fn copies(view: &View<'_>) -> Vec<(Place, Place)> {
-    let mut found = Vec::new();
-    for (pid, events) in view.trace.processes() {
-        let mut seen = HashMap::new();
-        for (event, index) in events.iter().zip(0..) {
-            let first = *seen.entry(key(event)).or_insert(index);
-            if first != index {
-                found.push(((pid, index), (pid, first)));
-            }
-        }
-    }
-    if found.iter().any(|&(copy, of)| are_told_apart(view, copy, of)) {
-        found.clear();
-    }
-    found
-}
-
-/// Returns all fields of an event, to compare two.
-fn key(event: &Event) -> impl std::hash::Hash + Eq {
-    let (prev, this) = (event.serial.prev, event.serial.this);
-    (event.kind as u8, event.label.0, prev, this, event.from, event.to, event.value)
-}
-
-fn are_told_apart(view: &View<'_>, (pid, copy): Place, (_, of): Place) -> bool {
-    let time = |index| view.names.times()?.of_event((pid, view.number(pid, index)));
-    time(copy).zip(time(of)).is_some_and(|(copy, of)| copy != of)
 }

@@ -1,47 +1,20 @@
-//! A part of a trace to look at: by labels, processes and time.
+//! A part of a trace to look at, by the conditions that its events meet.
 
-use crate::args::Region;
-use crate::names::Times;
+use crate::args::Conditions;
 use crate::view::{count, grouped, Kept, View};
 use crate::Failure;
-use gemshowal::{Label, OutOfMemory, Partner, Pid};
+use gemshowal::{OutOfMemory, Partner, Pid};
 
 /// Returns the events that are asked for, or `None` if all are.
-pub(super) fn kept(region: &Region, view: &View<'_>, name: &str) -> Result<Option<Kept>, Failure> {
-    let Region { labels, processes, from, to } = region;
-    let is_timed = from.is_some() || to.is_some();
-    if labels.is_empty() && processes.is_empty() && !is_timed {
+pub(super) fn kept(conditions: &Conditions, view: &View<'_>) -> Result<Option<Kept>, Failure> {
+    if conditions.are_none() {
         return Ok(None);
     }
-    let labels: Vec<Label> = labels
-        .iter()
-        .map(|label| view.names.find_label(view.trace, Some(label)))
-        .collect::<Result<_, _>>()?;
-    let processes: Vec<Pid> = processes
-        .iter()
-        .map(|process| view.names.find_process(view.trace, process))
-        .collect::<Result<_, _>>()?;
-    let times = view.names.times();
-    if is_timed && times.is_none() {
-        return Err(Failure::NoTimes(name.into()));
-    }
-    let kept = view.kept(|pid, index, event| {
-        (labels.is_empty() || labels.contains(&event.label))
-            && (processes.is_empty() || processes.contains(&pid))
-            && (!is_timed || times.is_some_and(|times| is_within(region, times, (pid, index))))
-    });
+    let kept = conditions.kept(view.trace, view.names)?;
     if kept.is_empty() {
-        let events = count(view.trace.streams().total(), "event");
-        return Err(Failure::NothingLeft(events));
+        return Err(Failure::NothingLeft(count(view.trace.streams().total(), "event")));
     }
     Ok(Some(kept))
-}
-
-fn is_within(region: &Region, times: &Times, place: (Pid, u64)) -> bool {
-    let seconds = times.of_event(place).map(|time| time as f64 / 1e9);
-    seconds.is_some_and(|seconds| {
-        region.from.is_none_or(|from| seconds >= from) && region.to.is_none_or(|to| seconds <= to)
-    })
 }
 
 /// Says how many events a cut keeps, and which messages it cuts in two.

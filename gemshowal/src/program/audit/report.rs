@@ -7,61 +7,12 @@ use super::{Audited, Auditor, Said};
 use crate::object::{Number, Place as PlaceObject};
 use crate::output::Output;
 use crate::reason::Refused;
-use crate::view::{grouped, Kept, Place, Shown, View};
+use crate::view::{Kept, Place, Shown, View};
 use crate::Failure;
 use gemshowal::{OutOfMemory, Pid};
 use serde::Serialize;
 use std::collections::BTreeMap;
-use std::io::{self, Write};
-
-pub(super) fn write_copies(
-    shown: &Shown<'_>,
-    audited: &Audited<'_>,
-    out: &mut Output,
-) -> io::Result<()> {
-    let Some(&(copy, first)) = audited.copies.first() else { return Ok(()) };
-    writeln!(out, "{}", copies_headline(shown, audited))?;
-    for place in [copy, first] {
-        if let Some(event) = shown.streams.event(place.0, place.1) {
-            writeln!(out, "  {}: {}", shown.event(place), shown.sentence(&event))?;
-        }
-    }
-    let meaning = match audited.copies.len() {
-        1 => "nothing tells the two events apart, and with one of them alone the trace fits.",
-        _ => {
-            "nothing tells the copies from the events that they are copies of, and without them \
-             the trace fits."
-        }
-    };
-    writeln!(out, "What it means: {meaning}")?;
-    writeln!(
-        out,
-        "What to look at: events that were collected twice, by a second tracer or by files of the \
-         same run; a line that came into the file twice; two runs that did just the same, in one \
-         trace."
-    )
-}
-
-fn copies_headline(shown: &Shown<'_>, audited: &Audited<'_>) -> String {
-    let word = match &audited.outcome.said {
-        Said::Never(against) => against.word(),
-        _ => "",
-    };
-    match audited.copies[..] {
-        [(copy, first)] => format!(
-            "doesn't fit: the same event is in the trace twice, as {} and {} ({word})",
-            shown.event(first),
-            shown.event(copy)
-        ),
-        [(copy, first), ..] => format!(
-            "doesn't fit: {} events are copies of others in the trace, as {} of {} ({word})",
-            grouped(audited.copies.len() as u64),
-            shown.event(copy),
-            shown.event(first)
-        ),
-        [] => String::new(),
-    }
-}
+use std::io::Write;
 
 /// Writes where resets may have been, and the findings about each part.
 pub(super) fn write_parts(
@@ -81,7 +32,7 @@ fn found(auditor: &Auditor<'_>, part: &super::Part) -> Result<Part, OutOfMemory>
     let view = auditor.view.part(&part.trace, &part.kept, auditor.view.is_cut);
     let shown = part.outcome.shown(&view);
     let missing = part.outcome.missing(&shown)?;
-    Ok(Part::new(&auditor.sentences(&part.outcome, &shown, &missing), None))
+    Ok(Part::new(&auditor.sentences(&part.outcome, &shown, &missing)))
 }
 
 /// Says where the resets between the parts are, and whether they would explain the trace.
@@ -148,11 +99,9 @@ fn reset_at(view: &View<'_>, before: &[&Kept], behind: &[&Kept]) -> String {
 
 #[derive(Serialize)]
 pub(super) struct Part {
-    #[serde(skip_serializing_if = "Option::is_none")]
-    label: Option<String>,
-    fits: bool,
+    pub(super) fits: bool,
     said: &'static str,
-    headline: String,
+    pub(super) headline: String,
     events: Number,
     processes: usize,
     renumbered: bool,
@@ -187,7 +136,7 @@ struct Unreported {
 }
 
 impl Part {
-    pub(super) fn new(sentences: &Sentences<'_>, label: Option<String>) -> Part {
+    pub(super) fn new(sentences: &Sentences<'_>) -> Part {
         let (outcome, shown) = (sentences.outcome, sentences.shown);
         let streams = shown.view.trace.streams();
         let (missing, refused) = match &outcome.said {
@@ -195,7 +144,6 @@ impl Part {
             _ => (Some(MissingObject::new(sentences)), None),
         };
         Part {
-            label,
             fits: outcome.is_fit() && streams.total() > 0,
             said: if streams.total() == 0 { "empty" } else { outcome.word() },
             headline: sentences.headline(),
@@ -205,10 +153,6 @@ impl Part {
             missing,
             refused,
         }
-    }
-
-    pub(super) fn headline(&self) -> &str {
-        &self.headline
     }
 
     fn lacks(&self) -> bool {
@@ -221,7 +165,8 @@ impl Part {
 impl MissingObject {
     fn new(sentences: &Sentences<'_>) -> MissingObject {
         let (shown, missing) = (sentences.shown, sentences.missing);
-        let places = |places: &[Place]| places.iter().map(|&it| PlaceObject::shown(shown, it)).collect();
+        let places =
+            |places: &[Place]| places.iter().map(|&it| PlaceObject::shown(shown, it)).collect();
         let counts = |counts: Vec<(Pid, u64)>| {
             let named = |(pid, number)| (shown.process(pid).into_owned(), Number(number));
             counts.into_iter().map(named).collect()
@@ -260,20 +205,12 @@ struct Whole<'a> {
     #[serde(skip_serializing_if = "Option::is_none")]
     cut: Option<&'a str>,
     #[serde(skip_serializing_if = "Vec::is_empty")]
-    copies: Vec<Copy>,
-    #[serde(skip_serializing_if = "Vec::is_empty")]
     parts: Vec<Part>,
     losses: &'a [String],
     /// The answer of the proved programs: `not asked`, `confirmed` or `differs`.
     proved: &'static str,
     #[serde(skip_serializing_if = "Option::is_none")]
     second: Option<&'static str>,
-}
-
-#[derive(Serialize)]
-struct Copy {
-    copy: String,
-    of: String,
 }
 
 pub(super) fn write(
@@ -283,20 +220,13 @@ pub(super) fn write(
     out: &mut Output,
 ) -> Result<(), Failure> {
     let shown = audited.outcome.shown(auditor.view);
-    let mut whole = Part::new(&auditor.sentences(audited.outcome, &shown, &audited.missing), None);
-    if !audited.copies.is_empty() {
-        whole.headline = copies_headline(&shown, audited);
-    }
-    let copies = audited.copies.iter();
-    let copies =
-        copies.map(|&(copy, of)| Copy { copy: shown.event(copy), of: shown.event(of) }).collect();
+    let whole = Part::new(&auditor.sentences(audited.outcome, &shown, &audited.missing));
     let parts = audited.parts.iter().map(|part| found(auditor, part)).collect::<Result<_, _>>()?;
     let result = whole.said;
     let word = |asked| others.iter().find(|other| other.asked == asked).map(Comparison::word);
     let object = Whole {
         whole,
         cut: auditor.cut.as_deref(),
-        copies,
         parts,
         losses: auditor.view.names.losses(),
         proved: word(Asked::Proved).unwrap_or("not asked"),

@@ -5,7 +5,7 @@ use super::missing::{Before, Known, Lack, Missing};
 use super::outcome::{Outcome, Said};
 use crate::output::Output;
 use crate::view::{count, grouped, Place, Shown};
-use gemshowal::{Kind, Pid};
+use gemshowal::{Event, Kind, Pid};
 use std::io::{self, Write};
 
 /// The greatest number of events, processes or messages of a kind that are listed; the rest are
@@ -26,6 +26,15 @@ pub(crate) struct Sentences<'a> {
 impl Sentences<'_> {
     fn is_cut(&self) -> bool {
         self.shown.view.is_cut
+    }
+
+    /// Returns the words for a trace that was cut on purpose, or those for a whole one.
+    fn cut_or(&self, cut: &'static str, whole: &'static str) -> &'static str {
+        if self.is_cut() {
+            cut
+        } else {
+            whole
+        }
     }
 
     pub(crate) fn headline(&self) -> String {
@@ -54,7 +63,7 @@ impl Sentences<'_> {
                 behind => format!(
                     "; {} may have sent or printed something {} before the first send or print here",
                     count(behind, "process"),
-                    if self.is_cut() { "that isn't here" } else { "unreported" }
+                    self.cut_or("that isn't here", "unreported")
                 ),
             };
         }
@@ -64,9 +73,8 @@ impl Sentences<'_> {
             said += &format!(", with {}", missing.join(", "));
         }
         if !self.missing.open.is_empty() {
-            let here = if self.is_cut() { " here" } else { "" };
             let events = count(self.missing.open.len() as u64, "event");
-            said += &format!("; the cause of {events} isn't known{here}");
+            said += &format!("; the cause of {events} isn't known{}", self.cut_or(" here", ""));
         }
         if !self.missing.waiting.is_empty() {
             said += &format!("; {}", self.not_received());
@@ -80,10 +88,8 @@ impl Sentences<'_> {
 
     fn what_is_missing(&self) -> Vec<String> {
         let mut missing = Vec::new();
-        let by = match self.is_cut() {
-            true => "that nobody reported or that the cut took away",
-            false => "that nobody reported",
-        };
+        let by =
+            self.cut_or("that nobody reported or that the cut took away", "that nobody reported");
         if let Some(unreported) = self.unreported() {
             missing.push(format!("{unreported} {by}"));
         }
@@ -109,9 +115,8 @@ impl Sentences<'_> {
     fn strangers(&self) -> u64 {
         let is_from_stranger = |lack: &&Lack| match **lack {
             Lack::Added((pid, index), _) => {
-                let event = self.shown.streams.event(pid, index);
-                event.is_some_and(|event| {
-                    event.kind == Kind::Receive && self.shown.stranger(event.from).is_some()
+                self.shown.streams.event(pid, index).is_some_and(|it| {
+                    it.kind == Kind::Receive && self.shown.stranger(it.from).is_some()
                 })
             }
             _ => false,
@@ -133,16 +138,12 @@ impl Sentences<'_> {
                 }
             }
         }
-        let is_certain = certain != [0, 0];
-        match (is_certain, supposed != [0, 0]) {
-            (false, false) => None,
-            (true, false) => Some(by_kind(certain, "")),
-            (false, true) => Some(format!("probably {}", by_kind(supposed, ""))),
-            (true, true) => {
-                let more = if supposed[0] > 0 { "more " } else { "" };
-                Some(format!("{} and probably {}", by_kind(certain, ""), by_kind(supposed, more)))
-            }
-        }
+        let more = if certain[0] > 0 && supposed[0] > 0 { "more " } else { "" };
+        let supposed =
+            (supposed != [0, 0]).then(|| format!("probably {}", by_kind(supposed, more)));
+        let certain = (certain != [0, 0]).then(|| by_kind(certain, ""));
+        let said: Vec<String> = certain.into_iter().chain(supposed).collect();
+        (!said.is_empty()).then(|| said.join(" and "))
     }
 
     /// Says that messages have no receive. A port reports none, a node drops a reply whose caller
@@ -160,14 +161,12 @@ impl Sentences<'_> {
         let late = events().any(|it| names.is_reply_to_alias(it.value));
         let far = !names.has_further_nodes()
             && events().any(|it| it.to.is_some_and(|to| to.node() != it.from.node()));
-        let mut ways = String::new();
-        for (is_so, way) in [
+        let ways = [
             (to_port, ", or went to a port"),
             (late, ", or came too late, as a reply may"),
             (far, ", or reached another node without a token"),
-        ] {
-            ways += if is_so { way } else { "" };
-        }
+        ];
+        let ways: String = ways.iter().filter(|(is_so, _)| *is_so).map(|(_, way)| *way).collect();
         format!("{messages} {has} no reported receive, and may still wait{ways}")
     }
 
@@ -178,7 +177,7 @@ impl Sentences<'_> {
         self.write_lacks(out)?;
         if !self.missing.waiting.is_empty() {
             let messages = listed(&self.missing.waiting, |&send| self.message(send), "more");
-            let here = if self.is_cut() { "receive here" } else { "reported receive" };
+            let here = self.cut_or("receive here", "reported receive");
             writeln!(out, "Messages without a {here}: {messages}.")?;
         }
         self.write_counters(out)?;
@@ -210,11 +209,8 @@ impl Sentences<'_> {
             }
         } else {
             self.write_list(out, self.what_nobody_reported(), &certain)?;
-            let probably = if self.is_cut() {
-                "What probably isn't here"
-            } else {
-                "What was probably not reported"
-            };
+            let probably =
+                self.cut_or("What probably isn't here", "What was probably not reported");
             let heading = format!("{probably}, unless its process has {ANEW}");
             self.write_list(out, &heading, &supposed)?;
         }
@@ -228,11 +224,7 @@ impl Sentences<'_> {
     }
 
     fn what_nobody_reported(&self) -> &'static str {
-        if self.is_cut() {
-            "What nobody reported, or what the cut took away"
-        } else {
-            "What nobody reported"
-        }
+        self.cut_or("What nobody reported, or what the cut took away", "What nobody reported")
     }
 
     fn write_list(&self, out: &mut Output, heading: &str, lacks: &[&Lack]) -> io::Result<()> {
@@ -250,7 +242,7 @@ impl Sentences<'_> {
     }
 
     fn write_in_place_of(&self, out: &mut Output, is_some_certain: bool) -> io::Result<()> {
-        let present = if self.is_cut() { "is here" } else { "was reported" };
+        let present = self.cut_or("is here", "was reported");
         if is_some_certain {
             writeln!(
                 out,
@@ -264,6 +256,10 @@ impl Sentences<'_> {
 
     pub(super) fn lack(&self, lack: &Lack) -> String {
         let event = |(pid, index): Place| self.shown.streams.event(pid, index);
+        let other_end = |end: Place, kind| {
+            let other = event(end).map(|event| Event { kind, ..event });
+            other.map(|other| self.shown.sentence(&other)).unwrap_or_default()
+        };
         match *lack {
             Lack::Added(place, known) => {
                 let sentence = event(place).map(|event| match known {
@@ -273,19 +269,11 @@ impl Sentences<'_> {
                 format!("{}: {}", self.shown.event(place), sentence.unwrap_or_default())
             }
             Lack::Hidden(receive) => {
-                let send = event(receive).map(|mut event| {
-                    event.kind = Kind::Send;
-                    self.shown.sentence(&event)
-                });
-                let send = send.unwrap_or_default();
+                let send = other_end(receive, Kind::Send);
                 format!("{send}, received as {}", self.shown.event(receive))
             }
             Lack::Unreceived(send, before) => {
-                let receive = event(send).map(|mut event| {
-                    event.kind = Kind::Receive;
-                    self.shown.sentence(&event)
-                });
-                format!("{}, before {}", receive.unwrap_or_default(), self.before(before))
+                format!("{}, before {}", other_end(send, Kind::Receive), self.before(before))
             }
         }
     }
@@ -306,7 +294,7 @@ impl Sentences<'_> {
     fn write_counters(&self, out: &mut Output) -> io::Result<()> {
         let silent = self.counted(|it| it.silent);
         if !silent.is_empty() {
-            let not = if self.is_cut() { "aren't here" } else { "weren't reported" };
+            let not = self.cut_or("aren't here", "weren't reported");
             let by = of_processes(&silent, |(pid, number)| {
                 format!("{} of {}", grouped(*number), self.shown.process(*pid))
             });
@@ -318,10 +306,8 @@ impl Sentences<'_> {
         }
         let jumps = self.counted(|it| it.jumps);
         if !jumps.is_empty() {
-            let (anything, that) = match self.is_cut() {
-                true => ("anything here", "that isn't here"),
-                false => ("anything reported", "that wasn't reported"),
-            };
+            let anything = self.cut_or("anything here", "anything reported");
+            let that = self.cut_or("that isn't here", "that wasn't reported");
             writeln!(
                 out,
                 "A counter jumps if it is higher than {anything} explains: {}. Something was \

@@ -1,29 +1,27 @@
 //! The command `diff`: what is new, gone or elsewhere in the second of two traces, up to pids and
 //! counts.
 //!
-//! `matching` finds which process of the one trace has the part of which in the other, and why that
-//! is believed: by `colours`, if one renaming may make the one trace of the other. `align` pairs the
-//! events of two processes that are matched, and `changes` has the others.
+//! `matching` finds which process of the one trace has the part of which in the other, by names,
+//! pids, messages and `keys`. `align` pairs the events of two processes that are matched, and
+//! `changes` has the others.
 
 mod align;
 mod changes;
-mod colours;
-mod json;
+mod keys;
 mod matching;
-mod mates;
 mod pairs;
 mod report;
 mod side;
-mod words;
 
 use crate::input::Input;
 use crate::{Failure, Status, Task};
 use changes::Changes;
-use colours::{are_alike, first_colours, Ranks};
+use keys::{all_keys, Keys, Ranks};
 use matching::Mate;
-use pairs::Pairs;
+use pairs::{Ground, Pairs};
 use report::{Moved, Report, Text};
 use side::{Side, Vocabulary};
+use std::cell::OnceCell;
 
 pub(crate) fn run(task: Task<'_>, mut other: Input) -> Result<Status, Failure> {
     let Task { json, input, out, notes } = task;
@@ -35,14 +33,14 @@ pub(crate) fn run(task: Task<'_>, mut other: Input) -> Result<Status, Failure> {
         .map(|(trace, names)| Side::new(trace, names, &mut vocabulary));
     drop(vocabulary);
     let sides = sides.each_ref();
-    let found = compare(sides, &mates::find(sides, [&ones, &others], has_terms));
-    let texts = [Text::new(input.line_name(), &first, &ones)?, {
-        Text::new(other.line_name(), &second, &others)?
-    }];
-    let report = Report::new(sides, &texts, &found);
+    let found = compare(sides, &matching::called_alike(sides, [&ones, &others], has_terms));
+    let texts = [
+        Text::new(input.line_name(), &first, &ones)?,
+        Text::new(other.line_name(), &second, &others)?,
+    ];
+    let report = Report { sides, texts: &texts, found: &found };
     if json {
-        let result = if report.is_same() { "same" } else { "different" };
-        out.report(result, &self::json::object(&report))?;
+        out.report(if report.is_same() { "same" } else { "different" }, &report.object())?;
     } else {
         report.write(out)?;
     }
@@ -59,54 +57,35 @@ struct Found {
     is_certain: bool,
 }
 
+/// Compares two traces by the match that leaves fewest changes, of several the first: by keys that
+/// tell the ranks of counts, by all processes that are called alike, by those alone that have one
+/// name, or by none.
 fn compare(sides: [&Side<'_>; 2], mates: &[Mate]) -> Found {
     let [first, second] = sides;
-    if first.len() != second.len() || first.total() != second.total() {
-        let (pairs, changes) = best_match(sides, mates);
-        return Found { pairs, changes, moved: None, is_certain: true };
-    }
     let ranks = sides.map(Ranks::of);
-    if let Some(pairs) = match_alike(sides, Some(&ranks), mates) {
+    let has_one_size = first.len() == second.len() && first.total() == second.total();
+    let with_ranks = has_one_size.then(|| all_keys(sides, Some(&ranks))).filter(keys::are_alike);
+    let may_be_same = with_ranks.is_some();
+    let found = |mates: &[Mate], keys: &Keys| {
+        let pairs = matching::by_keys(sides, mates, keys);
         let changes = Changes::find(sides, &pairs);
         let moved = Moved::find(sides, &ranks, &pairs, &changes);
-        return Found { pairs, changes, moved, is_certain: false };
-    }
-    let (pairs, changes) = match_alike(sides, None, mates)
-        .map(|pairs| with_changes(sides, pairs))
-        .filter(|(_, changes)| changes.len() == 0)
-        .unwrap_or_else(|| best_match(sides, mates));
-    let moved = Moved::find(sides, &ranks, &pairs, &changes);
-    Found { pairs, changes, moved, is_certain: true }
-}
-
-/// Matches the processes of two traces of one length if a renaming may make the one of the other:
-/// one that keeps the order of counts, if their ranks are given.
-fn match_alike(sides: [&Side<'_>; 2], ranks: Option<&[Ranks; 2]>, mates: &[Mate]) -> Option<Pairs> {
-    let [first, second] = sides;
-    let [ones, others] = ranks.map_or([None, None], |[ones, others]| [Some(ones), Some(others)]);
-    let colours = [first_colours(first, ones), first_colours(second, others)];
-    if !are_alike(&colours[0], &colours[1]) {
-        return None;
-    }
-    let pairs = matching::by_renaming(sides, colours, mates)?;
-    if pairs.all().len() == first.len() {
-        return Some(pairs);
-    }
-    let matched = pairs.all().iter().map(|pair| (pair.first, pair.second, pair.ground));
-    Some(matching::by_keys(sides, &matched.collect::<Vec<Mate>>()))
-}
-
-/// Returns the match that leaves fewest changes: by all processes that are called alike, by those
-/// alone that have one name, or by none. Of several that leave as many it is the first.
-fn best_match(sides: [&Side<'_>; 2], mates: &[Mate]) -> (Pairs, Changes) {
-    let named: Vec<Mate> =
-        mates.iter().filter(|mate| mate.2 == pairs::Ground::Name).copied().collect();
+        Found { pairs, changes, moved, is_certain: !may_be_same }
+    };
+    let without_ranks = OnceCell::new();
+    let keys = || without_ranks.get_or_init(|| all_keys(sides, None));
+    let mut best = match &with_ranks {
+        Some(with_ranks) => found(&[], with_ranks),
+        None => found(mates, keys()),
+    };
+    let named: Vec<Mate> = mates.iter().filter(|mate| mate.2 == Ground::Name).copied().collect();
     let least = changes::least(sides);
-    let mut best = with_changes(sides, matching::by_keys(sides, mates));
-    for (mates, is_other) in [(&named[..], named.len() < mates.len()), (&[], !named.is_empty())] {
-        if best.1.len() > least && is_other {
-            let next = with_changes(sides, matching::by_keys(sides, mates));
-            if next.1.len() < best.1.len() {
+    for (mates, is_other) in
+        [(mates, may_be_same), (&named, named.len() < mates.len()), (&[], !named.is_empty())]
+    {
+        if is_other && (best.changes.len() > least || may_be_same && best.moved.is_some()) {
+            let next = found(mates, keys());
+            if next.cost() < best.cost() {
                 best = next;
             }
         }
@@ -114,7 +93,8 @@ fn best_match(sides: [&Side<'_>; 2], mates: &[Mate]) -> (Pairs, Changes) {
     best
 }
 
-fn with_changes(sides: [&Side<'_>; 2], pairs: Pairs) -> (Pairs, Changes) {
-    let changes = Changes::find(sides, &pairs);
-    (pairs, changes)
+impl Found {
+    fn cost(&self) -> (usize, usize) {
+        (self.changes.len(), self.moved.map_or(0, |moved| moved.count))
+    }
 }

@@ -34,6 +34,22 @@ impl Ground {
     pub(super) fn is_guess(self) -> bool {
         !matches!(self, Ground::Name | Ground::Pid | Ground::Events)
     }
+
+    pub(super) fn words(self) -> &'static str {
+        match self {
+            Ground::Name => "they have the same name",
+            Ground::Pid => "they have the same pid",
+            Ground::Events => "the kinds, labels and values of all their events are alike",
+            Ground::Several => {
+                "the kinds, labels and values of all their events are alike, as those of others are"
+            }
+            Ground::Message => "they are at the other ends of messages that are alike",
+            Ground::Kinds => "the kinds of all their events are the same",
+            Ground::First => "their first events are alike",
+            Ground::FirstKind => "their first events have the same kind",
+            Ground::Silent => "neither reports an event",
+        }
+    }
 }
 
 #[derive(Clone, Copy, Debug)]
@@ -45,29 +61,19 @@ pub(super) struct Pair {
 
 #[derive(Debug)]
 pub(super) struct Pairs {
-    all: Vec<Pair>,
-    /// For each process of the first trace the number of its pair in `all`, or `NOBODY`.
-    first: Vec<u32>,
-    /// For each process of the second trace the number of its pair in `all`, or `NOBODY`.
-    second: Vec<u32>,
+    pub(super) all: Vec<Pair>,
+    /// For each process of the two traces the number of its pair in `all`, or `NOBODY`.
+    numbers: [Vec<u32>; 2],
 }
 
 impl Pairs {
     pub(super) fn new(first: usize, second: usize) -> Pairs {
-        Pairs { all: Vec::new(), first: vec![NOBODY; first], second: vec![NOBODY; second] }
-    }
-
-    pub(super) fn all(&self) -> &[Pair] {
-        &self.all
+        Pairs { all: Vec::new(), numbers: [vec![NOBODY; first], vec![NOBODY; second]] }
     }
 
     /// Returns the number of the pair of a process, or `NOBODY`.
     pub(super) fn number(&self, which: Which, place: usize) -> u32 {
-        let numbers = match which {
-            Which::First => &self.first,
-            Which::Second => &self.second,
-        };
-        numbers.get(place).copied().unwrap_or(NOBODY)
+        self.numbers[which as usize].get(place).copied().unwrap_or(NOBODY)
     }
 
     pub(super) fn is_free(&self, which: Which, place: usize) -> bool {
@@ -80,9 +86,9 @@ impl Pairs {
 
     /// Matches two processes, unless one of them is in a pair.
     pub(super) fn add(&mut self, first: usize, second: usize, ground: Ground) {
-        let free = self.first.get_mut(first).zip(self.second.get_mut(second));
-        if let Some((one @ &mut NOBODY, other @ &mut NOBODY)) = free {
-            (*one, *other) = (self.all.len() as u32, self.all.len() as u32);
+        if self.is_free(Which::First, first) && self.is_free(Which::Second, second) {
+            let number = self.all.len() as u32;
+            (self.numbers[0][first], self.numbers[1][second]) = (number, number);
             self.all.push(Pair { first, second, ground });
         }
     }

@@ -1,20 +1,22 @@
-//! The report on two traces: a line for all, and then process by process what is gone, new and
-//! elsewhere.
+//! The report on two traces, in lines and as JSON: the sums, and then process by process what is
+//! gone, new and elsewhere.
 
-use super::changes::{are_alike, Change};
-use super::colours::Ranks;
-use super::pairs::{Pair, Pairs, Which};
+use super::changes::{Change, Changes};
+use super::keys::Ranks;
+use super::pairs::{Ground, Pair, Pairs, Which};
 use super::side::Side;
-use super::words::{sentence, Difference, Row, Sums};
-use super::{Changes, Found};
+use super::Found;
 use crate::names::Names;
+use crate::object::{kind_word, Fields, Place, Sequence};
 use crate::output::Output;
-use gemshowal::{LineNumbers, OutOfMemory, Pid, Trace};
+use gemshowal::{Event, Kind, LineNumbers, OutOfMemory, Pid, Trace};
+use serde::Serialize;
+use std::fmt::{self, Display, Formatter};
 use std::io::{self, Write};
 
 pub(super) struct Text<'a> {
-    pub(super) name: &'a str,
-    pub(super) names: &'a Names,
+    name: &'a str,
+    names: &'a Names,
     lines: LineNumbers<'a>,
 }
 
@@ -35,7 +37,7 @@ pub(super) struct Moved {
     index: usize,
     ranks: [[u64; 2]; 2],
     /// The number of events whose counts have other ranks.
-    count: usize,
+    pub(super) count: usize,
 }
 
 impl Moved {
@@ -45,16 +47,15 @@ impl Moved {
         pairs: &Pairs,
         changes: &Changes,
     ) -> Option<Moved> {
-        if changes.len() > 0 || pairs.all().len() < first.len().max(second.len()) {
+        if changes.len() > 0 || pairs.all.len() < first.len().max(second.len()) {
             return None;
         }
         let has_same_counts = ones == others;
         let moved = |pair: Pair| {
             let events = first.events(pair.first).iter().zip(second.events(pair.second));
-            let events = events.enumerate();
-            let may_move = events.filter(move |(_, (one, other))| {
-                !has_same_counts || one.serial != other.serial
-            });
+            let may_move = events
+                .enumerate()
+                .filter(move |(_, (one, other))| !has_same_counts || one.serial != other.serial);
             may_move.filter_map(move |(index, (one, other))| {
                 let ranks = [ones.of_serial(one.serial), others.of_serial(other.serial)];
                 (ranks[0] != ranks[1]).then_some(Moved { pair, index, ranks, count: 1 })
@@ -71,50 +72,74 @@ pub(super) struct Report<'a> {
     pub(super) found: &'a Found,
 }
 
-#[derive(Clone, Copy, Debug)]
-pub(super) enum Line<'a> {
+#[derive(Clone, Copy, Debug, Serialize)]
+struct Sums {
+    gone: usize,
+    new: usize,
+    elsewhere: usize,
+    gone_processes: usize,
+    new_processes: usize,
+    guesses: usize,
+    /// The number of events whose counts have another rank, if all else is the same.
+    counts: usize,
+}
+
+impl Display for Sums {
+    fn fmt(&self, f: &mut Formatter<'_>) -> fmt::Result {
+        let Sums { gone, new, elsewhere, gone_processes, new_processes, guesses, counts } = self;
+        write!(
+            f,
+            "different: events gone {gone}, new {new}, elsewhere {elsewhere}; processes gone \
+             {gone_processes}, new {new_processes}, matched by a guess {guesses}"
+        )?;
+        match counts {
+            0 => Ok(()),
+            counts => write!(f, "; counts of another rank {counts}"),
+        }
+    }
+}
+
+/// A line of the report: a process that is matched, or a difference.
+enum Line<'a> {
     Matched(Pair),
-    /// A process of the first trace that is matched with none.
-    Gone(Pid),
-    /// A process of the second trace without a match.
-    New(Pid),
-    First(&'a Change),
-    Second(&'a Change),
+    Process { change: &'static str, pid: Pid, names: &'a Names },
+    Event { change: &'static str, row: Row<'a>, now: Option<Row<'a>> },
+}
+
+/// An event of one of the traces.
+#[derive(Clone, Copy)]
+struct Row<'a> {
+    names: &'a Names,
+    line: u64,
+    place: (Pid, u64),
+    event: &'a Event,
 }
 
 impl<'a> Report<'a> {
-    pub(super) fn new(
-        sides: [&'a Side<'a>; 2],
-        texts: &'a [Text<'a>; 2],
-        found: &'a Found,
-    ) -> Report<'a> {
-        Report { sides, texts, found }
-    }
-
     pub(super) fn is_same(&self) -> bool {
-        let sums = self.sums();
-        sums.gone + sums.new + sums.elsewhere + sums.gone_processes + sums.new_processes == 0
-            && self.found.moved.is_none()
+        let Sums { gone_processes, new_processes, .. } = self.sums();
+        self.found.changes.len() + gone_processes + new_processes == 0 && self.found.moved.is_none()
     }
 
-    pub(super) fn sums(&self) -> Sums {
+    fn sums(&self) -> Sums {
         let [first, second] = self.sides;
-        let (pairs, changes) = (&self.found.pairs, &self.found.changes);
+        let (pairs, changes) = (&self.found.pairs.all, &self.found.changes);
         let elsewhere = changes.elsewhere();
         Sums {
             gone: changes.first.len() - elsewhere,
             new: changes.second.len() - elsewhere,
             elsewhere,
-            gone_processes: first.len() - pairs.all().len(),
-            new_processes: second.len() - pairs.all().len(),
-            guesses: pairs.all().iter().filter(|pair| pair.ground.is_guess()).count(),
+            gone_processes: first.len() - pairs.len(),
+            new_processes: second.len() - pairs.len(),
+            guesses: pairs.iter().filter(|pair| pair.ground.is_guess()).count(),
             counts: self.found.moved.map_or(0, |moved| moved.count),
         }
     }
 
-    pub(super) fn lines(&self) -> Vec<Line<'a>> {
+    fn lines(&self) -> Vec<Line<'a>> {
         let (pairs, changes) = (&self.found.pairs, &self.found.changes);
         let [first, second] = self.sides;
+        let [ones, others] = self.texts.each_ref().map(|text| text.names);
         let mut lines = Vec::new();
         for (place, &pid) in first.pids().iter().enumerate() {
             let gone = of_process(&changes.first, place);
@@ -124,60 +149,62 @@ impl<'a> Report<'a> {
                     if !gone.is_empty() || !new.is_empty() {
                         lines.push(Line::Matched(pair));
                     }
-                    add_in_order(&mut lines, gone, new);
+                    self.add_in_order(&mut lines, gone, new);
                 }
                 None => {
-                    lines.push(Line::Gone(pid));
-                    add_in_order(&mut lines, gone, &[]);
+                    lines.push(Line::Process { change: "gone process", pid, names: ones });
+                    self.add_in_order(&mut lines, gone, &[]);
                 }
             }
         }
         for (place, &pid) in second.pids().iter().enumerate() {
             if pairs.is_free(Which::Second, place) {
-                lines.push(Line::New(pid));
-                add_in_order(&mut lines, &[], of_process(&changes.second, place));
+                lines.push(Line::Process { change: "new process", pid, names: others });
+                self.add_in_order(&mut lines, &[], of_process(&changes.second, place));
             }
+        }
+        if let Some(Moved { pair, index, .. }) = self.found.moved {
+            let (row, now) = (self.row(0, pair.first, index), self.row(1, pair.second, index));
+            lines.extend(row.map(|row| Line::Event { change: "counts", row, now }));
         }
         lines
     }
 
-    pub(super) fn row(&self, which: usize, process: usize, index: usize) -> Option<Row<'a>> {
-        let (side, trace) = (self.sides.get(which)?, self.texts.get(which)?);
-        let pid = *side.pids().get(process)?;
+    /// Adds the changes of two processes in the order of both. Those that are elsewhere are told
+    /// with the first trace's.
+    fn add_in_order(&self, lines: &mut Vec<Line<'a>>, gone: &[Change], new: &[Change]) {
+        let mut new = new.iter().peekable();
+        let alone = |change: &Change| {
+            let row = self.row(1, change.process, change.index);
+            let row = row.filter(|_| change.elsewhere.is_none());
+            row.map(|row| Line::Event { change: "new", row, now: None })
+        };
+        for change in gone {
+            let before = std::iter::from_fn(|| new.next_if(|other| other.before < change.before));
+            lines.extend(before.filter_map(alone));
+            let other = change.elsewhere.and_then(|other| self.found.changes.second.get(other));
+            let now = other.and_then(|other| self.row(1, other.process, other.index));
+            let word = if now.is_some() { "elsewhere" } else { "gone" };
+            let row = self.row(0, change.process, change.index);
+            lines.extend(row.map(|row| Line::Event { change: word, row, now }));
+        }
+        lines.extend(new.filter_map(alone));
+    }
+
+    fn row(&self, which: usize, process: usize, index: usize) -> Option<Row<'a>> {
+        let (side, text) = (self.sides[which], &self.texts[which]);
+        let place = (*side.pids().get(process)?, index as u64);
         let event = side.events(process).get(index)?;
-        let place = (pid, index as u64);
-        Some(Row { trace, line: trace.lines.line(place.0, place.1)?, place, event })
+        Some(Row { names: text.names, line: text.lines.line(place.0, place.1)?, place, event })
     }
 
-    /// Returns a change of the first trace, and its place in the second, if it is there.
-    pub(super) fn rows(&self, change: &Change) -> Option<(Row<'a>, Option<(Row<'a>, Difference)>)> {
-        let row = self.row(0, change.process, change.index)?;
-        let other = change.elsewhere.and_then(|other| self.found.changes.second.get(other));
-        let now = other.and_then(|other| {
-            let row = self.row(1, other.process, other.index)?;
-            let pair = self.found.pairs.of_first(change.process);
-            let is_in_place = pair.is_some_and(|pair| pair.second == other.process)
-                && change.index == other.index
-                && !are_alike(self.sides, &self.found.pairs, change, other);
-            Some((row, if is_in_place { Difference::OtherEnd } else { Difference::Place }))
-        });
-        Some((row, now))
-    }
-
-    pub(super) fn moved(&self) -> Option<(Row<'a>, Row<'a>, Difference)> {
-        let moved = self.found.moved?;
-        let row = self.row(0, moved.pair.first, moved.index)?;
-        let now = self.row(1, moved.pair.second, moved.index)?;
-        Some((row, now, Difference::Ranks(moved.ranks)))
-    }
-
-    pub(super) fn pids(&self, pair: Pair) -> Option<(Pid, Pid)> {
+    fn pids(&self, pair: Pair) -> Option<(Pid, Pid)> {
         let [first, second] = self.sides;
         Some((*first.pids().get(pair.first)?, *second.pids().get(pair.second)?))
     }
 
     /// Returns whether there may be fewer changes of a pair.
-    pub(super) fn is_coarse(&self, pair: Pair) -> bool {
+    fn is_coarse(&self, pair: Pair) -> bool {
         self.found.changes.is_coarse.get(pair.first).copied().unwrap_or_default()
     }
 
@@ -186,38 +213,33 @@ impl<'a> Report<'a> {
             return writeln!(out, "same");
         }
         let sums = self.sums();
-        writeln!(out, "{}", sums.words())?;
-        for line in self.lines() {
-            self.write_line(out, line)?;
-        }
-        if let Some((row, now, difference)) = self.moved() {
-            let (place, serial) = (now.place(), gemshowal::Text(now.event.serial));
-            writeln!(out, "counts {row}, now {place} {serial}{}{difference}", now.other_end())?;
-        }
+        writeln!(out, "{sums}")?;
+        self.lines().iter().try_for_each(|line| self.write_line(out, line))?;
         if sums.guesses > 0 {
             writeln!(out, "gemshowal diff --json has all matches, and which of them are guesses")?;
         }
         Ok(())
     }
 
-    fn write_line(&self, out: &mut Output, line: Line<'_>) -> io::Result<()> {
-        let [ones, others] = self.texts.each_ref().map(|text| text.names);
+    fn write_line(&self, out: &mut Output, line: &Line<'_>) -> io::Result<()> {
         match line {
-            Line::Matched(pair) => self.write_match(out, pair),
-            Line::Gone(pid) => writeln!(out, "gone process {}", ones.process(pid)),
-            Line::New(pid) => writeln!(out, "new process {}", others.process(pid)),
-            Line::First(change) => match self.rows(change) {
-                Some((row, Some((now, difference)))) => {
-                    let (place, other) = (now.place(), now.other_end());
-                    writeln!(out, "elsewhere {row}, now {place}{other}{difference}")
+            Line::Matched(pair) => self.write_match(out, *pair),
+            Line::Process { change, pid, names } => {
+                writeln!(out, "{change} {}", names.process(*pid))
+            }
+            Line::Event { change, row, now: None } => writeln!(out, "{change} {row}"),
+            Line::Event { change, row, now: Some(now) } => {
+                let (place, other) = (now.place(), now.other_end());
+                match self.found.moved {
+                    None => writeln!(out, "{change} {row}, now {place}{other}"),
+                    Some(Moved { ranks: [[prev, this], [prev_now, this_now]], .. }) => writeln!(
+                        out,
+                        "{change} {row}, now {place} {}{other}; the ranks of its counts were \
+                         {{{prev},{this}}} and are {{{prev_now},{this_now}}}",
+                        gemshowal::Text(now.event.serial)
+                    ),
                 }
-                Some((row, None)) => writeln!(out, "gone {row}"),
-                None => Ok(()),
-            },
-            Line::Second(change) => match self.row(1, change.process, change.index) {
-                Some(row) => writeln!(out, "new {row}"),
-                None => Ok(()),
-            },
+            }
         }
     }
 
@@ -232,30 +254,122 @@ impl<'a> Report<'a> {
         }
         write!(out, "process {one} is {other}")?;
         if is_guess {
-            write!(out, ", a guess: {}", sentence(pair.ground))?;
+            write!(out, ", a guess: {}", pair.ground.words())?;
         }
         if is_coarse {
             write!(out, "; compared coarsely, so there may be fewer changes")?;
         }
         writeln!(out)
     }
+
+    /// Makes the object: the processes that are matched, by rising pid of the first trace's, and
+    /// then what differs.
+    pub(super) fn object(&self) -> impl Serialize + '_ {
+        let matched = |pair: Pair| {
+            let (process, is) = self.pids(pair)?;
+            Some(Matched {
+                process: gemshowal::Text(process),
+                is: gemshowal::Text(is),
+                because: pair.ground,
+                guess: pair.ground.is_guess(),
+                coarse: self.is_coarse(pair),
+            })
+        };
+        let pairs = || (0..self.sides[0].len()).filter_map(|it| self.found.pairs.of_first(it));
+        Object {
+            other: self.texts[1].name,
+            certain: self.is_same() || self.found.is_certain,
+            sums: self.sums(),
+            processes: Sequence::of(move || pairs().filter_map(matched)),
+            changes: Sequence::of(|| self.lines().into_iter().filter_map(Difference::of)),
+        }
+    }
 }
 
 fn of_process(changes: &[Change], process: usize) -> &[Change] {
     let start = changes.partition_point(|change| change.process < process);
     let end = changes.partition_point(|change| change.process <= process);
-    changes.get(start..end).unwrap_or_default()
+    &changes[start..end]
 }
 
-/// Adds the changes of two processes in the order of both. Those that are elsewhere are told with
-/// the first trace's.
-fn add_in_order<'a>(lines: &mut Vec<Line<'a>>, gone: &'a [Change], new: &'a [Change]) {
-    let mut new = new.iter().peekable();
-    let alone = |change: &&Change| change.elsewhere.is_none();
-    for change in gone {
-        let before = std::iter::from_fn(|| new.next_if(|other| other.before < change.before));
-        lines.extend(before.filter(alone).map(Line::Second));
-        lines.push(Line::First(change));
+impl Row<'_> {
+    fn place(&self) -> String {
+        format!("{}: {} {}", self.line, self.names.process(self.place.0), self.place.1)
     }
-    lines.extend(new.filter(alone).map(Line::Second));
+
+    fn other_end(&self) -> String {
+        match (self.event.kind, self.event.to) {
+            (Kind::Send, Some(to)) => format!(" to {}", self.names.process(to)),
+            (Kind::Receive, _) => format!(" from {}", self.names.process(self.event.from)),
+            _ => String::new(),
+        }
+    }
+}
+
+impl Display for Row<'_> {
+    fn fmt(&self, f: &mut Formatter<'_>) -> fmt::Result {
+        let (event, names) = (self.event, self.names);
+        let kind = kind_word(event.kind);
+        let (label, value) = (names.label(event.label), names.value(event.value));
+        let (place, other) = (self.place(), self.other_end());
+        let serial = gemshowal::Text(event.serial);
+        write!(f, "{place}  {kind:<8} label {label} {serial} {value}{other}")
+    }
+}
+
+#[derive(Serialize)]
+struct Object<'a> {
+    other: &'a str,
+    /// Tells whether the result holds however processes are matched: it does if nothing differs.
+    certain: bool,
+    #[serde(flatten)]
+    sums: Sums,
+    processes: Sequence<'a, Matched>,
+    changes: Sequence<'a, Difference>,
+}
+
+#[derive(Serialize)]
+struct Matched {
+    process: gemshowal::Text<Pid>,
+    is: gemshowal::Text<Pid>,
+    because: Ground,
+    guess: bool,
+    /// Tells whether there may be fewer changes than are told.
+    coarse: bool,
+}
+
+#[derive(Serialize)]
+struct Difference {
+    change: &'static str,
+    #[serde(skip_serializing_if = "Option::is_none")]
+    pid: Option<gemshowal::Text<Pid>>,
+    #[serde(flatten)]
+    row: Option<Placed>,
+    #[serde(skip_serializing_if = "Option::is_none")]
+    now: Option<Placed>,
+}
+
+#[derive(Serialize)]
+struct Placed {
+    line: u64,
+    #[serde(flatten)]
+    place: Place,
+    #[serde(flatten)]
+    event: Fields,
+}
+
+impl Difference {
+    fn of(line: Line<'_>) -> Option<Difference> {
+        let placed = |Row { names, line, place, event }: Row<'_>| Placed {
+            line,
+            place: Place::new(names, place),
+            event: Fields::new(names, event),
+        };
+        let (change, pid, row, now) = match line {
+            Line::Matched(_) => return None,
+            Line::Process { change, pid, .. } => (change, Some(gemshowal::Text(pid)), None, None),
+            Line::Event { change, row, now } => (change, None, Some(row), now),
+        };
+        Some(Difference { change, pid, row: row.map(placed), now: now.map(placed) })
+    }
 }

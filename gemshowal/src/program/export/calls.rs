@@ -44,21 +44,19 @@ pub(super) struct Calls {
 impl Calls {
     pub(super) fn of(scene: &Scene<'_>) -> Calls {
         let mut calls = Calls::default();
-        for (pid, events) in scene.trace.processes() {
-            let mut open = HashMap::new();
-            for (place, event) in scene.of_process(pid, events) {
-                match (event.kind, role(scene, event.value)) {
-                    (Kind::Send, Some(Role::Request(reference))) => {
-                        open.insert(reference, place);
-                    }
-                    (Kind::Receive, Some(Role::Reply(reference))) => {
-                        if let Some(request) = open.remove(reference) {
-                            calls.replies.insert(request, place);
-                            calls.requests.insert(place, request);
-                        }
-                    }
-                    _ => {}
+        let mut open = HashMap::new();
+        for (place, event) in scene.events() {
+            match (event.kind, role(scene, event.value)) {
+                (Kind::Send, Some(Role::Request(reference))) => {
+                    open.insert((place.0, reference), place);
                 }
+                (Kind::Receive, Some(Role::Reply(reference))) => {
+                    if let Some(request) = open.remove(&(place.0, reference)) {
+                        calls.replies.insert(request, place);
+                        calls.requests.insert(place, request);
+                    }
+                }
+                _ => {}
             }
         }
         calls

@@ -46,7 +46,7 @@ pub(crate) fn run(args: &Export, task: Task<'_>) -> Result<Status, Failure> {
     let label = args.label.as_deref().map(|label| names.find_label(&trace, Some(label)));
     let scene = Scene::new(&trace, &names, &paired, label.transpose()?)?;
     if scene.events().next().is_none() {
-        notes.say_no(format_args!("no: {name}: there is no event to be drawn"));
+        notes.say(format_args!("no: {name}: there is no event to be drawn"));
         return Ok(Status::No);
     }
     write(args.target, &scene, name, out, notes)
@@ -56,7 +56,7 @@ pub(crate) fn run(args: &Export, task: Task<'_>) -> Result<Status, Failure> {
 fn no(against: Option<Against>, trace: &Trace, names: &Names, notes: &mut Notes) -> Status {
     let view = View::whole(trace, names);
     if let Some(against) = against {
-        notes.say_no(against.headline(&Shown::reported(&view)));
+        notes.say(against.headline(&Shown::reported(&view)));
     }
     Status::No
 }

@@ -56,7 +56,7 @@ pub(super) fn write(
 }
 
 fn no_times(name: &str, words: &str, notes: &mut Notes) -> Result<Status, Failure> {
-    notes.say_no(format_args!("no: {name}: {words}"));
+    notes.say(format_args!("no: {name}: {words}"));
     Ok(Status::No)
 }
 

@@ -11,8 +11,8 @@ use super::scene::{Place, Scene};
 use super::work::Works;
 use crate::names::Line;
 use crate::object::kind_word;
-use crate::view::short;
 use crate::output::Output;
+use crate::view::short;
 use crate::Failure;
 use gemshowal::{Event, Partner, Pid};
 use std::collections::{BTreeMap, BTreeSet};
@@ -228,14 +228,7 @@ impl Writer<'_> {
     }
 
     /// Appends an end of the arrow of a message, if both ends are drawn.
-    fn put_flow(
-        &self,
-        line: &mut Line<'_>,
-        lane: Lane,
-        place: Place,
-        partner: Partner,
-        time: f64,
-    ) {
+    fn put_flow(&self, line: &mut Line<'_>, lane: Lane, place: Place, partner: Partner, time: f64) {
         let has_time = |other| self.clock.at(self.scene, other).is_some();
         let (phase, sent, end) = match partner {
             Partner::Receive(pid, index) if has_time((pid, index)) => ("s", place, "}"),

@@ -30,7 +30,7 @@ impl<'a> Scene<'a> {
             Some(start)
         });
         let starts = starts.collect();
-        let mut labels = trace.processes().flat_map(|(_, events)| events).map(|event| event.label);
+        let mut labels = trace.events().map(|(_, event)| event.label);
         let first = labels.next();
         let names_labels = label.is_none() && labels.any(|label| Some(label) != first);
         let hops = paired.hops()?;
@@ -42,18 +42,7 @@ impl<'a> Scene<'a> {
     }
 
     pub(super) fn events(&self) -> impl Iterator<Item = (Place, &'a Event)> + '_ {
-        self.trace.processes().flat_map(|(pid, events)| self.of_process(pid, events))
-    }
-
-    pub(super) fn of_process<'b>(
-        &'b self,
-        pid: Pid,
-        events: &'a [Event],
-    ) -> impl Iterator<Item = (Place, &'a Event)> + 'b {
-        (0..)
-            .zip(events)
-            .map(move |(index, event)| ((pid, index), event))
-            .filter(|it| self.has(it.1))
+        self.trace.events().filter(|(_, event)| self.has(event))
     }
 
     /// Returns the events that are drawn, each after those that it follows.

@@ -8,8 +8,9 @@ use crate::output::{Notes, Output};
 use crate::{Failure, Status};
 use gemshowal::{Event, Kind, Partner, Pid, Text};
 use std::collections::HashMap;
+use std::io;
 
-/// The most counts that the clocks of a log have together: it grows as processes times events.
+/// The most counts that the clocks of a log may have together, as processes times events.
 const MOST_COUNTS: usize = 100_000_000;
 
 /// The number of events of each process that has any, by rising place of the process.
@@ -23,9 +24,9 @@ pub(super) fn write(
 ) -> Result<Status, Failure> {
     let order = scene.in_order()?;
     let lanes = scene.lanes();
-    if is_long(scene, &lanes, &order) {
+    if order.len().saturating_mul(lanes.len()) > MOST_COUNTS {
         notes.say(format_args!(
-            "note: {name}: the clocks of its events would have more than {MOST_COUNTS} counts; \
+            "note: {name}: the clocks of its events may have more than {MOST_COUNTS} counts; \
              export a part (gemshowal cut), or take --as perfetto"
         ));
         return Ok(Status::Long);
@@ -47,29 +48,12 @@ pub(super) fn write(
     Ok(Status::Yes)
 }
 
-/// Returns whether the clocks have too many counts together.
-fn is_long(scene: &Scene<'_>, lanes: &[Pid], order: &[Place]) -> bool {
-    if order.len().saturating_mul(lanes.len()) <= MOST_COUNTS {
-        return false;
-    }
-    let mut counts = 0;
-    let counted = each_clock(scene, lanes, order, |_, _, clock| {
-        counts += clock.len();
-        if counts > MOST_COUNTS {
-            Err(())
-        } else {
-            Ok(())
-        }
-    });
-    counted.is_err()
-}
-
-fn each_clock<E>(
+fn each_clock(
     scene: &Scene<'_>,
     lanes: &[Pid],
     order: &[Place],
-    mut run: impl FnMut(usize, &Event, &Clock) -> Result<(), E>,
-) -> Result<(), E> {
+    mut run: impl FnMut(usize, &Event, &Clock) -> io::Result<()>,
+) -> io::Result<()> {
     let mut clocks = vec![Clock::new(); lanes.len()];
     let mut sent = HashMap::<Place, Clock>::new();
     for &place in order {

@@ -2,15 +2,12 @@
 //!
 //! The proved reader alone decides whether a text is a trace's. If it refuses one, [`judge`] goes through the lines.
 
-mod fix;
-mod form;
 mod grammar;
 mod judge;
 mod kind;
 mod mend;
 mod mistake;
 mod remedy;
-mod survey;
 mod text;
 
 use crate::args::Lint;
@@ -18,9 +15,9 @@ use crate::object::Number;
 use crate::output::Output;
 use crate::{Failure, Status, Task};
 use gemshowal::{OutOfMemory, ReadError, Trace};
+use judge::Findings;
 use mistake::Mistake;
 use serde::Serialize;
-use std::collections::BTreeMap;
 use std::fmt::{self, Display, Formatter};
 use std::io::Write;
 
@@ -28,12 +25,12 @@ pub(crate) fn run(args: &Lint, task: Task<'_>) -> Result<Status, Failure> {
     let Task { json, input, out, notes } = task;
     let bytes = input.bytes()?;
     if args.fix {
-        return fix::run(&bytes, out, notes);
+        return mend::run(&bytes, out, notes);
     }
     let judged = Judged::of(&bytes, args.most)?;
     match (&judged, json) {
-        (Judged::Good(trace), false) => write_counts(trace, out)?,
-        (Judged::Good(trace), true) => write_count_object(trace, out)?,
+        (Judged::Good(trace), false) => write!(out, "{}", Counts::of(trace))?,
+        (Judged::Good(trace), true) => out.report("ok", &Counts::of(trace))?,
         (Judged::Impossible(findings) | Judged::Faulty(findings), false) => {
             write!(out, "{findings}")?
         }
@@ -58,7 +55,7 @@ enum Judged<'a> {
 
 impl<'a> Judged<'a> {
     /// Judges the text of these bytes; at most this number of mistakes is to be named.
-    fn of(bytes: &'a [u8], most: u64) -> Result<Judged<'a>, OutOfMemory> {
+    fn of(bytes: &'a [u8], most: usize) -> Result<Judged<'a>, OutOfMemory> {
         match Trace::read(bytes) {
             Ok(trace) if has_unrising(&trace) => Ok(Judged::Impossible(Findings::of(bytes, most))),
             Ok(trace) => Ok(Judged::Good(trace)),
@@ -83,32 +80,6 @@ fn has_unrising(trace: &Trace) -> bool {
         .any(|(_, events)| events.iter().any(|event| event.serial.prev >= event.serial.this))
 }
 
-struct Findings<'a> {
-    named: Vec<Mistake<'a>>,
-    count: u64,
-    by_fix: u64,
-    /// The first one for which the reader refuses the text.
-    first_refused: Option<Mistake<'a>>,
-}
-
-impl<'a> Findings<'a> {
-    /// Finds the mistakes of the text of these bytes, of which this number are to be named.
-    fn of(bytes: &'a [u8], most: u64) -> Findings<'a> {
-        let mut findings = Findings { named: Vec::new(), count: 0, by_fix: 0, first_refused: None };
-        judge::judge(bytes, |mistake| {
-            findings.by_fix += u64::from(mistake.is_by_fix);
-            if findings.first_refused.is_none() && !mistake.is_read {
-                findings.first_refused = Some(mistake);
-            }
-            if findings.count < most {
-                findings.named.push(mistake);
-            }
-            findings.count += 1;
-        });
-        findings
-    }
-}
-
 impl Display for Findings<'_> {
     /// Shows the mistakes, and how many there are unless that is seen.
     fn fmt(&self, f: &mut Formatter<'_>) -> fmt::Result {
@@ -130,54 +101,33 @@ impl Display for Findings<'_> {
     }
 }
 
-fn labels(trace: &Trace) -> BTreeMap<u32, u64> {
-    let mut labels = BTreeMap::new();
-    for event in trace.processes().flat_map(|(_, events)| events) {
-        *labels.entry(event.label.0).or_default() += 1;
-    }
-    labels
-}
-
-fn write_counts(trace: &Trace, out: &mut Output) -> Result<(), Failure> {
-    writeln!(
-        out,
-        "ok\nprocesses {}\nevents {}",
-        trace.streams().pids().len(),
-        trace.streams().total()
-    )?;
-    match trace.acts() {
-        None => writeln!(out, "no acts")?,
-        Some(acts) => writeln!(out, "acts {}", acts.len())?,
-    }
-    for (label, events) in labels(trace) {
-        writeln!(out, "label {label}, events {events}")?;
-    }
-    Ok(())
-}
-
+/// The numbers of a text without mistakes.
 #[derive(Serialize)]
 struct Counts {
     processes: usize,
     events: Number,
     acts: Option<usize>,
-    labels: Vec<LabelCount>,
 }
 
-#[derive(Serialize)]
-struct LabelCount {
-    label: u32,
-    events: u64,
+impl Counts {
+    fn of(trace: &Trace) -> Counts {
+        Counts {
+            processes: trace.streams().pids().len(),
+            events: Number(trace.streams().total()),
+            acts: trace.acts().map(<[_]>::len),
+        }
+    }
 }
 
-fn write_count_object(trace: &Trace, out: &mut Output) -> Result<(), Failure> {
-    let labels = labels(trace).into_iter();
-    let counts = Counts {
-        processes: trace.streams().pids().len(),
-        events: Number(trace.streams().total()),
-        acts: trace.acts().map(<[_]>::len),
-        labels: labels.map(|(label, events)| LabelCount { label, events }).collect(),
-    };
-    out.report("ok", &counts)
+impl Display for Counts {
+    fn fmt(&self, f: &mut Formatter<'_>) -> fmt::Result {
+        let Counts { processes, events, acts } = self;
+        writeln!(f, "ok\nprocesses {processes}\nevents {}", events.0)?;
+        match acts {
+            None => writeln!(f, "no acts"),
+            Some(acts) => writeln!(f, "acts {acts}"),
+        }
+    }
 }
 
 #[derive(Serialize)]

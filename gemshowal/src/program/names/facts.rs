@@ -28,7 +28,9 @@ pub(super) fn losses(text: &str, file: &Path) -> Result<Vec<String>, Fault> {
     let mut losses = Vec::new();
     for (number, line) in lines(text, file, HEADER)? {
         match line.split_once('\t') {
-            Some((kind, sentence)) if LOSSES.contains(&kind) => losses.push(escaped(sentence).into_owned()),
+            Some((kind, sentence)) if LOSSES.contains(&kind) => {
+                losses.push(escaped(sentence).into_owned())
+            }
             Some((kind, _)) if is_kind(kind) => {}
             _ => return Err(Fault::at(file, number, "an entry of NAME.facts")),
         }

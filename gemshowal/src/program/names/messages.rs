@@ -70,24 +70,3 @@ fn parsed(entry: &str) -> Option<(u64, &str)> {
     let (value, term) = entry.strip_prefix("value\t")?.split_once('\t')?;
     Some((number(value)?, term))
 }
-
-#[cfg(test)]
-mod tests {
-    use super::{parsed, shared};
-
-    #[test]
-    fn short_texts_leave_room_for_long_ones() {
-        assert_eq!(shared(&[1, 2, 3], 6), None);
-        assert_eq!(shared(&[1, 10, 10], 13), Some(6));
-        assert_eq!(shared(&[5], 4), Some(4));
-        assert_eq!(shared(&[], 0), None);
-    }
-
-    #[test]
-    fn entries_have_a_number_and_a_term() {
-        assert_eq!(parsed("value\t7\t{a,b}"), Some((7, "{a,b}")));
-        for wrong in ["value\t7", "value\tx\ty", "label\t7\tx", ""] {
-            assert_eq!(parsed(wrong), None, "{wrong}");
-        }
-    }
-}

@@ -86,8 +86,7 @@ impl Names {
     /// Finds the label that is shown as this text, but for blanks, or has this number; without a
     /// text the only label.
     pub(crate) fn find_label(&self, trace: &Trace, text: Option<&str>) -> Result<Label, NotFound> {
-        let labels: BTreeSet<u32> =
-            trace.processes().flat_map(|(_, events)| events).map(|event| event.label.0).collect();
+        let labels: BTreeSet<u32> = trace.events().map(|(_, event)| event.label.0).collect();
         let shown = |labels: &BTreeSet<u32>| {
             few(labels.iter().map(|&label| self.label(Label(label)).into_owned()))
         };

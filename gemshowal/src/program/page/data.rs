@@ -73,7 +73,8 @@ struct Rows {
     plain: String,
     /// A letter an event: follows its send, or a receive; another label, begins, open, or hidden.
     how: String,
-    /// A sign an event: certain, premise 1, premises 1 and 2, or perhaps.
+    /// A sign an event: certain, premise 1, premises 1 and 2, the same each with premise 3, or
+    /// perhaps.
     grade: String,
     label: Vec<usize>,
     /// The number of the message; -1 if nobody knows it.
@@ -227,6 +228,9 @@ fn grade(grade: Grade) -> char {
         Grade::Certain | Grade::Under(Premises::Neither) => 'c',
         Grade::Under(Premises::First) => '1',
         Grade::Under(Premises::Both) => '2',
+        Grade::Kept(Premises::Neither) => '3',
+        Grade::Kept(Premises::First) => '4',
+        Grade::Kept(Premises::Both) => '5',
         Grade::Perhaps => 'p',
     }
 }

@@ -1,0 +1,256 @@
+//! Traces of a standard node whose counters have wrapped, and what the laws of such a node say of
+//! them.
+//!
+//! A text of version 3 is one of version 2, but that the counts of a serial may have a minus, and
+//! that the answer of a spawn is `answer` in place of `'receive'`. So it is rewritten as one of
+//! version 2, which the proved reader then reads. The rewriting isn't proved.
+
+use crate::{Event, Kind, OutOfMemory, Pid, ReadError, Trace};
+use node_given::Way;
+use node_machine::Seen;
+use node_streams::MessageContent;
+use st_library::alloc::Global;
+use st_text::ReadFault;
+use std::collections::{HashMap, HashSet};
+use std::ops::Range;
+
+/// The first line of the text of such a trace.
+pub const WRAPPED: &[u8] = b"seqtrace 3\n";
+
+/// The counts that a serial shows: the lowest 60 bits of a counter, with their sign.
+const SHOWN: Range<i64> = -(1 << 59)..1 << 59;
+
+/// The number of counts that a serial can show.
+const COUNTS: u64 = 1 << 60;
+
+/// Returns a count as the node prints it: above the greatest comes the least.
+pub fn signed(count: u64) -> i64 {
+    let count = count as i64;
+    if count < SHOWN.end {
+        count
+    } else {
+        count - COUNTS as i64
+    }
+}
+
+/// A trace of a node whose counters have wrapped. Each count in it is the number from 0 to 2^60 - 1
+/// with the bits of the one that the node prints.
+#[derive(Debug)]
+pub struct NodeTrace {
+    trace: Trace,
+    answers: HashSet<(Pid, u64)>,
+}
+
+/// The findings about the trace of a node.
+#[derive(Debug)]
+pub struct NodeFinding {
+    /// The receives of messages of which no reported send is left.
+    pub unsent: Vec<(Pid, u64)>,
+    /// The receives that wait for their sends if no order of the events has each receive after its
+    /// send; else none.
+    pub cycle: Vec<(Pid, u64)>,
+    /// The way in which each event is given, by process.
+    pub ways: Vec<(Pid, Vec<Way>)>,
+}
+
+impl NodeFinding {
+    /// Returns the places of the events that are given in a way for which the function is true.
+    pub fn places(&self, is_so: impl Fn(Way) -> bool) -> Vec<(Pid, u64)> {
+        let own = |(pid, ways): &(Pid, Vec<Way>)| {
+            let pid = *pid;
+            let chosen = ways.iter().zip(0..).filter(|&(&way, _)| is_so(way));
+            chosen.map(move |(_, index)| (pid, index)).collect::<Vec<_>>()
+        };
+        self.ways.iter().flat_map(own).collect()
+    }
+}
+
+impl NodeTrace {
+    /// Reads a text of version 3.
+    pub fn read(text: &[u8]) -> Result<NodeTrace, ReadError> {
+        let rewritten = Rewritten::of(text).map_err(ReadError::Faulty)?;
+        let trace = Trace::read(&rewritten.text[..])?;
+        let answers = {
+            let lines = trace.lines()?;
+            rewritten.answers.iter().filter_map(|&line| lines.place(line)).collect()
+        };
+        Ok(NodeTrace { trace, answers })
+    }
+
+    /// Returns the events of all processes.
+    pub fn trace(&self) -> &Trace {
+        &self.trace
+    }
+
+    /// Returns whether this event is the answer of a spawn.
+    pub fn is_answer(&self, place: (Pid, u64)) -> bool {
+        self.answers.contains(&place)
+    }
+
+    /// Finds what the laws of a standard node say of the trace.
+    pub fn audit(&self) -> Result<NodeFinding, OutOfMemory> {
+        let streams = self.trace.streams();
+        let judgement = node_streams::judge(Global, streams)?;
+        let ways = |(pid, events): (Pid, &[Event])| {
+            let seen = placed((pid, events)).map(|(place, event)| self.seen(place, event));
+            let ways = node_given::given(Global, &seen.collect::<Vec<_>>())?;
+            Ok((pid, ways.as_slice().to_vec()))
+        };
+        Ok(NodeFinding {
+            unsent: judgement.unsent.as_slice().to_vec(),
+            cycle: judgement.cycle.as_slice().to_vec(),
+            ways: self.trace.processes().map(ways).collect::<Result<_, OutOfMemory>>()?,
+        })
+    }
+
+    /// Returns the sends of messages of which no reported receive is left: alike messages are
+    /// received in order.
+    pub fn unreceived(&self) -> Vec<(Pid, u64)> {
+        let mut received: HashMap<MessageContent, u64> = HashMap::new();
+        for event in self.events(Kind::Receive).map(|(_, event)| event) {
+            *received.entry(MessageContent::of(event)).or_default() += 1;
+        }
+        let mut is_left = |event: &Event| match received.get_mut(&MessageContent::of(event)) {
+            Some(left) if *left > 0 => {
+                *left -= 1;
+                false
+            }
+            _ => true,
+        };
+        self.events(Kind::Send)
+            .filter(|(_, event)| is_left(event))
+            .map(|(place, _)| place)
+            .collect()
+    }
+
+    /// Returns the events of a kind, by process.
+    pub fn events(&self, kind: Kind) -> impl Iterator<Item = ((Pid, u64), &Event)> {
+        let all = self.trace.processes().flat_map(placed);
+        all.filter(move |(_, event)| event.kind == kind)
+    }
+
+    fn seen(&self, place: (Pid, u64), event: &Event) -> Seen {
+        Seen {
+            kind: event.kind,
+            label: event.label,
+            serial: event.serial,
+            answer: event.kind == Kind::Receive && self.is_answer(place),
+        }
+    }
+}
+
+/// Returns the events of a process with their places.
+fn placed((pid, events): (Pid, &[Event])) -> impl Iterator<Item = ((Pid, u64), &Event)> {
+    events.iter().zip(0..).map(move |(event, index)| ((pid, index), event))
+}
+
+/// A text of version 3 as one of version 1 or 2, line by line.
+struct Rewritten {
+    text: Vec<u8>,
+    /// The lines of the answers.
+    answers: Vec<u64>,
+}
+
+impl Rewritten {
+    fn of(text: &[u8]) -> Result<Rewritten, ReadFault> {
+        let body = text.strip_prefix(WRAPPED).ok_or(ReadFault::Line(1))?;
+        let names_further_node = body.windows(2).any(|pair| pair[0] == b'<' && pair[1] != b'0');
+        let header = if names_further_node { "seqtrace 2\n" } else { "seqtrace 1\n" };
+        let mut rewritten = Rewritten { text: Vec::with_capacity(text.len()), answers: Vec::new() };
+        rewritten.text.extend_from_slice(header.as_bytes());
+        for (line, number) in body.split_inclusive(|&byte| byte == b'\n').zip(2..) {
+            match std::str::from_utf8(line).ok().and_then(EventLine::of) {
+                None => rewritten.text.extend_from_slice(line),
+                Some(event) => {
+                    let plain = event.plain().ok_or(ReadFault::Line(number))?;
+                    rewritten.text.extend_from_slice(plain.as_bytes());
+                    if event.kind == ANSWER {
+                        rewritten.answers.push(number);
+                    }
+                }
+            }
+        }
+        Ok(rewritten)
+    }
+}
+
+const ANSWER: &str = "answer";
+
+/// The parts of an event's line: `FRONT,{KIND,{PREV,THIS}REST`.
+struct EventLine<'a> {
+    front: &'a str,
+    kind: &'a str,
+    prev: &'a str,
+    this: &'a str,
+    rest: &'a str,
+}
+
+impl<'a> EventLine<'a> {
+    fn of(line: &'a str) -> Option<EventLine<'a>> {
+        let (front, rest) = line.split_once(",{")?;
+        let (kind, rest) = rest.split_once(",{")?;
+        let (serial, rest) = rest.split_once('}')?;
+        let (prev, this) = serial.split_once(',')?;
+        Some(EventLine { front, kind, prev, this, rest })
+    }
+
+    /// Returns the line as version 2 has it, or `None` if a count isn't one that a node prints.
+    fn plain(&self) -> Option<String> {
+        let EventLine { front, kind, prev, this, rest } = self;
+        let kind = if *kind == ANSWER { "'receive'" } else { kind };
+        Some(format!("{front},{{{kind},{{{},{}}}{rest}", unsigned(prev)?, unsigned(this)?))
+    }
+}
+
+/// Returns the number from 0 to 2^60 - 1 with the bits of a count that a node prints.
+fn unsigned(word: &str) -> Option<u64> {
+    let count: i64 = word.parse().ok()?;
+    let is_spelled_so = SHOWN.contains(&count) && count.to_string() == word;
+    is_spelled_so.then_some(count as u64 % COUNTS)
+}
+
+#[cfg(test)]
+mod tests {
+    use super::*;
+
+    const SPAWN: &[u8] = b"seqtrace 3\nprocess <0.30.0>\n\
+        {seq_trace,1,{send,{0,1},<0.30.0>,<0.31.0>,1}}\n\
+        {seq_trace,1,{answer,{1,2},<0.31.0>,<0.30.0>,2}}\n\
+        {seq_trace,1,{print,{47,48},<0.30.0>,[],3}}\n\
+        process <0.31.0>\n\
+        {seq_trace,1,{'receive',{0,1},<0.30.0>,<0.31.0>,1}}\n\
+        {seq_trace,1,{send,{1,2},<0.31.0>,<0.30.0>,2}}\n";
+
+    #[test]
+    fn an_answer_leaves_sixteen_times_its_count() {
+        let trace = NodeTrace::read(SPAWN).unwrap();
+        assert!(trace.is_answer((Pid::new(30), 1)));
+        let finding = trace.audit().unwrap();
+        assert_eq!((finding.unsent, finding.cycle), (vec![], vec![]));
+        assert!(!finding.ways.iter().any(|(_, ways)| ways.contains(&Way::Ungiven)));
+    }
+
+    #[test]
+    fn a_receive_is_no_answer() {
+        let text = String::from_utf8(SPAWN.to_vec()).unwrap().replace("answer", "'receive'");
+        let finding = NodeTrace::read(text.as_bytes()).unwrap().audit().unwrap();
+        let (pid, ways) = &finding.ways[0];
+        assert_eq!((*pid, ways[2]), (Pid::new(30), Way::Ungiven));
+    }
+
+    #[test]
+    fn counts_have_a_sign() {
+        assert_eq!(unsigned("-1"), Some(COUNTS - 1));
+        assert_eq!(signed(COUNTS - 1), -1);
+        assert_eq!(unsigned("576460752303423487"), Some((1 << 59) - 1));
+        let wrong = ["576460752303423488", "-576460752303423489", "-0", "+1", "01", "", "1 "];
+        assert!(wrong.iter().all(|word| unsigned(word).is_none()));
+    }
+
+    #[test]
+    fn a_fault_has_its_line() {
+        let text = String::from_utf8(SPAWN.to_vec()).unwrap().replace("{47,48}", "{47,-0}");
+        let read = NodeTrace::read(text.as_bytes());
+        assert!(matches!(read, Err(ReadError::Faulty(ReadFault::Line(5)))));
+    }
+}

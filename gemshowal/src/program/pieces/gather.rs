@@ -1,0 +1,169 @@
+//! `gather`: the verdict on the trace, from the lines of `judge`.
+
+use super::record::{Counts, Place, Rest};
+use super::{Lines, Next};
+use crate::reason::Against;
+use crate::view::count;
+use crate::{Failure, Status};
+use gemshowal::{first_of, Never, Pid, PlacedReason, Text};
+use std::collections::BTreeMap;
+use std::io::{BufRead, Write};
+
+/// A reason, and its events as the text of a trace has them.
+struct Found {
+    reason: PlacedReason,
+    events: Vec<(Pid, Place, String)>,
+}
+
+/// The lines so far.
+#[derive(Default)]
+struct Gathered {
+    /// A process that no text lists.
+    unlisted: Option<Pid>,
+    found: Option<Found>,
+    /// How many events the reason's processes have in each part.
+    parts: BTreeMap<Pid, Vec<(u16, u64)>>,
+    scattered: Counts,
+    judged: Counts,
+    /// How many runs of `scatter` have said their counts.
+    scatters: u64,
+    processes: u64,
+    unreported: u64,
+}
+
+/// Reads sorted lines of `judge`, and writes the verdict as `seqtool complete` begins it.
+pub(super) fn gather(
+    name: &str,
+    input: impl BufRead,
+    out: &mut impl Write,
+) -> Result<Status, Failure> {
+    let mut lines = Lines::new(input);
+    let mut before = Vec::new();
+    let mut gathered = Gathered::default();
+    loop {
+        let number = lines.number() + 1;
+        let torn = || Failure::Torn(format!("{name}: line {number} is none of judge's, sorted"));
+        match lines.next().map_err(|reason| Failure::Unread(name.to_owned(), reason))? {
+            Next::End => return gathered.verdict(name, out),
+            Next::Torn => return Err(torn()),
+            Next::Line(line) if line < &before[..] => return Err(torn()),
+            Next::Line(line) => {
+                gathered.take(Rest(line)).ok_or_else(torn)?;
+                before.clear();
+                before.extend_from_slice(line);
+            }
+        }
+    }
+}
+
+impl Gathered {
+    fn take(&mut self, mut rest: Rest<'_>) -> Option<()> {
+        match rest.byte()? {
+            b'0' => {
+                let pid = rest.pid()?;
+                self.unlisted.get_or_insert(pid);
+                rest.end()
+            }
+            b'1' => self.take_reason(rest),
+            b'2' => self.take_part(rest),
+            b'3' => {
+                let is_judged = rest.byte()? == b'T';
+                let sum = if is_judged { &mut self.judged } else { &mut self.scattered };
+                sum.add(Counts::read(rest)?);
+                self.scatters += u64::from(!is_judged);
+                Some(())
+            }
+            b'4' => {
+                self.processes += rest.number()?;
+                self.unreported += rest.number()?;
+                rest.end()
+            }
+            _ => None,
+        }
+    }
+
+    fn take_reason(&mut self, mut rest: Rest<'_>) -> Option<()> {
+        let word = rest.word();
+        let mut events = Vec::new();
+        while !rest.0.is_empty() {
+            let (pid, place) = (rest.pid()?, Place(rest.number()?));
+            rest.skip(b'\t')?;
+            events.push((pid, place, String::from_utf8(rest.word().to_vec()).ok()?));
+        }
+        let &(pid, place, _) = events.first()?;
+        let other = events.get(1).map(|&(pid, place, _)| (pid, place.0));
+        let reason = PlacedReason { pid, index: place.0, never: never(word, other)? };
+        let before = self.found.as_ref().map(|found| found.reason);
+        if first_of(before, Some(reason)) == Some(reason) {
+            self.found = Some(Found { reason, events });
+        }
+        Some(())
+    }
+
+    fn take_part(&mut self, mut rest: Rest<'_>) -> Option<()> {
+        let (pid, place) = (rest.pid()?, Place(rest.number()?));
+        let events = self.found.iter().flat_map(|found| &found.events);
+        if events.into_iter().any(|&(other, ..)| other == pid) {
+            self.parts.entry(pid).or_default().push((place.part(), place.index()));
+        }
+        rest.end()
+    }
+
+    fn verdict(&self, name: &str, out: &mut impl Write) -> Result<Status, Failure> {
+        if let Some(pid) = self.unlisted {
+            let words = format!("{} is named by an event, and no text lists it", Text(pid));
+            return Err(Failure::Torn(words));
+        }
+        if self.scattered != self.judged || self.scatters == 0 {
+            let words = "the lines aren't all that scatter wrote, or some are there twice";
+            return Err(Failure::Torn(format!("{name}: {words}")));
+        }
+        match &self.found {
+            None => self.write_fits(out),
+            Some(found) => self.write_never(found, out),
+        }
+    }
+
+    fn write_fits(&self, out: &mut impl Write) -> Result<Status, Failure> {
+        let (processes, events) = (self.processes, self.judged.events());
+        let unreported = count(self.unreported, "unreported send");
+        let sizes = format!("{}, {}", count(processes, "process"), count(events, "event"));
+        writeln!(out, "fits {sizes}, {unreported}")?;
+        Ok(Status::Yes)
+    }
+
+    fn write_never(&self, found: &Found, out: &mut impl Write) -> Result<Status, Failure> {
+        let PlacedReason { pid, index, never } = found.reason;
+        let word = Against::by_complete(pid, index, never).word();
+        let places: Vec<(Pid, u64)> =
+            found.events.iter().map(|&(pid, place, _)| (pid, self.index(pid, place))).collect();
+        let place = |&(pid, index): &(Pid, u64)| format!(" {} {index}", Text(pid));
+        let other: String = places[1..].iter().map(place).collect();
+        writeln!(out, "never{} {word}{other}", place(&places[0]))?;
+        for (at, (.., event)) in places.iter().zip(&found.events) {
+            writeln!(out, "event{} {event}", place(at))?;
+        }
+        Ok(Status::No)
+    }
+
+    /// Returns the index of an event among all of its process.
+    fn index(&self, pid: Pid, place: Place) -> u64 {
+        let parts = self.parts.get(&pid).into_iter().flatten();
+        let before = parts.filter(|&&(part, _)| part < place.part()).map(|&(_, count)| count);
+        before.sum::<u64>() + place.index()
+    }
+}
+
+/// Returns the reason of this word, which may name the place of a second event.
+fn never(word: &[u8], other: Option<(Pid, u64)>) -> Option<Never> {
+    Some(match (word, other) {
+        (b"prevnotbefore", None) => Never::PrevNotBefore,
+        (b"notrising", Some((_, index))) => Never::NotRising(index),
+        (b"repeated", Some((pid, index))) => Never::Repeated(pid, index),
+        (b"mismatch", Some((pid, index))) => Never::Mismatch(pid, index),
+        (b"late", Some((_, index))) => Never::Late(index),
+        (b"unfounded", None) => Never::Unfounded,
+        (b"toohigh", None) => Never::TooHigh,
+        _ => return None,
+    })
+}

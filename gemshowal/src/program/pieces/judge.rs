@@ -1,0 +1,223 @@
+//! `judge`: the first reason in each piece, and what the verdict needs beside it.
+
+use super::record::{Counts, Line, Place, Rest, COUNTS};
+use super::text::read_event;
+use super::{Lines, Next};
+use crate::reason::Against;
+use crate::Failure;
+use gemshowal::{Event, Kind, Pid, PlacedReason, Receipt, Text};
+use std::io::{self, BufRead, Write};
+
+/// The lines that come before those of the next process.
+struct Piece {
+    pid: Pid,
+    /// The parts that list the process, in order, each with the number of its events there.
+    parts: Vec<(u16, u64)>,
+    events: Vec<Event>,
+    receipts: Vec<Receipt>,
+}
+
+/// The counts of all pieces.
+#[derive(Default)]
+struct Totals {
+    lines: Counts,
+    processes: u64,
+    unreported: u64,
+}
+
+/// Reads sorted lines of `scatter`, and writes those for `gather`.
+pub(super) fn judge(
+    name: &str,
+    input: impl BufRead,
+    out: &mut impl Write,
+    mut progress: impl FnMut(u64),
+) -> Result<(), Failure> {
+    let mut lines = Lines::new(input);
+    let mut before = Vec::new();
+    let mut totals = Totals::default();
+    let mut piece: Option<Piece> = None;
+    loop {
+        let number = lines.number() + 1;
+        let torn = || Failure::Torn(format!("{name}: line {number} is none of scatter's, sorted"));
+        let line = match lines.next().map_err(|reason| Failure::Unread(name.to_owned(), reason))? {
+            Next::Line(line) => line,
+            Next::Torn => return Err(torn()),
+            Next::End => break,
+        };
+        if line < &before[..] {
+            return Err(torn());
+        }
+        if let Some(counts) = line.strip_prefix(COUNTS) {
+            let counts = Counts::read(Rest(counts)).ok_or_else(torn)?;
+            counts.append_to(Line::default().starting(b"3S")).write(out)?;
+            continue;
+        }
+        let mut rest = Rest(line);
+        let pid = rest.pid().ok_or_else(torn)?;
+        if piece.as_ref().is_some_and(|piece| piece.pid != pid) {
+            finish(piece.take(), &mut totals, out)?;
+            progress(totals.lines.events());
+        }
+        let is_repeated = line == &before[..];
+        let kind = piece.get_or_insert_with(|| Piece::new(pid)).take(rest, is_repeated);
+        totals.lines.count(kind.ok_or_else(torn)?);
+        before.clear();
+        before.extend_from_slice(line);
+    }
+    finish(piece, &mut totals, out)?;
+    totals.write(out)?;
+    Ok(out.flush()?)
+}
+
+fn finish(piece: Option<Piece>, totals: &mut Totals, out: &mut impl Write) -> io::Result<()> {
+    let Some(piece) = piece else {
+        return Ok(());
+    };
+    if piece.parts.is_empty() {
+        return Line::default().starting(b"0").pid(piece.pid).write(out);
+    }
+    totals.processes += 1;
+    match gemshowal::judge_piece(piece.pid, &piece.events, &piece.receipts) {
+        Some(found) => piece.write_reason(found, out)?,
+        None => totals.unreported += piece.unreported(),
+    }
+    piece.write_parts(out)
+}
+
+impl Piece {
+    fn new(pid: Pid) -> Piece {
+        Piece { pid, parts: Vec::new(), events: Vec::new(), receipts: Vec::new() }
+    }
+
+    /// Takes the next line of the process, and returns its kind; none if it isn't as `scatter` and
+    /// a sort would have it.
+    fn take(&mut self, mut rest: Rest<'_>, is_repeated: bool) -> Option<u8> {
+        rest.skip(b'\t')?;
+        let kind = rest.byte()?;
+        if is_repeated && kind != b'3' {
+            return None;
+        }
+        match kind {
+            b'0' => self.list(rest)?,
+            b'1' => self.report(rest)?,
+            b'2' => self.receive(rest)?,
+            b'3' => rest.end()?,
+            _ => return None,
+        }
+        Some(kind)
+    }
+
+    fn list(&mut self, mut rest: Rest<'_>) -> Option<()> {
+        let place = Place(rest.number()?);
+        rest.end()?;
+        self.parts.push((place.part(), 0));
+        (place.index() == 0).then_some(())
+    }
+
+    fn report(&mut self, mut rest: Rest<'_>) -> Option<()> {
+        let place = Place(rest.number()?);
+        rest.skip(b' ')?;
+        let event = read_event(rest.0)?;
+        let at = self.at(place)?;
+        let count = &mut self.parts[at].1;
+        let is_next = place.index() == *count;
+        *count += 1;
+        self.events.push(event);
+        (is_next && event.is_own(self.pid)).then_some(())
+    }
+
+    fn receive(&mut self, mut rest: Rest<'_>) -> Option<()> {
+        let count = rest.number()?;
+        rest.skip(b' ')?;
+        let pid = rest.pid()?;
+        rest.skip(b' ')?;
+        let place = Place(rest.number()?);
+        rest.skip(b' ')?;
+        let event = read_event(rest.0)?;
+        let index = if pid == self.pid { self.index(place)? } else { place.0 };
+        self.receipts.push(Receipt { pid, index, event });
+        let is_receipt = event.kind == Kind::Receive && event.to == Some(pid);
+        (is_receipt && event.from == self.pid && event.serial.this == count).then_some(())
+    }
+
+    /// Returns where the place's part is among the parts.
+    fn at(&self, place: Place) -> Option<usize> {
+        self.parts.binary_search_by_key(&place.part(), |&(part, _)| part).ok()
+    }
+
+    /// Returns the index, among all events of the process, of that at this place.
+    fn index(&self, place: Place) -> Option<u64> {
+        let at = self.at(place)?;
+        let before: u64 = self.parts[..at].iter().map(|&(_, count)| count).sum();
+        (place.index() < self.parts[at].1).then_some(before + place.index())
+    }
+
+    /// Returns the place of an event: its index, if it isn't this process's, is one already.
+    fn place(&self, pid: Pid, mut index: u64) -> Place {
+        if pid != self.pid {
+            return Place(index);
+        }
+        for &(part, count) in &self.parts {
+            match index.checked_sub(count) {
+                None => return Place::new(part, index),
+                Some(rest) => index = rest,
+            }
+        }
+        Place(index)
+    }
+
+    fn event(&self, pid: Pid, index: u64) -> Option<&Event> {
+        if pid == self.pid {
+            return self.events.get(index as usize);
+        }
+        let is_there = |receipt: &&Receipt| (receipt.pid, receipt.index) == (pid, index);
+        self.receipts.iter().find(is_there).map(|receipt| &receipt.event)
+    }
+
+    /// Returns how many of its messages were received, and not reported as sent. The counts rise on
+    /// both sides, since no reason holds.
+    fn unreported(&self) -> u64 {
+        let mut stamps = self.events.iter().filter(|event| event.kind != Kind::Receive).peekable();
+        let is_hidden = |receipt: &&Receipt| {
+            let count = receipt.event.serial.this;
+            while stamps.next_if(|stamp| stamp.serial.this < count).is_some() {}
+            stamps.peek().is_none_or(|stamp| stamp.serial.this != count)
+        };
+        self.receipts.iter().filter(is_hidden).count() as u64
+    }
+
+    fn write_reason(&self, found: PlacedReason, out: &mut impl Write) -> io::Result<()> {
+        let against = Against::by_complete(found.pid, found.index, found.never);
+        let mut line = Line::default();
+        line.starting(b"1").bytes(against.word().as_bytes());
+        let places = [Some((found.pid, found.index)), against.other()];
+        for (pid, index) in places.into_iter().flatten() {
+            line.byte(b'\t').pid(pid).number(self.place(pid, index).0).byte(b'\t');
+            self.put_event(pid, index, &mut line);
+        }
+        line.write(out)
+    }
+
+    fn put_event(&self, pid: Pid, index: u64, line: &mut Line) {
+        let text = self.event(pid, index).map(|event| Text(event).to_string());
+        line.bytes(text.unwrap_or_default().as_bytes());
+    }
+
+    /// Writes how many events of the process are in each part, if it is in others than the first.
+    fn write_parts(&self, out: &mut impl Write) -> io::Result<()> {
+        if self.parts.iter().all(|&(part, _)| part == 0) {
+            return Ok(());
+        }
+        self.parts.iter().try_for_each(|&(part, count)| {
+            let mut line = Line::default();
+            line.starting(b"2").pid(self.pid).number(Place::new(part, count).0).write(out)
+        })
+    }
+}
+
+impl Totals {
+    fn write(&self, out: &mut impl Write) -> io::Result<()> {
+        self.lines.append_to(Line::default().starting(b"3T")).write(out)?;
+        Line::default().starting(b"4").number(self.processes).number(self.unreported).write(out)
+    }
+}

@@ -1,0 +1,128 @@
+//! The verdict of `complete` on traces of any size. `scatter` and `judge` are filters before and
+//! behind any sort by lines, `gather` says the verdict, and `verdict` runs all three around `sort`.
+//! Each is a function of its input's bytes, so whoever runs them on many machines may run them
+//! again.
+
+mod gather;
+mod judge;
+mod record;
+mod scatter;
+#[cfg(test)]
+mod split;
+mod text;
+mod verdict;
+mod words;
+
+pub(crate) use self::words::Pieces;
+
+use self::words::Scatter;
+use crate::input::Input;
+use crate::{output, Failure, Status};
+use std::fs::File;
+use std::io::{self, BufRead, BufReader, BufWriter, Write};
+use std::os::fd::AsFd;
+use std::path::{Path, PathBuf};
+
+/// The bytes that are read at once.
+const BUFFER: usize = 1 << 20;
+
+/// The lines of a text, without their ends.
+struct Lines<R> {
+    input: R,
+    line: Vec<u8>,
+    number: u64,
+}
+
+/// The next line of a text, or its end.
+enum Next<'a> {
+    Line(&'a [u8]),
+    /// The last line has no end.
+    Torn,
+    End,
+}
+
+impl<R: BufRead> Lines<R> {
+    fn new(input: R) -> Lines<R> {
+        Lines { input, line: Vec::new(), number: 0 }
+    }
+
+    /// Returns how many lines were read.
+    fn number(&self) -> u64 {
+        self.number
+    }
+
+    fn next(&mut self) -> io::Result<Next<'_>> {
+        self.line.clear();
+        if self.input.read_until(b'\n', &mut self.line)? == 0 {
+            return Ok(Next::End);
+        }
+        self.number += 1;
+        Ok(match self.line.split_last() {
+            Some((b'\n', line)) => Next::Line(line),
+            _ => Next::Torn,
+        })
+    }
+}
+
+fn open(file: &Path) -> Result<(String, impl BufRead), Failure> {
+    let input = Input::open(file)?;
+    Ok((input.line_name().to_owned(), BufReader::with_capacity(BUFFER, input.into_reader())))
+}
+
+/// Numbers the parts from this one on.
+fn parts(files: &[PathBuf], first: u16) -> Result<impl Iterator<Item = (&PathBuf, u16)>, Failure> {
+    if files.len() > usize::from(u16::MAX - first) + 1 {
+        return Err(Failure::Torn(format!("the number of a part is above {}", u16::MAX)));
+    }
+    Ok(files.iter().zip(first..=u16::MAX))
+}
+
+/// Returns standard output, written in large pieces, or nowhere.
+fn standard_output(is_quiet: bool) -> io::Result<BufWriter<File>> {
+    let file = if is_quiet {
+        File::create("/dev/null")?
+    } else {
+        File::from(io::stdout().as_fd().try_clone_to_owned()?)
+    };
+    Ok(BufWriter::with_capacity(BUFFER, file))
+}
+
+/// Runs one of the commands, and returns the status.
+pub(crate) fn run(pieces: &Pieces, is_quiet: bool) -> u8 {
+    run_command(pieces, is_quiet).map_or_else(
+        |failure| {
+            output::complain(format_args!("error: {failure}\n"));
+            failure.status()
+        },
+        |status| status as u8,
+    )
+}
+
+fn run_command(pieces: &Pieces, is_quiet: bool) -> Result<Status, Failure> {
+    let mut out = standard_output(is_quiet)?;
+    let status = match pieces {
+        Pieces::Scatter(args) => scatter_files(args, &mut out)?,
+        Pieces::Judge(args) => {
+            let (name, input) = open(&args.file)?;
+            judge::judge(&name, input, &mut out, |_| ())?;
+            Status::Yes
+        }
+        Pieces::Gather(args) => {
+            let (name, input) = open(&args.file)?;
+            gather::gather(&name, input, &mut out)?
+        }
+        Pieces::Verdict(args) => verdict::verdict(args, &mut out)?,
+    };
+    out.flush()?;
+    Ok(status)
+}
+
+fn scatter_files(args: &Scatter, out: &mut impl Write) -> Result<Status, Failure> {
+    let mut scatter = scatter::Scatter::new(out);
+    for (file, part) in parts(&args.files, args.part)? {
+        let (name, input) = open(file)?;
+        scatter.take(part, &name, input, |_| ())?;
+    }
+    scatter.finish()?;
+    Ok(Status::Yes)
+}

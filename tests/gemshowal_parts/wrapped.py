@@ -1,0 +1,102 @@
+"""The `audit` of traces whose counters have wrapped, by the laws of a standard node: sentences about traces worked out by hand,
+and random runs of a node, judged by a slow model (`tests/models/slow_node.py`)."""
+
+import json
+import random
+
+import slow_node
+from hostile_use.program import Check
+
+RUNS = 60
+SERIAL = slow_node.SERIAL
+
+PARENT, CHILD, OTHER = "<0.30.0>", "<0.31.0>", "<0.32.0>"
+
+
+def line(kind, prev, this, sender=PARENT, to=CHILD, value=7, label=1):
+    to = "[]" if kind == "print" else to
+    return f"{{seq_trace,{label},{{{kind},{{{prev},{this}}},{sender},{to},{value}}}}}\n"
+
+
+def trace(*streams):
+    pids = (PARENT, CHILD, OTHER)
+    return ("seqtrace 3\n" + "".join(f"process {pid}\n{''.join(lines)}" for pid, lines in zip(pids, streams))).encode()
+
+
+REQUEST, BORN = line("send", 0, 1), line("'receive'", 0, 1)
+REPLY, ANSWER = (line(kind, 1, 2, CHILD, PARENT, 8) for kind in ("send", "answer"))
+SPAWN = ([REQUEST, ANSWER], [BORN, REPLY])
+
+
+def spawn(parent=(), child=(), other=()):
+    return trace([*SPAWN[0], *parent], [*SPAWN[1], *child], list(other))
+
+
+# What it is, the text, the status, and the sentences in their order.
+SAID = (
+    ("a spawn, whose answer multiplies the counter by 16", spawn([line("print", 47, 48)]), 0,
+     ["fits: 5 events of 3 processes; nothing is known to be missing\n", "This answer is not proved"]),
+    ("the same as an ordinary receive", spawn([line("print", 47, 48)]).replace(b"{answer,", b"{'receive',"), 0,
+     ["fits if something wasn't reported: 1 of 3 serials isn't explained by what was\n",
+      "  <0.30.0>#2 {47,48}: nothing that <0.30.0> had gives it\n"]),
+    ("the greatest count, and the least after it", trace([line("print", 0, 1), line("'receive'", 3, 2**59 - 1, CHILD, PARENT),
+                                                          line("print", 2**59 - 1, -2**59), line("print", 2**59 - 1, 1 - 2**59)],
+                                                         [line("send", 3, 2**59 - 1, CHILD, PARENT)], []), 0,
+     ["fits if something wasn't reported: 1 of 4 serials isn't explained by what was\n", "  <0.31.0>#0 {3,576460752303423487}: "]),
+    ("a token that was put back", spawn([line("print", 47, 48), line("print", 0, 2)]), 0,
+     ["; nothing is known to be missing; 1 token was put back\n", "  <0.30.0>#3: the token of <0.30.0>#0 was put back\n"]),
+    ("a token that was put back before a receive", spawn([line("print", 47, 48), line("'receive'", 1, 3, CHILD, PARENT, 9), line("print", 3, 4)],
+                                                         [line("send", 1, 3, CHILD, PARENT, 9)]), 0,
+     ["; 1 token was put back\n", "  <0.30.0>#4: a token that it had made, {0,0}, was put back before <0.30.0>#3\n"]),
+    ("a receive that wasn't reported", spawn([], [line("send", 1, 3, CHILD, OTHER, 9)], [line("print", 3, 4, OTHER)]), 0,
+     ["fits if something wasn't reported: 1 of 4 serials isn't explained by what was\n",
+      "  <0.32.0>#0 {3,4}: the receive of <0.31.0>#2 (value 9) wasn't reported\n"]),
+    ("a token that was handed over", spawn([], [], [line("print", 1, 3, OTHER)]), 0,
+     ["  <0.32.0>#0 {1,3}: nothing that <0.32.0> had gives it; the token of <0.31.0>#1, {1,2} of the same label, does: was it handed over?\n"]),
+    ("counts that nobody has", spawn([line("print", 47, 50)]), 0,
+     ["  <0.30.0>#2 {47,50}: 2 counts before it that no event here has: what <0.30.0> may have sent or printed unreported\n"]),
+    ("a message that waits", spawn([], [line("send", 1, 3, CHILD, OTHER, 9)]), 0,
+     ["; 1 message has no reported receive, and may still wait\n"]),
+    ("a send that wasn't reported", trace([ANSWER], [BORN], []), 0,
+     ["fits if something wasn't reported: 2 receives have no reported send\n", "  <0.30.0>#0: the send of value 8 by <0.31.0> wasn't reported\n"]),
+    ("a message that is received twice", spawn([], [BORN]), 1,
+     ["doesn't fit: messages were received more often than they were sent: <0.31.0>#2\n"]),
+    ("messages of which each is sent after the other came", trace([line("'receive'", 0, 1, CHILD, PARENT), line("send", 1, 2)],
+                                                                  [line("'receive'", 1, 2), line("send", 0, 1, CHILD, PARENT)], []), 1,
+     ["doesn't fit: in no order of the events does each receive come after its send, because of <0.30.0>#0, <0.31.0>#0\n"]),
+    ("no events", trace([], [], []), 1, ["nothing to audit: the trace has no events\n"]),
+)
+FAULTS = (("a count with a plus", b"{0,1}", b"{0,+1}", b"line 3 "), ("a count that no node has", b"{1,2}", b"{1,576460752303423488}", b"line 4 "),
+          ("a word that is no kind", b"{answer,", b"{answers,", b"line 4 "), ("a pid that isn't listed", b"process <0.32.0>\n", b"", None))
+
+
+def sentences(program):
+    for what, text, status, wanted in SAID:
+        got = program.run(("audit",), text)
+        said, at = got.output.decode() + got.complaint.decode(), 0
+        for words in wanted:
+            at = said.find(words, max(at, 0))
+        is_right = at >= 0 and got.status == status
+        yield Check(f"audit of a wrapped trace: {what}", None if is_right else f"wanted {status} {wanted}\ngot {got.status} {said}")
+    for what, old, new, named in FAULTS:
+        text = spawn(other=[line("print", 0, 1, OTHER)])
+        got = program.run(("audit",), text.replace(old, new, 1))
+        is_right = got.status == (0 if named is None else 2) and (named or b"") in got.complaint
+        yield Check(f"audit of a wrapped trace: {what}", None if is_right or named is None and got.status == 2 else str(got))
+    for words in (("--acts", "acts.txt"), ("--each-label",), ("--label", "1"), ("--proved",)):
+        got = program.run(("audit", *words), spawn())
+        is_right = got.status == 2 and b"as a whole" in got.complaint and not got.output
+        yield Check(f"audit {words[0]} of a wrapped trace", None if is_right else str(got))
+
+
+def random_runs(program):
+    for seed in range(RUNS):
+        rng = random.Random(seed)
+        streams = slow_node.streams_of(rng, rng.randint(5, 200), hands_over=seed % 3 == 1, lossy=seed % 2 == 1)
+        judged = slow_node.judge(streams)
+        got = program.run(("audit", "--json"), slow_node.text(streams).encode())
+        told = json.loads(got.output)
+        named = {"unsent": judged.unsent, "cycle": judged.cycle, "put_backs": judged.put_backs, "unexplained": judged.ungiven}
+        wrong = [f"{key}: {found} for {wanted}" for key, wanted in named.items()
+                 if (found := [(it["pid"], it["index"]) for it in told.get(key, [])]) != [(f"<0.{pid}.0>", i) for pid, i in wanted]]
+        yield Check(f"audit of the wrapped run {seed}", "\n".join(wrong) or None)
