@@ -11,7 +11,6 @@
 %% An atom has at most this many characters, and a function as many arguments.
 -define(LONGEST, 255).
 
-%% A function with a condition on its arguments.
 -define(WITH_CONDITION, "^([^:(]+):([^:(]+)(\\(.*)$").
 
 -type triggering() :: {mfa(), [{Head :: '_' | [term()], Guards :: [term()]}
@@ -71,8 +70,7 @@ label(Word) ->
 
 no_label(Word) ->
     {error, text("~ts can't be a label; it is an Erlang term, a variable of the trigger for that "
-                 "argument, or _ for the "
-                 "number of the call", [Word])}.
+                 "argument, or _ for the number of the call", [Word])}.
 
 %% @doc The function as {@link function/1} reads it, with this label in each clause.
 -spec labelled(string(), erl_parse:abstract_expr()) -> {ok, triggering()} | {error, string()}.
@@ -111,8 +109,7 @@ with_condition(Module, Function, Condition, Label, Word) ->
             end;
         _ ->
             {error, text("~ts isn't a function with a condition; it is written module:function(A, "
-                         "B) when A > B",
-                         [Word])}
+                         "B) when A > B", [Word])}
     end.
 
 list(Elements, Place) ->

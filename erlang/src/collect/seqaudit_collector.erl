@@ -1,28 +1,16 @@
 %% @doc Collects the events of one node on its own disk, in memory that is bounded.
 %%
-%% A collector takes the place of the node's system tracer when it starts, and puts the former one
-%% back when it stops, when its owner ends, or when the owner's node was lost and isn't back in a
-%% minute. Events go to files of {@link seqaudit_spool} as they come, by one of two ways:
-%% <ul>
-%% <li>A trace port of `runtime_tools' writes wrapped files: once they have their total size, the
-%% oldest events are written over. How many bytes came is known, so what was lost is known too.
-%% {@link seqaudit_watch} takes the tracer off while the port is behind, and notes when that
-%% was.</li>
-%% <li>If `runtime_tools' isn't there, the collector itself is the tracer. It has the first events
-%% written up to the total size and counts those beyond; {@link seqaudit_scribe} writes them, so
-%% that the collector is always back at its queue. It looks at that with each event, and takes
-%% itself off when it grows faster than it is emptied.</li>
-%% </ul>
-%% A traced process pays for the write or the send of its events and waits for nothing. What a
-%% process is called is asked at the start, when the process is first seen, and at the end, by
-%% {@link seqaudit_asker}. When its files are exchanged, the former ones are closed by a process
-%% that does nothing else.
+%% A collector takes the place of the node's system tracer, and puts the former one back at its end.
+%% A trace port of `runtime_tools' writes wrapped files, and {@link seqaudit_watch} bounds what it
+%% holds. If there is no `runtime_tools', the collector itself is the tracer, {@link
+%% seqaudit_scribe} writes, and the collector takes itself off when its queue grows faster than it
+%% is emptied. A traced process waits for neither.
 %%
 %% The collector has no token of its own: it drops one that a stray message brings.
 -module(seqaudit_collector).
 -behaviour(gen_server).
 
--export([start/1, folder/1, most_bytes/0, rotate_all/1, stop_all/1, adopt/2, names/1]).
+-export([start/1, folder/1, most_bytes/0, rotate_all/1, stop_all/1, adopt/2]).
 -export([init/1, handle_continue/2, handle_call/3, handle_cast/2, handle_info/2, terminate/2]).
 -export_type([options/0, use/0]).
 
@@ -35,7 +23,6 @@
 -define(LOOK_BYTES, 262_144).
 %% Processes that are asked what they are called; a node may have millions.
 -define(PROCESSES, 20_000).
-%% The wrapped files share the total size.
 -define(FILES, 8).
 %% A trace port takes no larger file.
 -define(FILE_BYTES, 16#FFFF_FFFF).
@@ -45,21 +32,15 @@
 %% in a queue takes up to eight times the bytes that it has in a file.
 -define(QUEUE_BYTES, 8_388_608).
 -define(QUEUE_FACTOR, 8).
-%% It has so many bytes written at once.
 -define(BUFFER_BYTES, 65_536).
 %% The owner's node may come back within this time, as after a net split.
 -define(GRACE_MS, 60_000).
 
--type options() :: #{owner := pid(), limit => non_neg_integer(), reset => boolean(),
-                     bytes => pos_integer(), port => boolean(), folder => file:filename() | default,
-                     trigger => seqaudit_trigger:trigger() | none, grace => non_neg_integer(),
-                     take_over => boolean()}.
-%% `owner': the process whose end ends the collector; `limit': how many events are kept, if the
-%% collector itself is the tracer; `reset': whether `seq_trace:reset_trace/0' is called first, so
-%% that all clocks begin at 0; `bytes': the total size of the files; `port': whether to use a trace
-%% port, if there is one; `folder': in which folder the files' own folder is made; `grace': how many
-%% milliseconds an owner may be out of reach; `take_over': whether a collector whose owner is out of
-%% reach is ended first.
+-type options() :: #{owner := pid(), reset => boolean(), bytes => pos_integer(),
+                     port => boolean(), folder => file:filename() | default,
+                     trigger => seqaudit_trigger:trigger() | none, grace => non_neg_integer()}.
+%% `owner': the process whose end ends the collector; `grace': how many milliseconds it may be out
+%% of reach. The others are those of {@link seqaudit_trace:options()}.
 
 -type use() :: #{owner := node(), folder := file:filename(), left := non_neg_integer() | led}.
 %% For whose node a collector works, and how many milliseconds it still waits for it, if that is out
@@ -68,9 +49,8 @@
 -type tracer() :: pid() | port() | {module(), term()} | false.
 
 -record(state, {owner :: reference(),
-                owner_node :: node(),
+                leader :: pid(),
                 folder :: file:filename(),
-                limit :: non_neg_integer() | infinity,
                 bytes :: pos_integer(),
                 grace :: non_neg_integer(),
                 trigger :: seqaudit_trigger:trigger() | none | {pulled, seqaudit_trigger:pulled()},
@@ -83,7 +63,6 @@
                 %% All events since the start and their bytes, if the collector itself is the
                 %% tracer.
                 came = {0, 0} :: {non_neg_integer(), non_neg_integer()},
-                kept = 0 :: non_neg_integer(),
                 written = 0 :: non_neg_integer(),
                 dropped = 0 :: non_neg_integer(),
                 strays = 0 :: non_neg_integer(),
@@ -109,15 +88,8 @@ start(Options) ->
 
 %% There is one already, or was when it was asked.
 start_beside(Other, Options) ->
-    Monitor = monitor(process, Other),
-    try gen_server:call(Other, {in_use, maps:get(take_over, Options, false)}) of
-        {in_use, Use} ->
-            demonitor(Monitor, [flush]),
-            {error, {in_use, Use}};
-        ends ->
-            receive {'DOWN', Monitor, process, _, _} -> start(Options) end
-    catch
-        exit:{noproc, _} -> start(Options)
+    try {error, {in_use, gen_server:call(Other, in_use)}}
+    catch exit:{noproc, _} -> start(Options)
     end.
 
 %% @doc The folder to which the events go.
@@ -133,43 +105,25 @@ most_bytes() -> ?FILES * ?FILE_BYTES.
 %% came before. No event is lost between. If a collector has ended or is gone, the list says so in
 %% its place.
 -spec rotate_all([pid()]) -> [{ok, file:filename()} | {error, ended | {gone, term()} | term()}].
-rotate_all(Collectors) ->
-    Requests = [gen_server:send_request(Collector, rotate) || Collector <- Collectors],
-    [case gen_server:receive_response(Request, infinity) of
-         {reply, Reply} -> Reply;
-         {error, {Reason, _}} -> {error, {gone, Reason}}
-     end || Request <- Requests].
+rotate_all(Collectors) -> ask_all(rotate, Collectors).
 
 %% @doc Takes the collectors off, all at the same time: each puts the former tracer back, waits for
 %% events on their way, and ends. Its facts are in its folder. If a collector is gone, the list
 %% says why in its place.
--spec stop_all([pid()]) -> [ok | {error, term()}].
-stop_all(Collectors) ->
-    Requests = [gen_server:send_request(Collector, stop) || Collector <- Collectors],
-    [case gen_server:receive_response(Request, infinity) of
-         {reply, ok} -> ok;
-         {error, {Reason, _}} -> {error, Reason}
-     end || Request <- Requests].
+-spec stop_all([pid()]) -> [ok | {error, {gone, term()}}].
+stop_all(Collectors) -> ask_all(stop, Collectors).
+
+ask_all(Request, Collectors) ->
+    Requests = [gen_server:send_request(Collector, Request) || Collector <- Collectors],
+    [case gen_server:receive_response(Each, infinity) of
+         {reply, Reply} -> Reply;
+         {error, {Reason, _}} -> {error, {gone, Reason}}
+     end || Each <- Requests].
 
 %% @doc Makes this process the owner of a collector whose owner, or the way to it, was lost.
 -spec adopt(pid(), pid()) -> ok.
 adopt(Collector, Owner) ->
     gen_server:call(Collector, {adopt, Owner}).
-
-%% @doc Asks what these processes of this node are called, each given by its bytes in the external
-%% term format.
--spec names([binary()]) -> #{pid() => seqaudit_spool:about()}.
-names(Processes) ->
-    maps:from_list([{Pid, About} || Bytes <- Processes, Pid <- local(Bytes),
-                                    About <- [seqaudit_spool:about(Pid)], About =/= #{}]).
-
-local(Bytes) ->
-    try binary_to_term(<<131, Bytes/binary>>, [safe]) of
-        Pid when is_pid(Pid), node(Pid) =:= node() -> [Pid];
-        _ -> []
-    catch
-        error:badarg -> []
-    end.
 
 %% @private
 -spec init(options()) -> {ok, #state{}, {continue, names}} | {stop, {shutdown, term()}}.
@@ -179,9 +133,8 @@ init(#{owner := Owner} = Options) ->
     _ = seq_trace:set_token([]),
     case seqaudit_spool:create(maps:get(folder, Options, default)) of
         {ok, Folder} ->
-            State = #state{owner = monitor(process, Owner), owner_node = node(Owner),
+            State = #state{owner = monitor(process, Owner), leader = Owner,
                            folder = Folder,
-                           limit = maps:get(limit, Options, infinity),
                            bytes = maps:get(bytes, Options, ?BYTES),
                            grace = maps:get(grace, Options, ?GRACE_MS),
                            trigger = maps:get(trigger, Options, none),
@@ -285,21 +238,19 @@ handle_continue(names, State) ->
 
 %% @private
 -spec handle_call(term(), gen_server:from(), #state{}) ->
-          gone_on() | {reply, term(), #state{}} | {stop, normal, ends, #state{}}.
+          gone_on() | {reply, term(), #state{}}.
 handle_call(folder, _From, State) ->
     {reply, State#state.folder, State};
 handle_call({adopt, Owner}, _From, State) ->
     demonitor(State#state.owner, [flush]),
-    {reply, ok, State#state{owner = monitor(process, Owner), owner_node = node(Owner),
+    {reply, ok, State#state{owner = monitor(process, Owner), leader = Owner,
                             lost = undefined}};
-handle_call({in_use, true}, _From, #state{lost = Lost} = State) when Lost =/= undefined ->
-    {stop, normal, ends, close(take_off(ended(taken_over, State)))};
-handle_call({in_use, _}, _From, #state{owner_node = Owner, folder = Folder, lost = Lost} = State) ->
+handle_call(in_use, _From, #state{leader = Leader, folder = Folder, lost = Lost} = State) ->
     Left = case Lost of
                undefined -> led;
                _ -> case erlang:read_timer(Lost) of false -> 0; Milliseconds -> Milliseconds end
            end,
-    {reply, {in_use, #{owner => Owner, folder => Folder, left => Left}}, State};
+    {reply, #{owner => node(Leader), folder => Folder, left => Left}, State};
 handle_call(rotate, From, #state{tracer = on, ended = no, turning = no, by = {port, _}} = State) ->
     go_on(turn_port(From, State));
 handle_call(rotate, From, #state{tracer = on, ended = no, turning = no} = State) ->
@@ -380,24 +331,22 @@ stray(State) ->
     _ = seq_trace:set_token([]),
     go_on(State#state{strays = State#state.strays + 1}).
 
-%% Only the first end is one. Whoever waits at the owner's node hears of it at once; nobody waits
-%% for that message.
-ended(Why, #state{ended = no, owner_node = Owner} = State) ->
-    _ = erlang:send({seqaudit_sight, Owner}, {ended, node(), Why}, [noconnect, nosuspend]),
+%% Only the first end is one. Whoever leads the collector hears of it at once; nobody waits for that
+%% message.
+ended(Why, #state{ended = no, leader = Leader} = State) ->
+    _ = erlang:send(Leader, {ended, node(), Why}, [noconnect, nosuspend]),
     State#state{ended = {Why, erlang:universaltime()}};
 ended(_Why, State) -> State.
 
-%% If the collector itself is the tracer, it writes the event.
-event(Event, Info, #state{by = {scribe, _}, kept = Kept, written = Written} = State0) ->
+event(Event, Info, #state{by = {scribe, _}, written = Written} = State0) ->
     Bytes = term_to_binary(Event),
     Size = byte_size(Bytes) + 5,
     {Events, Sum} = State0#state.came,
     State = State0#state{came = {Events + 1, Sum + Size}},
-    case Kept < State#state.limit andalso Written + Size =< State#state.bytes of
+    case Written + Size =< State#state.bytes of
         true ->
             Buffered = buffer([<<0, (byte_size(Bytes)):32>>, Bytes], Size, State),
-            look_at_queue(meet_all([Info], Buffered#state{kept = Kept + 1,
-                                                          written = Written + Size}));
+            look_at_queue(meet_all([Info], Buffered#state{written = Written + Size}));
         false ->
             look_at_queue(State#state{dropped = State#state.dropped + 1})
     end;
@@ -491,7 +440,6 @@ info(Bytes) ->
         error:badarg -> []
     end.
 
-%% Asks what the events' processes are called, once each.
 meet_all(Infos, State) ->
     meet(lists:usort([Pid || {_Kind, _Serial, From, To, _Message} <- Infos, Pid <- [From, To],
                              is_pid(Pid), node(Pid) =:= node()]), State).
@@ -524,14 +472,12 @@ take_off(Behind, #state{by = By, former = Former} = State) ->
                              {false, _} -> taken
                          end}.
 
-%% Whether the tracer may be off because the port was behind.
 unwatched(#state{watch = none} = State) ->
     {false, State};
 unwatched(#state{watch = Watch} = State) ->
     {Behind, Paused} = seqaudit_watch:stop(Watch),
     {Behind, State#state{watch = none, paused = Paused}}.
 
-%% Nobody else's tracer is in the place of this one.
 is_own(_Behind, #state{by = closed}) -> false;
 is_own(Behind, #state{by = By}) ->
     case seq_trace:get_system_tracer() of
@@ -548,7 +494,6 @@ put_back(Former) ->
             gone
     end.
 
-%% Makes the folder of the next files, and notes its first facts.
 new_folder(By, #state{folder = Former} = State) ->
     Parent = filename:dirname(Former),
     Facts = first_facts(By, State),
@@ -604,9 +549,8 @@ turn(true, From, Folder, By, #state{asker = Asker} = Former) ->
     Finished = Former#state{tracer = put_back, met = #{}},
     Finisher = spawn(fun() -> finish(Finished, Turned, From, Folder) end),
     ok = seqaudit_asker:turn(Folder, {Finisher, Turned}, Asker),
-    Begun = Former#state{folder = Folder, by = By, paused = #{}, buffer = {0, []}, kept = 0,
-                         written = 0, dropped = 0,
-                         strays = 0, look = {0, 0}, met = #{}},
+    Begun = Former#state{folder = Folder, by = By, paused = #{}, buffer = {0, []},
+                         written = 0, dropped = 0, strays = 0, look = {0, 0}, met = #{}},
     Begun#state{watch = watch(By, Begun)};
 turn(false, From, Folder, By, State) ->
     _ = closed(State#state{by = By}),
@@ -626,12 +570,11 @@ not_turned(Reply, #state{turning = {From, _}} = State) ->
     gen_server:reply(From, Reply),
     State#state{turning = no}.
 
-%% Closes the files and writes the last facts beside them.
 close(#state{turning = {_, Next}} = State) ->
     ok = seqaudit_scribe:drop(Next),
     close(not_turned({error, ended}, State));
 close(#state{asker = Asker} = State) ->
-    Closed = closed(flush(State)),
+    Closed = closed(tick(State)),
     _ = Asker =:= undefined orelse seqaudit_asker:close(Asker),
     _ = seqaudit_spool:note(State#state.folder, last_facts(Closed)),
     Closed#state{asker = undefined}.

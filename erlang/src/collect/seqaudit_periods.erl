@@ -18,23 +18,20 @@
 %% Kept periods that stay if the command isn't told how many: the last ones.
 -define(KEPT, 100).
 
--type options() :: #{name := file:filename(), every := pos_integer(), keep => pos_integer(),
-                     again => fun((node()) -> term())}.
+-type options() :: #{name := file:filename(), every := pos_integer(), keep => pos_integer()}.
 %% `name': what the files of each period are called, with the number of the period behind it;
 %% `every': its length in milliseconds; `keep': how many periods that didn't fit, or are neighbours
-%% of such, stay; `again': what to call with a node on which collecting had ended and began again.
+%% of such, stay.
 
 -record(state, {name :: file:filename(),
                 every :: pos_integer(),
                 keep :: pos_integer(),
                 asked :: reference(),
                 say :: fun((iodata()) -> ok),
-                again :: fun((node()) -> term()),
                 number = 1 :: pos_integer(),
                 %% Events after the cut of the last period.
                 rest = [] :: [file:filename()],
                 last = none :: none | fits | unfit,
-                %% A period that fits, whose next neighbour isn't known yet.
                 open = none :: none | pos_integer(),
                 kept = [] :: [pos_integer()],   % last first
                 unfit = 0 :: non_neg_integer()}).
@@ -43,9 +40,7 @@
 -spec watch(options(), reference(), fun((iodata()) -> ok)) -> ?FITS | ?UNFIT | {?SYSTEM, iodata()}.
 watch(#{name := Name, every := Every} = Options, Asked, Say) ->
     run(#state{name = Name, every = Every, keep = maps:get(keep, Options, ?KEPT), asked = Asked,
-               say = Say,
-               again = maps:get(again, Options, fun(_) -> ok end)},
-        erlang:monotonic_time(millisecond)).
+               say = Say}, erlang:monotonic_time(millisecond)).
 
 run(#state{asked = Asked, every = Every} = State, Began) ->
     case seqaudit_signals:wait(Asked, max(0, Began + Every - erlang:monotonic_time(millisecond))) of
@@ -86,14 +81,11 @@ ended(#state{name = Name, number = Number, unfit = Unfit, open = Open, say = Say
                    Number])),
     case Unfit of 0 -> ?FITS; _ -> ?UNFIT end.
 
-%% Fetches the events of a period, and finds out whether they fit.
-audited(#state{name = Name, number = Number, rest = Rest, again = Again}) ->
+audited(#state{name = Name, number = Number, rest = Rest}) ->
     Period = name(Name, Number),
     Rotated = seqaudit_trace:rotate(Period),
-    _ = [Again(Node) || {Node, {again, _}} <- Rotated],
     Files = Rest ++ [File || {_, Written} <- Rotated, File <- file(Written)],
     case joined(Files, Period) of
-        %% No node was reached.
         {ok, []} ->
             outcome(Period, 0, ["" | lists:map(fun became/1, Rotated)], []);
         {ok, Joined} ->
@@ -179,7 +171,6 @@ cut(Files, false) ->
 
 part(File, Which) -> filename:rootname(File) ++ "." ++ Which ++ ".events".
 
-%% That nothing came is said in two words.
 outcome(Period, 0, [_ | Became], Later) ->
     Lost = lists:delete(list_to_binary(seqaudit_notes:nothing()), lost(Period)),
     {ok, fits, ["nothing came", losses(Lost), Became], Later};

@@ -47,7 +47,6 @@ written([{{File, Count}, {Before, Behind}} | Others]) ->
         {error, Reason} -> {error, Reason}
     end.
 
-%% How many events each file has, and where messages were sent and received.
 read([], Read) ->
     {Counts, Messages} = lists:unzip(lists:reverse(Read)),
     Ends = lists:foldl(fun({Number, Places}, Known) ->
@@ -96,24 +95,17 @@ moment({Counts, Messages}) ->
                                  Received =/= none orelse Place >= lists:nth(Number, Half)],
     moved(list_to_tuple(Counts), list_to_tuple(Half), Known, ?MOVES).
 
-%% Each send with its receive. Of several messages that are alike the first that is received at a
-%% node is the first that was sent: which it is makes no difference there. If they are received at
-%% several nodes, all of them are under way from the first send to the last receive.
+%% Each send with its receive. Several messages that are alike are under way from the first send to
+%% the last receive, and of those that weren't received the last sends are.
 -spec pairs([place()], [place()]) -> [{place(), place() | none}].
 pairs([], _Received) ->
     [];
 pairs(Sent, []) ->
     [{Send, none} || Send <- Sent];
-pairs([First | _] = Sent, [Received | _] = All) ->
-    case lists:usort([Number || {Number, _} <- All]) of
-        [_] -> in_turn(Sent, All);
-        _ -> [{First, Receive} || Receive <- All] ++ [{Send, Received} || Send <- Sent]
-                 ++ [{Send, none} || Send <- lists:nthtail(min(length(Sent), length(All)), Sent)]
-    end.
-
-in_turn([], _Received) -> [];
-in_turn([Send | Sent], [Receive | Received]) -> [{Send, Receive} | in_turn(Sent, Received)];
-in_turn(Sent, []) -> [{Send, none} || Send <- Sent].
+pairs([First | _] = Sent, Received) ->
+    {Taken, Left} = lists:split(min(length(Sent), length(Received)), Sent),
+    [{First, Receive} || Receive <- Received]
+        ++ [{Send, lists:last(Received)} || Send <- Taken] ++ [{Send, none} || Send <- Left].
 
 moved(_Ends, _Half, _Messages, 0) ->
     none;
@@ -161,8 +153,6 @@ split(File, Count, Before, Behind) ->
         {_, _, {error, Reason}} -> {error, Reason}
     end.
 
-%% The entries before the moment as they are, and what is behind it of each collection, the last
-%% first.
 entries(<<?EVENT, Size:32, Event:Size/binary, Rest/binary>>, 0, Former,
         [#later{events = Events} = Last | Later]) ->
     entries(Rest, 0, Former, [Last#later{events = [Event | Events]} | Later]);
@@ -207,7 +197,6 @@ later([#later{collection = Collection, facts = Facts, processes = Processes,
 map(Pairs) ->
     iolist_to_binary([<<116, (length(Pairs)):32>> | [[Key, Value] || {Key, Value} <- Pairs]]).
 
-%% Who sent and who received it.
 parties(<<131, Bytes/binary>>) ->
     case seqaudit_external:event(Bytes) of
         {ok, {_, _, _, From, To, _, _}} ->

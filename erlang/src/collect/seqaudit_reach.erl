@@ -121,9 +121,8 @@ host_says(Name, Host, {ok, Nodes}) ->
     case {lists:keymember(Name, 1, Nodes), Nodes} of
         {true, _} ->
             text("the name server (epmd) of ~ts knows it, but it doesn't let this command in; is "
-                 "the cookie the same, "
-                 "is the way to its port open, and if it speaks TLS, does this command "
-                 "(ERL_FLAGS)?", [Host]);
+                 "the cookie the same, is the way to its port open, and if it speaks TLS, does "
+                 "this command (ERL_FLAGS)?", [Host]);
         {false, []} ->
             text("the name server (epmd) of ~ts knows no node at all; is it running?", [Host]);
         {false, _} ->
@@ -140,8 +139,7 @@ host_says(_Name, Host, {error, Reason}) ->
 -spec format_error({cookie | distribution, term()}) -> string().
 format_error({cookie, none}) ->
     "there is no cookie; put it into a file (--cookie-file FILE, or ~/.erlang.cookie) or into the "
-    "variable "
-        "SEQAUDIT_COOKIE";
+    "variable SEQAUDIT_COOKIE";
 format_error({cookie, {file, File, Reason}}) ->
     text("the cookie can't be used: ~ts: ~ts", [File, file:format_error(Reason)]);
 format_error({cookie, {length, From}}) ->

@@ -8,9 +8,6 @@
 -export([listen/0, wait/2, output_closed/0]).
 -export([init/1, handle_event/2, handle_call/2]).
 
-%% A `receive' waits no longer.
--define(LONGEST_MS, 16#FFFF_FFFF).
-
 %% @doc From now on a signal is kept for {@link wait/2}.
 -spec listen() -> reference().
 listen() ->
@@ -21,11 +18,6 @@ listen() ->
 
 %% @doc Waits so many milliseconds, or for ever, or until the signal, which may have come already.
 -spec wait(reference(), timeout()) -> elapsed | asked.
-wait(Asked, Time) when is_integer(Time), Time > ?LONGEST_MS ->
-    case wait(Asked, ?LONGEST_MS) of
-        elapsed -> wait(Asked, Time - ?LONGEST_MS);
-        asked -> asked
-    end;
 wait(Asked, Time) ->
     receive
         Asked -> asked

@@ -6,21 +6,16 @@
 %% {ok, Summary} = seqaudit_trace:stop().
 %% '''
 %%
-%% `start' puts a {@link seqaudit_collector. collector} on each node, which writes to that node's
-%% own disk. `stop' takes them off, fetches what they wrote into `NAME.events', and writes the files
-%% of {@link seqaudit_convert}. Both take the caller's own token off first, so that nothing of this
-%% module enters the trace.
-%%
-%% A collection survives what happens to its nodes. A node that was out of reach is led on when it
-%% is back; of one that went down, of a collector and of a leader that were killed, what came before
-%% is read from the disk, and the notes say when and why it ended.
+%% `start' puts a {@link seqaudit_collector. collector} on each node, and `stop' fetches what they
+%% wrote and converts it. Both take the caller's own token off first, so that nothing of this module
+%% enters the trace. Of what ended meanwhile, what came before is read from the disk.
 -module(seqaudit_trace).
 -behaviour(gen_server).
 
 -export([start/0, start/1, stop/0, rotate/1, cancel/0, folders/0, with_trace/2, with_trace/3,
          bytes/0, format_error/1]).
 -export([init/1, handle_call/3, handle_cast/2, handle_info/2]).
--export_type([options/0, flag/0, rotated/0]).
+-export_type([options/0, flag/0, rotated/0, news/0]).
 
 -define(BYTES, 268_435_456).
 %% A trace file smaller than this is no use: a message is often as large.
@@ -37,24 +32,25 @@
 -define(REACH_MS, 500).
 %% A collector that has replied is gone within this time, and one that is gone is known to be.
 -define(END_MS, 5_000).
-%% Pieces of files that are fetched from another node.
 -define(PIECE, 1_048_576).
 %% The first release of OTP that has what collecting needs, and the first that the tests don't know.
 -define(LEAST_OTP, 25).
 
--type options() :: #{nodes => [node()], name => file:filename(), limit => non_neg_integer(),
-                     reset => boolean(), bytes => pos_integer(),
+-type options() :: #{nodes => [node()], name => file:filename(), reset => boolean(),
+                     bytes => pos_integer(),
                      folder => file:filename() | default,
                      trigger => seqaudit_trigger:trigger() | none, port => boolean(),
-                     take_over => boolean()}.
+                     tell => fun((node(), news()) -> term())}.
 %% `nodes': where to trace, this node alone if it isn't given; `name': the files' name without
 %% extension, `"seqaudit"' if it isn't given; `bytes': the total size of each node's files,
-%% 268,435,456 if it isn't given; `limit': how many events of each node are kept, all if it isn't
-%% given; `reset': whether `seq_trace:reset_trace/0' is called on each node first, which takes the
-%% tokens of all its users; `folder': where each node makes the folder for its files, its folder for
-%% temporary files if it isn't given; `trigger': functions whose callers get a token; `port':
-%% whether a trace port may be used, true if it isn't given; `take_over': whether a collector whose
-%% leader is out of reach is ended first, false if it isn't given.
+%% 268,435,456 if it isn't given; `reset': whether `seq_trace:reset_trace/0' is called on each node
+%% first, which takes the tokens of all its users; `folder': where each node makes the folder for
+%% its files, its folder for temporary files if it isn't given; `trigger': functions whose callers
+%% get a token; `port': whether a trace port may be used, true if it isn't given; `tell': what is
+%% called with the news of a node.
+
+-type news() :: away | back | {gone, Reason :: term()} | {ended, Reason :: term()}.
+%% A node can't be reached, or can be again; its collector is gone, or collects no more.
 
 -type flag() :: send | 'receive' | print
               | timestamp | strict_monotonic_timestamp | monotonic_timestamp.
@@ -79,8 +75,7 @@
                split = {0, 0} :: {Times :: non_neg_integer(), Milliseconds :: non_neg_integer()}}).
 
 -record(state, {name :: file:filename(),
-                limit :: non_neg_integer() | infinity,
-                %% How a collector is started.
+                tell :: fun((node(), news()) -> term()),
                 options :: map(),
                 nodes :: [#node{}],
                 %% The process that exchanges files, and who waits for it.
@@ -95,11 +90,10 @@ start() ->
 -spec start(options()) -> ok | {error, term()}.
 start(Options) ->
     _ = seq_trace:set_token([]),
-    Defaults = #{nodes => [node()], name => "seqaudit", limit => infinity, reset => false,
-                 bytes => ?BYTES, folder => default, trigger => none, port => true,
-                 take_over => false},
+    Defaults = maps:map(fun(_, {Default, _, _}) -> Default end, allowed()),
     All = maps:merge(Defaults, Options),
-    Wrong = [{Option, Value} || {Option, Value} <- maps:to_list(All), not is_valid(Option, Value)],
+    Wrong = [{Option, Value} || {Option, {_, IsAllowed, _}} <- maps:to_list(allowed()),
+                                Value <- [maps:get(Option, All)], not IsAllowed(Value)],
     case {maps:keys(maps:without(maps:keys(Defaults), Options)), Wrong, left_over()} of
         {[], [], none} -> started(gen_server:start({local, ?MODULE}, ?MODULE, All, []));
         {[], [], _} -> {error, left_over};
@@ -107,22 +101,32 @@ start(Options) ->
         {Unknown, _, _} -> {error, {unknown_options, Unknown}}
     end.
 
+%% Each option: its default, and what its values are.
+allowed() ->
+    #{nodes => {[node()], fun are_nodes/1, "it is a list of one or more node names"},
+      name => {"seqaudit", fun is_name/1, "it is the name of a file"},
+      reset => {false, fun is_boolean/1, "it is true or false"},
+      port => {true, fun is_boolean/1, "it is true or false"},
+      bytes => {?BYTES, fun is_size/1,
+                text("it is a whole number of bytes from ~b to ~b", tuple_to_list(bytes()))},
+      tell => {fun(_, _) -> ok end, fun(Tell) -> is_function(Tell, 2) end,
+               "it is a function of a node and its news"},
+      folder => {default, fun(Folder) -> Folder =:= default orelse is_name(Folder) end,
+                 "it is the name of a folder"},
+      trigger => {none, fun seqaudit_trigger:is_valid/1,
+                  "it is a map with function or functions, label, times, and perhaps calls"}}.
+
+are_nodes(Nodes) -> is_list(Nodes) andalso Nodes =/= [] andalso lists:all(fun is_atom/1, Nodes).
+
+is_name(Name) -> io_lib:char_list(Name) andalso Name =/= [].
+
+is_size(Bytes) ->
+    {Least, Most} = bytes(),
+    is_integer(Bytes) andalso Bytes >= Least andalso Bytes =< Most.
+
 started({ok, _}) -> ok;
 started({error, {shutdown, Reason}}) -> {error, Reason};
 started({error, Reason}) -> {error, Reason}.
-
-is_valid(nodes, Nodes) -> is_list(Nodes) andalso Nodes =/= []
-    andalso lists:all(fun is_atom/1, Nodes);
-is_valid(name, Name) -> io_lib:char_list(Name) andalso Name =/= [];
-is_valid(limit, Limit) -> Limit =:= infinity orelse is_integer(Limit) andalso Limit >= 0;
-is_valid(bytes, Bytes) ->
-    {Least, Most} = bytes(),
-    is_integer(Bytes) andalso Bytes >= Least andalso Bytes =< Most;
-is_valid(folder, Folder) -> Folder =:= default orelse io_lib:char_list(Folder);
-is_valid(trigger, Trigger) -> seqaudit_trigger:is_valid(Trigger);
-is_valid(Option, Value)
-  when Option =:= reset; Option =:= port; Option =:= take_over -> is_boolean(Value);
-is_valid(_, _) -> true.
 
 %% @doc The least and the greatest total size that the files of a node can have.
 -spec bytes() -> {pos_integer(), pos_integer()}.
@@ -210,10 +214,10 @@ format_error({already_started, _}) ->
 format_error(not_started) ->
     "no trace is being collected; begin one: seqaudit_trace:start()";
 format_error({unknown_options, Names}) ->
-    text("start doesn't know the options ~0tp; it takes nodes, name, bytes, limit, reset, folder, "
-         "trigger, port and take_over", [Names]);
+    text("start doesn't know the options ~0tp; it takes ~0tp", [Names, maps:keys(allowed())]);
 format_error({option, Option, Value}) ->
-    text("~ts can't be ~0tP: ~ts", [Option, Value, 10, allowed(Option)]);
+    {_, _, Allowed} = maps:get(Option, allowed()),
+    text("~ts can't be ~0tP: ~ts", [Option, Value, 10, Allowed]);
 format_error(left_over) ->
     "a collection whose leader was killed isn't written yet; write it first: seqaudit_trace:stop()";
 format_error({otp, Release}) ->
@@ -230,24 +234,21 @@ format_error({node, Node, {in_use, #{owner := Owner, folder := Folder, left := l
          "seqaudit_trace:stop() there", [Node, Owner, Folder]);
 format_error({node, Node, {in_use, #{owner := Owner, folder := Folder, left := Left}}}) ->
     text("node ~ts is still traced for ~ts, which can't be reached any more; that ends in ~b s, "
-         "unless it comes back, "
-         "and leaves its events in ~ts there; with --take-over it ends now",
+         "unless it comes back, and leaves its events in ~ts there",
          [Node, Owner, (Left + 999) div 1_000, Folder]);
 format_error({node, Node, unreachable}) ->
-    text("node ~ts can't be reached; is it running, is its name spelled so, and is the cookie "
-         "the same?", [Node]);
+    text("node ~ts can't be reached; is it running, is its name spelled so, and is the cookie the "
+         "same?", [Node]);
 format_error({node, Node, {load, Module, Reason}}) ->
     text("node ~ts can't load ~ts (~0tp)", [Node, Module, Reason]);
 format_error({node, Node, {load_elsewhere, Module, Reason}}) ->
     text("node ~ts can't load ~ts (~0tp): it has another release of OTP than this command, OTP "
-         "~ts, and no compiler; run "
-         "the command with that node's release", [Node, Module, Reason,
+         "~ts, and no compiler; run the command with that node's release", [Node, Module, Reason,
                                                   erlang:system_info(otp_release)]);
 format_error({node, Node, {no_forms, Module}}) ->
     text("node ~ts has another release of OTP than this command, and ~ts was compiled without "
-         "debug information, from "
-         "which that node could compile it; `make -C erlang clean all' compiles it "
-         "anew", [Node, Module]);
+         "debug information, from which that node could compile it; `make -C erlang clean all' "
+         "compiles it anew", [Node, Module]);
 format_error({node, Node, Reason}) ->
     text("no collector could be started on ~ts: ~0tp", [Node, Reason]);
 format_error({unwritable, File, Reason}) ->
@@ -258,14 +259,6 @@ format_error({Which, File, Reason}) when Which =:= file; Which =:= unwritten ->
 format_error(Reason) ->
     text("~0tp", [Reason]).
 
-allowed(nodes) -> "it is a list of one or more node names";
-allowed(name) -> "it is the name of a file";
-allowed(limit) -> "it is a whole number of events, 0 or more";
-allowed(bytes) -> text("it is a whole number of bytes from ~b to ~b", tuple_to_list(bytes()));
-allowed(folder) -> "it is the name of a folder";
-allowed(trigger) -> "it is a map with function or functions, label, times, and perhaps calls";
-allowed(_) -> "it is true or false".
-
 %% As that of seqaudit_errors, of which a node on which this module was loaded needn't have any.
 text(Format, Values) ->
     lists:flatten(io_lib:format(Format, Values)).
@@ -275,14 +268,13 @@ text(Format, Values) ->
 init({recover, #state{nodes = Nodes} = State}) ->
     {ok, State#state{nodes = [Node#node{monitor = monitor(process, Node#node.collector)}
                               || Node <- Nodes]}};
-init(#{nodes := Nodes, name := Name, limit := Limit} = Options) ->
-    Each = (maps:with([reset, bytes, folder, trigger, port, limit, take_over],
-                      Options))#{owner => self()},
+init(#{nodes := Nodes, name := Name, tell := Tell} = Options) ->
+    Each = (maps:without([nodes, name, tell], Options))#{owner => self()},
     case {erlang:system_info(otp_release), seqaudit_events:writable(Name)} of
         {Release, ok} ->
             case is_enough(Release) andalso start_all(lists:usort(Nodes), Each, []) of
                 {ok, Started} ->
-                    {ok, noted(#state{name = Name, limit = Limit, options = Each,
+                    {ok, noted(#state{name = Name, tell = Tell, options = Each,
                                       nodes = Started})};
                 {error, Reason} -> {stop, {shutdown, Reason}};
                 false -> {stop, {shutdown, {otp, Release}}}
@@ -341,9 +333,12 @@ handle_info({'DOWN', Monitor, process, _, Reason}, #state{turning = {_, Monitor,
     {noreply, not_turned(Reason, State)};
 handle_info({'DOWN', Monitor, process, _, Reason}, #state{nodes = Nodes} = State) ->
     case lists:keyfind(Monitor, #node.monitor, Nodes) of
-        #node{} = Node -> {noreply, put_node(down(Node, Reason), State)};
+        #node{} = Node -> {noreply, put_node(down(Node, Reason, State), State)};
         false -> {noreply, State}
     end;
+handle_info({ended, Name, Why}, #state{tell = Tell} = State) ->
+    _ = Tell(Name, {ended, Why}),
+    {noreply, State};
 handle_info({reach, Name}, #state{nodes = Nodes} = State) ->
     case lists:keyfind(Name, #node.node, Nodes) of
         #node{is = {away, _}} = Node ->
@@ -355,7 +350,8 @@ handle_info({reach, Name}, #state{nodes = Nodes} = State) ->
     end;
 handle_info({reached, Name, Connected}, #state{nodes = Nodes} = State) ->
     case lists:keyfind(Name, #node.node, Nodes) of
-        #node{is = {away, _}} = Node when Connected -> {noreply, put_node(lead_on(Node), State)};
+        #node{is = {away, _}} = Node when Connected ->
+            {noreply, put_node(back(lead_on(Node), State), State)};
         #node{is = {away, _}} = Node -> {noreply, put_node(try_later(Node), State)};
         _ -> {noreply, State}
     end;
@@ -366,8 +362,20 @@ put_node(#node{node = Name} = Node, #state{nodes = Nodes} = State) ->
     State#state{nodes = lists:keyreplace(Name, #node.node, Nodes, Node)}.
 
 %% A node that is out of reach may be back soon: its collector goes on and waits for that.
-down(Node, noconnection) -> try_later(Node#node{is = {away, erlang:monotonic_time(millisecond)}});
-down(Node, Reason) -> Node#node{is = {gone, Reason}}.
+down(#node{node = Name} = Node, noconnection, #state{tell = Tell}) ->
+    _ = Tell(Name, away),
+    try_later(Node#node{is = {away, erlang:monotonic_time(millisecond)}});
+down(#node{node = Name} = Node, Reason, #state{tell = Tell}) ->
+    _ = Reason =:= normal orelse Tell(Name, {gone, Reason}),
+    Node#node{is = {gone, Reason}}.
+
+back(#node{node = Name, is = Is} = Node, #state{tell = Tell}) ->
+    _ = [Tell(Name, News) || News <- case Is of
+                                         on -> [back];
+                                         {gone, Reason} -> [back, {gone, Reason}];
+                                         {away, _} -> []
+                                     end],
+    Node.
 
 try_later(Node) ->
     _ = erlang:send_after(?REACH_MS, self(), {reach, Node#node.node}),
@@ -375,7 +383,6 @@ try_later(Node) ->
 
 connected(Node) -> net_kernel:connect_node(Node) =:= true.
 
-%% Leads a collector again that was out of reach.
 lead_on(#node{collector = Collector, is = {away, Since}, split = {Times, Sum}} = Node) ->
     try {seqaudit_collector:adopt(Collector, self()), seqaudit_collector:folder(Collector)} of
         {ok, Folder} ->
@@ -429,7 +436,6 @@ start_on(Node, Options) ->
         throw:Reason -> {error, Reason}
     end.
 
-%% Stops all collectors at once. One that is out of reach is tried a last time.
 stopped(#state{nodes = Nodes0} = State) ->
     Nodes = [case Node of
                  #node{is = {away, _}} ->
@@ -449,8 +455,8 @@ stopped_node(Node, {_, ok}) ->
     %% It has replied and goes now; once it has gone, the next one can start.
     _ = end_of(Node),
     Node#node{is = {gone, normal}};
-stopped_node(Node, {_, {error, noproc}}) -> Node#node{is = {gone, end_of(Node)}};
-stopped_node(Node, {_, {error, Reason}}) -> Node#node{is = {gone, Reason}};
+stopped_node(Node, {_, {error, {gone, noproc}}}) -> Node#node{is = {gone, end_of(Node)}};
+stopped_node(Node, {_, {error, {gone, Reason}}}) -> Node#node{is = {gone, Reason}};
 stopped_node(#node{is = {away, _}} = Node, false) -> Node#node{is = {gone, noconnection}};
 stopped_node(Node, false) -> Node.
 
@@ -464,34 +470,33 @@ end_of(#node{monitor = Monitor}) ->
     end.
 
 %% Each collector goes on to other files; then what came before is fetched and removed where it was.
-rotated(Name, #state{nodes = Nodes} = State) ->
+rotated(Name, #state{nodes = Nodes, options = Options}) ->
     On = [Node || #node{is = on} = Node <- Nodes],
     Replies = lists:zip([Node#node.node || Node <- On],
                         seqaudit_collector:rotate_all([Node#node.collector || Node <- On])),
     [{Node#node.node, rotated(lists:keyfind(Node#node.node, 1, Replies), Node,
-                              Name ++ "." ++ integer_to_list(Number), State)}
+                              Name ++ "." ++ integer_to_list(Number), Options)}
      || {Number, Node} <- lists:enumerate(Nodes)].
 
-%% Returns what the node has now, and what was written.
-rotated({_, {ok, Folder}}, Node, File, State) ->
-    {{on, Folder}, fetched(Node#node{is = {gone, normal}}, File, State)};
-rotated({_, {error, ended}}, #node{collector = Collector} = Node, File, State) ->
+rotated({_, {ok, Folder}}, Node, File, _Options) ->
+    {{on, Folder}, fetched(Node#node{is = {gone, normal}}, File)};
+rotated({_, {error, ended}}, #node{collector = Collector} = Node, File, Options) ->
     _ = seqaudit_collector:stop_all([Collector]),
-    begun_again(Node#node{is = {gone, normal}}, File, State);
-rotated({_, {error, {gone, noconnection}}}, _Node, _File, _State) ->
+    begun_again(Node#node{is = {gone, normal}}, File, Options);
+rotated({_, {error, {gone, noconnection}}}, _Node, _File, _Options) ->
     {same, {error, unreachable}};
-rotated({_, {error, {gone, Reason}}}, Node, File, State) ->
-    begun_again(Node#node{is = {gone, Reason}}, File, State);
-rotated({_, {error, Reason}}, _Node, _File, _State) ->
+rotated({_, {error, {gone, Reason}}}, Node, File, Options) ->
+    begun_again(Node#node{is = {gone, Reason}}, File, Options);
+rotated({_, {error, Reason}}, _Node, _File, _Options) ->
     {same, {error, Reason}};
-rotated(false, #node{is = {gone, _}} = Node, File, State) ->
-    begun_again(Node, File, State);
-rotated(false, _Node, _File, _State) ->
+rotated(false, #node{is = {gone, _}} = Node, File, Options) ->
+    begun_again(Node, File, Options);
+rotated(false, _Node, _File, _Options) ->
     {same, {error, unreachable}}.
 
 %% Somebody else's tracer isn't replaced, nor are tokens taken off a second time.
-begun_again(#node{node = Name} = Node, File, #state{options = Options} = State) ->
-    Written = fetched(Node, File, State),
+begun_again(#node{node = Name} = Node, File, Options) ->
+    Written = fetched(Node, File),
     Started = try erpc:call(Name, seq_trace, get_system_tracer, [], ?REMOTE_MS) of
                   false -> start_on(Name, Options#{reset => false});
                   _ -> {error, other_tracer}
@@ -513,13 +518,12 @@ begun_again(#node{node = Name} = Node, File, #state{options = Options} = State) 
 not_again(Reason, {ok, File}) -> {gone, {gone, File, Reason}};
 not_again(Reason, {error, _}) -> {gone, {error, Reason}}.
 
-%% All that the node's folders have, in one file.
-fetched(#node{folder = none}, _File, _State) ->
+fetched(#node{folder = none}, _File) ->
     {error, nothing};
-fetched(Node, File, #state{limit = Limit}) ->
+fetched(Node, File) ->
     case seqaudit_events:open(File) of
         {ok, Device} ->
-            Fetched = [{One, fetch(One, Limit, Device)} || One <- each_folder(Node)],
+            Fetched = [{One, fetch(One, Device)} || One <- each_folder(Node)],
             ok = seqaudit_events:close(Device),
             _ = [remove(One) || {One, fetched} <- Fetched],
             {ok, File ++ ".events"};
@@ -531,7 +535,6 @@ each_folder(#node{folder = none}) -> [];
 each_folder(#node{folder = Folder, former = Former} = Node) ->
     [Node#node{folder = One, former = []} || One <- Former ++ [Folder]].
 
-%% Waits until files are exchanged.
 awaited(#state{turning = no} = State) ->
     State;
 awaited(#state{turning = {Worker, Monitor, _}} = State) ->
@@ -580,13 +583,11 @@ given_up(#state{turning = {Worker, Monitor, _}} = State) ->
 given_up(State) ->
     State.
 
-%% Fetches what the collectors wrote, converts it, and removes it where it was.
-gather(#state{name = Name, limit = Limit, nodes = Nodes}) ->
+gather(#state{name = Name, nodes = Nodes}) ->
     case seqaudit_events:open(Name) of
         {ok, Device} ->
             try
-                Fetched = [{One, fetch(One, Limit, Device)}
-                           || Node <- Nodes, One <- each_folder(Node)],
+                Fetched = [{One, fetch(One, Device)} || Node <- Nodes, One <- each_folder(Node)],
                 ok = seqaudit_events:close(Device),
                 convert(Name, Fetched)
             catch
@@ -599,9 +600,7 @@ gather(#state{name = Name, limit = Limit, nodes = Nodes}) ->
     end.
 
 convert(Name, Fetched) ->
-    Ask = fun(Wanted) ->
-        ask(Wanted, lists:usort([Node || {#node{node = Node}, _} <- Fetched]), Name) end,
-    case seqaudit_convert:from_files([Name ++ ".events"], Name, Ask) of
+    case seqaudit_convert:from_files([Name ++ ".events"], Name) of
         {ok, #{files := Files} = Summary} ->
             _ = [remove(Node) || {Node, fetched} <- Fetched],
             {ok, Summary#{files => [Name ++ ".events" | Files]}};
@@ -609,33 +608,9 @@ convert(Name, Fetched) ->
             {error, Reason}
     end.
 
-%% Asks what processes are called of which nobody saw an event yet, and notes it in NAME.events too.
-ask(Wanted, Nodes, Name) ->
-    Facts = [#{processes => Names}
-             || Node <- Nodes,
-                #{} = Names <- [names(Node, maps:get(atom_to_binary(Node), Wanted, []))],
-                map_size(Names) > 0],
-    _ = file:write_file(Name ++ ".events", [seqaudit_spool:entry(Fact) || Fact <- Facts], [append]),
-    [seqaudit_events:facts(Fact) || Fact <- Facts].
-
-names(_Node, []) ->
-    #{};
-names(Node, Wanted) ->
-    try erpc:call(Node, seqaudit_collector, names, [Wanted], ?REMOTE_MS)
-    catch _:_ -> #{}
-    end.
-
 remove(Node) ->
-    lists:foreach(fun(#node{node = Name, folder = Folder} = One) ->
-                          case at(One) of
-                              here -> seqaudit_spool:remove(Folder);
-                              there -> try erpc:call(Name, seqaudit_spool, remove, [Folder],
-                                                     ?REMOTE_MS)
-                                       catch _:_ -> ok
-                                       end;
-                              nowhere -> ok
-                          end
-                  end, each_folder(Node)).
+    _ = [ask_spool(at(One), One, remove, [One#node.folder]) || One <- each_folder(Node)],
+    ok.
 
 %% The folder's name is random: if it is here, this is the disk that the collector wrote to. (Tests
 %% say that it isn't.)
@@ -647,9 +622,7 @@ at(#node{node = Node, folder = Folder}) ->
         {false, false} -> nowhere
     end.
 
-%% One node's part of NAME.events.
-fetch(#node{node = Node, folder = Folder, is = {gone, Reason}, split = Split} = Of, Limit,
-      Device) ->
+fetch(#node{node = Node, folder = Folder, is = {gone, Reason}, split = Split} = Of, Device) ->
     At = at(Of),
     ok = seqaudit_events:begin_collection(Device, maps:from_list(
              [{node, Node}] ++ [{lost, Reason} || Reason =/= normal]
@@ -659,13 +632,11 @@ fetch(#node{node = Node, folder = Folder, is = {gone, Reason}, split = Split} = 
         nowhere ->
             lost;
         _ ->
-            Read = reader(At, Node),
-            case files(At, Node, Folder) of
+            Read = fun(Place) -> ask_spool(At, Of, read, Place) end,
+            case ask_spool(At, Of, files, [Folder]) of
                 {ok, Files} ->
-                    Copied = lists:foldl(fun(File, Sum) -> copy(File, Read, Limit, Device, Sum) end,
-                                         #{kept => 0, kept_bytes => 0, dropped_here => 0,
-                                           came => 0},
-                                         Files),
+                    Copied = lists:foldl(fun(File, Sum) -> copy(File, Read, Device, Sum) end,
+                                         #{kept => 0, kept_bytes => 0, came => 0}, Files),
                     %% The rest that couldn't be read is still there, and nothing else has it.
                     Facts = case Copied of
                                 #{unread := _} -> Copied#{where => Folder};
@@ -679,42 +650,36 @@ fetch(#node{node = Node, folder = Folder, is = {gone, Reason}, split = Split} = 
             end
     end.
 
-reader(here, _Node) -> fun seqaudit_spool:read/3;
-reader(there, Node) ->
-    fun(File, Offset, Size) ->
-            try erpc:call(Node, seqaudit_spool, read, [File, Offset, Size], ?REMOTE_MS)
-            catch _:_ -> {error, noconnection}
-            end
-    end.
-
-files(here, _Node, Folder) -> seqaudit_spool:files(Folder);
-files(there, Node, Folder) ->
-    try erpc:call(Node, seqaudit_spool, files, [Folder], ?REMOTE_MS)
+ask_spool(here, _Node, Function, Arguments) ->
+    apply(seqaudit_spool, Function, Arguments);
+ask_spool(there, #node{node = Node}, Function, Arguments) ->
+    try erpc:call(Node, seqaudit_spool, Function, Arguments, ?REMOTE_MS)
     catch _:_ -> {error, noconnection}
-    end.
+    end;
+ask_spool(nowhere, _Node, _Function, _Arguments) ->
+    {error, noconnection}.
 
 %% A connection may be busy for a moment.
 read_again(Read, File, Offset) ->
-    case Read(File, Offset, ?PIECE) of
-        {error, _} -> Read(File, Offset, ?PIECE);
+    case Read([File, Offset, ?PIECE]) of
+        {error, _} -> Read([File, Offset, ?PIECE]);
         Piece -> Piece
     end.
 
-%% Copies the whole entries of a file, events up to the limit.
-copy({File, Size}, Read, Limit, Device, Sum) ->
-    copy(File, 0, Size, <<>>, Read, Limit, Device, Sum).
+copy({File, Size}, Read, Device, Sum) ->
+    copy(File, 0, Size, <<>>, Read, Device, Sum).
 
-copy(_File, Offset, Size, Begun, _Read, _Limit, _Device, Sum) when Offset >= Size ->
+copy(_File, Offset, Size, Begun, _Read, _Device, Sum) when Offset >= Size ->
     Sum#{cut => maps:get(cut, Sum, 0) + byte_size(Begun)};
-copy(File, Offset, Size, Begun, Read, Limit, Device, Sum) ->
+copy(File, Offset, Size, Begun, Read, Device, Sum) ->
     case read_again(Read, File, Offset) of
         {error, _} ->
             Sum#{unread => maps:get(unread, Sum, 0) + Size - Offset + byte_size(Begun)};
         {ok, Piece} ->
             Bytes = <<Begun/binary, Piece/binary>>,
-            {Whole, Rest, More} = seqaudit_events:whole_entries(Bytes, Limit, Sum),
+            {Whole, Rest, More} = seqaudit_events:whole_entries(Bytes, Sum),
             ok = seqaudit_events:append(Device, Whole),
-            copy(File, Offset + byte_size(Piece), Size, Rest, Read, Limit, Device, More);
+            copy(File, Offset + byte_size(Piece), Size, Rest, Read, Device, More);
         _ ->
             Sum#{cut => maps:get(cut, Sum, 0) + Size - Offset + byte_size(Begun)}
     end.

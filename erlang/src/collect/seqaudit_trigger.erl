@@ -1,16 +1,12 @@
 %% @doc Calls of functions that set a token on this node, by match specifications, which send no
 %% message.
 %%
-%% Nobody else who traces is disturbed. From OTP 27 on the calls are traced in a session of their
-%% own. Before, a process has one tracer and a function one match specification, so nothing is begun
-%% if somebody else's are found. Calls are traced for a process that is linked with the caller:
-%% whatever ends that takes the tracing off, and nobody else's.
+%% From OTP 27 on the calls are traced in a session of their own. Before, nothing is begun beside
+%% somebody else's tracer or match specification. Calls are traced for a process that is linked with
+%% the caller: whatever ends that takes the tracing off, and nobody else's.
 %%
-%% How many calls may set a token is counted in the node's trace control word, which match
-%% specifications can read and set. So each call can have a label with its number. Calls on several
-%% schedulers at once may read the same number: as many more than allowed may then set a token, and
-%% these have one label. Behind the last call that may, the trace of a process that has a token ends
-%% where it calls again.
+%% Calls are counted in the node's trace control word, which match specifications can read and set.
+%% Calls on several schedulers at once may read the same number.
 -module(seqaudit_trigger).
 
 -export([is_valid/1, pull/1, tick/1, release/1, format_error/2]).
@@ -256,17 +252,15 @@ format_error(Node, {no_match_specification, {Module, Function, Arity}}) ->
          [Node, Module, Function, Arity]);
 format_error(Node, {function_in_use, {Module, Function, Arity}, Owners}) ->
     text("on node ~ts ~ts:~ts/~b is traced already~ts; before OTP 27 a function can be traced only "
-         "once, so ask them "
-         "to end it, or trigger on another function", [Node, Module, Function, Arity, by(Owners)]);
+         "once, so ask them to end it, or trigger on another function",
+         [Node, Module, Function, Arity, by(Owners)]);
 format_error(Node, {tracer_in_use, Owners}) ->
     text("on node ~ts calls are traced already~ts; before OTP 27 each process has one tracer, so "
-         "ask them to end it, "
-         "or set tokens without --trigger", [Node, by(Owners)]);
+         "ask them to end it, or set tokens without --trigger", [Node, by(Owners)]);
 format_error(Node, {word_in_use, Word}) ->
     text("on node ~ts somebody uses the trace control word (it is ~b), in which calls are counted; "
-         "leave out --calls, "
-         "or if a killed collector left it, call erlang:system_flag(trace_control_word, 0) "
-         "there", [Node, Word]).
+         "leave out --calls, or if a killed collector left it, call "
+         "erlang:system_flag(trace_control_word, 0) there", [Node, Word]).
 
 by([]) -> "";
 by(Owners) ->

@@ -8,29 +8,29 @@
 
 -define(PROGRAM, "gemshowal").
 -define(VARIABLE, "GEMSHOWAL").
-%% The first line of a trace whose counts have signs, which the program doesn't read.
--define(WRAPPED, "seqtrace 3\n").
-%% Drops what the program writes to standard error, as its JSON has that too.
--define(SHELL, "exec \"$0\" \"$@\" 2>/dev/null").
+%% Why it can't judge a trace the program writes to standard error.
+-define(SHELL, "exec \"$0\" \"$@\" 2>&1").
 
--type reason() :: {no_program, [file:filename()]} | {missing, file:filename()} | wrapped
+-type reason() :: {no_program, [file:filename()]} | {missing, file:filename()}
                 | {ended, file:filename(), Status :: non_neg_integer()} | {refused, binary()}.
 
-%% @doc Returns whether a run has the trace of this name, and the sentence that says so.
+%% @doc Returns the verdict on the trace of this name, and the sentence that says so. A trace that
+%% fits only if something wasn't reported is none that fits.
 -spec of_trace(file:filename()) -> {fits | unfit, Headline :: binary()} | {error, reason()}.
 of_trace(Name) ->
-    File = Name ++ ".seqtrace",
-    case {seqaudit_events:begins_with(File, <<?WRAPPED>>), find()} of
-        {true, _} -> {error, wrapped};
-        {false, {ok, Program}} -> said(Program, run(Program, ["audit", "--json", "--", File]));
-        {false, {error, Reason}} -> {error, Reason}
+    case find() of
+        {ok, Program} -> said(Program, run(Program, ["audit", "--", Name ++ ".seqtrace"]));
+        {error, Reason} -> {error, Reason}
     end.
 
+%% The first line has the verdict, or the reason for which there is none.
 said(Program, {Status, Output}) ->
-    case seqaudit_json:decode(Output) of
-        {ok, #{<<"fits">> := Fits, <<"headline">> := <<Headline/binary>>}} when is_boolean(Fits) ->
-            {case Fits of true -> fits; false -> unfit end, Headline};
-        {ok, #{<<"error">> := <<Words/binary>>}} -> {error, {refused, Words}};
+    [Line | _] = binary:split(Output, <<"\n">>),
+    case {Status, Line} of
+        {0, <<"fits: ", _/binary>>} -> {fits, Line};
+        {0, <<"fits if ", _/binary>>} -> {unfit, Line};
+        {1, <<"doesn't fit: ", _/binary>>} -> {unfit, Line};
+        {_, <<"error: ", Words/binary>>} -> {error, {refused, Words}};
         _ -> {error, {ended, Program, Status}}
     end.
 
@@ -75,10 +75,7 @@ format_error({no_program, Files}) ->
          [?PROGRAM, lists:join(" or ", Files), ?VARIABLE]);
 format_error({missing, File}) ->
     text("there is no ~ts, which the variable ~ts names", [File, ?VARIABLE]);
-format_error(wrapped) ->
-    text("counters have wrapped, as they do if a service spawns under its tokens, and ~ts can't "
-         "judge that yet", [?PROGRAM]);
 format_error({ended, Program, Status}) ->
-    text("~ts ended with status ~b, and without the JSON of an audit", [Program, Status]);
+    text("~ts ended with status ~b, and without a verdict", [Program, Status]);
 format_error({refused, Words}) ->
     text("~ts says: ~ts", [?PROGRAM, Words]).

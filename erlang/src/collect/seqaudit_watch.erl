@@ -2,10 +2,8 @@
 %%
 %% Traced processes don't wait for the port: what it hasn't written yet is held as binaries. It
 %% answers a question once it has written what came before. So if an answer is late, and the node's
-%% binaries have grown meanwhile, the port has fallen behind. Then the tracer is taken off, the port
-%% is asked again, and when it answers the tracer is put on. So all that the port was given is
-%% written. How many events come in such a pause nobody can know; the folder's facts say when it
-%% began and how long it took.
+%% binaries have grown meanwhile, the port has fallen behind. Then the tracer is off until the port
+%% answers: all that it was given is written, and the facts say for how long nothing was.
 %%
 %% Two processes do this, and run before others: one waits for the port, and the other one for
 %% nothing. Both end with the collector.
@@ -24,9 +22,7 @@
 %% To ask how much they take costs each scheduler a moment. It is done if much came to the port, and
 %% else after so many answers.
 -define(ANSWERS, 10).
-%% After so many pauses the tracer stays off.
 -define(MOST_PAUSES, 1_000).
-%% Pauses that are noted one by one.
 -define(LISTED, 10).
 
 -opaque watch() :: pid().
@@ -100,7 +96,6 @@ rest(#state{rest = Rest} = State) ->
         look(State)
     end.
 
-%% There is nothing more to watch.
 await_end(State) ->
     receive
         {close, From, Closed} -> close(From, Closed, State)

@@ -65,12 +65,9 @@ text("collect") ->
      "  --reset             take all tokens off first, so that all counters begin at 0\n\n"
      "  --bytes BYTES       the most that each node's files may have, 268435456 if this isn't\n"
      "                      given; then new events replace the oldest ones\n"
-     "  --limit EVENTS      keep only this number of events of each node, the first ones\n"
      "  --folder FOLDER     each node makes the folder of its files in this one, or in that\n"
      "                      for temporary files if this isn't given\n"
-     "  --unload            at the end take the modules off the nodes that were loaded there\n"
-     "  --take-over         if the node is still traced for a command that was killed, end\n"
-     "                      that now; its events stay in its folder there\n\n"
+     "  --unload            at the end take the modules off the nodes that were loaded there\n\n"
      "  --cookie-file FILE  read the cookie from a file; else it comes from the variable\n"
      "                      SEQAUDIT_COOKIE, or as for erl from ERL_FLAGS or\n"
      "                      ~/.erlang.cookie\n"
@@ -87,8 +84,8 @@ text("watch") ->
      "                      message under way, if there is one in its second half\n"
      "  --keep PERIODS      how many periods stay, 100 if this isn't given; then the oldest\n"
      "                      are removed\n\n"
-     "The other options are those of collect, except --seconds and --limit. The variable\n"
-     "GEMSHOWAL says which gemshowal is asked.\n"};
+     "The other options are those of collect, except --seconds. The variable GEMSHOWAL says\n"
+     "which gemshowal is asked.\n"};
 text("convert") ->
     {"convert FILE .. -o NAME",
      "Makes a trace from files of events: NAME.seqtrace; NAME.terms, what its numbers mean;\n"

@@ -9,8 +9,8 @@
 
 -include("seqaudit_packed.hrl").
 
--export([new/0, item/2, context/1, part/2, add/2, number/2, renumber/2, append/2, fold/3]).
--export_type([build/0, packed/0, collected/0, context/0, found/0, numbers/0]).
+-export([new/0, item/2, context/1, part/2, add/2, fold/3]).
+-export_type([build/0, packed/0, collected/0, context/0, part/0]).
 
 %% The greatest count that the text of a bundle has, and the least that a node shows.
 -define(GREATEST, 16#FFFF_FFFF_FFFF_FFFF).
@@ -37,36 +37,24 @@
 -opaque context() :: {home(), seqaudit_external:encoded() | none, {integer(), pos_integer()}}.
 %% The node where events were collected, the process that did so, and what its clock means.
 
+-type terms() :: seqaudit_numbers:few() | [seqaudit_external:encoded()].
+%% The terms of a part, which are a list once it is whole.
+
 -record(part, {home :: home(),
                own :: seqaudit_external:encoded() | none,
                clock :: {integer(), pos_integer()},
                packed = <<>> :: packed(),
-               actors = seqaudit_numbers:few() :: seqaudit_numbers:few(),
-               others = seqaudit_numbers:few() :: seqaudit_numbers:few(),
-               labels = seqaudit_numbers:few() :: seqaudit_numbers:few(),
-               values = seqaudit_numbers:few() :: seqaudit_numbers:few(),
+               actors = seqaudit_numbers:few() :: terms(),
+               others = seqaudit_numbers:few() :: terms(),
+               labels = seqaudit_numbers:few() :: terms(),
+               values = seqaudit_numbers:few() :: terms(),
                known = #{} :: #{seqaudit_external:encoded() => seqaudit_events:about()},
                counts = #{} :: #{atom() => non_neg_integer()},
                samples = #{} :: #{atom() => [string()]},
                own_events = 0 :: non_neg_integer()}).
 
+-opaque part() :: #part{}.
 %% Some events, with numbers of their own for their terms.
-
--record(found, {home :: home(),
-                actors :: [seqaudit_external:encoded()],
-                others :: [seqaudit_external:encoded()],
-                labels :: [seqaudit_external:encoded()],
-                values :: [seqaudit_external:encoded()],
-                known :: #{seqaudit_external:encoded() => seqaudit_events:about()},
-                counts :: #{atom() => non_neg_integer()},
-                samples :: #{atom() => [string()]},
-                own_events :: non_neg_integer()}).
-
--opaque found() :: #found{}.
-%% All of a part but its records: above all its terms, in the order of their numbers there.
-
--opaque numbers() :: {Actors :: tuple(), Others :: tuple(), Labels :: tuple(), Values :: tuple()}.
-%% The numbers of a part's terms in the tables, by their numbers in the part.
 
 %% @doc Nothing taken in yet. The tables end with the process that makes them.
 -spec new() -> build().
@@ -87,59 +75,42 @@ context(#build{home = Home, own = Own, clock = Clock}) ->
     {Home, Own, Clock}.
 
 %% @doc These events alone, packed.
--spec part([binary()], context()) -> {packed(), found()}.
+-spec part([binary()], context()) -> part().
 part(Events, {Home, Own, Clock}) ->
     Part = lists:foldl(fun take/2, #part{home = Home, own = Own, clock = Clock}, Events),
-    {Part#part.packed,
-     #found{home = Part#part.home, known = Part#part.known, counts = Part#part.counts,
-            samples = Part#part.samples, own_events = Part#part.own_events,
-            actors = seqaudit_numbers:terms(Part#part.actors),
-            others = seqaudit_numbers:terms(Part#part.others),
-            labels = seqaudit_numbers:terms(Part#part.labels),
-            values = seqaudit_numbers:terms(Part#part.values)}}.
+    Part#part{actors = seqaudit_numbers:terms(Part#part.actors),
+              others = seqaudit_numbers:terms(Part#part.others),
+              labels = seqaudit_numbers:terms(Part#part.labels),
+              values = seqaudit_numbers:terms(Part#part.values)}.
 
-%% @doc Takes a part in.
--spec add({packed(), found()}, build()) -> build().
-add({Packed, Found}, Build) ->
-    {Numbers, Numbered} = number(Found, Build),
-    append(renumber(Packed, Numbers), Numbered).
-
-%% @doc Takes in what a part has beside its records. Every term gets the number that it gets if the
-%% events come one by one.
--spec number(found(), build()) -> {numbers(), build()}.
-number(Found, Build) ->
-    Numbers = {numbers(Found#found.actors, Build#build.actors),
-               numbers(Found#found.others, Build#build.others),
-               numbers(Found#found.labels, Build#build.labels), numbers(Found#found.values,
-                                                                        Build#build.values)},
-    Added = Build#build{home = Found#found.home,
-                        known = maps:merge(Found#found.known, Build#build.known),
-                        counts = maps:merge_with(fun(_, Before, More) -> Before + More end,
-                                                 Build#build.counts, Found#found.counts),
-                        samples = maps:merge_with(fun(_, Before,
-                                                      More) -> first_samples(More ++ Before) end,
-                                                  Build#build.samples, Found#found.samples)},
-    case Found#found.own_events of
-        0 -> {Numbers, Added};
-        Own -> {Numbers, add(own, Own, Added)}
-    end.
+%% @doc Takes a part in: every term gets the number that it gets if the events come one by one.
+-spec add(part(), build()) -> build().
+add(#part{packed = Records} = Part, #build{packed = Packed} = Build) ->
+    Parties = {numbers(Part#part.actors, Build#build.actors),
+               numbers(Part#part.others, Build#build.others)},
+    Labels = numbers(Part#part.labels, Build#build.labels),
+    Values = numbers(Part#part.values, Build#build.values),
+    Numbered = << <<?PACKED(Kind, (element(Label + 1, Labels)), Prev, This,
+                            (renumbered(From, Parties)), (renumbered(To, Parties)),
+                            (element(Value + 1, Values)), Time)>>
+                  || <<?PACKED(Kind, Label, Prev, This, From, To, Value, Time)>> <= Records >>,
+    known(Part, Build#build{packed = <<Packed/binary, Numbered/binary>>}).
 
 numbers(Terms, Table) ->
     list_to_tuple(seqaudit_numbers:numbers(Terms, Table)).
 
-%% @doc The records of a part with the numbers of the tables.
--spec renumber(packed(), numbers()) -> packed().
-renumber(Packed, {Actors, Others, Labels, Values}) ->
-    Parties = {Actors, Others},
-    << <<?PACKED(Kind, (element(Label + 1, Labels)), Prev, This,
-                 (renumbered(From, Parties)), (renumbered(To, Parties)),
-                 (element(Value + 1, Values)), Time)>>
-       || <<?PACKED(Kind, Label, Prev, This, From, To, Value, Time)>> <= Packed >>.
-
-%% @doc Puts records behind those that are there.
--spec append(packed(), build()) -> build().
-append(Records, #build{packed = Packed} = Build) ->
-    Build#build{packed = <<Packed/binary, Records/binary>>}.
+%% Adds what a part has beside its records and terms.
+known(#part{own_events = Own} = Part, Build) ->
+    Sum = fun(_, Before, More) -> Before + More end,
+    First = fun(_, Before, More) -> first_samples(More ++ Before) end,
+    Added = Build#build{home = Part#part.home,
+                        known = maps:merge(Part#part.known, Build#build.known),
+                        counts = maps:merge_with(Sum, Build#build.counts, Part#part.counts),
+                        samples = maps:merge_with(First, Build#build.samples, Part#part.samples)},
+    case Own of
+        0 -> Added;
+        _ -> more(own, Own, Added)
+    end.
 
 renumbered(?NOBODY, _) -> ?NOBODY;
 renumbered(Party, {_, Others})
@@ -159,11 +130,11 @@ item({facts, Facts}, #build{collections = [Now | Before], known = Known} = Build
                 own = maps:get(collector, Kept, none),
                 clock = maps:get(clock, Kept, Build#build.clock)};
 item({dropped, Count}, Build) ->
-    add(dropped, Count, Build);
+    more(dropped, Count, Build);
 item({left, Bytes}, Build) ->
-    add(left, Bytes, Build);
+    more(left, Bytes, Build);
 item({left, Bytes, Where}, Build) ->
-    know(left_at, Where, add(left, Bytes, Build));
+    know(left_at, Where, more(left, Bytes, Build));
 item({passed, Lines, First}, Build) ->
     know(passed, {Lines, First}, Build);
 item(stray, #build{counts = Counts} = Build) ->
@@ -179,7 +150,7 @@ item({event, Bytes}, Build) ->
 learn({Pid, About}, Known) ->
     maps:update_with(Pid, fun(Before) -> maps:merge(Before, About) end, About, Known).
 
-add(What, Count, #build{collections = [Now | Before]} = Build) ->
+more(What, Count, #build{collections = [Now | Before]} = Build) ->
     Build#build{collections = [Now#{What => maps:get(What, Now, 0) + Count} | Before]}.
 
 know(What, Value, #build{collections = [Now | Before]} = Build) ->
@@ -212,13 +183,11 @@ stray_kind(Term) ->
 sampled(Kind, Text, Samples) ->
     Samples#{Kind => first_samples([lists:flatten(Text) | maps:get(Kind, Samples, [])])}.
 
-%% The first ones are at the end.
 first_samples(Samples) -> lists:nthtail(max(0, length(Samples) - ?SAMPLES), Samples).
 
 shown(Term) ->
     seqaudit_terms:short(seqaudit_terms:encoded(Term), ?SHOWN).
 
-%% An event of a part.
 take(Bytes, Part) ->
     case seqaudit_external:event(Bytes) of
         {ok, Event} ->
@@ -305,15 +274,9 @@ index({other, Bytes, _}, Actors, Others) ->
     {Number, More} = seqaudit_numbers:number_few(Bytes, Others),
     {?OTHER bor Number, Actors, More}.
 
-%% Notes what ttb's triple says a process is called.
 called({actor, Pid, Info}, #part{known = Known} = Part)
   when Info =/= none, not is_map_key(Pid, Known) ->
-    About = case {seqaudit_external:view(Info), seqaudit_external:tuple(Info)} of
-                {{atom, Name}, _} -> #{name => binary:copy(Name)};
-                {_, [_, _, _]} -> #{call => binary:copy(Info)};
-                _ -> #{}
-            end,
-    Part#part{known = Known#{binary:copy(Pid) => About}};
+    Part#part{known = Known#{binary:copy(Pid) => seqaudit_events:about_ttb(Info)}};
 called(_, Part) ->
     Part.
 

@@ -1,27 +1,15 @@
-%% @doc Makes a trace for `gemshowal' and `seqaudit' of collected events.
+%% @doc Makes a trace for `gemshowal' and `seqaudit' of collected events: `NAME.seqtrace', and
+%% beside it `NAME.terms' ({@link seqaudit_legend}), `NAME.facts' and `NAME.notes' ({@link
+%% seqaudit_notes}), `NAME.times' if there are times ({@link seqaudit_times}), and if texts are cut
+%% `NAME.messages': the whole texts, a line `value NUMBER TERM' each, with tabs between.
 %%
-%% <dl>
-%% <dt>`NAME.seqtrace'</dt><dd>the text of the bundle: the stream of each process</dd>
-%% <dt>`NAME.terms'</dt><dd>what each number means ({@link seqaudit_legend})</dd>
-%% <dt>`NAME.messages'</dt><dd>the whole texts of the messages that are cut there, if any are
-%% ({@link seqaudit_messages})</dd>
-%% <dt>`NAME.notes'</dt><dd>what was decided, dropped or can't be represented, a line each</dd>
-%% <dt>`NAME.facts'</dt><dd>the same with the kind of each, from which `gemshowal' says what is gone
-%% ({@link seqaudit_notes})</dd>
-%% <dt>`NAME.times'</dt><dd>when each event happened, if the events say it
-%% ({@link seqaudit_times})</dd>
-%% </dl>
 %% Only their owner may read them, since they have the contents of messages.
 -module(seqaudit_convert).
 
 -include("seqaudit_packed.hrl").
 
--export([from_files/2, from_files/3, files/2, convert/1, format_error/1]).
--export_type([bundle/0, summary/0]).
-
--type bundle() :: #{seqtrace := binary(), terms := iodata(), notes := [string()],
-                    events := non_neg_integer(), processes := non_neg_integer(),
-                    dropped := non_neg_integer()}.
+-export([from_files/2]).
+-export_type([summary/0]).
 
 -type summary() :: #{events := non_neg_integer(), processes := non_neg_integer(),
                      dropped := non_neg_integer(), notes := [string()],
@@ -29,17 +17,15 @@
 %% `events' are in the bundle; `dropped' are in none of the files, and `notes' say why. Of events
 %% that were written over only the bytes are known; their number is estimated.
 
--type ask() :: fun((#{Node :: binary() => [seqaudit_external:encoded()]}) ->
-                       [seqaudit_events:facts()]).
-%% Asks processes of each node what they are called, which nobody did yet.
-
-%% Lines that are made at once, and values whose texts are.
 -define(AT_ONCE, 1_000).
 -define(SHARE, 5_000).
-%% A process makes the whole texts of messages with so many bytes together, or of one.
--define(WHOLE_SHARE, 1_000_000).
+-define(MESSAGES, <<"seqaudit messages 1\n">>).
 %% The size of a spelled process, `<65535.65535.0>', with a byte for its length.
 -define(SLOT, 16).
+
+%% A piece may be the line of a process, and each write waits for a thread.
+-define(BUFFER, 65_536).
+-define(DELAY_MS, 2_000).
 
 %% The parts of a bundle, each a function that hands its text on piece by piece.
 -type part() :: fun((fun((iodata()) -> ok)) -> ok).
@@ -47,27 +33,21 @@
 %% @doc Converts files of events.
 -spec from_files([file:filename()], file:filename()) -> {ok, summary()} | {error, term()}.
 from_files(Files, Name) ->
-    from_files(Files, Name, fun(_) -> [] end).
-
-%% @doc Converts files of events, and asks what processes are called of which the files don't say
-%% it.
--spec from_files([file:filename()], file:filename(), ask()) -> {ok, summary()} | {error, term()}.
-from_files(Files, Name, Ask) ->
     alone(fun() ->
         case fold_files(Files, seqaudit_batches:new(seqaudit_build:new())) of
-            {ok, Batches} -> write_events(seqaudit_batches:build(Batches), Files, Name, Ask);
+            {ok, Batches} -> write_events(seqaudit_batches:build(Batches), Files, Name);
             {error, Reason} -> {error, Reason}
         end
     end).
 
 %% A file without events makes a trace only if a collector wrote it.
-write_events(#build{packed = <<>>} = Build, Files, Name, Ask) ->
+write_events(#build{packed = <<>>} = Build, Files, Name) ->
     case lists:any(fun seqaudit_events:is_collected/1, Files) of
-        true -> write(asked(Build, Ask), Name);
+        true -> write(Build, Name);
         false -> {error, {no_events, Files}}
     end;
-write_events(Build, _Files, Name, Ask) ->
-    write(asked(Build, Ask), Name).
+write_events(Build, _Files, Name) ->
+    write(Build, Name).
 
 fold_files([], Batches) ->
     {ok, Batches};
@@ -77,52 +57,9 @@ fold_files([File | Files], Batches) ->
         {error, Reason} -> {error, Reason}
     end.
 
-%% @doc Converts collections: writes `NAME.seqtrace', `NAME.terms' and `NAME.notes', `NAME.times' if
-%% there are times, and `NAME.messages' if texts are cut.
--spec files([seqaudit_events:collection()], file:filename()) ->
-          {ok, summary()} | {error, {unwritten, file:filename(), term()}}.
-files(Collections, Name) ->
-    alone(fun() -> write(taken(Collections), Name) end).
-
-%% @doc The bundle, its legend and the notes.
--spec convert([seqaudit_events:collection()]) -> bundle().
-convert(Collections) ->
-    alone(fun() ->
-        {Parts, Facts} = parts(taken(Collections)),
-        Texts = maps:map(fun(_, Part) -> iolist_to_binary(text(Part)) end,
-                         maps:with([seqtrace, terms], Parts)),
-        {Sizes, Noted} = noted(byte_size(maps:get(seqtrace, Texts)), Facts),
-        maps:merge(Texts, Sizes#{notes => [Note || {_, Note} <- Noted]})
-    end).
-
-taken(Collections) ->
-    seqaudit_batches:build(seqaudit_events:fold_list(Collections, fun seqaudit_batches:item/2,
-                                                     seqaudit_batches:new(seqaudit_build:new()))).
-
-text(Part) ->
-    Key = make_ref(),
-    put(Key, []),
-    ok = Part(fun(Piece) -> put(Key, [get(Key), Piece]), ok end),
-    erase(Key).
-
 %% The tables of a conversion, and what it leaves on the heap, end with a process of its own.
 alone(Do) ->
     seqaudit_workers:result(seqaudit_workers:begun(Do)).
-
-%% The local processes that nobody asked yet are asked now.
-asked(#build{actors = Actors, known = Known} = Build, Ask) ->
-    Wanted = lists:foldl(fun(Actor, Wanted) ->
-                                 case seqaudit_external:view(Actor) of
-                                     {process, Node, _, _} when not is_map_key(Actor, Known) ->
-                                         Wanted#{Node => [Actor | maps:get(Node, Wanted, [])]};
-                                     _ -> Wanted
-                                 end
-                         end, #{}, seqaudit_numbers:listed(Actors)),
-    lists:foldl(fun(Facts, Sum) -> seqaudit_build:item({facts, Facts}, Sum) end, Build,
-                case Build#build.collections of
-                    [] -> [];
-                    _ -> Ask(Wanted)
-                end).
 
 write(Build, Name) ->
     {Parts, Facts} = parts(Build),
@@ -131,13 +68,15 @@ write(Build, Name) ->
     case write_parts(Parts, Name) of
         {ok, Files} ->
             _ = [file:delete(Name ++ ".times") || not is_map_key(times, Parts)],
-            {Sizes, Noted} = noted(filelib:file_size(Name ++ ".seqtrace"), Facts),
+            Noted = seqaudit_notes:facts(Facts),
             Notes = [Note || {_, Note} <- Noted],
             Kept = [{Name ++ ".notes",
                      unicode:characters_to_binary([[Note, $\n] || Note <- Notes])},
                     {Name ++ ".facts", seqaudit_notes:facts_text(Noted)}],
             case [Reason || {File, Text} <- Kept, {error, Reason} <- [write_own(File, Text)]] of
-                [] -> {ok, Sizes#{notes => Notes, files => Files ++ [File || {File, _} <- Kept]}};
+                [] ->
+                    {ok, (maps:with([events, processes, dropped], Facts))
+                         #{notes => Notes, files => Files ++ [File || {File, _} <- Kept]}};
                 [Reason | _] -> {error, Reason}
             end;
         {error, Reason} ->
@@ -165,7 +104,7 @@ is_of_tables(Part) -> Part =:= terms orelse Part =:= messages.
 
 %% Without any whole text the file is removed again.
 has_messages(File) ->
-    case filelib:file_size(File) > byte_size(seqaudit_messages:header()) of
+    case filelib:file_size(File) > byte_size(?MESSAGES) of
         true -> true;
         false -> ok =/= file:delete(File)
     end.
@@ -175,12 +114,12 @@ write_own(File, Text) ->
 
 %% The owner alone may read the file, from before anything is in it.
 write_file(File, Part) ->
-    case file:open(File, [write, raw, binary]) of
+    case file:open(File, [write, raw, binary, {delayed_write, ?BUFFER, ?DELAY_MS}]) of
         {ok, Device} ->
             try
                 ok = own(File),
                 ok = Part(fun(Piece) -> ok = file:write(Device, Piece) end),
-                file:close(Device)
+                ok = file:close(Device)
             catch
                 error:{badmatch, {error, Reason}} ->
                     _ = file:close(Device),
@@ -197,11 +136,9 @@ own(File) ->
         false -> ok
     end.
 
-%% Returns the parts of the bundle, and what the notes are made of.
 -spec parts(seqaudit_build:build()) -> {#{atom() => part()}, map()}.
 parts(#build{actors = Actors, others = Others} = Build) ->
     {Packed, Resolved} = seqaudit_resolve:resolve(Build),
-    Kept = byte_size(Packed) div ?PACKED_SIZE,
     Listed = {seqaudit_numbers:listed(Actors), seqaudit_numbers:listed(Others)},
     Used = used(Packed, Listed),
     Numbers = seqaudit_processes:number(Used),
@@ -217,6 +154,7 @@ parts(#build{actors = Actors, others = Others} = Build) ->
     Wrapped = seqaudit_spawns:has_wrapped(Packed, Spawns),
     Sorted = lists:sort([{Number, Party} || {Party, Number} <- maps:to_list(Numbers)]),
     Counts = maps:merge(Build#build.counts, Resolved#{nameless => Nameless}),
+    Collections = lists:reverse(Build#build.collections),
     IsAnswer = case Wrapped of
                    true -> fun(Before, Event) ->
                        seqaudit_spawns:is_answer(Before, Event, Senders, Spawns) end;
@@ -236,44 +174,24 @@ parts(#build{actors = Actors, others = Others} = Build) ->
     Times = fun(Out) -> seqaudit_times:write(Sorted, Streams, Packed, Out) end,
     {maps:from_list([{seqtrace, Bundle}, {terms, Terms}, {messages, Messages}]
                     ++ [{times, Times} || is_map_key(timestamps, Counts)]),
-     #{collections => lists:reverse(Build#build.collections), counts => Counts,
-       samples => Build#build.samples, wrapped => Wrapped, listed => Sorted, labels => ByLabel,
-       events => Placed, kept => Kept}}.
-
-noted(Bytes, #{listed := Listed, collections := Collections, counts := Counts} = Facts) ->
-    Sizes = #{bytes => Bytes, processes => length(Listed), events => maps:get(events, Facts)},
-    Dropped = seqaudit_notes:dropped(Collections, Counts),
-    {#{events => maps:get(events, Facts), processes => length(Listed), dropped => Dropped},
-     seqaudit_notes:facts(Facts, Sizes)}.
+     #{collections => Collections, counts => Counts,
+       dropped => seqaudit_notes:dropped(Collections, Counts), samples => Build#build.samples,
+       wrapped => Wrapped, processes => length(Sorted), events => Placed}}.
 
 %% The parties that events name, in the order of their first events.
 used(Packed, {Actors, Others}) ->
-    Seen = {atomics:new(length(Actors) + 1, []), atomics:new(length(Others) + 1, [])},
-    Used = seqaudit_workers:shares(Packed, fun(Part, _) -> use_all(Part, Seen) end),
-    [] = [Other || Other <- Used, Other =/= ok],
-    {SeenActors, SeenOthers} = Seen,
-    seen(Actors, SeenActors) ++ seen(Others, SeenOthers).
+    Used = parties(Packed, #{}),
+    select(Actors, 0, Used) ++ select(Others, ?OTHER, Used).
 
-use_all(<<?PACKED(_Kind, _Label, _Prev, _This, From, To, _Value, _Time), Rest/binary>>, Seen) ->
-    use(From, Seen),
-    use(To, Seen),
-    use_all(Rest, Seen);
-use_all(<<>>, _Seen) ->
-    ok.
+parties(<<?PACKED(_Kind, _Label, _Prev, _This, From, To, _Value, _Time), Rest/binary>>, Used) ->
+    parties(Rest, Used#{From => used, To => used});
+parties(<<>>, Used) ->
+    Used.
 
-use(?NOBODY, _) -> ok;
-use(Party, {_, Others}) when Party >= ?OTHER -> atomics:put(Others, Party - ?OTHER + 1, 1);
-use(Party, {Actors, _}) -> atomics:put(Actors, Party + 1, 1).
-
-seen(Parties, Seen) -> seen(Parties, 1, Seen).
-
-seen([], _Place, _Seen) ->
-    [];
-seen([Party | Parties], Place, Seen) ->
-    case atomics:get(Seen, Place) of
-        1 -> [Party | seen(Parties, Place + 1, Seen)];
-        0 -> seen(Parties, Place + 1, Seen)
-    end.
+select([], _Number, _Used) -> [];
+select([Party | Parties], Number, Used) when is_map_key(Number, Used) ->
+    [Party | select(Parties, Number + 1, Used)];
+select([_ | Parties], Number, Used) -> select(Parties, Number + 1, Used).
 
 %% Spells each party as the bundle does, in one binary that processes share. A party that no number
 %% was left for has none.
@@ -301,22 +219,14 @@ in_slot(Place, Slots) ->
 %% The places of each process's events in the records, by its spelling; how many events name a party
 %% without a number, and how many don't.
 streams(Packed, Spelled, Births) ->
-    Looked = seqaudit_workers:shares(Packed, fun(Part, First) -> streams(Part, First, Spelled, #{},
-                                                                         0) end),
-    {Streams, Nameless} =
-        lists:foldl(fun({More, Other}, {Before, None}) ->
-                            {maps:merge_with(fun(_, Places, Later) -> <<Places/binary,
-                                                                        Later/binary>> end,
-                                             Before, More), None + Other}
-                    end, {#{}, 0}, Looked),
+    {Streams, Nameless} = streams(Packed, 0, Spelled, #{}, 0),
     Ordered = seqaudit_spawns:births_first(Streams, Births),
     {maps:from_list([{binary:copy(spell(Party, Spelled)), Places}
                      || {Party, Places} <- maps:to_list(Ordered)]),
      Nameless, byte_size(Packed) div ?PACKED_SIZE - Nameless}.
 
 streams(<<?PACKED(Kind, _Label, _Prev, _This, From, To, _Value, _Time), Rest/binary>>, Place,
-        Spelled,
-        Streams, Nameless) ->
+        Spelled, Streams, Nameless) ->
     case spell(From, Spelled) =:= <<>> orelse spell(To, Spelled) =:= <<>> of
         true -> streams(Rest, Place + 1, Spelled, Streams, Nameless + 1);
         false when Kind =:= ?RECEIVE ->
@@ -391,7 +301,6 @@ terms(Sorted, Labels, {Known, Values}, {Numbers, Dots}, Out) ->
                                       Entries
                               end || First <- shares(Values)], Out).
 
-%% The first values of the shares.
 shares(Values) -> lists:seq(0, seqaudit_numbers:size(Values) - 1, ?SHARE).
 
 entries(First, Table, Numbers) ->
@@ -414,40 +323,23 @@ note_dots(First, Entries, Dots) ->
                           end, lists:enumerate(First, Lines))
     end.
 
-%% The whole texts of the values that are cut in the legend.
+%% The whole texts of the values that are cut in the legend. Each may be large, so they are made one
+%% after the other.
 messages(Values, {Numbers, Dots}, Out) ->
-    ok = Out(seqaudit_messages:header()),
+    ok = Out(?MESSAGES),
     lists:foreach(fun(First) ->
-                          Last = min(First + ?SHARE, seqaudit_numbers:size(Values)) - 1,
-                          Noted = [Number || Number <- lists:seq(First, Last),
-                                   atomics:get(Dots, Number + 1) =:= 1],
-                          ok = messages(Noted, First, Values, Numbers, Out)
+                          Terms = seqaudit_numbers:part(First, ?SHARE, Values),
+                          [ok = Out(whole(Number, Term, Numbers))
+                           || {Number, Term} <- lists:enumerate(First, Terms),
+                              atomics:get(Dots, Number + 1) =:= 1]
                   end, shares(Values)).
-
-messages([], _First, _Values, _Numbers, _Out) ->
-    ok;
-messages(Noted, First, Values, Numbers, Out) ->
-    Terms = list_to_tuple(seqaudit_numbers:part(First, ?SHARE, Values)),
-    Numbered = [{Number, element(Number - First + 1, Terms)} || Number <- Noted],
-    seqaudit_workers:in_turn([fun() -> [whole(Number, Term, Numbers) || {Number, Term} <- Some] end
-                              || Some <- some(Numbered, 0, [])], Out).
-
-%% In lists of terms that have so many bytes together.
-some([], _Bytes, Some) ->
-    [lists:reverse(Some)];
-some([{_, Term} = One | Others], Bytes, Some) ->
-    case Bytes + byte_size(Term) of
-        More when More > ?WHOLE_SHARE, Some =/= [] ->
-            [lists:reverse(Some) | some([One | Others], 0, [])];
-        More -> some(Others, More, [One | Some])
-    end.
 
 %% The entry of a value, if its text is cut and has dots.
 whole(Number, Term, Numbers) ->
     Whole = seqaudit_terms:whole(Term, Numbers),
     case seqaudit_terms:append(Term, Numbers, <<>>) of
         Whole -> [];
-        _ -> seqaudit_messages:entry(Number, Whole)
+        _ -> [<<"value\t">>, integer_to_binary(Number), $\t, Whole, $\n]
     end.
 
 %% Behind the entries before.
@@ -456,8 +348,3 @@ entry(Kind, Number, Term, Numbers, Before) ->
                                  <<Before/binary, Kind/binary, $\t,
                                    (integer_to_binary(Number))/binary, $\t>>),
     <<Text/binary, $\n>>.
-
-%% @doc A reason of this module in words, with what to do about it.
--spec format_error({unwritten, file:filename(), term()}) -> string().
-format_error({unwritten, File, Reason}) ->
-    seqaudit_errors:unwritten(File, Reason).

@@ -1,21 +1,15 @@
-%% @doc Files of collected events.
+%% @doc Files of collected events: `NAME.events', the folder of a collector ({@link
+%% seqaudit_spool}), one list of events by `term_to_binary/1', a trace file of `dbg' or `ttb', and
+%% text ({@link seqaudit_text}). A collection is what one node's tracer was sent, in that order.
 %%
-%% A collection is what one node's tracer was sent, in the order it came. It is read from
-%% <ul>
-%% <li>`NAME.events', as {@link seqaudit_trace} writes it,</li>
-%% <li>the folder of a collector ({@link seqaudit_spool}) that nobody gathered,</li>
-%% <li>a file with one list of events in the external term format (`term_to_binary/1'),</li>
-%% <li>a trace file of `dbg' or `ttb', with the names that `ttb' wrote beside it,</li>
-%% <li>text of terms, by {@link seqaudit_text}.</li>
-%% </ul>
 %% Nothing in a file is trusted: its terms stay bytes ({@link seqaudit_external}), a size is looked
 %% at before anything is made of it, and of a file that is cut or damaged what comes before the
 %% damage is taken, and the rest is counted.
 -module(seqaudit_events).
 
--export([fold/3, fold_list/3, read/1, is_collected/1, begins_with/2, facts/1, open/1,
-         begin_collection/2, append/2, close/1, whole_entries/3, writable/1, format_error/1]).
--export_type([collection/0, item/0, facts/0, about/0]).
+-export([fold/3, is_collected/1, about_ttb/1, open/1,
+         begin_collection/2, append/2, close/1, whole_entries/2, writable/1, format_error/1]).
+-export_type([item/0, facts/0, about/0]).
 
 -import(seqaudit_errors, [text/2]).
 
@@ -26,33 +20,19 @@
 -define(DROPPED, 1).
 -define(COLLECTION, 2).
 -define(FACTS, 3).
-%% The name of the one term that version 1.0 wrote.
--define(FORMAT_1, <<"seqaudit_events_1">>).
 -define(EXTERNAL, 131).
--define(COMPRESSED, 80).
-%% A file is read in such pieces.
 -define(PIECE, 1_048_576).
-%% A compressed term may unpack to this many times its size and as many bytes more.
--define(UNPACKED_FACTOR, 8).
--define(UNPACKED_MORE, 33_554_432).
 %% Facts that become terms of this Erlang are at most this large.
 -define(FACT, 1_000).
 
--type collection() ::
-        #{node := node(), events := [term()], dropped => non_neg_integer(),
-          own => non_neg_integer(), strays => non_neg_integer(),
-          processes => #{pid() => seqaudit_spool:about()}, tracer => put_back | taken | gone,
-          atom() => term()}
-      | #{node := node(), lost := term()}.
-%% One node's events with what its collector counted; `lost' means that the collector went down.
+-define(COUNTS, [dropped, own, strays, written, bytes, kept, kept_bytes, came, cut, unread]).
 
 -type about() :: #{name => binary(), call => seqaudit_external:encoded(),
                    caller => seqaudit_external:encoded()}.
 -type facts() :: #{node => binary(), collector => seqaudit_external:encoded(),
                    processes => [{seqaudit_external:encoded(), about()}],
                    lost | ended | split | where => seqaudit_external:encoded(),
-                   dropped | own | strays | written | bytes | kept | kept_bytes
-                   | dropped_here | came
+                   dropped | own | strays | written | bytes | kept | kept_bytes | came
                    | cut | unread => non_neg_integer(),
                    since => calendar:datetime(), tracer => put_back | taken | gone,
                    pauses => seqaudit_watch:pauses(), by => port | process,
@@ -81,8 +61,6 @@ fold(File, Do, Acc) ->
 is_collected(File) ->
     filelib:is_dir(File) orelse begins_with(File, <<?HEADER>>).
 
-%% @doc Whether these are the first bytes of the file.
--spec begins_with(file:filename(), binary()) -> boolean().
 begins_with(File, Begin) ->
     case file:open(File, [read, raw, binary]) of
         {ok, Device} ->
@@ -217,54 +195,14 @@ fold_part(File, Size, Do, Acc) ->
             Do({facts, #{unread => Size}}, Acc)
     end.
 
-%% One term: the list of events, or what version 1.0 wrote.
-fold_external(File, Bytes, Do, Acc) ->
-    case unpacked(Bytes) of
-        {ok, Term} -> fold_term(File, Term, Do, Acc);
-        {error, Reason} -> {error, {Reason, File}}
-    end.
-
-fold_term(File, <<108, Length:32, Rest/binary>>, Do, Acc) ->
+fold_external(File, <<?EXTERNAL, 108, Length:32, Rest/binary>>, Do, Acc) ->
     case elements(Length, Rest, Do, Do(collection, Acc)) of
         {Folded, <<106>>} -> {ok, Folded};
         _ -> {error, {not_events, File}}
     end;
-fold_term(_File, <<106>>, Do, Acc) ->
+fold_external(_File, <<?EXTERNAL, 106>>, Do, Acc) ->
     {ok, Do(collection, Acc)};
-fold_term(File, Term, Do, Acc) ->
-    case seqaudit_external:take(Term) of
-        {ok, Whole, <<>>} ->
-            case seqaudit_external:tuple(Whole) of
-                [Format, Collections] ->
-                    fold_version_1(seqaudit_external:view(Format), Collections, File, Do, Acc);
-                _ ->
-                    {error, {not_events, File}}
-            end;
-        _ ->
-            {error, {case is_version_1(Term) of true -> damaged_version_1; false -> not_events end,
-                     File}}
-    end.
-
-%% The name of its form comes first, in a tuple of two.
-is_version_1(<<104, 2, Rest/binary>>) ->
-    binary:match(binary:part(Rest, 0, min(byte_size(Rest), 3 + byte_size(?FORMAT_1))),
-                 ?FORMAT_1) =/= nomatch;
-is_version_1(_) ->
-    false.
-
-fold_version_1({atom, ?FORMAT_1}, Collections, _File, Do, Acc) ->
-    {ok, lists:foldl(fun(Collection, Sum) ->
-                             Facts = Do({facts, read_facts(Collection)}, Do(collection, Sum)),
-                             case seqaudit_external:pairs(Collection) of
-                                 #{<<"events">> := <<108, Length:32, Rest/binary>>} ->
-                                     case elements(Length, Rest, Do, Facts) of
-                                         {Folded, _} -> Folded;
-                                         damaged -> Facts
-                                     end;
-                                 _ -> Facts
-                             end
-                     end, Acc, seqaudit_external:list(Collections))};
-fold_version_1(_, _Collections, File, _Do, _Acc) ->
+fold_external(File, _, _Do, _Acc) ->
     {error, {not_events, File}}.
 
 elements(0, Rest, _Do, Acc) ->
@@ -273,33 +211,6 @@ elements(Left, Bytes, Do, Acc) ->
     case seqaudit_external:take(Bytes) of
         {ok, Event, Rest} -> elements(Left - 1, Rest, Do, Do({event, Event}, Acc));
         error -> damaged
-    end.
-
-%% A compressed term says what it unpacks to; that is looked at first, and held to.
-unpacked(<<?EXTERNAL, ?COMPRESSED, Size:32, Packed/binary>>) ->
-    case Size =< ?UNPACKED_FACTOR * byte_size(Packed) + ?UNPACKED_MORE of
-        true -> unpack(Size, Packed);
-        false -> {error, {unpacks, Size}}
-    end;
-unpacked(<<?EXTERNAL, Term/binary>>) ->
-    {ok, Term}.
-
-unpack(Size, Packed) ->
-    Zlib = zlib:open(),
-    try
-        ok = zlib:inflateInit(Zlib),
-        inflate(zlib:safeInflate(Zlib, Packed), Zlib, Size, [])
-    catch
-        error:_ -> {error, not_events}
-    after
-        zlib:close(Zlib)
-    end.
-
-inflate({More, Bytes}, Zlib, Left, Done) ->
-    case {iolist_size(Bytes), More} of
-        {Size, _} when Size > Left -> {error, not_events};
-        {_, finished} -> {ok, iolist_to_binary(lists:reverse(Done, [Bytes]))};
-        {Size, continue} -> inflate(zlib:safeInflate(Zlib, []), Zlib, Left - Size, [Bytes | Done])
     end.
 
 %% `ttb' writes what processes are called into a file beside the trace: a byte with a size and a
@@ -326,15 +237,15 @@ ttb_process([Kind, Process]) ->
 ttb_process(_) ->
     [].
 
-%% A registered name, or the call that the process began with.
+%% @doc What `ttb' says of a process: a registered name, or the call that it began with.
+-spec about_ttb(seqaudit_external:encoded()) -> about().
 about_ttb(Info) ->
     case {seqaudit_external:view(Info), seqaudit_external:tuple(Info)} of
-        {{atom, Name}, _} -> #{name => Name};
-        {_, [_, _, _]} -> #{call => Info};
+        {{atom, Name}, _} -> #{name => binary:copy(Name)};
+        {_, [_, _, _]} -> #{call => binary:copy(Info)};
         _ -> #{}
     end.
 
-%% The facts whose form is right.
 read_facts(Term) ->
     case seqaudit_external:pairs(Term) of
         other -> #{};
@@ -351,21 +262,12 @@ read_fact(<<"processes">>, Value) ->
                                                About <- read_about(Info)]}];
 read_fact(Key, Value) ->
     case {Key, small(Value)} of
+        {_, N} when is_integer(N), N >= 0 ->
+            [{Fact, N} || Fact <- ?COUNTS, atom_to_binary(Fact) =:= Key];
         {<<"lost">>, _} -> [{lost, Value}];
         {<<"ended">>, _} -> [{ended, Value}];
         {<<"split">>, _} -> [{split, Value}];
         {<<"where">>, _} -> [{where, Value}];
-        {<<"dropped">>, N} when is_integer(N), N >= 0 -> [{dropped, N}];
-        {<<"own">>, N} when is_integer(N), N >= 0 -> [{own, N}];
-        {<<"strays">>, N} when is_integer(N), N >= 0 -> [{strays, N}];
-        {<<"written">>, N} when is_integer(N), N >= 0 -> [{written, N}];
-        {<<"bytes">>, N} when is_integer(N), N >= 0 -> [{bytes, N}];
-        {<<"kept">>, N} when is_integer(N), N >= 0 -> [{kept, N}];
-        {<<"kept_bytes">>, N} when is_integer(N), N >= 0 -> [{kept_bytes, N}];
-        {<<"dropped_here">>, N} when is_integer(N), N >= 0 -> [{dropped_here, N}];
-        {<<"came">>, N} when is_integer(N), N >= 0 -> [{came, N}];
-        {<<"cut">>, N} when is_integer(N), N >= 0 -> [{cut, N}];
-        {<<"unread">>, N} when is_integer(N), N >= 0 -> [{unread, N}];
         {<<"clock">>, {Offset, Second}} when is_integer(Offset), is_integer(Second), Second > 0 ->
             [{clock, {Offset, Second}}];
         {<<"pauses">>, {Times, Lasted, First}}
@@ -400,59 +302,6 @@ read_about(Info) ->
                                                         <- [seqaudit_external:view(Caller)]])]
     end.
 
-%% @doc Goes through collections that are terms already.
--spec fold_list([collection()], fun((item(), Acc) -> Acc), Acc) -> Acc.
-fold_list(Collections, Do, Acc) ->
-    lists:foldl(fun(Collection, Sum) ->
-                        Facts = maps:without([events], Collection),
-                        Begun = Do({facts, read_facts(seqaudit_external:from_term(Facts))},
-                                   Do(collection, Sum)),
-                        lists:foldl(fun(Event, Part) ->
-                                            Do({event, seqaudit_external:from_term(Event)}, Part)
-                                    end, Begun, maps:get(events, Collection, []))
-                end, Acc, Collections).
-
-%% @doc The collections of a file as terms, in memory. A term with an atom that this Erlang hasn't
-%% stays bytes.
--spec read(file:filename()) -> {ok, [collection()]} | {error, term()}.
-read(File) ->
-    case fold(File, fun read_item/2, []) of
-        {ok, Read} -> {ok, [collection(Facts, lists:reverse(Events))
-                            || {Facts, Events} <- lists:reverse(Read)]};
-        {error, Reason} -> {error, Reason}
-    end.
-
-read_item(collection, Read) -> [{#{dropped => 0}, []} | Read];
-read_item({facts, Facts}, [{Known, Events} | Read]) -> [{maps:merge(Known, Facts), Events} | Read];
-read_item({event, Event}, [{Facts, Events} | Read]) ->
-    [{Facts, [seqaudit_external:to_term(binary:copy(Event)) | Events]} | Read];
-read_item({stray, _Where, Term}, Read) ->
-    read_item({event, Term}, Read);
-read_item({dropped, Count}, [{#{dropped := Dropped} = Facts, Events} | Read]) ->
-    [{Facts#{dropped := Dropped + Count}, Events} | Read];
-read_item(_, Read) -> Read.
-
-%% Events that don't say where they were collected were so on the node of the first actor.
-collection(Facts, Events) ->
-    Home = case Facts of
-               #{node := Name} -> seqaudit_external:to_term(seqaudit_external:atom(Name));
-               #{} -> hd([node(Actor)
-                          || {seq_trace, _, Info} <- [untimed(Event) || Event <- Events],
-                                         Actor <- actor(Info)] ++ [node()])
-           end,
-    About = maps:from_list([{seqaudit_external:to_term(Pid), seqaudit_external:about_term(Known)}
-                            || {Pid, Known} <- maps:get(processes, Facts, [])]),
-    (maps:with([dropped, own, strays, tracer], Facts))#{node => Home, events => Events,
-                                                        processes => About}.
-
-untimed({seq_trace, Label, Info, _Time}) -> {seq_trace, Label, Info};
-untimed(Event) -> Event.
-
-actor({'receive', _, _, To, _}) when is_pid(To) -> [To];
-actor({send, _, From, _, _}) when is_pid(From) -> [From];
-actor({print, _, From, _, _}) when is_pid(From) -> [From];
-actor(_) -> [].
-
 %% @doc Makes `NAME.events', which nobody else may read: it has the contents of messages.
 -spec open(file:filename()) -> {ok, file:io_device()} | {error, {file, file:filename(), term()}}.
 open(Name) ->
@@ -479,37 +328,24 @@ begin_collection(Device, Facts) ->
 append(Device, Entries) ->
     file:write(Device, Entries).
 
-%% @doc The whole entries at the beginning of these bytes, events up to the limit, with what is
-%% left; and the counts: `kept' events of `kept_bytes', `dropped_here' beyond the limit, and the
-%% bytes that `came'.
--spec whole_entries(binary(), non_neg_integer() | infinity, #{atom() => non_neg_integer()}) ->
-          {iodata(), binary(), #{atom() => non_neg_integer()}}.
-whole_entries(Bytes, Limit, Counts) ->
-    #{kept := Kept, kept_bytes := Size, dropped_here := Dropped, came := Came} = Counts,
-    {Entries, Rest, {Kept1, Size1, Dropped1, Came1}} =
-        whole_entries(Bytes, Limit, [], {Kept, Size, Dropped, Came}),
-    {lists:reverse(Entries), Rest,
-     Counts#{kept := Kept1, kept_bytes := Size1, dropped_here := Dropped1, came := Came1}}.
+%% @doc The whole entries at the beginning of these bytes, and what is left; and the counts: `kept'
+%% events of `kept_bytes', and the bytes that `came'.
+-spec whole_entries(binary(), Counts) -> {binary(), binary(), Counts}
+              when Counts :: #{atom() => non_neg_integer()}.
+whole_entries(Bytes, Counts) ->
+    {Rest, Counted} = count_whole(Bytes, Counts),
+    {binary:part(Bytes, 0, byte_size(Bytes) - byte_size(Rest)), Rest, Counted}.
 
-whole_entries(<<?EVENT, Size:32, Event:Size/binary, Rest/binary>>, Limit, Done,
-              {Kept, Bytes, Dropped, Came}) ->
+count_whole(<<?EVENT, Size:32, _:Size/binary, Rest/binary>>,
+       #{kept := Kept, kept_bytes := Bytes, came := Came} = Counts) ->
     Entry = Size + 5,
-    case Kept < Limit of
-        true -> whole_entries(Rest, Limit, [[<<?EVENT, Size:32>>, Event] | Done],
-                              {Kept + 1, Bytes + Entry, Dropped, Came + Entry});
-        false -> whole_entries(Rest, Limit, Done, {Kept, Bytes, Dropped + 1, Came + Entry})
-    end;
-whole_entries(<<?DROPPED, Count:32, Rest/binary>>, Limit, Done, {Kept, Bytes, Dropped, Came}) ->
-    whole_entries(Rest, Limit, [<<?DROPPED, Count:32>> | Done], {Kept, Bytes, Dropped, Came + 5});
-whole_entries(<<?FACTS, Size:32, Facts:Size/binary, Rest/binary>>, Limit, Done, Counts) ->
-    whole_entries(Rest, Limit, [[<<?FACTS, Size:32>>, Facts] | Done], Counts);
-whole_entries(Rest, _Limit, Done, Counts) ->
-    {Done, Rest, Counts}.
-
-%% @doc Facts of this Erlang in the form of those of a file.
--spec facts(seqaudit_spool:facts()) -> facts().
-facts(Facts) ->
-    read_facts(seqaudit_external:from_term(Facts)).
+    count_whole(Rest, Counts#{kept := Kept + 1, kept_bytes := Bytes + Entry, came := Came + Entry});
+count_whole(<<?DROPPED, _:32, Rest/binary>>, #{came := Came} = Counts) ->
+    count_whole(Rest, Counts#{came := Came + 5});
+count_whole(<<?FACTS, Size:32, _:Size/binary, Rest/binary>>, Counts) ->
+    count_whole(Rest, Counts);
+count_whole(Rest, Counts) ->
+    {Rest, Counts}.
 
 %% @doc Closes the file, once the disk has it.
 -spec close(file:io_device()) -> ok | {error, term()}.
@@ -556,19 +392,12 @@ format_error({written, File}) ->
     text("~ts is what `seqaudit-node convert' writes beside a trace, and has no events", [File]);
 format_error({not_events, File}) ->
     text("~ts has no list of events; give NAME.events, term_to_binary of a list of what the system "
-         "tracer got, a trace file of dbg or ttb, or the events as text", [File]);
-format_error({damaged_version_1, File}) ->
-    text("~ts is of version 1.0 of this application, and is cut or damaged; nothing in it can be "
-         "read", [File]);
-format_error({{unpacks, Size}, File}) ->
-    text("~ts says that it unpacks to ~b bytes, too many for its size; unpack it first",
-         [File, Size]);
+         "tracer got (not compressed), a trace file of dbg or ttb, or the events as text", [File]);
 format_error({no_spool, Folder}) ->
     text("~ts is a folder without files of events; give the folder that the collector named",
          [Folder]);
 format_error({broken_trace, File, Left}) ->
     text("~ts begins as a collector's file or a trace file of dbg or ttb, and its first entry is "
-         "cut or damaged "
-         "(~b bytes)", [File, Left]);
+         "cut or damaged (~b bytes)", [File, Left]);
 format_error({text, File, Line, Reason}) ->
     text("~ts, line ~b: ~ts", [File, Line, Reason]).

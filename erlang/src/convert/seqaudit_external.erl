@@ -4,8 +4,8 @@
 %% what it says, and of a small file terms that fill the memory. So a term stays the bytes that it
 %% is, without the version byte in front. They are walked once, with a counter and no stack, and put
 %% into one form: equal terms have equal bytes, whichever release of OTP wrote them. The only
-%% exceptions are maps in 1,000 others or more, and maps of a message that can't be read to its end:
-%% they keep the order in which their node wrote the pairs.
+%% exceptions are maps in 1,000 others or more, those of more than 1,000,000 pairs, and maps of a
+%% message that can't be read to its end: they keep the order in which their node wrote the pairs.
 %%
 %% Each term in its one form is whole, so whatever reads parts of one meets no damage. A message
 %% with a tag of a newer release of OTP is made whole: nobody knows where such a part ends, so it
@@ -13,8 +13,8 @@
 -module(seqaudit_external).
 
 -export([read/1, take/1, from_term/1, to_term/1, atom/1, name/2, view/1, event/1, readable/1,
-         tuple/1, pairs/1, map/1, list/1, number/1, call/1, call/3, about_term/1, first/1,
-         is_whole/1, part/1, characters/3, request/1]).
+         tuple/1, pairs/1, map/1, list/1, number/1, call/1, call/3, first/1, is_whole/1, part/1,
+         request/1]).
 -export_type([encoded/0, view/0, event/0]).
 
 -define(VERSION, 131).
@@ -26,11 +26,7 @@
 -define(NEWER_REFERENCE, 90).
 -define(SMALL_INTEGER, 97).
 -define(INTEGER, 98).
--define(FLOAT, 99).
 -define(ATOM, 100).
--define(REFERENCE, 101).
--define(PORT, 102).
--define(PID, 103).
 -define(SMALL_TUPLE, 104).
 -define(LARGE_TUPLE, 105).
 -define(NIL, 106).
@@ -41,8 +37,6 @@
 -define(LARGE_BIG, 111).
 -define(NEW_FUN, 112).
 -define(EXPORT, 113).
--define(NEW_REFERENCE, 114).
--define(SMALL_ATOM, 115).
 -define(MAP, 116).
 -define(ATOM_UTF8, 118).
 -define(SMALL_ATOM_UTF8, 119).
@@ -55,9 +49,8 @@
         Tag =< ?NEWER_REFERENCE;
         Tag >= ?SMALL_INTEGER, Tag =< ?MAP; Tag >= ?ATOM_UTF8, Tag =< ?V4_PORT).
 
-%% Pairs of a map that are sorted as a list, which takes far more memory than their bytes. Larger
-%% maps are merged of sorted parts.
--define(SORTED_PAIRS, 10_000).
+%% Pairs of a map that are sorted: in a list, they take far more memory than their bytes.
+-define(SORTED_PAIRS, 1_000_000).
 %% Maps that are so many maps deep have their pairs sorted. Each copies what is in it, and a file
 %% could have millions, one in another.
 -define(SORTED_DEPTH, 1_000).
@@ -68,9 +61,6 @@
 -define(ATOM_CHARACTERS, 255).
 %% Whole numbers of more bytes are printed as their size.
 -define(PRINTED_BIG, 500).
-%% Stands in a list of terms for one that this Erlang can't have, since it lacks one of its atoms.
--define(OPAQUE, '$seqaudit external').
-
 -type encoded() :: binary().
 %% A whole term in its one form.
 
@@ -112,18 +102,15 @@ take(Bytes) ->
 
 %% @doc The bytes of a term of this Erlang.
 -spec from_term(term()) -> encoded().
-from_term({?OPAQUE, Term}) when is_binary(Term) -> Term;
 from_term(Term) ->
     {ok, Encoded} = read(term_to_binary(Term)),
     Encoded.
 
 %% @doc The term, if this Erlang has all of its atoms; no atom is made.
--spec to_term(encoded()) -> term().
+-spec to_term(encoded()) -> term() | other.
 to_term(Encoded) ->
-    try
-        binary_to_term(<<?VERSION, Encoded/binary>>, [safe])
-    catch
-        error:badarg -> {?OPAQUE, Encoded}
+    try binary_to_term(<<?VERSION, Encoded/binary>>, [safe])
+    catch error:badarg -> other
     end.
 
 %% @doc The bytes of an atom of this name, which is UTF-8 of at most 255 characters.
@@ -143,45 +130,46 @@ name(Name, Node) ->
 %% there.
 one(Bytes) ->
     case skip(Bytes, 1) of
-        Left when is_integer(Left) -> split_binary(Bytes, byte_size(Bytes) - Left);
+        {Size, 0} -> split_binary(Bytes, byte_size(Bytes) - Size);
         _ -> walk(Bytes, 1, 0, <<>>)
     end.
 
-%% Returns how many bytes are left after this number of terms. If one of them isn't in its one form,
-%% or that takes a longer look, it returns the bytes from there on with the number of terms that are
-%% left, or `not_in_form'. The walks count the terms that are still to come, so that a deep term
-%% needs no stack. They take what a length says from the bytes that are there, and make nothing for
-%% it in advance.
-skip(<<Rest/binary>>, 0) -> byte_size(Rest);
+%% Skips this number of terms, up to one that isn't in its one form, or that takes a longer look.
+%% Returns how many bytes and how many terms are left. The terms that are still to come are counted,
+%% so that a deep term needs no stack. What a length says is taken from the bytes that are there,
+%% and nothing is made for it in advance.
+skip(<<Rest/binary>>, 0) -> {byte_size(Rest), 0};
 skip(<<?SMALL_INTEGER, _, Rest/binary>>, Left) -> skip(Rest, Left - 1);
 skip(<<?INTEGER, _:32, Rest/binary>>, Left) -> skip(Rest, Left - 1);
-skip(<<?ATOM, Size:16, Rest/binary>>, Left) -> skip_ascii(Rest, Size, 0, Left);
+skip(<<?ATOM, Size:16, Rest/binary>>, Left) -> skip_ascii(Rest, Size, 0, Left, 3 + Size);
 skip(<<?SMALL_TUPLE, Arity, Rest/binary>>, Left) -> skip(Rest, Left - 1 + Arity);
 skip(<<?NIL, Rest/binary>>, Left) -> skip(Rest, Left - 1);
 skip(<<?STRING, Size:16, _:Size/binary, Rest/binary>>, Left) -> skip(Rest, Left - 1);
 skip(<<?LIST, Length:32, Rest/binary>>, Left) -> skip(Rest, Left + Length);
 skip(<<?BINARY, Size:32, _:Size/binary, Rest/binary>>, Left) -> skip(Rest, Left - 1);
-skip(<<?NEW_PID, ?ATOM, Size:16, Rest/binary>>, Left) -> skip_ascii(Rest, Size, 12, Left);
+skip(<<?NEW_PID, ?ATOM, Size:16, Rest/binary>>, Left) ->
+    skip_ascii(Rest, Size, 12, Left, 4 + Size);
 skip(<<?NEWER_REFERENCE, Words:16, ?ATOM, Size:16, Rest/binary>>, Left) when Words =< 5 ->
-    skip_ascii(Rest, Size, 4 + 4 * Words, Left);
+    skip_ascii(Rest, Size, 4 + 4 * Words, Left, 6 + Size);
 skip(<<?SMALL_BIG, Size, _, _:Size/binary, Rest/binary>>, Left) -> skip(Rest, Left - 1);
 skip(<<?NEW_FLOAT, _:64, Rest/binary>>, Left) -> skip(Rest, Left - 1);
 skip(<<?MAP, Pairs:32, Rest/binary>>, Left) when Pairs < 2 -> skip(Rest, Left - 1 + 2 * Pairs);
-skip(<<Bytes/binary>>, Left) -> {Bytes, Left}.
+skip(<<Bytes/binary>>, Left) -> {byte_size(Bytes), Left}.
 
-%% Behind a name of so many bytes come as many more that mean no matter. Four bytes at once are what
-%% Erlang reads fastest.
-skip_ascii(<<Four:32, Rest/binary>>, Size, More, Left)
+%% Behind a name of so many bytes come as many more that mean no matter. The term has so many bytes
+%% up to there. Four bytes at once are what Erlang reads fastest.
+skip_ascii(<<Four:32, Rest/binary>>, Size, More, Left, Term)
   when Size >= 4, Four band 16#80808080 =:= 0 ->
-    skip_ascii(Rest, Size - 4, More, Left);
-skip_ascii(<<Two:16, Rest/binary>>, Size, More, Left) when Size >= 2, Two band 16#8080 =:= 0 ->
-    skip_ascii(Rest, Size - 2, More, Left);
-skip_ascii(<<C, Rest/binary>>, Size, More, Left) when Size > 0, C < 128 ->
-    skip_ascii(Rest, Size - 1, More, Left);
-skip_ascii(<<Rest/binary>>, 0, More, Left) ->
+    skip_ascii(Rest, Size - 4, More, Left, Term);
+skip_ascii(<<Two:16, Rest/binary>>, Size, More, Left, Term)
+  when Size >= 2, Two band 16#8080 =:= 0 ->
+    skip_ascii(Rest, Size - 2, More, Left, Term);
+skip_ascii(<<C, Rest/binary>>, Size, More, Left, Term) when Size > 0, C < 128 ->
+    skip_ascii(Rest, Size - 1, More, Left, Term);
+skip_ascii(<<Rest/binary>>, 0, More, Left, _Term) ->
     skip_bytes(Rest, More, Left);
-skip_ascii(<<_/binary>>, _Size, _More, _Left) ->
-    not_in_form.
+skip_ascii(<<Rest/binary>>, Size, _More, Left, Term) ->
+    {byte_size(Rest) + Term - Size, Left}.
 
 %% The first three lengths are those of an atom, a process and a reference.
 skip_bytes(<<Rest/binary>>, 0, Left) -> skip(Rest, Left - 1);
@@ -189,8 +177,10 @@ skip_bytes(<<_:12/binary, Rest/binary>>, 12, Left) -> skip(Rest, Left - 1);
 skip_bytes(<<_:16/binary, Rest/binary>>, 16, Left) -> skip(Rest, Left - 1);
 skip_bytes(<<_:4/binary, Rest/binary>>, More, Left)
   when More >= 4 -> skip_bytes(Rest, More - 4, Left);
-skip_bytes(<<_/binary>>, _More, _Left) -> not_in_form.
+skip_bytes(<<_/binary>>, _More, _Left) -> throw(damaged).
 
+%% Puts this number of terms in their one form behind what is done. Later releases than OTP 25 write
+%% atoms otherwise, so all of their terms come here, and the frequent ones first.
 walk(<<Rest/binary>>, 0, _Depth, Done) ->
     {Done, Rest};
 walk(<<?SMALL_INTEGER, N, Rest/binary>>, Left, Depth, Done) ->
@@ -222,8 +212,8 @@ walk(<<Bytes/binary>>, Left, Depth, Done) ->
 
 %% Goes on if the first term is a map, a large tuple, a fun, or one that has its node's name in it.
 walk_other(<<?MAP, Pairs:32, Rest/binary>>, Left, Depth, Done)
-  when Pairs > 1, Depth < ?SORTED_DEPTH ->
-    {Sorted, After} = sorted_pairs(Pairs, Rest, Depth + 1),
+  when Pairs > 1, Pairs =< ?SORTED_PAIRS, Depth < ?SORTED_DEPTH ->
+    {Sorted, After} = sorted_pairs(Pairs, Rest, Depth + 1, []),
     walk(After, Left - 1, Depth, <<Done/binary, ?MAP, Pairs:32, Sorted/binary>>);
 walk_other(<<?MAP, Pairs:32, Rest/binary>>, Left, Depth, Done) ->
     walk(Rest, Left - 1 + 2 * Pairs, Depth, <<Done/binary, ?MAP, Pairs:32>>);
@@ -260,37 +250,14 @@ without_parts(<<?NEWER_REFERENCE, Words:16, Rest/binary>>) when Words =< 5 ->
 without_parts(Bytes) ->
     seldom(Bytes).
 
-%% Takes a term that is seldom written, or that only older releases write.
 seldom(<<?V4_PORT, Rest0/binary>>) ->
     with_node(Rest0, 12, fun(Node, Numbers) -> <<?V4_PORT, Node/binary, Numbers/binary>> end);
 seldom(<<?NEW_PORT, Rest0/binary>>) ->
     with_node(Rest0, 8, fun(Node, Numbers) -> <<?V4_PORT, Node/binary, 0:32, Numbers/binary>> end);
-seldom(<<?PORT, Rest0/binary>>) ->
-    with_node(Rest0, 5, fun(Node, <<Id:32, Creation>>) ->
-                                <<?V4_PORT, Node/binary, Id:64, Creation:32>>
-                        end);
-seldom(<<?PID, Rest0/binary>>) ->
-    with_node(Rest0, 9, fun(Node, <<Numbers:8/binary, Creation>>) ->
-                                <<?NEW_PID, Node/binary, Numbers/binary, Creation:32>>
-                        end);
-seldom(<<?REFERENCE, Rest0/binary>>) ->
-    with_node(Rest0, 5, fun(Node, <<Id:32, Creation>>) ->
-                                <<?NEWER_REFERENCE, 1:16, Node/binary, Creation:32, Id:32>>
-                        end);
-seldom(<<?NEW_REFERENCE, Words:16, Rest0/binary>>) when Words =< 5 ->
-    with_node(Rest0, 1 + 4 * Words,
-              fun(Node, <<Creation, Ids/binary>>) ->
-                      <<?NEWER_REFERENCE, Words:16, Node/binary, Creation:32, Ids/binary>>
-              end);
 seldom(<<?LARGE_BIG, Size:32, Bytes:(Size + 1)/binary, Rest/binary>>) ->
     {<<?LARGE_BIG, Size:32, Bytes/binary>>, Rest};
 seldom(<<?BIT_BINARY, Size:32, Bits, Bytes:Size/binary, Rest/binary>>) when Bits >= 1, Bits =< 8 ->
     {<<?BIT_BINARY, Size:32, Bits, Bytes/binary>>, Rest};
-seldom(<<?FLOAT, Text:31/binary, Rest/binary>>) ->
-    [Digits | _] = binary:split(Text, <<0>>),
-    try {<<?NEW_FLOAT, (binary_to_float(Digits)):64/float>>, Rest}
-    catch error:badarg -> throw(damaged)
-    end;
 seldom(<<Tag, _/binary>> = Bytes) when ?IS_KNOWN(Tag) ->
     take_atom(Bytes);
 seldom(<<_, _/binary>>) ->
@@ -306,7 +273,6 @@ with_node(Bytes, Size, Make) ->
     end.
 
 take_atom(<<?ATOM, Size:16, Name:Size/binary, Rest/binary>>) -> {latin1_atom(Name), Rest};
-take_atom(<<?SMALL_ATOM, Size, Name:Size/binary, Rest/binary>>) -> {latin1_atom(Name), Rest};
 take_atom(<<?SMALL_ATOM_UTF8, Size, Name:Size/binary, Rest/binary>>) -> {utf8_atom(Name), Rest};
 take_atom(<<?ATOM_UTF8, Size:16, Name:Size/binary, Rest/binary>>) -> {utf8_atom(Name), Rest};
 take_atom(_) -> throw(damaged).
@@ -322,7 +288,6 @@ take_integer(<<?INTEGER, N:32, Rest/binary>>) -> {<<?INTEGER, N:32>>, Rest};
 take_integer(_) -> throw(damaged).
 
 behind_process(<<?NEW_PID, Rest/binary>>) -> behind_numbers(take_atom(Rest), 12);
-behind_process(<<?PID, Rest/binary>>) -> behind_numbers(take_atom(Rest), 9);
 behind_process(_) -> throw(damaged).
 
 behind_numbers({_Node, Bytes}, Size) ->
@@ -352,50 +317,17 @@ is_utf8(<<>>, _Left) -> true;
 is_utf8(<<_/utf8, Rest/binary>>, Left) when Left > 0 -> is_utf8(Rest, Left - 1);
 is_utf8(_, _) -> false.
 
-sorted_pairs(Pairs, Bytes, Depth) when Pairs =< ?SORTED_PAIRS ->
-    {Sorted, Rest} = sorted(Pairs, Bytes, Depth, []),
-    {iolist_to_binary([[Key, Value] || {Key, Value} <- Sorted]), Rest};
-sorted_pairs(Pairs, Bytes, Depth) ->
-    {Runs, Rest} = runs(Pairs, Bytes, Depth, []),
-    {<< <<Pair/binary>> || <<Size:32, _:32, Pair:Size/binary>> <= merged(Runs) >>, Rest}.
-
-sorted(0, Rest, _Depth, Pairs) ->
-    {lists:sort(Pairs), Rest};
-sorted(Left, Bytes, Depth, Pairs) ->
+sorted_pairs(0, Rest, _Depth, Pairs) ->
+    {iolist_to_binary([[Key, Value] || {Key, Value} <- lists:sort(Pairs)]), Rest};
+sorted_pairs(Left, Bytes, Depth, Pairs) ->
     {Key, Rest0} = part(Bytes, Depth),
     {Value, Rest} = part(Rest0, Depth),
-    sorted(Left - 1, Rest, Depth, [{Key, Value} | Pairs]).
-
-%% Sorted parts of the pairs, each pair behind its size and that of its key.
-runs(0, Rest, _Depth, Runs) ->
-    {Runs, Rest};
-runs(Left, Bytes, Depth, Runs) ->
-    Count = min(Left, ?SORTED_PAIRS),
-    {Sorted, Rest} = sorted(Count, Bytes, Depth, []),
-    Run = << <<(byte_size(Key) + byte_size(Value)):32, (byte_size(Key)):32, Key/binary,
-               Value/binary>>
-             || {Key, Value} <- Sorted >>,
-    runs(Left - Count, Rest, Depth, [Run | Runs]).
-
-merged([Run]) -> Run;
-merged(Runs) -> merged(by_twos(Runs)).
-
-by_twos([One, Other | Runs]) -> [merge(One, Other, <<>>) | by_twos(Runs)];
-by_twos(Runs) -> Runs.
-
-merge(<<>>, Other, Done) -> <<Done/binary, Other/binary>>;
-merge(One, <<>>, Done) -> <<Done/binary, One/binary>>;
-merge(<<Size:32, KeySize:32, Pair:Size/binary, Rest/binary>> = One,
-      <<OtherSize:32, OtherKey:32, OtherPair:OtherSize/binary, OtherRest/binary>> = Other, Done) ->
-    case binary:part(Pair, 0, KeySize) =< binary:part(OtherPair, 0, OtherKey) of
-        true -> merge(Rest, Other, <<Done/binary, Size:32, KeySize:32, Pair/binary>>);
-        false -> merge(One, OtherRest, <<Done/binary, OtherSize:32, OtherKey:32, OtherPair/binary>>)
-    end.
+    sorted_pairs(Left - 1, Rest, Depth, [{Key, Value} | Pairs]).
 
 part(Bytes, Depth) ->
     case skip(Bytes, 1) of
-        Left when is_integer(Left) ->
-            split_binary(Bytes, byte_size(Bytes) - Left);
+        {Size, 0} ->
+            split_binary(Bytes, byte_size(Bytes) - Size);
         _ ->
             {Term, Rest} = walk(Bytes, 1, Depth, <<>>),
             {binary:copy(Term), Rest}
@@ -430,11 +362,11 @@ first(Bytes) ->
 %% Returns how many bytes are left after this number of terms in their one form.
 left(Bytes, Count) ->
     case skip(Bytes, Count) of
-        {Seldom, Left} ->
-            {Parts, Rest} = begun(Seldom),
-            left(Rest, Left - 1 + Parts);
-        Size ->
-            Size
+        {Size, 0} ->
+            Size;
+        {Size, Left} ->
+            {Parts, Rest} = begun(binary:part(Bytes, byte_size(Bytes), -Size)),
+            left(Rest, Left - 1 + Parts)
     end.
 
 %% @doc Whether nothing in a term is unread.
@@ -443,10 +375,11 @@ is_whole(Term) ->
     is_whole(Term, 1).
 
 is_whole(Bytes, Count) ->
-    case skip(Bytes, Count) of
-        {<<?UNREAD, _/binary>>, _} ->
+    {Size, Left} = skip(Bytes, Count),
+    case binary:part(Bytes, byte_size(Bytes), -Size) of
+        <<?UNREAD, _/binary>> when Left > 0 ->
             false;
-        {Seldom, Left} ->
+        Seldom when Left > 0 ->
             {Parts, Rest} = begun(Seldom),
             is_whole(Rest, Left - 1 + Parts);
         _ ->
@@ -522,7 +455,7 @@ readable(Bytes) ->
     {Term, _} = one_readable(Bytes),
     Term.
 
-%% OTP 25 and 27 write short atoms with another tag.
+%% OTP 25 and later releases write short atoms with different tags.
 event_of(<<?SMALL_TUPLE, Arity, ?ATOM, 9:16, "seq_trace", Rest/binary>> = Bytes)
   when Arity =:= 3; Arity =:= 4 ->
     event_of(Rest, Arity, Bytes);
@@ -561,7 +494,6 @@ event_body(Kind, <<?SMALL_TUPLE, 2, Rest0/binary>>, Arity, Label, Bytes) when Ki
 event_body(_Kind, _, _Arity, _Label, Bytes) ->
     other(Bytes).
 
-%% Reads the message and the time, which follows it.
 message(Arity, Bytes) ->
     case one_readable(Bytes) of
         {Message, unread} -> {Message, none};
@@ -569,12 +501,9 @@ message(Arity, Bytes) ->
     end.
 
 %% A number of a serial: a node shows the lowest 60 bits of its counters with their sign.
-count(<<?SMALL_INTEGER, N, Rest/binary>>) -> {N, Rest};
-count(<<?INTEGER, N:32/signed, Rest/binary>>) -> {N, Rest};
-count(<<?SMALL_BIG, Size, Sign, N:Size/little-unit:8, Rest/binary>>) -> {signed(Sign, N), Rest};
 count(Bytes) ->
-    {_, Rest} = one(Bytes),
-    {other, Rest}.
+    {Count, Rest} = one(Bytes),
+    {number(Count), Rest}.
 
 other(Bytes) ->
     case one(Bytes) of
@@ -658,11 +587,6 @@ map(Left, Bytes) ->
 list(<<?LIST, Length:32, Rest/binary>>) -> lists:droplast(elements(Length + 1, Rest));
 list(_) -> [].
 
-%% @doc Returns what is known of a process as a term.
--spec about_term(seqaudit_events:about()) -> #{name | call | caller => term()}.
-about_term(About) ->
-    maps:map(fun(name, Name) -> to_term(atom(Name)); (_, Term) -> to_term(Term) end, About).
-
 %% @doc The outermost part of the first term of these bytes: what its elements are read from, or the
 %% whole leaf. `newer' is one with this tag of a newer release, and `unread' what should follow it.
 -spec part(encoded()) -> {tuple | list | map, non_neg_integer(), binary()}
@@ -698,7 +622,6 @@ part(Bytes) ->
     {Leaf, Rest} = first(Bytes),
     {leaf, leaf(Leaf), Rest}.
 
-%% The names of so many atoms.
 atom_names(0, Rest, Names) ->
     {lists:reverse(Names), Rest};
 atom_names(Left, Bytes, Names) ->
@@ -735,26 +658,6 @@ leaf(Bytes) ->
 
 signed(0, N) -> N;
 signed(_, N) -> -N.
-
-%% @doc The first characters of a list, if all of these are printable and the list is no longer
-%% or goes on.
--spec characters(non_neg_integer(), binary(), pos_integer()) -> {ok, string()} | other.
-characters(Length, Elements, Most) ->
-    characters(min(Length, Most), Length > Most, Elements, []).
-
-characters(0, true, _Rest, Done) -> printable(lists:reverse(Done));
-characters(0, false, <<?NIL, _/binary>>, Done) -> printable(lists:reverse(Done));
-characters(Left, Longer, <<?SMALL_INTEGER, C, Rest/binary>>, Done) when Left > 0 ->
-    characters(Left - 1, Longer, Rest, [C | Done]);
-characters(Left, Longer, <<?INTEGER, C:32, Rest/binary>>, Done) when Left > 0, C =< 16#10FFFF ->
-    characters(Left - 1, Longer, Rest, [C | Done]);
-characters(_, _, _, _) -> other.
-
-printable(Characters) ->
-    case Characters =/= [] andalso io_lib:printable_unicode_list(Characters) of
-        true -> {ok, Characters};
-        false -> other
-    end.
 
 %% @doc The process and the alias of a request of `gen_server' and its kin, which the reply goes to.
 -spec request(encoded()) -> {Owner :: encoded(), Alias :: encoded()} | none.

@@ -1,22 +1,15 @@
-%% @doc `NAME.notes': what the conversion decided, what it left out, and what `gemshowal' won't
-%% take.
+%% @doc `NAME.notes': what the conversion decided, and what it left out.
 %%
 %% `NAME.facts' has the same sentences, each behind the kind of fact that it says: below the line
 %% `seqaudit facts 1' a line each, with a tab between. What a trace lacks is computed from the
 %% kinds, as a name in a sentence may be any word.
 -module(seqaudit_notes).
 
--export([facts/2, facts_text/1, losses/1, nothing/0, dropped/2]).
+-export([facts/1, facts_text/1, losses/1, nothing/0, dropped/2]).
 -export_type([fact/0]).
 
 -import(seqaudit_errors, [text/2]).
 
-%% The limits of `gemshowal', which are greater than those of `seqaudit'.
--define(MOST_BYTES, 17_179_869_184).
--define(MOST_PROCESSES, 1_000_000).
--define(MOST_EVENTS, 16_000_000).
-%% Entries of one kind that are listed; `NAME.terms' has them all.
--define(LISTED, 5).
 %% Reasons come from files, so little of them is shown.
 -define(REASON, 200).
 %% A byte that says what it is, and four with the size.
@@ -29,8 +22,6 @@
                  nameless]).
 
 -type fact() :: {Kind :: atom(), Sentence :: string()}.
-
--type sizes() :: #{bytes | processes | events => non_neg_integer()}.
 
 %% @doc How many events came and are not in the bundle. Of events that a port wrote over only their
 %% bytes are known: they are taken to be as large as the kept ones.
@@ -47,7 +38,7 @@ count(Kind, Counts) ->
 
 %% Adds what a collection says of itself to what was found in it.
 known(dropped, #{facts := Facts} = Collection) ->
-    count(dropped, Facts) + count(dropped_here, Facts) + count(dropped, Collection);
+    count(dropped, Facts) + count(dropped, Collection);
 known(left, #{facts := Facts} = Collection) ->
     count(cut, Facts) + count(left, Collection);
 known(Kind, #{facts := Facts} = Collection) ->
@@ -56,8 +47,8 @@ known(Kind, #{facts := Facts} = Collection) ->
 %% The bytes that a port wrote over, and about how many events they were: all that came to the port
 %% without what its files have. The port counts an event without what comes before it in a file.
 over(#{facts := #{by := port, written := Written, came := Came, kept := Kept, kept_bytes := Size,
-                  cut := Cut} = Facts}) ->
-    Over = Written + ?BEFORE_EVENT * (Kept + count(dropped_here, Facts)) - Came - Cut,
+                  cut := Cut}}) ->
+    Over = Written + ?BEFORE_EVENT * Kept - Came - Cut,
     case Size - ?BEFORE_EVENT * Kept of
         _ when Over =< 0 -> {0, 0};
         Bytes when Bytes > 0 -> {Over, max(1, Over * Kept div Bytes)};
@@ -68,23 +59,15 @@ over(_) ->
 
 %% @doc The facts, of which each sentence is a note; nothing if there is nothing to say.
 -spec facts(#{collections := [seqaudit_build:collected()], counts := #{atom() => non_neg_integer()},
-              wrapped := boolean(),
-              listed := [{seqaudit_processes:pid_number(), seqaudit_processes:party()}],
-              labels := [{non_neg_integer(), seqaudit_external:encoded()}], atom() => term()},
-            sizes()) -> [fact()].
+              samples := #{atom() => [string()]}, wrapped := boolean(),
+              events := non_neg_integer(), atom() => term()}) -> [fact()].
 facts(#{collections := Collections, counts := Counts, samples := Samples, wrapped := Wrapped,
-        listed := Listed,
-        labels := Labels}, Sizes) ->
+        events := Events}) ->
     Known = lists:append([collected(Collection) || Collection <- Collections])
         ++ converted(Counts, Samples),
-    lists:append([of_kind(nothing, [nothing() || is_nothing(Known, Sizes)]),
+    lists:append([of_kind(nothing, [nothing() || Events =:= 0, not is_lossy(Known)]),
                   Known,
-                  of_kind(wrapped, [wrapped() || Wrapped]),
-                  of_kind(limits, limits(Sizes)),
-                  of_kind(nodes, nodes_of(Listed)),
-                  of_kind(further_nodes, further_nodes(seqaudit_processes:further_nodes(Listed))),
-                  of_kind(renumbered, renumbered(Listed)),
-                  of_kind(labels, labels(Labels, Listed))]).
+                  of_kind(wrapped, [wrapped() || Wrapped])]).
 
 of_kind(Kind, Sentences) -> [{Kind, Sentence} || Sentence <- Sentences].
 
@@ -109,13 +92,11 @@ nothing() ->
 
 wrapped() ->
     "counters have wrapped: each spawn under a token multiplies them by 16, and a serial shows "
-    "their lowest 60 bits with "
-        "a sign; so NAME.seqtrace is of version 3, which has the counts as the node prints them".
+    "their lowest 60 bits with a sign; so NAME.seqtrace is of version 3, which has the counts as "
+    "the node prints them".
 
-%% If something is gone, events may have come.
-is_nothing(Known, #{events := 0}) ->
-    [] =:= [Kind || {Kind, _} <- Known, lists:member(Kind, ?LOSSES)];
-is_nothing(_Known, _Sizes) -> false.
+%% Whether something is gone, so that events may have come.
+is_lossy(Known) -> lists:any(fun({Kind, _}) -> lists:member(Kind, ?LOSSES) end, Known).
 
 collected(#{facts := Facts} = Collection) ->
     Node = seqaudit_terms:plain(maps:get(node, Facts, <<"a node">>)),
@@ -126,8 +107,7 @@ collected(#{facts := Facts} = Collection) ->
         ++ [{Kind, text(Format, [Node, seqaudit_errors:count(known(Kind, Collection), Thing)])}
             || {Kind, Thing, Format} <-
                    [{dropped, "event",
-                     "~ts: the collector dropped ~ts beyond the limit; raise the limit "
-                     "or trace for a shorter time"},
+                     "~ts: the collector dropped ~ts; raise --bytes or trace for a shorter time"},
                     {own, "event", "~ts: convert left out ~ts that named the collector"},
                     {strays, "message", "~ts: the collector got ~ts besides trace events"}],
                known(Kind, Collection) > 0]
@@ -164,8 +144,8 @@ lost(Node, #{lost := Reason} = Facts) ->
            end,
            case Facts of
                #{where := Where} ->
-                   text("; its events are in ~ts there, and `seqaudit-node convert' "
-                                         "takes that folder", [reason(Where)]);
+                   text("; its events are in ~ts there, and `seqaudit-node convert' takes that "
+                        "folder", [reason(Where)]);
                #{kept := Kept} -> text("; what it wrote before, ~ts, is here",
                                        [seqaudit_errors:count(Kept, "event")]);
                #{} -> ", and all of its events are lost"
@@ -206,17 +186,13 @@ why(Why) ->
     case [seqaudit_external:view(Part) || Part <- parts(Why)] of
         [{atom, <<"fell_behind">>}] ->
             "events came faster than they could be written by a process, not by a trace port; what "
-            "came until "
-                "then is here";
+            "came until then is here";
         [{atom, <<"fell_behind">>}, _] ->
             text("events came faster than they could be written, ~ts times",
                  [reason(lists:last(parts(Why)))]);
         [{atom, <<"unwatched">>}, _] ->
             text("the process that bounds the memory of the trace port ended (~ts)",
                  [reason(lists:last(parts(Why)))]);
-        [{atom, <<"taken_over">>}] ->
-            "whoever led the collection couldn't be reached, and somebody else took the node over "
-            "(--take-over)";
         [{atom, <<"owner_out_of_reach">>}] ->
             "the node that led the collection was out of reach for too long";
         [{atom, <<"owner">>}, _] ->
@@ -246,7 +222,6 @@ split(Node, #{split := Split}) ->
 split(_Node, _Facts) ->
     [].
 
-%% The tracer was off while the port was behind.
 pauses(Node, #{pauses := {Times, Lasted, First}}) ->
     [text("~ts: events came faster than they could be written, so the tracer was off ~ts, for ~ts "
           "ms in all, and what happened meanwhile is lost (it can't be counted): ~ts~ts",
@@ -274,8 +249,8 @@ written_over(Node, Collection) ->
         {0, _} -> [];
         {Bytes, Events} ->
             [text("~ts: more came than the files hold, and the oldest ~b bytes were written over, "
-                  "about "
-                  "~b events; raise --bytes or trace for a shorter time", [Node, Bytes, Events])]
+                  "about ~b events; raise --bytes or trace for a shorter time",
+                  [Node, Bytes, Events])]
     end.
 
 tracer(_Node, put_back) -> [];
@@ -293,8 +268,7 @@ converted(Counts, Samples) ->
               "~ts to an alias or a name: the receive of each says which process that is"},
              {by_request, "~ts to an alias: the request that handed it out says whose it is"},
              {ambiguous, "~ts to an alias or a name that two receives or requests fit: it isn't "
-                         "known "
-              "whose it was, and it is shown as a process of its own"},
+                         "known whose it was, and it is shown as a process of its own"},
              {unresolved,
               "~ts to an alias or a name that nothing resolves; it is shown as a process of "
               "its own"},
@@ -319,61 +293,3 @@ samples(Count, Samples) ->
                       0 -> "";
                       More -> text("; and ~ts more", [seqaudit_errors:number(More)])
                   end]).
-
-limits(Sizes) ->
-    [text("the programs don't take this trace: it has ~ts ~ts, and `gemshowal' takes ~ts; trace "
-          "for a shorter time",
-          [seqaudit_errors:number(count(Kind, Sizes)), Kind, seqaudit_errors:number(Most)])
-     || {Kind, Most} <- [{bytes, ?MOST_BYTES}, {processes, ?MOST_PROCESSES},
-                         {events, ?MOST_EVENTS}],
-        count(Kind, Sizes) > Most].
-
-further_nodes([]) ->
-    [];
-further_nodes(Further) ->
-    [text("more processes than a node number has numbers for: ~ts, of which NAME.terms says which "
-          "nodes they mean",
-          [seqaudit_errors:count(length(Further), "further node number")])].
-
-nodes_of(Listed) ->
-    Further = maps:from_list(seqaudit_processes:further_nodes(Listed)),
-    Homes = maps:from_list([{Node, Party} || {{Node, _}, Party} <- Listed,
-                                             not is_map_key(Node, Further)]),
-    case lists:sort(maps:to_list(Homes)) of
-        [_, _ | _] = Nodes ->
-            several("nodes are numbered by name: ", Nodes,
-                    fun({Number, Party}) ->
-                            text("~b is ~ts", [Number, seqaudit_terms:plain(
-                                                         seqaudit_processes:home(Party))])
-                    end);
-        _ -> []
-    end.
-
-renumbered(Listed) ->
-    several("no processes, or their number was taken, so they have free numbers: ",
-            [Each || {Number, Party} = Each <- Listed,
-                     not seqaudit_processes:is_own(Party, Number)],
-            fun({Number, Party}) ->
-                    text("~ts is ~ts", [seqaudit_processes:spell(Number),
-                                        seqaudit_processes:what(Party, #{}, "")])
-            end).
-
-%% A label is spelled as `NAME.terms' has it, and as `--label' takes it.
-labels(Labels, Listed) ->
-    Numbers = maps:from_list([{Party, Number} || {Number, Party} <- Listed]),
-    several("labels that aren't numbers from 0 to 4294967295 have numbers: ",
-            [Each || {Number, Term} = Each <- Labels, Number =/= seqaudit_external:number(Term)],
-            fun({Number, Term}) ->
-                    text("~b is ~ts", [Number, seqaudit_terms:short(
-                                                 seqaudit_terms:encoded(Term, Numbers), 100)])
-            end).
-
-%% There may be millions of entries, so a text is made only of those that are listed.
-several(_What, [], _Text) -> [];
-several(What, Entries, Text) ->
-    Shown = lists:append(lists:join("; ", [Text(Entry) || Entry <- lists:sublist(Entries,
-                                                                                 ?LISTED)])),
-    case length(Entries) - ?LISTED of
-        More when More > 0 -> [What ++ text("~ts; and ~b more, see NAME.terms", [Shown, More])];
-        _ -> [What ++ Shown]
-    end.

@@ -6,9 +6,11 @@
 %% 65,535, and for what is no process, a number is taken that nobody has, from 65,535 downwards.
 -module(seqaudit_processes).
 
--export([number/1, further_nodes/1, is_own/2, home/1, has_several_homes/1, spell/1, registered/3,
+-export([number/1, further_nodes/1, has_several_homes/1, spell/1, registered/3,
          name/3, what/3]).
 -export_type([party/0, pid_number/0, numbers/0]).
+
+-import(seqaudit_external, [view/1]).
 
 -define(GREATEST, 65_535).
 
@@ -76,8 +78,7 @@ free(_Node, N, _Taken) when N < 0 -> none;
 free(Node, N, Taken) when is_map_key({Node, N}, Taken) -> free(Node, N - 1, Taken);
 free(_Node, N, _Taken) -> N.
 
-%% @doc The name of a party's node.
--spec home(party()) -> binary().
+%% The name of a party's node.
 home(Party) ->
     case view(Party) of
         {name, _, Node} -> Node;
@@ -90,18 +91,6 @@ has_several_homes([]) -> false;
 has_several_homes([First | Others]) ->
     Home = home(First),
     lists:any(fun(Party) -> home(Party) =/= Home end, Others).
-
-%% @doc Whether the party is a process that kept its number.
--spec is_own(party(), pid_number()) -> boolean().
-is_own(Party, {_, Number}) ->
-    case view(Party) of
-        {process, _, Number, _} -> true;
-        _ -> false
-    end.
-
-%% A party may also be given as a term of this Erlang.
-view(Party) when is_binary(Party) -> seqaudit_external:view(Party);
-view(Party) -> seqaudit_external:view(seqaudit_external:from_term(Party)).
 
 %% @doc A pid of the bundle in its one spelling.
 -spec spell(pid_number()) -> string().

@@ -1,10 +1,8 @@
 %% @doc The events by which OTP spawns a process: where they belong in its stream, which receives
 %% are answers, and what the process was called with.
 %%
-%% `spawn' reports two events for the process that it makes: the receive of the request, and the
-%% send of the reply. The spawner makes them, and they stay in its buffer for a while, so a tracer
-%% that is a process may get them behind events of the new process. They are always that process's
-%% first two events, and go there.
+%% The first two events of a process that is spawned, the receive of the request and the send of the
+%% reply, are made by its spawner, so a tracer that is a process may get them behind later ones.
 %%
 %% The reply is an answer if its receiver spawned by `spawn' and its kin, which wait for it: its
 %% next event is the receive of the reply, and it keeps its token. The reply to `spawn_request', and
@@ -23,7 +21,6 @@
 -define(REMOTE_REQUEST, 3).
 -define(REPLY, 4).
 -define(KINDS, 8).
-%% Values that are taken from their table at once.
 -define(AT_ONCE, 1_000).
 %% An answer moves the counter to 16 T + 15. From this T on that is more than the 59 bits which a
 %% serial shows without a minus.
@@ -102,13 +99,7 @@ kind(From, Value, Senders, Spawns) ->
 %% @doc Looks for the events of births.
 -spec births(seqaudit_build:packed(), senders(), spawns()) -> births().
 births(Packed, Senders, Spawns) ->
-    Shares = seqaudit_workers:shares(Packed, fun(Part, First) ->
-                                                     births(Part, First, Senders, Spawns, #{})
-                                             end),
-    lists:foldl(fun(Later, Earlier) ->
-                        maps:merge_with(fun(_, One, Other) -> maps:merge(Other, One) end,
-                                        Earlier, Later)
-                end, #{}, Shares).
+    births(Packed, 0, Senders, Spawns, #{}).
 
 %% @doc The places of each process's events, with those of its birth first.
 -spec births_first(#{non_neg_integer() => binary()}, births()) -> #{non_neg_integer() => binary()}.
@@ -163,7 +154,7 @@ learn(Births, Packed, Listed, Values, Known) ->
               || {Actor, Birth} <- maps:to_list(Births),
                  What <- [request, remote], #{What := Place} <- [Birth],
                  Process <- [element(Actor + 1, Actors)],
-                 not is_map_key(call, maps:get(Process, Known, #{}))],
+                 not is_map_key(caller, maps:get(Process, Known, #{}))],
     learn(lists:sort(Wanted), Values, Known, #{}).
 
 value(Place, Packed) ->
@@ -186,11 +177,13 @@ learn([{First, _} | _] = Wanted, Values, Known, Common) ->
     {Learned, Kept} = lists:foldl(Learn, {Known, Common}, Here),
     learn(Later, Values, Learned, Kept).
 
-%% Returns what a request to spawn says of the new process.
 called([_Word, _Reference, _Parent, _Leader, Call | Others]) ->
     case {seqaudit_external:call(Call), Others} of
         {{<<"proc_lib">>, <<"init_p">>, 5}, [_Options, _Tag, Arguments]} ->
             called_by_proc_lib(seqaudit_external:list(Arguments));
+        {{<<"Elixir.Task.Supervised">>, _, _}, [_Options, _Tag, Arguments]} ->
+            [Owner | _] = seqaudit_external:list(Arguments) ++ [<<>>],
+            maps:merge(#{call => binary:copy(Call)}, owned(seqaudit_external:tuple(Owner)));
         {{_, _, _}, _} -> #{call => binary:copy(Call)};
         {other, _} -> #{}
     end.
@@ -232,16 +225,13 @@ owned(_) ->
 
 %% @doc Whether a counter has passed what a serial shows without a minus.
 -spec has_wrapped(seqaudit_build:packed(), spawns()) -> boolean().
-has_wrapped(Packed, Spawns) ->
-    lists:member(true, seqaudit_workers:shares(Packed, fun(Part, _) -> wraps(Part, Spawns) end)).
-
-wraps(<<?PACKED(_K, _L, Prev, This, _F, _O, _V, _Time), _/binary>>, _Spawns)
+has_wrapped(<<?PACKED(_K, _L, Prev, This, _F, _O, _V, _Time), _/binary>>, _Spawns)
   when Prev < 0; This < 0 -> true;
-wraps(<<?PACKED(?RECEIVE, _L, _P, This, _F, _O, Value, _Time), Rest/binary>>, Spawns)
+has_wrapped(<<?PACKED(?RECEIVE, _L, _P, This, _F, _O, Value, _Time), Rest/binary>>, Spawns)
   when This >= ?LEAST_TO_WRAP ->
-    atomics:get(Spawns, Value + 1) rem ?KINDS =:= ?REPLY orelse wraps(Rest, Spawns);
-wraps(<<_:?PACKED_SIZE/binary, Rest/binary>>, Spawns) -> wraps(Rest, Spawns);
-wraps(<<>>, _Spawns) -> false.
+    atomics:get(Spawns, Value + 1) rem ?KINDS =:= ?REPLY orelse has_wrapped(Rest, Spawns);
+has_wrapped(<<_:?PACKED_SIZE/binary, Rest/binary>>, Spawns) -> has_wrapped(Rest, Spawns);
+has_wrapped(<<>>, _Spawns) -> false.
 
 %% @doc Whether an event is the answer of a spawn, by the event that comes before it in its
 %% process's stream.

@@ -26,7 +26,6 @@
 %% a part takes memory while it is printed, and a file of some bytes can have millions.
 -define(WHOLE_DEPTH, 10_000).
 -define(ALL, 1_000_000_000_000).
-%% Characters that are put in quotes at once.
 -define(QUOTED, 1_000).
 
 %% The characters with which an atom without quotes begins, and which it may have behind that.
@@ -155,42 +154,34 @@ print_parts(Left, Bytes, Depth, Parts, Style, Before) ->
     {Text, PartsLeft, Rest} = print(Bytes, Depth, Parts, Style, Before),
     print_parts(Left - 1, Rest, Depth, PartsLeft, Style, separated(Left, Text)).
 
-%% A comma separates the parts.
 separated(1, Text) -> Text;
 separated(_, Text) -> <<Text/binary, $,>>.
 
 %% A list of characters is a text, of which the first are shown.
-print_list(Length, Elements, Bytes, Depth, Parts, Style, Before) ->
-    case list_text(Length, Elements, Style#style.bytes) of
+print_list(Length, Elements, Bytes, Depth, Parts, #style{bytes = Most} = Style, Before) ->
+    case text(Length, Elements, Most + 1, <<>>) of
         {ok, Text} ->
             {_, Rest} = seqaudit_external:first(Bytes),
-            {append_quoted(Text, Before), Parts - 1, Rest};
+            {append_quoted(Text, Most, Before), Parts - 1, Rest};
         other ->
             {Text, Left, Tail} =
                 print_parts(Length, Elements, Depth - 1, Parts - 1, Style, <<Before/binary, $[>>),
             print_tail(Text, Tail, Depth - 1, Left, Style)
     end.
 
-%% The characters of a list that shows, if all of them are printable. A whole text is made in one
-%% binary.
-list_text(Length, Elements, ?BYTES) ->
-    case seqaudit_external:characters(Length, Elements, ?BYTES + 1) of
-        {ok, Characters} -> {ok, short(Characters, ?BYTES)};
-        other -> other
-    end;
-list_text(Length, Elements, _Most) ->
-    whole_text(Length, Elements, <<>>).
-
-whole_text(0, Bytes, Text) ->
+%% The characters of a list up to this number, if all of them are printable.
+text(_, _, 0, Text) ->
+    {ok, Text};
+text(0, Bytes, _Most, Text) ->
     case seqaudit_external:part(Bytes) of
         {leaf, nil, _} -> {ok, Text};
         _ -> other
     end;
-whole_text(Left, Bytes, Text) ->
+text(Left, Bytes, Most, Text) ->
     case seqaudit_external:part(Bytes) of
         {leaf, {integer, C}, Rest} ->
             case io_lib:printable_unicode_list([C]) of
-                true -> whole_text(Left - 1, Rest, <<Text/binary, C/utf8>>);
+                true -> text(Left - 1, Rest, Most - 1, <<Text/binary, C/utf8>>);
                 false -> other
             end;
         _ ->
@@ -211,14 +202,13 @@ print_tail(Text, Bytes, Depth, Parts, Style) ->
 print_string(String, Parts, #style{bytes = Most}, Before) ->
     Begin = binary_to_list(binary:part(String, 0, min(byte_size(String), Most + 1))),
     case {io_lib:printable_unicode_list(Begin), byte_size(String) =< Parts} of
-        {true, _} -> append_quoted(short(Begin, Most), Before);
+        {true, _} -> append_quoted(unicode:characters_to_binary(Begin), Most, Before);
         {false, true} -> <<(append_bytes(String, <<Before/binary, $[>>))/binary, $]>>;
         {false, false} ->
             Shown = append_bytes(binary:part(String, 0, Parts), <<Before/binary, $[>>),
             <<Shown/binary, (separator(Parts))/binary, "...]">>
     end.
 
-%% Returns the comma after parts, if there are any.
 separator(0) -> <<>>;
 separator(_) -> <<$,>>.
 
@@ -231,10 +221,12 @@ append_bytes(Bits, Before) ->
     <<Number:Size>> = Bits,
     <<Before/binary, (integer_to_binary(Number))/binary, $:, (integer_to_binary(Size))/binary>>.
 
-append_quoted(Text, Before) when is_binary(Text) ->
-    <<(append_text(Text, <<Before/binary, $">>))/binary, $">>;
-append_quoted(Characters, Before) ->
-    <<Before/binary, (quoted(Characters, $"))/binary>>.
+%% A text of no more bytes has no more characters.
+append_quoted(Text, Most, Before) when byte_size(Text) > Most ->
+    Short = unicode:characters_to_binary(short(unicode:characters_to_list(Text), Most)),
+    append_quoted(Short, byte_size(Short), Before);
+append_quoted(Text, _Most, Before) ->
+    <<(append_text(Text, <<Before/binary, $">>))/binary, $">>.
 
 escaped(Characters) ->
     Quoted = quoted(Characters, $"),
@@ -244,9 +236,8 @@ print_map(Pairs, Bytes, Depth, Parts, Style, Before)
   when Pairs > 1, Pairs =< ?ORDERED, Depth >= Style#style.unordered ->
     case pairs(Pairs, Bytes, []) of
         {Keyed, Rest} ->
-            {Text, Left} =
-                print_pairs([{Key, Value} || {_, Key, Value} <- lists:sort(Keyed)], Depth, Parts,
-                                       Style, Before),
+            Sorted = iolist_to_binary([[Key, Value] || {_, Key, Value} <- lists:sort(Keyed)]),
+            {Text, Left, _} = print_pairs(Pairs, Sorted, Depth, Parts, Style, Before),
             {Text, Left, Rest};
         unread ->
             print_pairs(Pairs, Bytes, Depth, Parts, Style, Before)
@@ -271,13 +262,6 @@ order(Key) ->
         {_, {atom, Name}} -> {1, Name};
         _ -> {2, Key}
     end.
-
-print_pairs([], _Depth, Parts, _, Before) -> {Before, Parts};
-print_pairs(_, _Depth, 0, _, Before) -> {<<Before/binary, "...">>, 0};
-print_pairs([{Key, Value} | Pairs], Depth, Parts, Style, Before) ->
-    {KeyText, Left, _} = print(Key, Depth, Parts, Style, Before),
-    {Text, Left1, _} = print(Value, Depth, Left, Style, <<KeyText/binary, " => ">>),
-    print_pairs(Pairs, Depth, Left1, Style, separated(length(Pairs) + 1, Text)).
 
 print_pairs(0, Rest, _Depth, Parts, _, Before) -> {Before, Parts, Rest};
 print_pairs(_, _Rest, _Depth, 0, _, Before) -> {<<Before/binary, "...">>, 0, unread};
@@ -367,7 +351,6 @@ seldom({function, Module, Index, Unique}) ->
 seldom({export, Call}) -> ["fun ", unicode:characters_to_binary(call(Call))];
 seldom(other) -> "#Unknown<>".
 
-%% A process without a number in the bundle.
 process(Process, Numbers) ->
     {process, Node, Number, Serial} = seqaudit_external:view(Process),
     Home = case map_size(Numbers) of
@@ -407,37 +390,13 @@ needs_quotes_alone(<<C, Rest/binary>>)
   when C >= $\s, C < 127, C =/= $', C =/= $\\ -> needs_quotes_alone(Rest);
 needs_quotes_alone(Rest) -> Rest =:= <<>>.
 
-%% Words that Erlang has, and that are atoms in quotes only.
-is_reserved(<<"after">>) -> true;
-is_reserved(<<"and">>) -> true;
-is_reserved(<<"andalso">>) -> true;
-is_reserved(<<"band">>) -> true;
-is_reserved(<<"begin">>) -> true;
-is_reserved(<<"bnot">>) -> true;
-is_reserved(<<"bor">>) -> true;
-is_reserved(<<"bsl">>) -> true;
-is_reserved(<<"bsr">>) -> true;
-is_reserved(<<"bxor">>) -> true;
-is_reserved(<<"case">>) -> true;
-is_reserved(<<"catch">>) -> true;
-is_reserved(<<"cond">>) -> true;
-is_reserved(<<"div">>) -> true;
-is_reserved(<<"else">>) -> true;
-is_reserved(<<"end">>) -> true;
-is_reserved(<<"fun">>) -> true;
-is_reserved(<<"if">>) -> true;
-is_reserved(<<"let">>) -> true;
-is_reserved(<<"maybe">>) -> true;
-is_reserved(<<"not">>) -> true;
-is_reserved(<<"of">>) -> true;
-is_reserved(<<"or">>) -> true;
-is_reserved(<<"orelse">>) -> true;
-is_reserved(<<"receive">>) -> true;
-is_reserved(<<"rem">>) -> true;
-is_reserved(<<"try">>) -> true;
-is_reserved(<<"when">>) -> true;
-is_reserved(<<"xor">>) -> true;
-is_reserved(_) -> false.
+%% Words of which Erlang makes no atoms without quotes.
+is_reserved(Name) ->
+    lists:member(Name, [<<"after">>, <<"and">>, <<"andalso">>, <<"band">>, <<"begin">>, <<"bnot">>,
+                        <<"bor">>, <<"bsl">>, <<"bsr">>, <<"bxor">>, <<"case">>, <<"catch">>,
+                        <<"cond">>, <<"div">>, <<"else">>, <<"end">>, <<"fun">>, <<"if">>,
+                        <<"let">>, <<"maybe">>, <<"not">>, <<"of">>, <<"or">>, <<"orelse">>,
+                        <<"receive">>, <<"rem">>, <<"try">>, <<"when">>, <<"xor">>]).
 
 quoted(Characters, Quote) -> unicode:characters_to_binary(io_lib:write_string(Characters, Quote)).
 

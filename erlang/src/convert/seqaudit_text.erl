@@ -1,22 +1,18 @@
-%% @doc Reads events from text, as `io:format("~p~n", [Event])' printed them.
+%% @doc Reads events from text, as `io:format("~p~n", [Event])' printed them, one term after the
+%% other, each ended by a newline or a full stop.
 %%
-%% One term after the other, each ended by a newline or a full stop. Processes, references, ports
-%% and funs may be in their printed form, which Erlang itself doesn't read back. What `logger' or
-%% another log puts in front of `{seq_trace,' on its line is passed over, and so are lines that are
-%% no term and have no event; they are counted. An event that can't be read is a fault, but for one
-%% at the end of the text that isn't closed: the text was cut there, and what comes before it is
-%% whole. A comment says where the events after it were collected, and which node the first number
-%% of a pid means there:
+%% What a log puts in front of `{seq_trace,' on its line is passed over, and so are lines that have
+%% no event; they are counted. An event that can't be read is a fault, unless the text ends in it. A
+%% comment says where the events after it were collected, and which node the first number of a pid
+%% means there:
 %% ```
 %% %% node a@host
 %% %% channel 8576 b@host
 %% '''
 %% Without them the node is `nonode@nohost', and a channel is a node of the name `channel_8576'.
-%%
-%% Terms become bytes ({@link seqaudit_external}), and no atom is made.
 -module(seqaudit_text).
 
--export([fold/3, read/1]).
+-export([fold/3]).
 
 -import(seqaudit_errors, [text/2]).
 
@@ -32,7 +28,6 @@
 %% A pid or a fun has at most so many bytes between its angles.
 -define(INNER, 2_000).
 
-%% Characters that are shown of what isn't understood.
 -define(SHOWN, 30).
 
 %% Terms that are handed on with their line if they are no events.
@@ -58,46 +53,16 @@
 -spec fold(binary(), fun((item(), Acc) -> Acc), Acc) ->
           {ok, Acc} | {error, {pos_integer(), string()}}.
 fold(Text, Do, Acc) ->
-    case torn(Text) of
-        not_utf8 ->
+    case unicode:characters_to_binary(Text) of
+        {error, _, _} ->
             {error, {1, "this isn't UTF-8 text"}};
-        Torn ->
-            Whole = binary:part(Text, 0, byte_size(Text) - Torn),
-            scan(Whole, #scan{text = Whole, torn = Torn}, Do, {new, Acc})
+        {incomplete, Whole, Torn} ->
+            scan(Whole, #scan{text = Whole, torn = byte_size(Torn)}, Do, {new, Acc});
+        Whole ->
+            scan(Whole, #scan{text = Whole, torn = 0}, Do, {new, Acc})
     end.
-
-%% How many bytes the last character has if it isn't whole.
-torn(Text) ->
-    Rest = not_utf8(Text),
-    case unicode:characters_to_binary(Rest) of
-        <<>> -> 0;
-        {incomplete, <<>>, _} -> byte_size(Rest);
-        _ -> not_utf8
-    end.
-
-not_utf8(<<Seven:56, Rest/binary>>) when Seven band 16#80808080808080 =:= 0 -> not_utf8(Rest);
-not_utf8(<<_/utf8, Rest/binary>>) -> not_utf8(Rest);
-not_utf8(Rest) -> Rest.
-
-%% @doc The events as terms by the node where they were printed, or the line that isn't understood.
--spec read(binary()) -> {ok, [{node(), [term()]}]} | {error, {pos_integer(), string()}}.
-read(Text) ->
-    case fold(Text, fun read_item/2, []) of
-        {ok, Read} -> {ok, [{seqaudit_external:to_term(seqaudit_external:atom(Node)),
-                             lists:reverse(Events)} || {Node, Events} <- lists:reverse(Read)]};
-        {error, Fault} -> {error, Fault}
-    end.
-
-read_item({facts, #{node := Node}}, Read) -> [{Node, []} | Read];
-read_item({event, Event}, [{Node, Events} | Read]) ->
-    [{Node, [seqaudit_external:to_term(Event) | Events]} | Read];
-read_item({stray, _Line, Term}, Read) ->
-    read_item({event, Term}, Read);
-read_item(_, Read) -> Read.
 
 %% `Last' is the node of the collection that is open.
--spec scan(binary(), #scan{}, fun((item(), Acc) -> Acc), {binary() | new, Acc}) ->
-          {ok, Acc} | {error, {pos_integer(), string()}}.
 scan(Bytes, #scan{place = Place, fault = Fault} = Scan, Do, State) ->
     case blanks(Bytes) of
         <<>> ->
@@ -183,8 +148,6 @@ is_last(<<"{", Rest/binary>>) -> binary:match(Rest, <<"{seq_trace,">>) =:= nomat
 
 %% Whether brackets or a quote that are open stay so to the end.
 is_open(<<>>, Depth) -> Depth > 0;
-is_open(<<"$\\", _, Rest/binary>>, Depth) -> is_open(Rest, Depth);
-is_open(<<"$", _, Rest/binary>>, Depth) -> is_open(Rest, Depth);
 is_open(<<Quote, Rest/binary>>, Depth)
   when Quote =:= $"; Quote =:= $' -> is_open_quote(Rest, Quote, Depth);
 is_open(<<Open, Rest/binary>>, Depth) when Open =:= ${; Open =:= $[ -> is_open(Rest, Depth + 1);
@@ -248,13 +211,6 @@ line_blanks(Rest) -> Rest.
 blanks(<<C, Rest/binary>>) when C =< $\s -> blanks(Rest);
 blanks(Rest) -> Rest.
 
-%% Blanks and comments within a term.
-between(Bytes) ->
-    case blanks(Bytes) of
-        <<"%", Rest/binary>> -> between(element(2, line(Rest)));
-        Rest -> Rest
-    end.
-
 -spec fault(string()) -> no_return().
 fault(Reason) -> throw({fault, Reason}).
 
@@ -264,7 +220,6 @@ syntax(Bytes, _Begin) ->
     {Before, _} = line(Bytes),
     fault("this isn't an Erlang term: syntax error before: " ++ shown(Before)).
 
-%% The first characters; a cut one isn't shown.
 shown(Bytes) ->
     Begin = case unicode:characters_to_list(binary:part(Bytes, 0,
                                                         min(byte_size(Bytes), 4 * ?SHOWN))) of
@@ -277,7 +232,7 @@ shown(Bytes) ->
 term(_Bytes, _Place, ?DEPTH) ->
     fault("this term is more than 10000 deep");
 term(Bytes, Place, Depth) ->
-    case between(Bytes) of
+    case blanks(Bytes) of
         <<"{", Rest/binary>> ->
             {Count, Parts, After} = parts(Rest, $}, Place, Depth + 1),
             {tuple(Count, Parts), After};
@@ -286,7 +241,7 @@ term(Bytes, Place, Depth) ->
         <<"#{", Rest/binary>> ->
             map(Rest, Place, Depth + 1);
         <<"<<", Rest/binary>> ->
-            binary(between(Rest), <<>>);
+            binary(blanks(Rest), <<>>);
         <<"<", C, _/binary>> = Begin when C >= $0, C =< $9 ->
             %% A part of the text; to put the digit in front again would copy the whole rest.
             <<_, Rest/binary>> = Begin,
@@ -298,17 +253,13 @@ term(Bytes, Place, Depth) ->
         <<"'", Rest/binary>> ->
             {Name, After} = quoted(Rest, $', <<>>),
             {atom(Name), After};
-        <<"$", Rest/binary>> -> character(Rest);
-        <<C, _/binary>> = Begin when C >= $0, C =< $9 -> number(Begin, <<>>);
-        <<S, Rest/binary>> when S =:= $-; S =:= $+ ->
-            number(between(Rest), case S of $- -> <<"-">>; $+ -> <<>> end);
+        <<C, _/binary>> = Begin when C >= $0, C =< $9; C =:= $- -> number(Begin);
         <<"fun ", Rest/binary>> -> export(Rest);
         Other -> word(Other)
     end.
 
-%% Elements up to the closing character: how many, and their bytes.
 parts(Bytes, Close, Place, Depth) ->
-    case between(Bytes) of
+    case blanks(Bytes) of
         <<Close, Rest/binary>> -> {0, <<>>, Rest};
         Begin -> parts(Begin, Close, Place, Depth, 0, <<>>)
     end.
@@ -316,7 +267,7 @@ parts(Bytes, Close, Place, Depth) ->
 parts(Bytes, Close, Place, Depth, Count, Done) ->
     {Part, Rest0} = term(Bytes, Place, Depth),
     Parts = <<Done/binary, Part/binary>>,
-    case between(Rest0) of
+    case blanks(Rest0) of
         <<",", Rest/binary>> -> parts(Rest, Close, Place, Depth, Count + 1, Parts);
         <<Close, Rest/binary>> -> {Count + 1, Parts, Rest};
         <<"|", _/binary>> = Rest when Close =:= $] -> {Count + 1, Parts, Rest};
@@ -331,7 +282,7 @@ list(Bytes, Place, Depth) ->
         {0, _, Rest} -> {<<106>>, Rest};
         {Count, Parts, <<"|", Rest0/binary>>} ->
             {Tail, Rest1} = term(Rest0, Place, Depth),
-            case between(Rest1) of
+            case blanks(Rest1) of
                 <<"]", Rest/binary>> -> {joined(Count, Parts, Tail), Rest};
                 Other -> syntax(Other, Bytes)
             end;
@@ -365,18 +316,18 @@ map(Bytes, Place, Depth) ->
     end.
 
 pairs(Bytes, Place, Depth) ->
-    case between(Bytes) of
+    case blanks(Bytes) of
         <<"}", Rest/binary>> -> {0, <<>>, Rest};
         Begin -> pairs(Begin, Place, Depth, 0, <<>>)
     end.
 
 pairs(Bytes, Place, Depth, Count, Done) ->
     {Key, Rest0} = term(Bytes, Place, Depth),
-    case between(Rest0) of
+    case blanks(Rest0) of
         <<"=>", Rest1/binary>> ->
             {Value, Rest2} = term(Rest1, Place, Depth),
             Pairs = <<Done/binary, Key/binary, Value/binary>>,
-            case between(Rest2) of
+            case blanks(Rest2) of
                 <<",", Rest/binary>> -> pairs(Rest, Place, Depth, Count + 1, Pairs);
                 <<"}", Rest/binary>> -> {Count + 1, Pairs, Rest};
                 Other -> syntax(Other, Bytes)
@@ -386,26 +337,26 @@ pairs(Bytes, Place, Depth, Count, Done) ->
 
 %% The segments of a binary: texts, and numbers with a size in bits.
 binary(<<">>", Rest/binary>>, Done) ->
-    {bits(Done), Rest};
+    {seqaudit_external:from_term(Done), Rest};
 binary(<<"\"", Text/binary>>, Done) ->
     {Characters, Rest0} = quoted(Text, $", <<>>),
-    {Bits, Rest} = case between(Rest0) of
+    {Bits, Rest} = case blanks(Rest0) of
                        <<"/utf8", After/binary>> -> {Characters, After};
                        After -> {latin1(Characters), After}
                    end,
     next_segment(Rest, <<Done/bitstring, Bits/bitstring>>);
 binary(Bytes, Done) ->
     {Number, Rest0} = integer(Bytes),
-    {Size, Rest} = case between(Rest0) of
-                       <<":", After/binary>> -> integer(between(After));
+    {Size, Rest} = case blanks(Rest0) of
+                       <<":", After/binary>> -> integer(blanks(After));
                        After -> {8, After}
                    end,
     Size =< 1_000_000 orelse fault("this isn't an Erlang term: a segment is too large"),
     next_segment(Rest, <<Done/bitstring, Number:Size>>).
 
 next_segment(Bytes, Done) ->
-    case between(Bytes) of
-        <<",", Rest/binary>> -> binary(between(Rest), Done);
+    case blanks(Bytes) of
+        <<",", Rest/binary>> -> binary(blanks(Rest), Done);
         <<">>", _/binary>> = Rest -> binary(Rest, Done);
         Other -> syntax(Other, Bytes)
     end.
@@ -415,12 +366,6 @@ latin1(Characters) ->
         Bytes when is_binary(Bytes) -> Bytes;
         _ -> Characters
     end.
-
-bits(Bits) when is_binary(Bits) -> <<109, (byte_size(Bits)):32, Bits/binary>>;
-bits(Bits) ->
-    Last = bit_size(Bits) rem 8,
-    Padded = <<Bits/bitstring, 0:(8 - Last)>>,
-    <<77, (byte_size(Padded)):32, Last, Padded/binary>>.
 
 %% Takes what is between the angles: numbers and dots of a pid, port or reference.
 opaque(Kind, Bytes, Place) ->
@@ -432,48 +377,34 @@ opaque(Kind, Bytes, Place) ->
             fault("this isn't an Erlang term: a < isn't closed")
     end.
 
-%% Where the closing angle is.
 angle(Bytes) ->
     binary:match(Bytes, <<">">>, [{scope, {0, min(byte_size(Bytes), ?INNER)}}]).
 
+%% The numbers between dots; a word with more digits than any of them has is none.
 numbers(Inner) ->
-    try
-        [natural(Word) || Word <- binary:split(Inner, <<".">>, [global])]
-    catch
-        error:badarg -> fault("a number is missing in <" ++ shown(Inner) ++ ">")
+    Words = binary:split(Inner, <<".">>, [global]),
+    try [binary_to_integer(Word) || Word <- Words, byte_size(Word) =< 20 orelse error(badarg)]
+    catch error:badarg -> fault("a number is missing or out of range in <" ++ shown(Inner) ++ ">")
     end.
-
-natural(<<C, _/binary>> = Word)
-  when C >= $0, C =< $9, byte_size(Word) =< 20 -> binary_to_integer(Word);
-natural(Word) ->
-    case is_digits(Word) of
-        true -> fault("the number " ++ shown(Word) ++ " is out of range");
-        false -> error(badarg)
-    end.
-
-is_digits(Word) -> Word =/= <<>> andalso << <<C>> || <<C>> <= Word, C >= $0, C =< $9 >> =:= Word.
 
 opaque_term(pid, [Channel, Number, Serial], Place) ->
-    lists:max([Number, Serial]) =< ?GREATEST
-        orelse fault(text("the pid <~b.~b.~b> is out of range: its numbers have 32 bits",
-                          [Channel, Number, Serial])),
+    ok = in_range([Number, Serial], ?GREATEST),
     <<88, (home(Channel, Place))/binary, Number:32, Serial:32, 0:32>>;
-opaque_term(pid, _, _Place) ->
-    fault("a pid has three numbers, as <0.80.0>");
 opaque_term(port, [Channel, Number], Place) ->
-    Number =< ?GREATEST_PORT
-        orelse fault(text("the port #Port<~b.~b> is out of range: its number has 64 bits",
-                          [Channel, Number])),
+    ok = in_range([Number], ?GREATEST_PORT),
     <<120, (home(Channel, Place))/binary, Number:64, 0:32>>;
-opaque_term(port, _, _Place) ->
-    fault("a port has two numbers, as #Port<0.5>");
 opaque_term(reference, [Channel | Words], Place) when length(Words) >= 1, length(Words) =< 5 ->
-    lists:max(Words) =< ?GREATEST
-        orelse fault("a reference is out of range: its numbers have 32 bits"),
+    ok = in_range(Words, ?GREATEST),
     Ids = << <<Word:32>> || Word <- lists:reverse(Words) >>,
     <<90, (length(Words)):16, (home(Channel, Place))/binary, 0:32, Ids/binary>>;
-opaque_term(reference, _, _Place) ->
-    fault("a reference has two to six numbers, as #Ref<0.1.2.3>").
+opaque_term(Kind, Numbers, _Place) ->
+    fault(text("a ~ts hasn't ~b numbers", [Kind, length(Numbers)])).
+
+in_range(Numbers, Greatest) ->
+    case [Number || Number <- Numbers, Number < 0 orelse Number > Greatest] of
+        [] -> ok;
+        [Number | _] -> fault(text("the number ~b is out of range", [Number]))
+    end.
 
 home(0, #place{node = Node}) ->
     seqaudit_external:atom(Node);
@@ -487,13 +418,13 @@ function(Bytes) ->
         {Size, 1} ->
             <<Inner:Size/binary, ">", Rest/binary>> = Bytes,
             {tuple(2, <<(seqaudit_external:atom(<<"fun">>))/binary,
-                        (text_list(unicode:characters_to_list(Inner)))/binary>>), Rest};
+                        (characters(Inner))/binary>>), Rest};
         nomatch ->
             fault("this isn't an Erlang term: a #Fun< isn't closed")
     end.
 
 export(Bytes) ->
-    {Module, Rest0} = name(between(Bytes)),
+    {Module, Rest0} = name(blanks(Bytes)),
     case Rest0 of
         <<":", Rest1/binary>> ->
             {Function, Rest2} = name(Rest1),
@@ -512,27 +443,14 @@ name(Bytes) -> bare(Bytes).
 %% Strings one behind the other are one.
 strings(Bytes, Before) ->
     {Text, Rest} = quoted(Bytes, $", Before),
-    case between(Rest) of
+    case blanks(Rest) of
         <<"\"", More/binary>> -> strings(More, Text);
-        _ -> {text_list(unicode:characters_to_list(Text)), Rest}
+        _ -> {characters(Text), Rest}
     end.
 
-text_list([]) -> <<106>>;
-text_list(Characters) ->
-    Parts = << <<(small(C))/binary>> || C <- Characters >>,
-    bytes(length(Characters), Parts).
+characters(Text) ->
+    seqaudit_external:from_term(unicode:characters_to_list(Text)).
 
-small(N) when N >= 0, N < 256 -> <<97, N>>;
-small(N) when N >= -16#8000_0000, N < 16#8000_0000 -> <<98, N:32>>;
-small(N) ->
-    Sign = case N < 0 of true -> 1; false -> 0 end,
-    Bytes = binary:encode_unsigned(abs(N), little),
-    case byte_size(Bytes) of
-        Size when Size < 256 -> <<110, Size, Sign, Bytes/binary>>;
-        Size -> <<111, Size:32, Sign, Bytes/binary>>
-    end.
-
-%% The text up to the quote, in UTF-8.
 quoted(<<>>, _Quote, _Done) -> fault("a quote isn't closed");
 quoted(<<Quote, Rest/binary>>, Quote, Done) -> {Done, Rest};
 quoted(<<"\\", Rest0/binary>>, Quote, Done) ->
@@ -545,13 +463,8 @@ escaped(<<"x{", Rest/binary>>) ->
         [Digits, After] when byte_size(Digits) =< 6 -> {unicode(Digits, 16), After};
         _ -> fault("this isn't an Erlang term: an escape isn't closed")
     end;
-escaped(<<"x", Digits:2/binary, Rest/binary>>) -> {unicode(Digits, 16), Rest};
 escaped(<<A, B, C, Rest/binary>>) when A >= $0, A =< $7, B >= $0, B =< $7, C >= $0, C =< $7 ->
     {unicode(<<A, B, C>>, 8), Rest};
-escaped(<<A, B, Rest/binary>>)
-  when A >= $0, A =< $7, B >= $0, B =< $7 -> {unicode(<<A, B>>, 8), Rest};
-escaped(<<A, Rest/binary>>) when A >= $0, A =< $7 -> {A - $0, Rest};
-escaped(<<"^", C, Rest/binary>>) -> {C band 31, Rest};
 escaped(<<C/utf8, Rest/binary>>) ->
     {case C of
          $b -> $\b; $d -> $\d; $e -> $\e; $f -> $\f; $n -> $\n; $r -> $\r; $s -> $\s; $t -> $\t;
@@ -567,71 +480,36 @@ unicode(Digits, Base) ->
         error:badarg -> fault("this isn't an Erlang term: an escape isn't a character")
     end.
 
-character(<<"\\", Rest0/binary>>) ->
-    {C, Rest} = escaped(Rest0),
-    {small(C), Rest};
-character(<<C/utf8, Rest/binary>>) -> {small(C), Rest};
-character(<<>>) -> fault("this isn't an Erlang term: it isn't closed").
-
-%% A whole number, perhaps to a base, or a float.
-number(Bytes, Sign) ->
-    {Digits, Rest} = digits(Bytes, <<>>),
-    case Rest of
-        <<"#", After/binary>> ->
-            based(Digits, After, Sign);
-        <<".", C, _/binary>> when C >= $0, C =< $9 ->
-            <<".", Fraction/binary>> = Rest,
-            float(Digits, digits(Fraction, <<>>), Sign);
-        _ ->
-            {small(whole(<<Sign/binary, Digits/binary>>, 10)), Rest}
+number(Bytes) ->
+    case re:run(Bytes, "^-?[0-9]+(\\.[0-9]+([eE][-+]?[0-9]+)?)?") of
+        {match, [{0, Size} | Fraction]} ->
+            <<Number:Size/binary, Rest/binary>> = Bytes,
+            {seqaudit_external:from_term(case Fraction of
+                                             [] -> whole(Number);
+                                             _ -> float_of(Number)
+                                         end), Rest};
+        nomatch ->
+            syntax(Bytes, Bytes)
     end.
 
-whole(<<>>, _Base) -> fault("this isn't an Erlang term: a number is missing");
-whole(Digits, _Base) when byte_size(Digits) > ?DIGITS ->
+whole(Digits) when byte_size(Digits) > ?DIGITS ->
     fault("this number has more than 20000 digits");
-whole(Digits, Base) ->
-    try binary_to_integer(Digits, Base)
-    catch error:badarg -> fault("this isn't an Erlang term: " ++ shown(Digits) ++ " isn't a number")
+whole(Digits) ->
+    binary_to_integer(Digits).
+
+float_of(Number) ->
+    try binary_to_float(Number)
+    catch error:badarg -> fault("this isn't an Erlang term: a number isn't a float")
     end.
 
 integer(<<C, _/binary>> = Bytes) when C >= $0, C =< $9 ->
     {Digits, Rest} = digits(Bytes, <<>>),
-    {whole(Digits, 10), Rest};
+    {whole(Digits), Rest};
 integer(Bytes) -> syntax(Bytes, Bytes).
 
 digits(<<C, Rest/binary>>, Done) when C >= $0, C =< $9 -> digits(Rest, <<Done/binary, C>>);
-digits(<<"_", C, Rest/binary>>, Done) when C >= $0, C =< $9, Done =/= <<>> ->
-    digits(Rest, <<Done/binary, C>>);
 digits(Rest, Done) -> {Done, Rest}.
 
-based(Base, Bytes, Sign) ->
-    {Word, Rest} = alphanumeric(Bytes, <<>>),
-    case whole(Base, 10) of
-        B when B >= 2, B =< 36 -> {small(whole(<<Sign/binary, Word/binary>>, B)), Rest};
-        _ -> fault("this isn't an Erlang term: a number has no such base")
-    end.
-
-alphanumeric(<<C, Rest/binary>>, Done)
-  when C >= $0, C =< $9; C >= $a, C =< $z; C >= $A, C =< $Z ->
-      alphanumeric(Rest, <<Done/binary, C>>);
-alphanumeric(Rest, Done) -> {Done, Rest}.
-
-float(Digits, {Fraction, <<E, Rest0/binary>>}, Sign) when E =:= $e; E =:= $E ->
-    {ExponentSign, Rest1} = case Rest0 of
-                                <<S, After/binary>> when S =:= $-; S =:= $+ -> {<<S>>, After};
-                                _ -> {<<>>, Rest0}
-                            end,
-    {Exponent, Rest} = digits(Rest1, <<>>),
-    {float_of([Sign, Digits, $., Fraction, $e, ExponentSign, Exponent]), Rest};
-float(Digits, {Fraction, Rest}, Sign) ->
-    {float_of([Sign, Digits, $., Fraction]), Rest}.
-
-float_of(Parts) ->
-    try <<70, (binary_to_float(iolist_to_binary(Parts))):64/float>>
-    catch error:badarg -> fault("this isn't an Erlang term: a number isn't a float")
-    end.
-
-%% A word that needs no quotes.
 word(Bytes) ->
     {Name, Rest} = bare(Bytes),
     {atom(Name), Rest}.

@@ -6,16 +6,21 @@
 
 -include("seqaudit_packed.hrl").
 
--export([begun/1, result/1, shares/2, in_turn/2, fold/3]).
+-export([begun/1, begun/2, result/1, shares/2, in_turn/2, fold/3]).
 -export_type([worker/0]).
 
 -type worker() :: {pid(), reference()}.
 
-%% @doc Begins some work.
+%% @equiv begun(Do, [])
 -spec begun(fun(() -> term())) -> worker().
 begun(Do) ->
+    begun(Do, []).
+
+%% @doc Begins some work in a process with these options.
+-spec begun(fun(() -> term()), [{atom(), term()}]) -> worker().
+begun(Do, Options) ->
     Self = self(),
-    spawn_opt(fun() -> Self ! {self(), Do()} end, [monitor, {fullsweep_after, 10}]).
+    spawn_opt(fun() -> Self ! {self(), Do()} end, [monitor, {fullsweep_after, 10} | Options]).
 
 %% @doc Returns the result of the work, or fails as it did.
 -spec result(worker()) -> term().
