@@ -44,7 +44,7 @@ pause_test_() ->
         ok = one_note("events came faster than they could be written, so the tracer was off ", Notes),
         ok = no_note("took the collector's place", Notes),
         false = erpc:call(There, seq_trace, get_system_tracer, []),
-        {ok, [#{events := Events}]} = seqaudit_events:read(File ++ ".events"),
+        {ok, [#{events := Events}]} = seqaudit_test_files:read(File ++ ".events"),
         {seq_trace, 1, {print, _, _, _, behind}} = lists:last(Events),
         seqaudit_audits:with_gemshowal("audit of a pause", fun(_) -> audited(File) end)
     end).
@@ -148,5 +148,5 @@ notes_test() ->
 
 notes(Pauses) ->
     Event = {seq_trace, 1, {print, {0, 1}, self(), [], x}},
-    #{notes := Notes} = seqaudit_convert:convert([#{node => 'a@h', events => [Event], pauses => Pauses}]),
+    #{notes := Notes} = seqaudit_test_files:convert([#{node => 'a@h', events => [Event], pauses => Pauses}]),
     [Note || Note <- Notes, string:prefix(Note, "a@h") =/= nomatch].

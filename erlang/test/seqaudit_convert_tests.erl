@@ -4,7 +4,7 @@
 -export([captures_test_/0, equal_terms_test/0, numbers_test/0, parties_test/0, aliases_test/0,
          reset_aliases_test/0, ambiguous_aliases_test/0,
          repeated_names_test/0,
-         callers_test/0, spawned_test/0, counts_test/0, limits_test/0, many_processes_test_/0,
+         callers_test/0, spawned_test/0, counts_test/0, many_processes_test_/0,
          lost_test/0, hostile_test_/0, hostile_trace_test_/0, hostile_process_test_/0,
          text_test/0, text_faults_test/0, external_test/0, trace_file_test/0,
          damaged_event_test/0]).
@@ -21,9 +21,8 @@ captures_test_() ->
 
 capture(Name, Said) ->
     Folder = filename:join([filename:dirname(filename:dirname(seqaudit_audits:file("x"))), "captures"]),
-    {ok, Collections} = seqaudit_events:read(filename:join(Folder, Name ++ ".txt")),
     File = seqaudit_audits:file(Name),
-    {ok, #{dropped := 0}} = seqaudit_convert:files(Collections, File),
+    {ok, #{dropped := 0}} = seqaudit_convert:from_files([filename:join(Folder, Name ++ ".txt")], File),
     case Said of
         fits ->
             seqaudit_audits:fits(File);
@@ -45,8 +44,9 @@ equal_terms_test() ->
 
 %% A process keeps its number, unless another one has it or it is out of range.
 numbers_test() ->
-    Pids = [pid('a@h', N, S) || {N, S} <- [{80, 0}, {80, 3}, {65_535, 0}, {70_000, 0}, {81, 2}]],
-    Other = pid('b@h', 80, 0),
+    Party = fun(Node, N, S) -> seqaudit_external:from_term(pid(Node, N, S)) end,
+    Pids = [Party('a@h', N, S) || {N, S} <- [{80, 0}, {80, 3}, {65_535, 0}, {70_000, 0}, {81, 2}]],
+    Other = Party('b@h', 80, 0),
     Numbers = seqaudit_processes:number([Other | Pids]),
     [{0, 80}, {0, 65_534}, {0, 65_535}, {0, 65_533}, {0, 81}] = [maps:get(Pid, Numbers) || Pid <- Pids],
     {1, 80} = maps:get(Other, Numbers),
@@ -56,7 +56,7 @@ numbers_test() ->
 parties_test() ->
     Port = hd(erlang:ports()),
     Alias = make_ref(),
-    #{seqtrace := Text, notes := Notes} =
+    #{seqtrace := Text, terms := Terms, notes := Notes} =
         convert([{seq_trace, 0, {send, {0, 1}, self(), Port, x}},
                  {seq_trace, 0, {send, {0, 2}, self(), Alias, x}},
                  {seq_trace, 0, {send, {0, 3}, self(), {srv, node()}, x}},
@@ -64,7 +64,7 @@ parties_test() ->
                  {seq_trace, 0, {'receive', {1, 9}, Port, self(), {Port, data}}}]),
     [_, _, _, _] = [Line || <<"process ", _/binary>> = Line <- binary:split(Text, <<"\n">>, [global])],
     true = lists:any(fun(Note) -> has(Note, "3 sends to an alias or a name that nothing") end, Notes),
-    true = lists:any(fun(Note) -> has(Note, "<0.65535.0> is port #Port<") end, Notes).
+    {match, _} = re:run(Terms, "^process\t<0.65535.0>\t[^\t]*\tport #Port<", [multiline]).
 
 %% The receive says best who has an alias, then the request.
 aliases_test() ->
@@ -132,7 +132,7 @@ noted(Part, #{notes := Notes}) ->
 repeated_names_test() ->
     Pids = [pid('a@h', 30, 0), pid('a@h', 31, 0), pid('a@h', 32, 0)],
     Known = maps:from_list(lists:zip(Pids, [#{name => srv}, #{name => srv}, #{name => other}])),
-    #{terms := Terms} = seqaudit_convert:convert(
+    #{terms := Terms} = seqaudit_test_files:convert(
         [#{node => 'a@h', processes => Known,
            events => [{seq_trace, 1, {print, {0, 1}, Pid, [], x}} || Pid <- Pids]}]),
     [{_, _}, {_, _}, {_, _}] =
@@ -147,7 +147,7 @@ callers_test() ->
     end),
     seqaudit_test_nodes:until(fun() -> is_map_key(caller, seqaudit_spool:about(Task)) end),
     #{terms := Terms} =
-        seqaudit_convert:convert([#{node => node(), processes => #{Task => seqaudit_spool:about(Task)},
+        seqaudit_test_files:convert([#{node => node(), processes => #{Task => seqaudit_spool:about(Task)},
                                     events => [{seq_trace, 1, {print, {0, 1}, Task, [], x}}]}]),
     exit(Task, kill),
     {match, [Number, Number, Number]} = re:run(Terms, "\ttask of (<[0-9.]*>) (<[0-9.]*>)\t.*, for (<[0-9.]*>)\n",
@@ -170,7 +170,7 @@ spawned_test() ->
     counts = ets:new(counts, [named_table]),
     true = ets:insert(counts, [{Child, K} || {K, {Child, _}} <- lists:enumerate(0, Spawned)]),
     #{terms := Terms} =
-        seqaudit_convert:convert([#{node => 'a@h', processes => #{Parent => #{name => shop}, Task => #{}},
+        seqaudit_test_files:convert([#{node => 'a@h', processes => #{Parent => #{name => shop}, Task => #{}},
                                     events => lists:append([Spawn(Each) || Each <- Spawned])}]),
     true = ets:delete(counts),
     Lines = binary:split(iolist_to_binary(Terms), <<"\n">>, [global]),
@@ -185,25 +185,14 @@ counts_test() ->
               {seq_trace, 1, {print, {0, -1 bsl 60}, self(), [], x}}, {seq_trace, 1, {spawn, {0, 1}, 2, 3, 4}},
               {seq_trace, 1, {print, {0, 1 bsl 64}, self(), [], x}}],
     #{events := 1, dropped := 9, notes := [Dropped, Own, Left, Unknown]} =
-        seqaudit_convert:convert([#{node => 'a@h', dropped => 2, own => 1, strays => 0, events =>
+        seqaudit_test_files:convert([#{node => 'a@h', dropped => 2, own => 1, strays => 0, events =>
             [{seq_trace, 1, {print, {0, 1}, self(), [], x}} | Strays]}]),
-    true = has(Dropped, "a@h: the collector dropped 2 events beyond the limit"),
+    true = has(Dropped, "a@h: the collector dropped 2 events; raise --bytes"),
     true = has(Own, "a@h: convert left out 1 event that named the collector"),
     "convert left out 1 entry that seq_trace doesn't write: hello" = Left,
     true = has(Unknown, "convert left out 5 entries of seq_trace whose form it doesn't know: {seq_trace,1,{send,{0,"),
     true = has(Unknown, "; {seq_trace,1,2}; "),
     true = has(Unknown, "; and 2 more").
-
-%% A trace that the program's reader won't take is told.
-limits_test() ->
-    Facts = fun(Processes) ->
-                    seqaudit_notes:facts(#{collections => [], counts => #{}, samples => #{}, listed => [],
-                                           wrapped => false, labels => []},
-                                         #{events => 1, processes => Processes})
-            end,
-    [] = Facts(1_000_000),
-    [{limits, Note}] = Facts(1_000_001),
-    true = has(Note, "it has 1,000,001 processes, and `gemshowal' takes 1,000,000").
 
 %% A node number has 65,536 numbers for processes. With more processes a node gets further numbers, and nothing is left
 %% out.
@@ -214,8 +203,7 @@ many_processes_test_() ->
             ++ [{seq_trace, 1, {print, {0, 1}, pid('b@h', 7, 0), [], x}}],
         #{events := 163_841, processes := 163_841, dropped := 0, notes := Notes, terms := Terms, seqtrace := Text} =
             convert(Events),
-        [] = [Note || Note <- Notes, length(Note) > 500],
-        true = lists:any(fun(Note) -> has(Note, "2 further node numbers, of which NAME.terms says") end, Notes),
+        [] = Notes,
         [<<"node\t2\ta@h">>, <<"node\t3\ta@h">>] =
             [Line || <<"node", _/binary>> = Line <- binary:split(iolist_to_binary(Terms), <<"\n">>, [global])],
         {_, _} = binary:match(Text, <<"\nprocess <1.7.0>\n">>),
@@ -232,7 +220,7 @@ many_processes_test_() ->
     end}.
 
 lost_test() ->
-    #{events := 0, notes := [Note]} = seqaudit_convert:convert([#{node => 'a@h', lost => noconnection}]),
+    #{events := 0, notes := [Note]} = seqaudit_test_files:convert([#{node => 'a@h', lost => noconnection}]),
     true = has(Note, "a@h: the node was lost, or the connection to it, and all of its events are lost").
 
 %% Large terms are cut in what is printed, and not in what is compared. The time is the processor's, as
@@ -278,7 +266,7 @@ hostile_trace(File, Port, Terms) ->
     end),
     Count = 2 * length(Terms),
     {ok, #{events := Count}} = seqaudit_trace:stop(),
-    {ok, [#{events := Events}]} = seqaudit_events:read(Name ++ ".events"),
+    {ok, [#{events := Events}]} = seqaudit_test_files:read(Name ++ ".events"),
     Count = length(Events),
     seqaudit_audits:fits(Name).
 
@@ -298,32 +286,30 @@ text_test() ->
     Terms = [{seq_trace, {l, <<1, 2>>}, {send, {0, 1}, self(), {srv, 'b@h'}, "a 'b' {<0.1.0>"}},
              {seq_trace, 1.5, {print, {0, 1}, self(), [], #{$a => [hd(erlang:ports()) | make_ref()]}}}],
     Text = unicode:characters_to_binary([io_lib:format("~tp~n", [Term]) || Term <- Terms]),
-    {ok, [{Node, [First, Second]}]} = seqaudit_text:read(<<"%% node ", (atom_to_binary(node()))/binary,
+    {ok, [{Node, [First, Second]}]} = seqaudit_test_files:text(<<"%% node ", (atom_to_binary(node()))/binary,
                                                            "\n\n", Text/binary>>),
     Node = node(),
     First = hd(Terms),
     Printed = io_lib:format("~tp", [lists:last(Terms)]),
     Printed = io_lib:format("~tp", [Second]),
     Away = <<"% node a@h\n% channel 77 b@h\n{<77.1.2>,<78.1.2>,<0.1.2>, #Fun<m.1.2>}.\n">>,
-    {ok, [{'a@h', [{B, Unknown, A, {'fun', "m.1.2"}}]}]} = seqaudit_text:read(Away),
+    {ok, [{'a@h', [{B, Unknown, A, {'fun', "m.1.2"}}]}]} = seqaudit_test_files:text(Away),
     ['b@h', channel_78, 'a@h'] = [node(Pid) || Pid <- [B, Unknown, A]].
 
 text_faults_test() ->
-    [{Line, _} = element(2, seqaudit_text:read(Text))
+    [{Line, _} = element(2, seqaudit_test_files:text(Text))
      || {Line, Text} <- [{1, <<"{a">>}, {2, <<"a\n{b,\n\nc,}\n">>}, {3, <<"{a,\n\"b}\"}\n'c">>},
                          {1, <<"<0.1>">>}, {1, <<"#Ref<1>">>}, {1, <<255>>}, {3, <<"a\n\n#Port<0.1.2>">>}]],
-    {ok, []} = seqaudit_text:read(<<"\n% nothing\n">>).
+    {ok, []} = seqaudit_test_files:text(<<"\n% nothing\n">>).
 
 external_test() ->
     File = seqaudit_audits:file("external.bin"),
     Events = [{seq_trace, 1, {print, {0, 1}, self(), [], x}}],
     ok = file:write_file(File, term_to_binary(Events)),
-    {ok, [#{events := Events}]} = seqaudit_events:read(File),
-    ok = file:write_file(File, term_to_binary(Events, [compressed])),
-    {ok, [#{events := Events}]} = seqaudit_events:read(File),
+    {ok, [#{events := Events}]} = seqaudit_test_files:read(File),
     ok = file:write_file(File, <<131, 1, 2, 3>>),
-    {error, {not_events, File}} = seqaudit_events:read(File),
-    {error, {file, "/no/such/file", enoent}} = seqaudit_events:read("/no/such/file").
+    {error, {not_events, File}} = seqaudit_test_files:read(File),
+    {error, {file, "/no/such/file", enoent}} = seqaudit_test_files:read("/no/such/file").
 
 %% A trace port of dbg writes what it drops as counts.
 trace_file_test() ->
@@ -338,16 +324,15 @@ trace_file_test() ->
             seqaudit_trace:with_trace(1, fun() -> self() ! me, receive me -> ok end end),
             Port = seq_trace:set_system_tracer(false),
             true = port_close(Port),
-            {ok, [#{events := [_, _], dropped := 0} = Collection]} = seqaudit_events:read(File),
             Name = seqaudit_audits:file("port"),
-            {ok, #{events := 2}} = seqaudit_convert:files([Collection], Name),
+            {ok, #{events := 2, dropped := 0}} = seqaudit_convert:from_files([File], Name),
             seqaudit_audits:fits(Name),
             ok = file:write_file(File, <<1, 7:32, 0, 9:32, 1>>),
-            {error, {broken_trace, File, _}} = seqaudit_events:read(File)
+            {error, {broken_trace, File, _}} = seqaudit_test_files:read(File)
     end.
 
 convert(Events) ->
-    seqaudit_convert:convert([#{node => node(), events => Events}]).
+    seqaudit_test_files:convert([#{node => node(), events => Events}]).
 
 has(Text, Part) ->
     string:find(Text, Part) =/= nomatch.

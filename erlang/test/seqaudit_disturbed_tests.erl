@@ -106,7 +106,7 @@ signal(Name, Process) ->
     ok.
 
 events(Name) ->
-    {ok, [#{events := Events}]} = seqaudit_events:read(seqaudit_audits:file(Name) ++ ".events"),
+    {ok, [#{events := Events}]} = seqaudit_test_files:read(seqaudit_audits:file(Name) ++ ".events"),
     Events.
 
 print(Peer, What) ->

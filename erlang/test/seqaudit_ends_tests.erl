@@ -7,7 +7,7 @@
 
 -import(seqaudit_test_shell, [node_command/0, cookie/0, run/1, run/2, begin_run/2, ended/0]).
 
-%% After a command was killed, the next one says how long its collector stays, or takes over; nothing is lost.
+%% After a command was killed, the next one says how long its collector stays; nothing is lost.
 killed_test_() ->
     {timeout, 180, fun() -> seqaudit_test_nodes:with_second("a killed command", fun killed/1) end}.
 
@@ -18,21 +18,20 @@ killed(There) ->
     seqaudit_test_nodes:print_when_traced(There),
     {4, Led} = run([Collect, "--seconds 1"], cookie()),
     {_, _} = binary:match(Led, <<"is traced already, for seqaudit_">>),
-    {4, StillLed} = run([Collect, "--seconds 1 --take-over"], cookie()),
-    {_, _} = binary:match(StillLed, <<"is traced already, for seqaudit_">>),
     kill_command(There),
     {_, _} = ended(),
     {4, Lost} = run([Collect, "--seconds 1"], cookie()),
     {match, [Seconds, Folder]} =
         re:run(Lost,
                "can't be reached any more; that ends in ([0-9]+) s, unless it comes back, and leaves its events in "
-               "(\\S+) there; with --take-over", [{capture, all_but_first, list}]),
+               "(\\S+) there", [{capture, all_but_first, list}]),
     true = list_to_integer(Seconds) =< 60,
-    {0, _} = run([Collect, "--seconds 1 --take-over"], cookie()),
-    false = erpc:call(There, seq_trace, get_system_tracer, []),
+    receive after 1_000 * list_to_integer(Seconds) -> ok end,
+    seqaudit_test_nodes:until(fun() -> not seqaudit_test_nodes:is_traced(There) end),
+    {0, _} = run([Collect, "--seconds 1"], cookie()),
     {0, Left} = run([node_command(), " convert ", Folder, " -o ", Name]),
     {_, _} = binary:match(Left, <<"1 event of 1 process">>),
-    {_, _} = binary:match(Left, <<"somebody else took the node over">>),
+    {_, _} = binary:match(Left, <<"the node that led the collection was out of reach for too long">>),
     ok = seqaudit_spool:remove(Folder).
 
 %% The number of its Erlang is in the name of its node.

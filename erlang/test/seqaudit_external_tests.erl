@@ -23,7 +23,6 @@ one_form_test() ->
     [[Same, Same] = [form(One), form(Other)]
      || {One, Other} <- [{Old(<<"ok">>), New(<<"ok">>)},
                          {<<100, 1:16, 233>>, <<119, 2, 195, 169>>},
-                         {<<118, 2:16, "ok">>, <<115, 2, "ok">>},
                          {Fun(Old(<<"m">>), Pid(<<"a@h">>, 80), <<97, 1>>),
                           Fun(New(<<"m">>), Pid(<<"b@host">>, 0), <<97, 1>>)},
                          {Fun(New(<<"m">>), Pid(<<"a@h">>, 0), Old(<<"ok">>)),
@@ -35,7 +34,6 @@ one_form_test() ->
                          {<<113, (Old(<<"m">>))/binary, (Old(<<"f">>))/binary, 97, 1>>,
                           <<113, (New(<<"m">>))/binary, (New(<<"f">>))/binary, 97, 1>>},
                          {<<89, (New(<<"a@h">>))/binary, 8:32, 7:32>>, <<120, (Old(<<"a@h">>))/binary, 8:64, 7:32>>},
-                         {<<99, "1.50000000000000000000e+00", 0:40>>, <<70, 1.5/float>>},
                          list_to_tuple(Maps)]].
 
 new_fun(Unique, Parts) ->

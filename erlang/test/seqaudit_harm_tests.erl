@@ -75,7 +75,7 @@ written_over() ->
     seqaudit_trace:with_trace(1, fun() -> [seq_trace:print({number, K}) || K <- lists:seq(1, 20_000)] end),
     {ok, #{events := Events, dropped := Dropped}} = seqaudit_trace:stop(),
     true = abs(Events + Dropped - 20_000) < 500,
-    {ok, [#{events := Kept}]} = seqaudit_events:read(Name ++ ".events"),
+    {ok, [#{events := Kept}]} = seqaudit_test_files:read(Name ++ ".events"),
     {seq_trace, 1, {print, _, _, _, {number, 20_000}}} = lists:last(Kept),
     {seq_trace, 1, {print, _, _, _, {number, First}}} = hd(Kept),
     First = 20_001 - Events.
@@ -139,7 +139,7 @@ trigger_test_() ->
                                     seqaudit_test_nodes:until(fun() -> is_triggered(There) end),
                                     7 = erpc:call(There, seqaudit_test_server, order, [7])
                                 end),
-        {_, _} = binary:match(Said, <<"; calls of seqaudit_test_server:order/1 set the token">>),
+        {_, _} = binary:match(Said, <<"; calls that fit seqaudit_test_server:order/1 set the token">>),
         #{{label, <<"{order,7}">>} := _} = seqaudit_test_traces:terms(Name),
         {Times, Messages} = seqaudit_test_traces:times(Name),
         true = Times >= 4 andalso length(Messages) >= 2,
@@ -205,7 +205,7 @@ collect_errors_test_() ->
              nomatch = binary:match(Text, [<<"erl:">>, <<"badmatch">>, <<"{error">>])
          end || {Words, Part} <- [{"--node nohost", <<"nohost isn't the name of a node; it is written name@host">>},
                                   {"--node @h", <<"@h isn't the name of a node">>},
-                                  {"--node a@h --limit -5", <<"--limit can't be -5">>},
+                                  {"--node a@h --bytes -5", <<"--bytes can't be -5">>},
                                   {"--node a@h --bytes many", <<"--bytes can't be many">>},
                                   {"--node a@h --seconds 0", <<"--seconds can't be 0">>},
                                   {"--node a@h --trigger shop --label 1", <<"shop isn't a function">>},

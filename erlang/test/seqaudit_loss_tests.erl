@@ -27,7 +27,7 @@ is_traced(Node) -> seqaudit_test_nodes:is_traced(Node).
 
 %% The messages of the prints in a file of events.
 printed(File) ->
-    {ok, Collections} = seqaudit_events:read(File ++ ".events"),
+    {ok, Collections} = seqaudit_test_files:read(File ++ ".events"),
     [What || #{events := Events} <- Collections,
              {seq_trace, 1, {print, _, _, _, What}} <- Events].
 
@@ -228,18 +228,15 @@ broken_port_test() ->
 
 %% Whoever waits for the trace hears at once that a disk is full.
 told_at_once_test() ->
-    true = register(seqaudit_sight, self()),
-    try
-        ok = seqaudit_trace:start(#{name => seqaudit_audits:file("told_at_once"), port => false}),
-        Collector = whereis(seqaudit_collector),
-        {links, Links} = process_info(Collector, links),
-        [Writer] = [Pid || Pid <- Links, process_info(Pid, priority) =:= {priority, high}],
-        Collector ! {seqaudit_scribe, Writer, enospc},
-        receive {ended, Node, {disk, enospc}} when Node =:= node() -> ok after 30_000 -> error(not_told) end,
-        {ok, _} = seqaudit_trace:stop()
-    after
-        unregister(seqaudit_sight)
-    end.
+    Self = self(),
+    ok = seqaudit_trace:start(#{name => seqaudit_audits:file("told_at_once"), port => false,
+                                tell => fun(Node, News) -> Self ! {told, Node, News} end}),
+    Collector = whereis(seqaudit_collector),
+    {links, Links} = process_info(Collector, links),
+    [Writer] = [Pid || Pid <- Links, process_info(Pid, priority) =:= {priority, high}],
+    Collector ! {seqaudit_scribe, Writer, enospc},
+    receive {told, Node, {ended, {disk, enospc}}} when Node =:= node() -> ok after 30_000 -> error(not_told) end,
+    {ok, _} = seqaudit_trace:stop().
 
 broken_port() ->
     Name = seqaudit_audits:file("broken_port"),
@@ -345,7 +342,7 @@ refused_options_test() ->
          {error, {option, Option, Value} = Reason} = seqaudit_trace:start(#{Option => Value}),
          true = is_list(seqaudit_trace:format_error(Reason)),
          undefined = whereis(seqaudit_trace)
-     end || {Option, Value} <- [{limit, -5}, {limit, x}, {nodes, []}, {nodes, here}, {name, 17}, {name, ""},
+     end || {Option, Value} <- [{nodes, []}, {nodes, here}, {name, 17}, {name, ""},
                                 {bytes, 0}, {reset, yes}, {folder, 1}, {trigger, {a, b, 1}},
                                 {trigger, #{function => {a, b, 1}, label => 1, times => true, calls => 0}}]],
     {error, {node, _, {trigger, {no_function, {shop, nothing, 9}}} = Missing}} =

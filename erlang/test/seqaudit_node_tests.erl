@@ -16,8 +16,8 @@ usage_test_() ->
              [] = [Option || Option <- Options, binary:match(Its, Option) =:= nomatch]
          end || {Command, Options} <- [{<<"collect">>,
                                         [<<"--node">>, <<"-o">>, <<"--seconds">>, <<"--trigger">>, <<"--label">>,
-                                         <<"--calls">>, <<"--take-over">>, <<"--unload">>, <<"--times">>, <<"--reset">>,
-                                         <<"--bytes">>, <<"--limit">>, <<"--folder">>, <<"--cookie-file">>,
+                                         <<"--calls">>, <<"--unload">>, <<"--times">>, <<"--reset">>,
+                                         <<"--bytes">>, <<"--folder">>, <<"--cookie-file">>,
                                          <<"--cookie ">>, <<"SEQAUDIT_COOKIE">>]},
                                        {<<"convert">>, [<<"FILE">>, <<"-o">>]},
                                        {<<"watch">>, [<<"--node">>, <<"--every">>, <<"-o">>, <<"--keep">>]}]],
@@ -31,7 +31,7 @@ usage_test_() ->
          || Words <- ["", "frobnicate", "convert x", "collect --node a@h", "collect -o x", "convert -o",
                       "watch --node a@h -o x", "watch --every 1 -o x"]],
         {3, Text} = command("collect --node a@h --seconds ten -o x"),
-        {_, _} = binary:match(Text, <<"--seconds can't be ten; it takes a whole number, 1 or more">>)
+        {_, _} = binary:match(Text, <<"--seconds can't be ten; it takes a whole number from 1 to 4294967">>)
     end}.
 
 %% A command that this one had before is named in one line.

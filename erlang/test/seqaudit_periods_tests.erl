@@ -44,7 +44,7 @@ print(N, To) ->
     end.
 
 numbers(File) ->
-    {ok, [#{events := Events}]} = seqaudit_events:read(File),
+    {ok, [#{events := Events}]} = seqaudit_test_files:read(File),
     [case Printed of {N, _} -> N; N -> N end || {seq_trace, 1, {print, _, _, _, Printed}} <- Events].
 
 %% A collector that ended by itself, or was killed, is begun again, and what it has is written with the reason.
@@ -222,7 +222,7 @@ write(N, Events) ->
 
 %% Each part knows the processes that it names, if it has events.
 count(File) ->
-    {ok, [#{events := Events, processes := #{} = Processes}]} = seqaudit_events:read(File),
+    {ok, [#{events := Events, processes := #{} = Processes}]} = seqaudit_test_files:read(File),
     [#{name := tester} = maps:get(self(), Processes) || Events =/= []],
     length(Events).
 
@@ -245,7 +245,7 @@ rest_test() ->
                                   {seq_trace, 1, {send, {1, 2}, C, B, x}}]}]],
     ok = seqaudit_events:close(Device),
     {4, 1} = cut_file(Name ++ ".events"),
-    {ok, [#{processes := #{} = Left}]} = seqaudit_events:read(seqaudit_audits:file("rest_rest") ++ ".events"),
+    {ok, [#{processes := #{} = Left}]} = seqaudit_test_files:read(seqaudit_audits:file("rest_rest") ++ ".events"),
     [#{name := b}, #{name := c}] = [maps:get(Pid, Left) || Pid <- [B, C]],
     2 = map_size(Left).
 
@@ -254,7 +254,7 @@ cut_file(File) ->
     [Own, Rest] = Parts,
     ok = seqaudit_quiet:cut([File], [Own], [Rest]),
     list_to_tuple([length(lists:append([Events || #{events := Events} <- Read]))
-                   || Part <- Parts, {ok, Read} <- [seqaudit_events:read(Part)]]).
+                   || Part <- Parts, {ok, Read} <- [seqaudit_test_files:read(Part)]]).
 
 never_quiet_test() ->
     [A, B] = [self(), spawn(fun() -> ok end)],

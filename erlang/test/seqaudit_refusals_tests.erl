@@ -1,17 +1,12 @@
 %% Refusals, without another node.
 -module(seqaudit_refusals_tests).
 
--export([long_wait_ends_when_asked_test/0, long_name_is_no_function_test/0, wrong_option_is_usage_test_/0,
+-export([long_name_is_no_function_test/0, wrong_option_is_usage_test_/0,
          cookie_with_a_letter_test/0, failed_start_leaves_no_file_test/0, unwritable_promises_nothing_test/0,
-         unwritten_file_is_said_to_be_so_test/0, label_is_spelled_as_it_is_taken_test/0,
+         unwritten_file_is_said_to_be_so_test/0,
          lacking_option_is_named_test_/0, version_test/0]).
 
 has(Text, Part) -> {_, _} = binary:match(unicode:characters_to_binary(Text), unicode:characters_to_binary(Part)).
-
-long_wait_ends_when_asked_test() ->
-    Asked = make_ref(),
-    _ = erlang:send_after(10, self(), Asked),
-    asked = seqaudit_signals:wait(Asked, 16#FFFF_FFFF + 1).
 
 long_name_is_no_function_test() ->
     Long = lists:duplicate(300, $a),
@@ -67,16 +62,6 @@ unwritable_promises_nothing_test() ->
 
 unwritten_file_is_said_to_be_so_test() ->
     Event = {seq_trace, 1, {print, {0, 1}, self(), [], seen}},
-    {error, Reason} = seqaudit_convert:files([#{node => node(), events => [Event]}], "/no/such/folder/x"),
-    Said = "/no/such/folder/x.terms can't be written: no such file or directory",
-    [Said, Said] = [seqaudit_events:format_error(Reason), seqaudit_convert:format_error(Reason)].
-
-%% A pid in a label has the number that NAME.terms gives it.
-label_is_spelled_as_it_is_taken_test() ->
-    Label = {made, self()},
-    Name = seqaudit_audits:file("label_of_pid"),
-    ok = file:write_file(Name ++ ".list", term_to_binary([{seq_trace, Label, {print, {0, 1}, self(), [], seen}}])),
-    {ok, #{notes := Notes}} = seqaudit_convert:from_files([Name ++ ".list"], Name),
-    {ok, Terms} = file:read_file(Name ++ ".terms"),
-    {match, [Number, Spelled]} = re:run(Terms, "^label\t([0-9]+)\t(.*)$", [multiline, {capture, all_but_first, list}]),
-    [_] = [Note || Note <- Notes, lists:suffix(lists:append(["have numbers: ", Number, " is ", Spelled]), Note)].
+    File = seqaudit_test_files:write(seqaudit_audits:file("unwritten"), [#{node => node(), events => [Event]}]),
+    {error, Reason} = seqaudit_convert:from_files([File], "/no/such/folder/x"),
+    "/no/such/folder/x.terms can't be written: no such file or directory" = seqaudit_events:format_error(Reason).

@@ -42,7 +42,7 @@ application(Release) ->
     Home = seqaudit_audits:file("releases/" ++ integer_to_list(erlang:phash2(Release))),
     ok = filelib:ensure_dir(Home ++ "/"),
     Parts = [[filename:join(seqaudit_audits:home(), Part), $\s]
-             || Part <- ["src", "demo", "priv", "Makefile", "seqaudit-node"]],
+             || Part <- ["src", "demo", "Makefile", "seqaudit-node"]],
     {0, _} = shell(Release, ["cp -r ", Parts, Home, " && make -s -C ", Home, " all && erlc -o ",
                              Home, "/ebin ", Home, "/demo/shop.erl"]),
     Home.
@@ -83,12 +83,17 @@ pair(Command, Application, {Release, {Node, _}}) ->
     nomatch = binary:match(Collected, <<"convert left out">>),
     {0, Triggered} = Run("collect --trigger shop:order/2 --label call --seconds 1"),
     true = element(1, events(Triggered)) >= 11,
-    {_, Watched} = shell(Command, ["timeout -s INT 6 ", Application,
-                                   "/seqaudit-node watch --every 1 --node ", Node,
-                                   " -o ", Name, ".watch --unload"]),
+    {0, Watched} = watched(Command, [Application, "/seqaudit-node watch --every 1 --node ", Node,
+                                     " -o ", Name, ".watch --unload"], Name ++ ".said"),
     [{_, _} = binary:match(Watched, Word)
      || Word <- [<<"period 1: ">>, <<"period 2: ">>, <<" events ">>]],
     nomatch = binary:match(Watched, <<"no events came">>).
+
+%% What the command says up to its second period, for which a busy machine needs a while.
+watched(Command, Watch, Said) ->
+    shell(Command, [Watch, " >", Said, " 2>&1 & command=$!; seconds=0; until grep -q 'period 2: ' ", Said,
+                    " || [ $seconds = ", integer_to_list(?BEGUN_S), " ]; do sleep 1; seconds=$((seconds + 1)); done; "
+                    "kill $command; wait $command; cat ", Said]).
 
 %% The node may not be there yet.
 begun(Run, Times) ->

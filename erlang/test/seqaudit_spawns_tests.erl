@@ -10,14 +10,23 @@
 %% calls it again: 21 events with its print. Nothing is left out, by either tracer, whatever the
 %% counters are.
 requests_are_whole_test_() ->
-    [{timeout, 60, {text(Requests, Port), fun() -> requests_are_whole(Requests, Port) end}}
-     || Requests <- [20, 300], Port <- [true, false]].
+    [{timeout, 300, {text(Requests, Port), fun() -> requests_are_whole(Requests, Port) end}}
+     || Requests <- [20, 300, 3_000], Port <- [true, false]].
 
 text(Requests, Port) -> lists:flatten(io_lib:format("~b requests, port ~p", [Requests, Port])).
 
 requests_are_whole(Requests, Port) ->
     Name = seqaudit_audits:file("requests"),
     {ok, #{events := Events, dropped := 0}} = served(Name, Requests, #{port => Port}),
+    %% A machine that is busy may not keep up with 3,000: then the collector says so.
+    case seqaudit_test_traces:losses(Name) of
+        [] -> is_whole(Name, Requests, Events);
+        Losses ->
+            [{_, _} = binary:match(Loss, <<"events came faster than they could be written">>)
+             || Loss <- Losses]
+    end.
+
+is_whole(Name, Requests, Events) ->
     Events = 21 * Requests,
     {ok, Text} = file:read_file(Name ++ ".seqtrace"),
     <<"seqtrace 3\n", _/binary>> = Text,
@@ -111,7 +120,7 @@ kinds(Process, Events) ->
     [kind(Line) || Line <- maps:get(list_to_binary(Process), streams(Text))].
 
 converted(Events) ->
-    seqaudit_convert:convert([#{node => node(), events => Events}]).
+    seqaudit_test_files:convert([#{node => node(), events => Events}]).
 
 %% The lines of each process.
 streams(Text) ->

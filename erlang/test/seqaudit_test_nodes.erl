@@ -83,7 +83,7 @@ on_port(What, Test) ->
 %% Ends what a test that failed may have left: a collection, a tracer, this node's name. EUnit kills a test that
 %% takes too long, so its `after' isn't run.
 clear() ->
-    _ = (catch seqaudit_trace:stop()),
+    _ = try seqaudit_trace:stop() catch _:_ -> failed end,
     [ok = application:unset_env(seqaudit, Key) || Key <- [collection, shared_disk]],
     [end_process(Name) || Name <- [seqaudit_trace, seqaudit_collector]],
     _ = seq_trace:set_system_tracer(false),
@@ -92,7 +92,7 @@ clear() ->
 
 end_process(Name) ->
     Monitor = monitor(process, Name),
-    _ = (catch exit(whereis(Name), kill)),
+    _ = try exit(whereis(Name), kill) catch error:badarg -> gone end,
     receive {'DOWN', Monitor, process, _, _} -> ok end.
 
 %% Waits until the function returns true, and fails if it takes too long.

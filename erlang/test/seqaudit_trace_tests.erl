@@ -46,7 +46,7 @@ programs() ->
      {"call_that_times_out", fun() ->
           Slow = seqaudit_test_server:start(fun(Ms) -> receive after Ms -> Ms end end),
           fun() ->
-              {'EXIT', {timeout, _}} = (catch gen_server:call(Slow, 60, 20)),
+              late = try gen_server:call(Slow, 60, 20) catch exit:{timeout, _} -> late end,
               0 = gen_server:call(Slow, 0)
           end
       end},
@@ -134,10 +134,12 @@ same_name_test() ->
 
 full_collector_test() ->
     Name = seqaudit_audits:file("full"),
-    ok = seqaudit_trace:start(#{name => Name, limit => 10}),
-    seqaudit_trace:with_trace(1, fun() -> [seq_trace:print(K) || K <- lists:seq(1, 25)] end),
-    {ok, #{events := 10, dropped := 15, notes := [Note]}} = seqaudit_trace:stop(),
-    {match, _} = re:run(Note, ": the collector dropped 15 events beyond the limit"),
+    ok = seqaudit_trace:start(#{name => Name, port => false, bytes => 65_536}),
+    Print = fun(_) -> seq_trace:print(binary:copy(<<0>>, 1_024)), seqaudit_test_nodes:keep_pace() end,
+    seqaudit_trace:with_trace(1, fun() -> lists:foreach(Print, lists:seq(1, 100)) end),
+    {ok, #{events := Kept, dropped := Dropped, notes := [Note]}} = seqaudit_trace:stop(),
+    {true, 100} = {Kept > 50 andalso Dropped > 0, Kept + Dropped},
+    {match, _} = re:run(Note, [": the collector dropped ", integer_to_list(Dropped), " events; raise --bytes"]),
     ok_or_skipped(seqaudit_audits:fits(Name)).
 
 former_tracer_is_put_back_test() ->
@@ -176,7 +178,7 @@ second_tracer_stays_test() ->
 
 owner_ends_test() ->
     Owner = spawn(fun() -> receive stop -> ok end end),
-    {ok, Collector} = seqaudit_collector:start(#{owner => Owner, limit => 10, reset => false}),
+    {ok, Collector} = seqaudit_collector:start(#{owner => Owner, reset => false}),
     Collector = seq_trace:get_system_tracer(),
     Monitor = monitor(process, Collector),
     exit(Owner, kill),
@@ -200,11 +202,11 @@ collector_stays_out_test() ->
 token_is_taken_off_test() ->
     done = seqaudit_trace:with_trace(1, fun() -> [_ | _] = tuple_to_list(seq_trace:get_token()), done end),
     [] = seq_trace:get_token(),
-    {'EXIT', _} = (catch seqaudit_trace:with_trace(1, fun() -> error(deliberate) end)),
+    failed = try seqaudit_trace:with_trace(1, fun() -> error(deliberate) end) catch error:deliberate -> failed end,
     [] = seq_trace:get_token(),
-    thrown = (catch seqaudit_trace:with_trace({a, term}, [send], fun() -> throw(thrown) end)),
+    thrown = try seqaudit_trace:with_trace({a, term}, [send], fun() -> throw(thrown) end) catch Thrown -> Thrown end,
     [] = seq_trace:get_token(),
-    {'EXIT', {badarg, _}} = (catch seqaudit_trace:with_trace(1, [sent], fun() -> ok end)),
+    refused = try seqaudit_trace:with_trace(1, [sent], fun() -> ok end) catch error:badarg -> refused end,
     ok.
 
 %% 20,000 events of 20 processes at once: all of them come, in each process's order.

@@ -173,7 +173,7 @@ labelled(Trigger) ->
     ok = seqaudit_trace:start(#{name => Name, trigger => Trigger#{times => false}}),
     [called(ordered, What) || What <- [a, b, a]],
     {ok, _} = seqaudit_trace:stop(),
-    {ok, [#{events := Events}]} = seqaudit_events:read(Name ++ ".events"),
+    {ok, [#{events := Events}]} = seqaudit_test_files:read(Name ++ ".events"),
     [{Label, What} || {seq_trace, Label, {print, _, _, _, {ordered, What}}} <- Events].
 
 calls_in_a_second_test_() ->
@@ -227,7 +227,7 @@ triggered(Trigger, Do) ->
     ok = seqaudit_trace:start(#{name => Name, trigger => trigger(Trigger)}),
     _ = Do(),
     {ok, _} = seqaudit_trace:stop(),
-    {ok, [#{events := Events}]} = seqaudit_events:read(Name ++ ".events"),
+    {ok, [#{events := Events}]} = seqaudit_test_files:read(Name ++ ".events"),
     [What || {seq_trace, 1, {print, _, _, _, {ordered, What}}} <- Events].
 
 %% A process calls the function, and ends.

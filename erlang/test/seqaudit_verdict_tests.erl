@@ -1,7 +1,7 @@
 %% The verdicts that `watch' gets from gemshowal, and from a program that isn't it.
 -module(seqaudit_verdict_tests).
 
--export([verdicts_test_/0, other_programs_test/0, json_test/0, no_json_test/0]).
+-export([verdicts_test_/0, other_programs_test/0]).
 
 %% A trace that fits, one that doesn't, one whose counters have wrapped, and a text that is none.
 verdicts_test_() ->
@@ -21,11 +21,16 @@ verdicts_test_() ->
                       _/binary>>} = Of(["0,2", "0,1"]),
             {error, {refused, Words}} = Of(["0,x"]),
             {_, _} = binary:match(Words, <<"verdict of a trace.seqtrace, line 3, column ">>),
-            Wrapped = seqaudit_audits:file("wrapped"),
-            ok = file:write_file(Wrapped ++ ".seqtrace", "seqtrace 3\n"),
-            {error, wrapped} = asked(Program, Wrapped),
-            "counters have wrapped, as they do if a service spawns under its tokens, and gemshowal "
-                "can't judge that yet" = seqaudit_verdict:format_error(wrapped)
+            Wrapped = fun(Serial) ->
+                              Name = seqaudit_audits:file("wrapped"),
+                              ok = file:write_file(Name ++ ".seqtrace",
+                                                   ["seqtrace 3\nprocess <0.80.0>\n"
+                                                    "{seq_trace,1,{print,{0,1},<0.80.0>,[],0}}\n"
+                                                    "{seq_trace,1,{print,{", Serial, "},<0.80.0>,[],0}}\n"]),
+                              asked(Program, Name)
+                      end,
+            {fits, <<"fits: 2 events of 1 process; nothing is known to be missing">>} = Wrapped("0,2"),
+            {unfit, <<"fits if something wasn't reported: ", _/binary>>} = Wrapped("-5,-4")
         end)
     end}.
 
@@ -39,12 +44,18 @@ other_programs_test() ->
          Said = iolist_to_binary([Name, Words]),
          Said = list_to_binary(seqaudit_verdict:format_error(Reason))
      end || {Script, Words} <-
-                [{"", " ended with status 0, and without the JSON of an audit"},
-                 {"echo fits; echo no >&2", " ended with status 0, and without the JSON of an audit"},
-                 {"echo '{\"fits\":true,\"headline\":7}'", " ended with status 0, and without the "
-                                                           "JSON of an audit"},
-                 {"kill -9 $$", " ended with status 137, and without the JSON of an audit"}]],
+                [{"", " ended with status 0, and without a verdict"},
+                 {"echo fine; echo no >&2", " ended with status 0, and without a verdict"},
+                 {"echo \"doesn't fit: x\"", " ended with status 0, and without a verdict"},
+                 {"echo 'fits: x'; exit 1", " ended with status 1, and without a verdict"},
+                 {"kill -9 $$", " ended with status 137, and without a verdict"}]],
+    {refused, <<"no">>} = refused(Name, "echo 'error: no' >&2; exit 2"),
     {error, {missing, "/no/such/program"}} = asked("/no/such/program", "x").
+
+refused(Program, Script) ->
+    ok = file:write_file(Program, ["#!/bin/sh\n", Script]),
+    {error, Reason} = asked(Program, "x"),
+    Reason.
 
 asked(Program, Name) ->
     Before = os:getenv("GEMSHOWAL"),
@@ -56,14 +67,3 @@ asked(Program, Name) ->
             _ -> os:putenv("GEMSHOWAL", Before)
         end
     end.
-
-json_test() ->
-    Text = <<" {\"a\": [1, -2.5, 1e3, true, false, null, [], {}],\r\n"
-             "  \"\\u00e9\\ud83d\\ude00\\n\\\"\\\\\\/\": \"käse\"} "/utf8>>,
-    {ok, #{<<"a">> := [1, -2.5, 1.0e3, true, false, null, [], #{}],
-           <<"é😀\n\"\\/"/utf8>> := <<"käse"/utf8>>}} = seqaudit_json:decode(Text).
-
-no_json_test() ->
-    [{error, not_json} = seqaudit_json:decode(Text)
-     || Text <- [<<>>, <<"{">>, <<"{}x">>, <<"[1,]">>, <<"{\"a\":}">>, <<"{\"a\":1,}">>, <<"\"a">>,
-                 <<"\"\\x\"">>, <<"\"\\u12\"">>, <<"nul">>, <<"fits">>, <<"-">>, <<"[1 2]">>]].
