@@ -16,44 +16,6 @@ let greatest_events = 1_000_000
 let greatest_acts = 4_000_000
 let greatest_label = 0xffff_ffff
 
-(* Numbers *)
-
-(* Numbers are linked lists of bits; what most of them begin with is there once. *)
-let shared = 65_536
-
-let shared_positives =
-  let made = Array.make shared XH in
-  for n = 2 to shared - 1 do
-    let half = made.(n lsr 1) in
-    made.(n) <- if n land 1 = 1 then XI half else XO half
-  done;
-  made
-
-let rec positive_of_int n =
-  if n < shared then shared_positives.(n)
-  else
-    let half = positive_of_int (n lsr 1) in
-    if n land 1 = 1 then XI half else XO half
-
-let n_of_int n = if n = 0 then N0 else Npos (positive_of_int n)
-
-(* A number of 64 bits that OCaml's integers don't have. *)
-let n_of_bits bits =
-  let rec positive bits =
-    if bits = 1L then XH
-    else
-      let half = positive (Int64.shift_right_logical bits 1) in
-      if Int64.logand bits 1L = 1L then XI half else XO half
-  in
-  Npos (positive bits)
-
-let rec int_of_positive = function
-  | XH -> 1
-  | XO half -> 2 * int_of_positive half
-  | XI half -> (2 * int_of_positive half) + 1
-
-let int_of_n = function N0 -> 0 | Npos p -> int_of_positive p
-
 (* The words of a line *)
 
 let expect line word =
@@ -95,14 +57,14 @@ let small line most =
   if number > most then raise Strange;
   number
 
-let label line = n_of_int (small line greatest_label)
+let label line = Int64.of_int (small line greatest_label)
 
 let number line =
   let first, length = digits line in
-  if length <= 18 then n_of_int (value line first length)
+  if length <= 18 then Int64.of_int (value line first length)
   else
     match Int64.of_string ("0u" ^ String.sub line.text first length) with
-    | bits -> n_of_bits bits
+    | number -> number
     | exception Failure _ -> raise Strange
 
 let truth line = takes line "true" || (expect line "false"; false)
@@ -129,7 +91,7 @@ let pid_of known code =
   match Codes.find_opt known.pids code with
   | Some pid -> pid
   | None ->
-      let pid = (n_of_int (code lsr 16), n_of_int (code land 0xffff)) in
+      let pid = (Int64.of_int (code lsr 16), Int64.of_int (code land 0xffff)) in
       Codes.add known.pids code pid;
       pid
 
