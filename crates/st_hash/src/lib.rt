@@ -5,10 +5,7 @@
 //! changes the hash of each.
 #![tactic(auto)]
 
-ghost use Rattle.std.specs.Prelude.{◌≡◌, ℕ, List};
-ghost use Rattle.std.specs.Hash.DefaultHasher as sip;
-ghost use Rattle.sha2.specs.Hashers.{Holds256};
-ghost use Rattle.sha2.specs.Sha256.{sha256};
+ghost use Rattle.st_hash.specs.Tables.{IsDigestOf, begun_with};
 
 use sha2::{Digest, Sha256};
 use std::hash::{BuildHasher, DefaultHasher, Hasher};
@@ -23,7 +20,7 @@ pub struct DigestState {
 impl DigestState {
     /// Makes the state for a table of the keys that `keys` has taken.
     pub fn new(keys: Sha256) -> DigestState
-        ensures { (bytes : List ℕ) → Holds256 keys bytes → result.digest ≡ sha256 bytes }
+        ensures { IsDigestOf keys result.digest }
     {
         DigestState {
             digest: keys.finalize(),
@@ -34,7 +31,7 @@ impl DigestState {
 impl BuildHasher for DigestState {
     type Hasher = DefaultHasher;
 
-    ghost build_hasher = { λ s. sip.write sip.initial s.digest };
+    ghost build_hasher = { λ s. begun_with s.digest };
 
     fn build_hasher(&self) -> DefaultHasher {
         let mut hasher = DefaultHasher::new();

@@ -1,0 +1,2 @@
+-- The definitions: what a table's hashers begin with.
+pub mod Tables
