@@ -1,6 +1,6 @@
 -- The judge compares the told events of the processes, one place more at each turn.
-use Rattle.std.proofs.Common.{◌≡◌, ℕ, ◌+◌, ◌<◌, ◌⊎◌, inl, inr, zero, suc, Bool, List, [], ◌∷◌, slice_get, take, get_or}
-use Rattle.std.proofs.Common.{Some, refl, sym, ◌∙◌, ap, subst, arith}
+use Rattle.std.proofs.Common.{◌≡◌, ℕ, ◌+◌, ◌<◌, ◌⊎◌, inl, inr, zero, suc, Bool, List, [], ◌∷◌}
+use Rattle.std.proofs.Common.{slice_get, take, get_or, Some, refl, sym, ◌∙◌, ap, subst, arith}
 use Rattle.std.specs.List.{AllByRecursion}
 use Rattle.std.proofs.lemmas.Option.{none-some, same_Some}
 use Rattle.st_core.specs.declared.types.Pid.{Pid}

@@ -75,7 +75,8 @@ same_place (q ∷ ps) (suc k) (suc l) p rising at there =
 
 agrees_received : (f : Event) → is_send f ≡ true → agrees f (receipt_of f) ≡ true
 agrees_received f sends =
-    agrees_if f (receipt_of f) (record { sends = sends; label = refl; prev = refl; to = refl; value = refl })
+    agrees_if f (receipt_of f)
+    (record { sends = sends; label = refl; prev = refl; to = refl; value = refl })
 
 abbrev hides_by : Source → Bool
 hides_by from = elim from [ source.Hidden ↦ true | source.Event q j ↦ false ]

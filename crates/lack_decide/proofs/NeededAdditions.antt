@@ -1,7 +1,8 @@
 -- Each addition is needed if that holds process by process: the marked events of a process are its
 -- events with the marks at its place.
-use Rattle.std.proofs.Common.{[], ◌≡◌, ℕ, ◌+◌, ◌<◌, ◌≤◌, zero, suc, Bool, true, false, cond, inl, inr, List, ◌∷◌}
-use Rattle.std.proofs.Common.{slice_get, get_or, length, find, Option, Some, None, refl, sym, ◌∙◌, ap, subst, arith}
+use Rattle.std.proofs.Common.{[], ◌≡◌, ℕ, ◌+◌, ◌<◌, ◌≤◌, zero, suc, Bool, true, false, cond, inl}
+use Rattle.std.proofs.Common.{inr, List, ◌∷◌, slice_get, get_or, length, find, Option, Some, None}
+use Rattle.std.proofs.Common.{refl, sym, ◌∙◌, ap, subst, arith}
 use Rattle.std.proofs.lemmas.Option.{none-some, same_Some}
 use Rattle.st_core.specs.declared.types.Pid.{Pid}
 use Rattle.st_core.specs.declared.types.Event.{Event}
@@ -111,7 +112,8 @@ additions_needed streams lists n rising all needed = λ p i m at added.
     let within = place_within (pids_of streams) k p listed.1 in
     let is = marked_kept streams lists k p rising listed.1 in
     let here = marked_at es bs i m (sym (ap (λ ms. slice_get ms i) is) ∙ at) in
-    let there = needed k p (omega (arith, within, all)) listed.1 i m.event here.0 (here.1 ∙ added) in
+    let there = needed k p (omega (arith, within, all)) listed.1 i m.event here.0
+    (here.1 ∙ added) in
     subst (λ ms. IsNeeded (all_streams (wholes_with streams lists)) ms i m.event) (sym is)
     (subst (λ xs. IsNeeded xs (marked_with es bs) i m.event) (sym (all_kept streams lists))
     (needed_marked streams es bs i m.event there))

@@ -1,12 +1,14 @@
 -- The finding is a reason in the words of the results: if a rule gives nothing at an event, its
 -- reason isn't against that event, and where it gives something first, it is the first one that is.
-use Rattle.std.proofs.Common.{[], ◌≡◌, ◌⊎◌, ℕ, zero, suc, ◌<◌, ◌≤◌, ◌==◌, ◌&&◌, ◌||◌, nat_lt, not, Bool, true, false, cond}
-use Rattle.std.proofs.Common.{inl, inr, List, ◌∷◌, take, Option, Some, None, option_and_then, refl, sym}
-use Rattle.std.proofs.Common.{◌∙◌, ap, subst, arith, if◌then◌else◌}
+use Rattle.std.proofs.Common.{[], ◌≡◌, ◌⊎◌, ℕ, zero, suc, ◌<◌, ◌≤◌, ◌==◌, ◌&&◌, ◌||◌, nat_lt, not}
+use Rattle.std.proofs.Common.{Bool, true, false, cond, inl, inr, List, ◌∷◌, take, Option, Some}
+use Rattle.std.proofs.Common.{None, option_and_then, refl, sym, ◌∙◌, ap, subst, arith}
+use Rattle.std.proofs.Common.{if◌then◌else◌}
 use Rattle.std.specs.Prelude.{is_none, is_some}
 use Rattle.std.specs.declared.cmp.Ordering.TheVariants.{Less, Equal, Greater}
 use Rattle.std.specs.Ordering.{ordering_reverse}
-use Rattle.std.proofs.lemmas.Bool.{and_from, and_parts, cases_lt, eq-eqb, eqb-true, false≢true, ltb-false, ltb-true}
+use Rattle.std.proofs.lemmas.Bool.{and_from, and_parts, cases_lt, eq-eqb, eqb-true, false≢true}
+use Rattle.std.proofs.lemmas.Bool.{ltb-false, ltb-true}
 use Rattle.std.proofs.lemmas.Option.{none-some, same_Some}
 use Rattle.st_core.specs.declared.types.Pid.{Pid}
 use Rattle.st_core.specs.declared.types.Event.{Event}
@@ -20,12 +22,12 @@ use Rattle.st_pair.specs.declared.answer.PairFault.TheVariants as fault
 use Rattle.st_pair.specs.declared.answer.Source.{Source}
 use Rattle.st_pair.specs.declared.answer.Source.TheVariants as source
 use Rattle.st_pair.specs.Laws.{IsEarlier, IsLeast}
-use Rattle.st_pair.specs.Pairing.{agrees, first_rule, mismatch, not_rising, prev_not_before, receive_of}
-use Rattle.st_pair.specs.Pairing.{refusal, repeated, stamp_before, stamp_of}
+use Rattle.st_pair.specs.Pairing.{agrees, first_rule, mismatch, not_rising, prev_not_before}
+use Rattle.st_pair.specs.Pairing.{receive_of, refusal, repeated, stamp_before, stamp_of}
 use Rattle.st_pair.specs.Places.{event_at, first, is_stamp}
-use Rattle.st_pair.proofs.ForCallers.{agreed, agrees_if, cond_none, event_none, first_least, got_rule, paired}
-use Rattle.st_pair.proofs.ForCallers.{pid_total, Rule, source_from}
-use Rattle.st_pair.proofs.ForCallers.{got_says, some_unless}
+use Rattle.st_pair.proofs.ForCallers.{agreed, agrees_if, cond_none, event_none, first_least}
+use Rattle.st_pair.proofs.ForCallers.{got_rule, paired, pid_total, Rule, source_from, got_says}
+use Rattle.st_pair.proofs.ForCallers.{some_unless}
 use Rattle.st_order.specs.Items.{is_hidden}
 use Rattle.lack_laws.specs.Needs.{HoldsOfNone, is_late}
 use Rattle.lack_laws.specs.Reasons.{is_too_high}
@@ -179,7 +181,8 @@ send_of : (f e : Event) → agrees f e ≡ true → IsSendOf f e
 send_of f e h = let is = agreed f e h in (is.sends, is.label, is.prev, is.to, is.value)
 
 sends_it : (f e : Event) → IsSendOf f e → agrees f e ≡ true
-sends_it f e is = agrees_if f e (record { sends = is.0; label = is.1; prev = is.2; to = is.3; value = is.4 })
+sends_it f e is = agrees_if f e
+    (record { sends = is.0; label = is.1; prev = is.2; to = is.3; value = is.4 })
 
 -- WHAT EVENTS LEAVE UNSAID
 

@@ -1,6 +1,7 @@
 -- The meaning of the results: a completion, or a place and a reason why no acts without a reset
 -- show the streams, whatever other processes report nothing.
-use Rattle.std.specs.Prelude.{◌≡◌, ◌⊎◌, ℕ, ◌<◌, ◌≤◌, ◌||◌, true, false, length, List, Some, is_none, is_some, take}
+use Rattle.std.specs.Prelude.{◌≡◌, ◌⊎◌, ℕ, ◌<◌, ◌≤◌, ◌||◌, true, false, length, List, Some, is_none}
+use Rattle.std.specs.Prelude.{is_some, take}
 use Rattle.st_core.specs.declared.types.Act.{Act}
 use Rattle.st_core.specs.declared.types.Pid.{Pid}
 use Rattle.st_core.specs.declared.types.Event.{Event}

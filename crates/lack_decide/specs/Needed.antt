@@ -1,5 +1,6 @@
 -- For the parts alone: the additions that are needed, by all events of a process and their marks.
-use Rattle.std.specs.Prelude.{◌≡◌, ◌⊎◌, ℕ, ◌+◌, ◌<◌, Bool, true, false, List, get_or, slice_get, Some}
+use Rattle.std.specs.Prelude.{◌≡◌, ◌⊎◌, ℕ, ◌+◌, ◌<◌, Bool, true, false, List, get_or, slice_get}
+use Rattle.std.specs.Prelude.{Some}
 use Rattle.st_core.specs.declared.types.Event.{Event}
 use Rattle.st_core.specs.Run.{Stream}
 use Rattle.st_pair.specs.Pairing.{is_send}

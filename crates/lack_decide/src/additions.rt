@@ -1,6 +1,7 @@
 //! Whether a completion adds only what other events need.
 
-ghost use Rattle.std.specs.Prelude.{◌≡◌, ◌+◌, ◌<◌, ◌≤◌, ℕ, true, false, get_or, length, slice_get, Some};
+ghost use Rattle.std.specs.Prelude.{◌≡◌, ◌+◌, ◌<◌, ◌≤◌, ℕ, true, false, get_or, length, slice_get};
+ghost use Rattle.std.specs.Prelude.{Some};
 ghost use Rattle.st_core.specs.declared.types.Event.{Event as EventValue};
 ghost use Rattle.st_pair.specs.Pairing.{is_send};
 ghost use Rattle.st_pair.specs.Places.{is_stamp};

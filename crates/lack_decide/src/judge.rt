@@ -184,9 +184,9 @@ fn are_fit(
     true
 }
 
-/// Whether all events are fit. Then nothing is needed in the streams: pairing accepts them, no send is
-/// hidden, and no event is late, a need or above TOP. It pairs each receive with its send by links,
-/// which are looked at from both ends.
+/// Whether all events are fit. Then nothing is needed in the streams: pairing accepts them, no send
+/// is hidden, and no event is late, a need or above TOP. It pairs each receive with its send by
+/// links, which are looked at from both ends.
 fn are_all_fit(streams: &Streams, links: &[Sequence<u32>], top: u64) -> bool
     ensures { result ≡ true → IsNeedless top streams.now }
 {

@@ -1,5 +1,5 @@
-//! The laws of completions with processes that a trace doesn't list, as contracts of functions that do
-//! nothing.
+//! The laws of completions with processes that a trace doesn't list, as contracts of functions that
+//! do nothing.
 
 ghost use Rattle.std.specs.Prelude.{◌≡◌, ◌↔◌, ◌||◌, ℕ, List};
 ghost use Rattle.st_core.specs.declared.types.Act.{Act};
@@ -8,8 +8,7 @@ ghost use Rattle.st_core.specs.Laws.{NoReset};
 ghost use Rattle.st_core.specs.Run.{Shows, Stream};
 ghost use Rattle.st_core.specs.Streams.{events_of, is_among, IsStreams, lists};
 ghost use Rattle.lack_laws.specs.Completed.{IsShownInOneTrace};
-ghost use Rattle.lack_laws.specs.OpenReasons.{HasNoOpenReason, OpenReason};
-ghost use Rattle.lack_laws.specs.OpenReasons.{StandsAgainstOpen};
+ghost use Rattle.lack_laws.specs.OpenReasons.{HasNoOpenReason, OpenReason, StandsAgainstOpen};
 ghost use Rattle.lack_laws.specs.Silent.{IsShownWithOthers, with_silent};
 
 /// With processes that report nothing streams stay streams: each process has its events, and those

@@ -3,4 +3,5 @@
 
 pub use Rattle.lack_needs.proofs.Leaving.{left_more}
 pub use Rattle.lack_needs.proofs.Kept.{all_kept, mark_read, marked_kept}
-pub use Rattle.lack_needs.proofs.ToldEvents.{all_told, pids_length, told_end, told_more, untold_more, IsToldAt}
+pub use Rattle.lack_needs.proofs.ToldEvents.{all_told, pids_length, told_end, told_more}
+pub use Rattle.lack_needs.proofs.ToldEvents.{untold_more, IsToldAt}

@@ -1,5 +1,6 @@
 -- One more event leaves the greater count, and what it leaves by itself.
-use Rattle.std.proofs.Common.{◌≡◌, ℕ, ◌+◌, List, [], ◌∷◌, ◌++◌, max, take, slice_get, Some, sym, ◌∙◌, ap, add-one}
+use Rattle.std.proofs.Common.{◌≡◌, ℕ, ◌+◌, List, [], ◌∷◌, ◌++◌, max, take, slice_get, Some, sym}
+use Rattle.std.proofs.Common.{◌∙◌, ap, add-one}
 use Rattle.st_core.specs.declared.types.Event.{Event}
 use Rattle.st_core.specs.Laws.{greatest_count, prev_after}
 use Rattle.st_core.proofs.ForCallers.{greatest_push, prev_push}

@@ -1,9 +1,10 @@
 -- The lowest count of each process is noted at its place. An event tells of a stamp of one process,
 -- so its count alone changes; and the lowest of events is that of those before with the one of the
 -- last.
-use Rattle.std.proofs.Common.{◌≡◌, ◌≢◌, ℕ, zero, suc, ◌+◌, ◌<◌, ◌≤◌, ◌&&◌, ◌||◌, not, nat_lt, Bool, true, false, cond}
-use Rattle.std.proofs.Common.{List, [], ◌∷◌, ◌++◌, length, take, get_or, slice_get, slice_set, Option, Some, None, inl}
-use Rattle.std.proofs.Common.{inr, refl, sym, ◌∙◌, ap, subst, arith}
+use Rattle.std.proofs.Common.{◌≡◌, ◌≢◌, ℕ, zero, suc, ◌+◌, ◌<◌, ◌≤◌, ◌&&◌, ◌||◌, not, nat_lt, Bool}
+use Rattle.std.proofs.Common.{true, false, cond, List, [], ◌∷◌, ◌++◌, length, take, get_or}
+use Rattle.std.proofs.Common.{slice_get, slice_set, Option, Some, None, inl, inr, refl, sym, ◌∙◌}
+use Rattle.std.proofs.Common.{ap, subst, arith}
 use Rattle.std.specs.List.{AllByRecursion}
 use Rattle.std.proofs.lemmas.List.{length-append}
 use Rattle.std.proofs.lemmas.Bool.{cases_lt, false≢true, lt-ltb}
@@ -12,11 +13,12 @@ use Rattle.st_core.specs.declared.types.Pid.{Pid}
 use Rattle.st_core.specs.declared.types.Event.{Event}
 use Rattle.st_core.specs.Pid.{pid_eq, IsBelow, IsRising}
 use Rattle.st_core.specs.Run.{Stream}
-use Rattle.st_core.proofs.ForCallers.{all_at, and_false, not_below_itself, pid_eq-refl, pid_eq-swap, pid_same}
-use Rattle.st_core.proofs.ForCallers.{or_false}
+use Rattle.st_core.proofs.ForCallers.{all_at, and_false, not_below_itself, pid_eq-refl, pid_eq-swap}
+use Rattle.st_core.proofs.ForCallers.{pid_same, or_false}
 use Rattle.st_pair.specs.Places.{is_stamp}
 use Rattle.st_plan.proofs.ForCallers.{take_more}
-use Rattle.lack_needs.specs.Unfounded.{has_receive, lower_count, lowest_from, lowest_in, lowest_with, IsNoted}
+use Rattle.lack_needs.specs.Unfounded.{has_receive, lower_count, lowest_from, lowest_in}
+use Rattle.lack_needs.specs.Unfounded.{lowest_with, IsNoted}
 
 -- ONE EVENT MORE
 

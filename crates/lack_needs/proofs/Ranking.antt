@@ -1,9 +1,9 @@
 -- Why the streams that are built are those with ranks for counts. Of counts that rise those less
 -- than one come first, so the place where the others begin is how many they are. And each process
 -- comes after those before it, so that only memory can be lacking.
-use Rattle.std.proofs.Common.{◌≡◌, ℕ, ◌+◌, zero, suc, ◌<◌, ◌≤◌, nat_lt, true, false, cond, List, [], ◌∷◌, ◌++◌, map}
-use Rattle.std.proofs.Common.{length, take, get_or, slice_get, Option, Some, None, is_some, option_map, refl, sym, ◌∙◌}
-use Rattle.std.proofs.Common.{ap, subst, arith}
+use Rattle.std.proofs.Common.{◌≡◌, ℕ, ◌+◌, zero, suc, ◌<◌, ◌≤◌, nat_lt, true, false, cond, List, []}
+use Rattle.std.proofs.Common.{◌∷◌, ◌++◌, map, length, take, get_or, slice_get, Option, Some, None}
+use Rattle.std.proofs.Common.{is_some, option_map, refl, sym, ◌∙◌, ap, subst, arith}
 use Rattle.std.specs.List.{AllByRecursion}
 use Rattle.std.proofs.lemmas.List.{map_more, take_more}
 use Rattle.std.proofs.lemmas.Option.{slice_get-map}
@@ -96,7 +96,8 @@ last_of (y ∷ streams) (suc k) x rising at =
     )
 
 module _ (f : ℕ → ℕ) where
-  still_last : (streams : List Stream) (p : Pid) → ComesLast streams p → ComesLast (with_counts f streams) p
+  still_last : (streams : List Stream) (p : Pid) → ComesLast streams p
+      → ComesLast (with_counts f streams) p
   still_last [] p last = tt
   still_last (x ∷ streams) p last = (last.0, still_last streams p last.1)
 

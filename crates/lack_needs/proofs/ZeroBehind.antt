@@ -1,11 +1,11 @@
 -- Which events are unfounded. A count that is less than n is the lowest of some events exactly if
 -- one of these events tells of one. So an event with prev 0 counts higher than the lowest of its
 -- process exactly if some event tells of a lower count of this process with another prev.
-use Rattle.std.proofs.Common.{◌≡◌, inl, inr, ℕ, ◌+◌, zero, suc, ◌<◌, ◌==◌, ◌&&◌, ◌||◌, nat_lt, min, Bool, true, false}
-use Rattle.std.proofs.Common.{not, cond, List, [], ◌∷◌, take, slice_get, Option, Some, None, is_some, if◌then◌else◌}
-use Rattle.std.proofs.Common.{refl, sym, ◌∙◌, ap, arith}
-use Rattle.std.proofs.lemmas.Bool.{and_from, and_parts, eq-eqb, eqb-true, false≢true, le-ltb, lt-ltb, ltb-false}
-use Rattle.std.proofs.lemmas.Bool.{ltb-true}
+use Rattle.std.proofs.Common.{◌≡◌, inl, inr, ℕ, ◌+◌, zero, suc, ◌<◌, ◌==◌, ◌&&◌, ◌||◌, nat_lt, min}
+use Rattle.std.proofs.Common.{Bool, true, false, not, cond, List, [], ◌∷◌, take, slice_get, Option}
+use Rattle.std.proofs.Common.{Some, None, is_some, if◌then◌else◌, refl, sym, ◌∙◌, ap, arith}
+use Rattle.std.proofs.lemmas.Bool.{and_from, and_parts, eq-eqb, eqb-true, false≢true, le-ltb}
+use Rattle.std.proofs.lemmas.Bool.{lt-ltb, ltb-false, ltb-true}
 use Rattle.std.proofs.lemmas.Option.{none-some, same_Some}
 use Rattle.st_core.specs.declared.types.Pid.{Pid}
 use Rattle.st_core.specs.declared.types.Event.{Event}
@@ -18,8 +18,8 @@ use Rattle.st_pair.proofs.ForCallers.{event_none, given_at}
 use Rattle.st_order.specs.Items.{is_hidden}
 use Rattle.lack_laws.specs.Reasons.{HoldsAt}
 use Rattle.lack_laws.specs.OpenReasons.{IsLeastPlace, IsUnfounded}
-use Rattle.lack_needs.specs.Unfounded.{has_receive, is_known_below, is_unfounded, lower_count, lowest_count, lowest_from}
-use Rattle.lack_needs.specs.Unfounded.{lowest_in, lowest_with, tells_of}
+use Rattle.lack_needs.specs.Unfounded.{has_receive, is_known_below, is_unfounded, lower_count}
+use Rattle.lack_needs.specs.Unfounded.{lowest_count, lowest_from, lowest_in, lowest_with, tells_of}
 
 -- A LOWER COUNT IS TOLD
 
@@ -61,12 +61,14 @@ some_if false x = refl
 
 -- one event more
 below_step : (tells less : Bool) (low : Option ℕ) (m n : ℕ) → less ≡ nat_lt m n
-    → is_known_below (cond tells (Some (lower_count low m)) low) n ≡ (is_known_below low n || (tells && less))
+    → is_known_below (cond tells (Some (lower_count low m)) low) n
+    ≡ (is_known_below low n || (tells && less))
 below_step true less low m n is = lower_below low m n ∙ ap (λ b. is_known_below low n || b) (sym is)
 below_step false less low m n is = sym (or_false (is_known_below low n))
 
 in_below : (q p : Pid) (n i : ℕ) (low : Option ℕ) (es : List Event)
-    → is_known_below (lowest_in q low es) n ≡ (is_known_below low n || is_some (first_from (below q n) p i es))
+    → is_known_below (lowest_in q low es) n
+    ≡ (is_known_below low n || is_some (first_from (below q n) p i es))
 in_below q p n i low [] = sym (or_false (is_known_below low n))
 in_below q p n i low (e ∷ es) =
     let here = tells_below q n e in

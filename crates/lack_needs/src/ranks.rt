@@ -34,8 +34,8 @@ fn all_counts(alloc: Global, streams: &Streams) -> Result<Vec<u64>, AllocError>
     Ok(counts)
 }
 
-/// 0 and all counts, prevs among them, each once, by rising count. It sorts them, which takes a nearly
-/// linear time.
+/// 0 and all counts, prevs among them, each once, by rising count. It sorts them, which takes a
+/// nearly linear time.
 pub fn counts_of(alloc: Global, streams: &Streams) -> Result<Vec<u64>, AllocError>
     ensures is { IfOk result (λ counts. counts.items ≡ counts_of streams.now) }
     ensures rises { IfOk result (λ counts. IsNonDecreasing counts.items) }

@@ -1,7 +1,7 @@
-//! Stamps with prev 0 that can't begin a trace. Each event tells of a send or print: a send or print
-//! of itself, a receive of the send of its message. If one of these has prev 0, and another of the
-//! same process counts lower and has another prev, or a receive comes before it, no acts without a
-//! reset show the streams.
+//! Stamps with prev 0 that can't begin a trace. Each event tells of a send or print: a send or
+//! print of itself, a receive of the send of its message. If one of these has prev 0, and another
+//! of the same process counts lower and has another prev, or a receive comes before it, no acts
+//! without a reset show the streams.
 
 ghost use Rattle.std.specs.Prelude.{◌≡◌, ◌||◌, ℕ, true, not, IfNone, IfOk, IfSome, List, None};
 ghost use Rattle.std.specs.Prelude.{Option, Some};
@@ -13,7 +13,8 @@ ghost use Rattle.st_pair.specs.Links.{IsPairing};
 ghost use Rattle.st_pair.specs.Places.{event_at, first, first_from, is_stamp};
 ghost use Rattle.lack_needs.specs.Hidden.{is_hidden_in};
 ghost use Rattle.lack_needs.specs.Places.{flaw_place, place_where};
-ghost use Rattle.lack_needs.specs.Unfounded.{has_receive, is_known_below, is_unfounded, lower_count};
+ghost use Rattle.lack_needs.specs.Unfounded.{has_receive, is_known_below, is_unfounded};
+ghost use Rattle.lack_needs.specs.Unfounded.{lower_count};
 ghost use Rattle.lack_needs.specs.Unfounded.{lowest_count, lowest_in, lowest_with, IsNoted};
 ghost use Rattle.lack_laws.specs.OpenReasons.{IsLeastPlace, IsUnfounded};
 
@@ -52,8 +53,8 @@ fn is_known_below(low: Option<u64>, count: u64) -> bool
     }
 }
 
-/// Notes the stamp that the event tells of, if its prev isn't 0: `lows` has for each process, by its
-/// place, the lowest count of such a stamp.
+/// Notes the stamp that the event tells of, if its prev isn't 0: `lows` has for each process, by
+/// its place, the lowest count of such a stamp.
 fn note_event(lows: &mut Vec<Option<u64>>, streams: &Streams, event: &Event)
     ensures { (low : PidValue → Option ℕ) → IsNoted (pids_of streams.now) low lows.old.items
         → IsNoted (pids_of streams.now) (λ q. lowest_with q (low q) event.now) lows.new.items }

@@ -35,7 +35,8 @@ module _ (Is More : PlacedReason → Type 0) where
 
   -- candidates for all that is so
   pub first_of_all : (least : Option PlacedReason) → ((r : PlacedReason) → Is r → More r)
-      → ((r : PlacedReason) → More r → (c : PlacedReason) × Is c × IsBeside r c) → IsEarliest Is least
+      → ((r : PlacedReason) → More r → (c : PlacedReason) × Is c × IsBeside r c)
+      → IsEarliest Is least
       → IsEarliest More least
   first_of_all None more has none = λ other is. let c = has other is in none c.0 c.1
   first_of_all (Some found) more has first = (
@@ -45,7 +46,8 @@ module _ (Is More : PlacedReason → Type 0) where
   )
 
   -- one candidate more
-  module _ (rank : ℕ) (next : PlacedReason) (ranked : (r : PlacedReason) → Is r → reason_rank r.never ≡ rank)
+  module _ (rank : ℕ) (next : PlacedReason)
+      (ranked : (r : PlacedReason) → Is r → reason_rank r.never ≡ rank)
       (same : reason_rank next.never ≡ rank) (here : More next)
       (more : (r : PlacedReason) → Is r → More r)
       (less : (r : PlacedReason) → More r → Is r ⊎ IsBeside r next) where
@@ -56,7 +58,8 @@ module _ (Is More : PlacedReason → Type 0) where
       | inr both ↦ both.1
     ]
 
-    pub first_with : (least : Option PlacedReason) (result : PlacedReason) → IsFirstWith least next result
+    pub first_with : (least : Option PlacedReason) (result : PlacedReason)
+        → IsFirstWith least next result
         → IsEarliest Is least → IsEarliest More (Some result)
     first_with None result with none = (
       subst More (sym with) here,
@@ -115,7 +118,8 @@ module _ (verdicts : List (Option PlacedReason)) where
   among_last : (r : PlacedReason) → IsVerdictAmong (verdicts ++ Some r ∷ []) r
   among_last r = record { place = length verdicts; at = get_last verdicts (Some r) }
 
-  among_either : (next : Option PlacedReason) (r : PlacedReason) → IsVerdictAmong (verdicts ++ next ∷ []) r
+  among_either : (next : Option PlacedReason) (r : PlacedReason)
+      → IsVerdictAmong (verdicts ++ next ∷ []) r
       → IsVerdictAmong verdicts r ⊎ (next ≡ Some r)
   among_either next r a = elim (get_either verdicts next a.place (Some r) a.at) [
     | inl old ↦ inl (record { place = a.place; at = old })
@@ -166,7 +170,8 @@ module _ (verdicts : List (Option PlacedReason)) where
         among_last next,
         λ other a. elim (among_either (Some next) other a) [
           | inl old ↦ not_before other found next (first.1 other old) (not_both next found new.1)
-          | inr same ↦ subst (λ (r : PlacedReason). ¬ ComesBefore r next) (same_Some next other same)
+          | inr same ↦ subst (λ (r : PlacedReason). ¬ ComesBefore r next)
+              (same_Some next other same)
               (λ before. not_both next next before before)
         ],
       )

@@ -1,7 +1,7 @@
--- Why the lowest counts tell what is unfounded: a lower one is there exactly if the lowest is lower,
--- and the first one that a walk meets is the lowest, since counts rise.
-use Rattle.std.proofs.Common.{◌≡◌, ◌⊎◌, ℕ, ◌<◌, ◌+◌, zero, Bool, true, false}
-use Rattle.std.proofs.Common.{List, Option, Some, None, inl, inr, slice_get, refl, sym, ◌∙◌, ap, subst, arith}
+-- Why the lowest counts tell what is unfounded: a lower one is there exactly if the lowest is
+-- lower, and the first one that a walk meets is the lowest, since counts rise.
+use Rattle.std.proofs.Common.{◌≡◌, ◌⊎◌, ℕ, ◌<◌, ◌+◌, zero, Bool, true, false, List, Option, Some}
+use Rattle.std.proofs.Common.{None, inl, inr, slice_get, refl, sym, ◌∙◌, ap, subst, arith}
 use Rattle.std.proofs.lemmas.Bool.{cases_lt, false≢true}
 use Rattle.std.proofs.lemmas.Option.{same_Some}
 use Rattle.st_core.specs.declared.types.Pid.{Pid}
@@ -14,9 +14,11 @@ use Rattle.lack_decide.specs.Answers.{reason_rank, IsAfterReceive}
 use Rattle.lack_pieces.specs.declared.placed_reason.Receipt.{Receipt}
 use Rattle.lack_pieces.specs.declared.placed_reason.PlacedReason.{PlacedReason}
 use Rattle.lack_pieces.specs.declared.unfounded_events.Lowest.{Lowest}
-use Rattle.lack_pieces.specs.Firsts.{HoldsOfRank, IsEarliest, IsFirstOfRank, IsFirstWith, StampsRise}
+use Rattle.lack_pieces.specs.Firsts.{HoldsOfRank, IsEarliest, IsFirstOfRank, IsFirstWith}
+use Rattle.lack_pieces.specs.Firsts.{StampsRise}
 use Rattle.lack_pieces.specs.Lowest.{IsKnownBelow, IsLowestIn, IsLowestOfReceipts, IsLowestOfStamps}
-use Rattle.lack_pieces.specs.Lowest.{IsReceiptCounted, IsStampCounted, IsUnfoundedReceipt, IsUnfoundedStamp}
+use Rattle.lack_pieces.specs.Lowest.{IsReceiptCounted, IsStampCounted, IsUnfoundedReceipt}
+use Rattle.lack_pieces.specs.Lowest.{IsUnfoundedStamp}
 use Rattle.lack_pieces.specs.Pieces.{Piece}
 use Rattle.lack_pieces.specs.Reasons.{own_streams, HasStampBelow, IsAgainstIn}
 use Rattle.lack_pieces.specs.Verdicts.{AreInOrder, ComesBefore}
@@ -125,7 +127,8 @@ module _ (top : ℕ) (piece : Piece) where
     of_rank = ap reason_rank t.is;
   }
 
-  holds_either : (r : PlacedReason) → HoldsOfRank top piece 5 r → (c : PlacedReason) × IsEither c × IsBeside r c
+  holds_either : (r : PlacedReason) → HoldsOfRank top piece 5 r → (c : PlacedReason) × IsEither c
+      × IsBeside r c
   holds_either r h =
       let c : PlacedReason = record { pid = r.pid; index = r.index; never = never.Unfounded } in
       let x = unfounded top piece r h in
@@ -181,7 +184,8 @@ module _ (top : ℕ) (piece : Piece) where
   -- the first of both sorts: there is no receipt
   pub first_stamp : (stamp : Option PlacedReason) → IsEarliest (IsUnfoundedStamp piece) stamp
       → IsEarliest (IsUnfoundedReceipt piece) None → IsFirstOfRank top piece 5 stamp
-  first_stamp stamp first none = first_of_all (IsUnfoundedStamp piece) (HoldsOfRank top piece 5) stamp
+  first_stamp stamp first none =
+      first_of_all (IsUnfoundedStamp piece) (HoldsOfRank top piece 5) stamp
       (λ r is. either_holds r (inl is))
       (λ r h. let c = holds_either r h in (
         c.0,

@@ -1,5 +1,5 @@
--- Why there is one verdict on streams: two first reasons are of one kind and at one place, and there
--- each kind names one other place.
+-- Why there is one verdict on streams: two first reasons are of one kind and at one place, and
+-- there each kind names one other place.
 use Rattle.std.proofs.Common.{◌≡◌, ℕ, List, Option, Some, None}
 use Rattle.std.proofs.Common.{inl, inr, refl, sym, ◌∙◌, ap, subst, arith}
 use Rattle.std.proofs.lemmas.Bool.{cases_lt}

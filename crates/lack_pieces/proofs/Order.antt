@@ -9,7 +9,8 @@ use Rattle.std.proofs.lemmas.Bool.Decides.{nat_tests}
 use Rattle.std.proofs.lemmas.Cmp.{nat_cmp_total, on_total, then_total}
 use Rattle.st_core.specs.declared.types.Pid.{Pid}
 use Rattle.st_core.specs.Pid.{pid_cmp}
-use Rattle.st_core.proofs.ForCallers.{nat_cmp-below, nat_cmp-Equal, nat_cmp-same, pid_cmp-Equal, pid_cmp-same}
+use Rattle.st_core.proofs.ForCallers.{nat_cmp-below, nat_cmp-Equal, nat_cmp-same, pid_cmp-Equal}
+use Rattle.st_core.proofs.ForCallers.{pid_cmp-same}
 use Rattle.st_pair.specs.Laws.{IsEarlier}
 use Rattle.st_pair.proofs.ForCallers.{pid_total}
 use Rattle.lack_decide.specs.Answers.{reason_rank}
@@ -89,7 +90,8 @@ not_less {K} R total x y z first second less = elim (R x y) as (λ o. R x y ≡ 
 
 pub not_before : (a b c : PlacedReason) → ¬ ComesBefore a b → ¬ ComesBefore b c → ¬ ComesBefore a c
 not_before a b c first second before = not_less reason_cmp reason_total a b c
-    (λ less. first (before_if a b less)) (λ less. second (before_if b c less)) (if_before a c before)
+    (λ less. first (before_if a b less)) (λ less. second (before_if b c less))
+    (if_before a c before)
 
 pub not_earlier : (a b c : PlacedReason) → ¬ IsEarlier a.pid a.index b.pid b.index
     → ¬ IsEarlier b.pid b.index c.pid c.index
@@ -97,7 +99,8 @@ pub not_earlier : (a b c : PlacedReason) → ¬ IsEarlier a.pid a.index b.pid b.
 not_earlier a b c first second earlier = not_less place_cmp
     (then_total (on_total (λ (x : PlacedReason). x.pid) pid_total)
     (on_total (λ (x : PlacedReason). x.index) nat_cmp_total)) a b c
-    (λ less. first (earlier_if a b less)) (λ less. second (earlier_if b c less)) (if_earlier a c earlier)
+    (λ less. first (earlier_if a b less)) (λ less. second (earlier_if b c less))
+    (if_earlier a c earlier)
 
 -- of two of which one comes before the other, the other doesn't
 pub not_both : (a b : PlacedReason) → ComesBefore a b → ¬ ComesBefore b a
@@ -109,7 +112,8 @@ not_both a b before after =
 pub not_earlier_back : (a b : PlacedReason) → IsEarlier a.pid a.index b.pid b.index
     → ¬ IsEarlier b.pid b.index a.pid a.index
 not_earlier_back a b before after =
-    let total : IsTotalOrder place_cmp = then_total (on_total (λ (x : PlacedReason). x.pid) pid_total)
+    let total : IsTotalOrder place_cmp =
+    then_total (on_total (λ (x : PlacedReason). x.pid) pid_total)
     (on_total (λ (x : PlacedReason). x.index) nat_cmp_total) in
     let back : place_cmp a b ≡ Greater =
     total.antisymm a b ∙ ap ordering_reverse (if_earlier b a after) in

@@ -1,7 +1,7 @@
--- A reason speaks of one process's events and of the receives of its messages, and a piece has both:
--- so it says the same of an event there as in the streams.
-use Rattle.std.proofs.Common.{◌≡◌, ◌⊎◌, ℕ, ◌≤◌, ◌||◌, Bool, true, false, cond}
-use Rattle.std.proofs.Common.{List, Option, Some, None, inl, inr, slice_get, refl, sym, ◌∙◌, ap, subst}
+-- A reason speaks of one process's events and of the receives of its messages, and a piece has
+-- both: so it says the same of an event there as in the streams.
+use Rattle.std.proofs.Common.{◌≡◌, ◌⊎◌, ℕ, ◌≤◌, ◌||◌, Bool, true, false, cond, List, Option, Some}
+use Rattle.std.proofs.Common.{None, inl, inr, slice_get, refl, sym, ◌∙◌, ap, subst}
 use Rattle.std.specs.Prelude.{is_none}
 use Rattle.st_core.specs.declared.types.Pid.{Pid}
 use Rattle.st_core.specs.declared.types.Event.{Event}

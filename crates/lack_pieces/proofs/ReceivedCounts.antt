@@ -1,7 +1,9 @@
--- Why one walk over the receipts finds what repeats, and what isn't the send of a receipt: receipts of
--- one count are next to each other, and the sends and prints come in the order of the counts too.
-use Rattle.std.proofs.Common.{◌≡◌, ◌⊎◌, ℕ, ◌<◌, ◌≤◌, ◌+◌, ◌-◌, ◌==◌, ◌&&◌, zero, suc, true, false, cond}
-use Rattle.std.proofs.Common.{List, [], ◌∷◌, Option, Some, None, inl, inr, length, slice_get, refl, sym, ◌∙◌, ap, subst, arith}
+-- Why one walk over the receipts finds what repeats, and what isn't the send of a receipt: receipts
+-- of one count are next to each other, and the sends and prints come in the order of the counts
+-- too.
+use Rattle.std.proofs.Common.{◌≡◌, ◌⊎◌, ℕ, ◌<◌, ◌≤◌, ◌+◌, ◌-◌, ◌==◌, ◌&&◌, zero, suc, true, false}
+use Rattle.std.proofs.Common.{cond, List, [], ◌∷◌, Option, Some, None, inl, inr, length, slice_get}
+use Rattle.std.proofs.Common.{refl, sym, ◌∙◌, ap, subst, arith}
 use Rattle.std.proofs.lemmas.Bool.{and_from, and_parts, cases_lt, eq-eqb, eqb-true}
 use Rattle.std.proofs.lemmas.Option.{same_Some}
 use Rattle.st_core.specs.declared.types.Pid.{Pid}
@@ -66,7 +68,8 @@ pub record IsRepeatBelow (receipts : List Receipt) (n : ℕ) (found : PlacedReas
   pub same : before.event.serial.this ≡ receipt.event.serial.this
   pub is : found ≡ reason_at receipt (never.Repeated before.pid before.index)
 
-pub repeat_ranked : (receipts : List Receipt) (n : ℕ) (r : PlacedReason) → IsRepeatBelow receipts n r
+pub repeat_ranked : (receipts : List Receipt) (n : ℕ) (r : PlacedReason)
+    → IsRepeatBelow receipts n r
     → reason_rank r.never ≡ 2
 repeat_ranked receipts n r c = ap (λ (x : PlacedReason). reason_rank x.never) c.is
 
@@ -145,7 +148,8 @@ module _ (top : ℕ) (piece : Piece) (order : AreInOrder piece.receipts) where
             ap (λ (r : Receipt). r.event.serial.this) (sym receipt) ∙ same
       ]
 
-  repeat_at : (r : PlacedReason) (here first : Receipt) (k j : ℕ) → slice_get piece.receipts k ≡ Some here
+  repeat_at : (r : PlacedReason) (here first : Receipt) (k j : ℕ)
+      → slice_get piece.receipts k ≡ Some here
       → slice_get piece.receipts j ≡ Some first
       → first.event.serial.this ≡ here.event.serial.this → here.pid ≡ r.pid
       → here.index ≡ r.index → j < k
@@ -223,7 +227,8 @@ module _ (receipts : List Receipt) (i : ℕ) (before receipt : Receipt) (positiv
             ∙ ap (λ (x : Receipt). x.event.serial.this) new.1))
       ]) first
 
-  pub repeat_more : (next result : PlacedReason) → before.event.serial.this ≡ receipt.event.serial.this
+  pub repeat_more : (next result : PlacedReason)
+      → before.event.serial.this ≡ receipt.event.serial.this
       → next ≡ reason_at receipt (never.Repeated before.pid before.index)
       → IsFirstWith least next result → IsEarliest (IsRepeatBelow receipts (i + 1)) (Some result)
   repeat_more next result same is with =
@@ -251,7 +256,8 @@ module _ (receipts : List Receipt) (i : ℕ) (before receipt : Receipt) (positiv
 
 -- THE SEND OR PRINT OF A COUNT
 
-none_first : (q : Pid) (this i : ℕ) (es : List Event) → ((k : ℕ) (f : Event) → slice_get es k ≡ Some f
+none_first : (q : Pid) (this i : ℕ) (es : List Event)
+    → ((k : ℕ) (f : Event) → slice_get es k ≡ Some f
     → is_stamp f ≡ true → f.serial.this ≡ this → ⊥) → first_from (own_rule this) q i es ≡ None
 none_first q this i [] none = refl
 none_first q this i (e ∷ es) none =
@@ -412,7 +418,8 @@ pub mismatch_ranked : (piece : Piece) (n : ℕ) (r : PlacedReason) → IsMismatc
     → reason_rank r.never ≡ 3
 mismatch_ranked piece n r c = ap (λ (x : PlacedReason). reason_rank x.never) c.is
 
-pub mismatch_widened : (piece : Piece) (m n : ℕ) (r : PlacedReason) → m ≤ n → IsMismatchBelow piece m r
+pub mismatch_widened : (piece : Piece) (m n : ℕ) (r : PlacedReason) → m ≤ n
+    → IsMismatchBelow piece m r
     → IsMismatchBelow piece n r
 mismatch_widened piece m n r wide c = record {
   place = c.place;
@@ -429,7 +436,8 @@ mismatch_widened piece m n r wide c = record {
 }
 
 module _ (top : ℕ) (piece : Piece) where
-  pub mismatch_holds : StampsRise piece.events → (n : ℕ) (r : PlacedReason) → IsMismatchBelow piece n r
+  pub mismatch_holds : StampsRise piece.events → (n : ℕ) (r : PlacedReason)
+      → IsMismatchBelow piece n r
       → HoldsOfRank top piece 3 r
   mismatch_holds rise n r c = subst (HoldsOfRank top piece 3) (sym c.is) (record {
     event = c.receipt.event;

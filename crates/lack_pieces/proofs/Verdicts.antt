@@ -1,7 +1,7 @@
 -- Why the first of all pieces' reasons is that of the streams: each reason of the streams is in a
 -- piece, whose verdict is that reason or one that comes before it.
-use Rattle.std.proofs.Common.{◌≡◌, ◌↔◌, ℕ, zero, suc, Bool, true, false, List, [], ◌∷◌}
-use Rattle.std.proofs.Common.{Option, Some, None, length, inl, inr, slice_get, refl, sym, ◌∙◌, arith}
+use Rattle.std.proofs.Common.{◌≡◌, ◌↔◌, ℕ, zero, suc, Bool, true, false, List, [], ◌∷◌, Option}
+use Rattle.std.proofs.Common.{Some, None, length, inl, inr, slice_get, refl, sym, ◌∙◌, arith}
 use Rattle.std.specs.Option.{option_map_or}
 use Rattle.std.specs.Prelude.{is_none, is_some}
 use Rattle.std.proofs.lemmas.Bool.{cases_lt, false≢true}
@@ -23,9 +23,11 @@ use Rattle.lack_decide.specs.Answers.{reason_rank, IsAgainst}
 use Rattle.lack_pieces.specs.declared.placed_reason.PlacedReason.{PlacedReason}
 use Rattle.lack_pieces.specs.Pieces.{ArePieces, HasPiece, Piece}
 use Rattle.lack_pieces.specs.Reasons.{IsAgainstIn, IsAgainstInSome}
-use Rattle.lack_pieces.specs.Verdicts.{AreVerdicts, ComesBefore, IsVerdictAmong, IsFirstAmong, IsVerdictIn, IsVerdictOn}
+use Rattle.lack_pieces.specs.Verdicts.{AreVerdicts, ComesBefore, IsVerdictAmong, IsFirstAmong}
+use Rattle.lack_pieces.specs.Verdicts.{IsVerdictIn, IsVerdictOn}
 use Rattle.lack_pieces.proofs.Order.{not_before}
-use Rattle.lack_pieces.proofs.Readings.{after_in, after_own, in_own, mismatch_in, repeated_in, stands}
+use Rattle.lack_pieces.proofs.Readings.{after_in, after_own, in_own, mismatch_in, repeated_in}
+use Rattle.lack_pieces.proofs.Readings.{stands}
 
 -- a send or print of a process is from it
 stamped_by : (k : Kind) (from : Pid) (to : Option Pid) (p : Pid)
@@ -161,11 +163,13 @@ module _ (top : ℕ) (streams : List Stream) (pieces : List Piece) (sound : IsSt
         record { event = is.event; at = h.0; against = h.1 }
 
     -- no reason of the streams comes before the first of the verdicts
-    none_before : (found : PlacedReason) → IsFirstAmong verdicts (Some found) → (other : PlacedReason)
+    none_before : (found : PlacedReason) → IsFirstAmong verdicts (Some found)
+        → (other : PlacedReason)
         (e : Event) → event_at streams other.pid other.index ≡ Some e
         → IsAgainst top streams other.pid other.index e other.never → ¬ ComesBefore other found
     none_before found first other e at against =
-        let named = named_by other e (against_some other.pid other.index e at other.never against) in
+        let named = named_by other e
+        (against_some other.pid other.index e at other.never against) in
         not_before other named.found found named.first (first.1 named.found named.among)
 
     pub verdict : (first : Option PlacedReason) → IsFirstAmong verdicts first

@@ -1,6 +1,7 @@
--- What a reason of each rank says of the events of a piece, so that a walk over them that has passed
--- no such event has found the first.
-use Rattle.std.proofs.Common.{◌≡◌, ℕ, ◌<◌, ◌≤◌, ◌+◌, zero, suc, Bool, true, false, List, [], ◌∷◌, length, Option, Some, None}
+-- What a reason of each rank says of the events of a piece, so that a walk over them that has
+-- passed no such event has found the first.
+use Rattle.std.proofs.Common.{◌≡◌, ℕ, ◌<◌, ◌≤◌, ◌+◌, zero, suc, Bool, true, false, List, [], ◌∷◌}
+use Rattle.std.proofs.Common.{length, Option, Some, None}
 use Rattle.std.proofs.Common.{inl, inr, slice_get, refl, sym, ◌∙◌, ap, subst, arith}
 use Rattle.std.proofs.lemmas.Bool.{cases_lt}
 use Rattle.std.proofs.lemmas.Option.{same_Some}
@@ -13,7 +14,8 @@ use Rattle.lack_decide.specs.declared.answer.Never.{Never}
 use Rattle.lack_decide.specs.declared.answer.Never.TheVariants as never
 use Rattle.lack_decide.specs.Answers.{reason_rank}
 use Rattle.lack_pieces.specs.declared.placed_reason.PlacedReason.{PlacedReason}
-use Rattle.lack_pieces.specs.Firsts.{HoldsOfRank, IsEarliest, IsFirstOfRank, IsLastReceive, IsLastReceiveAt}
+use Rattle.lack_pieces.specs.Firsts.{HoldsOfRank, IsEarliest, IsFirstOfRank, IsLastReceive}
+use Rattle.lack_pieces.specs.Firsts.{IsLastReceiveAt}
 use Rattle.lack_pieces.specs.Pieces.{Piece}
 use Rattle.lack_pieces.specs.Reasons.{own_streams, IsAgainstIn}
 use Rattle.lack_pieces.specs.Verdicts.{IsFirstIn, IsVerdictIn}
@@ -139,7 +141,8 @@ module _ (top : ℕ) (piece : Piece) where
 -- at its index, since all are of one process
 pub first_own : (Is : PlacedReason → Type 0) (pid : Pid) (found : PlacedReason) → Is found
     → ((other : PlacedReason) → Is other → other.pid ≡ pid) → found.pid ≡ pid
-    → ((other : PlacedReason) → Is other → other.index < found.index → ⊥) → IsEarliest Is (Some found)
+    → ((other : PlacedReason) → Is other → other.index < found.index → ⊥)
+    → IsEarliest Is (Some found)
 first_own Is pid found is own here none = (
   is,
   λ other holds earlier. elim earlier [
@@ -309,7 +312,8 @@ module _ (es : List Event) (i : ℕ) (e : Event) (here : slice_get es i ≡ Some
           | inl below ↦ l.last k f after below at
           | inr high ↦
               let one : k ≡ i = omega (arith, within, high) in
-              ap is_stamp (at_same es i f e (subst (λ (n : ℕ). slice_get es n ≡ Some f) one at) here)
+              ap is_stamp (at_same es i f e (subst (λ (n : ℕ). slice_get es n ≡ Some f) one at)
+              here)
               ∙ receives
         ];
       }
@@ -379,7 +383,8 @@ module _ (es : List Event) (i : ℕ) (e : Event) (here : slice_get es i ≡ Some
           | inl below ↦ l.last k f after below at receives
           | inr high ↦
               let one : k ≡ i = omega (arith, within, high) in
-              let same = at_same es i f e (subst (λ (n : ℕ). slice_get es n ≡ Some f) one at) here in
+              let same = at_same es i f e (subst (λ (n : ℕ). slice_get es n ≡ Some f) one at)
+              here in
               subst (λ (x : Event). x.serial.this < count) (sym same)
               (low (ap is_stamp (sym same) ∙ receives))
         ];

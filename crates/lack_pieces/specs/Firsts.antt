@@ -1,5 +1,6 @@
 -- For the parts alone: the first reason of one kind, and what walks over the events find.
-use Rattle.std.specs.Prelude.{◌≡◌, ◌⊎◌, ℕ, ◌<◌, ◌≤◌, true, false, Bool, length, List, Option, Some, None, slice_get}
+use Rattle.std.specs.Prelude.{◌≡◌, ◌⊎◌, ℕ, ◌<◌, ◌≤◌, true, false, Bool, length, List, Option, Some}
+use Rattle.std.specs.Prelude.{None, slice_get}
 use Rattle.st_core.specs.declared.types.Event.{Event}
 use Rattle.st_pair.specs.Laws.{IsEarlier}
 use Rattle.st_pair.specs.Places.{is_stamp}

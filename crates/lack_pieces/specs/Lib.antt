@@ -2,6 +2,7 @@
 pub mod Pieces
 pub mod Reasons
 pub mod Verdicts
--- For the parts alone: the first reason of one kind, and the lowest counts with another prev than 0.
+-- For the parts alone: the first reason of one kind, and the lowest counts with another prev than
+-- 0.
 pub mod Firsts
 pub mod Lowest

@@ -43,13 +43,15 @@ IsVerdictIn top piece (Some found) = IsFirstIn top piece found
 pub record AreVerdicts (top : ℕ) (pieces : List Piece) (verdicts : List (Option PlacedReason))
     : Type 0 where
   pub even : length verdicts ≡ length pieces
-  pub each : (k : ℕ) (piece : Piece) (verdict : Option PlacedReason) → slice_get pieces k ≡ Some piece
+  pub each : (k : ℕ) (piece : Piece) (verdict : Option PlacedReason)
+      → slice_get pieces k ≡ Some piece
       → slice_get verdicts k ≡ Some verdict → IsVerdictIn top piece verdict
 
 -- one of the verdicts names this reason
-pub record IsVerdictAmong (verdicts : List (Option PlacedReason)) (found : PlacedReason) : Type 0 where
-  pub place : ℕ
-  pub at : slice_get verdicts place ≡ Some (Some found)
+pub record IsVerdictAmong (verdicts : List (Option PlacedReason)) (found : PlacedReason) : Type 0
+  where
+    pub place : ℕ
+    pub at : slice_get verdicts place ≡ Some (Some found)
 
 -- the first of the reasons that the verdicts name, or that they name none
 abbrev pub IsFirstAmong : List (Option PlacedReason) → Option PlacedReason → Type 0

@@ -8,9 +8,9 @@ use crate::receipts::{find_mismatch, find_repeated};
 use crate::unfounded_events::find_unfounded;
 use st_core::{Event, Pid};
 
-/// The first reason that holds in a piece, if one does: the events of this process, and the receives
-/// of its messages, by rising count, and those of one count by rising place. The time is linear in
-/// both, and it takes no memory.
+/// The first reason that holds in a piece, if one does: the events of this process, and the
+/// receives of its messages, by rising count, and those of one count by rising place. The time is
+/// linear in both, and it takes no memory.
 pub fn judge_piece<const TOP: u64>(
     pid: Pid,
     events: &[Event],

@@ -1,5 +1,5 @@
-//! The laws of pieces, as contracts of functions that do nothing: what is a reason in a piece is one in
-//! the streams, and the first of all pieces' is the first in the streams.
+//! The laws of pieces, as contracts of functions that do nothing: what is a reason in a piece is
+//! one in the streams, and the first of all pieces' is the first in the streams.
 
 ghost use Rattle.std.specs.Prelude.{◌≡◌, ◌↔◌, ℕ, List, Option, Some};
 ghost use Rattle.st_core.specs.declared.types.Event.{Event};

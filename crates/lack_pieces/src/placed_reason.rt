@@ -96,8 +96,8 @@ pub(crate) fn earlier_of(first: PlacedReason, second: PlacedReason) -> PlacedRea
     }
 }
 
-/// The verdict on streams so far: that on the pieces before, with that on one piece more. The order of
-/// the pieces doesn't matter.
+/// The verdict on streams so far: that on the pieces before, with that on one piece more. The order
+/// of the pieces doesn't matter.
 pub fn first_of(before: Option<PlacedReason>, next: Option<PlacedReason>) -> Option<PlacedReason>
     ensures { (verdicts : List (Option ReasonValue)) → IsFirstAmong verdicts before
         → IsFirstAmong (verdicts ++ next ∷ []) result }

@@ -1,5 +1,5 @@
-//! The stamps with prev 0 that no trace founds, by the process's own events and by the receives of its
-//! messages.
+//! The stamps with prev 0 that no trace founds, by the process's own events and by the receives of
+//! its messages.
 
 ghost use Rattle.std.specs.Prelude.{◌↔◌, ℕ, IsTrue, List};
 ghost use Rattle.st_core.specs.declared.types.Pid.{Pid as PidValue};
@@ -17,8 +17,8 @@ use lack_decide::Never;
 use lack_needs::is_stamp;
 use st_core::{Event, Pid};
 
-/// The lowest counts with another prev than 0: of a process's sends and prints, and of the receives of
-/// its messages.
+/// The lowest counts with another prev than 0: of a process's sends and prints, and of the receives
+/// of its messages.
 #[derive(Clone, Copy, Debug)]
 struct Lowest {
     stamps: Option<u64>,
@@ -61,8 +61,8 @@ fn is_below(known: Option<u64>, count: u64) -> bool
     }
 }
 
-/// Whether some event tells of a send or print of the process with a lower count than this event, and
-/// another prev than 0.
+/// Whether some event tells of a send or print of the process with a lower count than this event,
+/// and another prev than 0.
 fn is_behind_stamp(lowest: Lowest, event: &Event) -> bool
     ensures { (piece : Piece) → IsLowestIn piece lowest
         → (IsTrue result ↔ HasStampBelow piece event.now) }
@@ -118,8 +118,8 @@ fn find_unfounded_receipt(
     least
 }
 
-/// The first event that is unfounded: a send or print, or the receive of a message whose send nobody
-/// reported.
+/// The first event that is unfounded: a send or print, or the receive of a message whose send
+/// nobody reported.
 pub(crate) fn find_unfounded(
     pid: Pid,
     events: &[Event],

@@ -1,4 +1,5 @@
--- A list of which one item is replaced by one that counts the same, and items that are among others.
+-- A list of which one item is replaced by one that counts the same, and items that are among
+-- others.
 use Rattle.std.proofs.Common.{◌≡◌, ℕ, ◌<◌, zero, suc, List, [], ◌∷◌, length, map, get_or, refl, sym}
 use Rattle.std.proofs.Common.{◌∙◌, ap}
 use Rattle.std.proofs.Math.ListN.{set}
@@ -43,7 +44,8 @@ none = record {
 
 -- a stamp that gets a message is the same stamp
 pub message_given : (old new : List Ask) (i : ℕ) (m : GivenMessage)
-    → new ≡ set old i (record (get_or old i none) { message = m }) → without_messages new ≡ without_messages old
+    → new ≡ set old i (record (get_or old i none) { message = m })
+    → without_messages new ≡ without_messages old
 message_given old new i m is =
     ap without_messages is
     ∙ map_set_same without_message old i (record (get_or old i none) { message = m }) none refl

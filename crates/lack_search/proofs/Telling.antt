@@ -1,9 +1,9 @@
 -- A candidate tells the streams. Each event is put at the end of the process that was begun last,
 -- with its mark, so the process tells what it told, and the event if that was reported. When no
 -- event is left it tells all of its reported events. So do all processes.
-use Rattle.std.proofs.Common.{◌≡◌, ℕ, ◌+◌, ◌<◌, ◌≤◌, zero, suc, Bool, true, false, cond, List, [], ◌∷◌, ◌++◌}
-use Rattle.std.proofs.Common.{length, take, get_or, slice_get, Some, append-nil, append_assoc}
-use Rattle.std.proofs.Common.{refl, sym, ◌∙◌, ap, arith}
+use Rattle.std.proofs.Common.{◌≡◌, ℕ, ◌+◌, ◌<◌, ◌≤◌, zero, suc, Bool, true, false, cond, List, []}
+use Rattle.std.proofs.Common.{◌∷◌, ◌++◌, length, take, get_or, slice_get, Some, append-nil}
+use Rattle.std.proofs.Common.{append_assoc, refl, sym, ◌∙◌, ap, arith}
 use Rattle.std.proofs.lemmas.List.{length-append, map-append, map_more, take_all}
 use Rattle.std.proofs.lemmas.Option.{same_Some}
 use Rattle.st_core.specs.declared.types.Pid.{Pid}
@@ -59,7 +59,8 @@ pub event_added : (p : Pid) (e : Event) (from : Origin) (old new : Assembly)
 event_added p e from old new step mark before told under = record {
   last = under.last;
   events = under.events ++ e ∷ [];
-  draft = step ∙ ap (λ xs. added xs p e) under.draft ∙ added_last before p under.events e under.last;
+  draft = step ∙ ap (λ xs. added xs p e) under.draft ∙ added_last before p under.events e
+      under.last;
   even =
       let marks = ap length mark ∙ length-append old.marks.items (is_told from ∷ []) in
       let events = length-append under.events (e ∷ []) in

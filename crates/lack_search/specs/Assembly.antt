@@ -1,4 +1,5 @@
--- For the parts alone, but for `TellsStreams`: how whole streams are put together, and what they tell.
+-- For the parts alone, but for `TellsStreams`: how whole streams are put together, and what they
+-- tell.
 use Rattle.std.specs.Prelude.{◌≡◌, List, [], ◌∷◌, ◌++◌, map, length, Bool}
 use Rattle.st_core.specs.declared.types.Pid.{Pid}
 use Rattle.st_core.specs.declared.types.Event.{Event}

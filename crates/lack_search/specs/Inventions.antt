@@ -1,6 +1,6 @@
 -- For the parts alone: messages that are invented.
-use Rattle.std.specs.Prelude.{◌≡◌, ℕ, ◌+◌, ◌&&◌, nat_le, nat_lt, List, map, length, Option, Some, None}
-use Rattle.std.specs.Prelude.{if◌then◌else◌, vec_len}
+use Rattle.std.specs.Prelude.{◌≡◌, ℕ, ◌+◌, ◌&&◌, nat_le, nat_lt, List, map, length, Option, Some}
+use Rattle.std.specs.Prelude.{None, if◌then◌else◌, vec_len}
 use Rattle.st_core.specs.declared.types.Pid.{Pid}
 use Rattle.st_core.specs.declared.types.Kind.TheVariants as kind
 use Rattle.st_core.specs.declared.types.Event.{Event}

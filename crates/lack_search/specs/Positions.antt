@@ -1,5 +1,6 @@
 -- For the parts alone: where the events of a candidate are in its whole streams.
-use Rattle.std.specs.Prelude.{◌≡◌, ℕ, ◌+◌, ◌-◌, ◌^◌, [], ◌∷◌, ◌++◌, min, Option, option_and_then, slice_get}
+use Rattle.std.specs.Prelude.{◌≡◌, ℕ, ◌+◌, ◌-◌, ◌^◌, [], ◌∷◌, ◌++◌, min, Option, option_and_then}
+use Rattle.std.specs.Prelude.{slice_get}
 use Rattle.lack_search.specs.declared.merged_events.Origin.{Origin}
 use Rattle.lack_search.specs.declared.merged_events.Origin.TheVariants as origin
 use Rattle.lack_search.specs.declared.positions.Positions.{Positions}

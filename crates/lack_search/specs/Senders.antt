@@ -1,5 +1,6 @@
 -- For the parts alone: needs that are left, and who sends their messages.
-use Rattle.std.specs.Prelude.{◌≡◌, ℕ, ◌-◌, ◌%◌, ◌^◌, min, Bool, true, false, List, All, Some, get_or, slice_get, vec_len}
+use Rattle.std.specs.Prelude.{◌≡◌, ℕ, ◌-◌, ◌%◌, ◌^◌, min, Bool, true, false, List, All, Some}
+use Rattle.std.specs.Prelude.{get_or, slice_get, vec_len}
 use Rattle.lack_search.specs.declared.asks.Ask.{Ask}
 use Rattle.lack_search.specs.declared.asks.GivenMessage.TheVariants as given
 use Rattle.lack_search.specs.declared.senders.Asked.{Asked}

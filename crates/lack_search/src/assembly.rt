@@ -1,7 +1,8 @@
 //! The whole streams of a candidate, put together from its parts.
 
 ghost use Rattle.std.specs.Prelude.{◌≡◌, [], IfOk, IfSome, OnOk};
-ghost use Rattle.lack_search.specs.Assembly.{streams_of_pids, AddsTold, IsAdded, IsUnderWay, TellsStreams};
+ghost use Rattle.lack_search.specs.Assembly.{streams_of_pids, AddsTold, IsAdded, IsUnderWay};
+ghost use Rattle.lack_search.specs.Assembly.{TellsStreams};
 ghost use Rattle.lack_search.specs.MergedEvents.{told_if};
 ghost use Rattle.lack_search.specs.Unlisted.{AreUnlisted};
 ghost use Rattle.lack_needs.specs.Completions.{wholes_with};

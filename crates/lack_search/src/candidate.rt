@@ -32,9 +32,9 @@ pub struct Candidate {
     pub streams: Streams,
     /// For each process, by its place, whether each of its events is told.
     pub told: Vec<Sequence<bool>>,
-    /// For each process, by its place, and each of its events the index of the other end of its message:
-    /// of a receive among the events of its sender, of a send among those of its receiver. That of an
-    /// event without another end may be any number.
+    /// For each process, by its place, and each of its events the index of the other end of its
+    /// message: of a receive among the events of its sender, of a send among those of its receiver.
+    /// That of an event without another end may be any number.
     pub links: Vec<Sequence<u32>>,
     /// The processes that weren't listed, by rising pid.
     pub unlisted: Vec<Pid>,
@@ -65,8 +65,8 @@ fn parts_of(alloc: Global, streams: &Streams, pairing: &Pairing) -> Result<Parts
 }
 
 /// Builds the candidate of streams of which no reason holds: pairing accepts them, no event is
-/// late, none is unfounded, none counts too high. The judge finds out whether anything is missing in
-/// it. It returns none only if what it builds isn't streams, or if a further process was found
+/// late, none is unfounded, none counts too high. The judge finds out whether anything is missing
+/// in it. It returns none only if what it builds isn't streams, or if a further process was found
 /// twice; no test has seen either.
 pub fn build_candidate(
     alloc: Global,

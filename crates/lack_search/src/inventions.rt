@@ -1,8 +1,10 @@
 //! The sends of the messages that are invented, and their prevs.
 
-ghost use Rattle.std.specs.Prelude.{◌≡◌, ◌++◌, [], length, vec_len, All, Contains, IfOk, IfSome, OnOk};
+ghost use Rattle.std.specs.Prelude.{◌≡◌, ◌++◌, [], length, vec_len, All, Contains, IfOk, IfSome};
+ghost use Rattle.std.specs.Prelude.{OnOk};
 ghost use Rattle.std.specs.Option.{option_copied};
-ghost use Rattle.lack_search.specs.Inventions.{prev_before, sent_as, without_messages, IsSendFor, LeavesPrevs};
+ghost use Rattle.lack_search.specs.Inventions.{prev_before, sent_as, without_messages, IsSendFor};
+ghost use Rattle.lack_search.specs.Inventions.{LeavesPrevs};
 
 use crate::asks::{Ask, GivenMessage, split_asks};
 use crate::hidden_sends::{HiddenSend, split_hidden};
@@ -84,7 +86,8 @@ struct Inventor<'a> {
 }
 
 impl Inventor<'_> {
-    /// Finds the prevs of the sends that are before this event, or of all if there is no more event.
+    /// Finds the prevs of the sends that are before this event, or of all if there is no more
+    /// event.
     fn come_to(&mut self, next: Option<&Event>) -> Result<(), AllocError>
         ensures prevs { OnOk result (LeavesPrevs self.old self.new) }
         ensures all { next.entry ≡ None → OnOk result (self.new.inventions.now ≡ []) }
@@ -237,8 +240,8 @@ fn sends_by_sender(alloc: Global, mut sends: Vec<Invention>) -> Result<Vec<Inven
     Ok(sends)
 }
 
-/// Gives the needs that are left among these stamps messages, of these senders. Returns their sends,
-/// by sender and count.
+/// Gives the needs that are left among these stamps messages, of these senders. Returns their
+/// sends, by sender and count.
 pub(crate) fn invent(
     alloc: Global,
     streams: &Streams,

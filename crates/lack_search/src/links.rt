@@ -156,7 +156,8 @@ fn no_links(alloc: Global, whole: &Streams) -> Result<Vec<Vec<u32>>, AllocError>
     Ok(rows)
 }
 
-/// The links of the whole streams that were put together of these streams and parts, which are there.
+/// The links of the whole streams that were put together of these streams and parts, which are
+/// there.
 pub(crate) fn links_of(
     alloc: Global,
     streams: &Streams,

@@ -13,8 +13,8 @@ use std::alloc::{AllocError, Global};
 /// what they come from.
 #[derive(Drop)]
 pub(crate) struct Positions {
-    /// For each process of the streams, by its place, the number of its first event among the reported
-    /// ones of all.
+    /// For each process of the streams, by its place, the number of its first event among the
+    /// reported ones of all.
     pub starts: Vec<usize>,
     /// The reported events.
     pub reported: Vec<u32>,

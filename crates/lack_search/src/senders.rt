@@ -4,7 +4,8 @@
 //! listed processes, by rising pid, then from processes that the streams don't list. A process
 //! stamps each count at most once, so each may send one message of a count.
 
-ghost use Rattle.std.specs.Prelude.{◌≡◌, ◌*◌, ◌-◌, ◌%◌, ◌<◌, ◌^◌, length, min, true, vec_len, All, Contains, IfOk, IfSome, OnOk};
+ghost use Rattle.std.specs.Prelude.{◌≡◌, ◌*◌, ◌-◌, ◌%◌, ◌<◌, ◌^◌, length, min, true, vec_len, All};
+ghost use Rattle.std.specs.Prelude.{Contains, IfOk, IfSome, OnOk};
 ghost use Rattle.std.specs.List.Sorted.{IsPermutation};
 ghost use Rattle.st_core.specs.Run.{pids_of};
 ghost use Rattle.lack_search.specs.Senders.{may_have, AreAsked, AreTurnsOf, KeepsStreams};

@@ -36,9 +36,9 @@ fn count_passing<T, F: Fn(&T) -> bool>(items: &[T], near: usize, passes: &F) -> 
     items.partition_point(|item| passes(item))
 }
 
-/// Tables of a stretch, so that each question about it takes no more than a binary search, and mostly
-/// less: it begins near where the last one ended. They are filled anew for each stretch, so that their
-/// memory is taken once.
+/// Tables of a stretch, so that each question about it takes no more than a binary search, and
+/// mostly less: it begins near where the last one ended. They are filled anew for each stretch, so
+/// that their memory is taken once.
 #[derive(Drop)]
 pub(crate) struct GapTables {
     /// The clock at each gap: the greatest count of what the process reported before it.
@@ -183,8 +183,8 @@ impl GapTables {
         None
     }
 
-    /// The first gap right after a receive of this count and label, among those past a gap and up to
-    /// a limit.
+    /// The first gap right after a receive of this count and label, among those past a gap and up
+    /// to a limit.
     pub(crate) fn next_of_label(
         &mut self,
         count: u64,

@@ -12,7 +12,8 @@
 //! back gives no send a last place before the one that it had in that run, so that the walk forth
 //! finds one that costs nothing up to there.
 
-ghost use Rattle.std.specs.Prelude.{◌≡◌, ◌+◌, ◌≤◌, [], drop, length, max, vec_len, All, None, IfOk, OnOk};
+ghost use Rattle.std.specs.Prelude.{◌≡◌, ◌+◌, ◌≤◌, [], drop, length, max, vec_len, All, None, IfOk};
+ghost use Rattle.std.specs.Prelude.{OnOk};
 ghost use Rattle.lack_search.specs.Sends.{AreSendsIn};
 ghost use Rattle.lack_search.specs.Walk.{may_stand_at, AreWithin};
 

@@ -14,10 +14,9 @@ use Rattle.node_machine.specs.Readings.{is_next, is_receipt, last_behind, NeedsP
 use Rattle.node_machine.specs.Given.{fresh, IsGiven, shown, takes, tokens}
 use Rattle.node_machine.specs.Ways.{IsLowered, IsPlainly}
 use Rattle.node_machine.proofs.ForCallers.{all_of, among_back, among_parts, carried_held}
-use Rattle.node_machine.proofs.ForCallers.{count_once}
-use Rattle.node_machine.proofs.ForCallers.{given_ways, last_by_receive, last_push, lasts_held}
-use Rattle.node_machine.proofs.ForCallers.{next_of_zero, takes_parts}
-use Rattle.node_machine.proofs.ForCallers.{tokens_more, tokens_parts}
+use Rattle.node_machine.proofs.ForCallers.{count_once, given_ways, last_by_receive, last_push}
+use Rattle.node_machine.proofs.ForCallers.{lasts_held, next_of_zero, takes_parts, tokens_more}
+use Rattle.node_machine.proofs.ForCallers.{tokens_parts}
 use Rattle.node_given.specs.declared.tokens.Tokens.{Tokens}
 use Rattle.node_given.specs.Walk.{AreFit, ends_in_take, IsKnown}
 use Rattle.node_given.proofs.Knowledge.{ends_push, shown_taken}
@@ -42,7 +41,8 @@ some_passes test (k ∷ ks) is = (elim (test k) as (λ b. test k ≡ b → (b ||
 none_passes : (test : ℕ → Bool) (ks : List ℕ) → list_any test ks ≡ false → (k : ℕ)
     → IsAmong ks k → test k ≡ false
 none_passes test [] never k is = absurd is
-none_passes test (j ∷ ks) never k is = (elim (test j) as (λ b. test j ≡ b → (b || list_any test ks) ≡ false
+none_passes test (j ∷ ks) never k is =
+    (elim (test j) as (λ b. test j ≡ b → (b || list_any test ks) ≡ false
     → test k ≡ false) [
       | true ↦ λ _ so. absurd (false≢true (sym so))
       | false ↦ λ here later. elim is [
@@ -97,7 +97,8 @@ shown_fits e true false n x fits (inr (inl is)) =
 shown_fits e true false n x fits (inr (inr (inl is))) =
     let made = ap (λ (y : Serial). y.this) is in omega arith
 shown_fits e true false n x fits (inr (inr (inr is))) = absurd is
-shown_fits e false answer n x fits (inl is) = let own = ap (λ (y : Serial). y.this) is in omega arith
+shown_fits e false answer n x fits (inl is) = let own = ap (λ (y : Serial). y.this) is in
+    omega arith
 shown_fits e false answer n x fits (inr (inl is)) =
     let made = ap (λ (y : Serial). y.this) is in omega arith
 shown_fits e false answer n x fits (inr (inr is)) = absurd is
@@ -139,7 +140,8 @@ last_taken es front receive split taken =
 
 pub lowered_ends : (es : List Seen) (e : Seen) (token : Serial) → IsLowered es e token
     → ends_in_take es ≡ true
-lowered_ends es e token low = ap ends_in_take low.split ∙ ends_push low.front low.receive ∙ low.taken
+lowered_ends es e token low = ap ends_in_take low.split ∙ ends_push low.front low.receive
+    ∙ low.taken
 
 pub lowered_last : (es : List Seen) (e : Seen) (token : Serial) → IsLowered es e token
     → last_behind 0 es ≡ e.serial.prev
@@ -180,16 +182,17 @@ before_receive front receive token taken above is =
     let parts = takes_parts receive taken in
     elim (tokens_parts receive front token is) [
       | inr old ↦ old
-      | inl new ↦ elim (subst (λ xs. IsAmong xs token) (shown_taken receive false parts.0 parts.1) new) [
-        | inl own ↦ let same = ap (λ (y : Serial). y.this) own in absurd (omega arith)
-        | inr more ↦ elim more [
-          | inl made ↦ let none = ap (λ (y : Serial). y.this) made in absurd (omega arith)
-          | inr rest ↦ elim rest [
-            | inl made ↦ let none = ap (λ (y : Serial). y.this) made in absurd (omega arith)
-            | inr never ↦ absurd never
+      | inl new ↦ elim (subst (λ xs. IsAmong xs token) (shown_taken receive false parts.0 parts.1)
+          new) [
+            | inl own ↦ let same = ap (λ (y : Serial). y.this) own in absurd (omega arith)
+            | inr more ↦ elim more [
+              | inl made ↦ let none = ap (λ (y : Serial). y.this) made in absurd (omega arith)
+              | inr rest ↦ elim rest [
+                | inl made ↦ let none = ap (λ (y : Serial). y.this) made in absurd (omega arith)
+                | inr never ↦ absurd never
+              ]
+            ]
           ]
-        ]
-      ]
     ]
 
 module _ (es : List Seen) (ks : List ℕ) (lift last : ℕ) (taking : Bool) (t : Tokens)
@@ -250,13 +253,16 @@ module _ (es : List Seen) (ks : List ℕ) (lift last : ℕ) (taking : Bool) (t :
         → (IsAmong (tokens es) (record { prev = e.serial.prev; this = clock }) → ⊥)
         → ((token : Serial) → IsLowered es e token → ⊥) → IsGiven es e → ⊥
     not_given needs unheld unlowered given = elim (given_ways es e given) [
-      | inl plain ↦ false≢true (sym (all_of (λ (r : Reading). is_next r.clock (last_behind 0 es) e ≡ false)
+      | inl plain ↦ false≢true
+          (sym (all_of (λ (r : Reading). is_next r.clock (last_behind 0 es) e ≡ false)
           (readings es) plain.reading needs plain.reads) ∙ plain.next)
       | inr (inl again) ↦
           let held = carried_held es again.token again.held in
-          let same = count_once again.token.this clock (tokens_fit es again.token known.fit held) fits
+          let same = count_once again.token.this clock (tokens_fit es again.token known.fit held)
+          fits
           (sym again.count ∙ sym next) in
-          unheld (subst (IsAmong (tokens es)) (λ i. record { prev = again.prev i; this = same i }) held)
+          unheld (subst (IsAmong (tokens es)) (λ i. record { prev = again.prev i; this = same i })
+          held)
       | inr (inr (inl new)) ↦
           let same = count_once 0 clock (omega arith) fits (next_of_zero ∙ sym new.0 ∙ sym next) in
           unheld (subst (IsAmong (tokens es)) (λ i. record { prev = e.serial.prev; this = same i })

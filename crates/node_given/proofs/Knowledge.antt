@@ -13,12 +13,11 @@ use Rattle.node_machine.specs.Readings.{clock_put_back, going_on, is_next, is_re
 use Rattle.node_machine.specs.Readings.{put_back_before, taking}
 use Rattle.node_machine.specs.Given.{fresh, shown, takes, tokens}
 use Rattle.node_machine.proofs.ForCallers.{all_append, among_back, among_front, among_parts}
-use Rattle.node_machine.proofs.ForCallers.{clock_by_answer, clock_by_receive}
-use Rattle.node_machine.proofs.ForCallers.{last_by_answer, last_by_receive, last_by_stamp}
-use Rattle.node_machine.proofs.ForCallers.{last_push, put_back_reads}
-use Rattle.node_machine.proofs.ForCallers.{some_reading, stamp_reads, stamped_reads, take_reads}
-use Rattle.node_machine.proofs.ForCallers.{took_reads}
-use Rattle.node_machine.proofs.ForCallers.{tokens_more, tokens_new, tokens_parts}
+use Rattle.node_machine.proofs.ForCallers.{clock_by_answer, clock_by_receive, last_by_answer}
+use Rattle.node_machine.proofs.ForCallers.{last_by_receive, last_by_stamp, last_push}
+use Rattle.node_machine.proofs.ForCallers.{put_back_reads, some_reading, stamp_reads, stamped_reads}
+use Rattle.node_machine.proofs.ForCallers.{take_reads, took_reads, tokens_more, tokens_new}
+use Rattle.node_machine.proofs.ForCallers.{tokens_parts}
 use Rattle.node_given.specs.declared.tokens.Tokens.{Tokens}
 use Rattle.node_given.specs.Clocks.{AreClocks, clocks_by_stamp, leads_elsewhere}
 use Rattle.node_given.specs.Tables.{AreTokens}
@@ -286,8 +285,10 @@ module _ (es : List Seen) (ks : List ℕ) (lift last : ℕ) (taking : Bool) (t u
     last_is = sym (last_push es e 0 ∙ last_by_stamp e kind);
     taking_is = sym (ends_push es e ∙ not_taken e kind);
     tokens_are = tokens_push es e (fresh e.serial.prev ∷ e.serial ∷ []) u
-        (λ x is. subst (λ xs. IsAmong xs x) (sym (shown_stamp e kind)) (swap (fresh e.serial.prev) e.serial x is))
-        (λ x is. swap e.serial (fresh e.serial.prev) x (subst (λ xs. IsAmong xs x) (shown_stamp e kind) is)) are;
+        (λ x is. subst (λ xs. IsAmong xs x) (sym (shown_stamp e kind))
+        (swap (fresh e.serial.prev) e.serial x is))
+        (λ x is. swap e.serial (fresh e.serial.prev) x
+        (subst (λ xs. IsAmong xs x) (shown_stamp e kind) is)) are;
     fit = fit_push es e known.fit fits;
   }
 
@@ -299,8 +300,10 @@ module _ (es : List Seen) (ks : List ℕ) (lift last : ℕ) (taking : Bool) (t u
     last_is = sym (last_push es e 0 ∙ last_by_receive e kind other);
     taking_is = sym (ends_push es e ∙ both_true (is_receipt e) (not e.answer) kind (ap not other));
     tokens_are = tokens_push es e (fresh e.serial.this ∷ fresh e.serial.prev ∷ e.serial ∷ []) u
-        (λ x is. subst (λ xs. IsAmong xs x) (sym (shown_taken e false kind other)) (turn (fresh e.serial.this) (fresh e.serial.prev) e.serial x is))
-        (λ x is. turn e.serial (fresh e.serial.prev) (fresh e.serial.this) x (subst (λ xs. IsAmong xs x) (shown_taken e false kind other) is)) are;
+        (λ x is. subst (λ xs. IsAmong xs x) (sym (shown_taken e false kind other))
+        (turn (fresh e.serial.this) (fresh e.serial.prev) e.serial x is))
+        (λ x is. turn e.serial (fresh e.serial.prev) (fresh e.serial.this) x
+        (subst (λ xs. IsAmong xs x) (shown_taken e false kind other) is)) are;
     fit = fit_push es e known.fit fits;
   }
 
@@ -311,7 +314,8 @@ module _ (es : List Seen) (ks : List ℕ) (lift last : ℕ) (taking : Bool) (t u
   known_answer kind answer are = record {
     clocks_are = answer_clocks es ks lift last e known.clocks_are known.last_is kind answer;
     last_is = sym (last_push es e 0 ∙ last_by_answer e kind answer);
-    taking_is = sym (ends_push es e ∙ ap (λ b. is_receipt e && not b) answer ∙ and_no (is_receipt e));
+    taking_is = sym (ends_push es e ∙ ap (λ b. is_receipt e && not b) answer
+        ∙ and_no (is_receipt e));
     tokens_are = tokens_push es e (fresh (serial_count (answer_count e.serial.this)) ∷ []) u
         (λ x is. subst (λ xs. IsAmong xs x) (sym (shown_taken e true kind answer)) is)
         (λ x is. subst (λ xs. IsAmong xs x) (shown_taken e true kind answer) is) are;

@@ -45,7 +45,8 @@ least_same : (es : List Seen) (e : Seen) (n : ℕ) → NeedsAtLeast es n
 least_same es e n least = all_from (λ (x : Reading). n ≤ x.put_backs) (readings (es ++ e ∷ []))
     (λ x is.
     let back = grown_reading es e x is in
-    let enough = all_of (λ (r : Reading). n ≤ r.put_backs) (readings es) back.from least back.reads in
+    let enough = all_of (λ (r : Reading). n ≤ r.put_backs) (readings es) back.from least
+    back.reads in
     let more = back.more in
     omega arith)
 
@@ -59,7 +60,8 @@ least_more es e n kind needs least =
     let enough = all_of (λ (r : Reading). n ≤ r.put_backs) (readings es) r least back.1 in
     elim back.2 [
       | inl goes ↦ absurd (false≢true
-          (sym (all_of (λ (r : Reading). is_next r.clock (last_behind 0 es) e ≡ false) (readings es) r
+          (sym (all_of (λ (r : Reading). is_next r.clock (last_behind 0 es) e ≡ false) (readings es)
+          r
           needs back.1) ∙ goes.0))
       | inr put ↦
           let same = ap (λ (r : Reading). r.put_backs) put in
@@ -84,7 +86,8 @@ pub none_needed : NeedsAtLeast [] 0
 none_needed = (omega arith, tt)
 
 pub counted_more : (ws : List Way) (w : Way)
-    → count_by names_put_back (ws ++ w ∷ []) ≡ count_by names_put_back ws + cond (names_put_back w) 1 0
+    → count_by names_put_back (ws ++ w ∷ []) ≡ count_by names_put_back ws + cond (names_put_back w)
+    1 0
 counted_more ws w =
     let f : Way → ℕ = λ v. cond (names_put_back v) 1 0 in
     let all = sum_by-append f ws (w ∷ []) in

@@ -1,7 +1,6 @@
 -- A table with one serial more has that serial and those that it had.
 use Rattle.std.proofs.Common.{◌≡◌, ℕ, ◌⊎◌, ◌==◌, cond, nat_eq, Bool, true, false, List, ◌∷◌, Option}
-use Rattle.std.proofs.Common.{Some, IsSome}
-use Rattle.std.proofs.Common.{inl, inr, refl, sym, ◌∙◌, ap, subst}
+use Rattle.std.proofs.Common.{Some, IsSome, inl, inr, refl, sym, ◌∙◌, ap, subst}
 use Rattle.std.specs.HashMap.{get}
 use Rattle.std.specs.HashSet.{contains}
 use Rattle.std.proofs.lemmas.Bool.{and_parts, eq-eqb, eqb-true}
@@ -55,7 +54,8 @@ pub noted : (xs : List Serial) (prev this : ℕ) (t u : Tokens) → AreTokens xs
     → AreTokens (record { prev = prev; this = this } ∷ xs) u
 noted xs prev this t u are set map = record {
   known = λ x is. set (x.prev, x.this) ∙ (elim is as (λ _.
-      cond (same_pair (prev, this) (x.prev, x.this)) true (contains same_pair t.serials (x.prev, x.this)) ≡ true) [
+      cond (same_pair (prev, this) (x.prev, x.this)) true
+      (contains same_pair t.serials (x.prev, x.this)) ≡ true) [
         | inl same ↦ ap (λ b. cond b true (contains same_pair t.serials (x.prev, x.this)))
             (subst (λ (y : Serial). same_pair (prev, this) (y.prev, y.this) ≡ true) same
             (same_self (record { prev = prev; this = this })))
@@ -68,8 +68,10 @@ noted xs prev this t u are set map = record {
       IsSome (cond (this == x.this) (Some prev) (get nat_eq t.prevs x.this))) [
         | inl same ↦ subst (λ b. IsSome (cond b (Some prev) (get nat_eq t.prevs x.this)))
             (sym (eq-eqb this x.this (ap (λ (y : Serial). y.this) same))) refl
-        | inr old ↦ some_either (this == x.this) prev (get nat_eq t.prevs x.this) (are.counted x old)
+        | inr old ↦ some_either (this == x.this) prev (get nat_eq t.prevs x.this)
+            (are.counted x old)
       ]);
-  had = λ count before is. found xs prev this (this == count) count before (get nat_eq t.prevs count)
+  had = λ count before is. found xs prev this (this == count) count before
+      (get nat_eq t.prevs count)
       (λ h. eqb-true this count h) (sym (map count) ∙ is) (are.had count before);
 }

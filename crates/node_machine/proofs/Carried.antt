@@ -34,31 +34,35 @@ use Rattle.node_machine.proofs.Moves.{IsTake, is_plain}
 use Rattle.node_machine.proofs.Moves.{plain_stamps, set_serial, StampMoves, unmoved}
 
 -- nothing is reported, and the token stays or goes
-pub record StaysQuiet (l m : LocalState) (told : Option Seen) (before now : TokenOrigin) : Type 0 where
-  pub silent : told ≡ None
-  pub quiet : IsQuiet l m
-  pub origin : now ≡ before
+pub record StaysQuiet (l m : LocalState) (told : Option Seen) (before now : TokenOrigin) : Type 0
+  where
+    pub silent : told ≡ None
+    pub quiet : IsQuiet l m
+    pub origin : now ≡ before
 
 -- the token was stamped
-pub record IsStamped (l m : LocalState) (told : Option Seen) (before now : TokenOrigin) : Type 0 where
-  pub event : Seen
-  pub is : told ≡ Some event
-  pub stamp : IsStamp l m event
-  pub origin : now ≡ before
+pub record IsStamped (l m : LocalState) (told : Option Seen) (before now : TokenOrigin) : Type 0
+  where
+    pub event : Seen
+    pub is : told ≡ Some event
+    pub stamp : IsStamp l m event
+    pub origin : now ≡ before
 
 -- the token came with a message
-pub record CameWith (k : ℕ) (l m : LocalState) (told : Option Seen) (now : TokenOrigin) : Type 0 where
-  pub event : Seen
-  pub is : told ≡ Some event
-  pub take : IsTake l m event
-  pub origin : now ≡ Follows k
+pub record CameWith (k : ℕ) (l m : LocalState) (told : Option Seen) (now : TokenOrigin) : Type 0
+  where
+    pub event : Seen
+    pub is : told ≡ Some event
+    pub take : IsTake l m event
+    pub origin : now ≡ Follows k
 
 -- the token was kept in an answer
-pub record KeptToken (l m : LocalState) (told : Option Seen) (before now : TokenOrigin) : Type 0 where
-  pub event : Seen
-  pub is : told ≡ Some event
-  pub answer : IsAnswered l m event
-  pub origin : now ≡ before
+pub record KeptToken (l m : LocalState) (told : Option Seen) (before now : TokenOrigin) : Type 0
+  where
+    pub event : Seen
+    pub is : told ≡ Some event
+    pub answer : IsAnswered l m event
+    pub origin : now ≡ before
 
 -- the token was made, or its label set
 pub record IsMade (front rest : List Seen) (l m : LocalState) (told : Option Seen)

@@ -15,8 +15,7 @@ use Rattle.node_machine.specs.Node.{node_run, NodeAct, Seen, seen_stream}
 use Rattle.node_machine.specs.Premises.{IsAmong, NoNodeReset, PutsBackOwn, ReportsTokens}
 use Rattle.node_machine.specs.Readings.{clock_behind, is_next, last_behind, Reading, readings}
 use Rattle.node_machine.specs.Given.{are_taken, is_given, IsGiven, leads, put_back_gives}
-use Rattle.node_machine.specs.Given.{some_reading_gives}
-use Rattle.node_machine.specs.Given.{takes, tokens}
+use Rattle.node_machine.specs.Given.{some_reading_gives, takes, tokens}
 use Rattle.node_machine.proofs.Readings.{next_parts, next_true}
 use Rattle.node_machine.proofs.Givens.{stamps_given}
 
@@ -150,7 +149,8 @@ given_tests es e given =
       | inl way ↦
           or_left plain (put_back_gives [] es e)
           (any_true (λ (r : Reading). is_next r.clock last e) (readings es) way.reading way.reads
-          (next_true way.reading.clock last e (given.count ∙ ap stamp_count way.clock_is) way.last_is))
+          (next_true way.reading.clock last e (given.count ∙ ap stamp_count way.clock_is)
+          way.last_is))
       | inr way ↦
           or_right plain (put_back_gives [] es e)
           (subst (λ xs. put_back_gives [] xs e ≡ true) (sym way.split)

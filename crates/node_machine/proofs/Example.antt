@@ -59,7 +59,11 @@ own = (
       λ _ t is. absurd (none-some t is),
       (
         λ _ t is. absurd (none-some t is),
-        (λ _ t is. inr (inl (ap (λ (x : Token). x.serial) (same_Some (node_token first_token) t is))), (λ _ t is. absurd (none-some t is), tt)),
+        (
+          λ _ t is.
+              inr (inl (ap (λ (x : Token). x.serial) (same_Some (node_token first_token) t is))),
+          (λ _ t is. absurd (none-some t is), tt),
+        ),
       ),
     ),
   ),
@@ -90,7 +94,8 @@ first_held = record {
   origin = Home;
 }
 
-pub origins : OriginsAre printer [] [] Home (zero_state (printer ∷ [])) prints_again outcomes all_home
+pub origins : OriginsAre printer [] [] Home (zero_state (printer ∷ [])) prints_again outcomes
+    all_home
 unfolding serial_count counter_value
 origins = (
   λ _ r _. refl,
@@ -162,7 +167,13 @@ wrap_reports = (
     λ mine. absurd (apart mine),
     (
       λ mine. absurd (apart mine),
-      (λ _ r _ _. refl, (λ _ r _ _. refl, (λ mine. absurd (apart mine), (λ _ r _ _. refl, (λ _ r _ _. refl, tt))))),
+      (
+        λ _ r _ _. refl,
+        (
+          λ _ r _ _. refl,
+          (λ mine. absurd (apart mine), (λ _ r _ _. refl, (λ _ r _ _. refl, tt))),
+        ),
+      ),
     ),
   ),
 )

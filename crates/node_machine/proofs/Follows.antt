@@ -1,9 +1,8 @@
 -- In each run of the node each token that a process holds is one whose origin its events allow: so
 -- they allow the origins of its stamps.
 use Rattle.std.proofs.Common.{◌≡◌, ◌≢◌, ℕ, ◌+◌, ◌<◌, ◌≤◌, ◌⊎◌, zero, suc, Bool, true, false, List}
-use Rattle.std.proofs.Common.{[], ◌∷◌, ◌++◌, length, max, take}
-use Rattle.std.proofs.Common.{Option, Some, None, is_some, IsSome, option_map, option_and_then}
-use Rattle.std.proofs.Common.{option_to_list, inl, inr, refl, arith}
+use Rattle.std.proofs.Common.{[], ◌∷◌, ◌++◌, length, max, take, Option, Some, None, is_some, IsSome}
+use Rattle.std.proofs.Common.{option_map, option_and_then, option_to_list, inl, inr, refl, arith}
 use Rattle.std.proofs.Common.{sym, ◌∙◌, ap, subst, append_assoc, append-nil, if◌then◌else◌}
 use Rattle.std.specs.List.{slice_get, AllByRecursion}
 use Rattle.std.specs.Option.{option_map_or}
@@ -29,9 +28,8 @@ use Rattle.node_machine.specs.Premises.{IsAmong, NoNodeReset, ReportsTokens, tok
 use Rattle.node_machine.specs.Readings.{is_receipt}
 use Rattle.node_machine.specs.Given.{IsPutBack, IsStraight, tokens}
 use Rattle.node_machine.specs.Origins.{answered, AnswersComeNext, Can, Follows, Held, held_in, Home}
-use Rattle.node_machine.specs.Origins.{home, IsOwnLabel, TokenOrigin}
-use Rattle.node_machine.specs.Origins.{OriginAfter, OriginsAre, origins_told, received, stamped}
-use Rattle.node_machine.specs.Origins.{taken, told_send}
+use Rattle.node_machine.specs.Origins.{home, IsOwnLabel, TokenOrigin, OriginAfter, OriginsAre}
+use Rattle.node_machine.specs.Origins.{origins_told, received, stamped, taken, told_send}
 use Rattle.node_machine.proofs.Counts.{next_of_clock}
 use Rattle.node_machine.proofs.Lists.{all_append, all_change, all_of}
 use Rattle.node_machine.proofs.Steps.{node_run_parts, node_step_parts}
@@ -181,21 +179,22 @@ module _ (all : List Seen) where
 
   -- THE TOKEN IN FORCE
 
-  record LastTaken (es : List Seen) (clock last : ℕ) (label : Label) (h : TokenOrigin) : Type 0 where
-    index : ℕ
-    event : Seen
-    at : slice_get all index ≡ Some event
-    behind : length es ≡ suc index
-    kind : is_receipt event ≡ true
-    own : event.answer ≡ false
-    clock_before : ℕ
-    last_before : ℕ
-    way : IsStraight (take index all) clock_before last_before
-        ⊎ IsPutBack (take index all) clock_before last_before
-    lifted : clock ≡ max clock_before event.serial.this
-    count : event.serial.this ≡ last
-    same : event.label ≡ label
-    origin : h ≡ Follows index
+  record LastTaken (es : List Seen) (clock last : ℕ) (label : Label) (h : TokenOrigin) : Type 0
+    where
+      index : ℕ
+      event : Seen
+      at : slice_get all index ≡ Some event
+      behind : length es ≡ suc index
+      kind : is_receipt event ≡ true
+      own : event.answer ≡ false
+      clock_before : ℕ
+      last_before : ℕ
+      way : IsStraight (take index all) clock_before last_before
+          ⊎ IsPutBack (take index all) clock_before last_before
+      lifted : clock ≡ max clock_before event.serial.this
+      count : event.serial.this ≡ last
+      same : event.label ≡ label
+      origin : h ≡ Follows index
 
   record NowAtHome (es : List Seen) (label : Label) (h : TokenOrigin) : Type 0 where
     rest : List Seen
@@ -214,19 +213,20 @@ module _ (all : List Seen) where
     can : Can all index h
 
   -- the last is an answer, and before it is such a stamp
-  record JustAnswered (es : List Seen) (clock last : ℕ) (label : Label) (h : TokenOrigin) : Type 0 where
-    index : ℕ
-    event : Seen
-    at : slice_get all index ≡ Some event
-    kind : is_receipt event ≡ false
-    same : event.label ≡ label
-    can : Can all index h
-    answer : Seen
-    answer_at : slice_get all (suc index) ≡ Some answer
-    answers : answer.answer ≡ true
-    behind : length es ≡ suc (suc index)
-    lifted : clock ≡ answer_count answer.serial.this
-    count : serial_count (answer_count answer.serial.this) ≡ last
+  record JustAnswered (es : List Seen) (clock last : ℕ) (label : Label) (h : TokenOrigin) : Type 0
+    where
+      index : ℕ
+      event : Seen
+      at : slice_get all index ≡ Some event
+      kind : is_receipt event ≡ false
+      same : event.label ≡ label
+      can : Can all index h
+      answer : Seen
+      answer_at : slice_get all (suc index) ≡ Some answer
+      answers : answer.answer ≡ true
+      behind : length es ≡ suc (suc index)
+      lifted : clock ≡ answer_count answer.serial.this
+      count : serial_count (answer_count answer.serial.this) ≡ last
 
   -- after these events a process with these counts has a token of this serial and label, whose
   -- origin is this: the counts lead to the token's successor, or the token came with the last
@@ -485,7 +485,8 @@ module _ (all : List Seen) where
           form = inl (sym c.back.last, ap stamp_count (sym c.back.clock));
         } in
         silently c.silent (λ u is.
-        subst (λ (y : Token). InForce es m y now) (same_Some c.token u (sym c.back.token ∙ is)) here)
+        subst (λ (y : Token). InForce es m y now) (same_Some c.token u (sym c.back.token ∙ is))
+        here)
 
     -- after an act that reported a send
     next_just : Carries es rest held l m told before now → (e : Seen) → told ≡ Some e
@@ -636,7 +637,8 @@ module _ (all : List Seen) where
             let after = are.0 who x.before found in
             let moves = step_moves s a o x none.0 p mine told.0 in
             let same : x.done.report ≡ o.report = ap (λ (y : Outcome). y.report) x.is_outcome in
-            let carries : Carries es rest holds x.before.local x.done.local (seen_by a o) before now =
+            let carries : Carries es rest holds x.before.local x.done.local (seen_by a o) before
+            now =
             subst (λ r. Carries es rest holds x.before.local x.done.local
             (option_map (seen (is_answer a)) r) before now) same
             (subst (PartCarriesAll es rest holds before now a x.before) x.is_done
@@ -651,11 +653,14 @@ module _ (all : List Seen) where
             let right_behind : (e : Seen) → seen_by a o ≡ Some e → e.answer ≡ true
             → sent ≡ true =
             λ e is answer. seen_answer a o e is answer sent (next_of.0 who) in
-            let next = next_tokens es rest holds x.before.local x.done.local (seen_by a o) before now
+            let next = next_tokens es rest holds x.before.local x.done.local (seen_by a o) before
+            now
             whole there was have had sent just_before right_behind carries in
-            let next_there : HasTokens (es ++ option_to_list (seen_by a o)) (local_in o.after p) now =
+            let next_there : HasTokens (es ++ option_to_list (seen_by a o)) (local_in o.after p)
+            now =
             (let to = actor_same s a o x none.0 p mine in λ u is.
-            in_force_same (es ++ option_to_list (seen_by a o)) x.done.local (local_in o.after p) u u now
+            in_force_same (es ++ option_to_list (seen_by a o)) x.done.local (local_in o.after p) u u
+            now
             now to.clock to.last refl refl refl (next u (sym to.token ∙ is))) in
             let next_told = step_told s a o x none.0 p es mine moves
             (restored_held es rest holds x.before a before now have after) was in
@@ -669,9 +674,11 @@ module _ (all : List Seen) where
             (sym (actor_same s a o x none.0 p mine).token ∙ is) in
             let rest_can = can_from o.after acts t.others hs p
             (es ++ option_to_list (seen_by a o)) holds now
-            (here ∙ sym (append_assoc es (option_to_list (seen_by a o)) tail)) t.is_rest none.1 told.1
+            (here ∙ sym (append_assoc es (option_to_list (seen_by a o)) tail)) t.is_rest none.1
+            told.1
             are_later next_known next_told next_there (told_send o) nexts_later just_later in
-            let now_here = now_can es rest holds x.before.local x.done.local (seen_by a o) before now
+            let now_here = now_can es rest holds x.before.local x.done.local (seen_by a o) before
+            now
             whole there was have had sent just_before right_behind carries in
             elim (seen_by a o) as (λ r. ((e : Seen) → r ≡ Some e → is_receipt e ≡ false
             → Can all (length es) now)
@@ -724,7 +731,8 @@ origins_can pids acts os run none p tells hs origins nexts i e h at other is =
     (λ t is. absurd (none-some t
     (sym (ap (λ (l : LocalState). l.token) (zero_found pids p)) ∙ is))) in
     let whole = can_from all (zero_state pids) acts os hs p [] [] Home refl run none tells
-    origins tt (subst (AreTold []) (sym (zero_found pids p)) zero_told) empty false nexts (λ yes. absurd (false≢true yes)) in
+    origins tt (subst (AreTold []) (sym (zero_found pids p)) zero_told) empty false nexts
+    (λ yes. absurd (false≢true yes)) in
     let found = can_at all 0 all (origins_told acts os hs p) i e h whole at is
     (no_receive e other) in
     let same : 0 + i ≡ i = omega arith in

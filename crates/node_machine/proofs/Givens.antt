@@ -1,10 +1,9 @@
 -- In each run of the node the counts of a process are those that its events lead to, or that a
 -- token of its own led to which was put back: so its stamps are given.
 use Rattle.std.proofs.Common.{◌≡◌, ◌≢◌, ℕ, ◌⊎◌, max, zero, suc, true, false, List, [], ◌∷◌, ◌++◌}
-use Rattle.std.proofs.Common.{take}
-use Rattle.std.proofs.Common.{Option, Some, None, IsSome, option_map, option_and_then}
-use Rattle.std.proofs.Common.{option_to_list, inl, inr, refl}
-use Rattle.std.proofs.Common.{sym, ◌∙◌, ap, subst, append_assoc, append-nil, if◌then◌else◌}
+use Rattle.std.proofs.Common.{take, Option, Some, None, IsSome, option_map, option_and_then}
+use Rattle.std.proofs.Common.{option_to_list, inl, inr, refl, sym, ◌∙◌, ap, subst, append_assoc}
+use Rattle.std.proofs.Common.{append-nil, if◌then◌else◌}
 use Rattle.std.specs.List.{slice_get, AllByRecursion}
 use Rattle.std.proofs.lemmas.Bool.{false≢true}
 use Rattle.std.proofs.lemmas.Option.{same_Some, none-some}
@@ -20,8 +19,7 @@ use Rattle.st_core.specs.Laws.{is_reset, moves_token}
 use Rattle.st_core.proofs.ForCallers.{local_found, local_in, pid_same, zero_found}
 use Rattle.node_machine.specs.Counts.{next_clock, stamp_count}
 use Rattle.node_machine.specs.Node.{is_answer, machine_act, node_actor, node_run, node_run_from}
-use Rattle.node_machine.specs.Node.{NodeAct}
-use Rattle.node_machine.specs.Node.{Seen, seen, seen_by, seen_stream}
+use Rattle.node_machine.specs.Node.{NodeAct, Seen, seen, seen_by, seen_stream}
 use Rattle.node_machine.specs.Premises.{IsAmong, NoNodeReset, PutsBackOwn, ReportsTokens}
 use Rattle.node_machine.specs.Premises.{serials_in, token_put_back}
 use Rattle.node_machine.specs.Readings.{clock_behind, going_on, is_next, is_receipt, last_behind}
@@ -35,12 +33,10 @@ use Rattle.node_machine.proofs.Steps.{node_run_parts, node_step_parts, NodeStepp
 use Rattle.node_machine.proofs.Steps.{actor_found, actor_same, other_same}
 use Rattle.node_machine.proofs.Moves.{IsAnswered, IsBack, IsStamp, IsStill, IsTake, Moves}
 use Rattle.node_machine.proofs.Moves.{node_acted_moves, PartMoves}
-use Rattle.node_machine.proofs.Tokens.{clock_by_answer, clock_by_receive}
-use Rattle.node_machine.proofs.Tokens.{clock_push, last_by_answer, takes_true, tokens_answer}
-use Rattle.node_machine.proofs.Tokens.{tokens_receive}
+use Rattle.node_machine.proofs.Tokens.{clock_by_answer, clock_by_receive, clock_push}
+use Rattle.node_machine.proofs.Tokens.{last_by_answer, takes_true, tokens_answer, tokens_receive}
 use Rattle.node_machine.proofs.Tokens.{last_by_receive, last_by_stamp, last_push, tokens_count}
-use Rattle.node_machine.proofs.Tokens.{tokens_fresh}
-use Rattle.node_machine.proofs.Tokens.{tokens_more, tokens_stamp}
+use Rattle.node_machine.proofs.Tokens.{tokens_fresh, tokens_more, tokens_stamp}
 
 -- WHAT EVENTS TELL
 
@@ -59,7 +55,8 @@ pub record AreTold (es : List Seen) (l : LocalState) : Type 0 where
   pub last : IsHeld es (fresh l.last)
   pub token : (t : Token) → l.token ≡ Some t → IsHeld es t.serial
 
-pub told_same : (es : List Seen) (l m : LocalState) → SameButTraced l m → AreTold es l → AreTold es m
+pub told_same : (es : List Seen) (l m : LocalState) → SameButTraced l m → AreTold es l
+    → AreTold es m
 told_same es l m same told = record {
   reached = subst (λ n. IsReached es n m.last) (sym same.clock)
       (subst (IsReached es l.clock) (sym same.last) told.reached);
@@ -305,7 +302,8 @@ serial_held es (Some r) token =
 module _ (s : State) (a : NodeAct) (o : Outcome) (x : NodeStepped s a o)
     (plain : is_reset (machine_act a) ≡ false) (p : Pid) where
   pub step_moves : pid_eq (node_actor a) p ≡ true
-      → (node_actor a ≡ p → (r : Process) → process s p ≡ Some r → moves_token r (machine_act a) ≡ true
+      → (node_actor a ≡ p → (r : Process) → process s p ≡ Some r
+      → moves_token r (machine_act a) ≡ true
       → IsSome o.report)
       → Moves (token_put_back a) x.before.local x.done.local (seen_by a o)
   step_moves mine tells =

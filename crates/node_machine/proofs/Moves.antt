@@ -26,10 +26,9 @@ use Rattle.st_core.specs.Laws.{moves_token}
 use Rattle.node_machine.specs.Counts.{answer_count, next_clock, stamp_count, node_token}
 use Rattle.node_machine.specs.Counts.{serial_count}
 use Rattle.node_machine.specs.Node.{after_answer, after_stamp, Answer, Common, fresh_token}
-use Rattle.node_machine.specs.Node.{is_answer}
-use Rattle.node_machine.specs.Node.{machine_act, node_acted, node_found, node_stamped_token}
-use Rattle.node_machine.specs.Node.{NodeAct, Seen, seen}
-use Rattle.node_machine.specs.Node.{takes_answer, token_to_set}
+use Rattle.node_machine.specs.Node.{is_answer, machine_act, node_acted, node_found}
+use Rattle.node_machine.specs.Node.{node_stamped_token, NodeAct, Seen, seen, takes_answer}
+use Rattle.node_machine.specs.Node.{token_to_set}
 use Rattle.node_machine.specs.Premises.{token_put_back}
 use Rattle.node_machine.specs.Readings.{is_receipt}
 use Rattle.node_machine.proofs.Counts.{FitsSerial, serial_fits}
@@ -118,7 +117,8 @@ emptied l = record { clock = refl; last = refl; token = λ t is. absurd (none-so
 
 -- STAMPS
 
-module _ (l : LocalState) (k : Kind) (stamps : (e : Event) → e.kind ≡ k → is_receipt (seen false e) ≡ false)
+module _ (l : LocalState) (k : Kind)
+    (stamps : (e : Event) → e.kind ≡ k → is_receipt (seen false e) ≡ false)
     (traced : Bool) (to : Option Pid) (v : ℕ) (p : Pid) where
   made_moves : (t : Token) (b : Bool) → l.token ≡ Some t → (let made : LocalState =
       record l { token = Some (node_stamped_token p l t); clock = next_clock l.clock } in

@@ -1,9 +1,8 @@
 -- Whatever is stamped unreported: a stamp with another prev than the last before it had a token put
 -- back after the reported stamp before it.
 use Rattle.std.proofs.Common.{◌≡◌, ℕ, ◌+◌, ◌⊎◌, ◌&&◌, ◌==◌, ◌≤◌, true, false, cond, List, [], ◌∷◌}
-use Rattle.std.proofs.Common.{◌++◌}
-use Rattle.std.proofs.Common.{Option, Some, None, is_some, option_to_list, inl, inr, refl, arith}
-use Rattle.std.proofs.Common.{sym, ◌∙◌, ap, subst, if◌then◌else◌}
+use Rattle.std.proofs.Common.{◌++◌, Option, Some, None, is_some, option_to_list, inl, inr, refl}
+use Rattle.std.proofs.Common.{arith, sym, ◌∙◌, ap, subst, if◌then◌else◌}
 use Rattle.std.proofs.lemmas.Bool.{eq-eqb}
 use Rattle.st_core.specs.declared.types.Pid.{Pid}
 use Rattle.st_core.specs.declared.types.Token.{Token}
@@ -118,7 +117,8 @@ paid_for s (a ∷ acts) os p spare last h none all now =
     paid_for o.after acts t.others p spare last t.is_rest none.1 tells.1 now in
     let backs = put_backs p acts in
     let some = is_some (token_put_back a) in
-    subst (λ xs. strange_prevs_from last (seen_stream (a ∷ acts) xs p) ≤ put_backs p (a ∷ acts) + spare)
+    subst (λ xs. strange_prevs_from last (seen_stream (a ∷ acts) xs p)
+    ≤ put_backs p (a ∷ acts) + spare)
     (sym t.is_whole)
     (elim (pid_eq (node_actor a) p) as (λ b. pid_eq (node_actor a) p ≡ b
     → strange_prevs_from last ((if b then option_to_list (seen_by a o) else []) ++ tail)

@@ -1,10 +1,9 @@
 -- A stamp that doesn't go on from the counts before it has a put-back between the stamp before it
 -- and itself.
 use Rattle.std.proofs.Common.{◌≡◌, ◌≢◌, ℕ, ◌⊎◌, ◌&&◌, zero, suc, true, false, cond, List, [], ◌∷◌}
-use Rattle.std.proofs.Common.{◌++◌}
-use Rattle.std.proofs.Common.{length, take, Option, Some, None, is_some, option_to_list, inl, inr}
-use Rattle.std.proofs.Common.{refl, sym, ◌∙◌, ap}
-use Rattle.std.proofs.Common.{subst, append_assoc, append-nil, if◌then◌else◌}
+use Rattle.std.proofs.Common.{◌++◌, length, take, Option, Some, None, is_some, option_to_list, inl}
+use Rattle.std.proofs.Common.{inr, refl, sym, ◌∙◌, ap, subst, append_assoc, append-nil}
+use Rattle.std.proofs.Common.{if◌then◌else◌}
 use Rattle.std.specs.List.{slice_get}
 use Rattle.std.proofs.lemmas.Bool.{false≢true}
 use Rattle.std.proofs.lemmas.Option.{same_Some, none-some}
@@ -170,7 +169,8 @@ met_at : (all : List ℕ) (es rest : List Seen) (i : ℕ) (e : Seen) → AreMet 
 met_at all es [] i e are at is needs = absurd (none-some e at)
 met_at all es (d ∷ rest) zero e are at is needs =
     subst (IsMet all) (sym (append-nil es))
-    (subst (λ x. is_receipt x ≡ false → NeedsPutBack es x → IsMet all es) (same_Some d e at) are.0 is
+    (subst (λ x. is_receipt x ≡ false → NeedsPutBack es x → IsMet all es) (same_Some d e at) are.0
+    is
     (subst (λ xs. NeedsPutBack xs e) (append-nil es) needs))
 met_at all es (d ∷ rest) (suc i) e are at is needs =
     subst (IsMet all) (append_assoc es (d ∷ []) (take i rest))
@@ -187,4 +187,5 @@ needs_met pids acts os h none p tells i e at other needs =
     let all = places p [] acts os in
     met_at all [] (seen_stream acts os p) i e
     (met_from all (zero_state pids) acts os p [] (λ n is. is) h none tells
-    (subst (IsCounted all []) (sym (zero_found pids p)) (inl zero_straight))) at (no_receive e other) needs
+    (subst (IsCounted all []) (sym (zero_found pids p)) (inl zero_straight))) at
+    (no_receive e other) needs

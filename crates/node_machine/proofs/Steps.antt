@@ -1,7 +1,6 @@
 -- A step of the node in parts, and what of it reaches each process.
 use Rattle.std.proofs.Common.{◌≡◌, true, false, Bool, cond, List, [], ◌∷◌, ◌++◌, Option, Some, None}
-use Rattle.std.proofs.Common.{option_map}
-use Rattle.std.proofs.Common.{refl, sym, ◌∙◌, ap, subst}
+use Rattle.std.proofs.Common.{option_map, refl, sym, ◌∙◌, ap, subst}
 use Rattle.std.proofs.lemmas.Bool.{false≢true}
 use Rattle.std.proofs.lemmas.Option.{option_and_then_some}
 use Rattle.st_core.specs.declared.types.Pid.{Pid}
@@ -14,8 +13,7 @@ use Rattle.st_core.specs.State.{LocalState, Process, State, process}
 use Rattle.st_core.specs.Step.{Acted, Outcome, actor, changed, outcome_of, reached, receiver}
 use Rattle.st_core.specs.Laws.{is_reset}
 use Rattle.st_core.proofs.ForCallers.{changed_pid, local_found, local_in, mapped, pid_eq-swap}
-use Rattle.st_core.proofs.ForCallers.{pid_same}
-use Rattle.st_core.proofs.ForCallers.{process-map, process_pid}
+use Rattle.st_core.proofs.ForCallers.{pid_same, process-map, process_pid}
 use Rattle.node_machine.specs.Node.{machine_act, NodeAct, node_acted, node_actor, node_run_from}
 use Rattle.node_machine.specs.Node.{node_step}
 
@@ -136,7 +134,8 @@ module _ (s : State) (a : NodeAct) (o : Outcome) (t : NodeStepped s a o)
       subst (λ found. SameButTraced (local_in s p) (local_found found))
       (sym (node_process_after s a o t p))
       (elim (process s p) as (λ found. process s p ≡ found
-      → SameButTraced (local_found found) (local_found (option_map (changed (machine_act a) t.done) found))) [
+      → SameButTraced (local_found found)
+      (local_found (option_map (changed (machine_act a) t.done) found))) [
         | None ↦ λ _. same_but_traced (local_found None)
         | Some r ↦ λ is.
             let apart = ap (λ q. pid_eq q (node_actor a)) (process_pid s p r is)
@@ -152,7 +151,8 @@ module _ (s : State) (a : NodeAct) (o : Outcome) (t : NodeStepped s a o)
   actor_same p mine =
       let is = actor_found p mine in
       let own : pid_eq t.before.pid (node_actor a) ≡ true =
-      ap (λ q. pid_eq q (node_actor a)) (process_pid s p t.before is) ∙ pid_eq-swap p (node_actor a) ∙ mine in
+      ap (λ q. pid_eq q (node_actor a)) (process_pid s p t.before is) ∙ pid_eq-swap p (node_actor a)
+      ∙ mine in
       subst (λ found. SameButTraced t.done.local (local_found found))
       (sym (node_process_after s a o t p ∙ ap (option_map (changed (machine_act a) t.done)) is))
       (changed_same (machine_act a) t.done t.before true plain own)

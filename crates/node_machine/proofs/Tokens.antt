@@ -112,7 +112,8 @@ last_push (d ∷ es) e last = last_push es e (last_by d)
 
 abbrev last_from : Seen → Bool → Bool → ℕ
 last_from e receive answer =
-    cond receive (cond answer (serial_count (answer_count e.serial.this)) e.serial.this) e.serial.prev
+    cond receive (cond answer (serial_count (answer_count e.serial.this)) e.serial.this)
+    e.serial.prev
 
 pub clock_by_receive : (e : Seen) (clock : ℕ) → e.answer ≡ false
     → clock_by e clock ≡ max clock e.serial.this

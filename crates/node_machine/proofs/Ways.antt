@@ -36,7 +36,8 @@ module _ (e : Seen) (rest : List Serial) (more : List ℕ) where
 
   abbrev lasts_as : Bool → Bool → List ℕ
   lasts_as receive answer = cond receive
-      (cond answer (serial_count (answer_count e.serial.this) ∷ []) (e.serial.prev ∷ e.serial.this ∷ []))
+      (cond answer (serial_count (answer_count e.serial.this) ∷ [])
+      (e.serial.prev ∷ e.serial.this ∷ []))
       (e.serial.prev ∷ [])
 
   abbrev HeldAs : Bool → Bool → Serial → Type 0
@@ -45,7 +46,8 @@ module _ (e : Seen) (rest : List Serial) (more : List ℕ) where
 
   shown_held : (receive answer : Bool) (x : Serial) → IsAmong (shown_as receive answer) x
       → HeldAs receive answer x
-  shown_held true true x (inl is) = inr (serial_count (answer_count e.serial.this), inl refl, sym is)
+  shown_held true true x (inl is) =
+      inr (serial_count (answer_count e.serial.this), inl refl, sym is)
   shown_held true true x (inr is) = absurd is
   shown_held true false x (inl is) = inl (inl is)
   shown_held true false x (inr (inl is)) = inr (e.serial.prev, inl refl, sym is)
@@ -177,7 +179,8 @@ lower es e clock count front first (d ∷ back) t split held all clock_is last_i
 -- THE WAYS
 
 put_back_ways : (es : List Seen) (e : Seen) (clock : ℕ) → e.serial.this ≡ stamp_count clock
-    → (way : IsPutBack es clock e.serial.prev) (back : List Seen) → way.back ≡ back → IsInSomeWay es e
+    → (way : IsPutBack es clock e.serial.prev) (back : List Seen) → way.back ≡ back
+    → IsInSomeWay es e
 put_back_ways es e clock count way [] none =
     let prev : e.serial.prev ≡ way.token.prev =
     way.last_is ∙ ap (last_behind way.token.prev) none in

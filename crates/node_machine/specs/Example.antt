@@ -24,7 +24,8 @@ first_token = record {
 
 abbrev pub prints_again : List NodeAct
 prints_again = Common (act.Tracer printer true) ∷ Common (act.Set printer (component.Print true))
-    ∷ Common (act.Print printer 5) ∷ Common (act.Print printer 6) ∷ Common (act.Restore printer first_token)
+    ∷ Common (act.Print printer 5) ∷ Common (act.Print printer 6)
+    ∷ Common (act.Restore printer first_token)
     ∷ Common (act.Print printer 7) ∷ []
 
 -- its tokens are its own

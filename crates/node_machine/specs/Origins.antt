@@ -1,9 +1,8 @@
 -- The origin of a stamp's token in a run of the node, and what the events of its process say of
 -- that.
 use Rattle.std.specs.Prelude.{◌≡◌, ◌⊎◌, ℕ, ◌<◌, ◌≤◌, suc, Bool, true, false, List, [], ◌∷◌, ◌++◌}
-use Rattle.std.specs.Prelude.{length, max, take}
-use Rattle.std.specs.Prelude.{Option, Some, None, if◌then◌else◌, is_some, option_map}
-use Rattle.std.specs.Prelude.{option_to_list, option_and_then, slice_get}
+use Rattle.std.specs.Prelude.{length, max, take, Option, Some, None, if◌then◌else◌, is_some}
+use Rattle.std.specs.Prelude.{option_map, option_to_list, option_and_then, slice_get}
 use Rattle.std.specs.List.{AllByRecursion}
 use Rattle.std.specs.Option.{option_map_or}
 use Rattle.st_core.specs.declared.types.Pid.{Pid}
@@ -58,7 +57,8 @@ pub record IsOwnLabel (front rest : List Seen) (label : Label) : Type 0 where
   pub stamps : StampsFirst label rest
 
 -- a set on no token makes one at home, and so does a set of a label; another set keeps the origin
-abbrev pub AfterSet : List Seen → List Seen → Pid → LocalState → Option Token → Component → TokenOrigin
+abbrev pub AfterSet : List Seen → List Seen → Pid → LocalState → Option Token → Component
+    → TokenOrigin
     → TokenOrigin
     → Type 0
 AfterSet front rest p l None c before now =
@@ -78,7 +78,8 @@ AfterRestore front rest held t now = (x : Held) × IsAmong held x × (x.serial �
 
 -- the origin of the actor's token after its act, if it was this before: the actor, whose record is
 -- r, reported the front events, has these left, and held these tokens
-abbrev pub OriginAfter : List Seen → List Seen → List Held → Process → NodeAct → TokenOrigin → TokenOrigin
+abbrev pub OriginAfter : List Seen → List Seen → List Held → Process → NodeAct → TokenOrigin
+    → TokenOrigin
     → Type 0
 OriginAfter front rest held r (Common (act.Receive p w)) before now =
     now ≡ (if moves_token r (act.Receive p w) then Follows (length front) else before)
@@ -97,7 +98,8 @@ held_in s p h = option_to_list (option_map
 -- after each act of a run from s the origin of p's token is this one. Before s p reported the front
 -- events, held these tokens, and its token had this origin. So p puts back only tokens of its own,
 -- and gives its tokens only labels of its own
-abbrev pub OriginsAre : Pid → List Seen → List Held → TokenOrigin → State → List NodeAct → List Outcome
+abbrev pub OriginsAre : Pid → List Seen → List Held → TokenOrigin → State → List NodeAct
+    → List Outcome
     → List TokenOrigin
     → Type 0
 OriginsAre p front held before s [] os hs = Unit {0}
@@ -105,7 +107,8 @@ OriginsAre p front held before s (a ∷ acts) [] hs = Unit {0}
 OriginsAre p front held before s (a ∷ acts) (o ∷ os) [] = ⊥
 OriginsAre p front held before s (a ∷ acts) (o ∷ os) (now ∷ hs) =
     (node_actor a ≡ p → (r : Process) → process s p ≡ Some r
-    → OriginAfter front (seen_stream (a ∷ acts) (o ∷ os) p) (held ++ held_in s p before) r a before now)
+    → OriginAfter front (seen_stream (a ∷ acts) (o ∷ os) p) (held ++ held_in s p before) r a before
+    now)
     × (pid_eq (node_actor a) p ≡ false → now ≡ before)
     × OriginsAre p (front ++ told_by p a o) (held ++ held_in s p before) now o.after acts os hs
 

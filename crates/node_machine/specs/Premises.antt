@@ -1,8 +1,7 @@
 -- The premises on a run under which its streams tell of the tokens of a process.
 use Rattle.std.specs.Prelude.{◌≡◌, ◌⊎◌, ℕ, ◌+◌, Bool, true, false, ◌&&◌, List, [], ◌∷◌, ◌++◌}
-use Rattle.std.specs.Prelude.{length, Option, Some, None}
-use Rattle.std.specs.Prelude.{if◌then◌else◌, is_some, IsSome, option_map, option_to_list}
-use Rattle.std.specs.Prelude.{count_by, option_and_then}
+use Rattle.std.specs.Prelude.{length, Option, Some, None, if◌then◌else◌, is_some, IsSome}
+use Rattle.std.specs.Prelude.{option_map, option_to_list, count_by, option_and_then}
 use Rattle.std.specs.List.{AllByRecursion}
 use Rattle.st_core.specs.declared.types.Pid.{Pid}
 use Rattle.st_core.specs.declared.types.Serial.{Serial}
@@ -30,7 +29,8 @@ abbrev pub ReportsTokens : Pid → State → List NodeAct → List Outcome → T
 ReportsTokens p s [] os = Unit {0}
 ReportsTokens p s (a ∷ rest) [] = Unit {0}
 ReportsTokens p s (a ∷ rest) (o ∷ os) =
-    (node_actor a ≡ p → (r : Process) → process s p ≡ Some r → moves_token r (machine_act a) ≡ true → IsSome o.report)
+    (node_actor a ≡ p → (r : Process) → process s p ≡ Some r → moves_token r (machine_act a) ≡ true
+    → IsSome o.report)
     × ReportsTokens p o.after rest os
 
 -- the token that an act puts back

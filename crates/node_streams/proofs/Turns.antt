@@ -1,8 +1,7 @@
 -- Follows what a turn does to the counts of the walk, and processes that are listed before.
 use Rattle.std.proofs.Common.{◌≡◌, ℕ, ◌+◌, ◌-◌, ◌≤◌, ◌<◌, ◌==◌, ◌&&◌, ◌||◌, zero, suc, cond, Bool}
-use Rattle.std.proofs.Common.{true, false, List, [], ◌∷◌, ◌++◌}
-use Rattle.std.proofs.Common.{length, take, Option, Some, None, Result, Ok, Err, OnOk, refl, arith}
-use Rattle.std.proofs.Common.{sym, ◌∙◌, ap, subst}
+use Rattle.std.proofs.Common.{true, false, List, [], ◌∷◌, ◌++◌, length, take, Option, Some, None}
+use Rattle.std.proofs.Common.{Result, Ok, Err, OnOk, refl, arith, sym, ◌∙◌, ap, subst}
 use Rattle.std.specs.HashMap.{get}
 use Rattle.std.specs.Option.{option_map_or, unwrap_or}
 use Rattle.std.specs.List.{count_by, find, slice_get, sum_by}
@@ -191,15 +190,18 @@ one_done w u p {more} is now q = ap (λ o. unwrap_or o 0) (now q) ∙
       | false ↦ λ _. sym (add_zero (done_in w q))
     ]) refl
 
-pub none_received : (e : Event) (r : Counter) → kind_eq e.kind kind.Receive ≡ false → (c : MessageContent)
+pub none_received : (e : Event) (r : Counter) → kind_eq e.kind kind.Receive ≡ false
+    → (c : MessageContent)
     → count_in r c ≡ count_in r c + cond (tells kind.Receive c e) 1 0
 none_received e r other c = sym
     (ap (λ b. count_in r c + cond (b && content_eq (content_of e) c) 1 0) other
     ∙ add_zero (count_in r c))
 
-pub one_received : (e : Event) (d : MessageContent) (r s : Counter) → kind_eq e.kind kind.Receive ≡ true
+pub one_received : (e : Event) (d : MessageContent) (r s : Counter)
+    → kind_eq e.kind kind.Receive ≡ true
     → d ≡ content_of e
-    → ((c : MessageContent) → count_in s c ≡ count_in r c + cond (content_eq d c) 1 0) → (c : MessageContent)
+    → ((c : MessageContent) → count_in s c ≡ count_in r c + cond (content_eq d c) 1 0)
+    → (c : MessageContent)
     → count_in s c ≡ count_in r c + cond (tells kind.Receive c e) 1 0
 one_received e d r s is of now c = now c
     ∙ ap (λ x. count_in r c + cond (content_eq x c) 1 0) of

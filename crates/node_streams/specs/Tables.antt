@@ -27,11 +27,13 @@ count_in counter c = unwrap_or (get content_eq counter.counts c) 0
 
 -- the counter has the receives among these events
 abbrev pub AreReceived : List Event → Counter → Type 0
-AreReceived es counter = (c : MessageContent) → count_in counter c ≡ count_by (tells kind.Receive c) es
+AreReceived es counter = (c : MessageContent)
+    → count_in counter c ≡ count_by (tells kind.Receive c) es
 
 -- the table has the sends of these events of each process
 pub record AreSends (told : Pid → List Event) (t : Sends) : Type 0 where
-  pub counts : (c : MessageContent) → count_in t.counter c ≡ count_by (tells kind.Send c) (told c.from)
+  pub counts : (c : MessageContent)
+      → count_in t.counter c ≡ count_by (tells kind.Send c) (told c.from)
   pub places : (c : MessageContent) (n : ℕ)
       → get numbered_eq t.places (c, n) ≡ nth (tells kind.Send c) n (told c.from)
 

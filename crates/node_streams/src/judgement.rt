@@ -11,7 +11,8 @@ use crate::sends::Sends;
 use st_core::{Pid, Streams};
 use std::alloc::{AllocError, Global};
 
-/// The findings about the messages of streams. A place is a process and the index of one of its events.
+/// The findings about the messages of streams. A place is a process and the index of one of its
+/// events.
 #[derive(Drop)]
 pub struct Judgement {
     /// The receives of messages of which no send is left, in the order of the text: as many alike

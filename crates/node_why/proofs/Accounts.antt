@@ -1,9 +1,10 @@
 -- Whatever a process reported, its events up to an act are those up to the origin's act and then
 -- sends and prints with the prev that the origin gave, since nothing else changes its last. This
 -- holds at the start, and each act keeps it.
-use Rattle.std.proofs.Common.{◌≡◌, ◌≢◌, ℕ, ◌<◌, ◌≤◌, zero, suc, true, false, List, [], ◌∷◌, ◌++◌, take, drop, Option}
-use Rattle.std.proofs.Common.{Some, None, option_map, option_and_then, option_to_list, All, refl, sym, ◌∙◌, ap, subst}
-use Rattle.std.proofs.Common.{arith, append_assoc, append-nil, if◌then◌else◌}
+use Rattle.std.proofs.Common.{◌≡◌, ◌≢◌, ℕ, ◌<◌, ◌≤◌, zero, suc, true, false, List, [], ◌∷◌, ◌++◌}
+use Rattle.std.proofs.Common.{take, drop, Option, Some, None, option_map, option_and_then}
+use Rattle.std.proofs.Common.{option_to_list, All, refl, sym, ◌∙◌, ap, subst, arith, append_assoc}
+use Rattle.std.proofs.Common.{append-nil, if◌then◌else◌}
 use Rattle.std.specs.List.{slice_get}
 use Rattle.std.proofs.lemmas.Option.{same_Some, none-some}
 use Rattle.st_core.specs.declared.types.Pid.{Pid}
@@ -19,7 +20,8 @@ use Rattle.st_core.proofs.ForCallers.{All_at, all_at, greatest_push, pid_same, p
 use Rattle.st_core.proofs.ForCallers.{process_after, process_holds, process_pid, run_parts}
 use Rattle.st_core.proofs.ForCallers.{run_sound, step_parts, Stepped, zero_sound, zero_found}
 use Rattle.st_core.proofs.ForCallers.{local_found, local_in}
-use Rattle.node_why.specs.Origin.{Origin, Follows, Begins, given, given_by, given_to, origin, state_before}
+use Rattle.node_why.specs.Origin.{Origin, Follows, Begins, given, given_by, given_to, origin}
+use Rattle.node_why.specs.Origin.{state_before}
 use Rattle.node_why.proofs.Acts.{acted_changes, changed_same, Changes, SameButTraced, KeepsLast}
 use Rattle.node_why.proofs.RowLemmas.{AreInRow, stamp_in_row}
 

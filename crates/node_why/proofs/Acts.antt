@@ -1,6 +1,7 @@
 -- An act changes its actor's last only by what it gives, a receive of a token to the token's count
 -- and a set on no token to the clock, and what it reports goes with that.
-use Rattle.std.proofs.Common.{◌≡◌, ◌≢◌, ℕ, ◌+◌, ◌<◌, ◌≤◌, ◌&&◌, max, Bool, true, false, cond, nat_lt, ◌∷◌, ◌++◌, Option}
+use Rattle.std.proofs.Common.{◌≡◌, ◌≢◌, ℕ, ◌+◌, ◌<◌, ◌≤◌, ◌&&◌, max, Bool, true, false, cond}
+use Rattle.std.proofs.Common.{nat_lt, ◌∷◌, ◌++◌, Option}
 use Rattle.std.proofs.Common.{Some, None, is_some, option_map, refl, sym, subst, arith, []}
 use Rattle.std.specs.Prelude.{is_none}
 use Rattle.std.specs.Option.{ForSome, option_map_or}
@@ -24,7 +25,8 @@ use Rattle.st_core.specs.Stamp.{stamp, stamp_any, stamped_token}
 use Rattle.st_core.specs.Local.{default_token, has_label, with_component}
 use Rattle.st_core.specs.Pick.{pick}
 use Rattle.st_core.specs.Report.{flag_of, report, token_event}
-use Rattle.st_core.specs.Step.{Acted, acted, actor, answers, sends, prints, receives, reached, changed}
+use Rattle.st_core.specs.Step.{Acted, acted, actor, answers, sends, prints, receives, reached}
+use Rattle.st_core.specs.Step.{changed}
 use Rattle.st_core.specs.Laws.{is_reset, IsSound, IsStamped}
 use Rattle.st_core.proofs.ForCallers.{All_at, pick_found}
 use Rattle.node_why.specs.Origin.{Origin, Follows, Begins, given_by}

@@ -2,9 +2,10 @@
 -- names it as it names its send. A stamp, since the receive that its hop names is directly before
 -- its row, so that the stamp is in the row after that receive; and the row of a stamp in it goes
 -- back to the receive.
-use Rattle.std.proofs.Common.{◌≡◌, ℕ, ◌+◌, ◌-◌, ◌≤◌, ◌==◌, ◌||◌, zero, suc, Bool, true, false, cond, List, [], ◌∷◌}
-use Rattle.std.proofs.Common.{◌++◌, take, drop, Option, Some, None, option_and_then, slice_get, get_or, option_to_list}
-use Rattle.std.proofs.Common.{inl, inr, refl, sym, ◌∙◌, ap, subst, arith}
+use Rattle.std.proofs.Common.{◌≡◌, ℕ, ◌+◌, ◌-◌, ◌≤◌, ◌==◌, ◌||◌, zero, suc, Bool, true, false, cond}
+use Rattle.std.proofs.Common.{List, [], ◌∷◌, ◌++◌, take, drop, Option, Some, None, option_and_then}
+use Rattle.std.proofs.Common.{slice_get, get_or, option_to_list, inl, inr, refl, sym, ◌∙◌, ap}
+use Rattle.std.proofs.Common.{subst, arith}
 use Rattle.std.specs.Prelude.{not}
 use Rattle.std.specs.List.{prefix_len}
 use Rattle.std.proofs.lemmas.Bool.{and_from, and_parts, cases_order, eq-eqb, eqb-true, false≢true}
@@ -21,13 +22,14 @@ use Rattle.st_pair.specs.declared.answer.Source.{Source}
 use Rattle.st_pair.specs.declared.answer.Source.TheVariants as source
 use Rattle.st_pair.specs.Places.{event_at, is_stamp}
 use Rattle.st_pair.specs.Pairing.{is_send, receive_of, receiver_at, refusal, source_at, source_of}
-use Rattle.st_pair.proofs.ForCallers.{at_get_or, blank, paired, receiver_from_source, source_from_receiver}
+use Rattle.st_pair.proofs.ForCallers.{at_get_or, blank, paired, receiver_from_source}
+use Rattle.st_pair.proofs.ForCallers.{source_from_receiver}
 use Rattle.node_why.specs.declared.evidence.Evidence.{Evidence}
 use Rattle.node_why.specs.declared.evidence.Evidence.TheVariants as what
 use Rattle.node_why.specs.Events.{has_above, in_row, is_receive, receive_before, row_start}
 use Rattle.node_why.specs.Events.{origin_evidence, origin_evidence_by}
-use Rattle.node_why.proofs.RowLemmas.{IsReceivedBefore, IsRowBetween, received_at, received_is, row_between}
-use Rattle.node_why.proofs.RowLemmas.{row_passes, row_start_within, row_stops}
+use Rattle.node_why.proofs.RowLemmas.{IsReceivedBefore, IsRowBetween, received_at, received_is}
+use Rattle.node_why.proofs.RowLemmas.{row_between, row_passes, row_start_within, row_stops}
 use Rattle.node_why.specs.declared.hop.Hop.{Hop}
 use Rattle.node_why.specs.declared.hop.Hop.TheVariants as hop
 use Rattle.node_why.specs.Hops.{hop_by, hop_by_label, hop_of, hop_to_send, label_at_or}

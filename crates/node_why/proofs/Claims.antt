@@ -1,8 +1,9 @@
 -- The claim of a hop is true: for a receive, since its count names the send that it took, whether
 -- that was reported or not; for a stamp, since its process's events tell the truth about its
 -- origin, and the receive directly before its row is the last one.
-use Rattle.std.proofs.Common.{◌≡◌, ◌≢◌, ℕ, ◌+◌, ◌==◌, ◌&&◌, ◌⊎◌, Bool, true, false, cond, List, [], length}
-use Rattle.std.proofs.Common.{take, Option, Some, None, option_and_then, inl, inr, refl, sym, ◌∙◌, ap, subst}
+use Rattle.std.proofs.Common.{◌≡◌, ◌≢◌, ℕ, ◌+◌, ◌==◌, ◌&&◌, ◌⊎◌, Bool, true, false, cond, List, []}
+use Rattle.std.proofs.Common.{length, take, Option, Some, None, option_and_then, inl, inr, refl}
+use Rattle.std.proofs.Common.{sym, ◌∙◌, ap, subst}
 use Rattle.std.specs.List.{slice_get}
 use Rattle.std.proofs.lemmas.Bool.{and_from, and_parts, eq-eqb, eqb-true, false≢true}
 use Rattle.std.proofs.lemmas.Option.{same_Some, none-some, cond_some}
@@ -16,23 +17,23 @@ use Rattle.st_core.specs.Step.{Outcome}
 use Rattle.st_core.specs.Run.{Shows, Stream, pids_of, run, stream}
 use Rattle.st_core.specs.Streams.{events_of}
 use Rattle.st_core.specs.Laws.{NoReset, Reports, ReportsEvent}
-use Rattle.st_core.proofs.ForCallers.{event_reported}
-use Rattle.st_core.proofs.ForCallers.{report_told, reported_sends_agree}
+use Rattle.st_core.proofs.ForCallers.{event_reported, report_told, reported_sends_agree}
 use Rattle.st_pair.specs.declared.answer.Source.TheVariants as source
 use Rattle.st_pair.specs.Places.{event_at, is_stamp}
 use Rattle.st_pair.specs.Pairing.{source_of, stamp_of}
-use Rattle.st_pair.proofs.ForCallers.{from_listed, from_none, given_from, IsTaken, listed_if, own_rule, shown_events}
+use Rattle.st_pair.proofs.ForCallers.{from_listed, from_none, given_from, IsTaken, listed_if}
+use Rattle.st_pair.proofs.ForCallers.{own_rule, shown_events}
 use Rattle.st_pair.proofs.ForCallers.{source_from, stamp_at, stamp_not_received, taken}
 use Rattle.node_why.specs.declared.evidence.Evidence.{Evidence}
 use Rattle.node_why.specs.declared.evidence.Evidence.TheVariants as what
-use Rattle.node_why.specs.Events.{has_above, receive_before, row_start, origin_evidence, origin_evidence_by}
+use Rattle.node_why.specs.Events.{has_above, receive_before, row_start, origin_evidence}
+use Rattle.node_why.specs.Events.{origin_evidence_by}
 use Rattle.node_why.specs.Labels.{SetsLabelBetween}
 use Rattle.node_why.specs.Origin.{Origin, Begins, Follows, ReportsReceives, origin}
 use Rattle.node_why.specs.Truth.{BeginsAfter, FollowsEvent, IsTrue, IsTrueIfReported}
 use Rattle.node_why.proofs.Labels.{another_label_set}
 use Rattle.node_why.proofs.RowLemmas.{last_of_row, received_is}
-use Rattle.node_why.proofs.Truths.{one_label_follows, sends_told}
-use Rattle.node_why.proofs.Truths.{told_true, told_true_if_reported}
+use Rattle.node_why.proofs.Truths.{one_label_follows, sends_told, told_true, told_true_if_reported}
 use Rattle.node_why.specs.declared.hop.Hop.{Hop}
 use Rattle.node_why.specs.declared.hop.Hop.TheVariants as hop
 use Rattle.node_why.specs.Hops.{hop_by, hop_by_label, hop_of, hop_to_send, label_at_or, premises_of}
@@ -99,7 +100,8 @@ module _ (top : ℕ) (streams : List Stream) (acts : List Act) (shows : Shows to
             report = told;
           } in
           let j = length (stream (take s acts) (take s os) q) in
-          let events = shown_events streams acts os q shows.2 (from_listed top streams acts shows p n e r.reports) in
+          let events = shown_events streams acts os q shows.2
+          (from_listed top streams acts shows p n e r.reports) in
           let there : event_at streams q j ≡ Some f =
           ap (λ es. slice_get es j) events ∙ report_told acts os q s f reports in
           let count : f.serial.this ≡ e.serial.this = ap (λ (y : Event). y.serial.this) same in

@@ -3,9 +3,11 @@
 -- definitions alone.
 
 -- ---- evidence
-pub use Rattle.node_why.proofs.Truths.{told_true, told_true_if_reported, one_label_follows, sends_told}
+pub use Rattle.node_why.proofs.Truths.{told_true, told_true_if_reported, one_label_follows}
+pub use Rattle.node_why.proofs.Truths.{sends_told}
 -- ---- labels
 pub use Rattle.node_why.proofs.Labels.{another_label_set}
 -- ---- rows
-pub use Rattle.node_why.proofs.RowLemmas.{IsReceivedBefore, received_is, last_of_row, row_between, row_start_within}
+pub use Rattle.node_why.proofs.RowLemmas.{IsReceivedBefore, received_is, last_of_row, row_between}
+pub use Rattle.node_why.proofs.RowLemmas.{row_start_within}
 pub use Rattle.node_why.proofs.RowLemmas.{IsRowBetween, received_at, row_passes, row_stops}

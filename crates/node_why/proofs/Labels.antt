@@ -31,7 +31,8 @@ use Rattle.st_core.specs.Run.{run}
 use Rattle.st_core.specs.Step.{Acted, Outcome, acted, actor, answers, prints, receives, sends}
 use Rattle.st_core.specs.Laws.{NoReset, Reports}
 use Rattle.st_core.proofs.ForCallers.{pid_eq-refl, pid_same, step_parts, local_found, local_in}
-use Rattle.node_why.specs.Origin.{Origin, Follows, Begins, given, given_by, given_to, origin, state_before}
+use Rattle.node_why.specs.Origin.{Origin, Follows, Begins, given, given_by, given_to, origin}
+use Rattle.node_why.specs.Origin.{state_before}
 use Rattle.node_why.specs.Labels.{SetsLabelBetween, label_set}
 use Rattle.node_why.proofs.Accounts.{actor_same, earlier_there, here, other_same, plain}
 use Rattle.node_why.proofs.Truths.{number_given}

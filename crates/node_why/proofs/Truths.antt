@@ -1,8 +1,9 @@
 -- Events tell the truth about a stamp's origin, by the account of its process: the row goes back to
 -- the origin's act at least, and no further than a receive that was reported.
-use Rattle.std.proofs.Common.{◌≡◌, ◌≢◌, ℕ, ◌+◌, ◌<◌, ◌≤◌, ◌⊎◌, ◌==◌, zero, suc, Bool, true, false, cond, List, [], ◌∷◌}
-use Rattle.std.proofs.Common.{◌++◌, length, take, drop, Option, Some, None, option_and_then, option_to_list, inl, inr}
-use Rattle.std.proofs.Common.{refl, sym, ◌∙◌, ap, subst, arith, append_assoc}
+use Rattle.std.proofs.Common.{◌≡◌, ◌≢◌, ℕ, ◌+◌, ◌<◌, ◌≤◌, ◌⊎◌, ◌==◌, zero, suc, Bool, true, false}
+use Rattle.std.proofs.Common.{cond, List, [], ◌∷◌, ◌++◌, length, take, drop, Option, Some, None}
+use Rattle.std.proofs.Common.{option_and_then, option_to_list, inl, inr, refl, sym, ◌∙◌, ap, subst}
+use Rattle.std.proofs.Common.{arith, append_assoc}
 use Rattle.std.specs.Prelude.{is_none, MatchOption}
 use Rattle.std.specs.List.{slice_get}
 use Rattle.std.proofs.lemmas.Bool.{eq-eqb, ne_eqb, false≢true}
@@ -24,14 +25,16 @@ use Rattle.node_why.specs.declared.evidence.Evidence.{Evidence}
 use Rattle.node_why.specs.declared.evidence.Evidence.TheVariants as what
 use Rattle.node_why.specs.Origin.{Origin, Follows, Begins, given, given_by, given_to, origin}
 use Rattle.node_why.specs.Origin.{ReportsReceives, state_before}
-use Rattle.node_why.specs.Events.{has_above, receive_before, row_start, origin_evidence, origin_evidence_by}
-use Rattle.node_why.specs.Truth.{BeginsAfter, FollowsEvent, FollowsUnreported, IsBeginning, IsTrue, IsTrueIfReported}
-use Rattle.node_why.specs.Truth.{IsUnreported, last_receive, NeverBeginsAgain}
-use Rattle.node_why.proofs.RowLemmas.{AreInRow, event_behind, front_not_above, IsRowBetween, last_earlier, last_is}
-use Rattle.node_why.proofs.RowLemmas.{last_passes, not_above, receive_is, received_at, received_earlier, row_behind}
-use Rattle.node_why.proofs.RowLemmas.{row_passes, row_start_within, row_stops}
-use Rattle.node_why.proofs.Accounts.{Accounts, front, front_and_rest, OfBeginning, OfNothing, OfReceive, reported}
-use Rattle.node_why.proofs.Accounts.{stamp_accounted}
+use Rattle.node_why.specs.Events.{has_above, receive_before, row_start, origin_evidence}
+use Rattle.node_why.specs.Events.{origin_evidence_by}
+use Rattle.node_why.specs.Truth.{BeginsAfter, FollowsEvent, FollowsUnreported, IsBeginning, IsTrue}
+use Rattle.node_why.specs.Truth.{IsTrueIfReported, IsUnreported, last_receive, NeverBeginsAgain}
+use Rattle.node_why.proofs.RowLemmas.{AreInRow, event_behind, front_not_above, IsRowBetween}
+use Rattle.node_why.proofs.RowLemmas.{last_earlier, last_is, last_passes, not_above, receive_is}
+use Rattle.node_why.proofs.RowLemmas.{received_at, received_earlier, row_behind, row_passes}
+use Rattle.node_why.proofs.RowLemmas.{row_start_within, row_stops}
+use Rattle.node_why.proofs.Accounts.{Accounts, front, front_and_rest, OfBeginning, OfNothing}
+use Rattle.node_why.proofs.Accounts.{OfReceive, reported, stamp_accounted}
 
 -- WHAT STANDS BETWEEN THE ORIGIN AND THE STAMP
 

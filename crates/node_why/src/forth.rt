@@ -1,7 +1,7 @@
 //! The tree of all events that lead back to one.
 
-ghost use Rattle.std.specs.Prelude.{◌≡◌, ◌==◌, ◌||◌, ◌+◌, ◌<◌, ◌^◌, ◌++◌, IfOk, OnOk, length, map, reverse};
-ghost use Rattle.std.specs.Prelude.{option_to_list};
+ghost use Rattle.std.specs.Prelude.{◌≡◌, ◌==◌, ◌||◌, ◌+◌, ◌<◌, ◌^◌, ◌++◌, IfOk, OnOk, length, map};
+ghost use Rattle.std.specs.Prelude.{reverse, option_to_list};
 ghost use Rattle.node_why.specs.Tree.{children, places_of, row_ahead, tree};
 ghost use Rattle.node_why.specs.Way.{node};
 

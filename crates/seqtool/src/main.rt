@@ -1,5 +1,5 @@
-//! The program `seqtool`: the commands that read more than `seqaudit` does, and those on what a trace
-//! lacks and what an event follows.
+//! The program `seqtool`: the commands that read more than `seqaudit` does, and those on what a
+//! trace lacks and what an event follows.
 //!
 //! It only joins `seqtool_commands` to the outside: what it writes and returns is said there, by
 //! `read_words` and `run`.

@@ -1,5 +1,5 @@
--- The definitions of the command line say what is meant: here they are computed on worked lines, each
--- with the task and the file that it asks for, whatever the program's name.
+-- The definitions of the command line say what is meant: here they are computed on worked lines,
+-- each with the task and the file that it asks for, whatever the program's name.
 use Rattle.std.proofs.Common.{◌≡◌, List, [], ◌∷◌, codes, map, refl}
 use Rattle.std.specs.Prelude.{Option, Some, None}
 use Rattle.std.specs.Fmt.{digits}

@@ -1,8 +1,8 @@
 -- A text is its parts, one after the other. Each text begins with a line, so none is empty; and
 -- what was told has no line.
-use Rattle.std.proofs.Common.{◌≡◌, ℕ, zero, suc, ◌+◌, ◌<◌, Bool, true, false, List, [], ◌∷◌, ◌++◌, length, map}
-use Rattle.std.proofs.Common.{Some, refl, sym, ◌∙◌, ap, arith, append_assoc, codes, decimal, if◌then◌else◌}
-use Rattle.std.proofs.Common.{subst, Result, Ok, Err}
+use Rattle.std.proofs.Common.{◌≡◌, ℕ, zero, suc, ◌+◌, ◌<◌, Bool, true, false, List, [], ◌∷◌, ◌++◌}
+use Rattle.std.proofs.Common.{length, map, Some, refl, sym, ◌∙◌, ap, arith, append_assoc, codes}
+use Rattle.std.proofs.Common.{decimal, if◌then◌else◌, subst, Result, Ok, Err}
 use Rattle.std.specs.Prelude.{get_or, option_map, slice_get}
 use Rattle.std.specs.List.{flat_map}
 use Rattle.std.specs.Result.{IsErr, OnOk}
@@ -25,7 +25,8 @@ use Rattle.st_text.proofs.ForCallers.{finishes, front_some, line_some}
 use Rattle.st_chart.specs.Words.{place_words}
 use Rattle.st_chart.specs.Report.{event_line, place_line}
 use Rattle.seqtool_commands.specs.Complete.{added_from, added_text, never_text}
-use Rattle.seqtool_commands.specs.Lines.{added_at, added_line, added_of, added_parts, count_line, if_untold, never_line}
+use Rattle.seqtool_commands.specs.Lines.{added_at, added_line, added_of, added_parts, count_line}
+use Rattle.seqtool_commands.specs.Lines.{if_untold, never_line}
 use Rattle.seqtool_commands.specs.Lines.{never_parts, never_words, other_line, unlisted_line, up_to}
 
 -- THE PARTS OF A TEXT
@@ -78,7 +79,8 @@ lines_from p k [] = refl
 lines_from p k (m ∷ ms) =
     let n = length (map (λ (x : Marked). x.event) ms) in
     let here : k + 0 ≡ k = omega arith in
-    let first : line_at p k (m ∷ ms) 0 ≡ (if m.told then [] else place_line (codes "added ") p k (Some m.event)) =
+    let first : line_at p k (m ∷ ms) 0
+    ≡ (if m.told then [] else place_line (codes "added ") p k (Some m.event)) =
     untold_if m.told (place_line (codes "added ") p (k + 0) (Some m.event))
     ∙ ap (λ j. if m.told then [] else place_line (codes "added ") p j (Some m.event)) here in
     front_first (line_at p k (m ∷ ms)) n
@@ -88,7 +90,8 @@ lines_from p k (m ∷ ms) =
     ∙ ap (λ t. (if m.told then [] else place_line (codes "added ") p k (Some m.event)) ++ t)
     (lines_from p (k + 1) ms)
 
-added_here : (wholes : List Whole) (p : Pid) → added_of wholes p ≡ added_from p 0 (marked_of wholes p)
+added_here : (wholes : List Whole) (p : Pid)
+    → added_of wholes p ≡ added_from p 0 (marked_of wholes p)
 added_here wholes p =
     let ms = marked_of wholes p in
     let first : (i : ℕ) → added_at wholes p i ≡ line_at p 0 ms i = λ i.
@@ -123,7 +126,8 @@ never_same streams p i (never.Late j) = refl
 never_same streams p i never.Unfounded = refl
 never_same streams p i never.TooHigh = refl
 
-pub never_some : (streams : List Stream) (p : Pid) (i : ℕ) (r : Never) → 0 < length (never_parts streams p i r)
+pub never_some : (streams : List Stream) (p : Pid) (i : ℕ) (r : Never)
+    → 0 < length (never_parts streams p i r)
 never_some streams p i r =
     front_some (never_line p i r ++ event_line streams p i) (other_line streams p r)
     (front_some (never_line p i r) (event_line streams p i)
@@ -150,6 +154,7 @@ line_in wholes p es marks i are is =
     (place_line (codes "added ") p i (event_at (all_streams wholes) p i))) is
 
 -- with no process that isn't listed, the streams stay as they are
-pub as_they_are : (streams : List Stream) (qs : List Pid) → length qs ≡ 0 → streams ≡ with_silent streams qs
+pub as_they_are : (streams : List Stream) (qs : List Pid) → length qs ≡ 0
+    → streams ≡ with_silent streams qs
 as_they_are streams [] e = refl
 as_they_are streams (q ∷ qs) e = absurd (omega arith)

@@ -9,14 +9,17 @@ use Rattle.st_commands.proofs.ForCallers.{WasRead}
 use Rattle.seqtool_commands.specs.Renumber.{IsRenumbered, Ranked, streams_output}
 use Rattle.seqtool_commands.specs.declared.complete.Form.{Form}
 use Rattle.seqtool_commands.specs.Complete.{uncompleted, Answered, IsOutputOfComplete, Uncompleted}
-use Rattle.seqtool_commands.specs.Parts.{CompletesTo, Finds, FindsNone, NoRoomToComplete, RenumbersTo, Ranks, NoRoomToRenumber}
+use Rattle.seqtool_commands.specs.Parts.{CompletesTo, Finds, FindsNone, NoRoomToComplete}
+use Rattle.seqtool_commands.specs.Parts.{RenumbersTo, Ranks, NoRoomToRenumber}
 
 module _ {R : Type 0} (reader : ReaderCall R) (c : Contents) (h : WasRead greater reader c) where
   -- ---- renumber
 
-  pub owes_renumber : (out : Output) → RenumbersTo c.streams out → Owes greater reader IsRenumbered out
+  pub owes_renumber : (out : Output) → RenumbersTo c.streams out
+      → Owes greater reader IsRenumbered out
   owes_renumber out Ranks =
-      OfBytes h.bytes (streams_output (renumbered_streams c.streams)) h.all (Ranked h.bytes c.streams c.acts h.spelled)
+      OfBytes h.bytes (streams_output (renumbered_streams c.streams)) h.all
+      (Ranked h.bytes c.streams c.acts h.spelled)
   owes_renumber out NoRoomToRenumber = ForMemory h.bytes h.all h.small
 
   -- ---- complete
@@ -25,7 +28,8 @@ module _ {R : Type 0} (reader : ReaderCall R) (c : Contents) (h : WasRead greate
       → Owes greater reader (IsOutputOfComplete f) out
   owes_complete f out (Finds found o is answers) =
       OfBytes h.bytes o h.all
-      (Answered h.bytes c.streams found o (record { given = c.acts; spelled = h.spelled; is = is }) answers)
+      (Answered h.bytes c.streams found o (record { given = c.acts; spelled = h.spelled; is = is })
+      answers)
   owes_complete f out (FindsNone none) =
       OfBytes h.bytes uncompleted h.all (Uncompleted h.bytes c.streams c.acts h.spelled none)
   owes_complete f out NoRoomToComplete = ForMemory h.bytes h.all h.small

@@ -1,8 +1,8 @@
 -- The lines after the header are those of each process in order, so the line of an event is found
 -- by passing the processes before it. The lines of acts are no event's.
-use Rattle.std.proofs.Common.{◌≡◌, ℕ, ◌+◌, ◌-◌, ◌<◌, ◌≤◌, zero, suc, nat_lt, true, false, cond, List, [], ◌∷◌, ◌++◌}
-use Rattle.std.proofs.Common.{length, map, Option, Some, None, slice_get, refl, sym, ◌∙◌, ap, arith, append_assoc, inl}
-use Rattle.std.proofs.Common.{inr}
+use Rattle.std.proofs.Common.{◌≡◌, ℕ, ◌+◌, ◌-◌, ◌<◌, ◌≤◌, zero, suc, nat_lt, true, false, cond}
+use Rattle.std.proofs.Common.{List, [], ◌∷◌, ◌++◌, length, map, Option, Some, None, slice_get, refl}
+use Rattle.std.proofs.Common.{sym, ◌∙◌, ap, arith, append_assoc, inl, inr}
 use Rattle.std.specs.List.{flat_map, list_any}
 use Rattle.std.proofs.lemmas.Bool.{cases_lt, lt-ltb}
 use Rattle.std.proofs.lemmas.Option.{same_Some, none-some, slice_get_within}
@@ -17,7 +17,8 @@ use Rattle.st_pair.proofs.ForCallers.{events_in}
 use Rattle.st_text.specs.declared.line.Line.{Line}
 use Rattle.st_text.specs.declared.line.Line.TheVariants as lines
 use Rattle.st_text.specs.Text.{Contents, act_lines, body, is_remote, lines_of, process_lines}
-use Rattle.seqtool_commands.specs.LineNumbers.{act_line_number_of, line_behind, line_from, line_number_of}
+use Rattle.seqtool_commands.specs.LineNumbers.{act_line_number_of, line_behind, line_from}
+use Rattle.seqtool_commands.specs.LineNumbers.{line_number_of}
 
 abbrev event_lines : List Event → List Line
 event_lines es = map lines.Event es

@@ -1,5 +1,5 @@
--- A status belongs to one kind of output: 0 to a completion, 1 to a reason, 5 to a completion that is too
--- long. So an output with it tells the rest.
+-- A status belongs to one kind of output: 0 to a completion, 1 to a reason, 5 to a completion that
+-- is too long. So an output with it tells the rest.
 use Rattle.std.proofs.Common.{◌≡◌, ◌≤◌, ℕ, List, refl, sym, ap, arith}
 use Rattle.st_core.specs.Run.{Stream}
 use Rattle.st_text.specs.declared.fault.ReadFault.{ReadFault}
@@ -12,11 +12,13 @@ use Rattle.lack_decide.specs.declared.answer.Never.{Never}
 use Rattle.lack_decide.specs.declared.answer.Answer.{Answer}
 use Rattle.lack_decide.specs.Answers.{IsFinal, NeverShownWithOthers}
 use Rattle.seqtool_commands.specs.declared.complete.Form.{Form}
-use Rattle.seqtool_commands.specs.Complete.{Adds, Answered, Answers, Certifies, Completes, Faulty, HasAnswer}
-use Rattle.seqtool_commands.specs.Complete.{IsOutputOfComplete, IsLong, IsNever, IsUncertified, Uncompleted}
-use Rattle.seqtool_commands.specs.Complete.{completed_text, MeansCompleted, MeansLong, MeansNever}
+use Rattle.seqtool_commands.specs.Complete.{Adds, Answered, Answers, Certifies, Completes, Faulty}
+use Rattle.seqtool_commands.specs.Complete.{HasAnswer, IsOutputOfComplete, IsLong, IsNever}
+use Rattle.seqtool_commands.specs.Complete.{IsUncertified, Uncompleted, completed_text}
+use Rattle.seqtool_commands.specs.Complete.{MeansCompleted, MeansLong, MeansNever}
 
-final_here : (streams : List Stream) (r : Never) → IsFinal top streams r → NeverShownWithOthers top streams
+final_here : (streams : List Stream) (r : Never) → IsFinal top streams r
+    → NeverShownWithOthers top streams
 final_here streams never.PrevNotBefore final = final top
 final_here streams (never.NotRising j) final = final top
 final_here streams (never.Repeated q j) final = final top
@@ -26,7 +28,8 @@ final_here streams never.Unfounded final = final top
 final_here streams never.TooHigh final = final
 
 completion_of : (f : Form) (bytes : List ℕ) (streams : List Stream) (found : Answer) (out : Output)
-    → HasAnswer bytes streams found → Answers f streams found out → out.status ≡ 0 → MeansCompleted f bytes out
+    → HasAnswer bytes streams found → Answers f streams found out → out.status ≡ 0
+    → MeansCompleted f bytes out
 completion_of f bytes streams _ _ has (Adds c is) e =
     record {
       streams = streams;
@@ -82,17 +85,22 @@ completion_of f bytes streams _ _ has (IsLong c is) e = absurd (omega arith)
 completion_of f bytes streams _ _ has (IsUncertified c is enough) e = absurd (omega arith)
 completion_of f bytes streams _ _ has (IsNever p i r) e = absurd (omega arith)
 
-pub completed_means : (f : Form) (bytes : List ℕ) (out : Output) → IsOutputOfComplete f bytes out → out.status ≡ 0
+pub completed_means : (f : Form) (bytes : List ℕ) (out : Output) → IsOutputOfComplete f bytes out
+    → out.status ≡ 0
     → MeansCompleted f bytes out
-completed_means f bytes out (Answered b streams found o has is) e = completion_of f bytes streams found out has is e
+completed_means f bytes out (Answered b streams found o has is) e =
+    completion_of f bytes streams found out has is e
 completed_means f bytes out (Uncompleted b streams given spelled none) e = absurd (omega arith)
-completed_means f bytes out (Faulty b x is) e = let high = fault_status_high x in absurd (omega arith)
+completed_means f bytes out (Faulty b x is) e = let high = fault_status_high x in
+    absurd (omega arith)
 
 reason_of : (f : Form) (bytes : List ℕ) (streams : List Stream) (found : Answer) (out : Output)
-    → HasAnswer bytes streams found → Answers f streams found out → out.status ≡ 1 → MeansNever bytes out
+    → HasAnswer bytes streams found → Answers f streams found out → out.status ≡ 1
+    → MeansNever bytes out
 reason_of f bytes streams _ _ has (Adds c is) e = absurd (omega arith)
 reason_of f bytes streams _ _ has (Completes c is few) e = absurd (omega arith)
-reason_of f bytes streams _ _ has (Certifies c acts is shows one_trace few short) e = absurd (omega arith)
+reason_of f bytes streams _ _ has (Certifies c acts is shows one_trace few short) e =
+    absurd (omega arith)
 reason_of f bytes streams _ _ has (IsLong c is) e = absurd (omega arith)
 reason_of f bytes streams _ _ has (IsUncertified c is enough) e = absurd (omega arith)
 reason_of f bytes streams _ _ has (IsNever p i r) e =
@@ -108,17 +116,21 @@ reason_of f bytes streams _ _ has (IsNever p i r) e =
       text = refl;
     }
 
-pub never_means : (f : Form) (bytes : List ℕ) (out : Output) → IsOutputOfComplete f bytes out → out.status ≡ 1
+pub never_means : (f : Form) (bytes : List ℕ) (out : Output) → IsOutputOfComplete f bytes out
+    → out.status ≡ 1
     → MeansNever bytes out
-never_means f bytes out (Answered b streams found o has is) e = reason_of f bytes streams found out has is e
+never_means f bytes out (Answered b streams found o has is) e =
+    reason_of f bytes streams found out has is e
 never_means f bytes out (Uncompleted b streams given spelled none) e = absurd (omega arith)
 never_means f bytes out (Faulty b x is) e = let high = fault_status_high x in absurd (omega arith)
 
 long_of : (f : Form) (bytes : List ℕ) (streams : List Stream) (found : Answer) (out : Output)
-    → HasAnswer bytes streams found → Answers f streams found out → out.status ≡ 5 → MeansLong f bytes out
+    → HasAnswer bytes streams found → Answers f streams found out → out.status ≡ 5
+    → MeansLong f bytes out
 long_of f bytes streams _ _ has (Adds c is) e = absurd (omega arith)
 long_of f bytes streams _ _ has (Completes c is few) e = absurd (omega arith)
-long_of f bytes streams _ _ has (Certifies c acts is shows one_trace few short) e = absurd (omega arith)
+long_of f bytes streams _ _ has (Certifies c acts is shows one_trace few short) e =
+    absurd (omega arith)
 long_of f bytes streams _ _ has (IsLong c is) e =
     record {
       streams = streams;
@@ -143,8 +155,10 @@ fault_status_low (faults.Unknown n) = omega arith
 fault_status_low (faults.TooMany n) = omega arith
 fault_status_low faults.Truncated = omega arith
 
-pub long_means : (f : Form) (bytes : List ℕ) (out : Output) → IsOutputOfComplete f bytes out → out.status ≡ 5
+pub long_means : (f : Form) (bytes : List ℕ) (out : Output) → IsOutputOfComplete f bytes out
+    → out.status ≡ 5
     → MeansLong f bytes out
-long_means f bytes out (Answered b streams found o has is) e = long_of f bytes streams found out has is e
+long_means f bytes out (Answered b streams found o has is) e =
+    long_of f bytes streams found out has is e
 long_means f bytes out (Uncompleted b streams given spelled none) e = absurd (omega arith)
 long_means f bytes out (Faulty b x is) e = let low = fault_status_low x in absurd (omega arith)

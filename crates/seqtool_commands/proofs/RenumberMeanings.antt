@@ -4,11 +4,13 @@ use Rattle.std.proofs.Common.{◌≡◌, ℕ, ◌≤◌, List, refl, arith}
 use Rattle.st_core.specs.Pid.{IsRising}
 use Rattle.st_core.specs.Run.{Stream, pids_of}
 use Rattle.lack_laws.specs.Completed.{IsShownInOneTrace}
-use Rattle.lack_laws.specs.Renumbering.{count_of_rank, counts_of, renumbered_streams, with_counts, KeepsOrder}
+use Rattle.lack_laws.specs.Renumbering.{count_of_rank, counts_of, renumbered_streams, with_counts}
+use Rattle.lack_laws.specs.Renumbering.{KeepsOrder}
 use Rattle.st_commands.specs.Output.{Output}
 use Rattle.st_commands.specs.Checked.{top}
 use Rattle.st_commands.proofs.ForCallers.{fault_status_high}
-use Rattle.seqtool_commands.specs.Renumber.{Faulty, IsRenumbered, MeansRefused, MeansRenumbered, Ranked}
+use Rattle.seqtool_commands.specs.Renumber.{Faulty, IsRenumbered, MeansRefused, MeansRenumbered}
+use Rattle.seqtool_commands.specs.Renumber.{Ranked}
 
 -- counts can be put back
 abbrev pub ArePutBack : Type 0

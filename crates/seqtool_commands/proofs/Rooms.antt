@@ -1,7 +1,7 @@
 -- Texts go one after the other, since the texts of the numbers below one are those of the numbers
 -- up to any of them and of the others.
-use Rattle.std.proofs.Common.{◌≡◌, ℕ, zero, suc, ◌+◌, ◌<◌, Bool, List, [], ◌++◌, sym, ap, subst, ◌∙◌, append_assoc, inl}
-use Rattle.std.proofs.Common.{inr, arith, add-one}
+use Rattle.std.proofs.Common.{◌≡◌, ℕ, zero, suc, ◌+◌, ◌<◌, Bool, List, [], ◌++◌, sym, ap, subst}
+use Rattle.std.proofs.Common.{◌∙◌, append_assoc, inl, inr, arith, add-one}
 use Rattle.std.proofs.lemmas.Bool.{cases_lt}
 use Rattle.std.proofs.lemmas.List.{append-nil}
 use Rattle.st_text.specs.Writing.{WritesPart, Goes}
@@ -17,8 +17,11 @@ module _ (f : ℕ → List ℕ) where
   split i zero lt = absurd (omega (arith, lt))
   split i (suc n) lt = elim (cases_lt i n) [
     | inl less ↦
-        let before = split i n less in
-        (before.0 ++ f n, ap (λ (t : List ℕ). t ++ f n) before.1 ∙ append_assoc (up_to f i ++ f i) before.0 (f n))
+        let before = split i n less in (
+          before.0 ++ f n,
+          ap (λ (t : List ℕ). t ++ f n) before.1 ∙ append_assoc (up_to f i ++ f i)
+              before.0 (f n),
+        )
     | inr ge ↦
         let same : n ≡ i = omega (arith, lt, ge) in
         ([], ap (λ k. up_to f k ++ f k) same ∙ sym (append-nil (up_to f i ++ f i)))
@@ -26,15 +29,18 @@ module _ (f : ℕ → List ℕ) where
 
 module _ {S : Type 0} (puts : S → List ℕ → S → Type 0) (failed : S → Bool) where
   -- the texts so far went, and the next one failed
-  pub part_among : (f : ℕ → List ℕ) (i n : ℕ) {a b c : S} {x y : List ℕ} → i < n → Goes puts failed (up_to f i) a b x y
+  pub part_among : (f : ℕ → List ℕ) (i n : ℕ) {a b c : S} {x y : List ℕ} → i < n
+      → Goes puts failed (up_to f i) a b x y
       → WritesPart puts failed (y ++ f i) b c → WritesPart puts failed (x ++ up_to f n) a c
   part_among f i n {a} {c} {x} lt g h =
       let all = split f i n lt in
       subst (λ (t : List ℕ). WritesPart puts failed (x ++ t) a c) (sym all.1)
-      (part_longer puts failed (up_to f i ++ f i) all.0 x (part_then puts failed (up_to f i) (f i) g h))
+      (part_longer puts failed (up_to f i ++ f i) all.0 x
+      (part_then puts failed (up_to f i) (f i) g h))
 
   -- and so did the next one
-  pub goes_next : (f : ℕ → List ℕ) (i : ℕ) {a b c : S} {x y z : List ℕ} → Goes puts failed (up_to f i) a b x y
+  pub goes_next : (f : ℕ → List ℕ) (i : ℕ) {a b c : S} {x y z : List ℕ}
+      → Goes puts failed (up_to f i) a b x y
       → Goes puts failed (f i) b c y z → Goes puts failed (up_to f (i + 1)) a c x z
   goes_next f i {a} {c} {x} {z} g h =
       subst (λ (t : List ℕ). Goes puts failed t a c x z) (sym (next_text f i))

@@ -21,7 +21,11 @@ use Rattle.seqtool_commands.specs.WhyWords.{hop_line, premises_text}
 
 module _ (streams : List Stream) (q : Question) (x : Node) where
   abbrev line_by : Option Event → List ℕ
-  line_by o = elim o [ None ↦ [] | Some e ↦ hop_line streams q.direction x.depth x.place.0 x.place.1 e ]
+  line_by o = elim o [
+    | None ↦ []
+    | Some e ↦
+        hop_line streams q.direction x.depth x.place.0 x.place.1 e
+  ]
 
   pub line_of : (o : Option Event) → event_at streams x.place.0 x.place.1 ≡ o
       → node_line streams q x ≡ line_by o

@@ -10,7 +10,8 @@ use Rattle.st_text.specs.Spelling.{ended_line}
 use Rattle.seqtool_commands.specs.declared.words.ToolTask.{ToolTask}
 use Rattle.seqtool_commands.specs.declared.words.ToolTask.TheVariants as task
 use Rattle.seqtool_commands.specs.declared.complete.Form.{Form}
-use Rattle.seqtool_commands.specs.Complete.{IsOutputOfComplete, MeansCompleted, MeansLong, MeansNever}
+use Rattle.seqtool_commands.specs.Complete.{IsOutputOfComplete, MeansCompleted, MeansLong}
+use Rattle.seqtool_commands.specs.Complete.{MeansNever}
 use Rattle.seqtool_commands.specs.Words.{tool_usage_words, tool_version_words}
 use Rattle.seqtool_commands.specs.Renumber.{IsRenumbered, MeansRefused, MeansRenumbered}
 use Rattle.seqtool_commands.specs.Why.{IsWhy}

@@ -1,6 +1,7 @@
 -- The number of the line on which an event or an act is, in the text of a bundle, counted from 1:
 -- the header is line 1, and each process, each event, the word acts and each act takes a line.
-use Rattle.std.specs.Prelude.{ℕ, ◌+◌, nat_lt, List, [], ◌∷◌, length, Option, Some, None, if◌then◌else◌}
+use Rattle.std.specs.Prelude.{ℕ, ◌+◌, nat_lt, List, [], ◌∷◌, length, Option, Some, None}
+use Rattle.std.specs.Prelude.{if◌then◌else◌}
 use Rattle.st_core.specs.declared.types.Pid.{Pid}
 use Rattle.st_core.specs.Pid.{pid_eq}
 use Rattle.st_core.specs.Run.{Stream}

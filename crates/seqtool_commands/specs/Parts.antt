@@ -1,4 +1,5 @@
--- The outputs of streams that were read, for the contracts of the functions that a command is made of.
+-- The outputs of streams that were read, for the contracts of the functions that a command is made
+-- of.
 use Rattle.std.specs.Prelude.{List}
 use Rattle.st_core.specs.Run.{Stream}
 use Rattle.lack_laws.specs.OpenReasons.{HasNoOpenReason}

@@ -9,7 +9,8 @@ use Rattle.st_text.specs.Limits.{greater}
 use Rattle.st_text.specs.Spelling.{ended_line}
 use Rattle.st_text.specs.Text.{spelling}
 use Rattle.lack_laws.specs.Completed.{IsShownInOneTrace}
-use Rattle.lack_laws.specs.Renumbering.{count_of_rank, counts_of, renumbered_streams, with_counts, KeepsOrder}
+use Rattle.lack_laws.specs.Renumbering.{count_of_rank, counts_of, renumbered_streams, with_counts}
+use Rattle.lack_laws.specs.Renumbering.{KeepsOrder}
 use Rattle.st_commands.specs.Output.{Output, fault_words, refused}
 use Rattle.st_commands.specs.Checked.{top, Spells}
 
@@ -24,7 +25,8 @@ pub data IsRenumbered : List ℕ → Output → Type 0 where
   Ranked : (bytes : List ℕ) (streams : List Stream) (given : Option (List Act))
       → Spells greater bytes streams given
       → IsRenumbered bytes (streams_output (renumbered_streams streams))
-  Faulty : (bytes : List ℕ) (f : ReadFault) → fault_within greater bytes ≡ Some f → IsRenumbered bytes (refused f)
+  Faulty : (bytes : List ℕ) (f : ReadFault) → fault_within greater bytes ≡ Some f
+      → IsRenumbered bytes (refused f)
 
 -- ---- what a status means, as one record of plain facts
 

@@ -63,7 +63,8 @@ abbrev pub question_asked : List Word → Option (Question × List Word)
 question_asked [] = None
 question_asked (p ∷ []) = None
 question_asked (p ∷ i ∷ rest) =
-    option_and_then (λ pid. option_map (λ index. question_about pid index (direction_asked rest)) (number_in i))
+    option_and_then (λ pid. option_map (λ index. question_about pid index (direction_asked rest))
+    (number_in i))
     (pid_in p)
 
 -- ---- all commands
@@ -74,8 +75,10 @@ task_named name words =
     if bytes_eq name (codes "check") then Some (task.Check, words)
     else (if bytes_eq name (codes "audit") then Some (task.Audit, words)
     else (if bytes_eq name (codes "renumber") then Some (task.Renumber, words)
-    else (if bytes_eq name (codes "complete") then option_map (λ x. (task.Complete x.0, x.1)) (form_asked words)
-    else (if bytes_eq name (codes "why") then option_map (λ x. (task.Why x.0, x.1)) (question_asked words)
+    else (if bytes_eq name (codes "complete") then option_map (λ x. (task.Complete x.0, x.1))
+    (form_asked words)
+    else (if bytes_eq name (codes "why") then option_map (λ x. (task.Why x.0, x.1))
+    (question_asked words)
     else None))))
 
 -- a word that begins with a minus names no file

@@ -83,8 +83,8 @@ fn write_unlisted<W: ByteSink>(
     Ok(())
 }
 
-/// Writes how many events were added, the processes that the streams don't list, and a line for each
-/// event.
+/// Writes how many events were added, the processes that the streams don't list, and a line for
+/// each event.
 fn write_added<W: ByteSink>(
     writer: &mut W,
     buffer: &mut Buffer,

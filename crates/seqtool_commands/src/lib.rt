@@ -1,5 +1,6 @@
 //! The commands of `seqtool` on any reader and writer: each reads all bytes, writes its output and
-//! returns the exit status. `check` and `audit` are those of `st_commands`, within the greater limits.
+//! returns the exit status. `check` and `audit` are those of `st_commands`, within the greater
+//! limits.
 //!
 //! `specs/` defines what they write, and which command the words of a command line ask for.
 #![tactic(auto)]

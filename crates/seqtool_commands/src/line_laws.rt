@@ -1,7 +1,8 @@
 //! Laws of line numbers, as contracts of functions that do nothing: each clause is a theorem over
 //! the definitions of `specs/`, and a proof that calls the function may use it.
 
-ghost use Rattle.seqtool_commands.specs.LineLaws.{ActsHaveTheirLines, EventLinesHavePlaces, EventsHaveTheirLines};
+ghost use Rattle.seqtool_commands.specs.LineLaws.{ActsHaveTheirLines, EventLinesHavePlaces};
+ghost use Rattle.seqtool_commands.specs.LineLaws.{EventsHaveTheirLines};
 
 /// The line of an event in the text of a bundle is that event.
 pub fn events_have_their_lines()

@@ -7,11 +7,11 @@ ghost use Rattle.st_order.specs.declared.item.Item.TheVariants as item;
 ghost use Rattle.st_chart.specs.Chart.{item_word};
 ghost use Rattle.st_chart.specs.Room.{item_word_room};
 ghost use Rattle.seqtool_commands.specs.WhyLines.{begins_label_room, claim_room, depth_room};
-ghost use Rattle.seqtool_commands.specs.WhyLines.{had_received_room, located_room, premise_room, what_room};
+ghost use Rattle.seqtool_commands.specs.WhyLines.{had_received_room, located_room, premise_room};
+ghost use Rattle.seqtool_commands.specs.WhyLines.{what_room};
 ghost use Rattle.seqtool_commands.specs.WhyWords.{begins_label_words, claim_words, depth_words};
-ghost use Rattle.seqtool_commands.specs.WhyWords.{had_received_words, line_number_at, located_words};
-ghost use Rattle.seqtool_commands.specs.WhyWords.{premise_words};
-ghost use Rattle.seqtool_commands.specs.WhyWords.{what_words};
+ghost use Rattle.seqtool_commands.specs.WhyWords.{had_received_words, line_number_at};
+ghost use Rattle.seqtool_commands.specs.WhyWords.{located_words, premise_words, what_words};
 
 use crate::line_numbers::LineNumbers;
 use crate::question::Direction;

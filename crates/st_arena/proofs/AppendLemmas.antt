@@ -1,21 +1,25 @@
 -- A push: the new node joins the chain of its list, and all other lists stay.
-use Rattle.std.proofs.Common.{◌≡◌, ◌≢◌, ℕ, zero, suc, ◌+◌, ◌<◌, ◌≤◌, cond, ltb, List, [], ◌∷◌, ◌++◌, length}
-use Rattle.std.proofs.Common.{get_or, map, set, Option, refl, sym, ap, ◌∙◌, inl, inr, arith, Some, unwrap_or}
+use Rattle.std.proofs.Common.{◌≡◌, ◌≢◌, ℕ, zero, suc, ◌+◌, ◌<◌, ◌≤◌, cond, ltb, List, [], ◌∷◌, ◌++◌}
+use Rattle.std.proofs.Common.{length, get_or, map, set, Option, refl, sym, ap, ◌∙◌, inl, inr, arith}
+use Rattle.std.proofs.Common.{Some, unwrap_or}
 use Rattle.std.proofs.lemmas.Bool.{cases_lt, lt-ltb, le-ltb, cond-true, cond-false}
 use Rattle.std.proofs.lemmas.List.{same_lists, length_push, get_or_append_left, get_or_push}
 use Rattle.st_arena.specs.declared.node.Node.{Node}
 use Rattle.st_arena.specs.declared.node.Ends.{Ends}
-use Rattle.st_arena.specs.Chain.{len_of, ends_at, value_in, next_key, previous_key, values_of, IsChain, AreChains}
-use Rattle.st_arena.specs.Chain.{Appends}
+use Rattle.st_arena.specs.Chain.{len_of, ends_at, value_in, next_key, previous_key, values_of}
+use Rattle.st_arena.specs.Chain.{IsChain, AreChains, Appends}
 use Rattle.st_arena.proofs.ChainLemmas.{SameAt, length-values_of, get_or-values_of, vacant_apart}
 use Rattle.st_arena.proofs.ArenaLemmas.{sound_with, lists_with, list_of_map}
 
 -- ---- on one chain
-module _ {T : Type 0} (old new : ℕ → Option (Node T)) (ends : Ends) (key : ℕ → ℕ) (chain : IsChain old ends key)
+module _ {T : Type 0} (old new : ℕ → Option (Node T)) (ends : Ends) (key : ℕ → ℕ)
+    (chain : IsChain old ends key)
     (after : Ends) (value : T) (change : Appends old new ends after value) (row : ℕ → ℕ)
-    (below : (place : ℕ) → place < ends.len → row place ≡ key place) (at_end : row ends.len ≡ change.key) where
+    (below : (place : ℕ) → place < ends.len → row place ≡ key place)
+    (at_end : row ends.len ≡ change.key) where
   -- the nodes before the new one hold what they held
-  append_same : (place : ℕ) → place < ends.len → value_in (new (row place)) ≡ value_in (old (key place))
+  append_same : (place : ℕ) → place < ends.len
+      → value_in (new (row place)) ≡ value_in (old (key place))
   append_same place within =
       rw (below place within)
       (change.items_stay (key place)
@@ -46,12 +50,14 @@ module _ {T : Type 0} (old new : ℕ → Option (Node T)) (ends : Ends) (key : �
                   elim (cases_lt other ends.len) [
                     | inl other_inside ↦ chain.apart place other inside other_inside
                         (sym (below place inside) ∙ same ∙ below other other_inside)
-                    | inr past ↦ absurd (append_differs place other inside (omega (arith, change.len)) same)
+                    | inr past ↦
+                        absurd (append_differs place other inside (omega (arith, change.len)) same)
                   ]
               | inr past ↦
                   elim (cases_lt other ends.len) [
                     | inl other_inside ↦ absurd
-                        (append_differs other place other_inside (omega (arith, change.len)) (sym same))
+                        (append_differs other place other_inside (omega (arith, change.len))
+                        (sym same))
                     | inr other_past ↦ omega (arith, change.len)
                   ]
             ];
@@ -87,7 +93,8 @@ module _ {T : Type 0} (old new : ℕ → Option (Node T)) (ends : Ends) (key : �
               | inl before ↦
                   ap (λ k. previous_key (new k)) (below (suc place) before)
                   ∙ change.previous_stay (key (suc place))
-                  (vacant_apart old new ends key chain change.key (suc place) change.was_vacant before)
+                  (vacant_apart old new ends key chain change.key (suc place) change.was_vacant
+                  before)
                   ∙ chain.previous place before
                   ∙ sym (below place inside)
               | inr past ↦
@@ -103,7 +110,8 @@ module _ {T : Type 0} (old new : ℕ → Option (Node T)) (ends : Ends) (key : �
       not_last : (place : ℕ) → suc place < ends.len → key place ≢ ends.last
       not_last place before same = apart_from_last (ends.len) place refl before same
         where
-          apart_from_last : (len place : ℕ) → len ≡ ends.len → suc place < len → key place ≡ ends.last → ⊥
+          apart_from_last : (len place : ℕ) → len ≡ ends.len → suc place < len
+              → key place ≡ ends.last → ⊥
           apart_from_last zero place is before same = absurd (omega arith)
           apart_from_last (suc last) place is before same =
               let both : place ≡ last =
@@ -140,17 +148,20 @@ module _ {T : Type 0} (old new : ℕ → Option (Node T)) (ends : Ends) (key : �
 
 -- ---- among all lists: the new key holds nothing of any list, and the last node is this list's
 module _ {T : Type 0} (old new : ℕ → Option (Node T)) (ends : List Ends) (count capacity : ℕ)
-    (sound : AreChains old ends count capacity) (list : ℕ) (in_range : list < length ends) (after : Ends) (value : T)
+    (sound : AreChains old ends count capacity) (list : ℕ) (in_range : list < length ends)
+    (after : Ends) (value : T)
     (change : Appends old new (ends_at ends list) after value) where
   -- the keys of the list from then on: those that it had, then the new one
   pub append_row : ℕ → ℕ
   append_row place = cond (ltb place (len_of (ends_at ends list))) (sound.key list place) change.key
 
   -- below the old length they are those that the list had
-  pub append_row-below : (place : ℕ) → place < len_of (ends_at ends list) → append_row place ≡ sound.key list place
+  pub append_row-below : (place : ℕ) → place < len_of (ends_at ends list)
+      → append_row place ≡ sound.key list place
   unfolding append_row
   append_row-below place within =
-      cond-true (ltb place (len_of (ends_at ends list))) (sound.key list place) change.key (lt-ltb place _ within)
+      cond-true (ltb place (len_of (ends_at ends list))) (sound.key list place) change.key
+      (lt-ltb place _ within)
 
   -- and at the old length the new one
   pub append_row-end : append_row (len_of (ends_at ends list)) ≡ change.key
@@ -161,21 +172,24 @@ module _ {T : Type 0} (old new : ℕ → Option (Node T)) (ends : List Ends) (co
       (le-ltb (len_of (ends_at ends list)) (len_of (ends_at ends list)) (omega arith))
 
   -- no node of another list is the last of this one
-  not_last : (other place : ℕ) → other ≢ list → place < len_of (ends_at ends other) → 0 < len_of (ends_at ends list)
+  not_last : (other place : ℕ) → other ≢ list → place < len_of (ends_at ends other)
+      → 0 < len_of (ends_at ends list)
       → sound.key other place ≢ (ends_at ends list).last
   not_last other place differs inside some same = by_len (len_of (ends_at ends list)) refl some
     where
       by_len : (len : ℕ) → len ≡ len_of (ends_at ends list) → 0 < len → ⊥
       by_len zero is positive = absurd (omega arith)
       by_len (suc last) is positive =
-          sound.disjoint other list place last differs inside (omega arith) (same ∙ (sound.chain list).last last is)
+          sound.disjoint other list place last differs inside (omega arith)
+          (same ∙ (sound.chain list).last last is)
 
   -- the nodes of all other lists stay as they were
   pub append_others : (other place : ℕ) → other ≢ list → place < len_of (ends_at ends other)
       → SameAt old new (sound.key other place)
   append_others other place differs inside =
       let not_new =
-      vacant_apart old new (ends_at ends other) (sound.key other) (sound.chain other) change.key place
+      vacant_apart old new (ends_at ends other) (sound.key other) (sound.chain other) change.key
+      place
       change.was_vacant inside in
       record {
         item = change.items_stay _ not_new;
@@ -186,14 +200,16 @@ module _ {T : Type 0} (old new : ℕ → Option (Node T)) (ends : List Ends) (co
   -- the list is a chain under its new keys
   pub append_here : IsChain new after append_row
   append_here =
-      append_chain old new (ends_at ends list) (sound.key list) (sound.chain list) after value change append_row
+      append_chain old new (ends_at ends list) (sound.key list) (sound.chain list) after value
+      change append_row
       append_row-below append_row-end
 
   -- all is sound after a push, with one node more
   pub append_sound : (new_count new_capacity : ℕ) → new_count ≡ count + 1 → new_count ≤ new_capacity
       → AreChains new (set ends list after) new_count new_capacity
   append_sound new_count new_capacity more within =
-      sound_with old new ends count capacity sound list in_range after append_row new_count new_capacity append_here
+      sound_with old new ends count capacity sound list in_range after append_row new_count
+      new_capacity append_here
       append_others
       (λ other place there differs inside other_inside same.
       elim (cases_lt place (len_of (ends_at ends list))) [
@@ -202,7 +218,8 @@ module _ {T : Type 0} (old new : ℕ → Option (Node T)) (ends : List Ends) (co
             (sym (append_row-below place before) ∙ same)
         | inr past ↦
             let at_end : place ≡ len_of (ends_at ends list) = omega (arith, change.len) in
-            vacant_apart old new (ends_at ends other) (sound.key other) (sound.chain other) change.key there
+            vacant_apart old new (ends_at ends other) (sound.key other) (sound.chain other)
+            change.key there
             change.was_vacant other_inside
             (sym same ∙ ap append_row at_end ∙ append_row-end)
       ])
@@ -211,10 +228,13 @@ module _ {T : Type 0} (old new : ℕ → Option (Node T)) (ends : List Ends) (co
 
   -- and of all lists only that one changed: the value is at its end
   pub append_lists : map (values_of new) (set ends list after)
-      ≡ set (map (values_of old) ends) list (get_or (map (values_of old) ends) list [] ++ value ∷ [])
+      ≡ set (map (values_of old) ends) list
+      (get_or (map (values_of old) ends) list [] ++ value ∷ [])
   append_lists =
       lists_with old new ends count capacity sound list in_range after
       (get_or (map (values_of old) ends) list [] ++ value ∷ []) append_others
-      (append_items old new (ends_at ends list) (sound.key list) (sound.chain list) after value change append_row
+      (append_items old new (ends_at ends list) (sound.key list) (sound.chain list) after value
+      change append_row
       append_row-below append_row-end
-      ∙ ap (λ xs. xs ++ value ∷ []) (sym (list_of_map old new ends count capacity sound list in_range after)))
+      ∙ ap (λ xs. xs ++ value ∷ [])
+      (sym (list_of_map old new ends count capacity sound list in_range after)))

@@ -1,6 +1,7 @@
 -- If one list changes, all others stay, since no two lists share a node: each fact on all lists is
 -- one on the list that changed, and one on slots that did not.
-use Rattle.std.proofs.Common.{◌≡◌, ◌≢◌, ℕ, zero, suc, ◌+◌, ◌<◌, ◌≤◌, cond, eqb, List, [], ◌∷◌, length, get_or}
+use Rattle.std.proofs.Common.{◌≡◌, ◌≢◌, ℕ, zero, suc, ◌+◌, ◌<◌, ◌≤◌, cond, eqb, List, [], ◌∷◌}
+use Rattle.std.proofs.Common.{length, get_or}
 use Rattle.std.proofs.Common.{map, set, Option, sum_by, refl, sym, ap, ◌∙◌, inl, inr, arith}
 use Rattle.std.proofs.lemmas.Bool.{cases_lt, cases_eq, eq-eqb, ne_eqb, cond-true, cond-false}
 use Rattle.std.proofs.lemmas.List.{get_or-set_same, get_or-set_other, get_or-map, get_or-replicate}
@@ -14,20 +15,24 @@ use Rattle.st_arena.proofs.ChainLemmas.{SameAt, chain_stays, items_stay}
 
 -- two functions that agree at each element map a list alike
 map_same : {A B : Type 0} (f g : A → B) (xs : List A) (default : A)
-    → ((i : ℕ) → i < length xs → g (get_or xs i default) ≡ f (get_or xs i default)) → map g xs ≡ map f xs
+    → ((i : ℕ) → i < length xs → g (get_or xs i default) ≡ f (get_or xs i default))
+    → map g xs ≡ map f xs
 map_same f g [] default same = refl
 map_same f g (x ∷ xs) default same =
     let first : g x ≡ f x = same zero (omega arith) in
-    let rest : map g xs ≡ map f xs = map_same f g xs default (λ i within. same (suc i) (omega arith)) in
+    let rest : map g xs ≡ map f xs =
+    map_same f g xs default (λ i within. same (suc i) (omega arith)) in
     cc
 
 -- a map after a write, by a function that differs from the old one at the written element alone
 pub map-set_one : {A B : Type 0} (f g : A → B) (xs : List A) (at : ℕ) (x default : A) (y : B)
-    → ((i : ℕ) → i ≢ at → i < length xs → g (get_or xs i default) ≡ f (get_or xs i default)) → g x ≡ y
+    → ((i : ℕ) → i ≢ at → i < length xs → g (get_or xs i default) ≡ f (get_or xs i default))
+    → g x ≡ y
     → map g (set xs at x) ≡ set (map f xs) at y
 map-set_one f g [] at x default y same here = refl
 map-set_one f g (z ∷ zs) zero x default y same here =
-    let rest : map g zs ≡ map f zs = map_same f g zs default (λ i within. same (suc i) (omega arith) (omega arith)) in
+    let rest : map g zs ≡ map f zs =
+    map_same f g zs default (λ i within. same (suc i) (omega arith) (omega arith)) in
     cc
 map-set_one f g (z ∷ zs) (suc at) x default y same here =
     let first : g z ≡ f z = same zero (omega arith) (omega arith) in
@@ -49,16 +54,19 @@ with_row-same key list row = cond-true (eqb list list) row (key list) (eq-eqb li
 with_row-other : (key : ℕ → ℕ → ℕ) (list : ℕ) (row : ℕ → ℕ) (other : ℕ) → other ≢ list
     → with_row key list row other ≡ key other
 unfolding with_row
-with_row-other key list row other differs = cond-false (eqb other list) row (key other) (ne_eqb other list differs)
+with_row-other key list row other differs =
+    cond-false (eqb other list) row (key other) (ne_eqb other list differs)
 
 module _ {T : Type 0} (old new : ℕ → Option (Node T)) (ends : List Ends) (count capacity : ℕ)
-    (sound : AreChains old ends count capacity) (list : ℕ) (in_range : list < length ends) (after : Ends) where
+    (sound : AreChains old ends count capacity) (list : ℕ) (in_range : list < length ends)
+    (after : Ends) where
   -- where one list's chain becomes another, and the nodes of all other lists stay, all is sound
   -- still
   pub sound_with : (row : ℕ → ℕ) (new_count new_capacity : ℕ) → IsChain new after row
       → ((other place : ℕ) → other ≢ list → place < len_of (ends_at ends other)
       → SameAt old new (sound.key other place))
-      → ((other place there : ℕ) → other ≢ list → place < after.len → there < len_of (ends_at ends other)
+      → ((other place there : ℕ) → other ≢ list → place < after.len
+      → there < len_of (ends_at ends other)
       → row place ≢ sound.key other there)
       → after.len + count ≡ len_of (ends_at ends list) + new_count → new_count ≤ new_capacity
       → AreChains new (set ends list after) new_count new_capacity
@@ -80,13 +88,19 @@ module _ {T : Type 0} (old new : ℕ → Option (Node T)) (ends : List Ends) (co
                   let inside_row : place < after.len = rw (one_is, here) at inside in
                   let inside_other : other_place < len_of (ends_at ends other) =
                   rw (there other other_differs) at other_inside in
-                  rw (one_is, with_row-same sound.key list row, with_row-other sound.key list row other other_differs)
+                  rw (
+                    one_is,
+                    with_row-same sound.key list row,
+                    with_row-other sound.key list row other other_differs,
+                  )
                   (apart other place other_place other_differs inside_row inside_other)
               | inr one_differs ↦
-                  let inside_one : place < len_of (ends_at ends one) = rw (there one one_differs) at inside in
+                  let inside_one : place < len_of (ends_at ends one) =
+                  rw (there one one_differs) at inside in
                   elim (cases_eq other list) [
                     | inl other_is ↦
-                        let inside_row : other_place < after.len = rw (other_is, here) at other_inside in
+                        let inside_row : other_place < after.len =
+                        rw (other_is, here) at other_inside in
                         rw (
                           other_is,
                           with_row-same sound.key list row,
@@ -103,7 +117,12 @@ module _ {T : Type 0} (old new : ℕ → Option (Node T)) (ends : List Ends) (co
                         (sound.disjoint one other place other_place differs inside_one inside_other)
                   ]
             ];
-        total = omega (arith, sound.total, total, sum_by-set len_of ends list after no_ends in_range);
+        total = omega (
+          arith,
+          sound.total,
+          total,
+          sum_by-set len_of ends list after no_ends in_range,
+        );
         within = within;
       }
     where
@@ -122,7 +141,8 @@ module _ {T : Type 0} (old new : ℕ → Option (Node T)) (ends : List Ends) (co
   lists_with items same is =
       map-set_one (values_of old) (values_of new) ends list after no_ends items
       (λ other differs inside.
-      items_stay old new (ends_at ends other) (sound.key other) (sound.chain other) (ends_at ends other)
+      items_stay old new (ends_at ends other) (sound.key other) (sound.chain other)
+      (ends_at ends other)
       (sound.key other)
       (chain_stays old new (ends_at ends other) (sound.key other) (sound.chain other)
       (λ place here. same other place differs here))
@@ -136,7 +156,8 @@ module _ {T : Type 0} (old new : ℕ → Option (Node T)) (ends : List Ends) (co
 
 -- a sound arena is sound with more room
 pub more_room : {T : Type 0} (slots : ℕ → Option (Node T)) (ends : List Ends) (count capacity : ℕ)
-    → AreChains slots ends count capacity → (more : ℕ) → capacity ≤ more → AreChains slots ends count more
+    → AreChains slots ends count capacity → (more : ℕ) → capacity ≤ more
+    → AreChains slots ends count more
 more_room slots ends count capacity sound more grown =
     record {
       key = sound.key;
@@ -147,7 +168,8 @@ more_room slots ends count capacity sound more grown =
     }
 
 -- ---- an arena whose lists are all empty
-pub empty_sound : {T : Type 0} (slots : ℕ → Option (Node T)) (empty : Ends) (lists capacity : ℕ) → empty.len ≡ 0
+pub empty_sound : {T : Type 0} (slots : ℕ → Option (Node T)) (empty : Ends) (lists capacity : ℕ)
+    → empty.len ≡ 0
     → AreChains slots (replicate lists empty) 0 capacity
 empty_sound slots empty lists capacity none =
     record {
@@ -161,7 +183,8 @@ empty_sound slots empty lists capacity none =
         previous = λ place inside. absurd (omega arith);
       };
       disjoint =
-          λ list other place there differs inside other_inside. let nothing = no_len list in absurd (omega arith);
+          λ list other place there differs inside other_inside. let nothing = no_len list in
+          absurd (omega arith);
       total = no_sum lists;
       within = omega arith;
     }
@@ -171,7 +194,8 @@ empty_sound slots empty lists capacity none =
         elim (cases_lt list lists) [
           | inl inside ↦ ap len_of (get_or-replicate lists list empty no_ends inside) ∙ none
           | inr past ↦ ap len_of
-              (get_or_past (replicate lists empty) list no_ends (omega (arith, length-replicate lists empty)))
+              (get_or_past (replicate lists empty) list no_ends
+              (omega (arith, length-replicate lists empty)))
         ]
 
     no_sum : (n : ℕ) → sum_by len_of (replicate n empty) ≡ 0
@@ -179,7 +203,8 @@ empty_sound slots empty lists capacity none =
     no_sum (suc n) = omega (arith, sum_by-cons len_of empty (replicate n empty), no_sum n, none)
 
 -- their items are as many empty lists
-pub empty_lists : {T : Type 0} (slots : ℕ → Option (Node T)) (empty : Ends) (lists : ℕ) → empty.len ≡ 0
+pub empty_lists : {T : Type 0} (slots : ℕ → Option (Node T)) (empty : Ends) (lists : ℕ)
+    → empty.len ≡ 0
     → map (values_of slots) (replicate lists empty) ≡ replicate lists []
 empty_lists slots empty zero none = refl
 empty_lists slots empty (suc lists) none =

@@ -1,7 +1,7 @@
 -- The marks in blocks: a rank is the sum of the leaves before the slot's block, and of the marks
 -- before the slot in its block.
-use Rattle.std.proofs.Common.{◌≡◌, ◌≢◌, ℕ, zero, suc, ◌+◌, ◌-◌, ◌*◌, ◌<◌, ◌≤◌, List, [], ◌∷◌, ◌++◌, length, take, drop}
-use Rattle.std.proofs.Common.{set, get_or, inl, inr, refl, sym, ap, ◌∙◌, arith}
+use Rattle.std.proofs.Common.{◌≡◌, ◌≢◌, ℕ, zero, suc, ◌+◌, ◌-◌, ◌*◌, ◌<◌, ◌≤◌, List, [], ◌∷◌, ◌++◌}
+use Rattle.std.proofs.Common.{length, take, drop, set, get_or, inl, inr, refl, sym, ap, ◌∙◌, arith}
 use Rattle.std.proofs.lemmas.Bool.{cases_lt, cases_eq}
 use Rattle.std.proofs.lemmas.List.{get_or-drop, get_or-set_same, get_or-set_other, length-set}
 use Rattle.std.proofs.lemmas.List.{take_all, take-take, drop-take, length-append, length-replicate}
@@ -16,7 +16,8 @@ use Rattle.st_arena.proofs.TreeLemmas.{root-total}
 
 -- ---- marks
 -- the sum of a front is that of a shorter one and of what follows it
-pub sum-split : (marks : List ℕ) (n m : ℕ) → sum (take (n + m) marks) ≡ sum (take n marks) + sum (take m (drop n marks))
+pub sum-split : (marks : List ℕ) (n m : ℕ)
+    → sum (take (n + m) marks) ≡ sum (take n marks) + sum (take m (drop n marks))
 sum-split marks n m =
     let whole = sum_by-take-drop (λ x. x) (take (n + m) marks) n in
     let front = ap sum (take-take n (n + m) marks (omega arith)) in
@@ -34,7 +35,8 @@ rank-most (x ∷ xs) bits (suc n) =
     omega (arith, rest, here, one)
 
 -- the slot after a dead one has the same rank
-rank-dead : (marks : List ℕ) (slot : ℕ) → get_or marks slot 0 ≡ 0 → sum (take (suc slot) marks) ≡ sum (take slot marks)
+rank-dead : (marks : List ℕ) (slot : ℕ) → get_or marks slot 0 ≡ 0
+    → sum (take (suc slot) marks) ≡ sum (take slot marks)
 rank-dead [] zero dead = refl
 rank-dead [] (suc slot) dead = refl
 rank-dead (x ∷ xs) zero dead =
@@ -61,7 +63,8 @@ marks-set marks slot mark bits inside bit at =
     elim (cases_eq at slot) [
       | inl here ↦
           let written : get_or (set marks slot mark) at 0 ≡ mark =
-          ap (λ n. get_or (set marks slot mark) n 0) here ∙ get_or-set_same marks slot mark 0 inside in
+          ap (λ n. get_or (set marks slot mark) n 0) here ∙ get_or-set_same marks slot mark 0
+          inside in
           omega (arith, written, bit)
       | inr apart ↦
           let same = get_or-set_other marks slot at mark 0 apart in
@@ -79,7 +82,8 @@ module _ (marks counts : List ℕ) (height : ℕ) (of : AreCounted marks counts 
 
   -- a leaf counts the live slots of its block
   pub leaf-counts : (block : ℕ) → block < wide height
-      → sum (take (block * 64) marks) + count_at counts (wide height + block) ≡ sum (take (block * 64 + 64) marks)
+      → sum (take (block * 64) marks) + count_at counts (wide height + block)
+      ≡ sum (take (block * 64 + 64) marks)
   leaf-counts block inside =
       let here = of.blocks block (omega (arith, inside)) in
       let next : sums (count_at counts) (wide height) block + count_at counts (wide height + block)
@@ -106,12 +110,26 @@ module _ (marks counts : List ℕ) (height : ℕ) (of : AreCounted marks counts 
         let at_slot : (block * 64) + (slot - block * 64) ≡ slot = omega (arith, from) in
         let front = sum-split marks (block * 64) (slot - block * 64) in
         let front_at = ap (λ n. sum (take n marks)) at_slot in
-        let front_most = rank-most (drop (block * 64) marks) (marks-drop (block * 64)) (slot - block * 64) in
+        let front_most = rank-most (drop (block * 64) marks) (marks-drop (block * 64))
+        (slot - block * 64) in
         let at_end : suc slot + (block * 64 + 63 - slot) ≡ block * 64 + 64 = omega (arith, to) in
         let back = sum-split marks (suc slot) (block * 64 + 63 - slot) in
         let back_at = ap (λ n. sum (take n marks)) at_end in
-        let back_most = rank-most (drop (suc slot) marks) (marks-drop (suc slot)) (block * 64 + 63 - slot) in
-        omega (arith, counts_it, past, front, front_at, front_most, back, back_at, back_most, from, to)
+        let back_most = rank-most (drop (suc slot) marks) (marks-drop (suc slot))
+        (block * 64 + 63 - slot) in
+        omega (
+          arith,
+          counts_it,
+          past,
+          front,
+          front_at,
+          front_most,
+          back,
+          back_at,
+          back_most,
+          from,
+          to,
+        )
       where
         marks-drop : (n : ℕ) → AreMarks (drop n marks)
         marks-drop n at =
@@ -129,8 +147,10 @@ module _ (marks counts : List ℕ) (height : ℕ) (of : AreCounted marks counts 
         omega (arith, counts_it, past, front, back)
 
 -- One mark was written, and the leaf of its block changed as the mark did.
-module _ (marks old new : List ℕ) (height block slot was mark : ℕ) (of : AreCounted marks old height)
-    (tree : IsTree new height) (from : block * 64 ≤ slot) (to : slot < block * 64 + 64) (inside : slot < length marks)
+module _ (marks old new : List ℕ) (height block slot was mark : ℕ)
+    (of : AreCounted marks old height)
+    (tree : IsTree new height) (from : block * 64 ≤ slot) (to : slot < block * 64 + 64)
+    (inside : slot < length marks)
     (before : get_or marks slot 0 ≡ was) (bit : mark ≤ 1)
     (here : was + count_at new (wide height + block) ≡ mark + count_at old (wide height + block))
     (others : (other : ℕ) → other < wide height → other ≢ block
@@ -144,7 +164,8 @@ module _ (marks old new : List ℕ) (height block slot was mark : ℕ) (of : Are
       omega (arith, rest, same)
 
   sums-behind : (count : ℕ) → block < count → count ≤ wide height
-      → was + sums (count_at new) (wide height) count ≡ mark + sums (count_at old) (wide height) count
+      → was + sums (count_at new) (wide height) count
+      ≡ mark + sums (count_at old) (wide height) count
   sums-behind zero high most = absurd (omega (arith, high))
   sums-behind (suc count) high most =
       elim (cases_eq count block) [
@@ -170,18 +191,21 @@ module _ (marks old new : List ℕ) (height block slot was mark : ℕ) (of : Are
             λ count most. elim (cases_lt block count) [
               | inl high ↦
                   let leaves = sums-behind count high most in
-                  let ranks = rank_behind_mark marks slot mark (count * 64) (omega (arith, to, high)) inside in
+                  let ranks = rank_behind_mark marks slot mark (count * 64)
+                  (omega (arith, to, high)) inside in
                   omega (arith, leaves, ranks, before, of.blocks count most)
               | inr low ↦
                   let leaves = sums-before count low most in
-                  let ranks = rank_before_mark marks slot mark (count * 64) (omega (arith, from, low)) in
+                  let ranks = rank_before_mark marks slot mark (count * 64)
+                  (omega (arith, from, low)) in
                   omega (arith, leaves, ranks, of.blocks count most)
             ];
       }
 
 -- ---- new slots, the first of which are live
 -- after the live slots the rank is their number
-rank_past_new : (live dead slot : ℕ) → live ≤ slot → sum (take slot (replicate live 1 ++ replicate dead 0)) ≡ live
+rank_past_new : (live dead slot : ℕ) → live ≤ slot
+    → sum (take slot (replicate live 1 ++ replicate dead 0)) ≡ live
 rank_past_new live dead slot past =
     let at_end = new_rank live dead live (omega arith) in
     let most = rank-le (replicate live 1 ++ replicate dead 0) live slot past in

@@ -1,18 +1,21 @@
 -- A closure that computes a test or a function makes of a list, place by place, what the test or
 -- the function makes of the whole list.
-use Rattle.std.proofs.Common.{◌≡◌, ℕ, zero, suc, ◌<◌, Bool, true, false, ltb, List, [], ◌∷◌, length, get_or}
-use Rattle.std.proofs.Common.{map, Option, Some, None, IfSome, IfNone, slice_get, refl, sym, ap, ◌∙◌, arith}
+use Rattle.std.proofs.Common.{◌≡◌, ℕ, zero, suc, ◌<◌, Bool, true, false, ltb, List, [], ◌∷◌, length}
+use Rattle.std.proofs.Common.{get_or, map, Option, Some, None, IfSome, IfNone, slice_get, refl, sym}
+use Rattle.std.proofs.Common.{ap, ◌∙◌, arith}
 use Rattle.std.specs.List.{AllZip, position}
 use Rattle.std.proofs.lemmas.Bool.{lt-ltb, le-ltb, cond-true, cond-false}
 use Rattle.std.proofs.lemmas.List.Sums.{position_or_len_is}
-use Rattle.std.proofs.lemmas.Option.{get_or_from_slice_get, slice_get-get_or, slice_get_within, same_Some}
+use Rattle.std.proofs.lemmas.Option.{get_or_from_slice_get, slice_get-get_or, slice_get_within}
+use Rattle.std.proofs.lemmas.Option.{same_Some}
 use Rattle.st_arena.specs.Calls.{Computes, IsAnswered, IsFirstAnswered, PassesOnce}
 use Rattle.st_arena.specs.Chain.{Turns}
 
 module _ {T : Type 0} (R : T → T → Type 0) where
   -- what relates the items at each place relates the lists
   pub AllZip-from_places : (xs ys : List T) → length xs ≡ length ys
-      → ((place : ℕ) → place < length xs → Turns R (slice_get xs place) (slice_get ys place)) → AllZip R xs ys
+      → ((place : ℕ) → place < length xs → Turns R (slice_get xs place) (slice_get ys place))
+      → AllZip R xs ys
   AllZip-from_places [] [] same turns = tt
   AllZip-from_places [] (y ∷ ys) same turns = absurd (omega arith)
   AllZip-from_places (x ∷ xs) [] same turns = absurd (omega arith)
@@ -23,7 +26,8 @@ module _ {T : Type 0} (R : T → T → Type 0) where
       )
 
   -- answers that are computed by a function make the mapped list
-  pub map-from_AllZip : (f : T → T) (xs ys : List T) → Computes R f xs → AllZip R xs ys → ys ≡ map f xs
+  pub map-from_AllZip : (f : T → T) (xs ys : List T) → Computes R f xs → AllZip R xs ys
+      → ys ≡ map f xs
   map-from_AllZip f [] [] computes each = refl
   map-from_AllZip f [] (y ∷ ys) computes each = absurd each
   map-from_AllZip f (x ∷ xs) [] computes each = absurd each
@@ -42,9 +46,11 @@ module _ {T : Type 0} (answers : T → Bool → Type 0) (test : T → Bool) (ite
       ∙ sym (computes place is.item answer is.is_there is.answered)
 
   -- the first place that was answered true is the position of the test
-  position-first : (place : ℕ) → IsFirstAnswered answers items place → position test items ≡ Some place
+  position-first : (place : ℕ) → IsFirstAnswered answers items place
+      → position test items ≡ Some place
   position-first place is =
-      let inside : place < length items = slice_get_within items place is.found.item is.found.is_there in
+      let inside : place < length items =
+      slice_get_within items place is.found.item is.found.is_there in
       rw
       (position_or_len_is test items place is.found.item (omega arith)
       (λ earlier before. tests earlier false is.found.item (is.before earlier before))
@@ -61,7 +67,8 @@ module _ {T : Type 0} (answers : T → Bool → Type 0) (test : T → Bool) (ite
       by_items (x ∷ xs) is =
           rw
           (position_or_len_is test items (length items) x (omega arith)
-          (λ earlier before. tests earlier false x (none earlier before)) (λ past. absurd (omega arith)))
+          (λ earlier before. tests earlier false x (none earlier before))
+          (λ past. absurd (omega arith)))
           (cond-false (ltb (length items) (length items)) (Some (length items)) None
           (le-ltb (length items) (length items) (omega arith)))
 
@@ -81,13 +88,15 @@ module _ {T : Type 0} (answers : T → Bool → Type 0) (test : T → Bool) (ite
   position-any once (Some place) found absent =
       let inside : place < length items = slice_get_within items place found.item found.is_there in
       let passes = tests place true found.item found in
-      let here : test found.item ≡ true = sym (computes place found.item true found.is_there found.answered) in
+      let here : test found.item ≡ true =
+      sym (computes place found.item true found.is_there found.answered) in
       let alone = λ (k : ℕ) (before : k < place).
       let x = get_or items k found.item in
       let there : slice_get items k ≡ Some x = slice_get-get_or items k found.item (omega arith) in
       elim (test x) as (λ b. test x ≡ b → b ≡ false) [
         | false ↦ λ _. refl
-        | true ↦ λ other. let same = once k place x found.item there found.is_there other here in absurd (omega arith)
+        | true ↦ λ other. let same = once k place x found.item there found.is_there other here in
+            absurd (omega arith)
       ] refl in
       sym (rw
       (position_or_len_is test items place found.item (omega arith) alone (λ _. passes))

@@ -1,7 +1,8 @@
 -- A chain has an item under each of its keys, which are apart: so a list has as many items as its
 -- ends say, and keeps them if the slots of its keys stay.
-use Rattle.std.proofs.Common.{◌≡◌, ◌≢◌, ℕ, zero, suc, ◌+◌, ◌<◌, false, List, [], ◌∷◌, length, get_or, drop, Option}
-use Rattle.std.proofs.Common.{Some, None, IsSome, is_some, unwrap_or, slice_get, refl, sym, ap, ◌∙◌, inl, inr, arith}
+use Rattle.std.proofs.Common.{◌≡◌, ◌≢◌, ℕ, zero, suc, ◌+◌, ◌<◌, false, List, [], ◌∷◌, length}
+use Rattle.std.proofs.Common.{get_or, drop, Option, Some, None, IsSome, is_some, unwrap_or}
+use Rattle.std.proofs.Common.{slice_get, refl, sym, ap, ◌∙◌, inl, inr, arith}
 use Rattle.std.proofs.lemmas.Bool.{cases_lt}
 use Rattle.std.proofs.lemmas.List.{same_lists, length-drop, drop_more}
 use Rattle.std.proofs.lemmas.Option.{unwrap_or-slice_get, slice_get-get_or}
@@ -12,7 +13,8 @@ use Rattle.st_arena.specs.Chain.{values_of, key_after, IsChain, IsChained}
 
 module _ {T : Type 0} where
   -- a slot that holds a value is a node
-  pub held_node : (slot : Option (Node T)) → IsSome (value_in slot) → (node : Node T) × (slot ≡ Some node)
+  pub held_node : (slot : Option (Node T)) → IsSome (value_in slot)
+      → (node : Node T) × (slot ≡ Some node)
   held_node None held = absurd (cc)
   held_node (Some node) held = (node, refl)
 
@@ -32,7 +34,8 @@ module _ {T : Type 0} (slots : ℕ → Option (Node T)) where
       → values_from slots (suc count) key ≡ node.value ∷ values_from slots count node.next
   items_at_node count key node is = rw is refl
 
-module _ {T : Type 0} (slots : ℕ → Option (Node T)) (ends : Ends) (key : ℕ → ℕ) (chain : IsChain slots ends key) where
+module _ {T : Type 0} (slots : ℕ → Option (Node T)) (ends : Ends) (key : ℕ → ℕ)
+    (chain : IsChain slots ends key) where
   -- from any node on, the items are as many as the nodes that are left
   length-values_from : (count start : ℕ) → start + count ≡ ends.len
       → length (values_from slots count (key start)) ≡ count
@@ -42,13 +45,15 @@ module _ {T : Type 0} (slots : ℕ → Option (Node T)) (ends : Ends) (key : ℕ
       rw (items_at_node slots zero (key start) node.0 node.1) refl
   length-values_from (suc (suc count)) start all =
       let node = held_node (slots (key start)) (chain.held start (omega arith)) in
-      let link : node.0.next ≡ key (suc start) = sym (ap next_key node.1) ∙ chain.next start (omega arith) in
+      let link : node.0.next ≡ key (suc start) =
+      sym (ap next_key node.1) ∙ chain.next start (omega arith) in
       rw (items_at_node slots (suc count) (key start) node.0 node.1, link)
       (ap suc (length-values_from (suc count) (suc start) (omega arith)))
 
   -- and each is what its node holds
   get-values_from : (count start place : ℕ) → start + count ≡ ends.len → place < count
-      → slice_get (values_from slots count (key start)) place ≡ value_in (slots (key (start + place)))
+      → slice_get (values_from slots count (key start)) place
+      ≡ value_in (slots (key (start + place)))
   get-values_from zero start place all within = absurd (omega arith)
   get-values_from (suc count) start zero all within =
       let node = held_node (slots (key start)) (chain.held start (omega arith)) in
@@ -56,7 +61,8 @@ module _ {T : Type 0} (slots : ℕ → Option (Node T)) (ends : Ends) (key : ℕ
       rw (items_at_node slots count (key start) node.0 node.1, here) (sym (ap value_in node.1))
   get-values_from (suc count) start (suc place) all within =
       let node = held_node (slots (key start)) (chain.held start (omega arith)) in
-      let link : node.0.next ≡ key (suc start) = sym (ap next_key node.1) ∙ chain.next start (omega arith) in
+      let link : node.0.next ≡ key (suc start) =
+      sym (ap next_key node.1) ∙ chain.next start (omega arith) in
       let there : start + suc place ≡ suc start + place = omega arith in
       rw (items_at_node slots count (key start) node.0 node.1, link, there)
       (get-values_from count (suc start) place (omega arith) (omega arith))
@@ -74,17 +80,20 @@ module _ {T : Type 0} (slots : ℕ → Option (Node T)) (ends : Ends) (key : ℕ
       → slice_get (values_of slots ends) place ≡ value_in (slots (key place))
   get-values_of place within =
       let there : 0 + place ≡ place = omega arith in
-      rw (chain.first (omega arith)) (rw there at (get-values_from ends.len 0 place (omega arith) within))
+      rw (chain.first (omega arith))
+      (rw there at (get-values_from ends.len 0 place (omega arith) within))
 
   -- the same, read with a default
   pub get_or-values_of : (place : ℕ) (default : T) → place < ends.len
-      → get_or (values_of slots ends) place default ≡ unwrap_or (value_in (slots (key place))) default
+      → get_or (values_of slots ends) place default
+      ≡ unwrap_or (value_in (slots (key place))) default
   get_or-values_of place default within =
       sym (unwrap_or-slice_get (values_of slots ends) place default)
       ∙ ap (λ item. unwrap_or item default) (get-values_of place within)
 
   -- that many steps from the first node lead to the node at that place
-  pub key_after-first : (place : ℕ) → place < ends.len → key_after slots ends.first place ≡ key place
+  pub key_after-first : (place : ℕ) → place < ends.len
+      → key_after slots ends.first place ≡ key place
   key_after-first zero within = chain.first within
   key_after-first (suc place) within =
       rw (key_after-first place (omega arith)) (chain.next place within)
@@ -94,82 +103,93 @@ module _ {T : Type 0} (slots : ℕ → Option (Node T)) (ends : Ends) (key : ℕ
   held_at place within = held_slot (slots (key place)) (chain.held place within)
 
 -- the same facts by steps from the first node, for code that knows no place's key
-module _ {T : Type 0} (slots : ℕ → Option (Node T)) (ends : Ends) (chained : IsChained slots ends) where
-  -- that many steps lead to the key of that place
-  step_is : (place : ℕ) → place < ends.len → key_after slots ends.first place ≡ chained.key place
-  step_is place within = key_after-first slots ends chained.key chained.chain place within
+module _ {T : Type 0} (slots : ℕ → Option (Node T)) (ends : Ends) (chained : IsChained slots ends)
+  where
+    -- that many steps lead to the key of that place
+    step_is : (place : ℕ) → place < ends.len → key_after slots ends.first place ≡ chained.key place
+    step_is place within = key_after-first slots ends chained.key chained.chain place within
 
-  pub held_after : (place : ℕ) → place < ends.len → IsSome (slots (key_after slots ends.first place))
-  held_after place within =
-      ap (λ k. is_some (slots k)) (step_is place within) ∙ held_at slots ends chained.key chained.chain place within
+    pub held_after : (place : ℕ) → place < ends.len
+        → IsSome (slots (key_after slots ends.first place))
+    held_after place within =
+        ap (λ k. is_some (slots k)) (step_is place within) ∙ held_at slots ends chained.key
+        chained.chain place within
 
-  pub item_after : (place : ℕ) → place < ends.len
-      → slice_get (values_of slots ends) place ≡ value_in (slots (key_after slots ends.first place))
-  item_after place within =
-      get-values_of slots ends chained.key chained.chain place within
-      ∙ ap (λ k. value_in (slots k)) (sym (step_is place within))
+    pub item_after : (place : ℕ) → place < ends.len
+        → slice_get (values_of slots ends) place
+        ≡ value_in (slots (key_after slots ends.first place))
+    item_after place within =
+        get-values_of slots ends chained.key chained.chain place within
+        ∙ ap (λ k. value_in (slots k)) (sym (step_is place within))
 
-  -- the last node is that many steps from the first
-  pub last_after : (place : ℕ) → suc place ≡ ends.len → ends.last ≡ key_after slots ends.first place
-  last_after place is = chained.chain.last place is ∙ sym (step_is place (omega arith))
+    -- the last node is that many steps from the first
+    pub last_after : (place : ℕ) → suc place ≡ ends.len
+        → ends.last ≡ key_after slots ends.first place
+    last_after place is = chained.chain.last place is ∙ sym (step_is place (omega arith))
 
-  -- a node names the one a step before it as its previous
-  pub previous_after : (place : ℕ) → suc place < ends.len
-      → previous_key (slots (key_after slots ends.first (suc place))) ≡ key_after slots ends.first place
-  previous_after place within =
-      ap (λ k. previous_key (slots k)) (step_is (suc place) within)
-      ∙ chained.chain.previous place within
-      ∙ sym (step_is place (omega arith))
+    -- a node names the one a step before it as its previous
+    pub previous_after : (place : ℕ) → suc place < ends.len
+        → previous_key (slots (key_after slots ends.first (suc place)))
+        ≡ key_after slots ends.first place
+    previous_after place within =
+        ap (λ k. previous_key (slots k)) (step_is (suc place) within)
+        ∙ chained.chain.previous place within
+        ∙ sym (step_is place (omega arith))
 
-  -- the first node's steps are each at another node
-  pub steps_apart : (place other : ℕ) → place < ends.len → other < ends.len
-      → key_after slots ends.first place ≡ key_after slots ends.first other → place ≡ other
-  steps_apart place other within other_within same =
-      chained.chain.apart place other within other_within
-      (sym (step_is place within) ∙ same ∙ step_is other other_within)
+    -- the first node's steps are each at another node
+    pub steps_apart : (place other : ℕ) → place < ends.len → other < ends.len
+        → key_after slots ends.first place ≡ key_after slots ends.first other → place ≡ other
+    steps_apart place other within other_within same =
+        chained.chain.apart place other within other_within
+        (sym (step_is place within) ∙ same ∙ step_is other other_within)
 
-  -- the neighbours of the node at a place, if it has them, are there, and are other nodes
-  module _ (place key : ℕ) (node : Node T) (within : place < ends.len)
-      (is_there : key ≡ key_after slots ends.first place) (is_node : slots key ≡ Some node) where
-    -- the previous of the node is that at the place before
-    back_is : (before : ℕ) → suc before ≡ place → node.previous ≡ key_after slots ends.first before
-    back_is before is =
-        sym (ap previous_key is_node)
-        ∙ ap (λ k. previous_key (slots k)) (is_there ∙ ap (key_after slots ends.first) (sym is))
-        ∙ previous_after before (omega arith)
+    -- the neighbours of the node at a place, if it has them, are there, and are other nodes
+    module _ (place key : ℕ) (node : Node T) (within : place < ends.len)
+        (is_there : key ≡ key_after slots ends.first place) (is_node : slots key ≡ Some node) where
+      -- the previous of the node is that at the place before
+      back_is : (before : ℕ) → suc before ≡ place
+          → node.previous ≡ key_after slots ends.first before
+      back_is before is =
+          sym (ap previous_key is_node)
+          ∙ ap (λ k. previous_key (slots k)) (is_there ∙ ap (key_after slots ends.first) (sym is))
+          ∙ previous_after before (omega arith)
 
-    -- and its next that at the place after
-    front_is : suc place < ends.len → node.next ≡ key_after slots ends.first (suc place)
-    front_is more = sym (ap next_key is_node) ∙ ap (λ k. next_key (slots k)) is_there
+      -- and its next that at the place after
+      front_is : suc place < ends.len → node.next ≡ key_after slots ends.first (suc place)
+      front_is more = sym (ap next_key is_node) ∙ ap (λ k. next_key (slots k)) is_there
 
-    -- the node before it is there, and is another
-    pub back_there : 0 < place → IsSome (slots node.previous) × (node.previous ≢ key)
-    back_there some = by_place place refl some
-      where
-        by_place : (p : ℕ) → p ≡ place → 0 < p → IsSome (slots node.previous) × (node.previous ≢ key)
-        by_place zero is positive = absurd (omega arith)
-        by_place (suc before) is positive = (
-          rw (back_is before is) (held_after before (omega arith)),
-          λ same.
-              let both : before ≡ place =
-              steps_apart before place (omega arith) within (sym (back_is before is) ∙ same ∙ is_there) in
-              absurd (omega arith),
-        )
+      -- the node before it is there, and is another
+      pub back_there : 0 < place → IsSome (slots node.previous) × (node.previous ≢ key)
+      back_there some = by_place place refl some
+        where
+          by_place : (p : ℕ) → p ≡ place → 0 < p → IsSome (slots node.previous)
+              × (node.previous ≢ key)
+          by_place zero is positive = absurd (omega arith)
+          by_place (suc before) is positive = (
+            rw (back_is before is) (held_after before (omega arith)),
+            λ same.
+                let both : before ≡ place =
+                steps_apart before place (omega arith) within
+                (sym (back_is before is) ∙ same ∙ is_there) in
+                absurd (omega arith),
+          )
 
-    -- the node after it is there, and is another
-    pub front_there : suc place < ends.len → IsSome (slots node.next) × (node.next ≢ key)
-    front_there more = (
-      rw (front_is more) (held_after (suc place) more),
-      λ same.
-          let both : suc place ≡ place =
-          steps_apart (suc place) place more within (sym (front_is more) ∙ same ∙ is_there) in
-          absurd (omega arith),
-    )
+      -- the node after it is there, and is another
+      pub front_there : suc place < ends.len → IsSome (slots node.next) × (node.next ≢ key)
+      front_there more = (
+        rw (front_is more) (held_after (suc place) more),
+        λ same.
+            let both : suc place ≡ place =
+            steps_apart (suc place) place more within (sym (front_is more) ∙ same ∙ is_there) in
+            absurd (omega arith),
+      )
 
 -- one step along the items that are left of a list
-module _ {T : Type 0} (slots : ℕ → Option (Node T)) (whole : List T) (place : ℕ) (within : place < length whole) where
+module _ {T : Type 0} (slots : ℕ → Option (Node T)) (whole : List T) (place : ℕ)
+    (within : place < length whole) where
   -- while items are left, the node at the key is there
-  pub left_there : (count key : ℕ) → values_from slots count key ≡ drop place whole → IsSome (slots key)
+  pub left_there : (count key : ℕ) → values_from slots count key ≡ drop place whole
+      → IsSome (slots key)
   left_there zero key left = absurd (omega (arith, ap length left, length-drop place whole))
   left_there (suc count) key left = by_slot (slots key) refl
     where
@@ -182,7 +202,8 @@ module _ {T : Type 0} (slots : ℕ → Option (Node T)) (whole : List T) (place 
   -- it holds the first of them, and its next has those after it
   pub left_step : (count rest key : ℕ) (node : Node T) → slots key ≡ Some node
       → values_from slots count key ≡ drop place whole → suc rest ≡ count
-      → (values_from slots rest node.next ≡ drop (place + 1) whole) × (slice_get whole place ≡ Some node.value)
+      → (values_from slots rest node.next ≡ drop (place + 1) whole)
+      × (slice_get whole place ≡ Some node.value)
   left_step count rest key node is left one_less =
       let parts : node.value ∷ values_from slots rest node.next
       ≡ get_or whole place node.value ∷ drop (place + 1) whole =
@@ -199,9 +220,11 @@ pub record SameAt {T : Type 0} (old new : ℕ → Option (Node T)) (key : ℕ) :
   pub next : next_key (new key) ≡ next_key (old key)
   pub previous : previous_key (new key) ≡ previous_key (old key)
 
-module _ {T : Type 0} (old new : ℕ → Option (Node T)) (ends : Ends) (key : ℕ → ℕ) (chain : IsChain old ends key) where
+module _ {T : Type 0} (old new : ℕ → Option (Node T)) (ends : Ends) (key : ℕ → ℕ)
+    (chain : IsChain old ends key) where
   -- a chain whose nodes stay as they were is a chain still
-  pub chain_stays : ((place : ℕ) → place < ends.len → SameAt old new (key place)) → IsChain new ends key
+  pub chain_stays : ((place : ℕ) → place < ends.len → SameAt old new (key place))
+      → IsChain new ends key
   chain_stays same =
       record {
         held = λ place within. rw ((same place within).item) (chain.held place within);

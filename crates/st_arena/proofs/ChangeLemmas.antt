@@ -1,22 +1,24 @@
 -- A change of the items of one list: every link stays, and so do all other lists.
-use Rattle.std.proofs.Common.{◌≡◌, ◌≢◌, ℕ, suc, ◌<◌, List, length, map, set, Option, refl, sym, ap, ◌∙◌, inl}
-use Rattle.std.proofs.Common.{inr, arith, Some, IsSome, is_some}
+use Rattle.std.proofs.Common.{◌≡◌, ◌≢◌, ℕ, suc, ◌<◌, List, length, map, set, Option, refl, sym, ap}
+use Rattle.std.proofs.Common.{◌∙◌, inl, inr, arith, Some, IsSome, is_some}
 use Rattle.std.proofs.lemmas.Bool.{cases_lt, cases_eq}
 use Rattle.std.proofs.lemmas.List.{set-get_or}
 use Rattle.std.specs.List.{AllZip}
 use Rattle.st_arena.specs.declared.node.Node.{Node}
 use Rattle.st_arena.specs.declared.node.Ends.{Ends}
-use Rattle.st_arena.specs.Chain.{len_of, no_ends, ends_at, value_in, next_key, values_of, key_after, IsChain}
-use Rattle.st_arena.specs.Chain.{AreChains, Turns, ChangesItems, IsChained, SetsItem}
-use Rattle.st_arena.proofs.ChainLemmas.{SameAt, held_after, steps_apart, is_some-value_in, length-values_of}
-use Rattle.st_arena.proofs.ChainLemmas.{get-values_of, key_after-first}
+use Rattle.st_arena.specs.Chain.{len_of, no_ends, ends_at, value_in, next_key, values_of, key_after}
+use Rattle.st_arena.specs.Chain.{IsChain, AreChains, Turns, ChangesItems, IsChained, SetsItem}
+use Rattle.st_arena.proofs.ChainLemmas.{SameAt, held_after, steps_apart, is_some-value_in}
+use Rattle.st_arena.proofs.ChainLemmas.{length-values_of, get-values_of, key_after-first}
 use Rattle.st_arena.proofs.ArenaLemmas.{lists_with}
 use Rattle.st_arena.proofs.CallLemmas.{AllZip-from_places}
 
 -- ---- on one chain
 -- one item more is changed
-module _ {T : Type 0} (old now new : ℕ → Option (Node T)) (ends : Ends) (chained : IsChained old ends)
-    (R : T → T → Type 0) (count : ℕ) (so_far : ChangesItems old now R ends.first count) (within : count < ends.len)
+module _ {T : Type 0} (old now new : ℕ → Option (Node T)) (ends : Ends)
+    (chained : IsChained old ends)
+    (R : T → T → Type 0) (count : ℕ) (so_far : ChangesItems old now R ends.first count)
+    (within : count < ends.len)
     (key : ℕ) (is_there : key ≡ key_after old ends.first count) where
   -- the next node to be changed is there
   pub change_there : IsSome (now key)
@@ -27,15 +29,18 @@ module _ {T : Type 0} (old now new : ℕ → Option (Node T)) (ends : Ends) (cha
       ∙ is_some-value_in (old (key_after old ends.first count))
       ∙ held_after old ends chained count within
     where
-      not_yet : (place : ℕ) → place < count → key_after old ends.first count ≢ key_after old ends.first place
+      not_yet : (place : ℕ) → place < count
+          → key_after old ends.first count ≢ key_after old ends.first place
       not_yet place before same =
-          let both : count ≡ place = steps_apart old ends chained count place within (omega arith) same in
+          let both : count ≡ place =
+          steps_apart old ends chained count place within (omega arith) same in
           absurd (omega arith)
 
   module _ (node : Node T) (is_node : now key ≡ Some node) where
     -- and leads to the one after it
     pub change_next : node.next ≡ key_after old ends.first (suc count)
-    change_next = sym (ap next_key is_node) ∙ so_far.next_stay key ∙ ap (λ k. next_key (old k)) is_there
+    change_next = sym (ap next_key is_node) ∙ so_far.next_stay key
+        ∙ ap (λ k. next_key (old k)) is_there
 
     -- with one more item changed, one more than before are
     pub change_more : (value : T) → SetsItem now new key value → R node.value value
@@ -55,17 +60,20 @@ module _ {T : Type 0} (old now new : ℕ → Option (Node T)) (ends : Ends) (cha
                       before = turned.before;
                       after = turned.after;
                       was = turned.was;
-                      is = change.items_stay (key_after old ends.first place) (not_key place earlier) ∙ turned.is;
+                      is = change.items_stay (key_after old ends.first place)
+                          (not_key place earlier) ∙ turned.is;
                       related = turned.related;
                     }
                 | inr later ↦
                     let here : count ≡ place = omega arith in
-                    let at_key : key ≡ key_after old ends.first place = is_there ∙ ap (key_after old ends.first) here in
+                    let at_key : key ≡ key_after old ends.first place =
+                    is_there ∙ ap (key_after old ends.first) here in
                     record {
                       before = node.value;
                       after = value;
                       was =
-                          sym (so_far.items_stay (key_after old ends.first place) (not_yet place here))
+                          sym (so_far.items_stay (key_after old ends.first place)
+                          (not_yet place here))
                           ∙ ap (λ k. value_in (now k)) (sym at_key)
                           ∙ ap value_in is_node;
                       is = ap (λ k. value_in (new k)) (sym at_key) ∙ change.changed;
@@ -83,17 +91,20 @@ module _ {T : Type 0} (old now new : ℕ → Option (Node T)) (ends : Ends) (cha
         not_yet : (place : ℕ) → count ≡ place → (other : ℕ) → other < count
             → key_after old ends.first place ≢ key_after old ends.first other
         not_yet place here other before same =
-            let both : place ≡ other = steps_apart old ends chained place other (omega arith) (omega arith) same in
+            let both : place ≡ other =
+            steps_apart old ends chained place other (omega arith) (omega arith) same in
             absurd (omega arith)
 
 -- ---- among all lists
 module _ {T : Type 0} (old new : ℕ → Option (Node T)) (ends : List Ends) (count capacity : ℕ)
-    (sound : AreChains old ends count capacity) (list : ℕ) (in_range : list < length ends) (R : T → T → Type 0)
+    (sound : AreChains old ends count capacity) (list : ℕ) (in_range : list < length ends)
+    (R : T → T → Type 0)
     (change : ChangesItems old new R (ends_at ends list).first (len_of (ends_at ends list))) where
   -- that many steps lead to the key of that place
   change_steps : (place : ℕ) → place < len_of (ends_at ends list)
       → key_after old (ends_at ends list).first place ≡ sound.key list place
-  change_steps place within = key_after-first old (ends_at ends list) (sound.key list) (sound.chain list) place within
+  change_steps place within =
+      key_after-first old (ends_at ends list) (sound.key list) (sound.chain list) place within
 
   -- each item of the list became one that R relates to it
   change_turns : (place : ℕ) → place < len_of (ends_at ends list)
@@ -108,7 +119,8 @@ module _ {T : Type 0} (old new : ℕ → Option (Node T)) (ends : List Ends) (co
         item =
             change.items_stay _
             (λ there within same.
-            sound.disjoint other list place there differs inside within (same ∙ change_steps there within));
+            sound.disjoint other list place there differs inside within
+            (same ∙ change_steps there within));
         next = change.next_stay _;
         previous = change.previous_stay _;
       }
@@ -129,7 +141,8 @@ module _ {T : Type 0} (old new : ℕ → Option (Node T)) (ends : List Ends) (co
         first = (sound.chain other).first;
         last = (sound.chain other).last;
         next = λ place inside. change.next_stay _ ∙ (sound.chain other).next place inside;
-        previous = λ place inside. change.previous_stay _ ∙ (sound.chain other).previous place inside;
+        previous = λ place inside. change.previous_stay _ ∙ (sound.chain other).previous place
+            inside;
       }
 
   -- all is sound after the change
@@ -145,7 +158,8 @@ module _ {T : Type 0} (old new : ℕ → Option (Node T)) (ends : List Ends) (co
       }
 
   -- of all lists only that one changed
-  pub change_lists : map (values_of new) ends ≡ set (map (values_of old) ends) list (values_of new (ends_at ends list))
+  pub change_lists : map (values_of new) ends
+      ≡ set (map (values_of old) ends) list (values_of new (ends_at ends list))
   change_lists =
       ap (map (values_of new)) (sym (set-get_or ends list no_ends))
       ∙ lists_with old new ends count capacity sound list in_range (ends_at ends list)

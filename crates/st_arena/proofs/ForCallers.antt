@@ -10,6 +10,6 @@ pub use Rattle.st_arena.proofs.RankLemmas.{new_live, new_mark_live, new_mark_dea
 -- ---- a queue in slots
 pub use Rattle.st_arena.proofs.QueueLemmas.{kept-get, kept-take, kept-put, kept-map_Some}
 -- ---- slots and their ranks
-pub use Rattle.st_arena.proofs.QueueLemmas.{ranks_room, rank-before, live-kept, marked_dead, live_item}
-pub use Rattle.st_arena.proofs.QueueLemmas.{ranks-take, ranks-put, ranks-new}
+pub use Rattle.st_arena.proofs.QueueLemmas.{ranks_room, rank-before, live-kept, marked_dead}
+pub use Rattle.st_arena.proofs.QueueLemmas.{live_item, ranks-take, ranks-put, ranks-new}
 pub use Rattle.st_arena.proofs.QueueLemmas.{selected_inside, selected_item, selected_take}

@@ -1,26 +1,29 @@
 -- The keys of a list's nodes, place by place: they follow the links, so they stay where the links
 -- do, and one list's change changes the keys of that list alone.
-use Rattle.std.proofs.Common.{◌≡◌, ◌≢◌, ℕ, zero, suc, ◌+◌, ◌<◌, ◌≤◌, List, [], ◌∷◌, ◌++◌, length, get_or, set, map}
-use Rattle.std.proofs.Common.{Option, Some, None, IfSome, remove, slice_get, refl, sym, ap, ◌∙◌, inl, inr, arith}
-use Rattle.std.proofs.Common.{Result, Ok, Err, false}
+use Rattle.std.proofs.Common.{◌≡◌, ◌≢◌, ℕ, zero, suc, ◌+◌, ◌<◌, ◌≤◌, List, [], ◌∷◌, ◌++◌, length}
+use Rattle.std.proofs.Common.{get_or, set, map, Option, Some, None, IfSome, remove, slice_get, refl}
+use Rattle.std.proofs.Common.{sym, ap, ◌∙◌, inl, inr, arith, Result, Ok, Err, false}
 use Rattle.std.specs.Prelude.{IfOk, OnOk, OnErr, nat_eq}
 use Rattle.std.specs.Result.{result_ok}
 use Rattle.std.proofs.lemmas.Bool.{cases_lt, cases_eq, ne_eqb}
-use Rattle.std.proofs.lemmas.List.{length_push, get_or_append_left, get_or_push, same_lists, get_or-set_same}
-use Rattle.std.proofs.lemmas.List.{get_or-set_other}
+use Rattle.std.proofs.lemmas.List.{length_push, get_or_append_left, get_or_push, same_lists}
+use Rattle.std.proofs.lemmas.List.{get_or-set_same, get_or-set_other}
 use Rattle.std.proofs.lemmas.List.Edits.{length-remove, get_or-remove_below, get_or-remove_above}
 use Rattle.std.proofs.lemmas.Option.{slice_get-get_or, same_Some}
 use Rattle.st_arena.specs.declared.node.Node.{Node}
 use Rattle.st_arena.specs.declared.node.Ends.{Ends}
-use Rattle.st_arena.specs.Chain.{len_of, no_ends, ends_at, key_after, keys, node_keys, IsChain, AreChains, AreLadders}
-use Rattle.st_arena.specs.Chain.{KeepsLadder, Appends, Unlinks, ChangesItems}
+use Rattle.st_arena.specs.Chain.{len_of, no_ends, ends_at, key_after, keys, node_keys, IsChain}
+use Rattle.st_arena.specs.Chain.{AreChains, AreLadders, KeepsLadder, Appends, Unlinks, ChangesItems}
 use Rattle.st_arena.proofs.ChainLemmas.{SameAt, chain_stays, key_after-first}
-use Rattle.st_arena.proofs.AppendLemmas.{append_row, append_row-below, append_row-end, append_others, append_here}
-use Rattle.st_arena.proofs.UnlinkLemmas.{unlink_row, unlink_row-below, unlink_row-above, unlink_others, unlink_here}
+use Rattle.st_arena.proofs.AppendLemmas.{append_row, append_row-below, append_row-end}
+use Rattle.st_arena.proofs.AppendLemmas.{append_others, append_here}
+use Rattle.st_arena.proofs.UnlinkLemmas.{unlink_row, unlink_row-below, unlink_row-above}
+use Rattle.st_arena.proofs.UnlinkLemmas.{unlink_others, unlink_here}
 use Rattle.st_arena.proofs.ChangeLemmas.{change_chain}
 
 -- a slot more for one key more
-pub map_Some-push : (xs : List ℕ) (x : ℕ) → map (λ n. Some n) xs ++ Some x ∷ [] ≡ map (λ n. Some n) (xs ++ x ∷ [])
+pub map_Some-push : (xs : List ℕ) (x : ℕ)
+    → map (λ n. Some n) xs ++ Some x ∷ [] ≡ map (λ n. Some n) (xs ++ x ∷ [])
 map_Some-push [] x = refl
 map_Some-push (y ∷ ys) x = ap (λ t. Some y ∷ t) (map_Some-push ys x)
 
@@ -40,18 +43,22 @@ module _ {T : Type 0} (slots : ℕ → Option (Node T)) where
       let len = length-keys count first in
       elim (cases_lt place count) [
         | inl before ↦
-            get_or_append_left (keys slots count first) (key_after slots first count ∷ []) default place
+            get_or_append_left (keys slots count first) (key_after slots first count ∷ []) default
+            place
             (omega (arith, len, before))
             ∙ get_or-keys count first place default before
         | inr past ↦
             let here : place ≡ count = omega (arith, inside, past) in
-            get_or_push (keys slots count first) (key_after slots first count) default place (omega (arith, len, here))
+            get_or_push (keys slots count first) (key_after slots first count) default place
+            (omega (arith, len, here))
             ∙ ap (key_after slots first) (sym here)
       ]
 
 -- a list of that length with the key at each place is the list of keys
-pub keys_are : {T : Type 0} (slots : ℕ → Option (Node T)) (count first : ℕ) (found : List ℕ) → length found ≡ count
-    → ((place default : ℕ) → place < count → get_or found place default ≡ key_after slots first place)
+pub keys_are : {T : Type 0} (slots : ℕ → Option (Node T)) (count first : ℕ) (found : List ℕ)
+    → length found ≡ count
+    → ((place default : ℕ) → place < count
+    → get_or found place default ≡ key_after slots first place)
     → found ≡ keys slots count first
 keys_are slots count first found len each =
     let many = length-keys slots count first in
@@ -61,7 +68,8 @@ keys_are slots count first found len each =
     each place default within ∙ sym (get_or-keys slots count first place default within))
 
 -- a chain keeps its keys where its nodes' links stay
-pub keys_stay : {T : Type 0} (old new : ℕ → Option (Node T)) (ends : Ends) (key : ℕ → ℕ) → IsChain old ends key
+pub keys_stay : {T : Type 0} (old new : ℕ → Option (Node T)) (ends : Ends) (key : ℕ → ℕ)
+    → IsChain old ends key
     → IsChain new ends key → node_keys old ends ≡ node_keys new ends
 keys_stay old new ends key chain later =
     keys_are new ends.len ends.first (node_keys old ends) (length-keys old ends.len ends.first)
@@ -82,7 +90,8 @@ keys_push old new ends after key row chain later longer below last at_end =
     (λ place default inside.
     elim (cases_lt place ends.len) [
       | inl before ↦
-          get_or_append_left (node_keys old ends) (last ∷ []) default place (omega (arith, many, before))
+          get_or_append_left (node_keys old ends) (last ∷ []) default place
+          (omega (arith, many, before))
           ∙ get_or-keys old ends.len ends.first place default before
           ∙ key_after-first old ends key chain place before
           ∙ sym (below place before)
@@ -96,7 +105,8 @@ keys_push old new ends after key row chain later longer below last at_end =
     ])
 
 -- a key fewer at a place
-pub keys_remove : {T : Type 0} (old new : ℕ → Option (Node T)) (ends after : Ends) (key row : ℕ → ℕ) (place : ℕ)
+pub keys_remove : {T : Type 0} (old new : ℕ → Option (Node T)) (ends after : Ends) (key row : ℕ → ℕ)
+    (place : ℕ)
     → IsChain old ends key → IsChain new after row → suc after.len ≡ ends.len → place < ends.len
     → ((other : ℕ) → other < place → row other ≡ key other)
     → ((other : ℕ) → place ≤ other → row other ≡ key (suc other))
@@ -104,18 +114,21 @@ pub keys_remove : {T : Type 0} (old new : ℕ → Option (Node T)) (ends after :
 keys_remove old new ends after key row place chain later shorter within below above =
     let many = length-keys old ends.len ends.first in
     let fewer = length-remove (node_keys old ends) place (omega (arith, many, within)) in
-    keys_are new after.len after.first (remove (node_keys old ends) place) (omega (arith, many, fewer, shorter))
+    keys_are new after.len after.first (remove (node_keys old ends) place)
+    (omega (arith, many, fewer, shorter))
     (λ other default inside.
     elim (cases_lt other place) [
       | inl before ↦
-          get_or-remove_below (node_keys old ends) place default other before (omega (arith, many, within))
+          get_or-remove_below (node_keys old ends) place default other before
+          (omega (arith, many, within))
           ∙ get_or-keys old ends.len ends.first other default (omega (arith, before, within))
           ∙ key_after-first old ends key chain other (omega (arith, before, within))
           ∙ sym (below other before)
           ∙ sym (key_after-first new after row later other inside)
       | inr behind ↦
           let next : other + 1 ≡ suc other = omega arith in
-          get_or-remove_above (node_keys old ends) place default other behind (omega (arith, many, within))
+          get_or-remove_above (node_keys old ends) place default other behind
+          (omega (arith, many, within))
           ∙ ap (λ p. get_or (node_keys old ends) p default) next
           ∙ get_or-keys old ends.len ends.first (suc other) default (omega (arith, inside, shorter))
           ∙ key_after-first old ends key chain (suc other) (omega (arith, inside, shorter))
@@ -125,19 +138,23 @@ keys_remove old new ends after key row place chain later shorter within below ab
 
 -- ---- a list's ladder
 -- what a ladder holds at a place is the key there
-pub ladder_key : {T : Type 0} (slots : ℕ → Option (Node T)) (ends : Ends) (place key : ℕ) (ladder : List ℕ)
-    (found : Option (List ℕ)) → IfSome found (λ l. l ≡ node_keys slots ends) → found ≡ Some ladder → place < ends.len
+pub ladder_key : {T : Type 0} (slots : ℕ → Option (Node T)) (ends : Ends) (place key : ℕ)
+    (ladder : List ℕ)
+    (found : Option (List ℕ)) → IfSome found (λ l. l ≡ node_keys slots ends) → found ≡ Some ladder
+    → place < ends.len
     → slice_get ladder place ≡ Some key → key ≡ key_after slots ends.first place
 ladder_key slots ends place key ladder found holds is inside there =
     let same : ladder ≡ node_keys slots ends = rw is at holds in
     let many = length-keys slots ends.len ends.first in
-    let read : slice_get (node_keys slots ends) place ≡ Some (get_or (node_keys slots ends) place key) =
+    let read : slice_get (node_keys slots ends) place
+    ≡ Some (get_or (node_keys slots ends) place key) =
     slice_get-get_or (node_keys slots ends) place key (omega (arith, many, inside)) in
     same_Some _ _ (sym there ∙ ap (λ l. slice_get l place) same ∙ read)
     ∙ get_or-keys slots ends.len ends.first place key inside
 
 -- what holds of a value that is there
-pub if_some : {A : Type 0} (P : A → Type 0) (found : Option A) (x : A) → IfSome found P → found ≡ Some x → P x
+pub if_some : {A : Type 0} (P : A → Type 0) (found : Option A) (x : A) → IfSome found P
+    → found ≡ Some x → P x
 if_some P found x holds is = rw is at holds
 
 -- and of a result that is `Ok`
@@ -147,13 +164,15 @@ if_ok P (Ok y) x holds is = rw (same_Some y x is) at holds
 if_ok P (Err e) x holds is = absurd cc
 
 -- what follows from both outcomes
-pub either_way : {A E : Type 0} (P Q R : Type 0) (result : Result A E) → OnOk result P → OnErr result Q → (P → R)
+pub either_way : {A E : Type 0} (P Q R : Type 0) (result : Result A E) → OnOk result P
+    → OnErr result Q → (P → R)
     → (Q → R) → R
 either_way P Q R (Ok x) ok err from_ok from_err = from_ok ok
 either_way P Q R (Err e) ok err from_ok from_err = from_err err
 
 -- the ladder of one list was put in
-pub ladder_joins : (old new : ℕ → Option (List ℕ)) (list : ℕ) (ladder wanted : List ℕ) → ladder ≡ wanted
+pub ladder_joins : (old new : ℕ → Option (List ℕ)) (list : ℕ) (ladder wanted : List ℕ)
+    → ladder ≡ wanted
     → new list ≡ Some ladder → ((other : ℕ) → nat_eq list other ≡ false → new other ≡ old other)
     → KeepsLadder old new list wanted
 ladder_joins old new list ladder wanted same here others =
@@ -163,7 +182,8 @@ ladder_joins old new list ladder wanted same here others =
     }
 
 -- or there was no memory for it
-pub ladder_stays_out : (old new : ℕ → Option (List ℕ)) (list : ℕ) (wanted : List ℕ) → old list ≡ None
+pub ladder_stays_out : (old new : ℕ → Option (List ℕ)) (list : ℕ) (wanted : List ℕ)
+    → old list ≡ None
     → ((other : ℕ) → new other ≡ old other) → KeepsLadder old new list wanted
 ladder_stays_out old new list wanted none same =
     record {
@@ -172,26 +192,30 @@ ladder_stays_out old new list wanted none same =
     }
 
 -- what follows of a ladder that is there
-if_some_then : {A : Type 0} (P Q : A → Type 0) (found : Option A) → ((x : A) → P x → Q x) → IfSome found P
+if_some_then : {A : Type 0} (P Q : A → Type 0) (found : Option A) → ((x : A) → P x → Q x)
+    → IfSome found P
     → IfSome found Q
 if_some_then P Q None follows holds = tt
 if_some_then P Q (Some x) follows holds = follows x holds
 
 -- ---- among all lists: only one list's ladder changes
 module _ {T : Type 0} (old new : ℕ → Option (Node T)) (ends : List Ends) (count capacity : ℕ)
-    (sound : AreChains old ends count capacity) (ladders : ℕ → Option (List ℕ)) (have : AreLadders old ends ladders)
+    (sound : AreChains old ends count capacity) (ladders : ℕ → Option (List ℕ))
+    (have : AreLadders old ends ladders)
     (list : ℕ) where
   module _ (in_range : list < length ends) (after : Ends) where
     -- where the nodes of all other lists stay, each ladder holds the keys of its list
     ladders_with : (later : ℕ → Option (List ℕ))
         → ((other place : ℕ) → other ≢ list → place < len_of (ends_at ends other)
         → SameAt old new (sound.key other place))
-        → KeepsLadder ladders later list (node_keys new after) → AreLadders new (set ends list after) later
+        → KeepsLadder ladders later list (node_keys new after)
+        → AreLadders new (set ends list after) later
     ladders_with later same kept other =
         elim (cases_eq other list) [
           | inl is ↦
               let here : ends_at (set ends list after) other ≡ after =
-              ap (ends_at (set ends list after)) is ∙ get_or-set_same ends list after no_ends in_range in
+              ap (ends_at (set ends list after)) is ∙ get_or-set_same ends list after no_ends
+              in_range in
               rw (here, is) kept.here
           | inr differs ↦
               let there : ends_at (set ends list after) other ≡ ends_at ends other =
@@ -209,45 +233,61 @@ module _ {T : Type 0} (old new : ℕ → Option (Node T)) (ends : List Ends) (co
       append_ladder =
           let more =
           keys_push old new (ends_at ends list) after (sound.key list)
-          (append_row old new ends count capacity sound list in_range after value change) (sound.chain list)
-          (append_here old new ends count capacity sound list in_range after value change) change.len
-          (append_row-below old new ends count capacity sound list in_range after value change) after.last
-          (append_row-end old new ends count capacity sound list in_range after value change ∙ sym change.last) in
-          if_some_then _ _ (ladders list) (λ l is. ap (λ ks. ks ++ after.last ∷ []) is ∙ more) (have list)
+          (append_row old new ends count capacity sound list in_range after value change)
+          (sound.chain list)
+          (append_here old new ends count capacity sound list in_range after value change)
+          change.len
+          (append_row-below old new ends count capacity sound list in_range after value change)
+          after.last
+          (append_row-end old new ends count capacity sound list in_range after value change
+          ∙ sym change.last) in
+          if_some_then _ _ (ladders list) (λ l is. ap (λ ks. ks ++ after.last ∷ []) is ∙ more)
+          (have list)
 
       -- and leaves all others
-      pub append_ladders : (later : ℕ → Option (List ℕ)) → KeepsLadder ladders later list (node_keys new after)
+      pub append_ladders : (later : ℕ → Option (List ℕ))
+          → KeepsLadder ladders later list (node_keys new after)
           → AreLadders new (set ends list after) later
       append_ladders later =
-          ladders_with later (append_others old new ends count capacity sound list in_range after value change)
+          ladders_with later (append_others old new ends count capacity sound list in_range after
+          value change)
 
-    module _ (place gone : ℕ) (value : T) (change : Unlinks old new (ends_at ends list) after place gone value)
+    module _ (place gone : ℕ) (value : T)
+        (change : Unlinks old new (ends_at ends list) after place gone value)
         (within : place < len_of (ends_at ends list)) (is_there : gone ≡ sound.key list place) where
       -- a take takes the key at the place out of the list's ladder
       pub unlink_ladder : IfSome (ladders list) (λ l. remove l place ≡ node_keys new after)
       unlink_ladder =
           let fewer =
           keys_remove old new (ends_at ends list) after (sound.key list)
-          (unlink_row old new ends count capacity sound list in_range after place gone value change within is_there)
+          (unlink_row old new ends count capacity sound list in_range after place gone value change
+          within is_there)
           place (sound.chain list)
-          (unlink_here old new ends count capacity sound list in_range after place gone value change within is_there)
+          (unlink_here old new ends count capacity sound list in_range after place gone value change
+          within is_there)
           change.len within
-          (unlink_row-below old new ends count capacity sound list in_range after place gone value change within
+          (unlink_row-below old new ends count capacity sound list in_range after place gone value
+          change within
           is_there)
-          (unlink_row-above old new ends count capacity sound list in_range after place gone value change within
+          (unlink_row-above old new ends count capacity sound list in_range after place gone value
+          change within
           is_there) in
-          if_some_then _ _ (ladders list) (λ l is. ap (λ ks. remove ks place) is ∙ fewer) (have list)
+          if_some_then _ _ (ladders list) (λ l is. ap (λ ks. remove ks place) is ∙ fewer)
+          (have list)
 
       -- and leaves all others
-      pub unlink_ladders : (later : ℕ → Option (List ℕ)) → KeepsLadder ladders later list (node_keys new after)
+      pub unlink_ladders : (later : ℕ → Option (List ℕ))
+          → KeepsLadder ladders later list (node_keys new after)
           → AreLadders new (set ends list after) later
       unlink_ladders later =
           ladders_with later
-          (unlink_others old new ends count capacity sound list in_range after place gone value change within is_there)
+          (unlink_others old new ends count capacity sound list in_range after place gone value
+          change within is_there)
 
   -- a change of one list's items leaves all ladders
   pub change_ladders : list < length ends → (R : T → T → Type 0)
-      → ChangesItems old new R (ends_at ends list).first (len_of (ends_at ends list)) → AreLadders new ends ladders
+      → ChangesItems old new R (ends_at ends list).first (len_of (ends_at ends list))
+      → AreLadders new ends ladders
   change_ladders in_range R change other =
       let stay =
       keys_stay old new (ends_at ends other) (sound.key other) (sound.chain other)

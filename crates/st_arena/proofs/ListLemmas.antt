@@ -1,7 +1,8 @@
 -- The code read the ends of a list (`found`) from their table, so a fact about the chain of each
 -- list holds of the one that a call names.
-use Rattle.std.proofs.Common.{◌≡◌, ℕ, zero, suc, ◌+◌, ◌<◌, ◌≤◌, List, [], ◌∷◌, ◌++◌, length, get_or, map, set}
-use Rattle.std.proofs.Common.{Option, Some, None, IsSome, IfSome, remove, slice_get, refl, sym, ap, ◌∙◌, arith}
+use Rattle.std.proofs.Common.{◌≡◌, ℕ, zero, suc, ◌+◌, ◌<◌, ◌≤◌, List, [], ◌∷◌, ◌++◌, length, get_or}
+use Rattle.std.proofs.Common.{map, set, Option, Some, None, IsSome, IfSome, remove, slice_get, refl}
+use Rattle.std.proofs.Common.{sym, ap, ◌∙◌, arith}
 use Rattle.std.specs.List.{AllZip}
 use Rattle.std.proofs.lemmas.List.{length-map, get_or_read}
 use Rattle.std.proofs.lemmas.List.Sums.{sum_by-set}
@@ -9,19 +10,24 @@ use Rattle.std.proofs.lemmas.Option.{slice_get_past}
 use Rattle.st_arena.specs.declared.node.Node.{Node}
 use Rattle.st_arena.specs.declared.node.Ends.{Ends}
 use Rattle.st_arena.specs.Calls.{Computes}
-use Rattle.st_arena.specs.Chain.{len_of, no_ends, ends_at, value_in, values_of, key_after, IsChained, AreChains}
+use Rattle.st_arena.specs.Chain.{len_of, no_ends, ends_at, value_in, values_of, key_after}
+use Rattle.st_arena.specs.Chain.{IsChained, AreChains}
 use Rattle.st_arena.specs.Chain.{node_keys, AreLadders, KeepsLadder, Appends, Unlinks, ChangesItems}
 use Rattle.st_arena.proofs.CallLemmas.{map-from_AllZip}
-use Rattle.st_arena.proofs.ChainLemmas.{length-values_of, held_after, last_after, item_after, key_after-first}
+use Rattle.st_arena.proofs.ChainLemmas.{length-values_of, held_after, last_after, item_after}
+use Rattle.st_arena.proofs.ChainLemmas.{key_after-first}
 use Rattle.st_arena.proofs.ArenaLemmas.{list_of_map}
 use Rattle.st_arena.proofs.AppendLemmas.{append_here, append_sound, append_lists}
 use Rattle.st_arena.proofs.UnlinkLemmas.{unlink_here, unlink_sound, unlink_lists}
-use Rattle.st_arena.proofs.LadderLemmas.{append_ladder, append_ladders, unlink_ladder, unlink_ladders, change_ladders}
+use Rattle.st_arena.proofs.LadderLemmas.{append_ladder, append_ladders, unlink_ladder}
+use Rattle.st_arena.proofs.LadderLemmas.{unlink_ladders, change_ladders}
 use Rattle.st_arena.proofs.ChangeLemmas.{change_sound, change_lists, change_each}
 
 module _ {T : Type 0} (slots : ℕ → Option (Node T)) (ends : List Ends) (count capacity : ℕ)
-    (sound : AreChains slots ends count capacity) (lists : List (List T)) (view : map (values_of slots) ends ≡ lists)
-    (list : ℕ) (in_range : list < length lists) (found : Ends) (read : found ≡ get_or ends list found) where
+    (sound : AreChains slots ends count capacity) (lists : List (List T))
+    (view : map (values_of slots) ends ≡ lists)
+    (list : ℕ) (in_range : list < length lists) (found : Ends)
+    (read : found ≡ get_or ends list found) where
   -- the list has ends
   in_ends : list < length ends
   in_ends = omega (arith, in_range, ap length view, length-map ends (values_of slots))
@@ -54,7 +60,8 @@ module _ {T : Type 0} (slots : ℕ → Option (Node T)) (ends : List Ends) (coun
   get_past place past = slice_get_past (get_or lists list []) place (omega (arith, len_is))
 
   -- below it there is what the node at the place holds
-  pub get_at : (place key : ℕ) (node : Node T) → place < found.len → key ≡ key_after slots found.first place
+  pub get_at : (place key : ℕ) (node : Node T) → place < found.len
+      → key ≡ key_after slots found.first place
       → slots key ≡ Some node → slice_get (get_or lists list []) place ≡ Some node.value
   get_at place key node within is_there is_node =
       ap (λ xs. slice_get xs place) list_is
@@ -63,7 +70,8 @@ module _ {T : Type 0} (slots : ℕ → Option (Node T)) (ends : List Ends) (coun
       ∙ ap value_in is_node
 
   -- the same, of a slot that holds the value
-  pub get_held : (place key : ℕ) (value : T) → place < found.len → key ≡ key_after slots found.first place
+  pub get_held : (place key : ℕ) (value : T) → place < found.len
+      → key ≡ key_after slots found.first place
       → value_in (slots key) ≡ Some value → slice_get (get_or lists list []) place ≡ Some value
   get_held place key value within is_there held =
       ap (λ xs. slice_get xs place) list_is
@@ -73,7 +81,12 @@ module _ {T : Type 0} (slots : ℕ → Option (Node T)) (ends : List Ends) (coun
 
   -- no list has more nodes than there are
   pub counted : found.len ≤ count
-  counted = omega (arith, sound.total, ap len_of found_is, sum_by-set len_of ends list no_ends no_ends in_ends)
+  counted = omega (
+    arith,
+    sound.total,
+    ap len_of found_is,
+    sum_by-set len_of ends list no_ends no_ends in_ends,
+  )
 
   -- the last node of a list that has some is there
   pub last_there : 0 < found.len → IsSome (slots found.last)
@@ -82,7 +95,8 @@ module _ {T : Type 0} (slots : ℕ → Option (Node T)) (ends : List Ends) (coun
       by_len : (len : ℕ) → len ≡ found.len → 0 < len → IsSome (slots found.last)
       by_len zero is positive = absurd (omega arith)
       by_len (suc last) is positive =
-          rw (last_after slots found chained last is) (held_after slots found chained last (omega arith))
+          rw (last_after slots found chained last is)
+          (held_after slots found chained last (omega arith))
 
   -- the list's ladder, if it has one, holds the keys of the nodes
   pub ladder_is : (ladders : ℕ → Option (List ℕ)) → AreLadders slots ends ladders
@@ -96,13 +110,16 @@ module _ {T : Type 0} (slots : ℕ → Option (Node T)) (ends : List Ends) (coun
       appends = rw found_is at change
 
       -- after it all is sound
-      pub push_sound : (new_count new_capacity : ℕ) → new_count ≡ count + 1 → new_count ≤ new_capacity
+      pub push_sound : (new_count new_capacity : ℕ) → new_count ≡ count + 1
+          → new_count ≤ new_capacity
           → AreChains new (set ends list after) new_count new_capacity
       push_sound = append_sound slots new ends count capacity sound list in_ends after value appends
 
       -- and the value is at the end of that list alone
-      pub push_lists : map (values_of new) (set ends list after) ≡ set lists list (get_or lists list [] ++ value ∷ [])
-      push_lists = rw view at (append_lists slots new ends count capacity sound list in_ends after value appends)
+      pub push_lists : map (values_of new) (set ends list after)
+          ≡ set lists list (get_or lists list [] ++ value ∷ [])
+      push_lists = rw view at (append_lists slots new ends count capacity sound list in_ends after
+          value appends)
 
       -- the list is a chain with the value at its end
       pub push_chained : IsChained new after
@@ -116,13 +133,16 @@ module _ {T : Type 0} (slots : ℕ → Option (Node T)) (ends : List Ends) (coun
       pub push_ladder : (ladders : ℕ → Option (List ℕ)) → AreLadders slots ends ladders
           → IfSome (ladders list) (λ l. l ++ after.last ∷ [] ≡ node_keys new after)
       push_ladder ladders have =
-          append_ladder slots new ends count capacity sound ladders have list in_ends after value appends
+          append_ladder slots new ends count capacity sound ladders have list in_ends after value
+          appends
 
       -- once it has it, all ladders are right
       pub push_ladders : (ladders later : ℕ → Option (List ℕ)) → AreLadders slots ends ladders
-          → KeepsLadder ladders later list (node_keys new after) → AreLadders new (set ends list after) later
+          → KeepsLadder ladders later list (node_keys new after)
+          → AreLadders new (set ends list after) later
       push_ladders ladders later have =
-          append_ladders slots new ends count capacity sound ladders have list in_ends after value appends later
+          append_ladders slots new ends count capacity sound ladders have list in_ends after value
+          appends later
 
     module _ (place key : ℕ) (value : T) (change : Unlinks slots new found after place key value)
         (within : place < found.len) (is_there : key ≡ key_after slots found.first place) where
@@ -139,26 +159,32 @@ module _ {T : Type 0} (slots : ℕ → Option (Node T)) (ends : List Ends) (coun
       there =
           is_there
           ∙ ap (λ e. key_after slots e.first place) found_is
-          ∙ key_after-first slots (ends_at ends list) (sound.key list) (sound.chain list) place inside
+          ∙ key_after-first slots (ends_at ends list) (sound.key list) (sound.chain list) place
+          inside
 
       -- after it all is sound
-      pub take_sound : (new_count new_capacity : ℕ) → new_count + 1 ≡ count → new_count ≤ new_capacity
+      pub take_sound : (new_count new_capacity : ℕ) → new_count + 1 ≡ count
+          → new_count ≤ new_capacity
           → AreChains new (set ends list after) new_count new_capacity
       take_sound =
-          unlink_sound slots new ends count capacity sound list in_ends after place key value unlinks inside there
+          unlink_sound slots new ends count capacity sound list in_ends after place key value
+          unlinks inside there
 
       -- and that list alone lost the item at the place
-      pub take_lists : map (values_of new) (set ends list after) ≡ set lists list (remove (get_or lists list []) place)
+      pub take_lists : map (values_of new) (set ends list after)
+          ≡ set lists list (remove (get_or lists list []) place)
       take_lists =
           rw view at
-          (unlink_lists slots new ends count capacity sound list in_ends after place key value unlinks inside there)
+          (unlink_lists slots new ends count capacity sound list in_ends after place key value
+          unlinks inside there)
 
       -- the list is a chain without the node at the place
       pub take_chained : IsChained new after
       take_chained =
           record {
             key = _;
-            chain = unlink_here slots new ends count capacity sound list in_ends after place key value unlinks inside
+            chain = unlink_here slots new ends count capacity sound list in_ends after place key
+                value unlinks inside
                 there;
           }
 
@@ -166,14 +192,17 @@ module _ {T : Type 0} (slots : ℕ → Option (Node T)) (ends : List Ends) (coun
       pub take_ladder : (ladders : ℕ → Option (List ℕ)) → AreLadders slots ends ladders
           → IfSome (ladders list) (λ l. remove l place ≡ node_keys new after)
       take_ladder ladders have =
-          unlink_ladder slots new ends count capacity sound ladders have list in_ends after place key value unlinks
+          unlink_ladder slots new ends count capacity sound ladders have list in_ends after place
+          key value unlinks
           inside there
 
       -- once it has lost it, all ladders are right
       pub take_ladders : (ladders later : ℕ → Option (List ℕ)) → AreLadders slots ends ladders
-          → KeepsLadder ladders later list (node_keys new after) → AreLadders new (set ends list after) later
+          → KeepsLadder ladders later list (node_keys new after)
+          → AreLadders new (set ends list after) later
       take_ladders ladders later have =
-          unlink_ladders slots new ends count capacity sound ladders have list in_ends after place key value unlinks
+          unlink_ladders slots new ends count capacity sound ladders have list in_ends after place
+          key value unlinks
           inside there later
 
   module _ (new : ℕ → Option (Node T)) (R : T → T → Type 0)
@@ -188,22 +217,27 @@ module _ {T : Type 0} (slots : ℕ → Option (Node T)) (ends : List Ends) (coun
     changed_sound = change_sound slots new ends count capacity sound list in_ends R changes
 
     -- and all ladders are right still
-    pub changed_ladders : (ladders : ℕ → Option (List ℕ)) → AreLadders slots ends ladders → AreLadders new ends ladders
+    pub changed_ladders : (ladders : ℕ → Option (List ℕ)) → AreLadders slots ends ladders
+        → AreLadders new ends ladders
     changed_ladders ladders have =
         change_ladders slots new ends count capacity sound ladders have list in_ends R changes
 
     -- the changed list, among all lists
     new_list : get_or (map (values_of new) ends) list [] ≡ values_of new (ends_at ends list)
-    new_list = list_of_map new new ends count capacity (changed_sound count capacity refl refl) list in_ends found
+    new_list = list_of_map new new ends count capacity (changed_sound count capacity refl refl) list
+        in_ends found
 
     -- that list alone changed
-    pub changed_lists : map (values_of new) ends ≡ set lists list (get_or (map (values_of new) ends) list [])
-    changed_lists = rw new_list (rw view at (change_lists slots new ends count capacity sound list in_ends R changes))
+    pub changed_lists : map (values_of new) ends
+        ≡ set lists list (get_or (map (values_of new) ends) list [])
+    changed_lists = rw new_list
+        (rw view at (change_lists slots new ends count capacity sound list in_ends R changes))
 
     -- each of its items became one that R relates to it
     pub changed_each : AllZip R (get_or lists list []) (get_or (map (values_of new) ends) list [])
     changed_each =
-        rw (new_list, list_is, found_is) (change_each slots new ends count capacity sound list in_ends R changes)
+        rw (new_list, list_is, found_is)
+        (change_each slots new ends count capacity sound list in_ends R changes)
 
     -- and where a function computes R, the list is mapped by it
     pub changed_mapped : (f : T → T) → Computes R f (get_or lists list [])
@@ -211,5 +245,6 @@ module _ {T : Type 0} (slots : ℕ → Option (Node T)) (ends : List Ends) (coun
     changed_mapped f computes =
         changed_lists
         ∙ ap (λ xs. set lists list xs)
-        (map-from_AllZip R f (get_or lists list []) (get_or (map (values_of new) ends) list []) computes
+        (map-from_AllZip R f (get_or lists list []) (get_or (map (values_of new) ends) list [])
+        computes
         changed_each)

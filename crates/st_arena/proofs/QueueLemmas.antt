@@ -1,6 +1,7 @@
 -- A queue in slots: a slot's rank is its item's place in the queue, since both count the live slots
 -- before it.
-use Rattle.std.proofs.Common.{◌≡◌, ◌+◌, ◌-◌, ◌<◌, ◌≤◌, ℕ, zero, suc, List, [], ◌∷◌, ◌++◌, length, take, set, get_or}
+use Rattle.std.proofs.Common.{◌≡◌, ◌+◌, ◌-◌, ◌<◌, ◌≤◌, ℕ, zero, suc, List, [], ◌∷◌, ◌++◌, length}
+use Rattle.std.proofs.Common.{take, set, get_or}
 use Rattle.std.proofs.Common.{map, Option, Some, None, slice_get, refl, sym, ap, ◌∙◌, arith}
 use Rattle.std.proofs.lemmas.List.{length-append, length-replicate}
 use Rattle.std.proofs.lemmas.List.Sums.{sum_by-cons}
@@ -13,7 +14,8 @@ use Rattle.st_arena.proofs.RankLemmas.{no_live, no_mark}
 module _ {T : Type 0} where
   -- ---- slots and the queue
   -- the item of a live slot is in the queue at the slot's rank
-  pub kept-get : (slots : List (Option T)) (slot : ℕ) (item : T) → slice_get slots slot ≡ Some (Some item)
+  pub kept-get : (slots : List (Option T)) (slot : ℕ) (item : T)
+      → slice_get slots slot ≡ Some (Some item)
       → slice_get (kept slots) (before slots slot) ≡ Some item
   kept-get [] slot item is = absurd cc
   kept-get (None ∷ slots) zero item is = absurd cc
@@ -22,16 +24,19 @@ module _ {T : Type 0} where
   kept-get (Some first ∷ slots) (suc slot) item is = kept-get slots slot item is
 
   -- an item is taken out of the queue where its slot is emptied
-  pub kept-take : (slots : List (Option T)) (slot : ℕ) (item : T) → slice_get slots slot ≡ Some (Some item)
+  pub kept-take : (slots : List (Option T)) (slot : ℕ) (item : T)
+      → slice_get slots slot ≡ Some (Some item)
       → kept (set slots slot None) ≡ remove (kept slots) (before slots slot)
   kept-take [] slot item is = absurd cc
   kept-take (None ∷ slots) zero item is = absurd cc
   kept-take (None ∷ slots) (suc slot) item is = kept-take slots slot item is
   kept-take (Some first ∷ slots) zero item is = refl
-  kept-take (Some first ∷ slots) (suc slot) item is = ap (λ t. first ∷ t) (kept-take slots slot item is)
+  kept-take (Some first ∷ slots) (suc slot) item is =
+      ap (λ t. first ∷ t) (kept-take slots slot item is)
 
   -- a put adds a live slot
-  pub kept-put : (slots : List (Option T)) (item : T) → kept (slots ++ Some item ∷ []) ≡ kept slots ++ item ∷ []
+  pub kept-put : (slots : List (Option T)) (item : T)
+      → kept (slots ++ Some item ∷ []) ≡ kept slots ++ item ∷ []
   kept-put [] item = refl
   kept-put (None ∷ slots) item = kept-put slots item
   kept-put (Some first ∷ slots) item = ap (λ t. first ∷ t) (kept-put slots item)
@@ -71,13 +76,16 @@ module _ {T : Type 0} where
       let first = sum_by-cons (λ x. x) 1 (take slot (with_spare slots spare)) in
       omega (arith, rest, first)
 
-  live_in : (slots : List (Option T)) (spare : ℕ) → sum (with_spare slots spare) ≡ length (kept slots)
+  live_in : (slots : List (Option T)) (spare : ℕ)
+      → sum (with_spare slots spare) ≡ length (kept slots)
   live_in [] spare = no_live spare
-  live_in (None ∷ slots) spare = omega (arith, live_in slots spare, sum_by-cons (λ x. x) 0 (with_spare slots spare))
+  live_in (None ∷ slots) spare =
+      omega (arith, live_in slots spare, sum_by-cons (λ x. x) 0 (with_spare slots spare))
   live_in (Some item ∷ slots) spare =
       omega (arith, live_in slots spare, sum_by-cons (λ x. x) 1 (with_spare slots spare))
 
-  mark_in : (slots : List (Option T)) (spare slot : ℕ) (item : T) → slice_get slots slot ≡ Some (Some item)
+  mark_in : (slots : List (Option T)) (spare slot : ℕ) (item : T)
+      → slice_get slots slot ≡ Some (Some item)
       → get_or (with_spare slots spare) slot 0 ≡ 1
   mark_in [] spare slot item is = absurd cc
   mark_in (None ∷ slots) spare zero item is = absurd cc
@@ -111,7 +119,8 @@ module _ {T : Type 0} where
       ap (λ t. 1 ∷ t) (take_in slots spare slot (omega (arith, inside)))
 
   put_in : (slots : List (Option T)) (spare : ℕ) (item : T)
-      → set (with_spare slots (suc spare)) (length slots) 1 ≡ with_spare (slots ++ Some item ∷ []) spare
+      → set (with_spare slots (suc spare)) (length slots) 1
+      ≡ with_spare (slots ++ Some item ∷ []) spare
   put_in [] spare item = refl
   put_in (None ∷ slots) spare item = ap (λ t. 0 ∷ t) (put_in slots spare item)
   put_in (Some first ∷ slots) spare item = ap (λ t. 1 ∷ t) (put_in slots spare item)
@@ -138,11 +147,13 @@ module _ {T : Type 0} (ranks : List ℕ) (slots : List (Option T)) (of : AreRank
   marked_dead slot past = ap (λ l. get_or l slot 0) of.are ∙ dead_in slots of.spare slot past
 
   -- a slot that is marked live holds an item
-  pub live_item : (slot : ℕ) → get_or ranks slot 0 ≡ 1 → (item : T) × (slice_get slots slot ≡ Some (Some item))
+  pub live_item : (slot : ℕ) → get_or ranks slot 0 ≡ 1
+      → (item : T) × (slice_get slots slot ≡ Some (Some item))
   live_item slot live = item_in slots of.spare slot (sym (ap (λ l. get_or l slot 0) of.are) ∙ live)
 
   -- a slot is emptied, and marked dead
-  pub ranks-take : (slot : ℕ) → slot < length slots → AreRanksOf (set ranks slot 0) (set slots slot None)
+  pub ranks-take : (slot : ℕ) → slot < length slots
+      → AreRanksOf (set ranks slot 0) (set slots slot None)
   ranks-take slot inside =
       record {
         spare = of.spare;
@@ -165,7 +176,8 @@ module _ {T : Type 0} (ranks : List ℕ) (slots : List (Option T)) (of : AreRank
 
 -- new ranks, of as many live slots as there are items
 pub ranks-new : {T : Type 0} (ranks : List ℕ) (items : List T) (spare : ℕ)
-    → ranks ≡ replicate (length items) 1 ++ replicate spare 0 → AreRanksOf ranks (map (λ x. Some x) items)
+    → ranks ≡ replicate (length items) 1 ++ replicate spare 0
+    → AreRanksOf ranks (map (λ x. Some x) items)
 ranks-new ranks items spare is =
     record {
       spare = spare;
@@ -173,7 +185,8 @@ ranks-new ranks items spare is =
     }
 
 -- the slot that `select` returned for a place
-module _ {T : Type 0} (ranks : List ℕ) (slots : List (Option T)) (of : AreRanksOf ranks slots) (slot place : ℕ)
+module _ {T : Type 0} (ranks : List ℕ) (slots : List (Option T)) (of : AreRanksOf ranks slots)
+    (slot place : ℕ)
     (live : get_or ranks slot 0 ≡ 1) (rank : sum (take slot ranks) ≡ place) where
   -- it is one of the slots
   pub selected_inside : slot < length slots

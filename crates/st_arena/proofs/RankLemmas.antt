@@ -1,7 +1,7 @@
 -- Ranks in a list of marks: a rank is a sum of the marks before a slot, so it grows by one after
 -- each live slot and stays after each dead one.
-use Rattle.std.proofs.Common.{◌≡◌, ◌+◌, ◌<◌, ◌≤◌, ℕ, zero, suc, List, [], ◌∷◌, ◌++◌, length, take, set, get_or}
-use Rattle.std.proofs.Common.{refl, ap, arith}
+use Rattle.std.proofs.Common.{◌≡◌, ◌+◌, ◌<◌, ◌≤◌, ℕ, zero, suc, List, [], ◌∷◌, ◌++◌, length, take}
+use Rattle.std.proofs.Common.{set, get_or, refl, ap, arith}
 use Rattle.std.proofs.lemmas.List.{take-set-le}
 use Rattle.std.proofs.lemmas.List.Sums.{sum_by-cons}
 use Rattle.std.specs.List.{sum}
@@ -9,9 +9,11 @@ use Rattle.std.specs.Prelude.{replicate}
 
 -- ---- in one list
 -- a later slot has no lesser rank
-pub rank-le : (marks : List ℕ) (slot later : ℕ) → slot ≤ later → sum (take slot marks) ≤ sum (take later marks)
+pub rank-le : (marks : List ℕ) (slot later : ℕ) → slot ≤ later
+    → sum (take slot marks) ≤ sum (take later marks)
 rank-le marks zero later le = let none : sum (take 0 marks) ≡ 0 = refl in omega (arith, none)
-rank-le [] (suc slot) later le = let none : sum (take (suc slot) []) ≡ 0 = refl in omega (arith, none)
+rank-le [] (suc slot) later le = let none : sum (take (suc slot) []) ≡ 0 = refl in
+    omega (arith, none)
 rank-le (x ∷ xs) (suc slot) zero le = absurd (omega (arith, le))
 rank-le (x ∷ xs) (suc slot) (suc later) le =
     let rest = rank-le xs slot later (omega (arith, le)) in
@@ -78,7 +80,8 @@ new_live (suc live) dead =
 pub new_mark_live : (live dead slot : ℕ) → slot < live → get_or (new_marks live dead) slot 0 ≡ 1
 new_mark_live zero dead slot inside = absurd (omega (arith, inside))
 new_mark_live (suc live) dead zero inside = refl
-new_mark_live (suc live) dead (suc slot) inside = new_mark_live live dead slot (omega (arith, inside))
+new_mark_live (suc live) dead (suc slot) inside =
+    new_mark_live live dead slot (omega (arith, inside))
 
 pub new_mark_dead : (live dead slot : ℕ) → live ≤ slot → get_or (new_marks live dead) slot 0 ≡ 0
 new_mark_dead zero zero slot past = refl
@@ -88,7 +91,8 @@ new_mark_dead (suc live) dead zero past = absurd (omega (arith, past))
 new_mark_dead (suc live) dead (suc slot) past = new_mark_dead live dead slot (omega (arith, past))
 
 -- a live slot is its own rank
-pub new_rank : (live dead slot : ℕ) → slot ≤ live → sum (take slot (replicate live 1 ++ replicate dead 0)) ≡ slot
+pub new_rank : (live dead slot : ℕ) → slot ≤ live
+    → sum (take slot (replicate live 1 ++ replicate dead 0)) ≡ slot
 new_rank live dead zero inside = refl
 new_rank zero dead (suc slot) inside = absurd (omega (arith, inside))
 new_rank (suc live) dead (suc slot) inside =

@@ -1,6 +1,6 @@
 -- Sums over the levels of the tree.
-use Rattle.std.proofs.Common.{◌≡◌, ℕ, zero, suc, ◌+◌, ◌<◌, ◌≤◌, ◌-◌, ◌*◌, List, length, refl, sym, ap, ◌∙◌, arith}
-use Rattle.std.proofs.Common.{inl, inr, drop, get_or, set, ◌≢◌, ◌^◌}
+use Rattle.std.proofs.Common.{◌≡◌, ℕ, zero, suc, ◌+◌, ◌<◌, ◌≤◌, ◌-◌, ◌*◌, List, length, refl, sym}
+use Rattle.std.proofs.Common.{ap, ◌∙◌, arith, inl, inr, drop, get_or, set, ◌≢◌, ◌^◌}
 use Rattle.std.proofs.lemmas.Bool.{cases_lt, cases_eq}
 use Rattle.std.proofs.lemmas.List.{get_or-drop, get_or-set_same, get_or-set_other}
 use Rattle.st_arena.specs.Tree.{count_at, sums, wide, AddsUpFrom, IsTree}
@@ -14,7 +14,8 @@ wide-positive (suc height) = let below = wide-positive height in omega (arith, b
 pub wide-le : (low high : ℕ) → low ≤ high → wide low ≤ wide high
 wide-le zero high le = let some = wide-positive high in omega (arith, some)
 wide-le (suc low) zero le = absurd (omega (arith, le))
-wide-le (suc low) (suc high) le = let below = wide-le low high (omega (arith, le)) in omega (arith, below)
+wide-le (suc low) (suc high) le = let below = wide-le low high (omega (arith, le)) in
+    omega (arith, below)
 
 module _ (f : ℕ → ℕ) where
   -- a sum over nodes is the sum over their children
@@ -29,14 +30,18 @@ module _ (f : ℕ → ℕ) where
       (suc ((start + count) + (start + count))) =
       inner (start + count) (omega (arith, some)) (omega (arith, within)) in
       let two : suc count + suc count ≡ suc (suc (count + count)) = omega arith in
-      let left : (start + count) + (start + count) ≡ (start + start) + (count + count) = omega arith in
-      let right : suc ((start + count) + (start + count)) ≡ (start + start) + suc (count + count) = omega arith in
-      let last : f (start + count) ≡ f ((start + start) + (count + count)) + f ((start + start) + suc (count + count)) =
+      let left : (start + count) + (start + count) ≡ (start + start) + (count + count) =
+      omega arith in
+      let right : suc ((start + count) + (start + count)) ≡ (start + start) + suc (count + count) =
+      omega arith in
+      let last : f (start + count) ≡ f ((start + start) + (count + count))
+      + f ((start + start) + suc (count + count)) =
       rw (← left, ← right) here in
       rw two (omega (arith, before, last))
 
   -- what counts 64 at most at each node sums up to 64 times the number of nodes at most
-  pub sums-le : (start count end : ℕ) → count ≤ end → ((leaf : ℕ) → leaf < end → f (start + leaf) ≤ 64)
+  pub sums-le : (start count end : ℕ) → count ≤ end
+      → ((leaf : ℕ) → leaf < end → f (start + leaf) ≤ 64)
       → sums f start count ≤ count * 64
   sums-le start zero end within leaf = omega arith
   sums-le start (suc count) end within leaf =
@@ -45,7 +50,8 @@ module _ (f : ℕ → ℕ) where
       omega (arith, before, here)
 
 -- a node of a level is in the tree
-pub within : (counts : List ℕ) (height : ℕ) → IsTree counts height → (level start place : ℕ) → level ≤ height
+pub within : (counts : List ℕ) (height : ℕ) → IsTree counts height → (level start place : ℕ)
+    → level ≤ height
     → start ≡ wide level → place < start → start + place < length counts
 within counts height tree level start place low is inside =
     let len : length counts ≡ wide height + wide height = tree.len in
@@ -53,22 +59,28 @@ within counts height tree level start place low is inside =
     omega (arith, len, le, is, inside)
 
 -- the climb keeps the sum within the number of slots in this many blocks
-pub rank-fits : (counts : List ℕ) (height : ℕ) → IsTree counts height → (size block sum start place : ℕ)
-    → size ≡ wide height → block < size → sum + sums (count_at counts) start place ≡ sums (count_at counts) size block
+pub rank-fits : (counts : List ℕ) (height : ℕ) → IsTree counts height
+    → (size block sum start place : ℕ)
+    → size ≡ wide height → block < size
+    → sum + sums (count_at counts) start place ≡ sums (count_at counts) size block
     → 0 < place → sum + count_at counts (start + place - 1) ≤ block * 64
 rank-fits counts height tree size block sum start place is inside total some =
     let before = place - 1 in
     let one : place ≡ suc before = omega (arith, some) in
     let node : start + place - 1 ≡ start + before = omega (arith, some) in
     let split : sums (count_at counts) start place
-    ≡ sums (count_at counts) start before + count_at counts (start + before) = ap (sums (count_at counts) start) one in
-    let at : count_at counts (start + place - 1) ≡ count_at counts (start + before) = ap (count_at counts) node in
+    ≡ sums (count_at counts) start before + count_at counts (start + before) =
+    ap (sums (count_at counts) start) one in
+    let at : count_at counts (start + place - 1) ≡ count_at counts (start + before) =
+    ap (count_at counts) node in
     let most : sums (count_at counts) size block ≤ block * 64 =
-    rw is (sums-le (count_at counts) (wide height) block (wide height) (omega (arith, is, inside)) tree.leaves) in
+    rw is (sums-le (count_at counts) (wide height) block (wide height) (omega (arith, is, inside))
+    tree.leaves) in
     omega (arith, total, split, at, most)
 
 -- a sum over an even number of nodes of a level is that over half as many one level above
-pub sums-up : (counts : List ℕ) (height : ℕ) → IsTree counts height → (level start place : ℕ) → level < height
+pub sums-up : (counts : List ℕ) (height : ℕ) → IsTree counts height → (level start place : ℕ)
+    → level < height
     → start ≡ wide (suc level) → place + place ≤ start
     → sums (count_at counts) (wide level) place ≡ sums (count_at counts) start (place + place)
 sums-up counts height tree level start place low is inside =
@@ -81,17 +93,21 @@ sums-up counts height tree level start place low is inside =
 
 -- one level down, the same slots are before the node's first child, and its children count what it
 -- counts
-pub down : (counts : List ℕ) (height : ℕ) → IsTree counts height → (level start place : ℕ) → level < height
+pub down : (counts : List ℕ) (height : ℕ) → IsTree counts height → (level start place : ℕ)
+    → level < height
     → start ≡ wide level → place < start
     → (sums (count_at counts) start place ≡ sums (count_at counts) (start + start) (place + place))
     × (count_at counts (start + place)
-    ≡ count_at counts ((start + start) + (place + place)) + count_at counts (suc ((start + start) + (place + place))))
+    ≡ count_at counts ((start + start) + (place + place)) + count_at counts
+    (suc ((start + start) + (place + place))))
 down counts height tree level start place low is inside =
     let le : wide level + wide level ≤ wide height = wide-le (suc level) height low in
     let some = wide-positive level in
     let two : (start + place) + (start + place) ≡ (start + start) + (place + place) = omega arith in
-    let here = tree.inner (start + place) (omega (arith, is, some)) (omega (arith, is, inside, le)) in (
-      sums-below (count_at counts) start place (wide height) (omega (arith, is, some)) (omega (arith, is, inside, le))
+    let here = tree.inner (start + place) (omega (arith, is, some))
+    (omega (arith, is, inside, le)) in (
+      sums-below (count_at counts) start place (wide height) (omega (arith, is, some))
+          (omega (arith, is, inside, le))
           tree.inner,
       rw (← two) here,
     )
@@ -111,12 +127,15 @@ reach-add (suc deep) a b =
 reach-one : (deep : ℕ) → reach deep 1 ≡ wide deep
 unfolding reach
 reach-one zero = refl
-reach-one (suc deep) = let one = reach-one deep in let two = reach-add deep 1 1 in omega (arith, one, two)
+reach-one (suc deep) = let one = reach-one deep in let two = reach-add deep 1 1 in
+    omega (arith, one, two)
 
 -- if the leaves count 64 at most, and the nodes from `from` on what their children count
-module _ (counts : List ℕ) (height from : ℕ) (adds : AddsUpFrom (count_at counts) from (wide height))
+module _ (counts : List ℕ) (height from : ℕ)
+    (adds : AddsUpFrom (count_at counts) from (wide height))
     (leaves : (leaf : ℕ) → leaf < wide height → count_at counts (wide height + leaf) ≤ 64) where
-  below-leaf : (node : ℕ) → node < wide height + wide height → wide height ≤ node → count_at counts node ≤ 64
+  below-leaf : (node : ℕ) → node < wide height + wide height → wide height ≤ node
+      → count_at counts node ≤ 64
   below-leaf node inside past =
       let leaf = node - wide height in
       let is : wide height + leaf ≡ node = omega (arith, past) in
@@ -132,11 +151,13 @@ module _ (counts : List ℕ) (height from : ℕ) (adds : AddsUpFrom (count_at co
         | inl inner ↦
             let sum = adds node some high inner in
             let first =
-            bound-by deep (node + node) (omega (arith, some)) (omega (arith, high)) (omega (arith, inner)) past in
+            bound-by deep (node + node) (omega (arith, some)) (omega (arith, high))
+            (omega (arith, inner)) past in
             let right : suc (node + node) ≡ (node + node) + 1 = omega arith in
             let add = ap (reach deep) right ∙ reach-add deep (node + node) 1 in
             let second =
-            bound-by deep (suc (node + node)) (omega arith) (omega (arith, high)) (omega (arith, inner))
+            bound-by deep (suc (node + node)) (omega arith) (omega (arith, high))
+            (omega (arith, inner))
             (omega (arith, past, add)) in
             omega (arith, sum, first, second)
         | inr leaf ↦
@@ -156,26 +177,32 @@ module _ (counts : List ℕ) (height from : ℕ) (adds : AddsUpFrom (count_at co
       bound-by height node some high inside (omega (arith, add, one))
 
 -- no node counts more than all slots
-pub node-bound : (counts : List ℕ) (height : ℕ) → IsTree counts height → (node : ℕ) → 0 < node → node < length counts
+pub node-bound : (counts : List ℕ) (height : ℕ) → IsTree counts height → (node : ℕ) → 0 < node
+    → node < length counts
     → count_at counts node ≤ wide height * 64
 node-bound counts height tree node some inside =
     let len : length counts ≡ wide height + wide height = tree.len in
-    bound-from counts height 0 (λ node some _ inner. tree.inner node some inner) tree.leaves node some (omega arith)
+    bound-from counts height 0 (λ node some _ inner. tree.inner node some inner) tree.leaves node
+    some (omega arith)
     (omega (arith, inside, len))
 
 -- ---- adding up, from the last inner node down
-module _ (old now : List ℕ) (size height : ℕ) (is : size ≡ wide height) (len : length now ≡ size + size)
-    (leaves : (leaf : ℕ) → leaf < size → count_at old (size + leaf) ≤ 64) (stay : drop size now ≡ drop size old) where
+module _ (old now : List ℕ) (size height : ℕ) (is : size ≡ wide height)
+    (len : length now ≡ size + size)
+    (leaves : (leaf : ℕ) → leaf < size → count_at old (size + leaf) ≤ 64)
+    (stay : drop size now ≡ drop size old) where
   -- the leaves count 64 at most still
   leaves_now : (leaf : ℕ) → leaf < wide height → count_at now (wide height + leaf) ≤ 64
   leaves_now leaf inside =
       let same : count_at now (size + leaf) ≡ count_at old (size + leaf) =
-      sym (get_or-drop size now leaf 0) ∙ ap (λ l. get_or l leaf 0) stay ∙ get_or-drop size old leaf 0 in
+      sym (get_or-drop size now leaf 0) ∙ ap (λ l. get_or l leaf 0) stay
+      ∙ get_or-drop size old leaf 0 in
       let most = leaves leaf (omega (arith, is, inside)) in
       let least : count_at now (size + leaf) ≤ 64 = omega (arith, same, most) in
       rw (← is) least
 
-  module _ (node : ℕ) (adds : AddsUpFrom (count_at now) (suc node) size) (some : 0 < node) (inside : node < size) where
+  module _ (node : ℕ) (adds : AddsUpFrom (count_at now) (suc node) size) (some : 0 < node)
+      (inside : node < size) where
     -- what two children count in all is a `u64`
     pub children_bound : size ≤ 2 ^ 53
         → count_at now (node + node) + count_at now (suc (node + node)) ≤ 2 ^ 59 + 2 ^ 59
@@ -196,11 +223,13 @@ module _ (old now : List ℕ) (size height : ℕ) (is : size ≡ wide height) (l
         elim (cases_eq at node) [
           | inl here ↦
               let written : count_at (set now node sum) at ≡ sum =
-              ap (count_at (set now node sum)) here ∙ get_or-set_same now node sum 0 (omega (arith, len, inside)) in
+              ap (count_at (set now node sum)) here ∙ get_or-set_same now node sum 0
+              (omega (arith, len, inside)) in
               let left : count_at (set now node sum) (at + at) ≡ count_at now (node + node) =
               other (at + at) (λ e. absurd (omega (arith, e, here, some)))
               ∙ ap (λ n. count_at now (n + n)) here in
-              let right : count_at (set now node sum) (suc (at + at)) ≡ count_at now (suc (node + node)) =
+              let right : count_at (set now node sum) (suc (at + at))
+              ≡ count_at now (suc (node + node)) =
               other (suc (at + at)) (λ e. absurd (omega (arith, e, here, some)))
               ∙ ap (λ n. count_at now (suc (n + n))) here in
               omega (arith, written, left, right, sums)
@@ -217,13 +246,15 @@ module _ (old now : List ℕ) (size height : ℕ) (is : size ≡ wide height) (l
 
 -- ---- the whole tree
 module _ (counts : List ℕ) (height : ℕ) (tree : IsTree counts height) where
-  level-total : (level : ℕ) → level ≤ height → sums (count_at counts) (wide level) (wide level) ≡ count_at counts 1
+  level-total : (level : ℕ) → level ≤ height → sums (count_at counts) (wide level) (wide level)
+      ≡ count_at counts 1
   level-total zero low = omega arith
   level-total (suc level) low =
       let le : wide level + wide level ≤ wide height = wide-le (suc level) height low in
       let above = level-total level (omega (arith, low)) in
       let down =
-      sums-below (count_at counts) (wide level) (wide level) (wide height) (wide-positive level) le tree.inner in
+      sums-below (count_at counts) (wide level) (wide level) (wide height) (wide-positive level) le
+      tree.inner in
       sym down ∙ above
 
   -- the root counts what all leaves count

@@ -42,7 +42,8 @@ module _ {T : Type 0} (slots : ℕ → Option (Node T)) where
   -- the values of n nodes in a row, from a key on
   abbrev pub values_from : ℕ → ℕ → List T
   values_from zero key = []
-  values_from (suc count) key = option_map_or (λ node. node.value ∷ values_from count node.next) (slots key) []
+  values_from (suc count) key =
+      option_map_or (λ node. node.value ∷ values_from count node.next) (slots key) []
 
   -- the values of a list
   abbrev pub values_of : Ends → List T

@@ -1,6 +1,7 @@
 -- A perfect binary tree of counts in one list: node 1 is the root, node k has the children k + k
 -- and k + k + 1. A leaf counts the live slots of one block.
-use Rattle.std.specs.Prelude.{◌≡◌, ◌≢◌, ℕ, zero, suc, ◌+◌, ◌<◌, ◌≤◌, ◌^◌, List, length, slice_index_or}
+use Rattle.std.specs.Prelude.{◌≡◌, ◌≢◌, ℕ, zero, suc, ◌+◌, ◌<◌, ◌≤◌, ◌^◌, List, length}
+use Rattle.std.specs.Prelude.{slice_index_or}
 
 -- the count of a node
 abbrev pub count_at : List ℕ → ℕ → ℕ

@@ -1,8 +1,9 @@
 -- Acts are tried up to the first that has no step: after acts that ran it is the first of the later
 -- ones, and what comes after it isn't tried. So calls in a row had the outcome of their acts in a
 -- row.
-use Rattle.std.proofs.Common.{◌≡◌, ℕ, Bool, true, false, List, [], ◌∷◌, ◌++◌, Option, Some, None, option_map}
-use Rattle.std.proofs.Common.{option_and_then, Result, Ok, Err, append_assoc, refl, sym, ◌∙◌, ap, subst}
+use Rattle.std.proofs.Common.{◌≡◌, ℕ, Bool, true, false, List, [], ◌∷◌, ◌++◌, Option, Some, None}
+use Rattle.std.proofs.Common.{option_map, option_and_then, Result, Ok, Err, append_assoc, refl, sym}
+use Rattle.std.proofs.Common.{◌∙◌, ap, subst}
 use Rattle.std.proofs.lemmas.List.{append-nil}
 use Rattle.std.proofs.lemmas.Option.{same_Some, none-some}
 use Rattle.st_core.specs.declared.types.Act.{Act}
@@ -17,7 +18,8 @@ use Rattle.st_audit.specs.declared.construction.Construction.{Construction}
 use Rattle.st_audit.specs.declared.construction.Halt.{Halt}
 use Rattle.st_audit.specs.declared.construction.Halt.TheVariants as halt
 use Rattle.st_audit.specs.declared.finding.Reason.{Reason}
-use Rattle.st_audit.specs.Construction.{attempt, last_report, tried_acts, turn_by, Turn, Through, Stopped, Refused}
+use Rattle.st_audit.specs.Construction.{attempt, last_report, tried_acts, turn_by, Turn, Through}
+use Rattle.st_audit.specs.Construction.{Stopped, Refused}
 use Rattle.st_audit.specs.Progress.{acts_turn, Meets, TellsLast, TriesAct, WentThrough}
 
 -- ACTS THAT ARE TRIED
@@ -33,17 +35,20 @@ map_none : {A B : Type 0} (f : A → B) (o : Option A) → option_map f o ≡ No
 map_none f None h = refl
 map_none f (Some x) h = absurd (none-some (f x) (sym h))
 
-tried_after : (top : ℕ) (s : State) (xs ys : List Act) (os : List Outcome) → run_from top s xs ≡ Some os
+tried_after : (top : ℕ) (s : State) (xs ys : List Act) (os : List Outcome)
+    → run_from top s xs ≡ Some os
     → tried_acts top s (xs ++ ys) ≡ xs ++ tried_acts top (state_after s os) ys
 tried_after top s [] ys os runs =
-    subst (λ zs. tried_acts top s ys ≡ tried_acts top (state_after s zs) ys) (same_Some [] os runs) refl
+    subst (λ zs. tried_acts top s ys ≡ tried_acts top (state_after s zs) ys) (same_Some [] os runs)
+    refl
 tried_after top s (x ∷ xs) ys os runs =
     let t = run_parts top s x xs os runs in
     ap (λ o. x ∷ tried_on top (xs ++ ys) o) t.is_first
     ∙ ap (λ zs. x ∷ zs) (tried_after top t.first.after xs ys t.others t.is_rest)
     ∙ ap (λ zs. x ∷ (xs ++ tried_acts top (state_after s zs) ys)) (sym t.is_whole)
 
-none_after : (top : ℕ) (s : State) (xs ys : List Act) (os : List Outcome) → run_from top s xs ≡ Some os
+none_after : (top : ℕ) (s : State) (xs ys : List Act) (os : List Outcome)
+    → run_from top s xs ≡ Some os
     → run_from top (state_after s os) ys ≡ None → run_from top s (xs ++ ys) ≡ None
 none_after top s [] ys os runs none =
     ap (λ zs. run_from top (state_after s zs) ys) (same_Some [] os runs) ∙ none
@@ -51,26 +56,31 @@ none_after top s (x ∷ xs) ys os runs none =
     let t = run_parts top s x xs os runs in
     let rest = none_after top t.first.after xs ys t.others t.is_rest
     (ap (λ zs. run_from top (state_after s zs) ys) (sym t.is_whole) ∙ none) in
-    ap (option_and_then (run_on top (xs ++ ys))) t.is_first ∙ ap (option_map (λ os. t.first ∷ os)) rest
+    ap (option_and_then (run_on top (xs ++ ys))) t.is_first ∙ ap (option_map (λ os. t.first ∷ os))
+    rest
 
 -- what comes after the first that has no step isn't tried
 record StuckBefore (top : ℕ) (s : State) (xs ys : List Act) : Type 0 where
   pub none : run_from top s (xs ++ ys) ≡ None
   pub same : tried_acts top s (xs ++ ys) ≡ tried_acts top s xs
 
-front_stuck : (top : ℕ) (s : State) (xs ys : List Act) → run_from top s xs ≡ None → StuckBefore top s xs ys
+front_stuck : (top : ℕ) (s : State) (xs ys : List Act) → run_from top s xs ≡ None
+    → StuckBefore top s xs ys
 front_stuck top s [] ys h = absurd (none-some [] (sym h))
 front_stuck top s (x ∷ xs) ys h =
     elim (step top s x) as (λ o. step top s x ≡ o → option_and_then (run_on top xs) o ≡ None
     → StuckBefore top s (x ∷ xs) ys) [
       | None ↦ λ is h. record {
         none = ap (option_and_then (run_on top (xs ++ ys))) is;
-        same = ap (λ o. x ∷ tried_on top (xs ++ ys) o) is ∙ sym (ap (λ o. x ∷ tried_on top xs o) is);
+        same = ap (λ o. x ∷ tried_on top (xs ++ ys) o) is
+            ∙ sym (ap (λ o. x ∷ tried_on top xs o) is);
       }
       | Some o ↦ λ is h.
-          let rest = front_stuck top o.after xs ys (map_none (λ os. o ∷ os) (run_from top o.after xs) h) in
+          let rest = front_stuck top o.after xs ys
+          (map_none (λ os. o ∷ os) (run_from top o.after xs) h) in
           record {
-            none = ap (option_and_then (run_on top (xs ++ ys))) is ∙ ap (option_map (λ os. o ∷ os)) rest.none;
+            none = ap (option_and_then (run_on top (xs ++ ys))) is ∙ ap (option_map (λ os. o ∷ os))
+                rest.none;
             same = ap (λ o. x ∷ tried_on top (xs ++ ys) o) is ∙ ap (λ zs. x ∷ zs) rest.same
                 ∙ sym (ap (λ o. x ∷ tried_on top xs o) is);
           }
@@ -121,12 +131,14 @@ tries_by : (top : ℕ) (s : State) (a : Act) (rest : List Act) (o : Option (List
 tries_by top s a rest None = tt
 tries_by top s a rest (Some os) = tt
 
-pub tries_in : (top : ℕ) (s : State) (xs : List Act) (a : Act) (ys : List Act) (o : Option (List Outcome))
+pub tries_in : (top : ℕ) (s : State) (xs : List Act) (a : Act) (ys : List Act)
+    (o : Option (List Outcome))
     → TriesAct (turn_by top s (xs ++ a ∷ ys) o)
 tries_in top s [] a ys o = tries_by top s a ys o
 tries_in top s (x ∷ xs) a ys o = tries_by top s x (xs ++ a ∷ ys) o
 
-tries_more : (top : ℕ) (s : State) (xs ys : List Act) (o p : Option (List Outcome)) → TriesAct (turn_by top s xs o)
+tries_more : (top : ℕ) (s : State) (xs ys : List Act) (o p : Option (List Outcome))
+    → TriesAct (turn_by top s xs o)
     → TriesAct (turn_by top s (xs ++ ys) p)
 tries_more top s [] ys None p tries = absurd tries
 tries_more top s [] ys (Some os) p tries = absurd tries
@@ -142,11 +154,18 @@ pub record Performed {top : ℕ} (acts : List Act) (old new : Construction top) 
   pub put : new.acts ≡ old.acts ++ acts
 
 pub none_performed : {top : ℕ} (c : Construction top) → Performed [] c c
-none_performed c = record { outcomes = []; runs = refl; after = refl; put = sym (append-nil c.acts) }
+none_performed c = record {
+  outcomes = [];
+  runs = refl;
+  after = refl;
+  put =
+      sym (append-nil c.acts);
+}
 
 module _ {top : ℕ} {T : Type 0} (says : T → List Outcome → Type 0) where
   -- what went through was performed
-  pub record Done (acts : List Act) (old : Construction top) (x : T) (new : Construction top) : Type 0 where
+  pub record Done (acts : List Act) (old : Construction top) (x : T) (new : Construction top) : Type
+      0 where
     pub made : Performed acts old new
     pub said : says x made.outcomes
 
@@ -188,7 +207,8 @@ one_step {top} a old new made =
     )
 
 -- acts in a row
-pub then_performed : {top : ℕ} (xs ys : List Act) (old mid new : Construction top) → Performed xs old mid
+pub then_performed : {top : ℕ} (xs ys : List Act) (old mid new : Construction top)
+    → Performed xs old mid
     → Performed ys mid new → Performed (xs ++ ys) old new
 then_performed {top} xs ys old mid new one two = record {
   outcomes = one.outcomes ++ two.outcomes;
@@ -202,12 +222,14 @@ then_performed {top} xs ys old mid new one two = record {
 -- ONE CALL AFTER THE OTHER
 
 -- acts that halt have the same outcome with others after them
-pub halts_before : {top : ℕ} {T U : Type 0} (one : T → List Outcome → Type 0) (two : U → List Outcome → Type 0)
+pub halts_before : {top : ℕ} {T U : Type 0} (one : T → List Outcome → Type 0)
+    (two : U → List Outcome → Type 0)
     (xs ys : List Act) (old : Construction top) (h : Halt) (new : Construction top)
     → Meets one (acts_turn top old.world xs) old (Err h) new
     → Meets two (acts_turn top old.world (xs ++ ys)) old (Err h) new
 halts_before {top} one two xs ys old halt.Memory new meets =
-    tries_more top old.world xs ys (run_from top old.world xs) (run_from top old.world (xs ++ ys)) meets
+    tries_more top old.world xs ys (run_from top old.world xs) (run_from top old.world (xs ++ ys))
+    meets
 halts_before {top} one two xs ys old halt.Uncaused new meets =
     absurd (never_refused top old.world xs (run_from top old.world xs) _ meets)
 halts_before {top} one two xs ys old halt.TooWide new meets =
@@ -222,8 +244,10 @@ halts_before {top} one two xs ys old halt.Stopped new meets =
     }
 
 -- the outcome of acts after others that were performed
-pub halts_after : {top : ℕ} {T U : Type 0} (one : T → List Outcome → Type 0) (two : U → List Outcome → Type 0)
-    (xs : List Act) (a : Act) (ys : List Act) (old mid : Construction top) (h : Halt) (new : Construction top)
+pub halts_after : {top : ℕ} {T U : Type 0} (one : T → List Outcome → Type 0)
+    (two : U → List Outcome → Type 0)
+    (xs : List Act) (a : Act) (ys : List Act) (old mid : Construction top) (h : Halt)
+    (new : Construction top)
     → Performed xs old mid → Meets one (acts_turn top mid.world (a ∷ ys)) mid (Err h) new
     → Meets two (acts_turn top old.world (xs ++ a ∷ ys)) old (Err h) new
 halts_after {top} one two xs a ys old mid halt.Memory new made meets =
@@ -246,13 +270,16 @@ halts_after {top} one two xs a ys old mid halt.Stopped new made meets =
           ∙ ap (λ zs. old.acts ++ zs) tried;
     }
 
-pub last_report-push : (r : Option _) (os : List Outcome) (o : Outcome) → last_report r (os ++ o ∷ []) ≡ o.report
+pub last_report-push : (r : Option _) (os : List Outcome) (o : Outcome)
+    → last_report r (os ++ o ∷ []) ≡ o.report
 last_report-push r [] o = refl
 last_report-push r (p ∷ os) o = last_report-push p.report os o
 
 -- so one act more is made
-pub one_more : {top : ℕ} (xs : List Act) (a : Act) (old mid : Construction top) (r : Result Told Halt)
-    (new : Construction top) → Performed xs old mid → Meets TellsLast (acts_turn top mid.world (a ∷ [])) mid r new
+pub one_more : {top : ℕ} (xs : List Act) (a : Act) (old mid : Construction top)
+    (r : Result Told Halt)
+    (new : Construction top) → Performed xs old mid
+    → Meets TellsLast (acts_turn top mid.world (a ∷ [])) mid r new
     → Meets TellsLast (acts_turn top old.world (xs ++ a ∷ [])) old r new
 unfolding then_performed
 one_more {top} xs a old mid (Ok told) new made meets =
@@ -260,28 +287,36 @@ one_more {top} xs a old mid (Ok told) new made meets =
     let t = run_parts top mid.world a [] last.made.outcomes last.made.runs in
     let one : last.made.outcomes ≡ t.first ∷ [] =
     t.is_whole ∙ ap (λ os. t.first ∷ os) (sym (same_Some [] t.others t.is_rest)) in
-    goes_through TellsLast (xs ++ a ∷ []) old told new (then_performed xs (a ∷ []) old mid new made last.made)
-    (ap (λ os. last_report None (made.outcomes ++ os)) one ∙ last_report-push None made.outcomes t.first
+    goes_through TellsLast (xs ++ a ∷ []) old told new
+    (then_performed xs (a ∷ []) old mid new made last.made)
+    (ap (λ os. last_report None (made.outcomes ++ os)) one ∙ last_report-push None made.outcomes
+    t.first
     ∙ ap (last_report None) (sym one) ∙ last.said)
-one_more {top} xs a old mid (Err h) new made meets = halts_after TellsLast TellsLast xs a [] old mid h new made meets
+one_more {top} xs a old mid (Err h) new made meets =
+    halts_after TellsLast TellsLast xs a [] old mid h new made meets
 
 -- THE ATTEMPT
 
 -- the acts of an item of which no reason holds
-pub attempt_acts : (top : ℕ) (s : State) (one two : Bool) (plan : Option (List Act)) (acts : List Act)
-    → one ≡ false → two ≡ false → plan ≡ Some acts → attempt top s one two plan ≡ acts_turn top s acts
+pub attempt_acts : (top : ℕ) (s : State) (one two : Bool) (plan : Option (List Act))
+    (acts : List Act)
+    → one ≡ false → two ≡ false → plan ≡ Some acts
+    → attempt top s one two plan ≡ acts_turn top s acts
 attempt_acts top s one two plan acts is_one is_two is = rw (is, is_one, is_two) refl
 
 -- an attempt that goes through
-pub record Attempted (top : ℕ) (s : State) (one two : Bool) (plan : Option (List Act)) (acts : List Act)
+pub record Attempted (top : ℕ) (s : State) (one two : Bool) (plan : Option (List Act))
+    (acts : List Act)
     (os : List Outcome) : Type 0 where
   pub no_one : one ≡ false
   pub no_two : two ≡ false
   pub are : plan ≡ Some acts
   pub runs : run_from top s acts ≡ Some os
 
-pub attempt_runs : (top : ℕ) (s : State) (one two : Bool) (plan : Option (List Act)) (acts : List Act)
-    (os : List Outcome) → attempt top s one two plan ≡ Through acts os → Attempted top s one two plan acts os
+pub attempt_runs : (top : ℕ) (s : State) (one two : Bool) (plan : Option (List Act))
+    (acts : List Act)
+    (os : List Outcome) → attempt top s one two plan ≡ Through acts os
+    → Attempted top s one two plan acts os
 attempt_runs top s one two None acts os is = absurd (cc)
 attempt_runs top s true two (Some xs) acts os is = absurd (cc)
 attempt_runs top s false true (Some xs) acts os is = absurd (cc)
@@ -295,16 +330,20 @@ attempt_runs top s false false (Some xs) acts os is =
     }
 
 -- a call whose turn goes through halts only because memory ran out
-pub only_memory : {top : ℕ} {T : Type 0} (says : T → List Outcome → Type 0) (t : Turn) (acts : List Act)
-    (os : List Outcome) (old : Construction top) (h : Halt) (new : Construction top) → t ≡ Through acts os
+pub only_memory : {top : ℕ} {T : Type 0} (says : T → List Outcome → Type 0) (t : Turn)
+    (acts : List Act)
+    (os : List Outcome) (old : Construction top) (h : Halt) (new : Construction top)
+    → t ≡ Through acts os
     → Meets says t old (Err h) new → h ≡ halt.Memory
 only_memory says t acts os old halt.Memory new through meets = refl
 only_memory says t acts os old halt.Uncaused new through meets = absurd (cc)
 only_memory says t acts os old halt.TooWide new through meets = absurd (cc)
-only_memory says t acts os old halt.Stopped new through meets = let stopped = meets.stopped in absurd (cc)
+only_memory says t acts os old halt.Stopped new through meets = let stopped = meets.stopped in
+    absurd (cc)
 
 -- what a call did from one construction it did from another with the same world and the same acts
-pub from_same : {top : ℕ} {T : Type 0} (says : T → List Outcome → Type 0) (t : Turn) (mid old : Construction top)
+pub from_same : {top : ℕ} {T : Type 0} (says : T → List Outcome → Type 0) (t : Turn)
+    (mid old : Construction top)
     (r : Result T Halt) (new : Construction top) → mid.world ≡ old.world → mid.acts ≡ old.acts
     → Meets says t mid r new → Meets says t old r new
 from_same says t mid old (Ok x) new world acts meets = record {
@@ -319,4 +358,9 @@ from_same says t mid old (Err halt.Memory) new world acts meets = meets
 from_same says t mid old (Err halt.Uncaused) new world acts meets = meets
 from_same says t mid old (Err halt.TooWide) new world acts meets = meets
 from_same says t mid old (Err halt.Stopped) new world acts meets =
-    record { acts = meets.acts; stopped = meets.stopped; put = meets.put ∙ ap (λ zs. zs ++ meets.acts) acts }
+    record {
+      acts = meets.acts;
+      stopped = meets.stopped;
+      put =
+          meets.put ∙ ap (λ zs. zs ++ meets.acts) acts;
+    }

@@ -1,4 +1,5 @@
--- Worked cases: the construction computed. Nothing cites this file; it shows that the definitions say what is meant.
+-- Worked cases: the construction computed. Nothing cites this file; it shows that the definitions
+-- say what is meant.
 use Rattle.std.specs.Prelude.{◌≡◌, true, false, List, [], ◌∷◌, Some, None, refl}
 use Rattle.st_core.specs.declared.types.Pid.{Pid}
 use Rattle.st_core.specs.declared.types.Flags.{Flags}
@@ -24,21 +25,25 @@ of_nothing = refl
 
 -- one hidden send, which goes through
 one_hidden : ends (of a [] ∷ of b (got 1 0 1 a b 7 ∷ []) ∷ []) ≡ Judged (
-    act.Tracer a true ∷ dressed a (record { send = false; receive = true; print = false }) ∷ act.Send a b 7
+    act.Tracer a true ∷ dressed a (record { send = false; receive = true; print = false })
+    ∷ act.Send a b 7
     ∷ act.Receive b (want.Place 0) ∷ []) (Some (b, 0))
 one_hidden = refl
 
--- a print whose prev is below the clock and isn't the last count: uncaused, though it is too wide as well
+-- a print whose prev is below the clock and isn't the last count: uncaused, though it is too wide
+-- as well
 uncaused_first : ends (of a [] ∷ of b (got 1 0 5 a b 7 ∷ printed 1 2 2006 b 8 ∷ []) ∷ [])
     ≡ Unfounded (b, 1) reason.Uncaused
 uncaused_first = refl
 
 -- a hidden send before which too many counts are missing; it is where its receive is
-hidden_too_wide : ends (of a [] ∷ of b (got 1 0 1002 a b 7 ∷ []) ∷ []) ≡ Unfounded (b, 0) reason.TooWide
+hidden_too_wide : ends (of a [] ∷ of b (got 1 0 1002 a b 7 ∷ []) ∷ [])
+    ≡ Unfounded (b, 0) reason.TooWide
 hidden_too_wide = refl
 
--- a receive that is in the order before its send, since its sender received a greater count first: its message
--- isn't there, and no act is tried for it
-not_there : ends (of a (got 1 0 9 c a 4 ∷ sent 1 1 3 a b 5 ∷ []) ∷ of b (got 1 1 3 a b 5 ∷ []) ∷ of c [] ∷ [])
+-- a receive that is in the order before its send, since its sender received a greater count first:
+-- its message isn't there, and no act is tried for it
+not_there : ends (of a (got 1 0 9 c a 4 ∷ sent 1 1 3 a b 5 ∷ []) ∷ of b (got 1 1 3 a b 5 ∷ [])
+    ∷ of c [] ∷ [])
     ≡ Judged (act.Tracer a true ∷ []) (Some (b, 0))
 not_there = refl

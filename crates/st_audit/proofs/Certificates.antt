@@ -1,7 +1,9 @@
--- The finding that plain streams determine is a certificate: no reason holds of an item, its acts run and its event is
--- the last of what they report, so the construction goes through, and its acts show the streams.
-use Rattle.std.proofs.Common.{◌≡◌, ◌⊎◌, ℕ, ◌+◌, ◌-◌, ◌<◌, ◌≤◌, zero, suc, cond, List, [], ◌∷◌, ◌++◌, take, length}
-use Rattle.std.proofs.Common.{get_or, Option, Some, None, slice_get, refl, sym, ◌∙◌, ap, subst, arith}
+-- The finding that plain streams determine is a certificate: no reason holds of an item, its acts
+-- run and its event is the last of what they report, so the construction goes through, and its acts
+-- show the streams.
+use Rattle.std.proofs.Common.{◌≡◌, ◌⊎◌, ℕ, ◌+◌, ◌-◌, ◌<◌, ◌≤◌, zero, suc, cond, List, [], ◌∷◌, ◌++◌}
+use Rattle.std.proofs.Common.{take, length, get_or, Option, Some, None, slice_get, refl, sym, ◌∙◌}
+use Rattle.std.proofs.Common.{ap, subst, arith}
 use Rattle.std.proofs.lemmas.Option.{same_Some, slice_get-get_or}
 use Rattle.st_core.specs.declared.types.Pid.{Pid}
 use Rattle.st_core.specs.declared.types.Event.{Event}
@@ -34,7 +36,8 @@ use Rattle.st_audit.proofs.Fullness.{certain_plain}
 use Rattle.st_audit.proofs.MoveOutcomes.{marked_shown}
 use Rattle.st_audit.proofs.NoItems.{accepts_nothing}
 use Rattle.st_audit.proofs.PlainItems.{goes_marked, goes_tried, item_goes}
-use Rattle.st_audit.proofs.Track.{none, on_track, shown_is_yes, track_next, track_shows, GoesNext, IsOnTrack}
+use Rattle.st_audit.proofs.Track.{none, on_track, shown_is_yes, track_next, track_shows, GoesNext}
+use Rattle.st_audit.proofs.Track.{IsOnTrack}
 
 -- ITEM BY ITEM
 
@@ -48,21 +51,26 @@ module _ (top : ℕ) (streams : List Stream) (sound : IsStreams streams) (plain 
     abbrev to : GoesNext top streams all_told past x s
     to = item_goes top streams all_told sound plain xs order n x at s acts track
 
-    through : turn top streams all_told s past (move_by x to.event) ≡ Through to.goes.acts to.goes.outcomes
+    through : turn top streams all_told s past (move_by x to.event)
+        ≡ Through to.goes.acts to.goes.outcomes
     through =
         let m = move_by x to.event in
         let g = to.goes in
-        ap (λ b. cond b (Stopped []) (compared_turn m (attempt top s (uncaused past m) (too_wide past m)
+        ap (λ b. cond b (Stopped [])
+        (compared_turn m (attempt top s (uncaused past m) (too_wide past m)
         (acts_from streams all_told s m)))) to.in_turn
-        ∙ ap (compared_turn m) (goes_tried top streams all_told sound plain xs order n x at s acts track)
-        ∙ ap (λ b. cond b (Through g.acts g.outcomes) (Stopped g.acts)) (sym (marked_shown m g.outcomes)
+        ∙ ap (compared_turn m) (goes_tried top streams all_told sound plain xs order n x at s acts
+        track)
+        ∙ ap (λ b. cond b (Through g.acts g.outcomes) (Stopped g.acts))
+        (sym (marked_shown m g.outcomes)
         ∙ goes_marked top streams all_told sound plain xs order n x at s acts track)
 
     -- of the event that the course has there
     through_at : (e : Event) → event_of streams x ≡ Some e
         → turn top streams all_told s past (move_by x e) ≡ Through to.goes.acts to.goes.outcomes
     through_at e there =
-        subst (λ d. turn top streams all_told s past (move_by x d) ≡ Through to.goes.acts to.goes.outcomes)
+        subst (λ d. turn top streams all_told s past (move_by x d)
+        ≡ Through to.goes.acts to.goes.outcomes)
         (same_Some to.event e (sym to.there ∙ there)) through
 
   -- the construction ends with acts that show the streams
@@ -73,7 +81,8 @@ module _ (top : ℕ) (streams : List Stream) (sound : IsStreams streams) (plain 
     pub ends : end_of top streams xs ≡ Judged acts place
 
   goes_to_end : (k n : ℕ) (s : State) (acts : List Act) → n + k ≡ length xs → 0 < length xs
-      → IsOnTrack top streams all_told (take n xs) s acts → IsOnCourse top streams xs n s acts → EndsShown
+      → IsOnTrack top streams all_told (take n xs) s acts → IsOnCourse top streams xs n s acts
+      → EndsShown
   goes_to_end zero n s acts all some track way =
       let past : length xs ≤ n = omega arith in
       let place = item_place (get_or xs (length xs - 1) none) in
@@ -94,8 +103,10 @@ module _ (top : ℕ) (streams : List Stream) (sound : IsStreams streams) (plain 
       let now = acts ++ m.goes.acts in
       let here = course_item top streams rising xs order n none within s acts way in
       goes_to_end k (n + 1) new now (omega arith) some
-      (track_next top streams all_told sound plain.settled xs order n x at s acts track m new now refl refl)
-      (course_next top streams rising xs order n none within s acts way new now m.goes.acts m.goes.outcomes
+      (track_next top streams all_told sound plain.settled xs order n x at s acts track m new now
+      refl refl)
+      (course_next top streams rising xs order n none within s acts way new now m.goes.acts
+      m.goes.outcomes
       (through_at n x at s acts track here.event here.there) refl refl)
 
   ends_shown : 0 < length xs → EndsShown
@@ -103,12 +114,14 @@ module _ (top : ℕ) (streams : List Stream) (sound : IsStreams streams) (plain 
       let o = (opens top streams all_told).0 in
       let s = state_after (zero_state (pids_of streams)) o.os in
       goes_to_end (length xs) 0 s (tracers_after None (pids_of streams)) (omega arith) some
-      (on_track top streams all_told s o.os o.runs refl) (begins_course top streams xs s o.os some o.runs refl)
+      (on_track top streams all_told s o.os o.runs refl)
+      (begins_course top streams xs s o.os some o.runs refl)
 
 -- THE FINDING
 
 -- acts that are judged are a certificate if no verdict but sure is theirs
-judged_fits : (top : ℕ) (streams : List Stream) (acts : List Act) (place : Option (Pid × ℕ)) (found : Finding)
+judged_fits : (top : ℕ) (streams : List Stream) (acts : List Act) (place : Option (Pid × ℕ))
+    (found : Finding)
     → ((v : verdicts.Verdict) → verdicts.IsVerdict top streams acts v → IsNo v → ⊥)
     → IsFoundAt top streams (Judged acts place) found → HasCertificate found
 judged_fits top streams acts place (finding.Fits xs ps) sure is = tt
@@ -121,7 +134,8 @@ judged_fits top streams acts place (finding.Unfit p i (reason.NotRising j)) sure
 judged_fits top streams acts place (finding.Unfit p i (reason.Repeated q j)) sure is = is
 judged_fits top streams acts place (finding.Unfit p i (reason.Mismatch q j)) sure is = is
 
-plain_fits : (top : ℕ) (streams : List Stream) (xs : List Item) (found : Finding) → IsStreams streams
+plain_fits : (top : ℕ) (streams : List Stream) (xs : List Item) (found : Finding)
+    → IsStreams streams
     → IsPlain top streams → IsOrder streams xs → IsFoundAt top streams (end_of top streams xs) found
     → HasCertificate found
 plain_fits top streams [] found sound plain order is =
@@ -132,10 +146,12 @@ plain_fits top streams (x ∷ xs) found sound plain order is =
     (subst (λ end. IsFoundAt top streams end found) e.ends is)
 
 pub certain_streams_fit : (top : ℕ) (streams : List Stream) (found : Finding) → IsStreams streams
-    → IsPlain top streams ⊎ IsFullyShown top streams → IsAudit top streams found → HasCertificate found
+    → IsPlain top streams ⊎ IsFullyShown top streams → IsAudit top streams found
+    → HasCertificate found
 certain_streams_fit top streams found sound certain is =
     let rising = sound.draft.rising in
     let plain = certain_plain top streams rising certain in
     let accepted = plain.settled.accepted in
-    plain_fits top streams (order streams) found sound plain (an_order streams rising (paired streams accepted).once)
+    plain_fits top streams (order streams) found sound plain
+    (an_order streams rising (paired streams accepted).once)
     (subst (λ o. IsFoundBy top streams o found) accepted is)

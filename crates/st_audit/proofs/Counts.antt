@@ -1,7 +1,8 @@
 -- Acts move clocks and last counts so: an act other than a reset moves those of its actor alone,
 -- and none that comes before a stamp lets the clock fall.
-use Rattle.std.proofs.Common.{◌≡◌, ℕ, ◌+◌, ◌-◌, ◌≤◌, ◌==◌, ◌&&◌, nat_lt, zero, suc, Bool, true, false, cond, List, []}
-use Rattle.std.proofs.Common.{◌∷◌, ◌++◌, Option, Some, None, refl, sym, ◌∙◌, ap, subst, arith, if◌then◌else◌}
+use Rattle.std.proofs.Common.{◌≡◌, ℕ, ◌+◌, ◌-◌, ◌≤◌, ◌==◌, ◌&&◌, nat_lt, zero, suc, Bool, true}
+use Rattle.std.proofs.Common.{false, cond, List, [], ◌∷◌, ◌++◌, Option, Some, None, refl, sym, ◌∙◌}
+use Rattle.std.proofs.Common.{ap, subst, arith, if◌then◌else◌}
 use Rattle.std.specs.List.{AllByRecursion}
 use Rattle.std.proofs.lemmas.Option.{same_Some, none-some}
 use Rattle.st_core.specs.declared.types.Pid.{Pid}
@@ -21,10 +22,11 @@ use Rattle.st_core.specs.Local.{default_token, started}
 use Rattle.st_core.specs.Report.{flag_of, report, token_event}
 use Rattle.st_core.specs.Step.{Acted, Outcome, acted, actor, reached, changed, prints, step}
 use Rattle.st_core.specs.Run.{run_from}
-use Rattle.st_core.proofs.ForCallers.{mapped, process_after, process_pid, run_parts, step_parts, pid_eq-refl}
+use Rattle.st_core.proofs.ForCallers.{mapped, process_after, process_pid, run_parts, step_parts}
+use Rattle.st_core.proofs.ForCallers.{pid_eq-refl}
 use Rattle.st_plan.specs.declared.plan.Start.{Start}
-use Rattle.st_plan.specs.Build.{dress, is_dressed, quiet, raise, ready, renew, renewed_start, silent_prints}
-use Rattle.st_plan.specs.Build.{state_after, unstamped_token}
+use Rattle.st_plan.specs.Build.{dress, is_dressed, quiet, raise, ready, renew, renewed_start}
+use Rattle.st_plan.specs.Build.{silent_prints, state_after, unstamped_token}
 use Rattle.st_plan.proofs.ForCallers.{is_alone}
 
 -- ONE ACT
@@ -40,12 +42,15 @@ pub record HaveSame (l m : LocalState) : Type 0 where
   pub lasted : l.last ≡ m.last
 
 abbrev pub with_act : Act → Acted → Process → Process
-with_act a done r = if pid_eq r.pid (actor a) then record r { local = done.local; queue = done.queue } else r
+with_act a done r = if pid_eq r.pid (actor a) then
+    record r { local = done.local; queue = done.queue } else r
 
-reached_same : (a : Act) (t : Option Token) (r : Process) → IsNoReset a → HaveSame (reached a t r).local r.local
+reached_same : (a : Act) (t : Option Token) (r : Process) → IsNoReset a
+    → HaveSame (reached a t r).local r.local
 reached_same (act.Send p q v) t r h =
     elim (pid_eq r.pid q) as (λ b. HaveSame
-    (cond b (record r { queue = r.queue ++ record { from = p; value = v; token = t } ∷ [] }) r).local r.local) [
+    (cond b (record r { queue = r.queue ++ record { from = p; value = v; token = t } ∷ [] })
+    r).local r.local) [
       | true ↦ record { clocked = refl; lasted = refl }
       | false ↦ record { clocked = refl; lasted = refl }
     ]
@@ -65,7 +70,8 @@ reached_same (act.Restore p n) t r h = record { clocked = refl; lasted = refl }
 reached_same (act.Look p) t r h = record { clocked = refl; lasted = refl }
 
 both_same : (l m n : LocalState) → HaveSame l m → HaveSame m n → HaveSame l n
-both_same l m n one two = record { clocked = one.clocked ∙ two.clocked; lasted = one.lasted ∙ two.lasted }
+both_same l m n one two =
+    record { clocked = one.clocked ∙ two.clocked; lasted = one.lasted ∙ two.lasted }
 
 -- the process was there, with the same counts
 pub record WasSame (s : State) (x : Pid) (l : LocalState) : Type 0 where
@@ -82,12 +88,15 @@ pub record WasActor (top : ℕ) (s : State) (a : Act) (o : Outcome) (l : LocalSt
   pub told : o.report ≡ done.report
   pub same : HaveSame l done.local
 
-module _ (top : ℕ) (s : State) (a : Act) (o : Outcome) (step : step top s a ≡ Some o) (no_reset : IsNoReset a) where
-  pub others_same : (x : Pid) (r : Process) → pid_eq x (actor a) ≡ false → process o.after x ≡ Some r
+module _ (top : ℕ) (s : State) (a : Act) (o : Outcome) (step : step top s a ≡ Some o)
+    (no_reset : IsNoReset a) where
+  pub others_same : (x : Pid) (r : Process) → pid_eq x (actor a) ≡ false
+      → process o.after x ≡ Some r
       → WasSame s x r.local
   others_same x r apart h =
       let t = step_parts top s a o step in
-      let parts = mapped (changed a t.done) (process s x) r (sym (process_after top s a o t x) ∙ h) in
+      let parts = mapped (changed a t.done) (process s x) r
+      (sym (process_after top s a o t x) ∙ h) in
       let z = parts.0 in
       let pid : z.pid ≡ x = process_pid s x z parts.1 in
       let own : with_act a t.done z ≡ z =
@@ -126,7 +135,8 @@ module _ (top : ℕ) (s : State) (a : Act) (o : Outcome) (step : step top s a �
 -- A STAMP
 
 stamped_by : (top : ℕ) (p : Pid) (l m : LocalState) (t : Token)
-    → cond (nat_lt l.clock top) (Some (record l { token = Some (stamped_token p l t); clock = l.clock + 1 })) None
+    → cond (nat_lt l.clock top)
+    (Some (record l { token = Some (stamped_token p l t); clock = l.clock + 1 })) None
     ≡ Some m → (m ≡ record l { token = Some (stamped_token p l t); clock = l.clock + 1 })
 stamped_by top p l m t h =
     let made : LocalState = record l { token = Some (stamped_token p l t); clock = l.clock + 1 } in
@@ -136,15 +146,19 @@ stamped_by top p l m t h =
     ] h
 
 -- what a stamp of a process with a token makes of it
-pub stamp_some : (top : ℕ) (p : Pid) (l m : LocalState) (t : Token) → l.token ≡ Some t → stamp_any top p l ≡ Some m
+pub stamp_some : (top : ℕ) (p : Pid) (l m : LocalState) (t : Token) → l.token ≡ Some t
+    → stamp_any top p l ≡ Some m
     → m ≡ record l { token = Some (stamped_token p l t); clock = l.clock + 1 }
 stamp_some top p l m t is h = stamped_by top p l m t (sym (let e : stamp_any top p l
-    ≡ cond (nat_lt l.clock top) (Some (record l { token = Some (stamped_token p l t); clock = l.clock + 1 })) None
+    ≡ cond (nat_lt l.clock top)
+    (Some (record l { token = Some (stamped_token p l t); clock = l.clock + 1 })) None
     = rw is refl in e) ∙ h)
 
 -- and of one without
-stamp_none : (top : ℕ) (p : Pid) (l m : LocalState) → l.token ≡ None → stamp_any top p l ≡ Some m → m ≡ l
-stamp_none top p l m is h = sym (same_Some l m (sym (let e : stamp_any top p l ≡ Some l = rw is refl in e) ∙ h))
+stamp_none : (top : ℕ) (p : Pid) (l m : LocalState) → l.token ≡ None → stamp_any top p l ≡ Some m
+    → m ≡ l
+stamp_none top p l m is h =
+    sym (same_Some l m (sym (let e : stamp_any top p l ≡ Some l = rw is refl in e) ∙ h))
 
 -- a stamp that is reported is that of the event's serial
 pub record IsTold (l m : LocalState) (e : Event) : Type 0 where
@@ -161,7 +175,8 @@ told_serial b k t to v e h =
       | false ↦ λ h. absurd (none-some e h)
     ] h
 
-pub stamp_told : (top : ℕ) (p : Pid) (l m : LocalState) (b : Bool) (k : Kind) (to : Option Pid) (v : ℕ) (e : Event)
+pub stamp_told : (top : ℕ) (p : Pid) (l m : LocalState) (b : Bool) (k : Kind) (to : Option Pid)
+    (v : ℕ) (e : Event)
     → stamp_any top p l ≡ Some m → report b k m.token to v ≡ Some e → IsTold l m e
 stamp_told top p l m b k to v e h told =
     elim l.token as (λ token. l.token ≡ token → IsTold l m e) [
@@ -172,11 +187,13 @@ stamp_told top p l m b k to v e h told =
       | Some t ↦ λ is.
           let same = stamp_some top p l m t is h in
           let token = ap (λ (x : LocalState). x.token) same in
-          let serial = told_serial b k (stamped_token p l t) to v e (ap (λ t. report b k t to v) (sym token) ∙ told) in
+          let serial = told_serial b k (stamped_token p l t) to v e
+          (ap (λ t. report b k t to v) (sym token) ∙ told) in
           let clock = ap (λ (x : LocalState). x.clock) same in
           record {
             clocked = clock ∙ ap (λ (x : Serial). x.this) (sym serial);
-            lasted = ap (λ (x : LocalState). x.last) same ∙ ap (λ (x : Serial). x.prev) (sym serial);
+            lasted = ap (λ (x : LocalState). x.last) same
+                ∙ ap (λ (x : Serial). x.prev) (sym serial);
             rose = omega arith;
           }
     ] refl
@@ -188,18 +205,25 @@ started_by p l None = record l { token = Some (default_token p); last = l.clock 
 started_by p l (Some t) = l
 
 started_clock : (p : Pid) (l : LocalState) → (started p l).clock ≡ l.clock
-started_clock p l = elim l.token as (λ t. (started_by p l t).clock ≡ l.clock) [ None ↦ refl | Some t ↦ refl ]
+started_clock p l = elim l.token as (λ t. (started_by p l t).clock ≡ l.clock) [
+  | None ↦
+      refl
+  | Some t ↦ refl
+]
 
-alone_rises : (top : ℕ) (p : Pid) (a : Act) (r : Process) (done : Acted) → is_alone p a → acted top r a ≡ Some done
+alone_rises : (top : ℕ) (p : Pid) (a : Act) (r : Process) (done : Acted) → is_alone p a
+    → acted top r a ≡ Some done
     → r.local.clock ≤ done.local.clock
 alone_rises top p (act.Print q v) r done h is =
     let parts = mapped (prints r v) (stamp_any top r.pid r.local) done is in
     let m = parts.0 in
     let ends = ap (λ (x : Acted). x.local.clock) parts.2 in
     elim r.local.token as (λ token. r.local.token ≡ token → r.local.clock ≤ done.local.clock) [
-      | None ↦ λ none. let same = ap (λ (x : LocalState). x.clock) (stamp_none top r.pid r.local m none parts.1) in
+      | None ↦ λ none. let same =
+          ap (λ (x : LocalState). x.clock) (stamp_none top r.pid r.local m none parts.1) in
           omega arith
-      | Some t ↦ λ some. let same = ap (λ (x : LocalState). x.clock) (stamp_some top r.pid r.local m t some parts.1) in
+      | Some t ↦ λ some. let same =
+          ap (λ (x : LocalState). x.clock) (stamp_some top r.pid r.local m t some parts.1) in
           omega arith
     ] refl
 alone_rises top p (act.Set q c) r done h is =
@@ -239,10 +263,12 @@ pub record WasBelow (s : State) (p : Pid) (l : LocalState) : Type 0 where
 
 -- between these states p alone moved, and its clock didn't fall
 pub record HasRisen (p : Pid) (s after : State) : Type 0 where
-  pub others : (x : Pid) (r : Process) → pid_eq x p ≡ false → process after x ≡ Some r → WasSame s x r.local
+  pub others : (x : Pid) (r : Process) → pid_eq x p ≡ false → process after x ≡ Some r
+      → WasSame s x r.local
   pub own : (r : Process) → process after p ≡ Some r → WasBelow s p r.local
 
-pub was_same : (s t : State) (x : Pid) (l : LocalState) (one : WasSame t x l) → WasSame s x one.before.local
+pub was_same : (s t : State) (x : Pid) (l : LocalState) (one : WasSame t x l)
+    → WasSame s x one.before.local
     → WasSame s x l
 was_same s t x l one two =
     record {
@@ -251,7 +277,8 @@ was_same s t x l one two =
       same = both_same l one.before.local two.before.local one.same two.same;
     }
 
-alone_risen : (top : ℕ) (p : Pid) (s : State) (a : Act) (o : Outcome) → is_alone p a → step top s a ≡ Some o
+alone_risen : (top : ℕ) (p : Pid) (s : State) (a : Act) (o : Outcome) → is_alone p a
+    → step top s a ≡ Some o
     → HasRisen p s o.after
 alone_risen top p s a o alone h =
     let by = alone_is p a alone in
@@ -283,7 +310,8 @@ then_risen p s t u one two = record {
 }
 
 pub all_risen : (top : ℕ) (p : Pid) (s : State) (acts : List Act) (os : List Outcome)
-    → AllByRecursion (is_alone p) acts → run_from top s acts ≡ Some os → HasRisen p s (state_after s os)
+    → AllByRecursion (is_alone p) acts → run_from top s acts ≡ Some os
+    → HasRisen p s (state_after s os)
 all_risen top p s [] os alone h =
     subst (λ os. HasRisen p s (state_after s os)) (same_Some [] os h) (record {
       others = λ x r apart is. record {
@@ -302,13 +330,15 @@ all_risen top p s (a ∷ acts) os alone h =
 
 -- THE ACTS THAT BRING p TO A STAMP ARE ITS OWN
 
-all_both : (p : Pid) (xs ys : List Act) → AllByRecursion (is_alone p) xs → AllByRecursion (is_alone p) ys
+all_both : (p : Pid) (xs ys : List Act) → AllByRecursion (is_alone p) xs
+    → AllByRecursion (is_alone p) ys
     → AllByRecursion (is_alone p) (xs ++ ys)
 all_both p [] ys one two = two
 all_both p (x ∷ xs) ys one two = (one.0, all_both p xs ys one.1 two)
 
 module _ (p : Pid) where
-  dress_alone : (token : Option Token) (n : Label) (f : Flags) → AllByRecursion (is_alone p) (dress p token n f)
+  dress_alone : (token : Option Token) (n : Label) (f : Flags)
+      → AllByRecursion (is_alone p) (dress p token n f)
   dress_alone token n f = elim (is_dressed n f token) as (λ b. AllByRecursion (is_alone p)
       (cond b [] (act.Restore p (unstamped_token p n f) ∷ []))) [ true ↦ tt | false ↦ (refl, tt) ]
 
@@ -323,12 +353,14 @@ module _ (p : Pid) where
       all_both p (dress p token n quiet) (silent_prints p count ++ rest) (dress_alone token n quiet)
       (all_both p (silent_prints p count) rest (silent_alone count) h)
 
-  raise_alone : (x : Start) (n : Label) (count : ℕ) (f : Flags) → AllByRecursion (is_alone p) (raise p x n count f)
+  raise_alone : (x : Start) (n : Label) (count : ℕ) (f : Flags)
+      → AllByRecursion (is_alone p) (raise p x n count f)
   raise_alone x n count f = elim (nat_lt x.clock count) as (λ b. AllByRecursion (is_alone p)
       (cond b (dress p x.token n quiet
       ++ (silent_prints p (count - x.clock) ++ dress p (Some (unstamped_token p n quiet)) n f))
       (dress p x.token n f))) [
-        | true ↦ brought_alone x.token n (count - x.clock) (dress p (Some (unstamped_token p n quiet)) n f)
+        | true ↦ brought_alone x.token n (count - x.clock)
+            (dress p (Some (unstamped_token p n quiet)) n f)
             (dress_alone (Some (unstamped_token p n quiet)) n f)
         | false ↦ dress_alone x.token n f
       ]
@@ -339,16 +371,19 @@ module _ (p : Pid) where
       elim (nat_lt x.clock prev) as (λ b. AllByRecursion (is_alone p)
       (cond b (dress p x.token n quiet ++ silent_prints p (prev - x.clock)) [] ++ end)) [
         | true ↦ all_both p (dress p x.token n quiet ++ silent_prints p (prev - x.clock)) end
-            (all_both p (dress p x.token n quiet) (silent_prints p (prev - x.clock)) (dress_alone x.token n quiet)
+            (all_both p (dress p x.token n quiet) (silent_prints p (prev - x.clock))
+            (dress_alone x.token n quiet)
             (silent_alone (prev - x.clock))) (refl, (refl, tt))
         | false ↦ (refl, (refl, tt))
       ]
 
-  pub ready_alone : (x : Start) (n : Label) (s : Serial) (f : Flags) → AllByRecursion (is_alone p) (ready p x n s f)
+  pub ready_alone : (x : Start) (n : Label) (s : Serial) (f : Flags)
+      → AllByRecursion (is_alone p) (ready p x n s f)
   ready_alone x n s f = elim (s.prev == x.last) as (λ b. AllByRecursion (is_alone p)
       (cond b (raise p x n (s.this - 1) f)
       (renew p x n s.prev ++ raise p (renewed_start p x n s.prev) n (s.this - 1) f))) [
         | true ↦ raise_alone x n (s.this - 1) f
-        | false ↦ all_both p (renew p x n s.prev) (raise p (renewed_start p x n s.prev) n (s.this - 1) f)
+        | false ↦ all_both p (renew p x n s.prev)
+            (raise p (renewed_start p x n s.prev) n (s.this - 1) f)
             (renew_alone x n s.prev) (raise_alone (renewed_start p x n s.prev) n (s.this - 1) f)
       ]

@@ -1,4 +1,5 @@
--- The streams determine the finding: pairing refuses them for one reason, or their items have one order.
+-- The streams determine the finding: pairing refuses them for one reason, or their items have one
+-- order.
 use Rattle.std.proofs.Common.{◌≡◌, ℕ, List, Some, None, Result, IfOk, sym, subst}
 use Rattle.std.proofs.lemmas.Option.{none-some}
 use Rattle.st_core.specs.Pid.{IsRising}
@@ -17,13 +18,18 @@ use Rattle.st_audit.specs.Findings.{unfit_by, HandsOn}
 
 module _ (top : ℕ) (streams : List Stream) where
   -- streams that pairing refuses
-  pub refused_audit : (f : PairFault) (found : Finding) → IsPairFault streams f → unfit_by f ≡ Some found
+  pub refused_audit : (f : PairFault) (found : Finding) → IsPairFault streams f
+      → unfit_by f ≡ Some found
       → IsAudit top streams found
   refused_audit fault.Memory found why is = absurd (none-some found is)
-  refused_audit (fault.PrevNotBefore p i) found why is = subst (λ o. IsFoundBy top streams o found) (sym why) is
-  refused_audit (fault.NotRising p i j) found why is = subst (λ o. IsFoundBy top streams o found) (sym why) is
-  refused_audit (fault.Repeated p i q j) found why is = subst (λ o. IsFoundBy top streams o found) (sym why) is
-  refused_audit (fault.Mismatch p i q j) found why is = subst (λ o. IsFoundBy top streams o found) (sym why) is
+  refused_audit (fault.PrevNotBefore p i) found why is =
+      subst (λ o. IsFoundBy top streams o found) (sym why) is
+  refused_audit (fault.NotRising p i j) found why is =
+      subst (λ o. IsFoundBy top streams o found) (sym why) is
+  refused_audit (fault.Repeated p i q j) found why is =
+      subst (λ o. IsFoundBy top streams o found) (sym why) is
+  refused_audit (fault.Mismatch p i q j) found why is =
+      subst (λ o. IsFoundBy top streams o found) (sym why) is
 
   -- and so it is pairing's reason that is found of them
   pub hands_on : (found : Finding) → IsAudit top streams found → HandsOn streams found
@@ -31,7 +37,8 @@ module _ (top : ℕ) (streams : List Stream) where
 
   -- and those that it accepts
   pub accepted_audit : (xs : List Item) (r : Result Finding AuditFault) → IsRising (pids_of streams)
-      → refusal streams ≡ None → IsOrder streams xs → IfOk r (IsFoundAt top streams (end_of top streams xs))
+      → refusal streams ≡ None → IsOrder streams xs
+      → IfOk r (IsFoundAt top streams (end_of top streams xs))
       → IfOk r (IsAudit top streams)
   accepted_audit xs r rising accepted is found =
       let the_order = an_order streams rising (paired streams accepted).once in

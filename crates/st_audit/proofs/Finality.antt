@@ -20,10 +20,13 @@ refused_by top streams (finding.Unfit p i (reason.Repeated q j)) is f e = is.1 �
 refused_by top streams (finding.Unfit p i (reason.Mismatch q j)) is f e = is.1 ∙ e
 refused_by top streams (finding.Unfit p i reason.Uncaused) is f e = absurd (none-some f e)
 refused_by top streams (finding.Unfit p i reason.TooWide) is f e = absurd (none-some f e)
-refused_by top streams (finding.Unfit p i (reason.NotReplayed acts v)) is f e = absurd (none-some f e)
+refused_by top streams (finding.Unfit p i (reason.NotReplayed acts v)) is f e =
+    absurd (none-some f e)
 refused_by top streams (finding.Fits acts pairs) is f e = absurd (none-some f e)
 
 -- so what the reason rules out is ruled out
-pub finding_rules_out : (top : ℕ) (streams : List Stream) (found : Finding) → IsFinding top streams found
+pub finding_rules_out : (top : ℕ) (streams : List Stream) (found : Finding)
+    → IsFinding top streams found
     → ForSome (fault_of found) (RulesOut streams)
-finding_rules_out top streams found is f e = refusal_rules_out streams f (refused_by top streams found is f e)
+finding_rules_out top streams found is f e =
+    refusal_rules_out streams f (refused_by top streams found is f e)

@@ -1,6 +1,6 @@
 -- The acts of a move, by the kind of its event; they end with its own.
-use Rattle.std.proofs.Common.{◌≡◌, ℕ, Bool, true, false, cond, List, [], ◌∷◌, ◌++◌, Option, Some, None, option_map}
-use Rattle.std.proofs.Common.{option_to_list, position, refl, sym, ◌∙◌, ap}
+use Rattle.std.proofs.Common.{◌≡◌, ℕ, Bool, true, false, cond, List, [], ◌∷◌, ◌++◌, Option, Some}
+use Rattle.std.proofs.Common.{None, option_map, option_to_list, position, refl, sym, ◌∙◌, ap}
 use Rattle.std.proofs.lemmas.Option.{same_Some, none-some}
 use Rattle.st_core.specs.declared.types.Pid.{Pid}
 use Rattle.st_core.specs.declared.types.Event.{Event}
@@ -22,37 +22,45 @@ use Rattle.st_audit.specs.Progress.{if_told}
 
 -- the acts of a receive from this place, if there is one
 abbrev taking : Pid → Option ℕ → Option (List Act)
-taking p place = option_map (λ (a : Act). a ∷ []) (option_map (λ k. act.Receive p (want.Place k)) place)
+taking p place = option_map (λ (a : Act). a ∷ [])
+    (option_map (λ k. act.Receive p (want.Place k)) place)
 
 taken_at : (p : Pid) (place : Option ℕ) (acts : List Act) → taking p place ≡ Some acts
     → (k : ℕ) × (place ≡ Some k) × (act.Receive p (want.Place k) ∷ [] ≡ acts)
 taken_at p None acts h = absurd (none-some acts h)
 taken_at p (Some k) acts h = (k, refl, same_Some (act.Receive p (want.Place k) ∷ []) acts h)
 
-module _ (streams : List Stream) (marks : Marks) (p : Pid) (i : ℕ) (e : Event) (r : Process) (acts : List Act)
+module _ (streams : List Stream) (marks : Marks) (p : Pid) (i : ℕ) (e : Event) (r : Process)
+    (acts : List Act)
     (are : acts_of streams marks r (move_by (item.Reported p i) e) ≡ Some acts) where
   pub print_acts : e.kind ≡ kind.Print
-      → ready p (start_of r.local) e.label e.serial (flags_of streams marks (move_by (item.Reported p i) e))
+      → ready p (start_of r.local) e.label e.serial
+      (flags_of streams marks (move_by (item.Reported p i) e))
       ++ act.Print p e.value ∷ [] ≡ acts
   print_acts is =
-      let plan = ready p (start_of r.local) e.label e.serial (flags_of streams marks (move_by (item.Reported p i) e))
+      let plan = ready p (start_of r.local) e.label e.serial
+      (flags_of streams marks (move_by (item.Reported p i) e))
       ++ act.Print p e.value ∷ [] in
       let made : acts_of streams marks r (move_by (item.Reported p i) e) ≡ Some plan = rw is refl in
       same_Some plan acts (sym made ∙ are)
 
   pub send_acts : (to : Pid) → e.kind ≡ kind.Send → e.to ≡ Some to
-      → ready p (start_of r.local) e.label e.serial (flags_of streams marks (move_by (item.Reported p i) e))
+      → ready p (start_of r.local) e.label e.serial
+      (flags_of streams marks (move_by (item.Reported p i) e))
       ++ act.Send p to e.value ∷ [] ≡ acts
   send_acts to is is_to =
-      let plan = ready p (start_of r.local) e.label e.serial (flags_of streams marks (move_by (item.Reported p i) e))
+      let plan = ready p (start_of r.local) e.label e.serial
+      (flags_of streams marks (move_by (item.Reported p i) e))
       ++ act.Send p to e.value ∷ [] in
-      let made : acts_of streams marks r (move_by (item.Reported p i) e) ≡ Some plan = rw (is, is_to) refl in
+      let made : acts_of streams marks r (move_by (item.Reported p i) e) ≡ Some plan =
+      rw (is, is_to) refl in
       same_Some plan acts (sym made ∙ are)
 
   -- a send goes somewhere
   pub send_goes : e.kind ≡ kind.Send → e.to ≡ None → ⊥
   send_goes is is_to =
-      let made : acts_of streams marks r (move_by (item.Reported p i) e) ≡ None = rw (is, is_to) refl in
+      let made : acts_of streams marks r (move_by (item.Reported p i) e) ≡ None =
+      rw (is, is_to) refl in
       none-some acts (sym made ∙ are)
 
   -- a receive is from the place where the message lies
@@ -65,42 +73,49 @@ module _ (streams : List Stream) (marks : Marks) (p : Pid) (i : ℕ) (e : Event)
   receive_acts s at is =
       let lying = position (λ x. bears_stamp e.from e.serial.this x.token) r.queue in
       let lies : place_in s p e.from e.serial.this ≡ lying = rw at refl in
-      let made : acts_of streams marks r (move_by (item.Reported p i) e) ≡ taking p lying = rw is refl in
+      let made : acts_of streams marks r (move_by (item.Reported p i) e) ≡ taking p lying =
+      rw is refl in
       let taken = taken_at p lying acts (sym made ∙ are) in
       let found : place_in s p e.from e.serial.this ≡ Some taken.0 = lies ∙ taken.1 in
       record { place = taken.0; found = found; same = taken.2 }
 
 -- a hidden send is its sender's
-pub hidden_acts : (streams : List Stream) (marks : Marks) (p : Pid) (i : ℕ) (e : Event) (r : Process) (acts : List Act)
+pub hidden_acts : (streams : List Stream) (marks : Marks) (p : Pid) (i : ℕ) (e : Event)
+    (r : Process) (acts : List Act)
     (to : Pid)
     → acts_of streams marks r (move_by (item.Hidden p i) e) ≡ Some acts → e.to ≡ Some to
-    → ready e.from (start_of r.local) e.label e.serial (record { send = false; receive = marks p i; print = false })
+    → ready e.from (start_of r.local) e.label e.serial
+    (record { send = false; receive = marks p i; print = false })
     ++ act.Send e.from to e.value ∷ [] ≡ acts
 hidden_acts streams marks p i e r acts to are is_to =
     let plan = ready e.from (start_of r.local) e.label e.serial
-    (record { send = false; receive = marks p i; print = false }) ++ act.Send e.from to e.value ∷ [] in
+    (record { send = false; receive = marks p i; print = false }) ++ act.Send e.from to e.value
+    ∷ [] in
     let made : acts_of streams marks r (move_by (item.Hidden p i) e) ≡ Some plan = rw is_to refl in
     same_Some plan acts (sym made ∙ are)
 
-pub hidden_goes : (streams : List Stream) (marks : Marks) (p : Pid) (i : ℕ) (e : Event) (r : Process) (acts : List Act)
+pub hidden_goes : (streams : List Stream) (marks : Marks) (p : Pid) (i : ℕ) (e : Event)
+    (r : Process) (acts : List Act)
     → acts_of streams marks r (move_by (item.Hidden p i) e) ≡ Some acts → e.to ≡ None → ⊥
 hidden_goes streams marks p i e r acts are is_to =
     let made : acts_of streams marks r (move_by (item.Hidden p i) e) ≡ None = rw is_to refl in
     none-some acts (sym made ∙ are)
 
-pub only : (o : Option Event) (b : Bool) (e : Event) → option_to_list o ++ [] ≡ cond b (e ∷ []) [] → o ≡ if_told b e
+pub only : (o : Option Event) (b : Bool) (e : Event) → option_to_list o ++ [] ≡ cond b (e ∷ []) []
+    → o ≡ if_told b e
 only None true e h = absurd (cc)
 only None false e h = refl
 only (Some x) true e h = ap (λ (x : Event). Some x) (cc)
 only (Some x) false e h = absurd (cc)
 
 -- acts that ran with one more after them
-pub record LastStep (top : ℕ) (s : State) (xs : List Act) (a : Act) (os : List Outcome) : Type 0 where
-  pub front : List Outcome
-  pub end : Outcome
-  pub runs : run_from top s xs ≡ Some front
-  pub steps : step top (state_after s front) a ≡ Some end
-  pub whole : os ≡ front ++ end ∷ []
+pub record LastStep (top : ℕ) (s : State) (xs : List Act) (a : Act) (os : List Outcome) : Type 0
+  where
+    pub front : List Outcome
+    pub end : Outcome
+    pub runs : run_from top s xs ≡ Some front
+    pub steps : step top (state_after s front) a ≡ Some end
+    pub whole : os ≡ front ++ end ∷ []
 
 pub last_step : (top : ℕ) (s : State) (xs : List Act) (a : Act) (os : List Outcome)
     → run_from top s (xs ++ a ∷ []) ≡ Some os → LastStep top s xs a os

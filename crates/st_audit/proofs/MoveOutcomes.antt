@@ -1,6 +1,7 @@
--- The outcome of a stamp, of a report and of an item is that of its move: the state's counts give the same reasons
--- as the moves do, and a report is the event exactly if it is shown.
-use Rattle.std.proofs.Common.{◌≡◌, ℕ, ◌+◌, ◌-◌, ◌≤◌, ◌==◌, ◌&&◌, ◌||◌, nat_lt, zero, suc, Bool, true, false, not, cond}
+-- The outcome of a stamp, of a report and of an item is that of its move: the state's counts give
+-- the same reasons as the moves do, and a report is the event exactly if it is shown.
+use Rattle.std.proofs.Common.{◌≡◌, ℕ, ◌+◌, ◌-◌, ◌≤◌, ◌==◌, ◌&&◌, ◌||◌, nat_lt, zero, suc, Bool}
+use Rattle.std.proofs.Common.{true, false, not, cond}
 use Rattle.std.proofs.Common.{List, [], ◌∷◌, ◌++◌, take, length, Option, Some, None, option_map}
 use Rattle.std.proofs.Common.{Result, Ok, Err, refl, sym, ◌∙◌, ap, subst, arith}
 use Rattle.std.specs.Option.{option_eq, option_map_or}
@@ -18,8 +19,7 @@ use Rattle.st_core.specs.Event.{event_eq}
 use Rattle.st_core.specs.State.{Process, State, process}
 use Rattle.st_core.specs.Step.{Outcome}
 use Rattle.st_core.specs.Run.{Stream}
-use Rattle.st_core.proofs.ForCallers.{mapped}
-use Rattle.st_core.proofs.ForCallers.{event_eq-true, event_eq-same}
+use Rattle.st_core.proofs.ForCallers.{mapped, event_eq-true, event_eq-same}
 use Rattle.st_mail.specs.declared.outcome.Outcome.{Outcome as Told}
 use Rattle.st_pair.specs.Places.{is_stamp}
 use Rattle.st_order.specs.declared.item.Item.{Item}
@@ -37,12 +37,14 @@ use Rattle.st_audit.specs.declared.construction.Halt.{Halt}
 use Rattle.st_audit.specs.declared.construction.Halt.TheVariants as halt
 use Rattle.st_audit.specs.Construction.{acts_from, attempt, compared_turn, is_shown, last_report}
 use Rattle.st_audit.specs.Construction.{turn, Turn, Through, Stopped, Refused}
-use Rattle.st_audit.specs.Progress.{if_told, is_below, is_high, is_marked, is_too_wide, is_uncaused, item_turn}
-use Rattle.st_audit.specs.Progress.{marked_turn, missing_count, move_turn, report_turn, stamp_skip, stamp_turn, test_at}
-use Rattle.st_audit.specs.Progress.{IsSoFar, Meets, SaysNothing, TellsLast, TriesAct, WentThrough}
+use Rattle.st_audit.specs.Progress.{if_told, is_below, is_high, is_marked, is_too_wide, is_uncaused}
+use Rattle.st_audit.specs.Progress.{item_turn, marked_turn, missing_count, move_turn, report_turn}
+use Rattle.st_audit.specs.Progress.{stamp_skip, stamp_turn, test_at, IsSoFar, Meets, SaysNothing}
+use Rattle.st_audit.specs.Progress.{TellsLast, TriesAct, WentThrough}
 
 -- at the exit of a `?`
-pub on_err : {T E : Type 0} (r : Result T E) (h : E) (P : Result T E → Type 0) → IsErrAnd r (λ y. y ≡ h) → P (Err h)
+pub on_err : {T E : Type 0} (r : Result T E) (h : E) (P : Result T E → Type 0)
+    → IsErrAnd r (λ y. y ≡ h) → P (Err h)
     → P r
 on_err (Ok x) h P is fact = absurd is
 on_err (Err y) h P is fact = subst (λ z. P (Err z)) (sym is) fact
@@ -57,7 +59,8 @@ pub within_count : (b : Bool) (k now : ℕ) → Some now ≡ cond b None (Some k
 within_count true k now h = absurd (none-some now (sym h))
 within_count false k now h = same_Some now k h
 
-stamp_turn_of : {top : ℕ} (c : Construction top) (p : Pid) (e : Event) (f : Flags) (a : Act) (r : Process)
+stamp_turn_of : {top : ℕ} (c : Construction top) (p : Pid) (e : Event) (f : Flags) (a : Act)
+    (r : Process)
     → process c.world p ≡ Some r → stamp_turn c p e f a
     ≡ attempt top c.world (is_uncaused (start_of r.local) e.serial)
     (is_too_wide c.skipped (missing_count (start_of r.local) e.serial))
@@ -65,14 +68,18 @@ stamp_turn_of : {top : ℕ} (c : Construction top) (p : Pid) (e : Event) (f : Fl
 stamp_turn_of c p e f a r is = rw is refl
 
 -- by what the code found the process to have
-pub stamp_turn_is : {top : ℕ} (c : Construction top) (p : Pid) (e : Event) (f : Flags) (a : Act) (start : Start)
-    → option_map (λ (r : Process). start_of r.local) (process c.world p) ≡ Some start → stamp_turn c p e f a
-    ≡ attempt top c.world (is_uncaused start e.serial) (is_too_wide c.skipped (missing_count start e.serial))
+pub stamp_turn_is : {top : ℕ} (c : Construction top) (p : Pid) (e : Event) (f : Flags) (a : Act)
+    (start : Start)
+    → option_map (λ (r : Process). start_of r.local) (process c.world p) ≡ Some start
+    → stamp_turn c p e f a
+    ≡ attempt top c.world (is_uncaused start e.serial)
+    (is_too_wide c.skipped (missing_count start e.serial))
     (Some (ready p start e.label e.serial f ++ a ∷ []))
 stamp_turn_is {top} c p e f a start is =
     let parts = mapped (λ (r : Process). start_of r.local) (process c.world p) start is in
     stamp_turn_of c p e f a parts.0 parts.1
-    ∙ ap (λ (x : Start). attempt top c.world (is_uncaused x e.serial) (is_too_wide c.skipped (missing_count x e.serial))
+    ∙ ap (λ (x : Start). attempt top c.world (is_uncaused x e.serial)
+    (is_too_wide c.skipped (missing_count x e.serial))
     (Some (ready p x e.label e.serial f ++ a ∷ []))) parts.2
 
 -- its skip is the start's
@@ -106,10 +113,11 @@ same_report r o is = subst (λ x. option_eq event_eq r x ≡ true) is (self r)
     self (Some e) = event_eq-same e
 
 other_report : (r o : Option Event) → (r ≡ o → ⊥) → option_eq event_eq r o ≡ false
-other_report r o other = elim (option_eq event_eq r o) as (λ b. option_eq event_eq r o ≡ b → b ≡ false) [
-  | true ↦ λ h. absurd (other (report_same r o h))
-  | false ↦ λ h. refl
-] refl
+other_report r o other =
+    elim (option_eq event_eq r o) as (λ b. option_eq event_eq r o ≡ b → b ≡ false) [
+      | true ↦ λ h. absurd (other (report_same r o h))
+      | false ↦ λ h. refl
+    ] refl
 
 tries_marked : (marks : Marks) (m : Move) (t : Turn) → TriesAct t → TriesAct (marked_turn marks m t)
 tries_marked marks m (Through [] os) h = absurd h
@@ -120,8 +128,10 @@ tries_marked marks m (Stopped (a ∷ acts)) h = tt
 tries_marked marks m (Refused r) h = absurd h
 
 -- a turn that goes no way on, marked
-marked_err : {top : ℕ} {T U : Type 0} (one : T → List Outcome → Type 0) (two : U → List Outcome → Type 0)
-    (marks : Marks) (m : Move) (t : Turn) (old : Construction top) (h : Halt) (new : Construction top)
+marked_err : {top : ℕ} {T U : Type 0} (one : T → List Outcome → Type 0)
+    (two : U → List Outcome → Type 0)
+    (marks : Marks) (m : Move) (t : Turn) (old : Construction top) (h : Halt)
+    (new : Construction top)
     → Meets one t old (Err h) new → Meets two (marked_turn marks m t) old (Err h) new
 marked_err one two marks m t old halt.Memory new meets = tries_marked marks m t meets
 marked_err one two marks m t old halt.Uncaused new meets = ap (marked_turn marks m) meets
@@ -129,7 +139,8 @@ marked_err one two marks m t old halt.TooWide new meets = ap (marked_turn marks 
 marked_err one two marks m t old halt.Stopped new meets =
     record { acts = meets.acts; stopped = ap (marked_turn marks m) meets.stopped; put = meets.put }
 
-module _ {top : ℕ} (streams : List Stream) (marks : Marks) (old : Construction top) (n : ℕ) (p : Pid) (i : ℕ)
+module _ {top : ℕ} (streams : List Stream) (marks : Marks) (old : Construction top) (n : ℕ)
+    (p : Pid) (i : ℕ)
     (e : Event) (new : Construction top) where
   abbrev move : Move
   move = move_by (item.Reported p i) e
@@ -145,14 +156,16 @@ module _ {top : ℕ} (streams : List Stream) (marks : Marks) (old : Construction
       → Meets {T = Unit {0}} SaysNothing whole old (Err halt.Stopped) new
   late_meets apart same = record {
     acts = [];
-    stopped = ap (λ b. cond (not b) (Stopped []) (cond (is_high marks old.world move) (Stopped []) tried))
+    stopped =
+        ap (λ b. cond (not b) (Stopped []) (cond (is_high marks old.world move) (Stopped []) tried))
         (not_equal n i apart);
     put = same ∙ sym (append-nil old.acts);
   }
 
   module _ (same : n ≡ i) where
     in_time : whole ≡ cond (is_high marks old.world move) (Stopped []) tried
-    in_time = ap (λ b. cond (not b) (Stopped []) (cond (is_high marks old.world move) (Stopped []) tried))
+    in_time =
+        ap (λ b. cond (not b) (Stopped []) (cond (is_high marks old.world move) (Stopped []) tried))
         (eq-eqb n i same)
 
     -- its stamp isn't told, and the clock is too high
@@ -168,13 +181,17 @@ module _ {top : ℕ} (streams : List Stream) (marks : Marks) (old : Construction
       in_order : whole ≡ tried
       in_order = in_time ∙ ap (λ b. cond b (Stopped []) tried) low
 
-      pub err_meets : (h : Halt) → Meets TellsLast (move_turn streams marks old move) old (Err h) new
+      pub err_meets : (h : Halt)
+          → Meets TellsLast (move_turn streams marks old move) old (Err h) new
           → Meets {T = Unit {0}} SaysNothing whole old (Err h) new
-      err_meets h meets = subst (λ t. Meets {T = Unit {0}} SaysNothing t old (Err h) new) (sym in_order)
-          (marked_err {U = Unit {0}} TellsLast SaysNothing marks move (move_turn streams marks old move) old h new
+      err_meets h meets = subst (λ t. Meets {T = Unit {0}} SaysNothing t old (Err h) new)
+          (sym in_order)
+          (marked_err {U = Unit {0}} TellsLast SaysNothing marks move
+          (move_turn streams marks old move) old h new
           meets)
 
-      module _ (told : Told) (went : WentThrough TellsLast (move_turn streams marks old move) old told new) where
+      module _ (told : Told) (went : WentThrough TellsLast (move_turn streams marks old move) old
+          told new) where
         chosen : (b : Bool) → is_marked marks move went.outcomes ≡ b
             → whole ≡ cond b (Through went.acts went.outcomes) (Stopped went.acts)
         chosen b is = in_order ∙ ap (marked_turn marks move) went.through
@@ -184,7 +201,8 @@ module _ {top : ℕ} (streams : List Stream) (marks : Marks) (old : Construction
             → Meets {T = Unit {0}} SaysNothing whole old (Err halt.Stopped) new
         other_meets other = record {
           acts = went.acts;
-          stopped = chosen false (other_report (last_report None went.outcomes) (if_told (marks p i) e)
+          stopped = chosen false (other_report (last_report None went.outcomes)
+              (if_told (marks p i) e)
               (λ is. other (sym went.said ∙ is)));
           put = went.put;
         }
@@ -194,7 +212,8 @@ module _ {top : ℕ} (streams : List Stream) (marks : Marks) (old : Construction
         through_meets is = record {
           acts = went.acts;
           outcomes = went.outcomes;
-          through = chosen true (same_report (last_report None went.outcomes) (if_told (marks p i) e)
+          through = chosen true (same_report (last_report None went.outcomes)
+              (if_told (marks p i) e)
               (went.said ∙ is));
           said = tt;
           after = went.after;
@@ -212,7 +231,8 @@ told_most p (m ∷ ms) =
       | item.Reported q i ↦ cond (pid_eq q p) 1 0
       | item.Hidden q i ↦ 0
     ]) ≤ suc (length ms)) [
-      | item.Reported q i ↦ elim (pid_eq q p) as (λ b. event_count p ms + cond b 1 0 ≤ suc (length ms))
+      | item.Reported q i ↦ elim (pid_eq q p) as (λ b. event_count p ms + cond b 1 0
+          ≤ suc (length ms))
           [ true ↦ omega arith | false ↦ omega arith ]
       | item.Hidden q i ↦ omega arith
     ]
@@ -241,20 +261,24 @@ told_below streams p xs n =
     let four = take_most xs n in
     omega arith
 
-module _ {top : ℕ} (streams : List Stream) (marks : Marks) (earlier : List Move) (c : Construction top)
+module _ {top : ℕ} (streams : List Stream) (marks : Marks) (earlier : List Move)
+    (c : Construction top)
     (so : IsSoFar streams earlier c) (m : Move) where
   same_uncaused : (r : Process) → process c.world m.who ≡ Some r
-      → (not (is_taking m) && test_at (λ x. is_uncaused x m.event.serial) c.world m.who) ≡ uncaused earlier m
+      → (not (is_taking m) && test_at (λ x. is_uncaused x m.event.serial) c.world m.who)
+      ≡ uncaused earlier m
   same_uncaused r at =
       let was = so.counted m.who r at in
       let prev = m.event.serial.prev in
       ap (λ o. not (is_taking m)
       && option_map_or (λ (r : Process). is_uncaused (start_of r.local) m.event.serial) o false) at
       ∙ ap (λ k. not (is_taking m) && (not (prev == k) && nat_lt prev r.local.clock)) was.lasted
-      ∙ ap (λ k. not (is_taking m) && (not (prev == last m.who earlier) && nat_lt prev k)) was.clocked
+      ∙ ap (λ k. not (is_taking m) && (not (prev == last m.who earlier) && nat_lt prev k))
+      was.clocked
 
   same_too_wide : (r : Process) → process c.world m.who ≡ Some r
-      → (not (is_taking m) && test_at (λ x. is_too_wide c.skipped (missing_count x m.event.serial)) c.world m.who)
+      → (not (is_taking m) && test_at (λ x. is_too_wide c.skipped (missing_count x m.event.serial))
+      c.world m.who)
       ≡ too_wide earlier m
   same_too_wide r at =
       let was = so.counted m.who r at in
@@ -271,7 +295,8 @@ module _ {top : ℕ} (streams : List Stream) (marks : Marks) (earlier : List Mov
       ]
 
   abbrev by_moves : Turn
-  by_moves = attempt top c.world (uncaused earlier m) (too_wide earlier m) (acts_from streams marks c.world m)
+  by_moves = attempt top c.world (uncaused earlier m) (too_wide earlier m)
+      (acts_from streams marks c.world m)
 
   move_turn_is : move_turn streams marks c m ≡ by_moves
   move_turn_is = elim (process c.world m.who) as (λ o. process c.world m.who ≡ o
@@ -281,20 +306,23 @@ module _ {top : ℕ} (streams : List Stream) (marks : Marks) (earlier : List Mov
             ap (λ b. attempt top c.world b (not (is_taking m)
             && test_at (λ x. is_too_wide c.skipped (missing_count x m.event.serial)) c.world m.who)
             (acts_from streams marks c.world m)) (same_uncaused r at)
-            ∙ ap (λ b. attempt top c.world (uncaused earlier m) b (acts_from streams marks c.world m))
+            ∙ ap (λ b. attempt top c.world (uncaused earlier m) b
+            (acts_from streams marks c.world m))
             (same_too_wide r at)
       ] refl where
         nowhere : process c.world m.who ≡ None → move_turn streams marks c m ≡ by_moves
         nowhere at = rw at refl
 
 -- the outcome of a report is that of its item
-pub report_turn_is : {top : ℕ} (streams : List Stream) (marks : Marks) (earlier : List Move) (c : Construction top)
+pub report_turn_is : {top : ℕ} (streams : List Stream) (marks : Marks) (earlier : List Move)
+    (c : Construction top)
     → IsSoFar streams earlier c → (p : Pid) (i : ℕ) (e : Event)
     → report_turn streams marks c (event_count p earlier) (move_by (item.Reported p i) e)
     ≡ item_turn streams marks c earlier (move_by (item.Reported p i) e)
 report_turn_is streams marks earlier c so p i e =
     let m = move_by (item.Reported p i) e in
-    ap (λ t. cond (not (event_count p earlier == i)) (Stopped []) (cond (is_high marks c.world m) (Stopped [])
+    ap (λ t. cond (not (event_count p earlier == i)) (Stopped [])
+    (cond (is_high marks c.world m) (Stopped [])
     (marked_turn marks m t))) (move_turn_is streams marks earlier c so m)
 
 marked_hidden : (marks : Marks) (p : Pid) (i : ℕ) (e : Event) (t : Turn)
@@ -304,7 +332,8 @@ marked_hidden marks p i e (Stopped acts) = refl
 marked_hidden marks p i e (Refused r) = refl
 
 -- and so it is for a hidden send
-pub hidden_turn_is : {top : ℕ} (streams : List Stream) (marks : Marks) (earlier : List Move) (c : Construction top)
+pub hidden_turn_is : {top : ℕ} (streams : List Stream) (marks : Marks) (earlier : List Move)
+    (c : Construction top)
     → IsSoFar streams earlier c → (p : Pid) (i : ℕ) (e : Event)
     → move_turn streams marks c (move_by (item.Hidden p i) e)
     ≡ item_turn streams marks c earlier (move_by (item.Hidden p i) e)
@@ -312,7 +341,8 @@ hidden_turn_is streams marks earlier c so p i e =
     let m = move_by (item.Hidden p i) e in
     move_turn_is streams marks earlier c so m ∙ marked_hidden marks p i e _
 
-shown_as : (r : Option Event) (e : Event) → option_eq event_eq r (Some e) ≡ option_map_or (λ d. event_eq d e) r false
+shown_as : (r : Option Event) (e : Event)
+    → option_eq event_eq r (Some e) ≡ option_map_or (λ d. event_eq d e) r false
 shown_as None e = refl
 shown_as (Some d) e = refl
 
@@ -327,11 +357,14 @@ marked_shown m os = elim m.item as (λ x. elim x [
 ]) [ item.Reported p i ↦ shown_as (last_report None os) m.event | item.Hidden p i ↦ refl ]
 
 -- and the item's turn is that of the construction
-pub all_told_turn : {top : ℕ} (streams : List Stream) (c : Construction top) (earlier : List Move) (m : Move)
+pub all_told_turn : {top : ℕ} (streams : List Stream) (c : Construction top) (earlier : List Move)
+    (m : Move)
     → item_turn streams all_told c earlier m ≡ turn top streams all_told c.world earlier m
 all_told_turn {top} streams c earlier m =
-    let tried = attempt top c.world (uncaused earlier m) (too_wide earlier m) (acts_from streams all_told c.world m) in
-    ap (λ b. cond (out_of_turn earlier m) (Stopped []) (cond b (Stopped []) (marked_turn all_told m tried)))
+    let tried = attempt top c.world (uncaused earlier m) (too_wide earlier m)
+    (acts_from streams all_told c.world m) in
+    ap (λ b. cond (out_of_turn earlier m) (Stopped [])
+    (cond b (Stopped []) (marked_turn all_told m tried)))
     (never_high m) ∙ ap (λ t. cond (out_of_turn earlier m) (Stopped []) t) (marked_as tried)
   where
     never_high : (m : Move) → is_high all_told c.world m ≡ false
@@ -341,6 +374,7 @@ all_told_turn {top} streams c earlier m =
     ] ≡ false) [ item.Reported p i ↦ refl | item.Hidden p i ↦ refl ]
 
     marked_as : (t : Turn) → marked_turn all_told m t ≡ compared_turn m t
-    marked_as (Through acts os) = ap (λ b. cond b (Through acts os) (Stopped acts)) (marked_shown m os)
+    marked_as (Through acts os) =
+        ap (λ b. cond b (Through acts os) (Stopped acts)) (marked_shown m os)
     marked_as (Stopped acts) = refl
     marked_as (Refused r) = refl

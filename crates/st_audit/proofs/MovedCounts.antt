@@ -1,8 +1,9 @@
 -- An item's acts change counts so: those of its own process become what its move makes of them, and
 -- no others move. For a stamp that is told its report says so, for another the clock before it, for
 -- a receive its message.
-use Rattle.std.proofs.Common.{◌≡◌, ℕ, ◌+◌, ◌<◌, ◌≤◌, ◌⊎◌, inl, inr, max, true, false, not, ◌&&◌, ◌==◌, List, Option}
-use Rattle.std.proofs.Common.{Some, None, nat_lt, refl, sym, ◌∙◌, ap, subst, arith, get_or, option_and_then, position}
+use Rattle.std.proofs.Common.{◌≡◌, ℕ, ◌+◌, ◌<◌, ◌≤◌, ◌⊎◌, inl, inr, max, true, false, not, ◌&&◌}
+use Rattle.std.proofs.Common.{◌==◌, List, Option, Some, None, nat_lt, refl, sym, ◌∙◌, ap, subst}
+use Rattle.std.proofs.Common.{arith, get_or, option_and_then, position}
 use Rattle.std.proofs.lemmas.Bool.{and_parts, eqb-true, false≢true, ltb-false}
 use Rattle.std.proofs.lemmas.List.Quantifiers.{position-Some}
 use Rattle.std.proofs.lemmas.Option.{same_Some, slice_get-get_or}
@@ -28,17 +29,19 @@ use Rattle.st_mail.specs.Mail.{bears_stamp}
 use Rattle.st_world.specs.World.{place_in}
 use Rattle.st_plan.specs.Build.{ready, start_of, state_after}
 use Rattle.st_audit.specs.Progress.{is_uncaused}
-use Rattle.st_audit.proofs.Counts.{IsNoReset, IsTold, WasActor, WasSame, actor_same, all_risen, others_same}
-use Rattle.st_audit.proofs.Counts.{ready_alone, stamp_some, stamp_told, was_same}
+use Rattle.st_audit.proofs.Counts.{IsNoReset, IsTold, WasActor, WasSame, actor_same, all_risen}
+use Rattle.st_audit.proofs.Counts.{others_same, ready_alone, stamp_some, stamp_told, was_same}
 use Rattle.st_plan.proofs.ForCallers.{lifted, is_ready, pick_at}
 use Rattle.st_audit.proofs.GreaterClocks.{run_wider}
 
 -- between these states q's counts became those of this serial, and no others moved
 pub record HasMoved (q : Pid) (s : Serial) (count : ℕ) (old new : State) : Type 0 where
-  pub others : (x : Pid) (r : Process) → pid_eq x q ≡ false → process new x ≡ Some r → WasSame old x r.local
+  pub others : (x : Pid) (r : Process) → pid_eq x q ≡ false → process new x ≡ Some r
+      → WasSame old x r.local
   pub before : (r : Process) → process new q ≡ Some r → Process
   pub is_before : (r : Process) (h : process new q ≡ Some r) → process old q ≡ Some (before r h)
-  pub clocked : (r : Process) (h : process new q ≡ Some r) → r.local.clock ≡ max (before r h).local.clock s.this
+  pub clocked : (r : Process) (h : process new q ≡ Some r)
+      → r.local.clock ≡ max (before r h).local.clock s.this
   pub lasted : (r : Process) → process new q ≡ Some r → r.local.last ≡ count
 
 -- THE ACT OF A STAMP
@@ -56,7 +59,8 @@ pub record Stamps (top : ℕ) (old : State) (p : Pid) (e : Event) (end : Outcome
   pub caused : is_uncaused (start_of before.local) e.serial ≡ false
   pub flags : Flags
   pub outcomes : List Outcome
-  pub runs : run_from top old (ready p (start_of before.local) e.label e.serial flags) ≡ Some outcomes
+  pub runs : run_from top old (ready p (start_of before.local) e.label e.serial flags)
+      ≡ Some outcomes
   pub stamp : Act
   pub stamps : IsStampOf p stamp
   pub steps : step top (state_after old outcomes) stamp ≡ Some end
@@ -108,12 +112,20 @@ acted_some top p (act.Send q x v) r done t h is some =
     let parts = mapped (sends r x v) (stamp_any top r.pid r.local) done is in
     let same = stamp_some top r.pid r.local parts.0 t some parts.1 in
     subst (λ (d : Acted). HasStamped r.local d.local) parts.2
-    (record { clocked = ap (λ (l : LocalState). l.clock) same; lasted = ap (λ (l : LocalState). l.last) same })
+    (record {
+      clocked = ap (λ (l : LocalState). l.clock) same;
+      lasted =
+          ap (λ (l : LocalState). l.last) same;
+    })
 acted_some top p (act.Print q v) r done t h is some =
     let parts = mapped (prints r v) (stamp_any top r.pid r.local) done is in
     let same = stamp_some top r.pid r.local parts.0 t some parts.1 in
     subst (λ (d : Acted). HasStamped r.local d.local) parts.2
-    (record { clocked = ap (λ (l : LocalState). l.clock) same; lasted = ap (λ (l : LocalState). l.last) same })
+    (record {
+      clocked = ap (λ (l : LocalState). l.clock) same;
+      lasted =
+          ap (λ (l : LocalState). l.last) same;
+    })
 acted_some top p (act.Receive q w) r done t h is some = absurd h
 acted_some top p (act.PrintAt q n v) r done t h is some = absurd h
 acted_some top p (act.Set q c) r done t h is some = absurd h
@@ -125,17 +137,21 @@ acted_some top p (act.Tracer q b) r done t h is some = absurd h
 
 -- WHERE THE STAMP IS REPORTED
 
-pub reported_moves : (top : ℕ) (old : State) (p : Pid) (e : Event) (end : Outcome) → Stamps top old p e end
+pub reported_moves : (top : ℕ) (old : State) (p : Pid) (e : Event) (end : Outcome)
+    → Stamps top old p e end
     → end.report ≡ Some e → HasMoved p e.serial e.serial.prev old end.after
 reported_moves top old p e end x report =
     let acts = ready p (start_of x.before.local) e.label e.serial x.flags in
     let between = state_after old x.outcomes in
-    let risen = all_risen top p old acts x.outcomes (ready_alone p (start_of x.before.local) e.label e.serial x.flags)
+    let risen = all_risen top p old acts x.outcomes
+    (ready_alone p (start_of x.before.local) e.label e.serial x.flags)
     x.runs in
     let by = stamp_is p x.stamp x.stamps in
-    let was : (r : Process) → process end.after p ≡ Some r → WasActor top between x.stamp end r.local =
+    let was : (r : Process) → process end.after p ≡ Some r
+    → WasActor top between x.stamp end r.local =
     λ r h. actor_same top between x.stamp end x.steps by.1 r (ap (process end.after) by.0 ∙ h) in
-    let here : (r : Process) (h : process end.after p ≡ Some r) → process between p ≡ Some (was r h).before =
+    let here : (r : Process) (h : process end.after p ≡ Some r)
+    → process between p ≡ Some (was r h).before =
     λ r h. ap (process between) (sym by.0) ∙ (was r h).is_before in
     let serial : (r : Process) (h : process end.after p ≡ Some r)
     → IsTold (was r h).before.local (was r h).done.local e =
@@ -143,7 +159,8 @@ reported_moves top old p e end x report =
     (sym (was r h).told ∙ report) in
     record {
       others = λ y r apart h.
-          let late = others_same top between x.stamp end x.steps by.1 y r (ap (pid_eq y) by.0 ∙ apart) h in
+          let late = others_same top between x.stamp end x.steps by.1 y r
+          (ap (pid_eq y) by.0 ∙ apart) h in
           was_same old between y r.local late (risen.others y late.before apart late.is_before);
       before = λ r h. (risen.own (was r h).before (here r h)).before;
       is_before = λ r h. (risen.own (was r h).before (here r h)).is_before;
@@ -161,13 +178,15 @@ reported_moves top old p e end x report =
 pub caused_by : (l : LocalState) (s : Serial) → is_uncaused (start_of l) s ≡ false
     → (s.prev ≡ l.last) ⊎ (l.clock ≤ s.prev)
 caused_by l s h =
-    elim (s.prev == l.last) as (λ b. (s.prev == l.last) ≡ b → (not b && nat_lt s.prev l.clock) ≡ false
+    elim (s.prev == l.last) as (λ b. (s.prev == l.last) ≡ b
+    → (not b && nat_lt s.prev l.clock) ≡ false
     → (s.prev ≡ l.last) ⊎ (l.clock ≤ s.prev)) [
       | true ↦ λ e h. inl (eqb-true s.prev l.last e)
       | false ↦ λ e h. inr (ltb-false s.prev l.clock h)
     ] refl h
 
-pub hidden_moves : (top : ℕ) (old : State) (p : Pid) (e : Event) (end : Outcome) (x : Stamps top old p e end)
+pub hidden_moves : (top : ℕ) (old : State) (p : Pid) (e : Event) (end : Outcome)
+    (x : Stamps top old p e end)
     → e.serial.prev < e.serial.this → x.before.local.clock < e.serial.this
     → HasMoved p e.serial e.serial.prev old end.after
 hidden_moves top old p e end x rises below =
@@ -184,17 +203,20 @@ hidden_moves top old p e end x rises below =
     let r1 : Process = record r0 { local = at.end } in
     let here : process between p ≡ Some r1 = ap (λ s. process s p) (sym state) ∙ lift.here in
     let by = stamp_is p x.stamp x.stamps in
-    let was : (r : Process) → process end.after p ≡ Some r → WasActor top between x.stamp end r.local =
+    let was : (r : Process) → process end.after p ≡ Some r
+    → WasActor top between x.stamp end r.local =
     λ r h. actor_same top between x.stamp end x.steps by.1 r (ap (process end.after) by.0 ∙ h) in
     let is_r1 : (r : Process) (h : process end.after p ≡ Some r)
     → r1 ≡ (was r h).before = λ r h. same_Some r1 (was r h).before
     (sym here ∙ ap (process between) (sym by.0) ∙ (was r h).is_before) in
-    let stamped : (r : Process) (h : process end.after p ≡ Some r) → HasStamped at.end (was r h).done.local = λ r h.
+    let stamped : (r : Process) (h : process end.after p ≡ Some r)
+    → HasStamped at.end (was r h).done.local = λ r h.
     acted_some top p x.stamp r1 (was r h).done at.token x.stamps
     (ap (λ y. acted top y x.stamp) (is_r1 r h) ∙ (was r h).is_done) at.is in
     record {
       others = λ y r apart h.
-          let late = others_same top between x.stamp end x.steps by.1 y r (ap (pid_eq y) by.0 ∙ apart) h in
+          let late = others_same top between x.stamp end x.steps by.1 y r
+          (ap (pid_eq y) by.0 ∙ apart) h in
           record {
             before = late.before;
             is_before = sym (lift.others y apart) ∙ ap (λ s. process s y) state ∙ late.is_before;
@@ -216,8 +238,12 @@ hidden_moves top old p e end x rises below =
 bears_count : (from : Pid) (this : ℕ) (token : Option Token) → bears_stamp from this token ≡ true
     → (t : Token) × (token ≡ Some t) × (t.serial.this ≡ this)
 bears_count from this None h = absurd (false≢true h)
-bears_count from this (Some t) h =
-    (t, refl, eqb-true t.serial.this this (and_parts (pid_eq t.from from) (t.serial.this == this) h).1)
+bears_count from this (Some t) h = (
+  t,
+  refl,
+  eqb-true t.serial.this this
+      (and_parts (pid_eq t.from from) (t.serial.this == this) h).1,
+)
 
 taken_by : (r : Process) (k : ℕ) (m : Message) (done : Acted) (from : Pid) (this : ℕ)
     → bears_stamp from this m.token ≡ true → receives r (Some (k, m)) ≡ done
@@ -233,7 +259,8 @@ taken_by r k m done from this bears is =
 
 pub taken_moves : (top : ℕ) (old : State) (p : Pid) (e : Event) (place : ℕ) (o : Outcome)
     → place_in old p e.from e.serial.this ≡ Some place
-    → step top old (act.Receive p (want.Place place)) ≡ Some o → HasMoved p e.serial e.serial.this old o.after
+    → step top old (act.Receive p (want.Place place)) ≡ Some o
+    → HasMoved p e.serial e.serial.this old o.after
 taken_moves top old p e place o found_at steps =
     let a = act.Receive p (want.Place place) in
     let this = e.serial.this in
@@ -246,13 +273,15 @@ taken_moves top old p e place o found_at steps =
     × ((was r h).done.local.last ≡ this) = λ r h.
     let b = (was r h).before in
     let found : position test b.queue ≡ Some place =
-    sym (ap (option_and_then (λ (q : Process). position test q.queue)) (was r h).is_before) ∙ found_at in
+    sym (ap (option_and_then (λ (q : Process). position test q.queue)) (was r h).is_before)
+    ∙ found_at in
     let at = position-Some test b.queue place any found in
     let m = get_or b.queue place any in
     let picked : pick (want.Place place) b.queue ≡ Some (place, m) =
     pick_at place b.queue m (slice_get-get_or b.queue place any at.0) in
     taken_by b place m (was r h).done e.from this at.1
-    (ap (receives b) (sym picked) ∙ same_Some (receives b (pick (want.Place place) b.queue)) (was r h).done
+    (ap (receives b) (sym picked) ∙ same_Some (receives b (pick (want.Place place) b.queue))
+    (was r h).done
     (was r h).is_done) in
     record {
       others = λ y r apart h. others_same top old a o steps tt y r apart h;

@@ -1,6 +1,7 @@
--- Without items there are no events, so the checker accepts no acts: nothing is left, and no act can stop.
-use Rattle.std.proofs.Common.{◌≡◌, ℕ, ◌+◌, ◌<◌, nat_lt, true, false, cond, List, [], ◌∷◌, ◌++◌, length, find}
-use Rattle.std.proofs.Common.{Some, None, refl, sym, ◌∙◌, ap, arith}
+-- Without items there are no events, so the checker accepts no acts: nothing is left, and no act
+-- can stop.
+use Rattle.std.proofs.Common.{◌≡◌, ℕ, ◌+◌, ◌<◌, nat_lt, true, false, cond, List, [], ◌∷◌, ◌++◌}
+use Rattle.std.proofs.Common.{length, find, Some, None, refl, sym, ◌∙◌, ap, arith}
 use Rattle.std.specs.List.{AllByRecursion}
 use Rattle.std.proofs.lemmas.Option.{none-some}
 use Rattle.st_core.specs.declared.types.Pid.{Pid}
@@ -19,19 +20,24 @@ use Rattle.st_audit.specs.Findings.{IsNo}
 no_events : (all : List Stream) (p : Pid) (i : ℕ) (es : List Event)
     → AllByRecursion (λ z. Among z []) (items_from all p i es) → es ≡ []
 no_events all p i [] h = refl
-no_events all p i (e ∷ es) h = absurd (elim (is_hidden all e) as (λ b. AllByRecursion (λ z. Among z [])
-    ((cond b (item.Hidden p i ∷ item.Reported p i ∷ []) (item.Reported p i ∷ [])) ++ items_from all p (i + 1) es)
+no_events all p i (e ∷ es) h =
+    absurd (elim (is_hidden all e) as (λ b. AllByRecursion (λ z. Among z [])
+    ((cond b (item.Hidden p i ∷ item.Reported p i ∷ []) (item.Reported p i ∷ []))
+    ++ items_from all p (i + 1) es)
     → ⊥) [ true ↦ λ h. h.0 | false ↦ λ h. h.0 ] h)
 
-left_part : (P : Item → Type 0) (xs ys : List Item) → AllByRecursion P (xs ++ ys) → AllByRecursion P xs
+left_part : (P : Item → Type 0) (xs ys : List Item) → AllByRecursion P (xs ++ ys)
+    → AllByRecursion P xs
 left_part P [] ys h = tt
 left_part P (x ∷ xs) ys h = (h.0, left_part P xs ys h.1)
 
-right_part : (P : Item → Type 0) (xs ys : List Item) → AllByRecursion P (xs ++ ys) → AllByRecursion P ys
+right_part : (P : Item → Type 0) (xs ys : List Item) → AllByRecursion P (xs ++ ys)
+    → AllByRecursion P ys
 right_part P [] ys h = h
 right_part P (x ∷ xs) ys h = right_part P xs ys h.1
 
-none_left : (all some : List Stream) (os : List Outcome) → AllByRecursion (λ z. Among z []) (items_among all some)
+none_left : (all some : List Stream) (os : List Outcome)
+    → AllByRecursion (λ z. Among z []) (items_among all some)
     → find (λ x. nat_lt (length (stream [] os x.pid)) (length x.events)) some ≡ None
 none_left all [] os h = refl
 none_left all (s ∷ some) os h =
@@ -44,8 +50,10 @@ none_left all (s ∷ some) os h =
 
 pub accepts_nothing : (top : ℕ) (streams : List Stream) (v : verdicts.Verdict) → IsOrder streams []
     → verdicts.IsVerdict top streams [] v → IsNo v → ⊥
-accepts_nothing top streams (verdicts.Stuck n) order is refused = absurd (let within : n < 0 = is.0 in omega arith)
-accepts_nothing top streams (verdicts.Differs n) order is refused = absurd (let within : n < 0 = is.0 in omega arith)
+accepts_nothing top streams (verdicts.Stuck n) order is refused =
+    absurd (let within : n < 0 = is.0 in omega arith)
+accepts_nothing top streams (verdicts.Differs n) order is refused =
+    absurd (let within : n < 0 = is.0 in omega arith)
 accepts_nothing top streams (verdicts.Left p) order is refused =
     let none = none_left streams streams is.0
     (members [] (items streams) (IsPermutation-sym (items streams) [] order.same)) in

@@ -1,4 +1,5 @@
--- There is one finding: acts have one verdict, and a finding is the acts, the place and the verdict.
+-- There is one finding: acts have one verdict, and a finding is the acts, the place and the
+-- verdict.
 use Rattle.std.proofs.Common.{◌≡◌, ℕ, List, [], Option, Some, None, sym, ◌∙◌, ap, subst, refl}
 use Rattle.std.proofs.lemmas.Option.{same_Some}
 use Rattle.st_core.specs.declared.types.Pid.{Pid}
@@ -16,7 +17,8 @@ use Rattle.st_audit.specs.declared.finding.Reason.TheVariants as reason
 use Rattle.st_audit.specs.declared.finding.Finding.{Finding}
 use Rattle.st_audit.specs.declared.finding.Finding.TheVariants as finding
 use Rattle.st_audit.specs.Findings.{IsNo}
-use Rattle.st_audit.specs.Construction.{end_of, End, Judged, Unfounded, IsAudit, IsFoundAt, IsFoundBy}
+use Rattle.st_audit.specs.Construction.{end_of, End, Judged, Unfounded, IsAudit, IsFoundAt}
+use Rattle.st_audit.specs.Construction.{IsFoundBy}
 
 abbrev told_of : verdicts.Verdict → Verdict
 told_of (verdicts.Stuck n) = told.Stuck n
@@ -40,35 +42,48 @@ unfit at acts v = finding.Unfit at.0 at.1 (reason.NotReplayed acts v)
 
 module _ (top : ℕ) (streams : List Stream) where
   judged_once : (acts : List Act) (end : Option (Pid × ℕ)) (one other : Finding)
-      → IsFoundAt top streams (Judged acts end) one → IsFoundAt top streams (Judged acts end) other → one ≡ other
+      → IsFoundAt top streams (Judged acts end) one → IsFoundAt top streams (Judged acts end) other
+      → one ≡ other
   judged_once acts end (finding.Fits xs ps) (finding.Fits ys qs) a b =
-      let pairs : ps ≡ qs = ap pairs_in (one_verdict top streams acts (verdicts.Yes ps) (verdicts.Yes qs) a.1 b.1) in
+      let pairs : ps ≡ qs = ap pairs_in
+      (one_verdict top streams acts (verdicts.Yes ps) (verdicts.Yes qs) a.1 b.1) in
       ap (λ zs. finding.Fits zs ps) (a.0 ∙ sym b.0) ∙ ap (finding.Fits ys) pairs
   judged_once acts end (finding.Fits xs ps) (finding.Unfit q j (reason.NotReplayed ys w)) a b =
-      absurd (subst IsNo (one_verdict top streams acts (verdict_of w) (verdicts.Yes ps) b.2 a.1) b.3)
+      absurd (subst IsNo (one_verdict top streams acts (verdict_of w) (verdicts.Yes ps) b.2 a.1)
+      b.3)
   judged_once acts end (finding.Unfit p i (reason.NotReplayed xs v)) (finding.Fits ys qs) a b =
-      absurd (subst IsNo (one_verdict top streams acts (verdict_of v) (verdicts.Yes qs) a.2 b.1) a.3)
-  judged_once acts end (finding.Unfit p i (reason.NotReplayed xs v)) (finding.Unfit q j (reason.NotReplayed ys w)) a b =
+      absurd (subst IsNo (one_verdict top streams acts (verdict_of v) (verdicts.Yes qs) a.2 b.1)
+      a.3)
+  judged_once acts end (finding.Unfit p i (reason.NotReplayed xs v))
+      (finding.Unfit q j (reason.NotReplayed ys w)) a b =
       let places : (p, i) ≡ (q, j) = same_Some (p, i) (q, j) (sym a.1 ∙ b.1) in
       let verdicts : v ≡ w = sym (told_again v)
-      ∙ ap told_of (one_verdict top streams acts (verdict_of v) (verdict_of w) a.2 b.2) ∙ told_again w in
-      ap (λ at. unfit at xs v) places ∙ ap (λ zs. unfit (q, j) zs v) (a.0 ∙ sym b.0) ∙ ap (unfit (q, j) ys) verdicts
+      ∙ ap told_of (one_verdict top streams acts (verdict_of v) (verdict_of w) a.2 b.2)
+      ∙ told_again w in
+      ap (λ at. unfit at xs v) places ∙ ap (λ zs. unfit (q, j) zs v) (a.0 ∙ sym b.0)
+      ∙ ap (unfit (q, j) ys) verdicts
   judged_once acts end (finding.Fits xs ps) (finding.Unfit q j reason.PrevNotBefore) a b = absurd b
   judged_once acts end (finding.Fits xs ps) (finding.Unfit q j (reason.NotRising k)) a b = absurd b
   judged_once acts end (finding.Fits xs ps) (finding.Unfit q j (reason.Repeated r k)) a b = absurd b
   judged_once acts end (finding.Fits xs ps) (finding.Unfit q j (reason.Mismatch r k)) a b = absurd b
   judged_once acts end (finding.Fits xs ps) (finding.Unfit q j reason.Uncaused) a b = absurd b
   judged_once acts end (finding.Fits xs ps) (finding.Unfit q j reason.TooWide) a b = absurd b
-  judged_once acts end (finding.Unfit p i (reason.NotReplayed xs v)) (finding.Unfit q j reason.PrevNotBefore) a b =
+  judged_once acts end (finding.Unfit p i (reason.NotReplayed xs v))
+      (finding.Unfit q j reason.PrevNotBefore) a b =
       absurd b
-  judged_once acts end (finding.Unfit p i (reason.NotReplayed xs v)) (finding.Unfit q j (reason.NotRising k)) a b =
+  judged_once acts end (finding.Unfit p i (reason.NotReplayed xs v))
+      (finding.Unfit q j (reason.NotRising k)) a b =
       absurd b
-  judged_once acts end (finding.Unfit p i (reason.NotReplayed xs v)) (finding.Unfit q j (reason.Repeated r k)) a b =
+  judged_once acts end (finding.Unfit p i (reason.NotReplayed xs v))
+      (finding.Unfit q j (reason.Repeated r k)) a b =
       absurd b
-  judged_once acts end (finding.Unfit p i (reason.NotReplayed xs v)) (finding.Unfit q j (reason.Mismatch r k)) a b =
+  judged_once acts end (finding.Unfit p i (reason.NotReplayed xs v))
+      (finding.Unfit q j (reason.Mismatch r k)) a b =
       absurd b
-  judged_once acts end (finding.Unfit p i (reason.NotReplayed xs v)) (finding.Unfit q j reason.Uncaused) a b = absurd b
-  judged_once acts end (finding.Unfit p i (reason.NotReplayed xs v)) (finding.Unfit q j reason.TooWide) a b = absurd b
+  judged_once acts end (finding.Unfit p i (reason.NotReplayed xs v))
+      (finding.Unfit q j reason.Uncaused) a b = absurd b
+  judged_once acts end (finding.Unfit p i (reason.NotReplayed xs v))
+      (finding.Unfit q j reason.TooWide) a b = absurd b
   judged_once acts end (finding.Unfit p i reason.PrevNotBefore) other a b = absurd a
   judged_once acts end (finding.Unfit p i (reason.NotRising k)) other a b = absurd a
   judged_once acts end (finding.Unfit p i (reason.Repeated r k)) other a b = absurd a
@@ -76,7 +91,8 @@ module _ (top : ℕ) (streams : List Stream) where
   judged_once acts end (finding.Unfit p i reason.Uncaused) other a b = absurd a
   judged_once acts end (finding.Unfit p i reason.TooWide) other a b = absurd a
 
-  found_once : (end : End) (one other : Finding) → IsFoundAt top streams end one → IsFoundAt top streams end other
+  found_once : (end : End) (one other : Finding) → IsFoundAt top streams end one
+      → IsFoundAt top streams end other
       → one ≡ other
   found_once (Judged acts end) one other a b = judged_once acts end one other a b
   found_once (Unfounded at r) one other a b = a ∙ sym b

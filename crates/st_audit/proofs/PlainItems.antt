@@ -1,8 +1,9 @@
--- In plain streams no reason holds of an item, its acts run, and the last of them reports its event exactly if it is
--- told: so the item goes through.
-use Rattle.std.proofs.Common.{◌≡◌, ℕ, ◌+◌, ◌<◌, ◌&&◌, nat_lt, suc, Bool, true, false, not, cond, List, []}
-use Rattle.std.proofs.Common.{◌∷◌, ◌++◌, reverse, take, drop, Option, Some, None, Err, option_and_then, option_to_list}
-use Rattle.std.proofs.Common.{length, slice_get, get_or, refl, sym, ◌∙◌, ap, arith}
+-- In plain streams no reason holds of an item, its acts run, and the last of them reports its event
+-- exactly if it is told: so the item goes through.
+use Rattle.std.proofs.Common.{◌≡◌, ℕ, ◌+◌, ◌<◌, ◌&&◌, nat_lt, suc, Bool, true, false, not, cond}
+use Rattle.std.proofs.Common.{List, [], ◌∷◌, ◌++◌, reverse, take, drop, Option, Some, None, Err}
+use Rattle.std.proofs.Common.{option_and_then, option_to_list, length, slice_get, get_or, refl, sym}
+use Rattle.std.proofs.Common.{◌∙◌, ap, arith}
 use Rattle.std.specs.Option.{option_map_or}
 use Rattle.std.proofs.lemmas.Bool.{lt-ltb}
 use Rattle.std.proofs.lemmas.Option.{same_Some, slice_get-get_or}
@@ -36,11 +37,13 @@ use Rattle.st_audit.specs.declared.construction.Construction.{Construction}
 use Rattle.st_audit.specs.declared.construction.Halt.{Halt}
 use Rattle.st_audit.specs.declared.construction.Halt.TheVariants as halt
 use Rattle.st_audit.specs.Construction.{acts_from, attempt, last_report, turn_by, Through, Stopped}
-use Rattle.st_audit.specs.Progress.{if_told, is_below, is_high, is_marked, is_uncaused, item_turn, marked_turn}
-use Rattle.st_audit.specs.Progress.{Meets, SaysNothing, WentThrough}
-use Rattle.st_audit.proofs.Attempts.{acts_in, attempt_acts, last_report-push, only_memory, outcomes_in}
+use Rattle.st_audit.specs.Progress.{if_told, is_below, is_high, is_marked, is_uncaused, item_turn}
+use Rattle.st_audit.specs.Progress.{marked_turn, Meets, SaysNothing, WentThrough}
+use Rattle.st_audit.proofs.Attempts.{acts_in, attempt_acts, last_report-push, only_memory}
+use Rattle.st_audit.proofs.Attempts.{outcomes_in}
 use Rattle.st_audit.proofs.ItemPlaces.{split_at}
-use Rattle.st_audit.proofs.MoveActs.{last_step, only, print_acts, receive_acts, send_acts, send_goes}
+use Rattle.st_audit.proofs.MoveActs.{last_step, only, print_acts, receive_acts, send_acts}
+use Rattle.st_audit.proofs.MoveActs.{send_goes}
 use Rattle.st_audit.proofs.MoveOutcomes.{same_report}
 use Rattle.st_audit.proofs.NextItem.{caused_as}
 use Rattle.st_audit.proofs.Silence.{ready_silent}
@@ -71,12 +74,14 @@ module _ (top : ℕ) (streams : List Stream) (marks : Marks) (s : State) (p : Pi
   module _ (rises : e.serial.prev < e.serial.this)
       (caused : is_stamp e ≡ true → is_uncaused (start_of g.before.local) e.serial ≡ false) where
     stamp_shows : (a : Act) → is_stamp e ≡ true → actor a ≡ p
-        → ready p (start_of g.before.local) e.label e.serial (flags_of streams marks (move_by (item.Reported p i) e))
+        → ready p (start_of g.before.local) e.label e.serial
+        (flags_of streams marks (move_by (item.Reported p i) e))
         ++ a ∷ [] ≡ g.acts → last_report None g.outcomes ≡ if_told (marks p i) e
     stamp_shows a stamps who are =
         let f = flags_of streams marks (move_by (item.Reported p i) e) in
         last_shows (ready p (start_of g.before.local) e.label e.serial f) a are who
-        (λ os runs. ready_silent top s p g.before g.is_before e.label f e.serial os rises (caused stamps) runs)
+        (λ os runs. ready_silent top s p g.before g.is_before e.label f e.serial os rises
+        (caused stamps) runs)
 
     send_shows : e.kind ≡ kind.Send → (o : Option Pid) → e.to ≡ o
         → last_report None g.outcomes ≡ if_told (marks p i) e
@@ -88,7 +93,8 @@ module _ (top : ℕ) (streams : List Stream) (marks : Marks) (s : State) (p : Pi
     kind_shows : (k : Kind) → e.kind ≡ k → last_report None g.outcomes ≡ if_told (marks p i) e
     kind_shows kind.Send is = send_shows is e.to refl
     kind_shows kind.Print is =
-        stamp_shows (act.Print p e.value) (rw is refl) refl (print_acts streams marks p i e g.before g.acts g.are is)
+        stamp_shows (act.Print p e.value) (rw is refl) refl
+        (print_acts streams marks p i e g.before g.acts g.are is)
     kind_shows kind.Receive is =
         let t = receive_acts streams marks p i e g.before g.acts g.are s g.is_before is in
         last_shows [] (act.Receive p (want.Place t.place)) t.same refl (λ os runs. refl)
@@ -96,7 +102,8 @@ module _ (top : ℕ) (streams : List Stream) (marks : Marks) (s : State) (p : Pi
 module _ (top : ℕ) (streams : List Stream) (marks : Marks) (s : State) (past : List Move)
     (kept : IsKept streams marks past s) where
   -- an item's acts report its event exactly if it is told; a hidden send has none to report
-  item_marked : (x : Item) (e : Event) (g : GoesOn top streams marks s (move_by x e)) → refusal streams ≡ None
+  item_marked : (x : Item) (e : Event) (g : GoesOn top streams marks s (move_by x e))
+      → refusal streams ≡ None
       → event_of streams x ≡ Some e → uncaused past (move_by x e) ≡ false
       → is_marked marks (move_by x e) g.outcomes ≡ true
   item_marked (item.Hidden p i) e g accepted at h = refl
@@ -114,17 +121,20 @@ module _ (top : ℕ) (streams : List Stream) (marks : Marks) (s : State) (past :
 
   -- the clock before a stamp is below its count
   item_low : (x : Item) (e : Event) (g : GoesOn top streams marks s (move_by x e))
-      → (is_taking (move_by x e) ≡ false → clock (move_by x e).who past < (move_by x e).event.serial.this)
+      → (is_taking (move_by x e) ≡ false
+      → clock (move_by x e).who past < (move_by x e).event.serial.this)
       → is_high marks s (move_by x e) ≡ false
   item_low (item.Hidden p i) e g below = refl
   item_low (item.Reported p i) e g below =
-      elim (is_stamp e) as (λ b. is_stamp e ≡ b → (not (marks p i) && (b && not (is_below s p e))) ≡ false) [
+      elim (is_stamp e) as (λ b. is_stamp e ≡ b → (not (marks p i) && (b && not (is_below s p e)))
+      ≡ false) [
         | true ↦ λ stamps.
             let so = kept.each p g.before g.is_before in
             let clocked = so.clocked in
             let less = below (ap not stamps) in
             let low : is_below s p e ≡ true =
-            ap (λ o. option_map_or (λ (r : Process). nat_lt r.local.clock e.serial.this) o true) g.is_before
+            ap (λ o. option_map_or (λ (r : Process). nat_lt r.local.clock e.serial.this) o true)
+            g.is_before
             ∙ lt-ltb g.before.local.clock e.serial.this (omega arith) in
             ap (λ b. not (marks p i) && not b) low ∙ nor_that (not (marks p i))
         | false ↦ λ takes. nor_that (not (marks p i))
@@ -132,97 +142,113 @@ module _ (top : ℕ) (streams : List Stream) (marks : Marks) (s : State) (past :
 
 -- ITEM BY ITEM
 
-module _ (top : ℕ) (streams : List Stream) (marks : Marks) (sound : IsStreams streams) (plain : IsPlain top streams)
-    (xs : List Item) (order : IsOrder streams xs) (n : ℕ) (x : Item) (at : slice_get xs n ≡ Some x) where
-  module _ (s : State) (acts : List Act) (track : IsOnTrack top streams marks (take n xs) s acts) where
-    pub item_goes : GoesNext top streams marks (earlier_of streams (take n xs)) x s
-    item_goes = goes_next top streams marks sound plain.settled xs order n x at s acts track
+module _ (top : ℕ) (streams : List Stream) (marks : Marks) (sound : IsStreams streams)
+    (plain : IsPlain top streams)
+    (xs : List Item) (order : IsOrder streams xs) (n : ℕ) (x : Item) (at : slice_get xs n ≡ Some x)
+  where
+    module _ (s : State) (acts : List Act) (track : IsOnTrack top streams marks (take n xs) s acts)
+      where
+        pub item_goes : GoesNext top streams marks (earlier_of streams (take n xs)) x s
+        item_goes = goes_next top streams marks sound plain.settled xs order n x at s acts track
 
-    abbrev pub past : List Move
-    past = earlier_of streams (take n xs)
+        abbrev pub past : List Move
+        past = earlier_of streams (take n xs)
 
-    abbrev later : List Move
-    later = moves streams (drop (suc n) xs)
+        abbrev later : List Move
+        later = moves streams (drop (suc n) xs)
 
-    abbrev pub move : Move
-    move = move_by x item_goes.event
+        abbrev pub move : Move
+        move = move_by x item_goes.event
 
-    split : moves streams xs ≡ reverse past ++ move ∷ later
-    split = split_at streams xs n x item_goes.event at item_goes.there
+        split : moves streams xs ≡ reverse past ++ move ∷ later
+        split = split_at streams xs n x item_goes.event at item_goes.there
 
-    caused : uncaused past move ≡ false
-    caused = caused_at top streams marks sound plain.settled xs order past later move split
+        caused : uncaused past move ≡ false
+        caused = caused_at top streams marks sound plain.settled xs order past later move split
 
-    narrow : too_wide past move ≡ false
-    narrow = elim (too_wide past move) as (λ b. too_wide past move ≡ b → b ≡ false) [
-      | true ↦ λ h. absurd (plain.narrow (item_place move.item).0 (item_place move.item).1 (record {
-        order = xs;
-        earlier = past;
-        move = move;
-        later = later;
-        is_order = order;
-        split = split;
-        place = refl;
-        holds = h;
-      }))
-      | false ↦ λ h. refl
-    ] refl
+        narrow : too_wide past move ≡ false
+        narrow = elim (too_wide past move) as (λ b. too_wide past move ≡ b → b ≡ false) [
+          | true ↦ λ h. absurd (plain.narrow (item_place move.item).0 (item_place move.item).1
+              (record {
+                order = xs;
+                earlier = past;
+                move = move;
+                later = later;
+                is_order = order;
+                split = split;
+                place = refl;
+                holds = h;
+              }))
+          | false ↦ λ h. refl
+        ] refl
 
-    pub goes_marked : is_marked marks move item_goes.goes.outcomes ≡ true
-    goes_marked =
-        item_marked top streams marks s past track.kept x item_goes.event item_goes.goes plain.settled.accepted
-        item_goes.there caused
+        pub goes_marked : is_marked marks move item_goes.goes.outcomes ≡ true
+        goes_marked =
+            item_marked top streams marks s past track.kept x item_goes.event item_goes.goes
+            plain.settled.accepted
+            item_goes.there caused
 
-    pub goes_tried : attempt top s (uncaused past move) (too_wide past move) (acts_from streams marks s move)
-        ≡ Through item_goes.goes.acts item_goes.goes.outcomes
-    goes_tried =
-        let g = item_goes.goes in
-        let found : acts_from streams marks s move ≡ Some g.acts =
-        ap (option_and_then (λ r. acts_of streams marks r move)) g.is_before ∙ g.are in
-        attempt_acts top s (uncaused past move) (too_wide past move) (acts_from streams marks s move) g.acts caused
-        narrow found ∙ ap (turn_by top s g.acts) g.runs
+        pub goes_tried : attempt top s (uncaused past move) (too_wide past move)
+            (acts_from streams marks s move)
+            ≡ Through item_goes.goes.acts item_goes.goes.outcomes
+        goes_tried =
+            let g = item_goes.goes in
+            let found : acts_from streams marks s move ≡ Some g.acts =
+            ap (option_and_then (λ r. acts_of streams marks r move)) g.is_before ∙ g.are in
+            attempt_acts top s (uncaused past move) (too_wide past move)
+            (acts_from streams marks s move) g.acts caused
+            narrow found ∙ ap (turn_by top s g.acts) g.runs
 
-  -- the item goes through, so its acts lead on, or memory runs out
-  module _ (old : Construction top) (track : IsOnTrack top streams marks (take n xs) old.world old.acts) where
-    abbrev goes : GoesNext top streams marks (earlier_of streams (take n xs)) x old.world
-    goes = item_goes old.world old.acts track
+    -- the item goes through, so its acts lead on, or memory runs out
+    module _ (old : Construction top)
+        (track : IsOnTrack top streams marks (take n xs) old.world old.acts) where
+      abbrev goes : GoesNext top streams marks (earlier_of streams (take n xs)) x old.world
+      goes = item_goes old.world old.acts track
 
-    abbrev pub whole : Move
-    whole = move_by x goes.event
+      abbrev pub whole : Move
+      whole = move_by x goes.event
 
-    item_through : item_turn streams marks old (earlier_of streams (take n xs)) whole
-        ≡ Through goes.goes.acts goes.goes.outcomes
-    item_through =
-        let earlier = earlier_of streams (take n xs) in
-        let g = goes.goes in
-        let turn = attempt top old.world (uncaused earlier whole) (too_wide earlier whole)
-        (acts_from streams marks old.world whole) in
-        let low = item_low top streams marks old.world earlier track.kept x goes.event g goes.below in
-        ap (λ b. cond b (Stopped []) (cond (is_high marks old.world whole) (Stopped []) (marked_turn marks whole turn)))
-        goes.in_turn
-        ∙ ap (λ b. cond b (Stopped []) (marked_turn marks whole turn)) low
-        ∙ ap (marked_turn marks whole) (goes_tried old.world old.acts track)
-        ∙ ap (λ b. cond b (Through g.acts g.outcomes) (Stopped g.acts)) (goes_marked old.world old.acts track)
+      item_through : item_turn streams marks old (earlier_of streams (take n xs)) whole
+          ≡ Through goes.goes.acts goes.goes.outcomes
+      item_through =
+          let earlier = earlier_of streams (take n xs) in
+          let g = goes.goes in
+          let turn = attempt top old.world (uncaused earlier whole) (too_wide earlier whole)
+          (acts_from streams marks old.world whole) in
+          let low = item_low top streams marks old.world earlier track.kept x goes.event g
+          goes.below in
+          ap (λ b. cond b (Stopped [])
+          (cond (is_high marks old.world whole) (Stopped []) (marked_turn marks whole turn)))
+          goes.in_turn
+          ∙ ap (λ b. cond b (Stopped []) (marked_turn marks whole turn)) low
+          ∙ ap (marked_turn marks whole) (goes_tried old.world old.acts track)
+          ∙ ap (λ b. cond b (Through g.acts g.outcomes) (Stopped g.acts))
+          (goes_marked old.world old.acts track)
 
-    goes_memory : (h : Halt) (new : Construction top)
-        → Meets {T = Unit {0}} SaysNothing (item_turn streams marks old (earlier_of streams (take n xs)) whole) old
-        (Err h) new → h ≡ halt.Memory
-    goes_memory h new meets =
-        only_memory {T = Unit {0}} SaysNothing (item_turn streams marks old (earlier_of streams (take n xs)) whole)
-        goes.goes.acts goes.goes.outcomes old h new item_through meets
+      goes_memory : (h : Halt) (new : Construction top)
+          → Meets {T = Unit {0}} SaysNothing
+          (item_turn streams marks old (earlier_of streams (take n xs)) whole) old
+          (Err h) new → h ≡ halt.Memory
+      goes_memory h new meets =
+          only_memory {T = Unit {0}} SaysNothing
+          (item_turn streams marks old (earlier_of streams (take n xs)) whole)
+          goes.goes.acts goes.goes.outcomes old h new item_through meets
 
-    pub goes_track : (new : Construction top)
-        → WentThrough {T = Unit {0}} SaysNothing
-        (item_turn streams marks old (earlier_of streams (take n xs)) whole) old tt new
-        → IsOnTrack top streams marks (take (n + 1) xs) new.world new.acts
-    goes_track new went =
-        let same = sym went.through ∙ item_through in
-        let os : went.outcomes ≡ goes.goes.outcomes = same_Some _ _ (ap outcomes_in same) in
-        track_next top streams marks sound plain.settled xs order n x at old.world old.acts track goes new.world
-        new.acts (went.put ∙ ap (λ zs. old.acts ++ zs) (ap acts_in same)) (went.after ∙ ap (state_after old.world) os)
+      pub goes_track : (new : Construction top)
+          → WentThrough {T = Unit {0}} SaysNothing
+          (item_turn streams marks old (earlier_of streams (take n xs)) whole) old tt new
+          → IsOnTrack top streams marks (take (n + 1) xs) new.world new.acts
+      goes_track new went =
+          let same = sym went.through ∙ item_through in
+          let os : went.outcomes ≡ goes.goes.outcomes = same_Some _ _ (ap outcomes_in same) in
+          track_next top streams marks sound plain.settled xs order n x at old.world old.acts track
+          goes new.world
+          new.acts (went.put ∙ ap (λ zs. old.acts ++ zs) (ap acts_in same))
+          (went.after ∙ ap (state_after old.world) os)
 
 -- an item of plain streams halts the construction only if memory runs out
-pub memory_alone : {top : ℕ} {streams : List Stream} {marks : Marks} {xs : List Item} {n : ℕ} {h : Halt}
+pub memory_alone : {top : ℕ} {streams : List Stream} {marks : Marks} {xs : List
+    Item} {n : ℕ} {h : Halt}
     (old new : Construction top) → IsStreams streams → IsOrder streams xs → IsPlain top streams
     → IsOnTrack top streams marks (take n xs) old.world old.acts → n < length xs
     → ((x : Item) (e : Event) → slice_get xs n ≡ Some x → event_of streams x ≡ Some e
@@ -233,4 +259,5 @@ memory_alone {top} {streams} {marks} {xs} {n} {h} old new sound order plain trac
     let x = get_or xs n none in
     let at = slice_get-get_or xs n none within in
     let next = item_goes top streams marks sound plain xs order n x at old.world old.acts track in
-    goes_memory top streams marks sound plain xs order n x at old track h new (exact x next.event at next.there)
+    goes_memory top streams marks sound plain xs order n x at old track h new
+    (exact x next.event at next.there)

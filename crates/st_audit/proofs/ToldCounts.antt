@@ -1,13 +1,15 @@
--- The counts of what each process told: a reported item adds one to its process's, at the place of its pid alone.
-use Rattle.std.proofs.Common.{◌≡◌, ◌≢◌, ℕ, ◌+◌, ◌^◌, ◌<◌, min, zero, suc, true, false, cond, List, [], ◌∷◌, inl, inr}
-use Rattle.std.proofs.Common.{length, replicate, None, Option, Some, slice_get, get_or, refl, sym, ◌∙◌, ap, subst}
-use Rattle.std.proofs.Common.{arith}
+-- The counts of what each process told: a reported item adds one to its process's, at the place of
+-- its pid alone.
+use Rattle.std.proofs.Common.{◌≡◌, ◌≢◌, ℕ, ◌+◌, ◌^◌, ◌<◌, min, zero, suc, true, false, cond, List}
+use Rattle.std.proofs.Common.{[], ◌∷◌, inl, inr, length, replicate, None, Option, Some, slice_get}
+use Rattle.std.proofs.Common.{get_or, refl, sym, ◌∙◌, ap, subst, arith}
 use Rattle.std.specs.List.{AllByRecursion, slice_set}
 use Rattle.std.proofs.Math.ListN.{length-map}
 use Rattle.std.proofs.lemmas.Bool.{cases_order, false≢true}
 use Rattle.std.proofs.lemmas.Bool.Decides.{nat_tests}
 use Rattle.std.proofs.lemmas.List.{get_or-replicate, length-replicate}
-use Rattle.std.proofs.lemmas.Option.{same_Some, none-some, get_or_from_slice_get, slice_get-get_or, slice_get_within}
+use Rattle.std.proofs.lemmas.Option.{same_Some, none-some, get_or_from_slice_get, slice_get-get_or}
+use Rattle.std.proofs.lemmas.Option.{slice_get_within}
 use Rattle.st_core.specs.declared.types.Pid.{Pid}
 use Rattle.st_core.specs.declared.types.Event.{Event}
 use Rattle.st_core.specs.Pid.{pid_eq, IsBelow, IsRising}
@@ -20,10 +22,12 @@ use Rattle.st_plan.specs.Moves.{Move, move_by}
 use Rattle.st_plan.specs.Plain.{event_count}
 use Rattle.st_audit.specs.Progress.{AreTold, TellsOne}
 
-none_of : (streams : List Stream) (p : Pid) → AllByRecursion (λ q. pid_eq q p ≡ false) (pids_of streams)
+none_of : (streams : List Stream) (p : Pid)
+    → AllByRecursion (λ q. pid_eq q p ≡ false) (pids_of streams)
     → stream_of streams p ≡ None
 none_of [] p h = refl
-none_of (x ∷ streams) p h = ap (λ b. cond b (Some x) (stream_of streams p)) h.0 ∙ none_of streams p h.1
+none_of (x ∷ streams) p h = ap (λ b. cond b (Some x) (stream_of streams p)) h.0
+    ∙ none_of streams p h.1
 
 abbrev events_by : Option Stream → List Event
 events_by None = []
@@ -37,14 +41,16 @@ not_missing streams p i e missing at =
     ap (λ o. slice_get (events_by o) i) (none_of streams p missing) in
     none-some e (sym none ∙ at)
 
-pub place_below : (streams : List Stream) (place : ℕ) (p : Pid) → slice_get (pids_of streams) place ≡ Some p
+pub place_below : (streams : List Stream) (place : ℕ) (p : Pid)
+    → slice_get (pids_of streams) place ≡ Some p
     → place < length streams
 place_below streams place p at =
     let within = slice_get_within (pids_of streams) place p at in
     let all = length-map streams (λ (x : Stream). x.pid) in
     omega arith
 
-set_other : (xs : List ℕ) (i k : ℕ) (x : ℕ) → k ≢ i → slice_get (slice_set xs i x) k ≡ slice_get xs k
+set_other : (xs : List ℕ) (i k : ℕ) (x : ℕ) → k ≢ i
+    → slice_get (slice_set xs i x) k ≡ slice_get xs k
 set_other [] i k x apart = refl
 set_other (y ∷ xs) zero zero x apart = absurd (apart refl)
 set_other (y ∷ xs) zero (suc k) x apart = refl
@@ -59,7 +65,8 @@ set_same (y ∷ xs) (suc i) x within = set_same xs i x (omega arith)
 -- the count at the process's place is put one up
 pub tells_one : (streams : List Stream) (p : Pid) (i place count : ℕ) (old : List ℕ)
     → slice_get (pids_of streams) place ≡ Some p → slice_get old place ≡ Some i
-    → count ≡ min (i + 1) 18446744073709551615 → TellsOne streams p i old (slice_set old place count)
+    → count ≡ min (i + 1) 18446744073709551615
+    → TellsOne streams p i old (slice_set old place count)
 tells_one streams p i place count old is_place was put =
     let within = slice_get_within old place i was in
     record {
@@ -73,14 +80,16 @@ tells_one streams p i place count old is_place was put =
     }
 
 -- a pid is at one place
-one_place : (ps : List Pid) (j k : ℕ) (p : Pid) → IsRising ps → slice_get ps j ≡ Some p → slice_get ps k ≡ Some p
+one_place : (ps : List Pid) (j k : ℕ) (p : Pid) → IsRising ps → slice_get ps j ≡ Some p
+    → slice_get ps k ≡ Some p
     → j ≡ k
 one_place ps j k p rising one two =
     let here = slice_get_within ps j p one in
     let there = slice_get_within ps k p two in
     let is_one = get_or_from_slice_get ps j p p one in
     let is_two = get_or_from_slice_get ps k p p two in
-    let apart : IsBelow p p → ⊥ = λ below. false≢true (sym (IsBelow-apart p p below) ∙ pid_eq-refl p) in
+    let apart : IsBelow p p → ⊥ =
+    λ below. false≢true (sym (IsBelow-apart p p below) ∙ pid_eq-refl p) in
     elim (cases_order j k) [
       | inl same ↦ same
       | inr (inl less) ↦ absurd (apart (subst (λ q. IsBelow p q) is_two
@@ -90,7 +99,8 @@ one_place ps j k p rising one two =
     ]
 
 -- a reported item more
-pub told_next : (streams : List Stream) (earlier : List Move) (old new : List ℕ) (p : Pid) (i : ℕ) (e : Event)
+pub told_next : (streams : List Stream) (earlier : List Move) (old new : List ℕ) (p : Pid) (i : ℕ)
+    (e : Event)
     → IsRising (pids_of streams) → AreTold streams earlier old → TellsOne streams p i old new
     → AreTold streams (move_by (item.Reported p i) e ∷ earlier) new
 told_next streams earlier old new p i e rising are one k q at =
@@ -102,24 +112,29 @@ told_next streams earlier old new p i e rising are one k q at =
           (one.is_place ∙ ap (λ (x : Pid). Some x) who) at in
           let was : event_count q earlier ≡ i = same_Some (event_count q earlier) i
           (sym (are k q at (omega arith)) ∙ ap (slice_get old) (sym place) ∙ one.was) in
-          ap (slice_get new) (sym place) ∙ one.now (omega arith) ∙ ap (λ (n : ℕ). Some (n + 1)) (sym was)
+          ap (slice_get new) (sym place) ∙ one.now (omega arith)
+          ∙ ap (λ (n : ℕ). Some (n + 1)) (sym was)
       | false ↦ λ apart fits.
           let other : k ≢ one.place = λ same.
-          let who : p ≡ q = same_Some p q (sym one.is_place ∙ ap (slice_get (pids_of streams)) (sym same) ∙ at) in
+          let who : p ≡ q = same_Some p q
+          (sym one.is_place ∙ ap (slice_get (pids_of streams)) (sym same) ∙ at) in
           false≢true (sym apart ∙ ap (pid_eq p) (sym who) ∙ pid_eq-refl p) in
           let still : event_count q earlier ≡ event_count q earlier + 0 = omega arith in
           one.others k other ∙ are k q at (omega arith) ∙ ap (λ (n : ℕ). Some n) still
     ] refl
 
 -- and a hidden one
-pub told_hidden : (streams : List Stream) (earlier : List Move) (counts : List ℕ) (p : Pid) (i : ℕ) (e : Event)
-    → AreTold streams earlier counts → AreTold streams (move_by (item.Hidden p i) e ∷ earlier) counts
+pub told_hidden : (streams : List Stream) (earlier : List Move) (counts : List ℕ) (p : Pid) (i : ℕ)
+    (e : Event)
+    → AreTold streams earlier counts
+    → AreTold streams (move_by (item.Hidden p i) e ∷ earlier) counts
 told_hidden streams earlier counts p i e are k q at fits =
     let still : event_count q earlier ≡ event_count q earlier + 0 = omega arith in
     are k q at (omega arith) ∙ ap (λ (n : ℕ). Some n) still
 
 -- nothing is told before the first item
-pub none_told : (streams : List Stream) (pids : List Pid) (counts : List ℕ) → counts ≡ replicate (length pids) 0
+pub none_told : (streams : List Stream) (pids : List Pid) (counts : List ℕ)
+    → counts ≡ replicate (length pids) 0
     → pids ≡ pids_of streams → AreTold streams [] counts
 none_told streams pids counts are is k p at fits =
     let within = slice_get_within (pids_of streams) k p at in

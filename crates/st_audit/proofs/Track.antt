@@ -1,6 +1,7 @@
--- In settled streams the construction goes on from item to item: its acts run, its world is as the moves say, and its
--- acts tell what the moves tell. So at the end they show the told events.
-use Rattle.std.proofs.Common.{◌≡◌, ℕ, ◌+◌, ◌<◌, ◌≤◌, suc, false, not, List, [], ◌∷◌, ◌++◌, take, drop, length, get_or}
+-- In settled streams the construction goes on from item to item: its acts run, its world is as the
+-- moves say, and its acts tell what the moves tell. So at the end they show the told events.
+use Rattle.std.proofs.Common.{◌≡◌, ℕ, ◌+◌, ◌<◌, ◌≤◌, suc, false, not, List, [], ◌∷◌, ◌++◌, take}
+use Rattle.std.proofs.Common.{drop, length, get_or}
 use Rattle.std.proofs.Common.{Some, None, Err, append_assoc, slice_get, refl, sym, ◌∙◌, ap, subst}
 use Rattle.std.proofs.lemmas.Bool.{eq-eqb}
 use Rattle.std.proofs.lemmas.List.{append-nil, take_all, take_more}
@@ -24,9 +25,10 @@ use Rattle.st_plan.specs.Marks.{all_told, told_parts, Marks}
 use Rattle.st_plan.specs.Moves.{Move, clock, earlier_of, is_taking, move_by, moves}
 use Rattle.st_plan.specs.Build.{state_after, tracers_after, GoesOn}
 use Rattle.st_plan.specs.Plain.{out_of_turn, event_count, told_of_moves, told_of_move, IsSettled}
-use Rattle.st_plan.proofs.ForCallers.{clock_at, earlier_more, goes_on, in_turn_at, moves_append, one_move, opens}
-use Rattle.st_plan.proofs.ForCallers.{order_there, run_append, state_append, stream_append, stream_silent}
-use Rattle.st_plan.proofs.ForCallers.{acts_none, append_none, tells_only, tells_told_events, told_pids, tracers_none}
+use Rattle.st_plan.proofs.ForCallers.{clock_at, earlier_more, goes_on, in_turn_at, moves_append}
+use Rattle.st_plan.proofs.ForCallers.{one_move, opens, order_there, run_append, state_append}
+use Rattle.st_plan.proofs.ForCallers.{stream_append, stream_silent, acts_none, append_none}
+use Rattle.st_plan.proofs.ForCallers.{tells_only, tells_told_events, told_pids, tracers_none}
 use Rattle.st_plan.proofs.ForCallers.{IsKept, IsThere}
 use Rattle.st_audit.specs.declared.construction.Halt.{Halt}
 use Rattle.st_audit.specs.declared.construction.Halt.TheVariants as halt
@@ -47,12 +49,14 @@ pub shown_is_yes : (top : ℕ) (streams : List Stream) (acts : List Act) (v : ve
     → Shows top streams acts → verdicts.IsVerdict top streams acts v → IsNo v → ⊥
 shown_is_yes top streams acts v shows is refused =
     let ps = pairs acts shows.0 in
-    not_yes v ps (one_verdict top streams acts v (verdicts.Yes ps) is (shows.0, shows.1, shows.2, refl)) refused
+    not_yes v ps (one_verdict top streams acts v (verdicts.Yes ps) is
+    (shows.0, shows.1, shows.2, refl)) refused
 
 -- ON THE WAY
 
 -- the acts for these items, and where they led
-pub record IsOnTrack (top : ℕ) (streams : List Stream) (marks : Marks) (xs : List Item) (s : State) (acts : List Act)
+pub record IsOnTrack (top : ℕ) (streams : List Stream) (marks : Marks) (xs : List Item) (s : State)
+    (acts : List Act)
     : Type 0 where
   pub outcomes : List Outcome
   pub runs : run top (pids_of streams) acts ≡ Some outcomes
@@ -76,8 +80,10 @@ on_track top streams marks s os runs after =
       outcomes = os;
       runs = runs;
       after = after;
-      kept = subst (IsKept streams marks []) (ap (state_after (zero_state pids)) same ∙ sym after) opening.1;
-      tells = λ p. ap (λ ps. stream tracers ps p) (sym same) ∙ stream_silent tracers o.os p o.silent;
+      kept = subst (IsKept streams marks []) (ap (state_after (zero_state pids)) same ∙ sym after)
+          opening.1;
+      tells = λ p. ap (λ ps. stream tracers ps p) (sym same)
+          ∙ stream_silent tracers o.os p o.silent;
       one_trace = tracers_none None pids;
     }
 
@@ -86,7 +92,8 @@ on_track top streams marks s os runs after =
 -- the tracers were put, and nothing else
 pub record IsBegun (top : ℕ) (streams : List Stream) (s : State) (acts : List Act) : Type 0 where
   pub outcomes : List Outcome
-  pub runs : run_from top (zero_state (pids_of streams)) (tracers_after None (pids_of streams)) ≡ Some outcomes
+  pub runs : run_from top (zero_state (pids_of streams)) (tracers_after None (pids_of streams))
+      ≡ Some outcomes
   pub after : s ≡ state_after (zero_state (pids_of streams)) outcomes
   pub put : acts ≡ tracers_after None (pids_of streams)
 
@@ -98,7 +105,8 @@ module _ {top : ℕ} (streams : List Stream) (pids : List Pid) (are : pids ≡ p
   abbrev from : State
   from = zero_state (pids_of streams)
 
-  pub tracers_begin : old.acts ≡ [] → WentThrough {T = Unit {0}} SaysNothing (acts_turn top old.world plan) old tt new
+  pub tracers_begin : old.acts ≡ []
+      → WentThrough {T = Unit {0}} SaysNothing (acts_turn top old.world plan) old tt new
       → IsBegun top streams new.world new.acts
   tracers_begin empty went =
       let made = (done_by {T = Unit {0}} SaysNothing plan old tt new went).made in
@@ -111,7 +119,8 @@ module _ {top : ℕ} (streams : List Stream) (pids : List Pid) (are : pids ≡ p
       }
 
   -- they run, so they halt only because memory ran out
-  pub opening_memory : (h : Halt) → Meets {T = Unit {0}} SaysNothing (acts_turn top old.world plan) old (Err h) new
+  pub opening_memory : (h : Halt)
+      → Meets {T = Unit {0}} SaysNothing (acts_turn top old.world plan) old (Err h) new
       → h ≡ halt.Memory
   opening_memory h meets =
       let o = (opens top streams all_told).0 in
@@ -127,9 +136,11 @@ told_append : (marks : Marks) (p : Pid) (ms ns : List Move) → told_of_moves ma
 told_append marks p [] ns = refl
 told_append marks p (m ∷ ms) ns =
     ap (λ es. told_of_move marks p m ++ es) (told_append marks p ms ns)
-    ∙ sym (append_assoc (told_of_move marks p m) (told_of_moves marks p ms) (told_of_moves marks p ns))
+    ∙ sym (append_assoc (told_of_move marks p m) (told_of_moves marks p ms)
+    (told_of_moves marks p ns))
 
-take_one : (xs : List Item) (n : ℕ) (x : Item) → slice_get xs n ≡ Some x → take (n + 1) xs ≡ take n xs ++ x ∷ []
+take_one : (xs : List Item) (n : ℕ) (x : Item) → slice_get xs n ≡ Some x
+    → take (n + 1) xs ≡ take n xs ++ x ∷ []
 take_one xs n x at =
     take_more xs n x (slice_get_within xs n x at)
     ∙ ap (λ y. take n xs ++ y ∷ []) (get_or_from_slice_get xs n x x at)
@@ -137,15 +148,18 @@ take_one xs n x at =
 in_turn_by : (earlier : List Move) (x : Item) (e : Event)
     → ((p : Pid) (i : ℕ) → (move_by x e).item ≡ item.Reported p i → event_count p earlier ≡ i)
     → out_of_turn earlier (move_by x e) ≡ false
-in_turn_by earlier (item.Reported p i) e turn = ap not (eq-eqb (event_count p earlier) i (turn p i refl))
+in_turn_by earlier (item.Reported p i) e turn =
+    ap not (eq-eqb (event_count p earlier) i (turn p i refl))
 in_turn_by earlier (item.Hidden p i) e turn = refl
 
 -- what stands for an item if there is none
 abbrev pub none : Item
 none = item.Reported (record { node = 0; number = 0 }) 0
 
--- the item's move is in its turn, its clock below its stamp, and goes on, and what is kept is what the moves say
-pub record GoesNext (top : ℕ) (streams : List Stream) (marks : Marks) (earlier : List Move) (x : Item) (s : State)
+-- the item's move is in its turn, its clock below its stamp, and goes on, and what is kept is what
+-- the moves say
+pub record GoesNext (top : ℕ) (streams : List Stream) (marks : Marks) (earlier : List Move)
+    (x : Item) (s : State)
     : Type 0 where
   pub event : Event
   pub there : event_of streams x ≡ Some event
@@ -161,17 +175,20 @@ module _ (top : ℕ) (streams : List Stream) (marks : Marks) (sound : IsStreams 
       (track : IsOnTrack top streams marks (take n xs) s acts) where
     pub goes_next : GoesNext top streams marks (earlier_of streams (take n xs)) x s
     goes_next =
-        let there = all_at (IsThere streams) xs n x (order_there streams sound.draft.rising xs order) at in
+        let there = all_at (IsThere streams) xs n x
+        (order_there streams sound.draft.rising xs order) at in
         let found = event_there streams x there in
         let earlier = earlier_of streams (take n xs) in
         let later = moves streams (drop (suc n) xs) in
         let m = move_by x found.0 in
         let split = split_at streams xs n x found.0 at found.1 in
-        let on = goes_on top streams marks sound settled xs order earlier later m split s track.kept in
+        let on = goes_on top streams marks sound settled xs order earlier later m split s
+        track.kept in
         record {
           event = found.0;
           there = found.1;
-          in_turn = in_turn_by earlier x found.0 (in_turn_at top streams marks sound settled xs order earlier later m
+          in_turn = in_turn_by earlier x found.0
+              (in_turn_at top streams marks sound settled xs order earlier later m
               split);
           below = clock_at top streams marks sound settled xs order earlier later m split;
           goes = on.0;
@@ -192,10 +209,12 @@ module _ (top : ℕ) (streams : List Stream) (marks : Marks) (sound : IsStreams 
         let os = track.outcomes in
         let both = os ++ g.outcomes in
         let before = moves streams (take n xs) in
-        let runs : run_from top zero (acts ++ g.acts) ≡ Some both = run_append top zero acts g.acts os g.outcomes
+        let runs : run_from top zero (acts ++ g.acts) ≡ Some both =
+        run_append top zero acts g.acts os g.outcomes
         track.runs (ap (λ t. run_from top t g.acts) (sym track.after) ∙ g.runs) in
         let state : new ≡ state_after zero both =
-        after ∙ ap (λ t. state_after t g.outcomes) track.after ∙ sym (state_append zero os g.outcomes) in
+        after ∙ ap (λ t. state_after t g.outcomes) track.after
+        ∙ sym (state_append zero os g.outcomes) in
         let more : moves streams (take (n + 1) xs) ≡ before ++ move ∷ [] =
         ap (moves streams) (take_one xs n x at) ∙ moves_append streams (take n xs) (x ∷ [])
         ∙ ap (λ ms. before ++ ms) (one_move streams x e [] there) in
@@ -203,8 +222,10 @@ module _ (top : ℕ) (streams : List Stream) (marks : Marks) (sound : IsStreams 
           outcomes = both;
           runs = ap (run_from top zero) put ∙ runs;
           after = state;
-          kept = subst (λ ms. IsKept streams marks ms new) (sym (earlier_more streams xs n x e at there))
-              (subst (IsKept streams marks (move ∷ earlier_of streams (take n xs))) (sym after) m.kept);
+          kept = subst (λ ms. IsKept streams marks ms new)
+              (sym (earlier_more streams xs n x e at there))
+              (subst (IsKept streams marks (move ∷ earlier_of streams (take n xs))) (sym after)
+              m.kept);
           tells = λ p. ap (λ ys. stream ys both p) put
               ∙ stream_append top zero acts g.acts os g.outcomes p track.runs
               ∙ ap (λ es. es ++ stream g.acts g.outcomes p) (track.tells p)

@@ -1,8 +1,9 @@
 -- The finding that the streams determine holds of them: it names the place of an item, at which an
 -- event is, and the
 -- construction stops for a reason of its own only if this holds of the item's move.
-use Rattle.std.proofs.Common.{◌≡◌, ℕ, ◌++◌, Bool, true, false, cond, List, [], ◌∷◌, length, reverse, get_or, Option}
-use Rattle.std.proofs.Common.{Some, None, IsSome, option_map, append_assoc, refl, sym, ◌∙◌, ap, subst, arith}
+use Rattle.std.proofs.Common.{◌≡◌, ℕ, ◌++◌, Bool, true, false, cond, List, [], ◌∷◌, length, reverse}
+use Rattle.std.proofs.Common.{get_or, Option, Some, None, IsSome, option_map, append_assoc, refl}
+use Rattle.std.proofs.Common.{sym, ◌∙◌, ap, subst, arith}
 use Rattle.std.proofs.lemmas.Grind.{reverse_onto}
 use Rattle.std.proofs.lemmas.Option.{same_Some, none-some}
 use Rattle.st_core.specs.declared.types.Pid.{Pid}
@@ -35,9 +36,10 @@ use Rattle.st_audit.specs.declared.finding.Reason.{Reason}
 use Rattle.st_audit.specs.declared.finding.Reason.TheVariants as reason
 use Rattle.st_audit.specs.declared.finding.Finding.{Finding}
 use Rattle.st_audit.specs.declared.finding.Finding.TheVariants as finding
-use Rattle.st_audit.specs.Construction.{acts_from, attempt, compared_turn, course, end_of, first_acts, is_shown}
-use Rattle.st_audit.specs.Construction.{last_place, turn, turn_by, End, Judged, Unfounded, Turn, Through, Stopped}
-use Rattle.st_audit.specs.Construction.{Refused, IsAudit, IsFoundAt, IsFoundBy}
+use Rattle.st_audit.specs.Construction.{acts_from, attempt, compared_turn, course, end_of}
+use Rattle.st_audit.specs.Construction.{first_acts, is_shown, last_place, turn, turn_by, End}
+use Rattle.st_audit.specs.Construction.{Judged, Unfounded, Turn, Through, Stopped, Refused, IsAudit}
+use Rattle.st_audit.specs.Construction.{IsFoundAt, IsFoundBy}
 use Rattle.st_audit.specs.Findings.{IsFinding, IsReason}
 use Rattle.st_audit.proofs.Course.{last_at, went_on}
 use Rattle.st_audit.proofs.ItemPlaces.{place_there}
@@ -64,19 +66,22 @@ moves_there : (streams : List Stream) (xs : List Item) → AreThere streams (mov
 moves_there streams [] = tt
 moves_there streams (x ∷ xs) =
     let rest = moves_there streams xs in
-    elim (event_of streams x) as (λ o. event_of streams x ≡ o → AreThere streams (moves_by streams x xs o)) [
+    elim (event_of streams x) as (λ o. event_of streams x ≡ o
+    → AreThere streams (moves_by streams x xs o)) [
       | None ↦ λ at. rest
       | Some e ↦ λ at. (place_of streams x e at, rest)
     ] refl
 
 -- the last item's place is an item's
-last_there : (streams : List Stream) (xs : List Item) → IsRising (pids_of streams) → IsOrder streams xs
+last_there : (streams : List Stream) (xs : List Item) → IsRising (pids_of streams)
+    → IsOrder streams xs
     → (at : Pid × ℕ) → last_place xs ≡ Some at → IsThereAt streams at
 last_there streams [] rising order at is = absurd (none-some at is)
 last_there streams (x ∷ xs) rising order at is =
     let k = length xs in
     let found = last_at None (x ∷ xs) k none refl in
-    let same = same_Some (item_place (get_or (x ∷ xs) k none)) at (sym (ap (option_map item_place) found) ∙ is) in
+    let same = same_Some (item_place (get_or (x ∷ xs) k none)) at
+    (sym (ap (option_map item_place) found) ∙ is) in
     place_there streams (x ∷ xs) k none at rising order (omega arith) (sym same)
 
 -- THE REASONS
@@ -89,13 +94,16 @@ Against earlier m (Refused reason.Uncaused) = uncaused earlier m ≡ true
 Against earlier m (Refused reason.TooWide) = too_wide earlier m ≡ true
 Against earlier m (Refused r) = ⊥
 
-turn_against : (top : ℕ) (s : State) (acts : List Act) (earlier : List Move) (m : Move) (o : Option (List Outcome))
+turn_against : (top : ℕ) (s : State) (acts : List Act) (earlier : List Move) (m : Move)
+    (o : Option (List Outcome))
     → Against earlier m (turn_by top s acts o)
 turn_against top s acts earlier m None = tt
 turn_against top s acts earlier m (Some os) = tt
 
-attempt_against : (top : ℕ) (s : State) (earlier : List Move) (m : Move) (one two : Bool) (plan : Option (List Act))
-    → uncaused earlier m ≡ one → too_wide earlier m ≡ two → Against earlier m (attempt top s one two plan)
+attempt_against : (top : ℕ) (s : State) (earlier : List Move) (m : Move) (one two : Bool)
+    (plan : Option (List Act))
+    → uncaused earlier m ≡ one → too_wide earlier m ≡ two
+    → Against earlier m (attempt top s one two plan)
 attempt_against top s earlier m one two None is_one is_two = tt
 attempt_against top s earlier m true two (Some acts) is_one is_two = is_one
 attempt_against top s earlier m false true (Some acts) is_one is_two = is_two
@@ -109,14 +117,18 @@ compared_against earlier m (Through acts os) h = elim (is_shown m os) as
 compared_against earlier m (Stopped acts) h = tt
 compared_against earlier m (Refused r) h = h
 
-against : (top : ℕ) (streams : List Stream) (marks : Marks) (s : State) (earlier : List Move) (m : Move)
+against : (top : ℕ) (streams : List Stream) (marks : Marks) (s : State) (earlier : List Move)
+    (m : Move)
     → Against earlier m (turn top streams marks s earlier m)
 against top streams marks s earlier m =
-    let tried = attempt top s (uncaused earlier m) (too_wide earlier m) (acts_from streams marks s m) in
-    elim (out_of_turn earlier m) as (λ b. Against earlier m (cond b (Stopped []) (compared_turn m tried))) [
+    let tried = attempt top s (uncaused earlier m) (too_wide earlier m)
+    (acts_from streams marks s m) in
+    elim (out_of_turn earlier m) as (λ b.
+    Against earlier m (cond b (Stopped []) (compared_turn m tried))) [
       | true ↦ tt
       | false ↦ compared_against earlier m tried
-          (attempt_against top s earlier m (uncaused earlier m) (too_wide earlier m) (acts_from streams marks s m) refl
+          (attempt_against top s earlier m (uncaused earlier m) (too_wide earlier m)
+          (acts_from streams marks s m) refl
           refl)
     ]
 
@@ -133,9 +145,11 @@ abbrev EndsWell : List Stream → End → Type 0
 EndsWell streams (Judged acts end) = (at : Pid × ℕ) → end ≡ Some at → IsThereAt streams at
 EndsWell streams (Unfounded at r) = IsThereAt streams at × HoldsFor streams at r
 
-reverse_more : (m : Move) (earlier later : List Move) → reverse earlier ++ m ∷ later ≡ reverse (m ∷ earlier) ++ later
+reverse_more : (m : Move) (earlier later : List Move)
+    → reverse earlier ++ m ∷ later ≡ reverse (m ∷ earlier) ++ later
 reverse_more m earlier later =
-    sym (ap (λ ms. ms ++ later) (reverse_onto earlier m []) ∙ append_assoc (reverse earlier) (m ∷ []) later)
+    sym (ap (λ ms. ms ++ later) (reverse_onto earlier m []) ∙ append_assoc (reverse earlier)
+    (m ∷ []) later)
 
 module _ (top : ℕ) (streams : List Stream) (xs : List Item) (order : IsOrder streams xs) where
   refused_for : (earlier : List Move) (m : Move) (ms : List Move) (r : Reason)
@@ -167,29 +181,34 @@ module _ (top : ℕ) (streams : List Stream) (xs : List Item) (order : IsOrder s
   refused_for earlier m ms (reason.Mismatch q j) split h = absurd h
   refused_for earlier m ms (reason.NotReplayed acts v) split h = absurd h
 
-  module _ (end : Option (Pid × ℕ)) (ends : (at : Pid × ℕ) → end ≡ Some at → IsThereAt streams at) where
-    course_well : (s : State) (earlier : List Move) (acts : List Act) (ms : List Move)
-        → moves streams xs ≡ reverse earlier ++ ms → AreThere streams ms
-        → EndsWell streams (course top streams end s earlier acts ms)
-    course_well s earlier acts [] split there = ends
-    course_well s earlier acts (m ∷ ms) split there =
-        elim (turn top streams all_told s earlier m) as
-        (λ t. Against earlier m t → EndsWell streams (went_on top streams end s earlier acts m ms t)) [
-          | Through more os ↦ λ h. course_well (state_after s os) (m ∷ earlier) (acts ++ more) ms
-              (split ∙ reverse_more m earlier ms) there.1
-          | Stopped more ↦ λ h. λ at is. subst (IsThereAt streams) (same_Some (item_place m.item) at is) there.0
-          | Refused r ↦ λ h. (there.0, refused_for earlier m ms r split h)
-        ] (against top streams all_told s earlier m)
+  module _ (end : Option (Pid × ℕ)) (ends : (at : Pid × ℕ) → end ≡ Some at → IsThereAt streams at)
+    where
+      course_well : (s : State) (earlier : List Move) (acts : List Act) (ms : List Move)
+          → moves streams xs ≡ reverse earlier ++ ms → AreThere streams ms
+          → EndsWell streams (course top streams end s earlier acts ms)
+      course_well s earlier acts [] split there = ends
+      course_well s earlier acts (m ∷ ms) split there =
+          elim (turn top streams all_told s earlier m) as
+          (λ t. Against earlier m t
+          → EndsWell streams (went_on top streams end s earlier acts m ms t)) [
+            | Through more os ↦ λ h. course_well (state_after s os) (m ∷ earlier) (acts ++ more) ms
+                (split ∙ reverse_more m earlier ms) there.1
+            | Stopped more ↦ λ h. λ at is.
+                subst (IsThereAt streams) (same_Some (item_place m.item) at is) there.0
+            | Refused r ↦ λ h. (there.0, refused_for earlier m ms r split h)
+          ] (against top streams all_told s earlier m)
 
   end_well : IsRising (pids_of streams) → EndsWell streams (end_of top streams xs)
   end_well rising =
-      course_well (last_place xs) (last_there streams xs rising order) _ [] (first_acts streams xs) (moves streams xs)
+      course_well (last_place xs) (last_there streams xs rising order) _ [] (first_acts streams xs)
+      (moves streams xs)
       refl (moves_there streams xs)
 
 -- THE FINDING
 
 module _ (top : ℕ) (streams : List Stream) (accepted : refusal streams ≡ None) where
-  own_reason : (p : Pid) (i : ℕ) (r : Reason) → HoldsFor streams (p, i) r → IsReason top streams p i r
+  own_reason : (p : Pid) (i : ℕ) (r : Reason) → HoldsFor streams (p, i) r
+      → IsReason top streams p i r
   own_reason p i reason.Uncaused h = (accepted, h)
   own_reason p i reason.TooWide h = (accepted, h)
   own_reason p i reason.PrevNotBefore h = absurd h
@@ -198,12 +217,14 @@ module _ (top : ℕ) (streams : List Stream) (accepted : refusal streams ≡ Non
   own_reason p i (reason.Mismatch q j) h = absurd h
   own_reason p i (reason.NotReplayed acts v) h = absurd h
 
-  found_holds : (end : End) (found : Finding) → EndsWell streams end → IsFoundAt top streams end found
+  found_holds : (end : End) (found : Finding) → EndsWell streams end
+      → IsFoundAt top streams end found
       → IsFinding top streams found
   found_holds (Judged acts end) (finding.Fits xs ps) well is =
       subst (λ ys. verdicts.IsVerdict top streams ys (verdicts.Yes ps)) (sym is.0) is.1
   found_holds (Judged acts end) (finding.Unfit p i (reason.NotReplayed xs v)) well is =
-      let verdict = subst (λ ys. verdicts.IsVerdict top streams ys (verdict_of v)) (sym is.0) is.2 in
+      let verdict = subst (λ ys. verdicts.IsVerdict top streams ys (verdict_of v)) (sym is.0)
+      is.2 in
       (well (p, i) is.1, (accepted, verdict, is.3))
   found_holds (Judged acts end) (finding.Unfit p i reason.Uncaused) well is = absurd is
   found_holds (Judged acts end) (finding.Unfit p i reason.TooWide) well is = absurd is
@@ -214,7 +235,8 @@ module _ (top : ℕ) (streams : List Stream) (accepted : refusal streams ≡ Non
   found_holds (Unfounded at r) found well is =
       subst (IsFinding top streams) (sym is) (well.0, own_reason at.0 at.1 r well.1)
 
-pair_fault : (streams : List Stream) (f : PairFault) → refusal streams ≡ Some f → IsPairFault streams f
+pair_fault : (streams : List Stream) (f : PairFault) → refusal streams ≡ Some f
+    → IsPairFault streams f
 pair_fault streams fault.Memory why = tt
 pair_fault streams (fault.PrevNotBefore p i) why = why
 pair_fault streams (fault.NotRising p i j) why = why

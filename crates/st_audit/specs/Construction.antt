@@ -43,8 +43,8 @@ abbrev pub last_report : Option Event → List Outcome → Option Event
 last_report r [] = r
 last_report r (o ∷ os) = last_report o.report os
 
--- The outcome of an item. Through: its acts, with their outcomes. Stopped: the streams go on another
--- way than the acts, of which these were tried. Refused: one of the auditor's own reasons
+-- The outcome of an item. Through: its acts, with their outcomes. Stopped: the streams go on
+-- another way than the acts, of which these were tried. Refused: one of the auditor's own reasons
 pub data Turn : Type 0 where
   Through : List Act → List Outcome → Turn
   Stopped : List Act → Turn

@@ -28,8 +28,10 @@ IsReason top streams p i reason.PrevNotBefore = refusal streams ≡ Some (fault.
 IsReason top streams p i (reason.NotRising j) = refusal streams ≡ Some (fault.NotRising p i j)
 IsReason top streams p i (reason.Repeated q j) = refusal streams ≡ Some (fault.Repeated p i q j)
 IsReason top streams p i (reason.Mismatch q j) = refusal streams ≡ Some (fault.Mismatch p i q j)
-IsReason top streams p i reason.Uncaused = (refusal streams ≡ None) × HoldsOfMoveAt uncaused streams p i
-IsReason top streams p i reason.TooWide = (refusal streams ≡ None) × HoldsOfMoveAt too_wide streams p i
+IsReason top streams p i reason.Uncaused = (refusal streams ≡ None)
+    × HoldsOfMoveAt uncaused streams p i
+IsReason top streams p i reason.TooWide = (refusal streams ≡ None)
+    × HoldsOfMoveAt too_wide streams p i
 IsReason top streams p i (reason.NotReplayed acts v) =
     (refusal streams ≡ None) × verdicts.IsVerdict top streams acts (verdict_of v)
     × IsNo (verdict_of v)

@@ -55,7 +55,8 @@ pub record IsCounted (earlier : List Move) (p : Pid) (l : LocalState) : Type 0 w
 
 -- those of each process, in this state
 abbrev pub AreAllCounted : List Move → State → Type 0
-AreAllCounted earlier s = (p : Pid) (r : Process) → process s p ≡ Some r → IsCounted earlier p r.local
+AreAllCounted earlier s = (p : Pid) (r : Process) → process s p ≡ Some r
+    → IsCounted earlier p r.local
 
 -- the counts are of the events that these moves report, as long as 64 bits hold these
 abbrev pub AreTold : List Stream → List Move → List ℕ → Type 0

@@ -7,8 +7,8 @@
 //! verdict is known: they were compared with the streams on the way.
 
 ghost use Rattle.std.specs.Prelude.{◌≡◌, ◌+◌, ◌<◌, ◌↔◌, ◌&&◌, [], ◌∷◌, ◌++◌, length, not, take, ℕ};
-ghost use Rattle.std.specs.Prelude.{option_map};
-ghost use Rattle.std.specs.Prelude.{if◌then◌else◌, slice_get, IfOk, IfSome, IsTrue, List, None, OnOk, Some};
+ghost use Rattle.std.specs.Prelude.{option_map, if◌then◌else◌, slice_get, IfOk, IfSome, IsTrue};
+ghost use Rattle.std.specs.Prelude.{List, None, OnOk, Some};
 ghost use Rattle.st_check.specs.Progress.{IsEven, IsPassedBy};
 ghost use Rattle.st_core.specs.declared.types.Act.{Act as ActValue};
 ghost use Rattle.st_core.specs.Step.{step};
@@ -25,8 +25,8 @@ ghost use Rattle.st_plan.specs.Moves.{earlier_of, move_by};
 ghost use Rattle.st_audit.specs.Progress.{acts_turn, if_told, is_below, is_too_wide, is_uncaused};
 ghost use Rattle.st_audit.specs.Progress.{item_turn, missing_count, move_skip, move_turn};
 ghost use Rattle.st_audit.specs.Progress.{report_turn, stamp_skip, stamp_turn, take_turn};
-ghost use Rattle.st_audit.specs.Progress.{IsCountedAs, IsMatched, IsSoFar, Meets, SaysNothing, TellsLast};
-ghost use Rattle.st_audit.specs.Progress.{ArePrepared, TellsOne};
+ghost use Rattle.st_audit.specs.Progress.{IsCountedAs, IsMatched, IsSoFar, Meets, SaysNothing};
+ghost use Rattle.st_audit.specs.Progress.{TellsLast, ArePrepared, TellsOne};
 ghost use Rattle.st_world.specs.World.{outcome_to};
 
 use st_check::Comparison;

@@ -1,6 +1,7 @@
 -- One event more, and one process more, extend the backs.
-use Rattle.std.proofs.Common.{◌≡◌, ℕ, ◌+◌, zero, suc, List, [], ◌∷◌, ◌++◌, map, drop, get_or, Option, None}
-use Rattle.std.proofs.Common.{Some, slice_get, option_and_then, sym, ◌∙◌, ap, arith, append_assoc, Bool, true, cond}
+use Rattle.std.proofs.Common.{◌≡◌, ℕ, ◌+◌, zero, suc, List, [], ◌∷◌, ◌++◌, map, drop, get_or}
+use Rattle.std.proofs.Common.{Option, None, Some, slice_get, option_and_then, sym, ◌∙◌, ap, arith}
+use Rattle.std.proofs.Common.{append_assoc, Bool, true, cond}
 use Rattle.std.proofs.lemmas.Option.{same_Some}
 use Rattle.st_core.specs.declared.types.Pid.{Pid}
 use Rattle.st_core.specs.declared.types.Event.{Event}
@@ -18,7 +19,8 @@ backs_at all i zero (f ∷ es) e at =
     ap (λ (x : Event). back_of all i x ∷ backs_from all (i + 1) es) (same_Some f e at)
 backs_at all i (suc k) (f ∷ es) e at = backs_at all i k es e at
 
-pub backs_passed : (es : List Event) (i : ℕ) (e : Event) (before total : List (Option ℕ)) (x : Option ℕ)
+pub backs_passed : (es : List Event) (i : ℕ) (e : Event) (before total : List (Option ℕ))
+    (x : Option ℕ)
     → slice_get es i ≡ Some e → x ≡ back_of es i e
     → before ++ backs_from es i (drop i es) ≡ total
     → (before ++ x ∷ []) ++ backs_from es (i + 1) (drop (i + 1) es) ≡ total
@@ -43,10 +45,13 @@ read_from all j zero (f ∷ es) e at = let n : j ≡ j + 0 = omega arith in
 read_from all j (suc i) (f ∷ es) e at = let n : j + 1 + i ≡ j + suc i = omega arith in
     read_from all (j + 1) i es e at ∙ ap (λ (m : ℕ). Some (back_of all m e)) n
 
-pub back_read : (streams : List Stream) (p : Pid) (k i : ℕ) (backs : List (List (Option ℕ))) (read : List (Option ℕ))
-    (e : Event) → IsRising (pids_of streams) → backs ≡ all_backs streams → slice_get (pids_of streams) k ≡ Some p
+pub back_read : (streams : List Stream) (p : Pid) (k i : ℕ) (backs : List (List (Option ℕ)))
+    (read : List (Option ℕ))
+    (e : Event) → IsRising (pids_of streams) → backs ≡ all_backs streams
+    → slice_get (pids_of streams) k ≡ Some p
     → read ≡ get_or backs k read → slice_get (events_of streams p) i ≡ Some e → is_stamp e ≡ true
-    → option_and_then (λ (x : Option ℕ). x) (slice_get read i) ≡ received_before (events_of streams p) e.serial.prev i
+    → option_and_then (λ (x : Option ℕ). x) (slice_get read i)
+    ≡ received_before (events_of streams p) e.serial.prev i
 back_read streams p k i backs read e rising kept at is there stamps =
     let whole = process_read (λ es. backs_from es 0 es) streams p k backs read rising kept at is in
     let n : 0 + i ≡ i = omega arith in

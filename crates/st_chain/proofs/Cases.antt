@@ -1,4 +1,5 @@
--- Worked cases: the definitions computed. Nothing cites this file; it shows that the definitions say what is meant.
+-- Worked cases: the definitions computed. Nothing cites this file; it shows that the definitions
+-- say what is meant.
 use Rattle.std.specs.Prelude.{◌≡◌, List, [], ◌∷◌, Some, None, refl}
 use Rattle.st_core.specs.Run.{Stream}
 use Rattle.st_chain.specs.declared.cause.Cause.TheVariants as cause
@@ -25,7 +26,8 @@ hidden_other : chain hidden_sends a (record { 0 = 18 }) ≡ []
 hidden_other = refl
 
 -- two labels of one process in turn
-in_turn : chain (of a (printed 18 0 1 a 7 ∷ printed 17 0 2 a 7 ∷ printed 18 0 3 a 7 ∷ []) ∷ of b [] ∷ []) a
+in_turn : chain (of a (printed 18 0 1 a 7 ∷ printed 17 0 2 a 7 ∷ printed 18 0 3 a 7 ∷ []) ∷ of b []
+    ∷ []) a
     (record { 0 = 18 }) ≡ 0 ∷ 2 ∷ []
 in_turn = refl
 
@@ -47,10 +49,12 @@ missing_back = refl
 
 -- of two earlier receives with one count the nearer, and none that comes later
 abbrev twice : List Stream
-twice = of a (got 17 0 2 b a 5 ∷ got 17 1 2 a a 5 ∷ printed 17 2 3 a 7 ∷ got 17 2 4 b a 6 ∷ []) ∷ of b [] ∷ []
+twice = of a (got 17 0 2 b a 5 ∷ got 17 1 2 a a 5 ∷ printed 17 2 3 a 7 ∷ got 17 2 4 b a 6 ∷ [])
+    ∷ of b [] ∷ []
 
 twice_nearest : cause_at twice a 2 ≡ Some (cause.Event a 1)
 twice_nearest = refl
 
-later_receive : cause_at (of a (printed 17 2 3 a 7 ∷ got 17 0 2 b a 5 ∷ []) ∷ of b [] ∷ []) a 0 ≡ Some cause.Start
+later_receive : cause_at (of a (printed 17 2 3 a 7 ∷ got 17 0 2 b a 5 ∷ []) ∷ of b [] ∷ []) a 0
+    ≡ Some cause.Start
 later_receive = refl

@@ -1,6 +1,6 @@
 -- A key that is new gets the next number, so that no two share one.
-use Rattle.std.proofs.Common.{◌≡◌, ◌≢◌, ℕ, ◌+◌, Bool, true, false, cond, if◌then◌else◌, ◌⊎◌, inl, inr, Option, None}
-use Rattle.std.proofs.Common.{Some, refl, sym, ◌∙◌, ap, subst, arith}
+use Rattle.std.proofs.Common.{◌≡◌, ◌≢◌, ℕ, ◌+◌, Bool, true, false, cond, if◌then◌else◌, ◌⊎◌, inl}
+use Rattle.std.proofs.Common.{inr, Option, None, Some, refl, sym, ◌∙◌, ap, subst, arith}
 use Rattle.std.specs.declared.cmp.Ordering.TheVariants.{Equal}
 use Rattle.std.specs.Ordering.{is_eq, nat_cmp}
 use Rattle.std.proofs.lemmas.Bool.Decides.{nat_tests}
@@ -60,7 +60,8 @@ module _ (old new : ChainKey → Option ℕ) (key : ChainKey) (n : ℕ)
   -- what has no number had none, and isn't the key
   pub missing_more : (q : ChainKey) → new q ≡ None → (old q ≡ None) × (q ≢ key)
   missing_more q h = elim (is_eq (chain_key_cmp key q))
-      as (λ b. is_eq (chain_key_cmp key q) ≡ b → cond b (Some n) (old q) ≡ None → (old q ≡ None) × (q ≢ key)) [
+      as (λ b. is_eq (chain_key_cmp key q) ≡ b → cond b (Some n) (old q) ≡ None
+      → (old q ≡ None) × (q ≢ key)) [
         | true ↦ λ is h. absurd (cc)
         | false ↦ λ is h. (h, λ same. absurd (let no = key_same key q (sym same) in cc))
       ] refl (sym (puts q) ∙ h)

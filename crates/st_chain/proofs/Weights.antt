@@ -1,6 +1,7 @@
 -- The way back ends: a cause has a smaller count, or the same and is a send.
-use Rattle.std.proofs.Common.{◌≡◌, ℕ, ◌+◌, ◌*◌, ◌<◌, ◌==◌, ◌&&◌, not, zero, suc, Bool, true, false, cond, if◌then◌else◌}
-use Rattle.std.proofs.Common.{List, [], ◌∷◌, Option, None, Some, slice_get, option_map, refl, sym, ◌∙◌, ap, arith}
+use Rattle.std.proofs.Common.{◌≡◌, ℕ, ◌+◌, ◌*◌, ◌<◌, ◌==◌, ◌&&◌, not, zero, suc, Bool, true, false}
+use Rattle.std.proofs.Common.{cond, if◌then◌else◌, List, [], ◌∷◌, Option, None, Some, slice_get}
+use Rattle.std.proofs.Common.{option_map, refl, sym, ◌∙◌, ap, arith}
 use Rattle.std.proofs.lemmas.Bool.{eqb-true, and_parts}
 use Rattle.std.proofs.lemmas.Option.{same_Some}
 use Rattle.st_core.specs.declared.types.Pid.{Pid}
@@ -12,8 +13,8 @@ use Rattle.st_pair.specs.declared.answer.Source.TheVariants as source
 use Rattle.st_pair.specs.Places.{event_at, is_stamp, first_from, or_else}
 use Rattle.st_pair.specs.Pairing.{stamp_of, refusal}
 use Rattle.st_pair.proofs.ForCallers.{own_rule, stamp_at, IsPaired, paired, serial_rises}
-use Rattle.st_chain.specs.Causes.{received_before, of_source, of_receive, cause_by, cause_at, place_of_cause}
-use Rattle.st_chain.specs.Causes.{weight, far}
+use Rattle.st_chain.specs.Causes.{received_before, of_source, of_receive, cause_by, cause_at}
+use Rattle.st_chain.specs.Causes.{place_of_cause, weight, far}
 
 record IsReceive (es : List Event) (this j : ℕ) : Type 0 where
   event : Event
@@ -21,7 +22,8 @@ record IsReceive (es : List Event) (this j : ℕ) : Type 0 where
   count : event.serial.this ≡ this
   receive : is_stamp event ≡ false
 
-before_found : (es : List Event) (this i j : ℕ) → received_before es this i ≡ Some j → IsReceive es this j
+before_found : (es : List Event) (this i j : ℕ) → received_before es this i ≡ Some j
+    → IsReceive es this j
 before_found es this zero j h = absurd (cc)
 before_found es this (suc i) j h = elim (slice_get es i)
     as (λ o. slice_get es i ≡ o → (elim o [
@@ -47,7 +49,8 @@ before_found es this (suc i) j h = elim (slice_get es i)
           ] refl h
     ] refl h
 
-stamp_is : (q : Pid) (this i : ℕ) (es : List Event) (f : ℕ × Event) → first_from (own_rule this) q i es ≡ Some f
+stamp_is : (q : Pid) (this i : ℕ) (es : List Event) (f : ℕ × Event)
+    → first_from (own_rule this) q i es ≡ Some f
     → (is_stamp f.1 ≡ true) × (f.1.serial.this ≡ this)
 stamp_is q this i [] f h = absurd (cc)
 stamp_is q this i (e ∷ es) f h = elim (is_stamp e && e.serial.this == this)
@@ -66,14 +69,17 @@ stamp_is q this i (e ∷ es) f h = elim (is_stamp e && e.serial.this == this)
 
 far_at : (streams : List Stream) (q : Pid) (j : ℕ) (f : Event) → event_at streams q j ≡ Some f
     → far streams (Some (q, j)) ≡ 1 + weight f
-far_at streams q j f at = ap (λ (o : Option Event). 1 + (elim o [ None ↦ 0 | Some e ↦ weight e ])) at
+far_at streams q j f at =
+    ap (λ (o : Option Event). 1 + (elim o [ None ↦ 0 | Some e ↦ weight e ])) at
 
-weight_by : (e : Event) (b : Bool) → is_stamp e ≡ b → weight e ≡ 2 * e.serial.this + (if b then 1 else 2)
+weight_by : (e : Event) (b : Bool) → is_stamp e ≡ b
+    → weight e ≡ 2 * e.serial.this + (if b then 1 else 2)
 weight_by e b is = ap (λ (c : Bool). 2 * e.serial.this + (if c then 1 else 2)) is
 
 module _ (streams : List Stream) (ok : IsPaired streams) (p : Pid) (i : ℕ) (e : Event)
     (at : event_at streams p i ≡ Some e) where
-  stamp_back : is_stamp e ≡ true → (o : Option ℕ) → received_before (events_of streams p) e.serial.prev i ≡ o
+  stamp_back : is_stamp e ≡ true → (o : Option ℕ)
+      → received_before (events_of streams p) e.serial.prev i ≡ o
       → far streams (place_of_cause (Some (of_receive p o))) < 1 + weight e
   stamp_back is None found = omega arith
   stamp_back is (Some j) found =
@@ -86,7 +92,8 @@ module _ (streams : List Stream) (ok : IsPaired streams) (p : Pid) (i : ℕ) (e 
       let rises = serial_rises streams ok p i e at in
       omega arith
 
-  receive_back : is_stamp e ≡ false → (o : Option (ℕ × Event)) → stamp_of streams e.from e.serial.this ≡ o
+  receive_back : is_stamp e ≡ false → (o : Option (ℕ × Event))
+      → stamp_of streams e.from e.serial.this ≡ o
       → far streams (place_of_cause (Some (of_source
       (elim o [ None ↦ source.Hidden | Some f ↦ source.Event e.from f.0 ])))) < 1 + weight e
   receive_back is None found = omega arith

@@ -1,5 +1,6 @@
 -- A lane that is no end of an item has a bar, and so a run of such lanes has as many bars.
-use Rattle.std.proofs.Common.{◌≡◌, ℕ, ◌+◌, ◌-◌, ◌≤◌, zero, suc, Bool, true, false, ◌||◌, List, [], ◌∷◌, ◌++◌}
+use Rattle.std.proofs.Common.{◌≡◌, ℕ, ◌+◌, ◌-◌, ◌≤◌, zero, suc, Bool, true, false, ◌||◌, List, []}
+use Rattle.std.proofs.Common.{◌∷◌, ◌++◌}
 use Rattle.std.proofs.Common.{length, refl, sym, ap, subst, ◌∙◌, append_assoc, codes, arith}
 use Rattle.std.proofs.Math.ListN.{replicate}
 use Rattle.std.proofs.lemmas.List.{append-nil}
@@ -28,7 +29,8 @@ bars_then : (m n : ℕ) → bars m ++ bars n ≡ bars (m + n)
 bars_then zero n = ap bars (let e : n ≡ 0 + n = omega arith in e)
 bars_then (suc m) n =
     let next : suc (m + n) ≡ suc m + n = omega arith in
-    append_assoc (codes "   |") (bars m) (bars n) ∙ ap (λ (t : List ℕ). codes "   |" ++ t) (bars_then m n)
+    append_assoc (codes "   |") (bars m) (bars n) ∙ ap (λ (t : List ℕ). codes "   |" ++ t)
+    (bars_then m n)
     ∙ ap bars next
 
 -- all of them, if that many are left
@@ -45,7 +47,8 @@ bars_more count left run within upto =
     bars_then (count - left) run ∙ ap bars more
 
 -- the next run failed
-pub bars_failed : {S : Type 0} (puts : S → List ℕ → S → Type 0) (failed : S → Bool) (count left run : ℕ)
+pub bars_failed : {S : Type 0} (puts : S → List ℕ → S → Type 0) (failed : S → Bool)
+    (count left run : ℕ)
     {a b c : S} {x y : List ℕ}
     → left ≤ count → run ≤ left → Goes puts failed (bars (count - left)) a b x y
     → WritesPart puts failed (y ++ bars run) b c → WritesPart puts failed (x ++ bars count) a c
@@ -53,8 +56,10 @@ bars_failed puts failed count left run {a} {c} {x} within upto g h =
     let behind : left - run ≤ count = omega (arith, within) in
     let part = part_then puts failed (bars (count - left)) (bars run) g h in
     let more =
-    subst (λ (t : List ℕ). WritesPart puts failed (x ++ t) a c) (bars_more count left run within upto) part in
-    subst (λ (t : List ℕ). WritesPart puts failed (x ++ t) a c) (bars_whole count (left - run) behind)
+    subst (λ (t : List ℕ). WritesPart puts failed (x ++ t) a c)
+    (bars_more count left run within upto) part in
+    subst (λ (t : List ℕ). WritesPart puts failed (x ++ t) a c)
+    (bars_whole count (left - run) behind)
     (part_longer puts failed (bars (count - (left - run))) (bars (left - run)) x more)
 
 -- ---- the marks of lanes
@@ -69,7 +74,8 @@ or_right false b none = none
 
 -- an item happened at an end of it
 at_none : (x : ChartedItem) (p : Pid) → is_end x.event p ≡ false → is_at x p ≡ false
-at_none x p none = by x.item x.event.kind (or_left _ _ none) (or_right (pid_eq x.event.from p) _ none)
+at_none x p none = by x.item x.event.kind (or_left _ _ none)
+    (or_right (pid_eq x.event.from p) _ none)
   where
     by : (i : Item) (k : Kind) → pid_eq x.event.from p ≡ false
         → option_map_or (λ q. pid_eq q p) x.event.to false ≡ false
@@ -93,14 +99,18 @@ bars_are : (x : ChartedItem) (ps : List Pid) → list_any (is_end x.event) ps �
     → flat_map (mark x) ps ≡ bars (length ps)
 bars_are x [] none = refl
 bars_are x (p ∷ ps) none =
-    rw (bar x p (or_left (is_end x.event p) _ none), bars_are x ps (or_right (is_end x.event p) _ none)) refl
+    rw (
+      bar x p (or_left (is_end x.event p) _ none),
+      bars_are x ps (or_right (is_end x.event p) _ none),
+    ) refl
 
 pub no_marks : (x : ChartedItem) (ps : List Pid) → length ps ≡ 0 → flat_map (mark x) ps ≡ []
 no_marks x [] none = refl
 no_marks x (p ∷ ps) none = absurd (omega (arith, none))
 
 -- if only the last can be an end, the others have bars
-pub run_marks : (x : ChartedItem) (ps others : List Pid) (last : Pid) → HasNoEndBeforeLast x.event ps
+pub run_marks : (x : ChartedItem) (ps others : List Pid) (last : Pid)
+    → HasNoEndBeforeLast x.event ps
     → ps ≡ others ++ last ∷ [] → bars (length others) ++ mark x last ≡ flat_map (mark x) ps
 run_marks x ps others last clear is =
     ap (λ (t : List ℕ). t ++ mark x last) (sym (bars_are x others (clear others last is)))

@@ -1,4 +1,5 @@
--- Worked cases: the definitions computed. Nothing cites this file; it shows that the definitions say what is meant.
+-- Worked cases: the definitions computed. Nothing cites this file; it shows that the definitions
+-- say what is meant.
 use Rattle.std.specs.Prelude.{◌≡◌, true, List, [], ◌∷◌, ◌++◌, codes, refl}
 use Rattle.std.specs.Fmt.{digits}
 use Rattle.st_core.specs.declared.types.Act.TheVariants as acts
@@ -16,7 +17,8 @@ use Rattle.st_core.proofs.Samples.{a, b, got, printed, of, hidden_sends}
 
 -- their items, in their order
 abbrev in_order : List Item
-in_order = item.Reported a 0 ∷ item.Hidden b 0 ∷ item.Reported b 0 ∷ item.Reported b 1 ∷ item.Hidden a 1
+in_order = item.Reported a 0 ∷ item.Hidden b 0 ∷ item.Reported b 0 ∷ item.Reported b 1
+    ∷ item.Hidden a 1
     ∷ item.Reported a 1 ∷ []
 
 hidden_sends_charted : chart_text hidden_sends in_order (record { 0 = 17 })
@@ -47,7 +49,8 @@ mismatch_reported = refl
 
 not_replayed_reported :
     report_text hidden_sends
-    (finding.Unfit b 1 (reason.NotReplayed (acts.Tracer a true ∷ acts.Print a 0 ∷ []) (verdict.Left a)))
+    (finding.Unfit b 1 (reason.NotReplayed (acts.Tracer a true ∷ acts.Print a 0 ∷ [])
+    (verdict.Left a)))
     ≡ codes "unfit <0.31.0> 1 notreplayed left <0.30.0>\n"
     ++ codes "event <0.31.0> 1 {seq_trace,17,{print,{2,3},<0.31.0>,[],8}}\n"
     ++ codes "acts\n"

@@ -1,7 +1,8 @@
 -- Two lists of pids that rise have the same pids in common, whichever of the two is gone through.
 -- So the processes that are listed among the ends are the ends among those that are listed.
-use Rattle.std.proofs.Common.{◌≡◌, ℕ, zero, suc, ◌+◌, ◌<◌, Bool, true, false, ◌&&◌, ◌||◌, ◌==◌, List, [], ◌∷◌, filter}
-use Rattle.std.proofs.Common.{cond, length, get_or, Result, Ok, Err, is_ok, refl, sym, ap, ◌∙◌, arith}
+use Rattle.std.proofs.Common.{◌≡◌, ℕ, zero, suc, ◌+◌, ◌<◌, Bool, true, false, ◌&&◌, ◌||◌, ◌==◌}
+use Rattle.std.proofs.Common.{List, [], ◌∷◌, filter, cond, length, get_or, Result, Ok, Err, is_ok}
+use Rattle.std.proofs.Common.{refl, sym, ap, ◌∙◌, arith}
 use Rattle.std.specs.declared.cmp.Ordering.{Ordering}
 use Rattle.std.specs.declared.cmp.Ordering.TheVariants.{Less, Equal, Greater}
 use Rattle.std.specs.Ordering.{nat_cmp, ordering_then, is_eq}
@@ -16,8 +17,8 @@ use Rattle.std.proofs.lemmas.Map.Views.{any-filter_same}
 use Rattle.st_core.specs.declared.types.Pid.{Pid}
 use Rattle.st_core.specs.Pid.{pid_eq, pid_cmp, pid_on, IsRising}
 use Rattle.st_core.specs.Streams.{is_among}
-use Rattle.st_core.proofs.ForCallers.{pid_cmp-Equal, pid_eq-same, pid_eq-swap, rising_at, is_eq-Equal}
-use Rattle.st_core.proofs.ForCallers.{is_among-missing, missing_from_search, or_true}
+use Rattle.st_core.proofs.ForCallers.{pid_cmp-Equal, pid_eq-same, pid_eq-swap, rising_at}
+use Rattle.st_core.proofs.ForCallers.{is_eq-Equal, is_among-missing, missing_from_search, or_true}
 use Rattle.st_pair.proofs.ForCallers.{pid_total}
 
 -- ---- pids compare as equal if they are one
@@ -49,7 +50,8 @@ two_of false false false = refl
 pub both_noted : (a b p : Pid) (old one two : Bool) → one ≡ cond (is_eq (pid_cmp a p)) true old
     → two ≡ cond (is_eq (pid_cmp b p)) true one → two ≡ (old || (pid_eq a p || pid_eq b p))
 both_noted a b p old one two first second =
-    second ∙ (λ i. cond (pids_equal b p i) true ((first ∙ (λ j. cond (pids_equal a p j) true old)) i))
+    second ∙ (λ i. cond (pids_equal b p i) true
+    ((first ∙ (λ j. cond (pids_equal a p j) true old)) i))
     ∙ two_of (pid_eq a p) (pid_eq b p) old
 
 -- ---- pids of a list, as a set
@@ -90,7 +92,8 @@ common xs ys xs_rise ys_rise =
     (λ p. has_kept (has ys) xs p ∙ and_swap (has ys p) (has xs p) ∙ sym (has_kept (has xs) ys p))
     pid_cmp-Equal
 
-pub listed_ends : (ends : BTreeSet Pid) (pids : List Pid) → IsStrictlySortedBy pid_cmp ends.keys → IsRising pids
+pub listed_ends : (ends : BTreeSet Pid) (pids : List Pid) → IsStrictlySortedBy pid_cmp ends.keys
+    → IsRising pids
     → filter (is_among pids) ends.keys ≡ filter (contains pid_cmp ends) pids
 listed_ends ends pids ordered rising =
     ap (λ (f : Pid → Bool). filter f ends.keys) (λ i p. among_is_has pids p i)
@@ -98,14 +101,16 @@ listed_ends ends pids ordered rising =
 
 -- ---- what the search finds
 
-among_at : (ps : List Pid) (p : Pid) (i : ℕ) → i < length ps → get_or ps i p ≡ p → is_among ps p ≡ true
+among_at : (ps : List Pid) (p : Pid) (i : ℕ) → i < length ps → get_or ps i p ≡ p
+    → is_among ps p ≡ true
 among_at [] p i within at = absurd (omega (arith, within))
 among_at (q ∷ ps) p zero within at = let same : q ≡ p = at in rw (same, pid_eq-same p) refl
 among_at (q ∷ ps) p (suc i) within at =
     let later : get_or ps i p ≡ p = at in
     rw (among_at ps p i (omega (arith, within)) later) (or_true (pid_eq q p))
 
-pub found_among : (ps : List Pid) (p : Pid) (r : Result ℕ ℕ) → IsRising ps → IsSearchInRange r (length ps)
+pub found_among : (ps : List Pid) (p : Pid) (r : Result ℕ ℕ) → IsRising ps
+    → IsSearchInRange r (length ps)
     → IsBinarySearchResult (λ q. pid_cmp q p) ps r → is_ok r ≡ is_among ps p
 found_among ps p (Ok i) rising within found =
     sym (among_at ps p i within (pid_cmp-Equal (get_or ps i p) p (found p)))

@@ -1,14 +1,14 @@
 -- No lane but those of an event's from and to is an end of it: so if the lanes are cut after these
 -- two, no part has an end before its last lane.
 use Rattle.std.proofs.Common.{◌≡◌, ◌≢◌, ℕ, ◌+◌, ◌-◌, ◌<◌, ◌≤◌, ◌||◌, Bool, true, false, inl, inr}
-use Rattle.std.proofs.Common.{List, [], ◌∷◌, length, take, drop, get_or, Option, Some, None, min, max}
-use Rattle.std.proofs.Common.{refl, sym, ap, subst, ◌∙◌, arith, cond, filter}
+use Rattle.std.proofs.Common.{List, [], ◌∷◌, length, take, drop, get_or, Option, Some, None, min}
+use Rattle.std.proofs.Common.{max, refl, sym, ap, subst, ◌∙◌, arith, cond, filter}
 use Rattle.std.specs.List.{HoldsAt, AllByRecursion}
 use Rattle.std.specs.Option.{option_map_or}
 use Rattle.std.specs.declared.cmp.Ordering.TheVariants.{Equal}
 use Rattle.std.proofs.lemmas.Bool.{cases_lt}
-use Rattle.std.proofs.lemmas.List.{get_or-take, get_or-drop, get_or_append_left, length-take-le, length-drop}
-use Rattle.std.proofs.lemmas.List.{length-append}
+use Rattle.std.proofs.lemmas.List.{get_or-take, get_or-drop, get_or_append_left, length-take-le}
+use Rattle.std.proofs.lemmas.List.{length-drop, length-append}
 use Rattle.std.proofs.lemmas.List.Elements.{All-from_recursion}
 use Rattle.std.proofs.lemmas.List.Folds.{list_any_none}
 use Rattle.st_core.specs.declared.types.Pid.{Pid}
@@ -44,7 +44,8 @@ found_never ps p n none i d below apart =
 
 -- ---- some of the pids that rise
 
-kept_below : (p q : Pid) (rest : List Pid) (b : Bool) → IsBelow p q → AllByRecursion (IsBelow p) rest
+kept_below : (p q : Pid) (rest : List Pid) (b : Bool) → IsBelow p q
+    → AllByRecursion (IsBelow p) rest
     → AllByRecursion (IsBelow p) (cond b (q ∷ rest) rest)
 kept_below p q rest true below all = (below, all)
 kept_below p q rest false below all = all
@@ -61,7 +62,8 @@ kept_rise p rest false below rising = rising
 
 pub some_rise : (f : Pid → Bool) (ps : List Pid) → IsRising ps → IsRising (filter f ps)
 some_rise f [] rising = tt
-some_rise f (p ∷ ps) rising = kept_rise p (filter f ps) (f p) (some_below f p ps rising.0) (some_rise f ps rising.1)
+some_rise f (p ∷ ps) rising =
+    kept_rise p (filter f ps) (f p) (some_below f p ps rising.0) (some_rise f ps rising.1)
 
 -- ---- lanes that are cut
 
@@ -86,11 +88,14 @@ part_clear e ps part start m n only within same apart others last is =
     ∙ ap (λ (qs : List Pid). get_or qs i d) (sym is) ∙ same i d inside in
     ap (is_end e) equal ∙ only (start + i) d (omega (arith, within, inside)) far.0 far.1)
 
-cut : (e : Event) (ps : List Pid) (m n : ℕ) → m ≤ n → n ≤ length ps → OnlyThese e ps m n → AreCutAtEnds e ps m n
+cut : (e : Event) (ps : List Pid) (m n : ℕ) → m ≤ n → n ≤ length ps → OnlyThese e ps m n
+    → AreCutAtEnds e ps m n
 cut e ps m n rise within only =
     let front : length (take n ps) ≡ n = length-take-le n ps within in
-    let left_len : length (take m (take n ps)) ≡ m = length-take-le m (take n ps) (omega (arith, front, rise)) in
-    let middle_len : length (drop m (take n ps)) ≡ n - m = length-drop m (take n ps) ∙ ap (λ k. k - m) front in
+    let left_len : length (take m (take n ps)) ≡ m =
+    length-take-le m (take n ps) (omega (arith, front, rise)) in
+    let middle_len : length (drop m (take n ps)) ≡ n - m =
+    length-drop m (take n ps) ∙ ap (λ k. k - m) front in
     let right_len : length (drop n ps) ≡ length ps - n = length-drop n ps in
     record {
       rise = rise;
@@ -110,7 +115,10 @@ cut e ps m n rise within only =
           (λ i d below.
           get_or-drop m (take n ps) i d
           ∙ get_or-take n ps (m + i) d (omega (arith, below, middle_len)))
-          (λ i below. (λ same. omega (arith, same), λ same. omega (arith, same, below, middle_len)));
+          (λ i below. (
+            λ same. omega (arith, same),
+            λ same. omega (arith, same, below, middle_len),
+          ));
       right =
           part_clear e ps (drop n ps) n m n only (omega (arith, right_len, within))
           (λ i d below. get_or-drop n ps i d)
@@ -121,25 +129,30 @@ neither : (a b : Bool) → a ≡ false → b ≡ false → (a || b) ≡ false
 neither true b h k = absurd (cc)
 neither false b h k = k
 
-only_ends : (e : Event) (ps : List Pid) (m n : ℕ) → IsNoOther (Some e.from) ps m → IsNoOther e.to ps n
+only_ends : (e : Event) (ps : List Pid) (m n : ℕ) → IsNoOther (Some e.from) ps m
+    → IsNoOther e.to ps n
     → OnlyThese e ps m n
 only_ends e ps m n from to i d below apart other =
     neither (pid_eq e.from (get_or ps i d)) _ (from i d below apart) (by e.to to)
   where
-    by : (t : Option Pid) → IsNoOther t ps n → option_map_or (λ q. pid_eq q (get_or ps i d)) t false ≡ false
+    by : (t : Option Pid) → IsNoOther t ps n → option_map_or (λ q. pid_eq q (get_or ps i d)) t false
+        ≡ false
     by None nowhere = refl
     by (Some q) nowhere = nowhere i d below other
 
 -- cut after the event's from and its to, whichever comes first
-pub cut_at_ends : (e : Event) (ps : List Pid) (m n low high : ℕ) → low ≡ min m n → high ≡ max m n → m ≤ length ps
-    → n ≤ length ps → IsNoOther (Some e.from) ps m → IsNoOther e.to ps n → AreCutAtEnds e ps low high
+pub cut_at_ends : (e : Event) (ps : List Pid) (m n low high : ℕ) → low ≡ min m n → high ≡ max m n
+    → m ≤ length ps
+    → n ≤ length ps → IsNoOther (Some e.from) ps m → IsNoOther e.to ps n
+    → AreCutAtEnds e ps low high
 cut_at_ends e ps m n low high lower higher m_within n_within from to =
     let only = only_ends e ps m n from to in
     elim (cases_lt n m) [
       | inl falls ↦
           let is_low : low ≡ n = omega (arith, lower, falls) in
           let is_high : high ≡ m = omega (arith, higher, falls) in
-          rw (is_low, is_high) (cut e ps n m (omega (arith, falls)) m_within (λ i d below a b. only i d below b a))
+          rw (is_low, is_high) (cut e ps n m (omega (arith, falls)) m_within
+          (λ i d below a b. only i d below b a))
       | inr rises ↦
           let is_low : low ≡ m = omega (arith, lower, rises) in
           let is_high : high ≡ n = omega (arith, higher, rises) in

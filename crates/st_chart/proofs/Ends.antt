@@ -1,5 +1,5 @@
--- A process is a lane exactly if it is an end of an item that has the label: it doesn't matter whether the items are
--- gone through, or those that have the label.
+-- A process is a lane exactly if it is an end of an item that has the label: it doesn't matter
+-- whether the items are gone through, or those that have the label.
 use Rattle.std.proofs.Common.{◌≡◌, Bool, true, false, ◌||◌, List, [], ◌∷◌}
 use Rattle.std.proofs.Common.{refl, sym, ap, ◌∙◌, filter, cond, Option, Some, None}
 use Rattle.std.specs.List.{list_any, cons_option}
@@ -20,18 +20,21 @@ module _ (streams : List Stream) (label : Label) where
   end_by p o = elim o [ None ↦ false | Some c ↦ is_end c.event p ]
 
   one_charted : (p : Pid) (o : Option ChartedItem) (rest : List ChartedItem)
-      → list_any (λ x. is_end x.event p) (cons_option o rest) ≡ (end_by p o || list_any (λ x. is_end x.event p) rest)
+      → list_any (λ x. is_end x.event p) (cons_option o rest)
+      ≡ (end_by p o || list_any (λ x. is_end x.event p) rest)
   one_charted p None rest = refl
   one_charted p (Some c) rest = refl
 
   any_charted : (p : Pid) (items : List Item)
-      → list_any (λ x. is_end x.event p) (all_charted streams items label) ≡ list_any (is_end_in streams label p) items
+      → list_any (λ x. is_end x.event p) (all_charted streams items label)
+      ≡ list_any (is_end_in streams label p) items
   any_charted p [] = refl
   any_charted p (x ∷ items) =
       one_charted p (charted_of streams label x) (all_charted streams items label)
       ∙ ap (λ (b : Bool). is_end_in streams label p x || b) (any_charted p items)
 
-  filter_same : (f g : Pid → Bool) → ((p : Pid) → f p ≡ g p) → (ps : List Pid) → filter f ps ≡ filter g ps
+  filter_same : (f g : Pid → Bool) → ((p : Pid) → f p ≡ g p) → (ps : List Pid)
+      → filter f ps ≡ filter g ps
   filter_same f g same [] = refl
   filter_same f g same (p ∷ ps) =
       ap (λ (b : Bool). cond b (p ∷ filter f ps) (filter f ps)) (same p)

@@ -1,6 +1,7 @@
 -- The lines go one after the other: those of the lanes by their numbers, and those of the items
 -- that have the label.
-use Rattle.std.proofs.Common.{◌≡◌, ℕ, ◌+◌, ◌<◌, List, [], ◌∷◌, ◌++◌, length, take, drop, get_or, arith}
+use Rattle.std.proofs.Common.{◌≡◌, ℕ, ◌+◌, ◌<◌, List, [], ◌∷◌, ◌++◌, length, take, drop, get_or}
+use Rattle.std.proofs.Common.{arith}
 use Rattle.std.proofs.Common.{refl, sym, ap, subst, ◌∙◌, append_assoc, Bool, Option, Some, None}
 use Rattle.std.specs.List.{flat_map, cons_option}
 use Rattle.std.proofs.lemmas.List.{append-nil, take_more, length-take, take-append-drop}
@@ -31,13 +32,16 @@ lane_more ps i d lt =
     let number : 1 + length (take i ps) ≡ i + 1 = omega (arith, lt, length-take i ps) in
     ap (lane_lines 1) (take_more ps i d lt) ∙ lanes_then 1 (take i ps) (get_or ps i d ∷ [])
     ∙ ap (λ n. lane_lines 1 (take i ps) ++ lane_lines n (get_or ps i d ∷ [])) number
-    ∙ ap (λ (t : List ℕ). lane_lines 1 (take i ps) ++ t) (append-nil (lane_line (i + 1) (get_or ps i d)))
+    ∙ ap (λ (t : List ℕ). lane_lines 1 (take i ps) ++ t)
+    (append-nil (lane_line (i + 1) (get_or ps i d)))
 
 pub lanes_split : (ps : List Pid) (i : ℕ)
     → lane_lines 1 (take i ps) ++ lane_lines (1 + length (take i ps)) (drop i ps) ≡ lane_lines 1 ps
-lanes_split ps i = sym (lanes_then 1 (take i ps) (drop i ps)) ∙ ap (lane_lines 1) (take-append-drop i ps)
+lanes_split ps i = sym (lanes_then 1 (take i ps) (drop i ps))
+    ∙ ap (lane_lines 1) (take-append-drop i ps)
 
-pub lanes_more : {S : Type 0} (puts : S → List ℕ → S → Type 0) (failed : S → Bool) (ps : List Pid) (i : ℕ) (d : Pid)
+pub lanes_more : {S : Type 0} (puts : S → List ℕ → S → Type 0) (failed : S → Bool) (ps : List Pid)
+    (i : ℕ) (d : Pid)
     {a b c : S} {x y z : List ℕ}
     → i < length ps → Goes puts failed (lane_lines 1 (take i ps)) a b x y
     → Goes puts failed (lane_line (i + 1) (get_or ps i d)) b c y z
@@ -47,15 +51,18 @@ lanes_more puts failed ps i d {a} {c} {x} {z} lt g h =
     (goes_then puts failed (lane_lines 1 (take i ps)) (lane_line (i + 1) (get_or ps i d)) g h)
 
 -- the next line failed
-pub lanes_failed : {S : Type 0} (puts : S → List ℕ → S → Type 0) (failed : S → Bool) (ps : List Pid) (i : ℕ) (d : Pid)
+pub lanes_failed : {S : Type 0} (puts : S → List ℕ → S → Type 0) (failed : S → Bool) (ps : List Pid)
+    (i : ℕ) (d : Pid)
     {a b c : S} {x y : List ℕ}
     → i < length ps → Goes puts failed (lane_lines 1 (take i ps)) a b x y
     → WritesPart puts failed (y ++ lane_line (i + 1) (get_or ps i d)) b c
     → WritesPart puts failed (x ++ lane_lines 1 ps) a c
 lanes_failed puts failed ps i d {a} {c} {x} lt g h =
     let rest = lane_lines (1 + length (take (i + 1) ps)) (drop (i + 1) ps) in
-    let part = part_then puts failed (lane_lines 1 (take i ps)) (lane_line (i + 1) (get_or ps i d)) g h in
-    let upto = subst (λ (t : List ℕ). WritesPart puts failed (x ++ t) a c) (sym (lane_more ps i d lt)) part in
+    let part = part_then puts failed (lane_lines 1 (take i ps)) (lane_line (i + 1) (get_or ps i d))
+    g h in
+    let upto = subst (λ (t : List ℕ). WritesPart puts failed (x ++ t) a c)
+    (sym (lane_more ps i d lt)) part in
     subst (λ (t : List ℕ). WritesPart puts failed (x ++ t) a c) (lanes_split ps (i + 1))
     (part_longer puts failed (lane_lines 1 (take (i + 1) ps)) rest x upto)
 
@@ -69,7 +76,8 @@ module _ (streams : List Stream) (label : Label) (caused : List Stream) (ps : Li
   line_of x o is = ap line_by is
 
   one_line : (o : Option ChartedItem) (rest : List ChartedItem)
-      → line_by o ++ flat_map (item_line caused ps) rest ≡ flat_map (item_line caused ps) (cons_option o rest)
+      → line_by o ++ flat_map (item_line caused ps) rest
+      ≡ flat_map (item_line caused ps) (cons_option o rest)
   one_line None rest = refl
   one_line (Some c) rest = refl
 

@@ -6,6 +6,8 @@ use Rattle.st_core.specs.Run.{Stream}
 use Rattle.st_check.specs.Progress.{IsPassedBy}
 use Rattle.st_check.specs.declared.comparison.Comparison.{Comparison}
 
-pub all : (top : ℕ) (streams : List Stream) (acts : List Act) (n : ℕ) (s : State) (c : Comparison) → length acts ≤ n
+pub all : (top : ℕ) (streams : List Stream) (acts : List Act) (n : ℕ) (s : State) (c : Comparison)
+    → length acts ≤ n
     → IsPassedBy top streams (take n acts) s c → IsPassedBy top streams acts s c
-all top streams acts n s c whole p = subst (λ xs. IsPassedBy top streams xs s c) (take_all n acts whole) p
+all top streams acts n s c whole p =
+    subst (λ xs. IsPassedBy top streams xs s c) (take_all n acts whole) p

@@ -1,8 +1,8 @@
--- No clock is above the number of acts so far, so a stamp has a value while there are at most TOP acts, and nobody is
--- missing.
+-- No clock is above the number of acts so far, so a stamp has a value while there are at most TOP
+-- acts, and nobody is missing.
 use Rattle.std.proofs.Common.{◌≡◌, ℕ, ◌+◌, ◌<◌, ◌≤◌, true, false, cond, nat_lt, List, [], ◌∷◌}
-use Rattle.std.proofs.Common.{length, map, get_or, Option, Some, None, is_some, option_map, option_and_then}
-use Rattle.std.proofs.Common.{All, refl, sym, ◌∙◌, ap, subst, arith, if◌then◌else◌}
+use Rattle.std.proofs.Common.{length, map, get_or, Option, Some, None, is_some, option_map}
+use Rattle.std.proofs.Common.{option_and_then, All, refl, sym, ◌∙◌, ap, subst, arith, if◌then◌else◌}
 use Rattle.std.specs.Prelude.{IsSome}
 use Rattle.std.specs.Option.{ForSome}
 use Rattle.std.specs.List.{list_all}
@@ -18,10 +18,12 @@ use Rattle.st_core.specs.State.{LocalState, Process, State, process, zero_state}
 use Rattle.st_core.specs.Stamp.{stamped_token, stamp, stamp_any}
 use Rattle.st_core.specs.Local.{has_label}
 use Rattle.st_core.specs.Streams.{is_among}
-use Rattle.st_core.specs.Step.{Acted, Outcome, actor, receiver, acted, answers, prints, sends, outcome_of, step}
+use Rattle.st_core.specs.Step.{Acted, Outcome, actor, receiver, acted, answers, prints, sends}
+use Rattle.st_core.specs.Step.{outcome_of, step}
 use Rattle.st_core.specs.Run.{run_from}
 use Rattle.st_core.specs.Laws.{IsStamped, IsSound}
-use Rattle.st_core.proofs.ForCallers.{step_sound, zero_sound, process_holds, leaves_others, zero_pids, both_of}
+use Rattle.st_core.proofs.ForCallers.{step_sound, zero_sound, process_holds, leaves_others}
+use Rattle.st_core.proofs.ForCallers.{zero_pids, both_of}
 use Rattle.st_check.specs.Laws.{acts_among, FewActsRun}
 
 -- WHO IS THERE
@@ -58,12 +60,15 @@ has_stamp : (top : ℕ) (p : Pid) (l : LocalState) (t : Token) → l.token ≡ S
     → stamp top p l ≡ Some (record l { token = Some (stamped_token p l t); clock = l.clock + 1 })
 has_stamp top p l t has below =
     ap (λ (o : Option Token). option_and_then
-    (λ t. if nat_lt l.clock top then Some (record l { token = Some (stamped_token p l t); clock = l.clock + 1 })
+    (λ t. if nat_lt l.clock top then Some
+    (record l { token = Some (stamped_token p l t); clock = l.clock + 1 })
     else None) o) has
-    ∙ ap (λ b. cond b (Some (record l { token = Some (stamped_token p l t); clock = l.clock + 1 })) None)
+    ∙ ap (λ b. cond b (Some (record l { token = Some (stamped_token p l t); clock = l.clock + 1 }))
+    None)
     (lt-ltb l.clock top below)
 
-module _ (high low : ℕ) (p : Pid) (l : LocalState) (below_high : l.clock < high) (below_low : l.clock < low) where
+module _ (high low : ℕ) (p : Pid) (l : LocalState) (below_high : l.clock < high)
+    (below_low : l.clock < low) where
   stamps_alike : (t : Token) → l.token ≡ Some t → StampsAlike (λ top. stamp top p l) high low
   stamps_alike t has =
       record {
@@ -73,7 +78,8 @@ module _ (high low : ℕ) (p : Pid) (l : LocalState) (below_high : l.clock < hig
             has_stamp low p l t has below_low;
       }
 
-  any_alike : (token : Option Token) → l.token ≡ token → StampsAlike (λ top. stamp_any top p l) high low
+  any_alike : (token : Option Token) → l.token ≡ token
+      → StampsAlike (λ top. stamp_any top p l) high low
   any_alike None none = record {
     stamped = l;
     at_high = ap (λ (o : Option Token). if is_some o then stamp high p l else Some l) none;
@@ -83,28 +89,35 @@ module _ (high low : ℕ) (p : Pid) (l : LocalState) (below_high : l.clock < hig
       let both = stamps_alike t some in
       record {
         stamped = both.stamped;
-        at_high = ap (λ (o : Option Token). if is_some o then stamp high p l else Some l) some ∙ both.at_high;
-        at_low = ap (λ (o : Option Token). if is_some o then stamp low p l else Some l) some ∙ both.at_low;
+        at_high = ap (λ (o : Option Token). if is_some o then stamp high p l else Some l) some
+            ∙ both.at_high;
+        at_low = ap (λ (o : Option Token). if is_some o then stamp low p l else Some l) some
+            ∙ both.at_low;
       }
 
 -- ONE ACT
 
-module _ (high low : ℕ) (r : Process) (below_high : r.local.clock < high) (below_low : r.local.clock < low) where
-  always : (a : Act) (done : Acted) → acted high r a ≡ Some done → acted low r a ≡ Some done → ActsAlike high low r a
+module _ (high low : ℕ) (r : Process) (below_high : r.local.clock < high)
+    (below_low : r.local.clock < low) where
+  always : (a : Act) (done : Acted) → acted high r a ≡ Some done → acted low r a ≡ Some done
+      → ActsAlike high low r a
   always a done at_high at_low = record { done = done; at_high = at_high; at_low = at_low }
 
   by_stamp : (f : LocalState → Acted) (stamps : ℕ → Option LocalState) (a : Act)
       → acted high r a ≡ option_map f (stamps high) → acted low r a ≡ option_map f (stamps low)
       → StampsAlike stamps high low → ActsAlike high low r a
   by_stamp f stamps a is_high is_low both =
-      always a (f both.stamped) (is_high ∙ ap (option_map f) both.at_high) (is_low ∙ ap (option_map f) both.at_low)
+      always a (f both.stamped) (is_high ∙ ap (option_map f) both.at_high)
+      (is_low ∙ ap (option_map f) both.at_low)
 
   unlabelled : (p : Pid) (n : Label) (v : ℕ) → has_label n r.local.token ≡ false
       → ActsAlike high low r (act.PrintAt p n v)
   unlabelled p n v other = always (act.PrintAt p n v) (answers r r.local reply.Done)
-      (ap (λ b. cond b (option_map (prints r v) (stamp high r.pid r.local)) (Some (answers r r.local reply.Done)))
+      (ap (λ b. cond b (option_map (prints r v) (stamp high r.pid r.local))
+      (Some (answers r r.local reply.Done)))
       other)
-      (ap (λ b. cond b (option_map (prints r v) (stamp low r.pid r.local)) (Some (answers r r.local reply.Done))) other)
+      (ap (λ b. cond b (option_map (prints r v) (stamp low r.pid r.local))
+      (Some (answers r r.local reply.Done))) other)
 
   at_label : (p : Pid) (n : Label) (v : ℕ) (token : Option Token) → r.local.token ≡ token
       → ActsAlike high low r (act.PrintAt p n v)
@@ -114,9 +127,11 @@ module _ (high low : ℕ) (r : Process) (below_high : r.local.clock < high) (bel
       → ActsAlike high low r (act.PrintAt p n v)) [
         | true ↦ λ same.
             by_stamp (prints r v) (λ top. stamp top r.pid r.local) (act.PrintAt p n v)
-            (ap (λ b. cond b (option_map (prints r v) (stamp high r.pid r.local)) (Some (answers r r.local reply.Done)))
+            (ap (λ b. cond b (option_map (prints r v) (stamp high r.pid r.local))
+            (Some (answers r r.local reply.Done)))
             same)
-            (ap (λ b. cond b (option_map (prints r v) (stamp low r.pid r.local)) (Some (answers r r.local reply.Done)))
+            (ap (λ b. cond b (option_map (prints r v) (stamp low r.pid r.local))
+            (Some (answers r r.local reply.Done)))
             same)
             (stamps_alike high low r.pid r.local below_high below_low t some)
         | false ↦ λ other. unlabelled p n v other
@@ -143,7 +158,8 @@ module _ (high low : ℕ) (r : Process) (below_high : r.local.clock < high) (bel
 later_token : (k : ℕ) (from : Pid) (token : Option Token) → ForSome token (IsStamped k from)
     → ForSome token (IsStamped (k + 1) from)
 later_token k from token h =
-    λ t is. let stamped = h t is in record { from = stamped.from; rises = stamped.rises; within = omega arith }
+    λ t is. let stamped = h t is in
+    record { from = stamped.from; rises = stamped.rises; within = omega arith }
 
 later_sound : (k : ℕ) (s : State) → All (IsSound k) s → All (IsSound (k + 1)) s
 later_sound k s all = λ i d within.
@@ -164,12 +180,16 @@ record StepsAlike (high low : ℕ) (s : State) (a : Act) : Type 0 where
   at_high : step high s a ≡ Some outcome
   at_low : step low s a ≡ Some outcome
 
-is_step : (top : ℕ) (s : State) (a : Act) (r q : Process) (done : Acted) → process s (actor a) ≡ Some r
-    → process s (receiver a) ≡ Some q → acted top r a ≡ Some done → step top s a ≡ Some (outcome_of s a done)
+is_step : (top : ℕ) (s : State) (a : Act) (r q : Process) (done : Acted)
+    → process s (actor a) ≡ Some r
+    → process s (receiver a) ≡ Some q → acted top r a ≡ Some done
+    → step top s a ≡ Some (outcome_of s a done)
 is_step top s a r q done is_actor is_receiver is_done =
     ap (λ (o : Option Process). option_and_then
-    (λ x. option_and_then (λ _. option_map (outcome_of s a) (acted top x a)) (process s (receiver a))) o) is_actor
-    ∙ ap (λ (o : Option Process). option_and_then (λ _. option_map (outcome_of s a) (acted top r a)) o) is_receiver
+    (λ x. option_and_then (λ _. option_map (outcome_of s a) (acted top x a))
+    (process s (receiver a))) o) is_actor
+    ∙ ap (λ (o : Option Process). option_and_then (λ _. option_map (outcome_of s a) (acted top r a))
+    o) is_receiver
     ∙ ap (option_map (outcome_of s a)) is_done
 
 steps_alike : (high low : ℕ) (s : State) (a : Act) → All (λ r. r.local.clock < high) s
@@ -181,22 +201,28 @@ steps_alike high low s a below_high below_low among =
     let actor_there = there s (actor a) parts.0 in
     let receiver_there = there s (receiver a) parts.1 in
     let r = actor_there.found in
-    let both = acts_alike high low r (process_holds (λ x. x.local.clock < high) s (actor a) r actor_there.is
-    below_high) (process_holds (λ x. x.local.clock < low) s (actor a) r actor_there.is below_low) a in
+    let both = acts_alike high low r
+    (process_holds (λ x. x.local.clock < high) s (actor a) r actor_there.is
+    below_high) (process_holds (λ x. x.local.clock < low) s (actor a) r actor_there.is below_low)
+    a in
     record {
       outcome = outcome_of s a both.done;
-      at_high = is_step high s a r receiver_there.found both.done actor_there.is receiver_there.is both.at_high;
-      at_low = is_step low s a r receiver_there.found both.done actor_there.is receiver_there.is both.at_low;
+      at_high = is_step high s a r receiver_there.found both.done actor_there.is receiver_there.is
+          both.at_high;
+      at_low = is_step low s a r receiver_there.found both.done actor_there.is receiver_there.is
+          both.at_low;
     }
 
 -- A RUN
 
-mapped_some : (o : Outcome) (rest : Option (List Outcome)) → IsSome rest → IsSome (option_map (λ os. o ∷ os) rest)
+mapped_some : (o : Outcome) (rest : Option (List Outcome)) → IsSome rest
+    → IsSome (option_map (λ os. o ∷ os) rest)
 mapped_some o None h = absurd (cc)
 mapped_some o (Some os) h = refl
 
 runs_from : (top k : ℕ) (s : State) (acts : List Act) → All (IsSound k) s → k + length acts ≤ top
-    → list_all (acts_among (map (λ (r : Process). r.pid) s)) acts ≡ true → IsSome (run_from top s acts)
+    → list_all (acts_among (map (λ (r : Process). r.pid) s)) acts ≡ true
+    → IsSome (run_from top s acts)
 runs_from top k s [] sound few among = refl
 runs_from top k s (a ∷ acts) sound few among =
     let pids = map (λ (r : Process). r.pid) s in

@@ -1,8 +1,8 @@
 -- All that is kept is told by the run so far, and one more act changes it at its own process alone.
-use Rattle.std.proofs.Common.{◌≡◌, ℕ, ◌+◌, ◌<◌, Bool, true, false, cond, List, [], ◌∷◌, ◌++◌, length, map, get_or}
-use Rattle.std.proofs.Common.{set, replicate, Option, Some, None, IsSome, is_some, option_map, option_and_then}
-use Rattle.std.proofs.Common.{option_to_list, refl, sym, ◌∙◌, ap, subst, arith, append-nil, length-append}
-use Rattle.std.proofs.Common.{if◌then◌else◌}
+use Rattle.std.proofs.Common.{◌≡◌, ℕ, ◌+◌, ◌<◌, Bool, true, false, cond, List, [], ◌∷◌, ◌++◌}
+use Rattle.std.proofs.Common.{length, map, get_or, set, replicate, Option, Some, None, IsSome}
+use Rattle.std.proofs.Common.{is_some, option_map, option_and_then, option_to_list, refl, sym, ◌∙◌}
+use Rattle.std.proofs.Common.{ap, subst, arith, append-nil, length-append, if◌then◌else◌}
 use mathlib.Core.List.{IsPrefix}
 use Rattle.std.specs.Option.{ForSome}
 use Rattle.std.specs.List.{AllByRecursion, slice_get}
@@ -18,11 +18,12 @@ use Rattle.st_core.specs.Run.{Stream, pids_of, run, run_from, stream}
 use Rattle.st_core.specs.Streams.{events_of}
 use Rattle.st_core.specs.Pairs.{tags_after, pairs}
 use Rattle.st_core.specs.Verdict.{Passes}
-use Rattle.st_core.proofs.ForCallers.{zero_pids, pid_eq-true, pid_eq-same, pid_eq-swap, run_parts, leaves_others}
+use Rattle.st_core.proofs.ForCallers.{zero_pids, pid_eq-true, pid_eq-same, pid_eq-swap, run_parts}
+use Rattle.st_core.proofs.ForCallers.{leaves_others}
 use Rattle.st_world.proofs.ForCallers.{map_agree}
 use Rattle.st_check.specs.Progress.{state_from, tags_of, reported_count, counts_with, IsPassed}
-use Rattle.st_check.proofs.OneMoreAct.{length-run, run-append, state_from-append, stream-append, tags_from-append}
-use Rattle.st_check.proofs.OneMoreAct.{pair_of, pairs_from-append}
+use Rattle.st_check.proofs.OneMoreAct.{length-run, run-append, state_from-append, stream-append}
+use Rattle.st_check.proofs.OneMoreAct.{tags_from-append, pair_of, pairs_from-append}
 use Rattle.st_check.proofs.Places.{map_at, entry_at, events_at}
 use Rattle.st_check.proofs.Fronts.{front_more, front_next}
 
@@ -48,24 +49,30 @@ passed_start top streams pids s counts tags ps are at_zero no_counts no_tags no_
 
 -- A PROCESS THAT ISN'T THERE
 
-pub state_pids : (top : ℕ) (s : State) (acts : List Act) (os : List Outcome) → run_from top s acts ≡ Some os
+pub state_pids : (top : ℕ) (s : State) (acts : List Act) (os : List Outcome)
+    → run_from top s acts ≡ Some os
     → map (λ (r : Process). r.pid) (state_from s os) ≡ map (λ (r : Process). r.pid) s
 state_pids top s [] os h =
-    ap (λ (xs : List Outcome). map (λ (r : Process). r.pid) (state_from s xs)) (sym (same_Some [] os h))
+    ap (λ (xs : List Outcome). map (λ (r : Process). r.pid) (state_from s xs))
+    (sym (same_Some [] os h))
 state_pids top s (a ∷ acts) os h =
     let t = run_parts top s a acts os h in
     ap (λ (xs : List Outcome). map (λ (r : Process). r.pid) (state_from s xs)) t.is_whole
     ∙ state_pids top t.first.after acts t.others t.is_rest
     ∙ (leaves_others top s a t.first t.is_first).pids
 
-unlisted_process : (s : State) (p : Pid) → AllByRecursion (λ q. pid_eq q p ≡ false) (map (λ (r : Process). r.pid) s)
+unlisted_process : (s : State) (p : Pid)
+    → AllByRecursion (λ q. pid_eq q p ≡ false) (map (λ (r : Process). r.pid) s)
     → process s p ≡ None
 unlisted_process [] p apart = refl
-unlisted_process (r ∷ s) p apart = ap (λ b. cond b (Some r) (process s p)) apart.0 ∙ unlisted_process s p apart.1
+unlisted_process (r ∷ s) p apart = ap (λ b. cond b (Some r) (process s p)) apart.0
+    ∙ unlisted_process s p apart.1
 
 -- an act of a process that isn't listed has no step
-pub unlisted_stuck : (top : ℕ) (streams : List Stream) (acts : List Act) (s : State) (counts : List ℕ)
-    (tags : List (List ℕ)) (ps : List (ℕ × ℕ)) (a : Act) → IsPassed top streams acts s counts tags ps
+pub unlisted_stuck : (top : ℕ) (streams : List Stream) (acts : List Act) (s : State)
+    (counts : List ℕ)
+    (tags : List (List ℕ)) (ps : List (ℕ × ℕ)) (a : Act)
+    → IsPassed top streams acts s counts tags ps
     → AllByRecursion (λ q. pid_eq q (actor a) ≡ false) (pids_of streams) → step top s a ≡ None
 unlisted_stuck top streams acts s counts tags ps a p apart =
     let pids : map (λ (r : Process). r.pid) s ≡ pids_of streams =
@@ -73,7 +80,8 @@ unlisted_stuck top streams acts s counts tags ps a p apart =
     ∙ state_pids top (zero_state (pids_of streams)) acts p.outcomes p.passing.runs
     ∙ zero_pids (pids_of streams) in
     let missing : process s (actor a) ≡ None =
-    unlisted_process s (actor a) (subst (AllByRecursion (λ q. pid_eq q (actor a) ≡ false)) (sym pids) apart) in
+    unlisted_process s (actor a)
+    (subst (AllByRecursion (λ q. pid_eq q (actor a) ≡ false)) (sym pids) apart) in
     ap (option_and_then (λ r. option_and_then (λ (_ : Process). option_map (outcome_of s a) (acted top r a))
     (process s (receiver a)))) missing
 
@@ -81,7 +89,8 @@ unlisted_stuck top streams acts s counts tags ps a p apart =
 
 -- if the act has no step, the acts with it have no run
 pub stuck_more : (top : ℕ) (streams : List Stream) (acts : List Act) (s : State) (counts : List ℕ)
-    (tags : List (List ℕ)) (ps : List (ℕ × ℕ)) (a : Act) → IsPassed top streams acts s counts tags ps
+    (tags : List (List ℕ)) (ps : List (ℕ × ℕ)) (a : Act)
+    → IsPassed top streams acts s counts tags ps
     → step top s a ≡ None → run top (pids_of streams) (acts ++ a ∷ []) ≡ None
 stuck_more top streams acts s counts tags ps a p h =
     run-append top (zero_state (pids_of streams)) acts a p.outcomes p.passing.runs
@@ -89,14 +98,17 @@ stuck_more top streams acts s counts tags ps a p h =
 
 -- A STEP
 
-run_more : (top : ℕ) (streams : List Stream) (acts : List Act) (s : State) (counts : List ℕ) (tags : List (List ℕ))
+run_more : (top : ℕ) (streams : List Stream) (acts : List Act) (s : State) (counts : List ℕ)
+    (tags : List (List ℕ))
     (ps : List (ℕ × ℕ)) (a : Act) (o : Outcome) (p : IsPassed top streams acts s counts tags ps)
-    → step top s a ≡ Some o → run top (pids_of streams) (acts ++ a ∷ []) ≡ Some (p.outcomes ++ o ∷ [])
+    → step top s a ≡ Some o → run top (pids_of streams) (acts ++ a ∷ [])
+    ≡ Some (p.outcomes ++ o ∷ [])
 run_more top streams acts s counts tags ps a o p h =
     run-append top (zero_state (pids_of streams)) acts a p.outcomes p.passing.runs
     ∙ ap (option_map (λ x. p.outcomes ++ x ∷ [])) (ap (λ x. step top x a) (sym p.is_state) ∙ h)
 
-module _ (acts : List Act) (a : Act) (os : List Outcome) (o : Outcome) (even : length os ≡ length acts) where
+module _ (acts : List Act) (a : Act) (os : List Outcome) (o : Outcome)
+    (even : length os ≡ length acts) where
   -- the streams of the others stay
   pub stream_other : (q : Pid) → pid_eq (actor a) q ≡ false
       → stream (acts ++ a ∷ []) (os ++ o ∷ []) q ≡ stream acts os q
@@ -110,7 +122,8 @@ module _ (acts : List Act) (a : Act) (os : List Outcome) (o : Outcome) (even : l
   no_event false = refl
 
   -- an act without a report leaves all
-  pub stream_silent : (q : Pid) → o.report ≡ None → stream (acts ++ a ∷ []) (os ++ o ∷ []) q ≡ stream acts os q
+  pub stream_silent : (q : Pid) → o.report ≡ None
+      → stream (acts ++ a ∷ []) (os ++ o ∷ []) q ≡ stream acts os q
   stream_silent q silent =
       stream-append acts a os o q even
       ∙ ap (λ r. stream acts os q ++ (if pid_eq (actor a) q then option_to_list r else [])) silent
@@ -122,7 +135,8 @@ module _ (acts : List Act) (a : Act) (os : List Outcome) (o : Outcome) (even : l
       → stream (acts ++ a ∷ []) (os ++ o ∷ []) (actor a) ≡ stream acts os (actor a) ++ e ∷ []
   stream_own e is =
       stream-append acts a os o (actor a) even
-      ∙ ap (λ b. stream acts os (actor a) ++ (if b then option_to_list o.report else [])) (pid_eq-same (actor a))
+      ∙ ap (λ b. stream acts os (actor a) ++ (if b then option_to_list o.report else []))
+      (pid_eq-same (actor a))
       ∙ ap (λ r. stream acts os (actor a) ++ option_to_list r) is
 
   counts_more : (pids : List Pid) (i : ℕ) → IsRising pids → slice_get pids i ≡ Some (actor a)
@@ -138,20 +152,25 @@ module _ (acts : List Act) (a : Act) (os : List Outcome) (o : Outcome) (even : l
       ap (λ n. n + 1) (entry_at (reported_count acts os) pids i (actor a) 0 at)
       ∙ sym (ap length (stream_own e is) ∙ length-append (stream acts os (actor a)) (e ∷ [])) in
       ap (set (map (reported_count acts os) pids) i) own
-      ∙ sym (map_at (reported_count acts os) (reported_count (acts ++ a ∷ []) (os ++ o ∷ [])) pids i (actor a) rising at
+      ∙ sym (map_at (reported_count acts os) (reported_count (acts ++ a ∷ []) (os ++ o ∷ [])) pids i
+      (actor a) rising at
       (λ q apart. ap length (stream_other q (pid_eq-swap (actor a) q ∙ apart))))
 
   -- a front of a process's stream stays one
   front_kept : (x : Stream) (report : Option Event) → o.report ≡ report
-      → ForSome report (λ e. pid_eq (actor a) x.pid ≡ true → slice_get x.events (reported_count acts os x.pid) ≡ Some e)
-      → IsPrefix (stream acts os x.pid) x.events → IsPrefix (stream (acts ++ a ∷ []) (os ++ o ∷ []) x.pid) x.events
-  front_kept x None silent next front = subst (λ es. IsPrefix es x.events) (sym (stream_silent x.pid silent)) front
+      → ForSome report (λ e. pid_eq (actor a) x.pid ≡ true
+      → slice_get x.events (reported_count acts os x.pid) ≡ Some e)
+      → IsPrefix (stream acts os x.pid) x.events
+      → IsPrefix (stream (acts ++ a ∷ []) (os ++ o ∷ []) x.pid) x.events
+  front_kept x None silent next front =
+      subst (λ es. IsPrefix es x.events) (sym (stream_silent x.pid silent)) front
   front_kept x (Some e) is next front =
       elim (pid_eq (actor a) x.pid) as (λ b. pid_eq (actor a) x.pid ≡ b
       → IsPrefix (stream (acts ++ a ∷ []) (os ++ o ∷ []) x.pid) x.events) [
         | true ↦ λ same.
             let who : actor a ≡ x.pid = pid_eq-true (actor a) x.pid same in
-            let grows : stream (acts ++ a ∷ []) (os ++ o ∷ []) x.pid ≡ stream acts os x.pid ++ e ∷ [] =
+            let grows : stream (acts ++ a ∷ []) (os ++ o ∷ []) x.pid ≡ stream acts os x.pid ++ e
+            ∷ [] =
             subst (λ q. stream (acts ++ a ∷ []) (os ++ o ∷ []) q ≡ stream acts os q ++ e ∷ []) who
             (stream_own e is) in
             subst (λ es. IsPrefix es x.events) (sym grows)
@@ -161,7 +180,8 @@ module _ (acts : List Act) (a : Act) (os : List Outcome) (o : Outcome) (even : l
 
 -- the act passes if what it reports is the next event of its actor's stream
 pub passed_more : (top : ℕ) (streams : List Stream) (acts : List Act) (s : State) (counts : List ℕ)
-    (tags : List (List ℕ)) (ps : List (ℕ × ℕ)) (a : Act) (o : Outcome) (i : ℕ) (n : ℕ) (later : List (List ℕ))
+    (tags : List (List ℕ)) (ps : List (ℕ × ℕ)) (a : Act) (o : Outcome) (i : ℕ) (n : ℕ)
+    (later : List (List ℕ))
     → IsRising (pids_of streams) → slice_get (pids_of streams) i ≡ Some (actor a) → n ≡ length acts
     → (p : IsPassed top streams acts s counts tags ps) → step top s a ≡ Some o
     → ForSome o.report (λ e. slice_get (events_of streams (actor a)) (get_or counts i 0) ≡ Some e)
@@ -171,7 +191,8 @@ pub passed_more : (top : ℕ) (streams : List Stream) (acts : List Act) (s : Sta
 passed_more top streams acts s counts tags ps a o i n later rising at number p h next are =
     let os = p.outcomes in
     let even = length-run top (zero_state (pids_of streams)) acts os p.passing.runs in
-    let count : get_or counts i 0 ≡ reported_count acts os (actor a) = ap (λ xs. get_or xs i 0) p.are_counts
+    let count : get_or counts i 0 ≡ reported_count acts os (actor a) =
+    ap (λ xs. get_or xs i 0) p.are_counts
     ∙ entry_at (reported_count acts os) (pids_of streams) i (actor a) 0 at in
     let nth : n ≡ 0 + length acts = number ∙ (omega arith) in
     record {
@@ -183,15 +204,18 @@ passed_more top streams acts s counts tags ps a o i n later rising at number p h
             front_kept acts a os o even x o.report refl (λ e is same.
             let who = pid_eq-true (actor a) x.pid same in
             ap (λ q. slice_get x.events (reported_count acts os q)) (sym who)
-            ∙ ap (λ es. slice_get es (reported_count acts os (actor a))) (sym (events_at streams k d rising within))
+            ∙ ap (λ es. slice_get es (reported_count acts os (actor a)))
+            (sym (events_at streams k d rising within))
             ∙ ap (λ q. slice_get (events_of streams q) (reported_count acts os (actor a))) (sym who)
-            ∙ ap (slice_get (events_of streams (actor a))) (sym count) ∙ next e is) (p.passing.fronts k d within);
+            ∙ ap (slice_get (events_of streams (actor a))) (sym count) ∙ next e is)
+            (p.passing.fronts k d within);
       };
       is_state = state_from-append (zero_state (pids_of streams)) os o;
       are_counts = ap (λ xs. counts_with xs i o.report) p.are_counts
           ∙ counts_more acts a os o even (pids_of streams) i rising at o.report refl;
       are_tags = are
-          ∙ ap (λ t. map t (pids_of streams)) (ap (λ k. tags_after (tags_of acts os) k a o.place) nth
+          ∙ ap (λ t. map t (pids_of streams))
+          (ap (λ k. tags_after (tags_of acts os) k a o.place) nth
           ∙ sym (tags_from-append (λ q. []) 0 acts a os o even));
       are_pairs = ap (λ xs. xs ++ pair_of (tags_of acts os) n a o) p.are_pairs
           ∙ ap (λ k. pairs acts os ++ pair_of (tags_of acts os) k a o) nth
@@ -209,13 +233,16 @@ differs_more top streams acts s counts tags ps a o i e rising at p h is other =
     let os = p.outcomes in
     let even = length-run top (zero_state (pids_of streams)) acts os p.passing.runs in
     let whole = run_more top streams acts s counts tags ps a o p h in
-    let count : get_or counts i 0 ≡ reported_count acts os (actor a) = ap (λ xs. get_or xs i 0) p.are_counts
+    let count : get_or counts i 0 ≡ reported_count acts os (actor a) =
+    ap (λ xs. get_or xs i 0) p.are_counts
     ∙ entry_at (reported_count acts os) (pids_of streams) i (actor a) 0 at in
     let d : Stream = record { pid = actor a; events = [] } in
-    let within : i < length streams = let below = slice_get_within (pids_of streams) i (actor a) at in let size =
+    let within : i < length streams = let below =
+    slice_get_within (pids_of streams) i (actor a) at in let size =
     length-map streams (λ (x : Stream). x.pid) in omega arith in
     let x = get_or streams i d in
-    let who : x.pid ≡ actor a = sym (get_or-map (λ (y : Stream). y.pid) streams i d (actor a) within)
+    let who : x.pid ≡ actor a =
+    sym (get_or-map (λ (y : Stream). y.pid) streams i d (actor a) within)
     ∙ get_or_from_slice_get (pids_of streams) i (actor a) (actor a) at in (
       ap (λ (outs : Option (List Outcome)). is_some outs) whole,
       λ passes.
@@ -229,5 +256,6 @@ differs_more top streams acts s counts tags ps a o i e rising at p h is other =
           (subst (λ es. IsPrefix es x.events) grows (passes.1.fronts i d within)) in
           other (ap (slice_get (events_of streams (actor a))) count
           ∙ ap (λ q. slice_get (events_of streams q) (reported_count acts os (actor a))) (sym who)
-          ∙ ap (λ es. slice_get es (reported_count acts os (actor a))) (events_at streams i d rising within) ∙ found),
+          ∙ ap (λ es. slice_get es (reported_count acts os (actor a)))
+          (events_at streams i d rising within) ∙ found),
     )

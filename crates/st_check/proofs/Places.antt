@@ -1,7 +1,7 @@
 -- Pids that rise are apart, so a list with an item for each that differs for one pid alone differs
 -- at its place alone.
-use Rattle.std.proofs.Common.{◌≡◌, ℕ, ◌<◌, zero, suc, false, cond, List, [], ◌∷◌, length, map, get_or, set, Some}
-use Rattle.std.proofs.Common.{None, option_map, refl, ◌∙◌, ap, subst, arith}
+use Rattle.std.proofs.Common.{◌≡◌, ℕ, ◌<◌, zero, suc, false, cond, List, [], ◌∷◌, length, map}
+use Rattle.std.proofs.Common.{get_or, set, Some, None, option_map, refl, ◌∙◌, ap, subst, arith}
 use Rattle.std.specs.List.{AllByRecursion, slice_get}
 use Rattle.std.proofs.lemmas.Option.{same_Some, none-some, get_or_from_slice_get, slice_get-map}
 use Rattle.st_core.specs.declared.types.Pid.{Pid}
@@ -11,14 +11,16 @@ use Rattle.st_core.specs.Streams.{stream_of, events_of}
 use Rattle.st_core.proofs.ForCallers.{pid_eq-same, IsBelow-apart, all_at, all_apart}
 
 -- two lists agree if no pid is p
-pub map_apart : {B : Type 0} (f g : Pid → B) (ps : List Pid) (p : Pid) → AllByRecursion (λ q. pid_eq q p ≡ false) ps
+pub map_apart : {B : Type 0} (f g : Pid → B) (ps : List Pid) (p : Pid)
+    → AllByRecursion (λ q. pid_eq q p ≡ false) ps
     → ((q : Pid) → pid_eq q p ≡ false → g q ≡ f q) → map g ps ≡ map f ps
 map_apart f g [] p apart same = refl
 map_apart f g (q ∷ ps) p apart same =
     ap (λ x. x ∷ map g ps) (same q apart.0) ∙ ap (λ xs. f q ∷ xs) (map_apart f g ps p apart.1 same)
 
 -- a list that differs for p alone is the list before, set at the place of p
-pub map_at : {B : Type 0} (f g : Pid → B) (ps : List Pid) (i : ℕ) (p : Pid) → IsRising ps → slice_get ps i ≡ Some p
+pub map_at : {B : Type 0} (f g : Pid → B) (ps : List Pid) (i : ℕ) (p : Pid) → IsRising ps
+    → slice_get ps i ≡ Some p
     → ((q : Pid) → pid_eq q p ≡ false → g q ≡ f q) → map g ps ≡ set (map f ps) i (g p)
 map_at f g [] i p rising at same = absurd (none-some p at)
 map_at f g (q ∷ ps) zero p rising at same =
@@ -31,25 +33,31 @@ map_at f g (q ∷ ps) (suc i) p rising at same =
     ap (λ x. x ∷ map g ps) (same q apart) ∙ ap (λ xs. f q ∷ xs) (map_at f g ps i p rising.1 at same)
 
 -- the entry of p
-pub entry_at : {B : Type 0} (f : Pid → B) (ps : List Pid) (i : ℕ) (p : Pid) (d : B) → slice_get ps i ≡ Some p
+pub entry_at : {B : Type 0} (f : Pid → B) (ps : List Pid) (i : ℕ) (p : Pid) (d : B)
+    → slice_get ps i ≡ Some p
     → get_or (map f ps) i d ≡ f p
-entry_at f ps i p d at = get_or_from_slice_get (map f ps) i (f p) d (slice_get-map f ps i ∙ ap (option_map f) at)
+entry_at f ps i p d at =
+    get_or_from_slice_get (map f ps) i (f p) d (slice_get-map f ps i ∙ ap (option_map f) at)
 
-above : (p : Pid) (streams : List Stream) (k : ℕ) (d : Stream) → AllByRecursion (IsBelow p) (pids_of streams)
+above : (p : Pid) (streams : List Stream) (k : ℕ) (d : Stream)
+    → AllByRecursion (IsBelow p) (pids_of streams)
     → k < length streams → IsBelow p (get_or streams k d).pid
 above p [] k d all within = absurd (omega arith)
 above p (x ∷ streams) zero d all within = all.0
 above p (x ∷ streams) (suc k) d all within = above p streams k d all.1 (omega arith)
 
 -- the stream of each pid that is among streams is its own
-pub events_at : (streams : List Stream) (k : ℕ) (d : Stream) → IsRising (pids_of streams) → k < length streams
+pub events_at : (streams : List Stream) (k : ℕ) (d : Stream) → IsRising (pids_of streams)
+    → k < length streams
     → events_of streams (get_or streams k d).pid ≡ (get_or streams k d).events
 events_at [] k d rising within = absurd (omega arith)
 events_at (x ∷ streams) zero d rising within =
-    ap (λ b. elim (cond b (Some x) (stream_of streams x.pid)) [ None ↦ [] | Some y ↦ y.events ]) (pid_eq-same x.pid)
+    ap (λ b. elim (cond b (Some x) (stream_of streams x.pid)) [ None ↦ [] | Some y ↦ y.events ])
+    (pid_eq-same x.pid)
 events_at (x ∷ streams) (suc k) d rising within =
     let y = get_or streams k d in
     let apart : pid_eq x.pid y.pid ≡ false =
     IsBelow-apart x.pid y.pid (above x.pid streams k d rising.0 (omega arith)) in
-    ap (λ b. elim (cond b (Some x) (stream_of streams y.pid)) [ None ↦ [] | Some z ↦ z.events ]) apart
+    ap (λ b. elim (cond b (Some x) (stream_of streams y.pid)) [ None ↦ [] | Some z ↦ z.events ])
+    apart
     ∙ events_at streams k d rising.1 (omega arith)

@@ -1,8 +1,9 @@
--- If all acts pass, the counts say which events are left, so they give the verdict; and what a yes shows holds in
--- every run.
-use Rattle.std.proofs.Common.{◌≡◌, ℕ, ◌+◌, ◌<◌, ◌≤◌, zero, suc, Bool, true, false, cond, nat_lt, List, [], ◌∷◌, ◌++◌}
-use Rattle.std.proofs.Common.{length, get_or, find, Option, Some, None, option_to_list, All, refl, sym, ◌∙◌, ap}
-use Rattle.std.proofs.Common.{subst, arith, append-nil, length-append, if◌then◌else◌}
+-- If all acts pass, the counts say which events are left, so they give the verdict; and what a yes
+-- shows holds in every run.
+use Rattle.std.proofs.Common.{◌≡◌, ℕ, ◌+◌, ◌<◌, ◌≤◌, zero, suc, Bool, true, false, cond, nat_lt}
+use Rattle.std.proofs.Common.{List, [], ◌∷◌, ◌++◌, length, get_or, find, Option, Some, None}
+use Rattle.std.proofs.Common.{option_to_list, All, refl, sym, ◌∙◌, ap, subst, arith, append-nil}
+use Rattle.std.proofs.Common.{length-append, if◌then◌else◌}
 use mathlib.Core.List.{IsPrefix}
 use Rattle.std.specs.List.{slice_get}
 use Rattle.std.proofs.lemmas.Bool.{lt-ltb, le-ltb}
@@ -38,10 +39,13 @@ found_first test (x ∷ xs) (suc k) d within here before =
 
 -- EVENTS LEFT
 
-module _ (top : ℕ) (streams : List Stream) (acts : List Act) (s : State) (counts : List ℕ) (tags : List (List ℕ))
-    (ps : List (ℕ × ℕ)) (rising : IsRising (pids_of streams)) (p : IsPassed top streams acts s counts tags ps) where
+module _ (top : ℕ) (streams : List Stream) (acts : List Act) (s : State) (counts : List ℕ)
+    (tags : List (List ℕ))
+    (ps : List (ℕ × ℕ)) (rising : IsRising (pids_of streams))
+    (p : IsPassed top streams acts s counts tags ps) where
   -- the pid, the count and the events at a place
-  pid_at : (k : ℕ) (d : Stream) → k < length streams → slice_get (pids_of streams) k ≡ Some (get_or streams k d).pid
+  pid_at : (k : ℕ) (d : Stream) → k < length streams
+      → slice_get (pids_of streams) k ≡ Some (get_or streams k d).pid
   pid_at k d within =
       let size = length-map streams (λ (x : Stream). x.pid) in
       slice_get-get_or (pids_of streams) k d.pid (omega arith)
@@ -51,15 +55,19 @@ module _ (top : ℕ) (streams : List Stream) (acts : List Act) (s : State) (coun
       → get_or counts k 0 ≡ length (stream acts p.outcomes (get_or streams k d).pid)
   count_at k d within =
       ap (λ xs. get_or xs k 0) p.are_counts
-      ∙ entry_at (reported_count acts p.outcomes) (pids_of streams) k (get_or streams k d).pid 0 (pid_at k d within)
+      ∙ entry_at (reported_count acts p.outcomes) (pids_of streams) k (get_or streams k d).pid 0
+      (pid_at k d within)
 
   -- no event is left of the process at a place
   none_at : (k : ℕ) (d : Stream) → k < length streams
-      → ((q : Pid) → slice_get (pids_of streams) k ≡ Some q → length (events_of streams q) ≤ get_or counts k 0)
-      → length (get_or streams k d).events ≤ length (stream acts p.outcomes (get_or streams k d).pid)
+      → ((q : Pid) → slice_get (pids_of streams) k ≡ Some q
+      → length (events_of streams q) ≤ get_or counts k 0)
+      → length (get_or streams k d).events
+      ≤ length (stream acts p.outcomes (get_or streams k d).pid)
   none_at k d within none =
       let x = get_or streams k d in
-      let low : length (events_of streams x.pid) ≤ get_or counts k 0 = none x.pid (pid_at k d within) in
+      let low : length (events_of streams x.pid) ≤ get_or counts k 0 =
+      none x.pid (pid_at k d within) in
       let events = ap length (events_at streams k d rising within) in
       let count = count_at k d within in
       omega arith
@@ -70,7 +78,8 @@ module _ (top : ℕ) (streams : List Stream) (acts : List Act) (s : State) (coun
       → length (events_of streams q) ≤ get_or counts j 0) → IsVerdict top streams acts (Left who)
   left_verdict k who at left before =
       let d : Stream = record { pid = who; events = [] } in
-      let within : k < length streams = let below = slice_get_within (pids_of streams) k who at in let size =
+      let within : k < length streams = let below = slice_get_within (pids_of streams) k who at in
+      let size =
       length-map streams (λ (x : Stream). x.pid) in omega arith in
       let x = get_or streams k d in
       let is : x.pid ≡ who = same_Some _ _ (sym (pid_at k d within) ∙ at) in
@@ -81,15 +90,18 @@ module _ (top : ℕ) (streams : List Stream) (acts : List Act) (s : State) (coun
       let count = count_at k d within in
       omega arith in
       let first : left_over streams acts p.outcomes ≡ Some x =
-      found_first (λ y. nat_lt (length (stream acts p.outcomes y.pid)) (length y.events)) streams k d within
+      found_first (λ y. nat_lt (length (stream acts p.outcomes y.pid)) (length y.events)) streams k
+      d within
       (lt-ltb _ _ more)
       (λ j below. le-ltb _ _ (none_at j d (omega arith) (λ q there. before j q below there))) in
       (p.outcomes, p.passing, x, first, is)
 
   whole_front : (xs ys : List Event) → IsPrefix xs ys → length ys ≤ length xs → xs ≡ ys
   whole_front xs ys front long =
-      let size : length xs + length front.0 ≡ length ys = sym (length-append xs front.0) ∙ ap length front.1 in
-      sym (append-nil xs) ∙ ap (λ zs. xs ++ zs) (sym (nil_from_length front.0 (omega arith))) ∙ front.1
+      let size : length xs + length front.0 ≡ length ys =
+      sym (length-append xs front.0) ∙ ap length front.1 in
+      sym (append-nil xs) ∙ ap (λ zs. xs ++ zs) (sym (nil_from_length front.0 (omega arith)))
+      ∙ front.1
 
   pub yes_verdict : ((j : ℕ) (q : Pid) → slice_get (pids_of streams) j ≡ Some q
       → length (events_of streams q) ≤ get_or counts j 0) → IsVerdict top streams acts (Yes ps)
@@ -104,23 +116,27 @@ module _ (top : ℕ) (streams : List Stream) (acts : List Act) (s : State) (coun
 
 -- WHAT A YES SHOWS
 
-pub verdict_follows : (top : ℕ) (streams : List Stream) (acts : List Act) (v : Verdict) → IsVerdict top streams acts v
+pub verdict_follows : (top : ℕ) (streams : List Stream) (acts : List Act) (v : Verdict)
+    → IsVerdict top streams acts v
     → FollowsAll top streams acts v
 verdict_follows top streams acts (Stuck n) v = tt
 verdict_follows top streams acts (Differs n) v = tt
 verdict_follows top streams acts (Left q) v = tt
 verdict_follows top streams acts (Yes ps) v = λ os runs.
     let same : v.0 ≡ os = same_Some _ _ (sym v.1 ∙ runs) in
-    subst (Follows acts os) (sym (v.3 ∙ ap (pairs acts) same)) (receives_follow top (pids_of streams) acts os runs)
+    subst (Follows acts os) (sym (v.3 ∙ ap (pairs acts) same))
+    (receives_follow top (pids_of streams) acts os runs)
 
-pub verdict_pairs : (top : ℕ) (streams : List Stream) (acts : List Act) (v : Verdict) → IsVerdict top streams acts v
+pub verdict_pairs : (top : ℕ) (streams : List Stream) (acts : List Act) (v : Verdict)
+    → IsVerdict top streams acts v
     → PairsAll top streams acts v
 verdict_pairs top streams acts (Stuck n) v = tt
 verdict_pairs top streams acts (Differs n) v = tt
 verdict_pairs top streams acts (Left q) v = tt
 verdict_pairs top streams acts (Yes ps) v = λ os runs.
     let same : v.0 ≡ os = same_Some _ _ (sym v.1 ∙ runs) in
-    subst (AllPaired os) (sym (v.3 ∙ ap (pairs acts) same)) (receives_are_paired top (pids_of streams) acts os runs)
+    subst (AllPaired os) (sym (v.3 ∙ ap (pairs acts) same))
+    (receives_are_paired top (pids_of streams) acts os runs)
 
 abbrev pub Rises : Event → Type 0
 Rises e = e.serial.prev < e.serial.this
@@ -132,7 +148,8 @@ one_rises None false rises = All-nil Rises
 one_rises (Some e) true rises = All-cons Rises e [] (rises e refl) (All-nil Rises)
 one_rises (Some e) false rises = All-nil Rises
 
-pub stream_rises : (top : ℕ) (acts : List Act) (os : List Outcome) (p : Pid) → All (KeepsSound top) os
+pub stream_rises : (top : ℕ) (acts : List Act) (os : List Outcome) (p : Pid)
+    → All (KeepsSound top) os
     → All Rises (stream acts os p)
 stream_rises top [] os p all = All-nil Rises
 stream_rises top (a ∷ acts) [] p all = All-nil Rises
@@ -141,11 +158,13 @@ stream_rises top (a ∷ acts) (o ∷ os) p all =
     (one_rises o.report (pid_eq (actor a) p) (All-head (KeepsSound top) o os all).report)
     (stream_rises top acts os p (All-tail (KeepsSound top) o os all))
 
-pub verdict_rises : (top : ℕ) (streams : List Stream) (acts : List Act) (v : Verdict) → IsVerdict top streams acts v
+pub verdict_rises : (top : ℕ) (streams : List Stream) (acts : List Act) (v : Verdict)
+    → IsVerdict top streams acts v
     → RisesOnYes streams v
 verdict_rises top streams acts (Stuck n) v = tt
 verdict_rises top streams acts (Differs n) v = tt
 verdict_rises top streams acts (Left q) v = tt
 verdict_rises top streams acts (Yes ps) v =
     λ k d within. subst (All Rises) (v.2 k d within)
-    (stream_rises top acts v.0 (get_or streams k d).pid (run_sound top (pids_of streams) acts v.0 v.1))
+    (stream_rises top acts v.0 (get_or streams k d).pid
+    (run_sound top (pids_of streams) acts v.0 v.1))

@@ -58,10 +58,11 @@ pub record RunsWith (top : ℕ) (pids : List Pid) (acts : List Act) (streams : L
   pub are_replies : replies ≡ map (λ o. o.reply) outcomes
 
 -- the acts have a run over these pids, and these are its streams
-pub record RunReports (top : ℕ) (pids : List Pid) (acts : List Act) (streams : List Stream) : Type 0 where
-  pub outcomes : List Outcome
-  pub runs : run top pids acts ≡ Some outcomes
-  pub are_streams : streams ≡ reported_streams pids acts outcomes
+pub record RunReports (top : ℕ) (pids : List Pid) (acts : List Act) (streams : List Stream) : Type 0
+  where
+    pub outcomes : List Outcome
+    pub runs : run top pids acts ≡ Some outcomes
+    pub are_streams : streams ≡ reported_streams pids acts outcomes
 
 -- act n is the first that has no step
 pub record SticksAt (top : ℕ) (pids : List Pid) (acts : List Act) (n : ℕ) : Type 0 where

@@ -27,7 +27,8 @@ pub record IsReplayedTo (top : ℕ) (pids : List Pid) (acts : List Act) (keeps :
   pub are_replies : replies ≡ kept_replies keeps outcomes
 
 -- the acts have a run, and these are its streams, and its replies if they are kept
-pub record IsRun (keeps : Bool) (top : ℕ) (pids : List Pid) (acts : List Act) (streams : List Stream)
+pub record IsRun (keeps : Bool) (top : ℕ) (pids : List Pid) (acts : List Act)
+    (streams : List Stream)
     (replies : List Reply) : Type 0 where
   pub outcomes : List Outcome
   pub runs : run top pids acts ≡ Some outcomes

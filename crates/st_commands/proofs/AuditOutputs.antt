@@ -1,5 +1,5 @@
--- Bytes have one output of the audit at most: they are the text of one bundle, or have one fault, and
--- streams have one finding. It is a certificate if no reason holds of the streams.
+-- Bytes have one output of the audit at most: they are the text of one bundle, or have one fault,
+-- and streams have one finding. It is a certificate if no reason holds of the streams.
 use Rattle.std.proofs.Common.{◌≡◌, ◌⊎◌, ℕ, List, Option, refl, sym, ap, subst, ◌∙◌}
 use Rattle.st_core.specs.declared.types.Act.{Act}
 use Rattle.st_core.specs.Run.{Stream}
@@ -13,7 +13,8 @@ use Rattle.st_audit.specs.Findings.{HasCertificate}
 use Rattle.st_text.specs.declared.limits.Limits.{Limits}
 use Rattle.st_commands.specs.Output.{Output, refused}
 use Rattle.st_commands.specs.Checked.{top, Spells}
-use Rattle.st_commands.specs.Audited.{Faulty, Found, HasFinding, IsAudited, finding_status, report_output}
+use Rattle.st_commands.specs.Audited.{Faulty, Found, HasFinding, IsAudited, finding_status}
+use Rattle.st_commands.specs.Audited.{report_output}
 use Rattle.st_commands.specs.Laws.{CertainTracesFit, HasOneOutput}
 use Rattle.st_commands.proofs.ChartOutputs.{same_streams}
 use Rattle.st_commands.proofs.Outputs.{fault_apart, one_fault}

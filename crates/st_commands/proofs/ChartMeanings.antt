@@ -22,7 +22,8 @@ use Rattle.st_commands.specs.Checked.{top, Spells}
 use Rattle.st_commands.specs.Audited.{finding_status, report_output}
 use Rattle.st_commands.specs.Charted.{IsCharted}
 use Rattle.st_commands.specs.Charted as charted
-use Rattle.st_commands.specs.Meaning.{MeansCharted, MeansNoChart, MeansUnpaired, Unlabelled, Unpaired}
+use Rattle.st_commands.specs.Meaning.{MeansCharted, MeansNoChart, MeansUnpaired, Unlabelled}
+use Rattle.st_commands.specs.Meaning.{Unpaired}
 use Rattle.st_commands.proofs.Meanings.{fault_status_high}
 
 -- ---- a reason of pairing

@@ -1,6 +1,7 @@
 -- The parts of a command together do what the command owes: the bytes that were read go
 -- with each answer.
-use Rattle.std.proofs.Common.{◌≡◌, ◌≢◌, ℕ, ◌<◌, ◌≤◌, false, List, length, refl, sym, subst, ◌∙◌, inl, inr, arith}
+use Rattle.std.proofs.Common.{◌≡◌, ◌≢◌, ℕ, ◌<◌, ◌≤◌, false, List, length, refl, sym, subst, ◌∙◌}
+use Rattle.std.proofs.Common.{inl, inr, arith}
 use Rattle.std.proofs.lemmas.Option.{same_Some}
 use Rattle.std.specs.Prelude.{Option, Some, None, Result, Ok, Err, MatchResult}
 use Rattle.st_core.specs.declared.types.Act.{Act}
@@ -29,9 +30,10 @@ use Rattle.st_commands.specs.Audited.{IsAudited, report_output}
 use Rattle.st_commands.specs.Audited as audits
 use Rattle.st_commands.specs.Charted.{IsCharted, drawn, no_label}
 use Rattle.st_commands.specs.Charted as charts
-use Rattle.st_commands.specs.Command.{ReaderCall, WriterCall, ReadsAll, Owes, OfBytes, ForMemory, ForReader, Delivers}
-use Rattle.st_commands.specs.Command.{Whole, Part, Tells, OwesBy}
-use Rattle.st_commands.specs.Parts.{ChecksTo, AuditsTo, DrawsTo, ChartsTo, ReplaysTo, OfBundle, OfSome, OfNone}
+use Rattle.st_commands.specs.Command.{ReaderCall, WriterCall, ReadsAll, Owes, OfBytes, ForMemory}
+use Rattle.st_commands.specs.Command.{ForReader, Delivers, Whole, Part, Tells, OwesBy}
+use Rattle.st_commands.specs.Parts.{ChecksTo, AuditsTo, DrawsTo, ChartsTo, ReplaysTo, OfBundle}
+use Rattle.st_commands.specs.Parts.{OfSome, OfNone}
 use Rattle.st_commands.specs.Parts as parts
 use Rattle.st_commands.specs.declared.words.Task.{Task}
 use Rattle.st_commands.specs.declared.words.Task.TheVariants as task
@@ -275,7 +277,8 @@ performs if_yes if_no told = record {
 -- ---- all commands
 
 -- what a command comes to is that the output that it owes was delivered, and what that means
-pub performs_tells : (limits : Limits) {R W : Type 0} (reader : ReaderCall R) (writer : WriterCall W) (t : Task)
+pub performs_tells : (limits : Limits) {R W : Type 0} (reader : ReaderCall R)
+    (writer : WriterCall W) (t : Task)
     (status : ℕ)
     → PerformsBy limits reader writer t status → Tells writer (OwesBy limits reader t) status
 performs_tells limits reader writer task.Check status done = done.told
@@ -285,8 +288,10 @@ performs_tells limits reader writer task.Drive status done = done.told
 performs_tells limits reader writer (task.Chart label) status done = done.told
 
 -- and it is what the command comes to that was asked for, since one task was
-pub performs_asked : (limits : Limits) {R W : Type 0} (reader : ReaderCall R) (writer : WriterCall W)
+pub performs_asked : (limits : Limits) {R W : Type 0} (reader : ReaderCall R)
+    (writer : WriterCall W)
     (asked : Option Task) (t u : Task) (status : ℕ) → asked ≡ Some t → asked ≡ Some u
     → PerformsBy limits reader writer t status → PerformsBy limits reader writer u status
 performs_asked limits reader writer asked t u status one other done =
-    subst (λ (x : Task). PerformsBy limits reader writer x status) (same_Some t u (sym one ∙ other)) done
+    subst (λ (x : Task). PerformsBy limits reader writer x status) (same_Some t u (sym one ∙ other))
+    done

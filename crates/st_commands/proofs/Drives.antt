@@ -7,7 +7,8 @@ use Rattle.std.specs.Prelude.{All, zip, count_by}
 use Rattle.std.specs.List.{list_all}
 use Rattle.std.proofs.lemmas.List.{length-map}
 use Rattle.std.proofs.lemmas.List.Elements.{All-nil, All-cons, All-filter, filter_passes}
-use Rattle.std.proofs.lemmas.List.Sums.{AllPass-from_list_all, sum_by-cons, length-filter, count_by-le-length}
+use Rattle.std.proofs.lemmas.List.Sums.{AllPass-from_list_all, sum_by-cons, length-filter}
+use Rattle.std.proofs.lemmas.List.Sums.{count_by-le-length}
 use Rattle.st_core.specs.declared.types.Pid.{Pid}
 use Rattle.st_core.specs.declared.types.Act.{Act}
 use Rattle.st_core.specs.Pid.{pid_eq}
@@ -26,7 +27,8 @@ use Rattle.st_text.specs.Text.{Contents, is_listed}
 use Rattle.st_commands.specs.Output.{Output}
 use Rattle.st_commands.specs.Checked.{top, Spells}
 use Rattle.st_commands.specs.Command.{ReaderCall, Owes, OfBytes, ForMemory}
-use Rattle.st_commands.specs.Parts.{DrivesTo, Records, Refuses, NoRoomToDrive, OfBundle, drive_refused}
+use Rattle.st_commands.specs.Parts.{DrivesTo, Records, Refuses, NoRoomToDrive, OfBundle}
+use Rattle.st_commands.specs.Parts.{drive_refused}
 use Rattle.st_commands.specs.Meaning.{MeansDriven, MeansStray}
 use Rattle.st_commands.specs.Laws.{DrivenMeans, RecordedIsYes}
 use Rattle.st_commands.specs.Recorded.{ranks, scripts_of, HasRecord, IsRecorded, record_output}

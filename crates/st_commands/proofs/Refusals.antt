@@ -6,7 +6,8 @@ use Rattle.st_commands.specs.declared.words.Refusal.{Refusal}
 use Rattle.st_commands.specs.declared.words.Refusal.TheVariants as refusals
 use Rattle.st_commands.specs.Words.{IsRefusal}
 use Rattle.st_text.specs.declared.limits.Limits.{Limits}
-use Rattle.st_commands.specs.Command.{OwesFor, ForUsage, ForNoMemory, WriterCall, Delivers, Whole, Part, call}
+use Rattle.st_commands.specs.Command.{OwesFor, ForUsage, ForNoMemory, WriterCall, Delivers, Whole}
+use Rattle.st_commands.specs.Command.{Part, call}
 use Rattle.st_commands.specs.Output.{refusal_output}
 
 pub owes_refusal : {R : Type 0} (limits : Limits) (device : SourceOf R) (reader : R)

@@ -1,6 +1,7 @@
 -- An act is in its own process's script and in no other, so one more act makes that script longer
 -- by it.
-use Rattle.std.proofs.Common.{◌≡◌, zero, suc, Bool, true, false, List, [], ◌∷◌, ◌++◌, cond, refl, sym, ap, ◌∙◌, ℕ, ◌+◌}
+use Rattle.std.proofs.Common.{◌≡◌, zero, suc, Bool, true, false, List, [], ◌∷◌, ◌++◌, cond, refl}
+use Rattle.std.proofs.Common.{sym, ap, ◌∙◌, ℕ, ◌+◌}
 use Rattle.std.proofs.Common.{◌<◌, get_or, set, slice_get, take, length, Some, subst, arith}
 use Rattle.std.specs.List.{AllByRecursion}
 use Rattle.std.specs.Prelude.{replicate}
@@ -11,7 +12,8 @@ use Rattle.st_core.specs.declared.types.Pid.{Pid}
 use Rattle.st_core.specs.declared.types.Act.{Act}
 use Rattle.st_core.specs.Pid.{pid_eq, IsRising}
 use Rattle.st_core.specs.Step.{actor}
-use Rattle.st_core.proofs.ForCallers.{pid_eq-same, pid_eq-swap, above_apart, place_within, all_apart}
+use Rattle.st_core.proofs.ForCallers.{pid_eq-same, pid_eq-swap, above_apart, place_within}
+use Rattle.st_core.proofs.ForCallers.{all_apart}
 use Rattle.st_runtime.specs.Driven.{acts_by}
 use Rattle.st_commands.specs.Recorded.{scripts_of}
 

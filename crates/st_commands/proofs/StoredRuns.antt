@@ -1,7 +1,8 @@
 -- Two stored runs are yeses by the definitions alone: each value that the definitions ask for is
 -- computed here. Nothing cites this file; it shows that what `check` is proved to owe of these
 -- bytes is what a reader expects.
-use Rattle.std.proofs.Common.{◌≡◌, ℕ, Bool, true, false, List, [], ◌∷◌, ◌++◌, length, Option, Some, None, refl, arith}
+use Rattle.std.proofs.Common.{◌≡◌, ℕ, Bool, true, false, List, [], ◌∷◌, ◌++◌, length, Option, Some}
+use Rattle.std.proofs.Common.{None, refl, arith}
 use Rattle.std.specs.Prelude.{codes}
 use Rattle.std.specs.Fmt.{digits}
 use Rattle.std.specs.Option.{option_map_or}
@@ -64,7 +65,8 @@ outcomes_of o = option_map_or (λ os. os) o []
 abbrev print_bytes : List ℕ
 print_bytes =
     codes "seqtrace 1\nprocess <0.30.0>\n{seq_trace,17,{print,{0,1},<0.30.0>,[],7}}\nacts\n"
-    ++ codes "tracer <0.30.0> true\nset <0.30.0> label 17\nset <0.30.0> print true\nprint <0.30.0> 7\n"
+    ++ codes
+    "tracer <0.30.0> true\nset <0.30.0> label 17\nset <0.30.0> print true\nprint <0.30.0> 7\n"
 
 abbrev print_stream : Stream
 print_stream = record { pid = a; events = event_of kind.Print 0 1 a None 7 ∷ [] }
@@ -151,7 +153,8 @@ hidden_bytes =
     ++ codes "{seq_trace,17,{print,{2,3},<0.31.0>,[],8}}\nacts\ntracer <0.30.0> true\n"
     ++ codes "restore <0.30.0> 17 false false true 0 0 <0.30.0>\nprint <0.30.0> 7\n"
     ++ codes "restore <0.30.0> 17 false true false 0 0 <0.30.0>\nsend <0.30.0> <0.31.0> 5\n"
-    ++ codes "receive <0.31.0> place 0\nrestore <0.31.0> 17 false false true 0 0 <0.31.0>\nprint <0.31.0> 8\n"
+    ++ codes
+    "receive <0.31.0> place 0\nrestore <0.31.0> 17 false false true 0 0 <0.31.0>\nprint <0.31.0> 8\n"
     ++ codes "restore <0.31.0> 17 false true false 0 0 <0.31.0>\nsend <0.31.0> <0.30.0> 6\n"
     ++ codes "receive <0.30.0> place 0\n"
 

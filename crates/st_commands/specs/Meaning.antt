@@ -1,7 +1,8 @@
 -- The meaning of a yes and a no of each command, each as one record of plain facts, in the words of
 -- the machine. The limits are those of the reader: how many bytes, processes, events and acts a
 -- text may have.
-use Rattle.std.specs.Prelude.{◌≡◌, ℕ, true, false, List, ◌++◌, Option, Some, None, IsSome, All, codes, filter}
+use Rattle.std.specs.Prelude.{◌≡◌, ℕ, true, false, List, ◌++◌, Option, Some, None, IsSome, All}
+use Rattle.std.specs.Prelude.{codes, filter}
 use Rattle.std.specs.List.{flat_map, list_any}
 use Rattle.std.specs.Option.{ForSome}
 use Rattle.st_core.specs.declared.types.Pid.{Pid}

@@ -30,7 +30,8 @@ use Rattle.st_commands.specs.Checked.{top}
 use Rattle.st_commands.specs.Replayed.{replayed, stuck}
 use Rattle.st_commands.specs.Audited.{report_output}
 use Rattle.st_commands.specs.Charted.{drawn, no_label}
-use Rattle.st_commands.specs.Recorded.{ranks, scripts_of, record_output, act_fault, thread_fault, join_fault}
+use Rattle.st_commands.specs.Recorded.{ranks, scripts_of, record_output, act_fault, thread_fault}
+use Rattle.st_commands.specs.Recorded.{join_fault}
 
 -- the verdict of streams and acts
 pub data ChecksTo (streams : List Stream) (acts : List Act) : Output → Type 0 where

@@ -5,7 +5,8 @@ ghost use Rattle.std.specs.Prelude.{◌≡◌, ◌≢◌, true, false};
 
 use std::io::{self, Error, ErrorKind, Write};
 
-/// The status that a shell gives a program which the signal SIGPIPE ended: 128 and the signal's number.
+/// The status that a shell gives a program which the signal SIGPIPE ended: 128 and the signal's
+/// number.
 const READER_GONE: u8 = 141;
 
 /// A writer that notices if its reader is gone. The program then ends as others in a pipeline do,

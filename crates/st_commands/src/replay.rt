@@ -51,8 +51,9 @@ fn replay_bundle<W: ByteSink>(alloc: Global, bundle: &Bundle, writer: &mut W) ->
 }
 
 /// Reads a bundle within these limits and writes the bundle of what its acts report, with status 0.
-/// An act without a step would be status 1, but there is none, since limits let fewer acts pass than
-/// a clock has counts. Faulty input is 2; if memory runs out, or a reader or a writer fails, it is
+/// An act without a step would be status 1, but there is none, since limits let fewer acts pass
+/// than a clock has counts. Faulty input is 2; if memory runs out, or a reader or a writer fails,
+/// it is
 /// 4.
 pub fn run_replay_within<R: ByteSource, W: ByteSink>(
     alloc: Global,

@@ -18,32 +18,38 @@ use Rattle.st_core.specs.State.{Process, State, process, zero_state}
 use Rattle.st_core.specs.Pick.{pick}
 use Rattle.st_core.specs.Step.{Acted, Outcome, acted, actor, changed, receiver, receives, step}
 use Rattle.st_core.specs.Run.{run, run_from}
-use Rattle.st_core.specs.Laws.{AreAllApart, AreApart, clock_in, HasQueuesApart, HasStampsOnce, is_reset}
-use Rattle.st_core.specs.Laws.{IsStampedBefore, NoReset}
-use Rattle.st_core.proofs.Others.{actor_is, mapped, process_after, process_pid, run_parts, step_parts, Stepped}
+use Rattle.st_core.specs.Laws.{AreAllApart, AreApart, clock_in, HasQueuesApart, HasStampsOnce}
+use Rattle.st_core.specs.Laws.{is_reset, IsStampedBefore, NoReset}
+use Rattle.st_core.proofs.Others.{actor_is, mapped, process_after, process_pid, run_parts}
+use Rattle.st_core.proofs.Others.{step_parts, Stepped}
 use Rattle.st_core.proofs.Pids.{pid_eq-true}
 use Rattle.st_core.proofs.Queues.{changed_queue, IsReceive, own_queue, queue_after}
-use Rattle.st_core.proofs.Once.{all_push, all_remove, all_weaker, lifted, step_once, zero_once, zero_queue}
+use Rattle.st_core.proofs.Once.{all_push, all_remove, all_weaker, lifted, step_once, zero_once}
+use Rattle.st_core.proofs.Once.{zero_queue}
 
 -- a message that the act puts into p's queue: its stamp is above the clock of its process
 record IsNew (s : State) (a : Act) (p : Pid) (n : Message) : Type 0 where
   to : receiver a ≡ p
   above : (t : Token) → n.token ≡ Some t → clock_in s t.from < t.serial.this
 
-all_with : {X : Type 0} (P Q R : X → Type 0) → ((x : X) → P x → Q x → R x) → (xs : List X) → AllByRecursion P xs
+all_with : {X : Type 0} (P Q R : X → Type 0) → ((x : X) → P x → Q x → R x) → (xs : List X)
+    → AllByRecursion P xs
     → AllByRecursion Q xs → AllByRecursion R xs
 all_with P Q R to [] ps qs = tt
 all_with P Q R to (x ∷ xs) ps qs = (to x ps.0 qs.0, all_with P Q R to xs ps.1 qs.1)
 
 -- WHAT A STEP LEAVES OF A QUEUE
 
-all_received : (P : Message → Type 0) (r : Process) (found : Option (ℕ × Message)) → AllByRecursion P r.queue
+all_received : (P : Message → Type 0) (r : Process) (found : Option (ℕ × Message))
+    → AllByRecursion P r.queue
     → AllByRecursion P (receives r found).queue
 all_received P r None all = all
 all_received P r (Some found) all = all_remove P r.queue found.0 all
 
--- what holds of all messages of a queue before a step, and of the one that comes, holds of all after it
-module _ (top : ℕ) (s : State) (P : Message → Type 0) (p : Pid) (r : Process) (is_r : process s p ≡ Some r)
+-- what holds of all messages of a queue before a step, and of the one that comes, holds of all
+-- after it
+module _ (top : ℕ) (s : State) (P : Message → Type 0) (p : Pid) (r : Process)
+    (is_r : process s p ≡ Some r)
     (all : AllByRecursion P r.queue) where
   module _ (a : Act) (o : Outcome) (t : Stepped top s a o) where
     abbrev own : List Message
@@ -63,7 +69,8 @@ module _ (top : ℕ) (s : State) (P : Message → Type 0) (p : Pid) (r : Process
               same_Some _ t.done (ap (λ x. acted top r x) (sym is_a)
               ∙ ap (λ (x : Process). acted top x a) (sym who)
               ∙ t.is_done) in
-              subst (λ (d : Acted). AllByRecursion P d.queue) part (all_received P r (pick w r.queue) all)
+              subst (λ (d : Acted). AllByRecursion P d.queue) part
+              (all_received P r (pick w r.queue) all)
         ] refl
 
   module _ (q q' : Pid) (v : ℕ) (o : Outcome) (h : step top s (act.Send q q' v) ≡ Some o)
@@ -92,9 +99,11 @@ module _ (top : ℕ) (s : State) (P : Message → Type 0) (p : Pid) (r : Process
               all_push P r.queue message all (new message (is_new to))
         ] refl
 
-  left : (a : Act) (o : Outcome) (h : step top s a ≡ Some o) → is_reset a ≡ false → (t : Stepped top s a o)
+  left : (a : Act) (o : Outcome) (h : step top s a ≡ Some o) → is_reset a ≡ false
+      → (t : Stepped top s a o)
       → ((n : Message) → IsNew s a p n → P n)
-      → AllByRecursion P (queue_after a t.done.local.token r.pid (cond (pid_eq r.pid (actor a)) t.done.queue r.queue))
+      → AllByRecursion P (queue_after a t.done.local.token r.pid
+      (cond (pid_eq r.pid (actor a)) t.done.queue r.queue))
   left (act.Reset x) o h plain t new = absurd (false≢true (sym plain))
   left (act.Send x q v) o h plain t new =
       subst (λ ms. AllByRecursion P (queue_after (act.Send x q v) t.done.local.token r.pid ms))
@@ -108,18 +117,21 @@ module _ (top : ℕ) (s : State) (P : Message → Type 0) (p : Pid) (r : Process
   left (act.Restore x y) o h plain t new = quiet (act.Restore x y) o t (λ no. no)
   left (act.Look x) o h plain t new = quiet (act.Look x) o t (λ no. no)
 
-module _ (top : ℕ) (s : State) (a : Act) (o : Outcome) (h : step top s a ≡ Some o) (plain : is_reset a ≡ false) where
+module _ (top : ℕ) (s : State) (a : Act) (o : Outcome) (h : step top s a ≡ Some o)
+    (plain : is_reset a ≡ false) where
   -- a process before the step that it is after it
   record WasBefore (p : Pid) (x : Process) : Type 1 where
     old : Process
     is_old : process s p ≡ Some old
-    left_all : (P : Message → Type 0) → AllByRecursion P old.queue → ((n : Message) → IsNew s a p n → P n)
+    left_all : (P : Message → Type 0) → AllByRecursion P old.queue
+        → ((n : Message) → IsNew s a p n → P n)
         → AllByRecursion P x.queue
 
   was_before : (p : Pid) (x : Process) → process o.after p ≡ Some x → WasBefore p x
   was_before p x is_x =
       let t = step_parts top s a o h in
-      let from = mapped (changed a t.done) (process s p) x (sym (process_after top s a o t p) ∙ is_x) in
+      let from = mapped (changed a t.done) (process s p) x
+      (sym (process_after top s a o t p) ∙ is_x) in
       let queue = ap (λ (y : Process). y.queue) (sym from.2) ∙ changed_queue a t.done from.0 in
       record {
         old = from.0;
@@ -137,9 +149,11 @@ module _ (top : ℕ) (s : State) (a : Act) (o : Outcome) (h : step top s a ≡ S
       omega (arith, same)
 
   new_old : (p : Pid) (m n : Message) → IsStampedBefore s m → IsNew s a p n → AreApart n m
-  new_old p m n low new t u has_t has_u from same = old_new p m n low new u t has_u has_t (sym from) (sym same)
+  new_old p m n low new t u has_t has_u from same =
+      old_new p m n low new u t has_u has_t (sym from) (sym same)
 
-  module _ (once : HasStampsOnce s) (apart : HasQueuesApart s) (p q : Pid) (x y : Process) (others : p ≢ q)
+  module _ (once : HasStampsOnce s) (apart : HasQueuesApart s) (p q : Pid) (x y : Process)
+      (others : p ≢ q)
       (is_x : process o.after p ≡ Some x) (is_y : process o.after q ≡ Some y) where
     abbrev mine : WasBefore p x
     mine = was_before p x is_x
@@ -156,7 +170,8 @@ module _ (top : ℕ) (s : State) (a : Act) (o : Outcome) (h : step top s a ≡ S
     from_new : (n : Message) → IsNew s a p n → AllByRecursion (AreApart n) y.queue
     from_new n new =
         other.left_all (AreApart n)
-        (all_weaker (IsStampedBefore s) (AreApart n) (λ m low. new_old p m n low new) other.old.queue
+        (all_weaker (IsStampedBefore s) (AreApart n) (λ m low. new_old p m n low new)
+        other.old.queue
         (once.before q other.old other.is_old))
         (λ m too. absurd (others (sym new.to ∙ too.to)))
 
@@ -164,7 +179,8 @@ module _ (top : ℕ) (s : State) (a : Act) (o : Outcome) (h : step top s a ≡ S
     step_apart =
         mine.left_all (λ m. AllByRecursion (AreApart m) y.queue)
         (all_with (IsStampedBefore s) (λ m. AllByRecursion (AreApart m) other.old.queue)
-        (λ m. AllByRecursion (AreApart m) y.queue) from_old mine.old.queue (once.before p mine.old mine.is_old)
+        (λ m. AllByRecursion (AreApart m) y.queue) from_old mine.old.queue
+        (once.before p mine.old mine.is_old)
         (apart p q mine.old other.old others mine.is_old other.is_old))
         from_new
 
@@ -174,21 +190,25 @@ zero_apart : (pids : List Pid) → HasQueuesApart (zero_state pids)
 zero_apart pids p q x y others is_x is_y =
     subst (λ ms. AreAllApart ms y.queue) (sym (zero_queue pids p x is_x)) tt
 
-apart_from : (top : ℕ) (s : State) (acts : List Act) (os : List Outcome) → run_from top s acts ≡ Some os
-    → NoReset acts → HasStampsOnce s → HasQueuesApart s → All (λ (o : Outcome). HasQueuesApart o.after) os
+apart_from : (top : ℕ) (s : State) (acts : List Act) (os : List Outcome)
+    → run_from top s acts ≡ Some os
+    → NoReset acts → HasStampsOnce s → HasQueuesApart s
+    → All (λ (o : Outcome). HasQueuesApart o.after) os
 apart_from top s [] os h none once apart =
     subst (All (λ (o : Outcome). HasQueuesApart o.after)) (same_Some [] os h) (All-nil _)
 apart_from top s (a ∷ acts) os h none once apart =
     let t = run_parts top s a acts os h in
     let next : HasQueuesApart t.first.after =
-    λ p q x y others is_x is_y. step_apart top s a t.first t.is_first none.0 once apart p q x y others is_x is_y in
+    λ p q x y others is_x is_y. step_apart top s a t.first t.is_first none.0 once apart p q x y
+    others is_x is_y in
     subst (All (λ (o : Outcome). HasQueuesApart o.after)) (sym t.is_whole)
     (All-cons (λ (o : Outcome). HasQueuesApart o.after) t.first t.others next
     (apart_from top t.first.after acts t.others t.is_rest none.1
     (step_once top s a t.first t.is_first none.0 once) next))
 
 -- in every run without a reset
-pub run_apart : (top : ℕ) (pids : List Pid) (acts : List Act) (os : List Outcome) → run top pids acts ≡ Some os
+pub run_apart : (top : ℕ) (pids : List Pid) (acts : List Act) (os : List Outcome)
+    → run top pids acts ≡ Some os
     → NoReset acts → All (λ (o : Outcome). HasQueuesApart o.after) os
 run_apart top pids acts os h none =
     apart_from top (zero_state pids) acts os h none (zero_once pids) (zero_apart pids)

@@ -1,8 +1,10 @@
--- Two lists of one length, the pids and the events of each, say the same as one list of streams: a place in the one
--- is a place in the other, so what is found, added or missing among the pids is so among the streams.
-use Rattle.std.proofs.Common.{◌≡◌, ℕ, ◌+◌, ◌<◌, zero, suc, Bool, true, false, not, ◌&&◌, ◌||◌, position, cond}
-use Rattle.std.proofs.Common.{if◌then◌else◌, List, [], ◌∷◌, ◌++◌, length, get_or, set, drop, Option, Some, None}
-use Rattle.std.proofs.Common.{is_some, slice_get, refl, sym, ◌∙◌, ap, subst, arith, length-append}
+-- Two lists of one length, the pids and the events of each, say the same as one list of streams: a
+-- place in the one is a place in the other, so what is found, added or missing among the pids is so
+-- among the streams.
+use Rattle.std.proofs.Common.{◌≡◌, ℕ, ◌+◌, ◌<◌, zero, suc, Bool, true, false, not, ◌&&◌, ◌||◌}
+use Rattle.std.proofs.Common.{position, cond, if◌then◌else◌, List, [], ◌∷◌, ◌++◌, length, get_or}
+use Rattle.std.proofs.Common.{set, drop, Option, Some, None, is_some, slice_get, refl, sym, ◌∙◌, ap}
+use Rattle.std.proofs.Common.{subst, arith, length-append}
 use Rattle.std.proofs.Math.ListN.{length-set}
 use Rattle.std.proofs.lemmas.List.Sums.{sum_by-cons, sum_by-append}
 use Rattle.std.specs.List.{AllByRecursion, position_or_len}
@@ -14,10 +16,12 @@ use Rattle.st_core.specs.declared.types.Pid.{Pid}
 use Rattle.st_core.specs.declared.types.Event.{Event}
 use Rattle.st_core.specs.Pid.{pid_eq, IsBelow, IsRising}
 use Rattle.st_core.specs.Run.{Stream, pids_of}
-use Rattle.st_core.specs.Streams.{stream_of, lists, events_of, total_of, is_own, AreOwn, IsDraft, ComesLast, with_event}
-use Rattle.st_core.specs.Streams.{is_among, names_among, added, names_listed, unlisted_among, unlisted}
+use Rattle.st_core.specs.Streams.{stream_of, lists, events_of, total_of, is_own, AreOwn, IsDraft}
+use Rattle.st_core.specs.Streams.{ComesLast, with_event, is_among, names_among, added, names_listed}
+use Rattle.st_core.specs.Streams.{unlisted_among, unlisted}
 use Rattle.st_core.specs.Collected.{collected, IsCollected, first_failing}
-use Rattle.st_core.proofs.Pids.{pid_eq-true, pid_eq-same, pid_eq-swap, IsBelow-apart, all_at, all_push, IsRising-push}
+use Rattle.st_core.proofs.Pids.{pid_eq-true, pid_eq-same, pid_eq-swap, IsBelow-apart, all_at}
+use Rattle.st_core.proofs.Pids.{all_push, IsRising-push}
 use Rattle.st_core.proofs.Bools.{or_true}
 
 pub pids_of-collected : (ps : List Pid) (es : List (List Event)) → length es ≡ length ps
@@ -26,7 +30,8 @@ pids_of-collected [] es even = refl
 pids_of-collected (p ∷ ps) [] even = absurd (omega arith)
 pids_of-collected (p ∷ ps) (e ∷ es) even = ap (λ qs. p ∷ qs) (pids_of-collected ps es (omega arith))
 
-pub ComesLast-collected : (ps : List Pid) (es : List (List Event)) (p : Pid) → AllByRecursion (λ q. IsBelow q p) ps
+pub ComesLast-collected : (ps : List Pid) (es : List (List Event)) (p : Pid)
+    → AllByRecursion (λ q. IsBelow q p) ps
     → ComesLast (collected ps es) p
 ComesLast-collected [] es p all = tt
 ComesLast-collected (q ∷ ps) [] p all = tt
@@ -40,52 +45,70 @@ ComesLast-pids (q ∷ ps) (e ∷ es) p even all = (all.0, ComesLast-pids ps es p
 
 -- A PROCESS THAT IS OPENED
 
-pub collected-push : (ps : List Pid) (es : List (List Event)) (p : Pid) (e : List Event) → length es ≡ length ps
-    → collected (ps ++ p ∷ []) (es ++ e ∷ []) ≡ collected ps es ++ record { pid = p; events = e } ∷ []
+pub collected-push : (ps : List Pid) (es : List (List Event)) (p : Pid) (e : List Event)
+    → length es ≡ length ps
+    → collected (ps ++ p ∷ []) (es ++ e ∷ []) ≡ collected ps es ++ record { pid = p; events = e }
+    ∷ []
 collected-push [] [] p e even = refl
 collected-push [] (f ∷ es) p e even = absurd (omega arith)
 collected-push (q ∷ ps) [] p e even = absurd (omega arith)
 collected-push (q ∷ ps) (f ∷ es) p e even =
-    ap (λ (xs : List Stream). record { pid = q; events = f } ∷ xs) (collected-push ps es p e (omega arith))
+    ap (λ (xs : List Stream). record { pid = q; events = f } ∷ xs)
+    (collected-push ps es p e (omega arith))
 
-pub own_push : (xs : List Stream) (p : Pid) → AreOwn xs → AreOwn (xs ++ record { pid = p; events = [] } ∷ [])
+pub own_push : (xs : List Stream) (p : Pid) → AreOwn xs
+    → AreOwn (xs ++ record { pid = p; events = [] } ∷ [])
 own_push xs p own =
-    all_push (λ x. AllByRecursion (λ e. is_own x.pid e ≡ true) x.events) xs (record { pid = p; events = [] }) own tt
+    all_push (λ x. AllByRecursion (λ e. is_own x.pid e ≡ true) x.events) xs
+    (record { pid = p; events = [] }) own tt
 
-total_push : (xs : List Stream) (p : Pid) → total_of (xs ++ record { pid = p; events = [] } ∷ []) ≡ total_of xs
+total_push : (xs : List Stream) (p : Pid) → total_of (xs ++ record { pid = p; events = [] } ∷ [])
+    ≡ total_of xs
 total_push xs p =
-    omega (arith, sum_by-append (λ (x : Stream). length x.events) xs (record { pid = p; events = [] } ∷ []))
+    omega (
+      arith,
+      sum_by-append (λ (x : Stream). length x.events) xs
+          (record { pid = p; events = [] } ∷ []),
+    )
 
-pub IsCollected-push : (ps : List Pid) (es : List (List Event)) (n : ℕ) (p : Pid) → IsCollected ps es n
+pub IsCollected-push : (ps : List Pid) (es : List (List Event)) (n : ℕ) (p : Pid)
+    → IsCollected ps es n
     → AllByRecursion (λ q. IsBelow q p) ps → IsCollected (ps ++ p ∷ []) (es ++ [] ∷ []) n
 IsCollected-push ps es n p c all = record {
   even = let even = c.even in simp length-append (omega arith);
   rising = IsRising-push ps p c.rising all;
   own = rw (collected-push ps es p [] c.even) (own_push (collected ps es) p c.own);
-  counted = rw (collected-push ps es p [] c.even) (c.counted ∙ sym (total_push (collected ps es) p));
+  counted = rw (collected-push ps es p [] c.even)
+      (c.counted ∙ sym (total_push (collected ps es) p));
 }
 
 -- A PROCESS THAT IS SOUGHT
 
-pub stream_of-missing : (ps : List Pid) (es : List (List Event)) (p : Pid) → AllByRecursion (λ q. pid_eq q p ≡ false) ps
+pub stream_of-missing : (ps : List Pid) (es : List (List Event)) (p : Pid)
+    → AllByRecursion (λ q. pid_eq q p ≡ false) ps
     → stream_of (collected ps es) p ≡ None
 stream_of-missing [] es p all = refl
 stream_of-missing (q ∷ ps) [] p all = refl
 stream_of-missing (q ∷ ps) (e ∷ es) p all = rw all.0 (stream_of-missing ps es p all.1)
 
-pub above_apart : (ps : List Pid) (q p : Pid) (i : ℕ) → AllByRecursion (IsBelow q) ps → slice_get ps i ≡ Some p
+pub above_apart : (ps : List Pid) (q p : Pid) (i : ℕ) → AllByRecursion (IsBelow q) ps
+    → slice_get ps i ≡ Some p
     → pid_eq q p ≡ false
 above_apart ps q p i all at = IsBelow-apart q p (all_at (IsBelow q) ps i p all at)
 
-pub stream_of-found : (ps : List Pid) (es : List (List Event)) (p : Pid) (i : ℕ) → length es ≡ length ps → IsRising ps
-    → slice_get ps i ≡ Some p → stream_of (collected ps es) p ≡ Some (record { pid = p; events = get_or es i [] })
+pub stream_of-found : (ps : List Pid) (es : List (List Event)) (p : Pid) (i : ℕ)
+    → length es ≡ length ps → IsRising ps
+    → slice_get ps i ≡ Some p
+    → stream_of (collected ps es) p ≡ Some (record { pid = p; events = get_or es i [] })
 stream_of-found [] es p i even rising at = absurd (cc)
 stream_of-found (q ∷ ps) [] p i even rising at = absurd (omega arith)
-stream_of-found (q ∷ ps) (e ∷ es) p zero even rising at = let same = same_Some q p at in rw (same, pid_eq-same p) refl
+stream_of-found (q ∷ ps) (e ∷ es) p zero even rising at = let same = same_Some q p at in
+    rw (same, pid_eq-same p) refl
 stream_of-found (q ∷ ps) (e ∷ es) p (suc i) even rising at =
     rw (above_apart ps q p i rising.0 at) (stream_of-found ps es p i (omega arith) rising.1 at)
 
-pub place_within : {A : Type 0} (xs : List A) (i : ℕ) (x : A) → slice_get xs i ≡ Some x → i < length xs
+pub place_within : {A : Type 0} (xs : List A) (i : ℕ) (x : A) → slice_get xs i ≡ Some x
+    → i < length xs
 place_within [] i x at = absurd (cc)
 place_within (y ∷ xs) zero x at = omega arith
 place_within (y ∷ xs) (suc i) x at = let rest = place_within xs i x at in omega arith
@@ -93,7 +116,8 @@ place_within (y ∷ xs) (suc i) x at = let rest = place_within xs i x at in omeg
 -- AN EVENT THAT IS ADDED
 
 -- with no process p, nothing changes
-added_missing : (ps : List Pid) (es : List (List Event)) (p : Pid) (e : Event) → AllByRecursion (λ q. IsBelow p q) ps
+added_missing : (ps : List Pid) (es : List (List Event)) (p : Pid) (e : Event)
+    → AllByRecursion (λ q. IsBelow p q) ps
     → added (collected ps es) p e ≡ collected ps es
 added_missing [] es p e all = refl
 added_missing (q ∷ ps) [] p e all = refl
@@ -101,14 +125,16 @@ added_missing (q ∷ ps) (f ∷ es) p e all =
     let apart : pid_eq q p ≡ false = pid_eq-swap q p ∙ IsBelow-apart p q all.0 in
     rw (apart, added_missing ps es p e all.1) refl
 
-pub added_at : (ps : List Pid) (es : List (List Event)) (p : Pid) (e : Event) (i : ℕ) → length es ≡ length ps
+pub added_at : (ps : List Pid) (es : List (List Event)) (p : Pid) (e : Event) (i : ℕ)
+    → length es ≡ length ps
     → IsRising ps → slice_get ps i ≡ Some p
     → added (collected ps es) p e ≡ collected ps (set es i (get_or es i [] ++ e ∷ []))
 added_at [] es p e i even rising at = absurd (cc)
 added_at (q ∷ ps) [] p e i even rising at = absurd (omega arith)
 added_at (q ∷ ps) (f ∷ es) p e zero even rising at =
     let same = same_Some q p at in
-    let all : AllByRecursion (IsBelow p) ps = subst (λ r. AllByRecursion (IsBelow r) ps) same rising.0 in
+    let all : AllByRecursion (IsBelow p) ps =
+    subst (λ r. AllByRecursion (IsBelow r) ps) same rising.0 in
     rw (same, pid_eq-same p, added_missing ps es p e all) refl
 added_at (q ∷ ps) (f ∷ es) p e (suc i) even rising at =
     rw (above_apart ps q p i rising.0 at, added_at ps es p e i (omega arith) rising.1 at) refl
@@ -121,34 +147,46 @@ own_event x p e own all =
     pid_eq x.pid p ≡ b
     → let y = (if b then record x { events = x.events ++ e ∷ [] } else x) in
     AllByRecursion (λ d. is_own y.pid d ≡ true) y.events) [
-      | true ↦ λ same. all_push (λ d. is_own x.pid d ≡ true) x.events e all (rw (pid_eq-true x.pid p same) own)
+      | true ↦ λ same. all_push (λ d. is_own x.pid d ≡ true) x.events e all
+          (rw (pid_eq-true x.pid p same) own)
       | false ↦ λ other. all
     ] refl
 
-pub AreOwn-added : (xs : List Stream) (p : Pid) (e : Event) → is_own p e ≡ true → AreOwn xs → AreOwn (added xs p e)
+pub AreOwn-added : (xs : List Stream) (p : Pid) (e : Event) → is_own p e ≡ true → AreOwn xs
+    → AreOwn (added xs p e)
 AreOwn-added [] p e own all = tt
 AreOwn-added (x ∷ xs) p e own all = (own_event x p e own all.0, AreOwn-added xs p e own all.1)
 
 total_cons : (q : Pid) (f : List Event) (xs : List Stream)
     → total_of (record { pid = q; events = f } ∷ xs) ≡ length f + total_of xs
-total_cons q f xs = sum_by-cons (λ (x : Stream). length x.events) (record { pid = q; events = f }) xs
+total_cons q f xs = sum_by-cons (λ (x : Stream). length x.events) (record { pid = q; events = f })
+    xs
 
 length_set : {A : Type 0} (xs : List A) (i : ℕ) (x : A) → length (set xs i x) ≡ length xs
 length_set xs i x = length-set xs i x
 
-total_at : (ps : List Pid) (es : List (List Event)) (e : Event) (i : ℕ) → length es ≡ length ps → i < length ps
+total_at : (ps : List Pid) (es : List (List Event)) (e : Event) (i : ℕ) → length es ≡ length ps
+    → i < length ps
     → total_of (collected ps (set es i (get_or es i [] ++ e ∷ []))) ≡ total_of (collected ps es) + 1
 total_at [] es e i even within = absurd (omega arith)
 total_at (q ∷ ps) [] e i even within = absurd (omega arith)
 total_at (q ∷ ps) (f ∷ es) e zero even within =
-    rw (total_cons q (f ++ e ∷ []) (collected ps es), total_cons q f (collected ps es), length-append f (e ∷ []))
+    rw (
+      total_cons q (f ++ e ∷ []) (collected ps es),
+      total_cons q f (collected ps es),
+      length-append f (e ∷ []),
+    )
     (omega arith)
 total_at (q ∷ ps) (f ∷ es) e (suc i) even within =
     let rest = total_at ps es e i (omega arith) (omega arith) in
-    rw (total_cons q f (collected ps (set es i (get_or es i [] ++ e ∷ []))), total_cons q f (collected ps es))
+    rw (
+      total_cons q f (collected ps (set es i (get_or es i [] ++ e ∷ []))),
+      total_cons q f (collected ps es),
+    )
     (omega arith)
 
-pub IsCollected-added : (ps : List Pid) (es : List (List Event)) (n : ℕ) (p : Pid) (e : Event) (i : ℕ)
+pub IsCollected-added : (ps : List Pid) (es : List (List Event)) (n : ℕ) (p : Pid) (e : Event)
+    (i : ℕ)
     → IsCollected ps es n → slice_get ps i ≡ Some p → is_own p e ≡ true
     → IsCollected ps (set es i (get_or es i [] ++ e ∷ [])) (n + 1)
 IsCollected-added ps es n p e i c at own =
@@ -163,16 +201,19 @@ IsCollected-added ps es n p e i c at own =
 
 -- NAMES THAT AREN'T LISTED
 
-pub is_among-found : (ps : List Pid) (p : Pid) (i : ℕ) → slice_get ps i ≡ Some p → is_among ps p ≡ true
+pub is_among-found : (ps : List Pid) (p : Pid) (i : ℕ) → slice_get ps i ≡ Some p
+    → is_among ps p ≡ true
 is_among-found [] p i at = absurd (cc)
 is_among-found (q ∷ ps) p zero at = rw (same_Some q p at, pid_eq-same p) refl
 is_among-found (q ∷ ps) p (suc i) at = rw (is_among-found ps p i at) (or_true (pid_eq q p))
 
-pub is_among-missing : (ps : List Pid) (p : Pid) → AllByRecursion (λ q. pid_eq q p ≡ false) ps → is_among ps p ≡ false
+pub is_among-missing : (ps : List Pid) (p : Pid) → AllByRecursion (λ q. pid_eq q p ≡ false) ps
+    → is_among ps p ≡ false
 is_among-missing [] p all = refl
 is_among-missing (q ∷ ps) p all = rw all.0 (is_among-missing ps p all.1)
 
-or_else : (b : Bool) (x : Stream) (o : Option Stream) → is_some (cond b (Some x) o) ≡ (b || is_some o)
+or_else : (b : Bool) (x : Stream) (o : Option Stream)
+    → is_some (cond b (Some x) o) ≡ (b || is_some o)
 or_else true x o = refl
 or_else false x o = refl
 
@@ -195,14 +236,17 @@ failing-collected : (all : List Stream) (ps : List Pid) (es : List (List Event))
 failing-collected all [] es = refl
 failing-collected all (p ∷ ps) [] = refl
 failing-collected all (p ∷ ps) (e ∷ es) =
-    ap (λ (o : Option (Pid × ℕ)). elim (position (λ d. not (names_listed all d)) e) [ None ↦ o | Some i ↦ Some (p, i) ])
+    ap (λ (o : Option (Pid × ℕ)).
+    elim (position (λ d. not (names_listed all d)) e) [ None ↦ o | Some i ↦ Some (p, i) ])
     (failing-collected all ps es)
 
 pub unlisted-collected : (ps : List Pid) (es : List (List Event)) → length es ≡ length ps
     → unlisted (collected ps es) ≡ first_failing (names_among ps) ps es
 unlisted-collected ps es even =
-    let same : names_listed (collected ps es) ≡ names_among ps = λ i e. names-collected ps es even e i in
-    failing-collected (collected ps es) ps es ∙ ap (λ (test : Event → Bool). first_failing test ps es) same
+    let same : names_listed (collected ps es) ≡ names_among ps =
+    λ i e. names-collected ps es even e i in
+    failing-collected (collected ps es) ps es
+    ∙ ap (λ (test : Event → Bool). first_failing test ps es) same
 
 -- WHAT THE READERS SHOW
 
@@ -212,13 +256,16 @@ events_in (Some x) = x.events
 
 pub draft_from_collected : (ps : List Pid) (es : List (List Event)) (n : ℕ) → IsCollected ps es n
     → IsDraft (collected ps es)
-draft_from_collected ps es n c = record { rising = rw (pids_of-collected ps es c.even) c.rising; own = c.own }
+draft_from_collected ps es n c =
+    record { rising = rw (pids_of-collected ps es c.even) c.rising; own = c.own }
 
-pub events_of-missing : (ps : List Pid) (es : List (List Event)) (p : Pid) → AllByRecursion (λ q. pid_eq q p ≡ false) ps
+pub events_of-missing : (ps : List Pid) (es : List (List Event)) (p : Pid)
+    → AllByRecursion (λ q. pid_eq q p ≡ false) ps
     → events_of (collected ps es) p ≡ []
 events_of-missing ps es p all = ap events_in (stream_of-missing ps es p all)
 
-pub events_of-found : (ps : List Pid) (es : List (List Event)) (p : Pid) (i : ℕ) → length es ≡ length ps → IsRising ps
+pub events_of-found : (ps : List Pid) (es : List (List Event)) (p : Pid) (i : ℕ)
+    → length es ≡ length ps → IsRising ps
     → slice_get ps i ≡ Some p → events_of (collected ps es) p ≡ get_or es i []
 events_of-found ps es p i even rising at = ap events_in (stream_of-found ps es p i even rising at)
 
@@ -231,13 +278,17 @@ events_of-read ps es p i read even rising at is =
     is ∙ get_or_default es i read [] within ∙ sym (events_of-found ps es p i even rising at)
 
 -- the first failing of what is left, if the process at the front has none
-pub first_failing-drop : (test : Event → Bool) (ps : List Pid) (es : List (List Event)) (k : ℕ) (read : List Event)
-    → length es ≡ length ps → k < length es → read ≡ get_or es k read → position (λ e. not (test e)) read ≡ None
-    → first_failing test (drop k ps) (drop k es) ≡ first_failing test (drop (suc k) ps) (drop (suc k) es)
+pub first_failing-drop : (test : Event → Bool) (ps : List Pid) (es : List (List Event)) (k : ℕ)
+    (read : List Event)
+    → length es ≡ length ps → k < length es → read ≡ get_or es k read
+    → position (λ e. not (test e)) read ≡ None
+    → first_failing test (drop k ps) (drop k es)
+    ≡ first_failing test (drop (suc k) ps) (drop (suc k) es)
 first_failing-drop test [] es k read even within is none = absurd (omega arith)
 first_failing-drop test (p ∷ ps) [] k read even within is none = absurd (omega arith)
 first_failing-drop test (p ∷ ps) (e ∷ es) zero read even within is none =
-    let here : position (λ d. not (test d)) e ≡ None = subst (λ xs. position (λ d. not (test d)) xs ≡ None) is none in
+    let here : position (λ d. not (test d)) e ≡ None =
+    subst (λ xs. position (λ d. not (test d)) xs ≡ None) is none in
     ap (λ (o : Option ℕ). elim o [ None ↦ first_failing test ps es | Some i ↦ Some (p, i) ]) here
 first_failing-drop test (p ∷ ps) (e ∷ es) (suc k) read even within is none =
     first_failing-drop test ps es k read (omega arith) (omega arith) is none
@@ -245,23 +296,27 @@ first_failing-drop test (p ∷ ps) (e ∷ es) (suc k) read even within is none =
 -- an event for a process leaves the pid of every stream
 pub with_event_pid : (p : Pid) (e : Event) (x : Stream) → (with_event p e x).pid ≡ x.pid
 with_event_pid p e x =
-    elim (pid_eq x.pid p) as (λ b. (cond b (record x { events = x.events ++ e ∷ [] }) x).pid ≡ x.pid)
+    elim (pid_eq x.pid p) as (λ b. (cond b (record x { events = x.events ++ e ∷ [] }) x).pid
+    ≡ x.pid)
     [ true ↦ refl | false ↦ refl ]
 
 -- who is below all of these is none of them
-pub all_apart : (ps : List Pid) (p : Pid) → AllByRecursion (IsBelow p) ps → AllByRecursion (λ q. pid_eq q p ≡ false) ps
+pub all_apart : (ps : List Pid) (p : Pid) → AllByRecursion (IsBelow p) ps
+    → AllByRecursion (λ q. pid_eq q p ≡ false) ps
 all_apart [] p all = tt
 all_apart (q ∷ ps) p all = (pid_eq-swap q p ∙ IsBelow-apart p q all.0, all_apart ps p all.1)
 
 -- if no element passes a test, none has a position
-pub position_or_len-none : {A : Type 0} (test : A → Bool) (xs : List A) → AllByRecursion (λ x. test x ≡ false) xs
+pub position_or_len-none : {A : Type 0} (test : A → Bool) (xs : List A)
+    → AllByRecursion (λ x. test x ≡ false) xs
     → position_or_len test xs ≡ length xs
 position_or_len-none test [] all = refl
 position_or_len-none test (x ∷ xs) all =
     let rest = position_or_len-none test xs all.1 in
     ap (λ b. cond (not b) (1 + position_or_len test xs) 0) all.0 ∙ (omega arith)
 
-pub position-none : {A : Type 0} (test : A → Bool) (xs : List A) → AllByRecursion (λ x. test x ≡ false) xs
+pub position-none : {A : Type 0} (test : A → Bool) (xs : List A)
+    → AllByRecursion (λ x. test x ≡ false) xs
     → position test xs ≡ None
 position-none test xs all =
     let past = position_or_len-none test xs all in

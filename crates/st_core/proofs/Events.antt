@@ -1,4 +1,5 @@
--- Two events are one exactly if the test says so: it compares each part, and says yes exactly if a part is the other's.
+-- Two events are one exactly if the test says so: it compares each part, and says yes exactly if a
+-- part is the other's.
 use Rattle.std.proofs.Common.{◌≡◌, true, Option, Some, None, refl, ap}
 use Rattle.std.proofs.lemmas.Bool.{eqb-true, eq-eqb}
 use Rattle.st_core.specs.declared.types.Pid.{Pid}

@@ -1,8 +1,9 @@
--- Streams and acts have a verdict: whether the acts up to n pass can be decided for each n, so that there is a first
--- n at which they don't, or none.
-use Rattle.std.proofs.Common.{◌≡◌, ℕ, ◌+◌, ◌≤◌, ◌⊎◌, zero, suc, Bool, true, false, cond, nat_lt, List, [], ◌∷◌, ◌++◌}
-use Rattle.std.proofs.Common.{length, take, get_or, find, Option, Some, None, is_some, All, refl, sym, ◌∙◌, ap, subst}
-use Rattle.std.proofs.Common.{arith, inl, inr, length-append}
+-- Streams and acts have a verdict: whether the acts up to n pass can be decided for each n, so that
+-- there is a first n at which they don't, or none.
+use Rattle.std.proofs.Common.{◌≡◌, ℕ, ◌+◌, ◌≤◌, ◌⊎◌, zero, suc, Bool, true, false, cond, nat_lt}
+use Rattle.std.proofs.Common.{List, [], ◌∷◌, ◌++◌, length, take, get_or, find, Option, Some, None}
+use Rattle.std.proofs.Common.{is_some, All, refl, sym, ◌∙◌, ap, subst, arith, inl, inr}
+use Rattle.std.proofs.Common.{length-append}
 use mathlib.Core.List.{IsPrefix}
 use Rattle.std.proofs.lemmas.Bool.{cases_eq, ltb-false}
 use Rattle.std.proofs.lemmas.List.{take_all, append-nil, nil_from_length}
@@ -16,7 +17,8 @@ use Rattle.st_core.specs.declared.types.Act.{Act}
 use Rattle.st_core.specs.Step.{Outcome}
 use Rattle.st_core.specs.Run.{Stream, pids_of, run, stream, Shows}
 use Rattle.st_core.specs.Pairs.{pairs}
-use Rattle.st_core.specs.Verdict.{Verdict, Stuck, Differs, Left, Yes, IsPassing, Passes, left_over, IsVerdict}
+use Rattle.st_core.specs.Verdict.{Verdict, Stuck, Differs, Left, Yes, IsPassing, Passes, left_over}
+use Rattle.st_core.specs.Verdict.{IsVerdict}
 use Rattle.st_core.proofs.Runs.{FailsAt}
 
 -- A FACT HOLDS OR NOT
@@ -55,7 +57,8 @@ kind_decided kind.Receive kind.Print = inr (λ h. cc)
 kind_decided kind.Print kind.Send = inr (λ h. cc)
 kind_decided kind.Print kind.Receive = inr (λ h. cc)
 
-both_decided : {P Q R : Type 0} → Decided P → Decided Q → (R → P) → (R → Q) → (P → Q → R) → Decided R
+both_decided : {P Q R : Type 0} → Decided P → Decided Q → (R → P) → (R → Q) → (P → Q → R)
+    → Decided R
 both_decided (inr no_p) q left right join = inr (λ r. no_p (left r))
 both_decided (inl p) (inr no_q) left right join = inr (λ r. no_q (right r))
 both_decided (inl p) (inl q) left right join = inl (join p q)
@@ -70,10 +73,12 @@ record SameNumbers (d e : Event) : Type 0 where
 numbers_decided : (d e : Event) → Decided (SameNumbers d e)
 numbers_decided d e =
     let counts : Decided ((d.serial.prev ≡ e.serial.prev) × (d.serial.this ≡ e.serial.this)) =
-    both_decided (cases_eq d.serial.prev e.serial.prev) (cases_eq d.serial.this e.serial.this) (λ h. h.0) (λ h. h.1)
+    both_decided (cases_eq d.serial.prev e.serial.prev) (cases_eq d.serial.this e.serial.this)
+    (λ h. h.0) (λ h. h.1)
     (λ p q. (p, q)) in
     let others : Decided ((d.label.0 ≡ e.label.0) × (d.value ≡ e.value)) =
-    both_decided (cases_eq d.label.0 e.label.0) (cases_eq d.value e.value) (λ h. h.0) (λ h. h.1) (λ p q. (p, q)) in
+    both_decided (cases_eq d.label.0 e.label.0) (cases_eq d.value e.value) (λ h. h.0) (λ h. h.1)
+    (λ p q. (p, q)) in
     both_decided counts others (λ h. (h.prev, h.this)) (λ h. (h.label, h.value))
     (λ p q. record { label = q.0; prev = p.0; this = p.1; value = q.1 })
 
@@ -86,7 +91,8 @@ record SameParties (d e : Event) : Type 0 where
 parties_decided : (d e : Event) → Decided (SameParties d e)
 parties_decided d e =
     let ends : Decided ((d.from ≡ e.from) × (d.to ≡ e.to)) =
-    both_decided (pid_decided d.from e.from) (to_decided d.to e.to) (λ h. h.0) (λ h. h.1) (λ p q. (p, q)) in
+    both_decided (pid_decided d.from e.from) (to_decided d.to e.to) (λ h. h.0) (λ h. h.1)
+    (λ p q. (p, q)) in
     both_decided (kind_decided d.kind e.kind) ends (λ h. h.kind) (λ h. (h.from, h.to))
     (λ p q. record { kind = p; from = q.0; to = q.1 })
 
@@ -129,10 +135,12 @@ front_decided (x ∷ xs) (y ∷ ys) =
     (λ h. let e : x ∷ (xs ++ h.0) ≡ y ∷ ys = h.1 in let rest : xs ++ h.0 ≡ ys = cc in (h.0, rest))
     (λ p q. (q.0, ap (λ z. z ∷ (xs ++ q.0)) p ∙ ap (λ zs. y ∷ zs) q.1))
 
-All_decided : {A : Type 0} (P : A → Type 0) → ((x : A) → Decided (P x)) → (xs : List A) → Decided (All P xs)
+All_decided : {A : Type 0} (P : A → Type 0) → ((x : A) → Decided (P x)) → (xs : List A)
+    → Decided (All P xs)
 All_decided P decided [] = inl (All-nil P)
 All_decided P decided (x ∷ xs) =
-    both_decided (decided x) (All_decided P decided xs) (All-head P x xs) (All-tail P x xs) (All-cons P x xs)
+    both_decided (decided x) (All_decided P decided xs) (All-head P x xs) (All-tail P x xs)
+    (All-cons P x xs)
 
 -- ACTS PASS OR NOT
 
@@ -141,7 +149,8 @@ passes_at : (top : ℕ) (streams : List Stream) (acts : List Act) (outs : Option
 passes_at top streams acts None e = inr (λ h. none-some h.0 (sym e ∙ h.1.runs))
 passes_at top streams acts (Some os) e =
     let front = λ (x : Stream). IsPrefix (stream acts os x.pid) x.events in
-    elim (All_decided front (λ (x : Stream). front_decided (stream acts os x.pid) x.events) streams) [
+    elim (All_decided front (λ (x : Stream). front_decided (stream acts os x.pid) x.events)
+    streams) [
       | inl all ↦ inl (os, record { runs = e; fronts = all })
       | inr apart ↦
           inr
@@ -151,73 +160,87 @@ passes_at top streams acts (Some os) e =
           (same_Some _ _ (sym h.1.runs ∙ e)) h.1.fronts))
     ]
 
-passes_decided : (top : ℕ) (streams : List Stream) (acts : List Act) → Decided (Passes top streams acts)
+passes_decided : (top : ℕ) (streams : List Stream) (acts : List Act)
+    → Decided (Passes top streams acts)
 passes_decided top streams acts = passes_at top streams acts (run top (pids_of streams) acts) refl
 
 pub none_passes : (top : ℕ) (streams : List Stream) → Passes top streams []
-none_passes top streams = ([], record { runs = refl; fronts = λ k d within. ((get_or streams k d).events, refl) })
+none_passes top streams =
+    ([], record { runs = refl; fronts = λ k d within. ((get_or streams k d).events, refl) })
 
 -- the first n acts pass, or an act among them is the first to fail
 passing_front : (top : ℕ) (streams : List Stream) (acts : List Act) (n : ℕ) → n ≤ length acts
     → Passes top streams (take n acts) ⊎ ((m : ℕ) × FailsAt top streams acts m)
 passing_front top streams acts zero within = inl (none_passes top streams)
-passing_front top streams acts (suc n) within = elim (passing_front top streams acts n (omega arith)) [
-  | inr failed ↦ inr failed
-  | inl before ↦
-      let next : n + 1 ≡ suc n = omega arith in
-      elim (passes_decided top streams (take (n + 1) acts)) [
-        | inl pass ↦ inl (subst (λ k. Passes top streams (take k acts)) next pass)
-        | inr fails ↦ inr (n, record { within = omega arith; before = before; fails = fails })
-      ]
-]
+passing_front top streams acts (suc n) within =
+    elim (passing_front top streams acts n (omega arith)) [
+      | inr failed ↦ inr failed
+      | inl before ↦
+          let next : n + 1 ≡ suc n = omega arith in
+          elim (passes_decided top streams (take (n + 1) acts)) [
+            | inl pass ↦ inl (subst (λ k. Passes top streams (take k acts)) next pass)
+            | inr fails ↦ inr (n, record { within = omega arith; before = before; fails = fails })
+          ]
+    ]
 
 -- VERDICTS
 
 abbrev pub HasVerdict : ℕ → List Stream → List Act → Type 0
 HasVerdict top streams acts = (v : Verdict) × IsVerdict top streams acts v
 
-failed_verdict : (top : ℕ) (streams : List Stream) (acts : List Act) (n : ℕ) → FailsAt top streams acts n
+failed_verdict : (top : ℕ) (streams : List Stream) (acts : List Act) (n : ℕ)
+    → FailsAt top streams acts n
     → (outs : Option (List Outcome)) → run top (pids_of streams) (take (n + 1) acts) ≡ outs
     → HasVerdict top streams acts
 failed_verdict top streams acts n f None e = (Stuck n, (f.within, f.before, e))
 failed_verdict top streams acts n f (Some os) e =
     (Differs n, (f.within, f.before, ap (λ (o : Option (List Outcome)). is_some o) e, f.fails))
 
-none_found : {A : Type 0} (p : A → Bool) (xs : List A) → find p xs ≡ None → All (λ x. p x ≡ false) xs
+none_found : {A : Type 0} (p : A → Bool) (xs : List A) → find p xs ≡ None
+    → All (λ x. p x ≡ false) xs
 none_found p [] h = All-nil (λ x. p x ≡ false)
 none_found p (x ∷ xs) h =
-    elim (p x) as (λ b. p x ≡ b → cond b (Some x) (find p xs) ≡ None → All (λ x. p x ≡ false) (x ∷ xs)) [
+    elim (p x) as (λ b. p x ≡ b → cond b (Some x) (find p xs) ≡ None
+    → All (λ x. p x ≡ false) (x ∷ xs)) [
       | true ↦ λ e h. absurd (none-some x (sym h))
       | false ↦ λ e h. All-cons (λ x. p x ≡ false) x xs e (none_found p xs h)
     ] refl h
 
 whole_front : {A : Type 0} (xs ys : List A) → IsPrefix xs ys → length ys ≤ length xs → xs ≡ ys
 whole_front xs ys front long =
-    let size : length xs + length front.0 ≡ length ys = sym (length-append xs front.0) ∙ ap length front.1 in
-    sym (append-nil xs) ∙ ap (λ zs. xs ++ zs) (sym (nil_from_length front.0 (omega arith))) ∙ front.1
+    let size : length xs + length front.0 ≡ length ys =
+    sym (length-append xs front.0) ∙ ap length front.1 in
+    sym (append-nil xs) ∙ ap (λ zs. xs ++ zs) (sym (nil_from_length front.0 (omega arith)))
+    ∙ front.1
 
 -- if the acts pass and nothing is left over, the verdict is yes
-pub passed_yes : (top : ℕ) (streams : List Stream) (acts : List Act) (os : List Outcome) → IsPassing top streams acts os
+pub passed_yes : (top : ℕ) (streams : List Stream) (acts : List Act) (os : List Outcome)
+    → IsPassing top streams acts os
     → left_over streams acts os ≡ None → IsVerdict top streams acts (Yes (pairs acts os))
 passed_yes top streams acts os passing e =
-    let full = none_found (λ x. nat_lt (length (stream acts os x.pid)) (length x.events)) streams e in (
+    let full = none_found (λ x. nat_lt (length (stream acts os x.pid)) (length x.events)) streams
+    e in (
       os,
       passing.runs,
       (λ k d within.
           let x = get_or streams k d in
-          whole_front (stream acts os x.pid) x.events (passing.fronts k d within) (ltb-false _ _ (full k d within))),
+          whole_front (stream acts os x.pid) x.events (passing.fronts k d within)
+          (ltb-false _ _ (full k d within))),
       refl,
     )
 
-passed_verdict : (top : ℕ) (streams : List Stream) (acts : List Act) (os : List Outcome) → IsPassing top streams acts os
+passed_verdict : (top : ℕ) (streams : List Stream) (acts : List Act) (os : List Outcome)
+    → IsPassing top streams acts os
     → (left : Option Stream) → left_over streams acts os ≡ left → HasVerdict top streams acts
 passed_verdict top streams acts os passing (Some x) e = (Left x.pid, (os, passing, x, e, refl))
-passed_verdict top streams acts os passing None e = (Yes (pairs acts os), passed_yes top streams acts os passing e)
+passed_verdict top streams acts os passing None e =
+    (Yes (pairs acts os), passed_yes top streams acts os passing e)
 
 pub a_verdict : (top : ℕ) (streams : List Stream) (acts : List Act) → HasVerdict top streams acts
 a_verdict top streams acts = elim (passing_front top streams acts (length acts) (omega arith)) [
   | inr failed ↦
-      failed_verdict top streams acts failed.0 failed.1 (run top (pids_of streams) (take (failed.0 + 1) acts)) refl
+      failed_verdict top streams acts failed.0 failed.1
+      (run top (pids_of streams) (take (failed.0 + 1) acts)) refl
   | inl pass ↦
       let whole : Passes top streams acts =
       subst (Passes top streams) (take_all (length acts) acts (omega arith)) pass in

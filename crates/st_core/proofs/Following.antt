@@ -1,7 +1,9 @@
--- Each reported receive follows the send whose message it took: the tag at the message's place names an act that sent
--- this very message, and its token is the one that its sender had after that act.
-use Rattle.std.proofs.Common.{◌≡◌, ℕ, ◌+◌, ◌<◌, ◌≢◌, ◌⊎◌, ◌&&◌, List, [], ◌∷◌, ◌++◌, Option, Some, None, is_some}
-use Rattle.std.proofs.Common.{option_and_then, All, refl, sym, ◌∙◌, ap, subst, arith, inl, inr, if◌then◌else◌}
+-- Each reported receive follows the send whose message it took: the tag at the message's place
+-- names an act that sent this very message, and its token is the one that its sender had after that
+-- act.
+use Rattle.std.proofs.Common.{◌≡◌, ℕ, ◌+◌, ◌<◌, ◌≢◌, ◌⊎◌, ◌&&◌, List, [], ◌∷◌, ◌++◌, Option, Some}
+use Rattle.std.proofs.Common.{None, is_some, option_and_then, All, refl, sym, ◌∙◌, ap, subst, arith}
+use Rattle.std.proofs.Common.{inl, inr, if◌then◌else◌}
 use Rattle.std.specs.List.{slice_get}
 use Rattle.std.proofs.lemmas.Option.{none-some, cond_some}
 use Rattle.st_core.specs.declared.types.Pid.{Pid}
@@ -28,10 +30,13 @@ use Rattle.st_core.proofs.Underway.{Underway, starts, next}
 -- ONE RECEIVE
 
 -- a reported receive and the send whose message it took
-receive_follows : (top : ℕ) (acts : List Act) (os : List Outcome) (n : ℕ) (s : State) (tags : Tags) (p : Pid) (w : Want)
-    (o : Outcome) (t : Stepped top s (act.Receive p w) o) (found : ℕ × Message) → pick w t.before.queue ≡ Some found
+receive_follows : (top : ℕ) (acts : List Act) (os : List Outcome) (n : ℕ) (s : State) (tags : Tags)
+    (p : Pid) (w : Want)
+    (o : Outcome) (t : Stepped top s (act.Receive p w) o) (found : ℕ × Message)
+    → pick w t.before.queue ≡ Some found
     → slice_get os n ≡ Some o → AreKnown acts n tags → AreTags acts os s tags
-    → (e : Event) → o.report ≡ Some e → (i : ℕ) → slice_get (tags p) found.0 ≡ Some i → IsFollowing acts os n i
+    → (e : Event) → o.report ≡ Some e → (i : ℕ) → slice_get (tags p) found.0 ≡ Some i
+    → IsFollowing acts os n i
 receive_follows top acts os n s tags p w o t found is out known are e reported i at =
     let m = found.1 in
     let r = t.before in
@@ -56,11 +61,13 @@ receive_follows top acts os n s tags p w o t found is out known are e reported i
     } in
     x in
     let taken : (token : Option Token) → m.token ≡ token
-    → report r.local.traced kind.Receive token (Some r.pid) m.value ≡ Some e → IsFollowing acts os n i =
+    → report r.local.traced kind.Receive token (Some r.pid) m.value ≡ Some e
+    → IsFollowing acts os n i =
     elim [
       | None ↦ λ none h. absurd (none-some e h)
       | Some token ↦ λ some h.
-          let same = cond_some (r.local.traced && flag_of kind.Receive token.flags) (event token) e h in
+          let same = cond_some (r.local.traced && flag_of kind.Receive token.flags) (event token) e
+          h in
           let from : token.from ≡ m.from = tag.from token some in
           let after = tag.token token some in
           record {
@@ -79,7 +86,8 @@ receive_follows top acts os n s tags p w o t found is out known are e reported i
                 ∙ ap (λ q. Some (act.Send token.from q m.value)) (sym who);
             is_to = refl;
             is_sender =
-                ap (λ q. option_and_then (λ (x : Outcome). process x.after q) (slice_get os i)) from ∙ after.is_sender;
+                ap (λ q. option_and_then (λ (x : Outcome). process x.after q) (slice_get os i)) from
+                ∙ after.is_sender;
             stamped = after.stamped;
             label = refl;
             serial = refl;
@@ -88,37 +96,45 @@ receive_follows top acts os n s tags p w o t found is out known are e reported i
     taken m.token refl part
 
 -- the pairs of an act: one, which follows, and whose send is gone afterwards
-pub record IsPair (acts : List Act) (os : List Outcome) (n : ℕ) (later : Tags) (ps : List (ℕ × ℕ)) : Type 0 where
+pub record IsPair (acts : List Act) (os : List Outcome) (n : ℕ) (later : Tags)
+    (ps : List (ℕ × ℕ)) : Type 0 where
   pub send : ℕ
   pub is : ps ≡ (n, send) ∷ []
   pub follows : IsFollowing acts os n send
   pub gone : IsGone later (n + 1) send
 
-taken_place : (top : ℕ) (s : State) (p : Pid) (w : Want) (o : Outcome) (t : Stepped top s (act.Receive p w) o)
+taken_place : (top : ℕ) (s : State) (p : Pid) (w : Want) (o : Outcome)
+    (t : Stepped top s (act.Receive p w) o)
     (found : ℕ × Message) → pick w t.before.queue ≡ Some found → o.place ≡ Some found.0
 taken_place top s p w o t found is =
     ap (λ (x : Outcome). x.place) (sym t.is_outcome)
     ∙ ap (λ (x : Acted). x.place) (sym (receive_some top t.before p w t.done found is t.is_done))
 
-no_place : (top : ℕ) (s : State) (p : Pid) (w : Want) (o : Outcome) (t : Stepped top s (act.Receive p w) o)
+no_place : (top : ℕ) (s : State) (p : Pid) (w : Want) (o : Outcome)
+    (t : Stepped top s (act.Receive p w) o)
     → pick w t.before.queue ≡ None → o.place ≡ None
 no_place top s p w o t is =
     ap (λ (x : Outcome). x.place) (sym t.is_outcome)
     ∙ ap (λ (x : Acted). x.place) (sym (receive_none top t.before p w t.done is t.is_done))
 
-pair_receive : (top : ℕ) (acts : List Act) (os : List Outcome) (n : ℕ) (s : State) (tags : Tags) (p : Pid) (w : Want)
-    (o : Outcome) (t : Stepped top s (act.Receive p w) o) → slice_get os n ≡ Some o → AreKnown acts n tags
+pair_receive : (top : ℕ) (acts : List Act) (os : List Outcome) (n : ℕ) (s : State) (tags : Tags)
+    (p : Pid) (w : Want)
+    (o : Outcome) (t : Stepped top s (act.Receive p w) o) → slice_get os n ≡ Some o
+    → AreKnown acts n tags
     → AreTags acts os s tags → (e : Event) → o.report ≡ Some e
     → (pair_at tags n (act.Receive p w) o.place ≡ [])
-    ⊎ IsPair acts os n (tags_after tags n (act.Receive p w) o.place) (pair_at tags n (act.Receive p w) o.place)
+    ⊎ IsPair acts os n (tags_after tags n (act.Receive p w) o.place)
+    (pair_at tags n (act.Receive p w) o.place)
 pair_receive top acts os n s tags p w o t out known are e reported =
     let a = act.Receive p w in
     let P =
-    λ (k : Option ℕ). (pair_at tags n a k ≡ []) ⊎ IsPair acts os n (tags_after tags n a k) (pair_at tags n a k) in
+    λ (k : Option ℕ). (pair_at tags n a k ≡ [])
+    ⊎ IsPair acts os n (tags_after tags n a k) (pair_at tags n a k) in
     elim (pick w t.before.queue) as (λ found. pick w t.before.queue ≡ found → P o.place) [
       | None ↦ λ is. subst P (sym (no_place top s p w o t is)) (inl refl)
       | Some found ↦ λ is. subst P (sym (taken_place top s p w o t found is))
-          (let pair = λ (x : Option ℕ). let ps : List (ℕ × ℕ) = elim x [ None ↦ [] | Some i ↦ (n, i) ∷ [] ] in ps in
+          (let pair = λ (x : Option ℕ). let ps : List (ℕ × ℕ) =
+          elim x [ None ↦ [] | Some i ↦ (n, i) ∷ [] ] in ps in
           elim (slice_get (tags p) found.0) as (λ x.
           slice_get (tags p) found.0 ≡ x
           → (pair x ≡ []) ⊎ IsPair acts os n (tags_after tags n a (Some found.0)) (pair x)) [
@@ -126,18 +142,23 @@ pair_receive top acts os n s tags p w o t out known are e reported =
             | Some i ↦ λ at. inr (record {
               send = i;
               is = refl;
-              follows = receive_follows top acts os n s tags p w o t found is out known are e reported i at;
+              follows = receive_follows top acts os n s tags p w o t found is out known are e
+                  reported i at;
               gone = taken_gone acts n tags p w found.0 i known at;
             })
           ] refl)
     ] refl
 
-pair_of : (top : ℕ) (acts : List Act) (os : List Outcome) (n : ℕ) (s : State) (tags : Tags) (a : Act) (o : Outcome)
-    → step top s a ≡ Some o → slice_get os n ≡ Some o → AreKnown acts n tags → AreTags acts os s tags → (e : Event)
+pair_of : (top : ℕ) (acts : List Act) (os : List Outcome) (n : ℕ) (s : State) (tags : Tags)
+    (a : Act) (o : Outcome)
+    → step top s a ≡ Some o → slice_get os n ≡ Some o → AreKnown acts n tags
+    → AreTags acts os s tags → (e : Event)
     → o.report ≡ Some e
-    → (pair_at tags n a o.place ≡ []) ⊎ IsPair acts os n (tags_after tags n a o.place) (pair_at tags n a o.place)
+    → (pair_at tags n a o.place ≡ [])
+    ⊎ IsPair acts os n (tags_after tags n a o.place) (pair_at tags n a o.place)
 pair_of top acts os n s tags (act.Receive p w) o h out known are e reported =
-    pair_receive top acts os n s tags p w o (step_parts top s (act.Receive p w) o h) out known are e reported
+    pair_receive top acts os n s tags p w o (step_parts top s (act.Receive p w) o h) out known are e
+    reported
 pair_of top acts os n s tags (act.Send p q v) o h out known are e reported = inl refl
 pair_of top acts os n s tags (act.Print p v) o h out known are e reported = inl refl
 pair_of top acts os n s tags (act.PrintAt p l v) o h out known are e reported = inl refl
@@ -149,10 +170,13 @@ pair_of top acts os n s tags (act.Reset p) o h out known are e reported = inl re
 pair_of top acts os n s tags (act.Tracer p b) o h out known are e reported = inl refl
 
 -- the same if the act's report decides
-reported_pair : (top : ℕ) (acts : List Act) (os : List Outcome) (n : ℕ) (s : State) (tags : Tags) (a : Act)
-    (o : Outcome) → step top s a ≡ Some o → slice_get os n ≡ Some o → AreKnown acts n tags → AreTags acts os s tags
+reported_pair : (top : ℕ) (acts : List Act) (os : List Outcome) (n : ℕ) (s : State) (tags : Tags)
+    (a : Act)
+    (o : Outcome) → step top s a ≡ Some o → slice_get os n ≡ Some o → AreKnown acts n tags
+    → AreTags acts os s tags
     → ((if is_some o.report then pair_at tags n a o.place else []) ≡ [])
-    ⊎ IsPair acts os n (tags_after tags n a o.place) (if is_some o.report then pair_at tags n a o.place else [])
+    ⊎ IsPair acts os n (tags_after tags n a o.place)
+    (if is_some o.report then pair_at tags n a o.place else [])
 reported_pair top acts os n s tags a o h out known are =
     let ps = pair_at tags n a o.place in
     elim o.report as (λ report.
@@ -168,21 +192,30 @@ reported_pair top acts os n s tags a o h out known are =
 follows_nil : (acts : List Act) (os : List Outcome) → Follows acts os []
 follows_nil acts os = record { each = tt; once = λ i j d below within. absurd (omega arith) }
 
-follows_cons : (acts : List Act) (os : List Outcome) (n : ℕ) (i : ℕ) (ps : List (ℕ × ℕ)) → IsFollowing acts os n i
+follows_cons : (acts : List Act) (os : List Outcome) (n : ℕ) (i : ℕ) (ps : List (ℕ × ℕ))
+    → IsFollowing acts os n i
     → All (λ x. i ≢ x.1) ps → Follows acts os ps → Follows acts os ((n, i) ∷ ps)
 follows_cons acts os n i ps one apart rest =
-    record { each = (one, rest.each); once = AllPairs_cons (λ (x y : ℕ × ℕ). x.1 ≢ y.1) (n, i) ps apart rest.once }
+    record {
+      each = (one, rest.each);
+      once =
+          AllPairs_cons (λ (x y : ℕ × ℕ). x.1 ≢ y.1) (n, i) ps apart rest.once;
+    }
 
-follows_from : (top : ℕ) (acts : List Act) (os : List Outcome) (n : ℕ) (s : State) (tags : Tags) (rest : List Act)
-    (outs : List Outcome) → Underway top acts os n s tags rest outs → Follows acts os (pairs_from tags n rest outs)
+follows_from : (top : ℕ) (acts : List Act) (os : List Outcome) (n : ℕ) (s : State) (tags : Tags)
+    (rest : List Act)
+    (outs : List Outcome) → Underway top acts os n s tags rest outs
+    → Follows acts os (pairs_from tags n rest outs)
 follows_from top acts os n s tags [] outs u = follows_nil acts os
 follows_from top acts os n s tags (a ∷ rest) outs u =
     let t = next top acts os n s tags a rest outs u in
     let o = t.outcome in
     let later = tags_after tags n a o.place in
     let tail = pairs_from later (n + 1) rest t.others in
-    let others : Follows acts os tail = follows_from top acts os (n + 1) o.after later rest t.others t.later in
-    let whole : Follows acts os ((if is_some o.report then pair_at tags n a o.place else []) ++ tail) =
+    let others : Follows acts os tail =
+    follows_from top acts os (n + 1) o.after later rest t.others t.later in
+    let whole : Follows acts os
+    ((if is_some o.report then pair_at tags n a o.place else []) ++ tail) =
     elim (reported_pair top acts os n s tags a o t.is_step t.outcome_at u.known u.are) [
       | inl none ↦ subst (λ ps. Follows acts os (ps ++ tail)) (sym none) others
       | inr one ↦ subst (λ ps. Follows acts os (ps ++ tail)) (sym one.is)
@@ -192,7 +225,8 @@ follows_from top acts os n s tags (a ∷ rest) outs u =
     subst (λ xs. Follows acts os (pairs_from tags n (a ∷ rest) xs)) (sym t.is_whole) whole
 
 -- in every run
-pub receives_follow : (top : ℕ) (pids : List Pid) (acts : List Act) (os : List Outcome) → run top pids acts ≡ Some os
+pub receives_follow : (top : ℕ) (pids : List Pid) (acts : List Act) (os : List Outcome)
+    → run top pids acts ≡ Some os
     → Follows acts os (pairs acts os)
 receives_follow top pids acts os h =
     follows_from top acts os 0 (zero_state pids) no_tags acts os (starts top pids acts os h)

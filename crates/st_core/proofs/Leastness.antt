@@ -1,13 +1,14 @@
 -- The unlisted place is the least one: the search goes through the streams, whose pids rise, in
 -- order, and through the events of each in order, and passes only events that name listed pids.
-use Rattle.std.proofs.Common.{◌≡◌, ℕ, ◌<◌, ◌≤◌, Bool, true, false, not, cond, List, [], ◌∷◌, length, get_or}
-use Rattle.std.proofs.Common.{Option, Some, None, refl, sym, ◌∙◌, ap, subst, arith}
+use Rattle.std.proofs.Common.{◌≡◌, ℕ, ◌<◌, ◌≤◌, Bool, true, false, not, cond, List, [], ◌∷◌, length}
+use Rattle.std.proofs.Common.{get_or, Option, Some, None, refl, sym, ◌∙◌, ap, subst, arith}
 use Rattle.std.specs.List.{slice_get, position, position_or_len, AllByRecursion}
 use Rattle.std.specs.Option.{MatchOption}
 use Rattle.std.proofs.lemmas.Bool.{false≢true, not-true, not-false, ltb-false}
 use Rattle.std.proofs.lemmas.List.Quantifiers.{position-Some}
 use Rattle.std.proofs.lemmas.List.Sums.{fails_before_first}
-use Rattle.std.proofs.lemmas.Option.{none-some, slice_get_within, slice_get-get_or, get_or_from_slice_get}
+use Rattle.std.proofs.lemmas.Option.{none-some, slice_get_within, slice_get-get_or}
+use Rattle.std.proofs.lemmas.Option.{get_or_from_slice_get}
 use Rattle.st_core.specs.declared.types.Pid.{Pid}
 use Rattle.st_core.specs.declared.types.Kind.TheVariants as kind
 use Rattle.st_core.specs.declared.types.Event.{Event}
@@ -60,7 +61,8 @@ by_stream x rest q i e P here there at =
     ] refl
 
 -- a process that has an event among streams above q is above q
-found_above : (q : Pid) (ss : List Stream) (p : Pid) (i : ℕ) (e : Event) → AllByRecursion (IsBelow q) (pids_of ss)
+found_above : (q : Pid) (ss : List Stream) (p : Pid) (i : ℕ) (e : Event)
+    → AllByRecursion (IsBelow q) (pids_of ss)
     → slice_get (events_of ss p) i ≡ Some e → IsBelow q p
 found_above q [] p i e above at = absurd (none-some e at)
 found_above q (x ∷ rest) p i e above at =
@@ -69,7 +71,8 @@ found_above q (x ∷ rest) p i e above at =
     (λ _ there. found_above q rest p i e above.1 there) at
 
 -- a process that has an event among streams above x isn't x's
-apart : (x : Stream) (rest : List Stream) (p : Pid) (i : ℕ) (e : Event) → AllByRecursion (IsBelow x.pid) (pids_of rest)
+apart : (x : Stream) (rest : List Stream) (p : Pid) (i : ℕ) (e : Event)
+    → AllByRecursion (IsBelow x.pid) (pids_of rest)
     → slice_get (events_of rest p) i ≡ Some e → pid_eq x.pid p ≡ false
 apart x rest p i e above at = IsBelow-apart x.pid p (found_above x.pid rest p i e above at)
 
@@ -81,10 +84,12 @@ record IsLeast (test : Event → Bool) (ss : List Stream) (p : Pid) (i : ℕ) : 
   pub at : slice_get (events_of ss p) i ≡ Some event
   pub fails : test event ≡ false
   pub earlier : (j : ℕ) (e : Event) → j < i → slice_get (events_of ss p) j ≡ Some e → test e ≡ true
-  pub lower : (q : Pid) (j : ℕ) (e : Event) → IsBelow q p → slice_get (events_of ss q) j ≡ Some e → test e ≡ true
+  pub lower : (q : Pid) (j : ℕ) (e : Event) → IsBelow q p → slice_get (events_of ss q) j ≡ Some e
+      → test e ≡ true
 
 abbrev PassAll : (Event → Bool) → List Stream → Type 0
-PassAll test ss = (p : Pid) (i : ℕ) (e : Event) → slice_get (events_of ss p) i ≡ Some e → test e ≡ true
+PassAll test ss = (p : Pid) (i : ℕ) (e : Event) → slice_get (events_of ss p) i ≡ Some e
+    → test e ≡ true
 
 least_in_rest : (test : Event → Bool) (x : Stream) (rest : List Stream) (p : Pid) (i : ℕ)
     → position (λ e. not (test e)) x.events ≡ None → AllByRecursion (IsBelow x.pid) (pids_of rest)
@@ -96,7 +101,8 @@ least_in_rest test x rest p i none above least =
       at = ap (λ es. slice_get es i) (events_there x rest p other) ∙ least.at;
       fails = least.fails;
       earlier = λ j e below at.
-          least.earlier j e below (ap (λ es. slice_get es j) (sym (events_there x rest p other)) ∙ at);
+          least.earlier j e below (ap (λ es. slice_get es j) (sym (events_there x rest p other))
+          ∙ at);
       lower = λ q j e below at. by_stream x rest q j e (test e ≡ true)
           (λ _ here. none_fails test x.events none j e here)
           (λ _ there. least.lower q j e below there) at;
@@ -125,10 +131,12 @@ least_in_first test x rest i some above =
       at = ap (λ es. slice_get es i) own ∙ slice_get-get_or x.events i d found.0;
       fails = not-true _ found.1;
       earlier = λ j e below at.
-          let is = get_or_from_slice_get x.events j e d (ap (λ es. slice_get es j) (sym own) ∙ at) in
+          let is = get_or_from_slice_get x.events j e d
+          (ap (λ es. slice_get es j) (sym own) ∙ at) in
           ap test (sym is) ∙ not-false _ (found.2 j below);
       lower = λ q j e below at. by_stream x rest q j e (test e ≡ true)
-          (λ is _. absurd (false≢true (sym (IsBelow-apart q x.pid below) ∙ pid_eq-swap q x.pid ∙ is)))
+          (λ is _. absurd (false≢true
+          (sym (IsBelow-apart q x.pid below) ∙ pid_eq-swap q x.pid ∙ is)))
           (λ _ there.
           let round = IsBelow-trans q x.pid q below (found_above x.pid rest q j e above there) in
           absurd (false≢true (sym (IsBelow-apart q q round) ∙ pid_eq-same q))) at;
@@ -144,7 +152,8 @@ least_among all (x ∷ rest) rising =
     MatchOption o (PassAll test ss) (λ place. IsLeast test ss place.0 place.1) in
     let first = position (λ e. not (test e)) x.events in
     let last = unlisted_among all rest in
-    let after = λ (o : Option ℕ). let found : Option (Pid × ℕ) = elim o [ None ↦ last | Some i ↦ Some (x.pid, i) ] in
+    let after = λ (o : Option ℕ). let found : Option (Pid × ℕ) =
+    elim o [ None ↦ last | Some i ↦ Some (x.pid, i) ] in
     found in
     elim first as (λ o. first ≡ o → Told (x ∷ rest) (after o)) [
       | None ↦ λ none.
@@ -158,7 +167,8 @@ least_among all (x ∷ rest) rising =
     ] refl
 
 pub unlisted_is_least : (streams : List Stream) → IsRising (pids_of streams)
-    → MatchOption (unlisted streams) (AreAllListed streams) (λ place. IsLeastUnlisted streams place.0 place.1)
+    → MatchOption (unlisted streams) (AreAllListed streams)
+    (λ place. IsLeastUnlisted streams place.0 place.1)
 unlisted_is_least streams rising =
     let test = names_listed streams in
     elim (unlisted streams) as (λ o.

@@ -1,8 +1,9 @@
--- Pids are pairs of numbers, so their equality and order are those of the numbers, and a list of them that rises can
--- be searched by halves.
-use Rattle.std.proofs.Common.{◌≡◌, ℕ, ◌-◌, ◌<◌, ◌≤◌, zero, suc, nat_lt, Bool, true, false, ◌==◌, ◌&&◌, ◌⊎◌, inl, inr}
-use Rattle.std.proofs.Common.{List, [], ◌∷◌, ◌++◌, length, get_or, Some, IfNone, IsTrue, Result, Ok, Err, slice_get}
-use Rattle.std.proofs.Common.{refl, sym, ◌∙◌, ap, subst, arith}
+-- Pids are pairs of numbers, so their equality and order are those of the numbers, and a list of
+-- them that rises can be searched by halves.
+use Rattle.std.proofs.Common.{◌≡◌, ℕ, ◌-◌, ◌<◌, ◌≤◌, zero, suc, nat_lt, Bool, true, false, ◌==◌}
+use Rattle.std.proofs.Common.{◌&&◌, ◌⊎◌, inl, inr, List, [], ◌∷◌, ◌++◌, length, get_or, Some}
+use Rattle.std.proofs.Common.{IfNone, IsTrue, Result, Ok, Err, slice_get, refl, sym, ◌∙◌, ap, subst}
+use Rattle.std.proofs.Common.{arith}
 use Rattle.std.specs.List.{AllByRecursion}
 use Rattle.std.specs.List.Sorted.{IsBinarySearchResult}
 use Rattle.std.specs.Result.{result_ok}
@@ -121,23 +122,29 @@ all_below [] q p all h = tt
 all_below (r ∷ ps) q p all h = (IsBelow-trans r q p all.0 h, all_below ps q p all.1 h)
 
 -- the pid at a place of a list each of which is above q is above q
-at_above : (ps : List Pid) (q l : Pid) (i : ℕ) → AllByRecursion (IsBelow q) ps → slice_get ps i ≡ Some l → IsBelow q l
+at_above : (ps : List Pid) (q l : Pid) (i : ℕ) → AllByRecursion (IsBelow q) ps
+    → slice_get ps i ≡ Some l → IsBelow q l
 at_above [] q l i all at = absurd (cc)
 at_above (p ∷ ps) q l zero all at = subst (IsBelow q) (same_Some p l at) all.0
 at_above (p ∷ ps) q l (suc i) all at = at_above ps q l i all.1 at
 
 -- if the last is below p, each is
-pub below_last : (ps : List Pid) (k : ℕ) (l p : Pid) → length ps ≡ suc k → IsRising ps → slice_get ps k ≡ Some l
+pub below_last : (ps : List Pid) (k : ℕ) (l p : Pid) → length ps ≡ suc k → IsRising ps
+    → slice_get ps k ≡ Some l
     → IsBelow l p → AllByRecursion (λ r. IsBelow r p) ps
 below_last [] k l p len rising at h = tt
-below_last (q ∷ []) zero l p len rising at h = (subst (λ r. IsBelow r p) (sym (same_Some q l at)) h, tt)
+below_last (q ∷ []) zero l p len rising at h =
+    (subst (λ r. IsBelow r p) (sym (same_Some q l at)) h, tt)
 below_last (q ∷ []) (suc k) l p len rising at h = absurd (omega arith)
 below_last (q ∷ r ∷ ps) zero l p len rising at h = absurd (omega arith)
-below_last (q ∷ r ∷ ps) (suc k) l p len rising at h =
-    (IsBelow-trans q l p (at_above (r ∷ ps) q l k rising.0 at) h, below_last (r ∷ ps) k l p (omega arith) rising.1 at h)
+below_last (q ∷ r ∷ ps) (suc k) l p len rising at h = (
+  IsBelow-trans q l p (at_above (r ∷ ps) q l k rising.0 at) h,
+  below_last (r ∷ ps) k l p (omega arith) rising.1 at h,
+)
 
 -- if each is below p, the one at a place is
-pub all_at : {A : Type 0} (P : A → Type 0) (xs : List A) (i : ℕ) (x : A) → AllByRecursion P xs → slice_get xs i ≡ Some x
+pub all_at : {A : Type 0} (P : A → Type 0) (xs : List A) (i : ℕ) (x : A) → AllByRecursion P xs
+    → slice_get xs i ≡ Some x
     → P x
 all_at P [] i x all at = absurd (cc)
 all_at P (y ∷ ys) zero x all at = subst P (same_Some y x at) all.0
@@ -151,7 +158,8 @@ all_push P (y ∷ ys) x all here = (all.0, all_push P ys x all.1 here)
 pub IsRising-push : (ps : List Pid) (p : Pid) → IsRising ps → AllByRecursion (λ r. IsBelow r p) ps
     → IsRising (ps ++ p ∷ [])
 IsRising-push [] p rising all = (tt, tt)
-IsRising-push (q ∷ ps) p rising all = (all_push (IsBelow q) ps p rising.0 all.0, IsRising-push ps p rising.1 all.1)
+IsRising-push (q ∷ ps) p rising all =
+    (all_push (IsBelow q) ps p rising.0 all.0, IsRising-push ps p rising.1 all.1)
 
 -- THE SEARCH
 
@@ -177,20 +185,23 @@ pid_cmp-same p = rw (nat_cmp-same p.node p.node refl, nat_cmp-same p.number p.nu
 
 index_rises : (p q x : Pid) (o : Ordering) → IsBelow p q → pid_cmp q x ≡ o
     → ordering_index (pid_cmp p x) ≤ ordering_index o
-index_rises p q x Less h e = let less : pid_cmp p x ≡ Less = IsBelow-trans p q x h e in rw less (omega arith)
+index_rises p q x Less h e = let less : pid_cmp p x ≡ Less = IsBelow-trans p q x h e in
+    rw less (omega arith)
 index_rises p q x Equal h e =
     let less : pid_cmp p x ≡ Less = subst (IsBelow p) (pid_cmp-Equal q x e) h in
     rw less (omega arith)
 index_rises p q x Greater h e = index_most (pid_cmp p x)
 
-above_at : (ps : List Pid) (q : Pid) (j : ℕ) (d : Pid) → AllByRecursion (IsBelow q) ps → j < length ps
+above_at : (ps : List Pid) (q : Pid) (j : ℕ) (d : Pid) → AllByRecursion (IsBelow q) ps
+    → j < length ps
     → IsBelow q (get_or ps j d)
 above_at [] q j d all within = absurd (omega arith)
 above_at (p ∷ ps) q zero d all within = all.0
 above_at (p ∷ ps) q (suc j) d all within = above_at ps q j d all.1 (omega arith)
 
 -- the comparison with x doesn't fall along pids that rise
-pub comparison_rises : (ps : List Pid) (x : Pid) (i j : ℕ) (d : Pid) → IsRising ps → i ≤ j → j < length ps
+pub comparison_rises : (ps : List Pid) (x : Pid) (i j : ℕ) (d : Pid) → IsRising ps → i ≤ j
+    → j < length ps
     → ordering_index (pid_cmp (get_or ps i d) x) ≤ ordering_index (pid_cmp (get_or ps j d) x)
 comparison_rises [] x i j d rising le within = absurd (omega arith)
 comparison_rises (p ∷ ps) x zero zero d rising le within = omega arith
@@ -211,18 +222,23 @@ pub apart_from_unequal : (ps : List Pid) (x : Pid)
     → ((k : ℕ) (d : Pid) → k < length ps → ¬ (pid_cmp (get_or ps k d) x ≡ Equal))
     → AllByRecursion (λ p. pid_eq p x ≡ false) ps
 apart_from_unequal [] x h = tt
-apart_from_unequal (p ∷ ps) x h =
-    (not_equal_apart p x (h 0 p (omega arith)), apart_from_unequal ps x (λ k d within. h (suc k) d (omega arith)))
+apart_from_unequal (p ∷ ps) x h = (
+  not_equal_apart p x (h 0 p (omega arith)),
+  apart_from_unequal ps x (λ k d within. h (suc k) d (omega arith)),
+)
 
 -- what a binary search that finds nothing shows
 pub missing_from_search : (ps : List Pid) (x : Pid) (r : Result ℕ ℕ) → IsRising ps
-    → IsBinarySearchResult (λ y. pid_cmp y x) ps r → IfNone (result_ok r) (AllByRecursion (λ p. pid_eq p x ≡ false) ps)
+    → IsBinarySearchResult (λ y. pid_cmp y x) ps r
+    → IfNone (result_ok r) (AllByRecursion (λ p. pid_eq p x ≡ false) ps)
 missing_from_search ps x (Ok i) rising found = tt
 missing_from_search ps x (Err i) rising found =
     let parts = found (λ i j d le within. comparison_rises ps x i j d rising le within) in
     apart_from_unequal ps x (λ k d within e. elim (cases_lt k i) [
-      | inl below ↦ let less : pid_cmp (get_or ps k d) x ≡ Less = parts.0 k d (omega arith) below in absurd (cc)
-      | inr above ↦ let greater : pid_cmp (get_or ps k d) x ≡ Greater = parts.1 k d above within in absurd (cc)
+      | inl below ↦ let less : pid_cmp (get_or ps k d) x ≡ Less = parts.0 k d (omega arith) below in
+          absurd (cc)
+      | inr above ↦ let greater : pid_cmp (get_or ps k d) x ≡ Greater = parts.1 k d above within in
+          absurd (cc)
     ])
 
 pub is_lt-true : (o : Ordering) → is_lt o ≡ true → o ≡ Less
@@ -245,15 +261,19 @@ both_equal Greater b h = absurd (cc)
 last_place : (ps : List Pid) (l : Pid) → slice_get ps (length ps - 1) ≡ Some l
     → (k : ℕ) × (length ps ≡ suc k) × (slice_get ps k ≡ Some l)
 last_place [] l h = absurd (cc)
-last_place (p ∷ ps) l h = (length ps, refl, subst (λ k. slice_get (p ∷ ps) k ≡ Some l) (omega arith) h)
+last_place (p ∷ ps) l h =
+    (length ps, refl, subst (λ k. slice_get (p ∷ ps) k ≡ Some l) (omega arith) h)
 
 -- a pid that is above the last of pids that rise is above all of them
-pub below_decides : (ps : List Pid) (l p : Pid) (b : Bool) → IsRising ps → slice_get ps (length ps - 1) ≡ Some l
+pub below_decides : (ps : List Pid) (l p : Pid) (b : Bool) → IsRising ps
+    → slice_get ps (length ps - 1) ≡ Some l
     → b ≡ is_lt (pid_cmp l p)
-    → (IsTrue b → AllByRecursion (λ r. IsBelow r p) ps) × (AllByRecursion (λ r. IsBelow r p) ps → IsTrue b)
+    → (IsTrue b → AllByRecursion (λ r. IsBelow r p) ps)
+    × (AllByRecursion (λ r. IsBelow r p) ps → IsTrue b)
 below_decides ps l p b rising at e =
     let last = last_place ps l at in (
-      (λ yes. below_last ps last.0 l p last.1 rising last.2 (is_lt-true (pid_cmp l p) (sym e ∙ yes))),
+      (λ yes. below_last ps last.0 l p last.1 rising last.2
+          (is_lt-true (pid_cmp l p) (sym e ∙ yes))),
       (λ all. e ∙ ap is_lt (all_at (λ r. IsBelow r p) ps last.0 l all last.2)),
     )
 

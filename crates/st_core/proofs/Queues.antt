@@ -1,7 +1,8 @@
 -- The tags of a run are those of its queues, since an act does to the tags of a queue what it does
 -- to the queue: a send appends to both, a receive takes out of both at one place, and a reset keeps
 -- the places.
-use Rattle.std.proofs.Common.{◌≡◌, ℕ, true, false, cond, List, [], ◌∷◌, ◌++◌, map, Option, Some, None, option_map}
+use Rattle.std.proofs.Common.{◌≡◌, ℕ, true, false, cond, List, [], ◌∷◌, ◌++◌, map, Option, Some}
+use Rattle.std.proofs.Common.{None, option_map}
 use Rattle.std.proofs.Common.{option_and_then, All, refl, sym, ◌∙◌, ap, subst, if◌then◌else◌}
 use Rattle.std.specs.Option.{ForSome}
 use Rattle.std.specs.List.{AllZip, slice_get, remove}
@@ -19,13 +20,13 @@ use Rattle.st_core.specs.State.{LocalState, Process, State, process, zero_local,
 use Rattle.st_core.specs.Local.{wiped, has_label}
 use Rattle.st_core.specs.Stamp.{stamp, stamp_any}
 use Rattle.st_core.specs.Pick.{pick}
-use Rattle.st_core.specs.Step.{Acted, Outcome, acted, actor, answers, sends, prints, receives, untraced, reached}
-use Rattle.st_core.specs.Step.{changed, step}
+use Rattle.st_core.specs.Step.{Acted, Outcome, acted, actor, answers, sends, prints, receives}
+use Rattle.st_core.specs.Step.{untraced, reached, changed, step}
 use Rattle.st_core.specs.Pairs.{Tags, tags_after}
 use Rattle.st_core.specs.Laws.{IsSound}
 use Rattle.st_core.proofs.Pids.{pid_eq-true}
-use Rattle.st_core.proofs.Others.{process_pid, mapped, Stepped, step_parts, process_after, actor_is, actor_mine}
-use Rattle.st_core.proofs.Others.{actor_after, sent_local}
+use Rattle.st_core.proofs.Others.{process_pid, mapped, Stepped, step_parts, process_after, actor_is}
+use Rattle.st_core.proofs.Others.{actor_mine, actor_after, sent_local}
 use Rattle.st_core.proofs.Sound.{acted_sound, process_holds}
 use Rattle.st_core.proofs.Tags.{no_tags}
 use Rattle.st_core.proofs.Zips.{AllZip_push, AllZip_remove, AllZip_map}
@@ -38,14 +39,16 @@ pub record TokenAfter (os : List Outcome) (i : ℕ) (p : Pid) (t : Token) : Type
 
 -- the message m in p's queue was sent by act i, and its token, if it has one, is the sender's after
 -- that act
-pub record IsTag (acts : List Act) (os : List Outcome) (p : Pid) (i : ℕ) (m : Message) : Type 0 where
-  pub sent : slice_get acts i ≡ Some (act.Send m.from p m.value)
-  pub from : ForSome m.token (λ t. t.from ≡ m.from)
-  pub token : ForSome m.token (TokenAfter os i m.from)
+pub record IsTag (acts : List Act) (os : List Outcome) (p : Pid) (i : ℕ) (m : Message) : Type 0
+  where
+    pub sent : slice_get acts i ≡ Some (act.Send m.from p m.value)
+    pub from : ForSome m.token (λ t. t.from ≡ m.from)
+    pub token : ForSome m.token (TokenAfter os i m.from)
 
 -- the tags of each process are those of its queue
 pub record AreTags (acts : List Act) (os : List Outcome) (s : State) (tags : Tags) : Type 0 where
-  pub queues : (p : Pid) (r : Process) → process s p ≡ Some r → AllZip (IsTag acts os p) (tags p) r.queue
+  pub queues : (p : Pid) (r : Process) → process s p ≡ Some r
+      → AllZip (IsTag acts os p) (tags p) r.queue
 
 -- QUEUES AFTER AN ACT
 
@@ -61,7 +64,8 @@ reached_queue : (a : Act) (token : Option Token) (r : Process)
 reached_queue (act.Send p q v) token r =
     let m : Message = record { from = p; value = v; token = token } in
     elim (pid_eq r.pid q) as (λ b.
-    (cond b (record r { queue = r.queue ++ m ∷ [] }) r).queue ≡ cond b (r.queue ++ m ∷ []) r.queue) [
+    (cond b (record r { queue = r.queue ++ m ∷ [] }) r).queue
+    ≡ cond b (r.queue ++ m ∷ []) r.queue) [
       | true ↦ refl
       | false ↦ refl
     ]
@@ -73,7 +77,8 @@ reached_queue (act.Reset p) token r =
       | false ↦ refl
     ]
 reached_queue (act.Tracer p on) token r =
-    elim (node_eq r.pid p) as (λ b. (cond b (record r { local = record r.local { traced = on } }) r).queue ≡ r.queue) [
+    elim (node_eq r.pid p) as (λ b.
+    (cond b (record r { local = record r.local { traced = on } }) r).queue ≡ r.queue) [
       | true ↦ refl
       | false ↦ refl
     ]
@@ -93,7 +98,8 @@ changed_queue a done r =
     reached_queue a done.local.token
     (if pid_eq r.pid (actor a) then record r { local = done.local; queue = done.queue } else r)
     ∙ elim (pid_eq r.pid (actor a)) as (λ b.
-    queue_after a done.local.token (cond b (record r { local = done.local; queue = done.queue }) r).pid
+    queue_after a done.local.token
+    (cond b (record r { local = done.local; queue = done.queue }) r).pid
     (cond b (record r { local = done.local; queue = done.queue }) r).queue
     ≡ queue_after a done.local.token r.pid (cond b done.queue r.queue)) [
       | true ↦ refl
@@ -114,16 +120,19 @@ some_queue : (x done : Acted) → Some x ≡ Some done → done.queue ≡ x.queu
 some_queue x done h = ap (λ (y : Acted). y.queue) (sym (same_Some x done h))
 
 -- the actor's part of any other act leaves its queue
-pub acted_queue : (top : ℕ) (a : Act) (r : Process) (done : Acted) → ¬ IsReceive a → acted top r a ≡ Some done
+pub acted_queue : (top : ℕ) (a : Act) (r : Process) (done : Acted) → ¬ IsReceive a
+    → acted top r a ≡ Some done
     → done.queue ≡ r.queue
 acted_queue top (act.Receive p w) r done other h = absurd (other tt)
 acted_queue top (act.Send p q v) r done other h =
     let parts = mapped (sends r q v) (stamp_any top r.pid r.local) done h in
     ap (λ (x : Acted). x.queue) (sym parts.2)
-acted_queue top (act.Print p v) r done other h = printed_queue r v (stamp_any top r.pid r.local) done h
+acted_queue top (act.Print p v) r done other h =
+    printed_queue r v (stamp_any top r.pid r.local) done h
 acted_queue top (act.PrintAt p n v) r done other h =
     elim (has_label n r.local.token) as (λ b.
-    cond b (option_map (prints r v) (stamp top r.pid r.local)) (Some (answers r r.local reply.Done)) ≡ Some done
+    cond b (option_map (prints r v) (stamp top r.pid r.local)) (Some (answers r r.local reply.Done))
+    ≡ Some done
     → done.queue ≡ r.queue) [
       | true ↦ λ h. printed_queue r v (stamp top r.pid r.local) done h
       | false ↦ λ h. some_queue (answers r r.local reply.Done) done h
@@ -136,10 +145,13 @@ acted_queue top (act.Reset p) r done other h = some_queue _ done h
 acted_queue top (act.Tracer p b) r done other h = some_queue _ done h
 
 -- the queue of a process after its own part of an act that is no receive
-pub own_queue : (top : ℕ) (s : State) (a : Act) (o : Outcome) (t : Stepped top s a o) (p : Pid) (r : Process)
-    → ¬ IsReceive a → process s p ≡ Some r → (if pid_eq r.pid (actor a) then t.done.queue else r.queue) ≡ r.queue
+pub own_queue : (top : ℕ) (s : State) (a : Act) (o : Outcome) (t : Stepped top s a o) (p : Pid)
+    (r : Process)
+    → ¬ IsReceive a → process s p ≡ Some r
+    → (if pid_eq r.pid (actor a) then t.done.queue else r.queue) ≡ r.queue
 own_queue top s a o t p r other is_r =
-    elim (pid_eq r.pid (actor a)) as (λ b. pid_eq r.pid (actor a) ≡ b → cond b t.done.queue r.queue ≡ r.queue) [
+    elim (pid_eq r.pid (actor a)) as (λ b. pid_eq r.pid (actor a) ≡ b
+    → cond b t.done.queue r.queue ≡ r.queue) [
       | true ↦ λ e.
           acted_queue top a t.before t.done other t.is_done
           ∙ ap (λ (x : Process). x.queue) (actor_is s (actor a) p t.before r t.is_before is_r e)
@@ -149,18 +161,22 @@ own_queue top s a o t p r other is_r =
 -- A SEND
 
 -- the token that a send gave its message is its sender's after it
-sender_token : (top : ℕ) (s : State) (p q : Pid) (v : ℕ) (o : Outcome) (t : Stepped top s (act.Send p q v) o)
-    (os : List Outcome) (n : ℕ) → slice_get os n ≡ Some o → ForSome t.done.local.token (TokenAfter os n p)
+sender_token : (top : ℕ) (s : State) (p q : Pid) (v : ℕ) (o : Outcome)
+    (t : Stepped top s (act.Send p q v) o)
+    (os : List Outcome) (n : ℕ) → slice_get os n ≡ Some o
+    → ForSome t.done.local.token (TokenAfter os n p)
 sender_token top s p q v o t os n at token is =
     let a = act.Send p q v in
     let local = sent_local p q v t.done t.before (actor_mine top s a o t) in
     record {
       sender = changed a t.done t.before;
-      is_sender = ap (option_and_then (λ (x : Outcome). process x.after p)) at ∙ actor_after top s a o t;
+      is_sender = ap (option_and_then (λ (x : Outcome). process x.after p)) at
+          ∙ actor_after top s a o t;
       stamped = ap (λ (l : LocalState). l.token) local ∙ is;
     }
 
-tags_send : (top : ℕ) (acts : List Act) (os : List Outcome) (n : ℕ) (s : State) (tags : Tags) (p q : Pid) (v : ℕ)
+tags_send : (top : ℕ) (acts : List Act) (os : List Outcome) (n : ℕ) (s : State) (tags : Tags)
+    (p q : Pid) (v : ℕ)
     (o : Outcome) (t : Stepped top s (act.Send p q v) o) → slice_get acts n ≡ Some (act.Send p q v)
     → slice_get os n ≡ Some o → All (IsSound top) s → (x : Pid) (queue : List Message)
     → AllZip (IsTag acts os x) (tags x) queue
@@ -173,7 +189,8 @@ tags_send top acts os n s tags p q v o t at out sound x queue all =
     (process_holds (IsSound top) s p t.before t.is_before sound) t.is_done in
     elim (pid_eq x q) as (λ b.
     pid_eq x q ≡ b
-    → AllZip (IsTag acts os x) (cond b (tags x ++ n ∷ []) (tags x)) (cond b (queue ++ m ∷ []) queue)) [
+    → AllZip (IsTag acts os x) (cond b (tags x ++ n ∷ []) (tags x))
+    (cond b (queue ++ m ∷ []) queue)) [
       | true ↦ λ e. AllZip_push (IsTag acts os x) (tags x) queue n m all (record {
         sent = at ∙ ap (λ y. Some (act.Send p y v)) (sym (pid_eq-true x q e));
         from = λ token is. (part.sent token is).from;
@@ -184,16 +201,24 @@ tags_send top acts os n s tags p q v o t at out sound x queue all =
 
 -- A RESET
 
-tag_untraced : (acts : List Act) (os : List Outcome) (p : Pid) (i : ℕ) (m : Message) → IsTag acts os p i m
+tag_untraced : (acts : List Act) (os : List Outcome) (p : Pid) (i : ℕ) (m : Message)
+    → IsTag acts os p i m
     → IsTag acts os p i (untraced m)
 tag_untraced acts os p i m is =
-    record { sent = is.sent; from = λ t e. absurd (none-some t e); token = λ t e. absurd (none-some t e) }
+    record {
+      sent = is.sent;
+      from = λ t e. absurd (none-some t e);
+      token =
+          λ t e. absurd (none-some t e);
+    }
 
-tags_reset : (acts : List Act) (os : List Outcome) (tags : Tags) (p : Pid) (token : Option Token) (x : Pid)
+tags_reset : (acts : List Act) (os : List Outcome) (tags : Tags) (p : Pid) (token : Option Token)
+    (x : Pid)
     (queue : List Message) → AllZip (IsTag acts os x) (tags x) queue
     → AllZip (IsTag acts os x) (tags x) (queue_after (act.Reset p) token x queue)
 tags_reset acts os tags p token x queue all =
-    elim (node_eq x p) as (λ b. AllZip (IsTag acts os x) (tags x) (cond b (map untraced queue) queue)) [
+    elim (node_eq x p) as (λ b.
+    AllZip (IsTag acts os x) (tags x) (cond b (map untraced queue) queue)) [
       | true ↦ AllZip_map (IsTag acts os x) untraced (tag_untraced acts os x) (tags x) queue all
       | false ↦ all
     ]
@@ -201,16 +226,20 @@ tags_reset acts os tags p token x queue all =
 -- A RECEIVE
 
 -- the parts of a receive that took no message, and of one that took this one
-pub receive_none : (top : ℕ) (r : Process) (p : Pid) (w : Want) (done : Acted) → pick w r.queue ≡ None
+pub receive_none : (top : ℕ) (r : Process) (p : Pid) (w : Want) (done : Acted)
+    → pick w r.queue ≡ None
     → acted top r (act.Receive p w) ≡ Some done → answers r r.local reply.Nothing ≡ done
 receive_none top r p w done is h = ap (receives r) (sym is) ∙ same_Some _ done h
 
 pub receive_some : (top : ℕ) (r : Process) (p : Pid) (w : Want) (done : Acted) (found : ℕ × Message)
-    → pick w r.queue ≡ Some found → acted top r (act.Receive p w) ≡ Some done → receives r (Some found) ≡ done
+    → pick w r.queue ≡ Some found → acted top r (act.Receive p w) ≡ Some done
+    → receives r (Some found) ≡ done
 receive_some top r p w done found is h = ap (receives r) (sym is) ∙ same_Some _ done h
 
-tags_receive : (top : ℕ) (acts : List Act) (os : List Outcome) (n : ℕ) (s : State) (tags : Tags) (p : Pid) (w : Want)
-    (o : Outcome) (t : Stepped top s (act.Receive p w) o) → (x : Pid) (r : Process) → process s x ≡ Some r
+tags_receive : (top : ℕ) (acts : List Act) (os : List Outcome) (n : ℕ) (s : State) (tags : Tags)
+    (p : Pid) (w : Want)
+    (o : Outcome) (t : Stepped top s (act.Receive p w) o) → (x : Pid) (r : Process)
+    → process s x ≡ Some r
     → AllZip (IsTag acts os x) (tags x) r.queue
     → AllZip (IsTag acts os x) (tags_after tags n (act.Receive p w) t.done.place x)
     (if pid_eq r.pid p then t.done.queue else r.queue)
@@ -219,10 +248,12 @@ tags_receive top acts os n s tags p w o t x r is_r all =
     let who = process_pid s x r is_r in
     let P =
     λ (done : Acted).
-    AllZip R (tags_after tags n (act.Receive p w) done.place x) (if pid_eq r.pid p then done.queue else r.queue) in
+    AllZip R (tags_after tags n (act.Receive p w) done.place x)
+    (if pid_eq r.pid p then done.queue else r.queue) in
     elim (pick w t.before.queue) as (λ found. pick w t.before.queue ≡ found → P t.done) [
       | None ↦ λ e. subst P (receive_none top t.before p w t.done e t.is_done)
-          (elim (pid_eq r.pid p) as (λ b. pid_eq r.pid p ≡ b → AllZip R (tags x) (cond b t.before.queue r.queue)) [
+          (elim (pid_eq r.pid p) as (λ b. pid_eq r.pid p ≡ b
+          → AllZip R (tags x) (cond b t.before.queue r.queue)) [
             | true ↦ λ same.
                 subst (λ (y : Process). AllZip R (tags x) y.queue)
                 (sym (actor_is s p x t.before r t.is_before is_r same)) all
@@ -238,7 +269,8 @@ tags_receive top acts os n s tags p w o t x r is_r all =
           (cond b (remove t.before.queue found.0) r.queue)) [
             | true ↦ λ same.
                 subst (λ (y : Process). AllZip R (remove (tags x) found.0) (remove y.queue found.0))
-                (sym (actor_is s p x t.before r t.is_before is_r same)) (AllZip_remove R (tags x) r.queue found.0 all)
+                (sym (actor_is s p x t.before r t.is_before is_r same))
+                (AllZip_remove R (tags x) r.queue found.0 all)
             | false ↦ λ same. all
           ] refl))
     ] refl
@@ -246,64 +278,87 @@ tags_receive top acts os n s tags p w o t x r is_r all =
 -- EACH ACT
 
 -- the tags of x's queue after the act, by the act
-tags_of_queue : (top : ℕ) (acts : List Act) (os : List Outcome) (n : ℕ) (s : State) (tags : Tags) (a : Act)
-    (o : Outcome) (t : Stepped top s a o) → slice_get acts n ≡ Some a → slice_get os n ≡ Some o → All (IsSound top) s
+tags_of_queue : (top : ℕ) (acts : List Act) (os : List Outcome) (n : ℕ) (s : State) (tags : Tags)
+    (a : Act)
+    (o : Outcome) (t : Stepped top s a o) → slice_get acts n ≡ Some a → slice_get os n ≡ Some o
+    → All (IsSound top) s
     → (x : Pid) (r : Process) → process s x ≡ Some r → AllZip (IsTag acts os x) (tags x) r.queue
     → AllZip (IsTag acts os x) (tags_after tags n a t.done.place x)
     (queue_after a t.done.local.token x (if pid_eq r.pid (actor a) then t.done.queue else r.queue))
 tags_of_queue top acts os n s tags (act.Send p q v) o t at out sound x r is all =
     tags_send top acts os n s tags p q v o t at out sound x _
-    (subst (AllZip (IsTag acts os x) (tags x)) (sym (own_queue top s (act.Send p q v) o t x r (λ h. h) is)) all)
+    (subst (AllZip (IsTag acts os x) (tags x))
+    (sym (own_queue top s (act.Send p q v) o t x r (λ h. h) is)) all)
 tags_of_queue top acts os n s tags (act.Receive p w) o t at out sound x r is all =
     tags_receive top acts os n s tags p w o t x r is all
 tags_of_queue top acts os n s tags (act.Reset p) o t at out sound x r is all =
     tags_reset acts os tags p t.done.local.token x _
-    (subst (AllZip (IsTag acts os x) (tags x)) (sym (own_queue top s (act.Reset p) o t x r (λ h. h) is)) all)
+    (subst (AllZip (IsTag acts os x) (tags x))
+    (sym (own_queue top s (act.Reset p) o t x r (λ h. h) is)) all)
 tags_of_queue top acts os n s tags (act.Print p v) o t at out sound x r is all =
-    subst (AllZip (IsTag acts os x) (tags x)) (sym (own_queue top s (act.Print p v) o t x r (λ h. h) is)) all
+    subst (AllZip (IsTag acts os x) (tags x))
+    (sym (own_queue top s (act.Print p v) o t x r (λ h. h) is)) all
 tags_of_queue top acts os n s tags (act.PrintAt p l v) o t at out sound x r is all =
-    subst (AllZip (IsTag acts os x) (tags x)) (sym (own_queue top s (act.PrintAt p l v) o t x r (λ h. h) is)) all
+    subst (AllZip (IsTag acts os x) (tags x))
+    (sym (own_queue top s (act.PrintAt p l v) o t x r (λ h. h) is)) all
 tags_of_queue top acts os n s tags (act.Set p c) o t at out sound x r is all =
-    subst (AllZip (IsTag acts os x) (tags x)) (sym (own_queue top s (act.Set p c) o t x r (λ h. h) is)) all
+    subst (AllZip (IsTag acts os x) (tags x))
+    (sym (own_queue top s (act.Set p c) o t x r (λ h. h) is)) all
 tags_of_queue top acts os n s tags (act.Clear p) o t at out sound x r is all =
-    subst (AllZip (IsTag acts os x) (tags x)) (sym (own_queue top s (act.Clear p) o t x r (λ h. h) is)) all
+    subst (AllZip (IsTag acts os x) (tags x))
+    (sym (own_queue top s (act.Clear p) o t x r (λ h. h) is)) all
 tags_of_queue top acts os n s tags (act.Restore p token) o t at out sound x r is all =
-    subst (AllZip (IsTag acts os x) (tags x)) (sym (own_queue top s (act.Restore p token) o t x r (λ h. h) is)) all
+    subst (AllZip (IsTag acts os x) (tags x))
+    (sym (own_queue top s (act.Restore p token) o t x r (λ h. h) is)) all
 tags_of_queue top acts os n s tags (act.Look p) o t at out sound x r is all =
-    subst (AllZip (IsTag acts os x) (tags x)) (sym (own_queue top s (act.Look p) o t x r (λ h. h) is)) all
+    subst (AllZip (IsTag acts os x) (tags x))
+    (sym (own_queue top s (act.Look p) o t x r (λ h. h) is)) all
 tags_of_queue top acts os n s tags (act.Tracer p b) o t at out sound x r is all =
-    subst (AllZip (IsTag acts os x) (tags x)) (sym (own_queue top s (act.Tracer p b) o t x r (λ h. h) is)) all
+    subst (AllZip (IsTag acts os x) (tags x))
+    (sym (own_queue top s (act.Tracer p b) o t x r (λ h. h) is)) all
 
-pub tags_step : (top : ℕ) (acts : List Act) (os : List Outcome) (n : ℕ) (s : State) (tags : Tags) (a : Act)
-    (o : Outcome) → slice_get acts n ≡ Some a → slice_get os n ≡ Some o → step top s a ≡ Some o → All (IsSound top) s
+pub tags_step : (top : ℕ) (acts : List Act) (os : List Outcome) (n : ℕ) (s : State) (tags : Tags)
+    (a : Act)
+    (o : Outcome) → slice_get acts n ≡ Some a → slice_get os n ≡ Some o → step top s a ≡ Some o
+    → All (IsSound top) s
     → AreTags acts os s tags → AreTags acts os o.after (tags_after tags n a o.place)
 tags_step top acts os n s tags a o at out h sound are =
     let t = step_parts top s a o h in
     let place : t.done.place ≡ o.place = ap (λ (x : Outcome). x.place) t.is_outcome in
     record {
       queues = λ x r is.
-          let parts = mapped (changed a t.done) (process s x) r (sym (process_after top s a o t x) ∙ is) in
+          let parts = mapped (changed a t.done) (process s x) r
+          (sym (process_after top s a o t x) ∙ is) in
           let old = parts.0 in
           let who = process_pid s x old parts.1 in
-          let queue : queue_after a t.done.local.token x (if pid_eq old.pid (actor a) then t.done.queue else old.queue)
+          let queue : queue_after a t.done.local.token x
+          (if pid_eq old.pid (actor a) then t.done.queue else old.queue)
           ≡ r.queue =
-          ap (λ y. queue_after a t.done.local.token y (if pid_eq old.pid (actor a) then t.done.queue else old.queue))
+          ap (λ y. queue_after a t.done.local.token y
+          (if pid_eq old.pid (actor a) then t.done.queue else old.queue))
           (sym who)
           ∙ sym (changed_queue a t.done old)
           ∙ ap (λ (y : Process). y.queue) parts.2 in
           subst (λ k. AllZip (IsTag acts os x) (tags_after tags n a k x) r.queue) place
           (subst (AllZip (IsTag acts os x) (tags_after tags n a t.done.place x)) queue
-          (tags_of_queue top acts os n s tags a o t at out sound x old parts.1 (are.queues x old parts.1)));
+          (tags_of_queue top acts os n s tags a o t at out sound x old parts.1
+          (are.queues x old parts.1)));
     }
 
 -- AT THE START
 
-zero_queue : (pids : List Pid) (p : Pid) (r : Process) → process (zero_state pids) p ≡ Some r → r.queue ≡ []
+zero_queue : (pids : List Pid) (p : Pid) (r : Process) → process (zero_state pids) p ≡ Some r
+    → r.queue ≡ []
 zero_queue pids p r is =
     process_holds (λ x. x.queue ≡ []) (zero_state pids) p r is
-    (All-map (λ (x : Process). x.queue ≡ []) (λ q. record { pid = q; local = zero_local; queue = [] }) pids
+    (All-map (λ (x : Process). x.queue ≡ [])
+    (λ q. record { pid = q; local = zero_local; queue = [] }) pids
     (λ k d within. refl))
 
-pub no_tags_are : (acts : List Act) (os : List Outcome) (pids : List Pid) → AreTags acts os (zero_state pids) no_tags
+pub no_tags_are : (acts : List Act) (os : List Outcome) (pids : List Pid)
+    → AreTags acts os (zero_state pids) no_tags
 no_tags_are acts os pids =
-    record { queues = λ p r is. subst (AllZip (IsTag acts os p) []) (sym (zero_queue pids p r is)) tt }
+    record {
+      queues = λ p r is. subst (AllZip (IsTag acts os p) []) (sym (zero_queue pids p r is))
+          tt;
+    }

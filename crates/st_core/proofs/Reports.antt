@@ -1,9 +1,9 @@
 -- An event of a process's stream is the report of one of its acts, and each report an event, since
 -- a stream is its acts' reports in their order: so of two events the earlier one is an earlier
 -- act's.
-use Rattle.std.proofs.Common.{◌≡◌, ℕ, ◌+◌, ◌<◌, ◌≤◌, ◌⊎◌, zero, suc, Bool, true, false, List, [], ◌∷◌, ◌++◌, length}
-use Rattle.std.proofs.Common.{take, drop, Option, Some, None, option_to_list, inl, inr, refl, sym, ◌∙◌, ap, arith}
-use Rattle.std.proofs.Common.{length-append, if◌then◌else◌}
+use Rattle.std.proofs.Common.{◌≡◌, ℕ, ◌+◌, ◌<◌, ◌≤◌, ◌⊎◌, zero, suc, Bool, true, false, List, []}
+use Rattle.std.proofs.Common.{◌∷◌, ◌++◌, length, take, drop, Option, Some, None, option_to_list}
+use Rattle.std.proofs.Common.{inl, inr, refl, sym, ◌∙◌, ap, arith, length-append, if◌then◌else◌}
 use Rattle.std.specs.List.{slice_get}
 use Rattle.std.proofs.lemmas.Bool.{cases_lt}
 use Rattle.std.proofs.lemmas.List.{take-take}
@@ -24,8 +24,10 @@ told p a o = if pid_eq (actor a) p then option_to_list o.report else []
 
 -- the first event is this act's report, or event i is after what this act reports
 pub front : (mine : Bool) (report : Option Event) (rest : List Event) (i : ℕ) (e : Event)
-    → (let here : List Event = if mine then option_to_list report else [] in slice_get (here ++ rest) i ≡ Some e
-    → ((i ≡ 0) × (mine ≡ true) × (report ≡ Some e)) ⊎ ((j : ℕ) × (length here + j ≡ i) × (slice_get rest j ≡ Some e)))
+    → (let here : List Event = if mine then option_to_list report else [] in
+    slice_get (here ++ rest) i ≡ Some e
+    → ((i ≡ 0) × (mine ≡ true) × (report ≡ Some e))
+    ⊎ ((j : ℕ) × (length here + j ≡ i) × (slice_get rest j ≡ Some e)))
 front false report rest i e h = inr (i, omega arith, h)
 front true None rest i e h = inr (i, omega arith, h)
 front true (Some x) rest zero e h = inl (refl, refl, h)
@@ -40,7 +42,13 @@ event_reported (a ∷ acts) (o ∷ os) p i e h =
       | inl now ↦ (
         0,
         record {
-          reports = record { act = a; at = refl; own = pid_eq-true (actor a) p now.1; report = now.2 };
+          reports = record {
+            act = a;
+            at = refl;
+            own = pid_eq-true (actor a) p now.1;
+            report =
+                now.2;
+          };
           before = sym now.0;
         },
       )
@@ -67,7 +75,8 @@ count_rises acts os p m n le =
     let back = stream (drop m (take n acts)) (drop m (take n os)) p in
     let whole = ap length (stream-take m (take n acts) (take n os) p) ∙ length-append front back in
     let same : front ≡ stream (take m acts) (take m os) p =
-    ap (λ xs. stream xs (take m (take n os)) p) (take-take m n acts le) ∙ ap (λ ys. stream (take m acts) ys p)
+    ap (λ xs. stream xs (take m (take n os)) p) (take-take m n acts le)
+    ∙ ap (λ ys. stream (take m acts) ys p)
     (take-take m n os le) in
     let even = ap length same in
     omega arith
@@ -85,13 +94,15 @@ reported_in_order acts os p i j m n d e first second less = elim (cases_lt m n) 
 ]
 
 -- after what an earlier act reports
-behind : {A : Type 0} (xs ys : List A) (i j : ℕ) → length xs + j ≡ i → slice_get (xs ++ ys) i ≡ slice_get ys j
+behind : {A : Type 0} (xs ys : List A) (i j : ℕ) → length xs + j ≡ i
+    → slice_get (xs ++ ys) i ≡ slice_get ys j
 behind [] ys i j e = let same : i ≡ j = omega arith in ap (slice_get ys) same
 behind (x ∷ xs) ys zero j e = absurd (omega arith)
 behind (x ∷ xs) ys (suc i) j e = behind xs ys i j (omega arith)
 
 -- each report is in its process's stream, after those of the acts before
-pub report_told : (acts : List Act) (os : List Outcome) (p : Pid) (n : ℕ) (e : Event) → Reports acts os p n e
+pub report_told : (acts : List Act) (os : List Outcome) (p : Pid) (n : ℕ) (e : Event)
+    → Reports acts os p n e
     → slice_get (stream acts os p) (length (stream (take n acts) (take n os) p)) ≡ Some e
 report_told [] os p n e r = absurd (none-some r.act r.at)
 report_told (a ∷ acts) [] p n e r = absurd (none-some e r.report)
@@ -99,10 +110,12 @@ report_told (a ∷ acts) (o ∷ os) p zero e r =
     let tail = stream acts os p in
     let mine : pid_eq (actor a) p ≡ true =
     ap (λ q. pid_eq q p) (ap actor (same_Some a r.act r.at) ∙ r.own) ∙ pid_eq-same p in
-    let here = λ (b : Bool) (x : Option Event). slice_get ((if b then option_to_list x else []) ++ tail) 0 in
+    let here = λ (b : Bool) (x : Option Event).
+    slice_get ((if b then option_to_list x else []) ++ tail) 0 in
     ap (λ b. here b o.report) mine ∙ ap (here true) r.report
 report_told (a ∷ acts) (o ∷ os) p (suc n) e r =
     let rest = stream (take n acts) (take n os) p in
-    let later = report_told acts os p n e (record { act = r.act; at = r.at; own = r.own; report = r.report }) in
+    let later = report_told acts os p n e
+    (record { act = r.act; at = r.at; own = r.own; report = r.report }) in
     behind (told p a o) (stream acts os p) (length (told p a o ++ rest)) (length rest)
     (sym (length-append (told p a o) rest)) ∙ later

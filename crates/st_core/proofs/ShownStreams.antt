@@ -1,7 +1,7 @@
 -- Streams by rising pid that acts show can be collected: each event is its process's own and names
 -- only processes that are there.
-use Rattle.std.proofs.Common.{◌≡◌, ℕ, true, false, cond, not, ◌&&◌, ◌||◌, if◌then◌else◌, List, [], ◌∷◌, ◌++◌, Option}
-use Rattle.std.proofs.Common.{Some, None, is_some, refl, ◌∙◌, ap, subst}
+use Rattle.std.proofs.Common.{◌≡◌, ℕ, true, false, cond, not, ◌&&◌, ◌||◌, if◌then◌else◌, List, []}
+use Rattle.std.proofs.Common.{◌∷◌, ◌++◌, Option, Some, None, is_some, refl, ◌∙◌, ap, subst}
 use Rattle.std.specs.Prelude.{All, option_to_list}
 use Rattle.std.specs.Option.{ForSome, option_map_or}
 use Rattle.std.specs.List.{AllByRecursion, AllZip}
@@ -12,8 +12,8 @@ use Rattle.st_core.specs.declared.types.Act.{Act}
 use Rattle.st_core.specs.Pid.{pid_eq, IsRising}
 use Rattle.st_core.specs.Step.{Outcome, actor}
 use Rattle.st_core.specs.Run.{Shows, Stream, pids_of, stream}
-use Rattle.st_core.specs.Streams.{stream_of, lists, names_listed, unlisted_among, is_own, AreOwn, IsStreams, is_among}
-use Rattle.st_core.specs.Streams.{names_among}
+use Rattle.st_core.specs.Streams.{stream_of, lists, names_listed, unlisted_among, is_own, AreOwn}
+use Rattle.st_core.specs.Streams.{IsStreams, is_among, names_among}
 use Rattle.st_core.specs.Laws.{IsReportAmong, ReportsAmong}
 use Rattle.st_core.proofs.Pids.{pid_eq-true}
 use Rattle.st_core.proofs.Collections.{position-none}
@@ -32,7 +32,8 @@ stream_among pids (a ∷ acts) (o ∷ os) p all =
       | None ↦ λ one. elim (pid_eq (actor a) p) as (λ b. AllByRecursion (IsReportAmong pids p)
           ((if b then [] else []) ++ stream acts os p)) [ true ↦ rest | false ↦ rest ]
       | Some e ↦ λ one. elim (pid_eq (actor a) p) as (λ b. pid_eq (actor a) p ≡ b
-          → AllByRecursion (IsReportAmong pids p) ((if b then e ∷ [] else []) ++ stream acts os p)) [
+          → AllByRecursion (IsReportAmong pids p)
+          ((if b then e ∷ [] else []) ++ stream acts os p)) [
             | true ↦ λ is. (
               subst (λ q. IsReportAmong pids q e) (pid_eq-true (actor a) p is)
                   (one e refl),

@@ -1,14 +1,15 @@
--- Clocks and queued tokens stay sound, since an act changes them by a stamp, which lifts the clock above last, by a
--- receive of a token that was stamped, or to zero.
-use Rattle.std.proofs.Common.{◌≡◌, ℕ, ◌+◌, ◌<◌, ◌≤◌, suc, Bool, true, false, cond, nat_lt, ◌&&◌, List, [], ◌∷◌, ◌++◌}
-use Rattle.std.proofs.Common.{map, Option, Some, None, is_some, option_map, All, refl, sym, ◌∙◌, ap, subst, arith}
+-- Clocks and queued tokens stay sound, since an act changes them by a stamp, which lifts the clock
+-- above last, by a receive of a token that was stamped, or to zero.
+use Rattle.std.proofs.Common.{◌≡◌, ℕ, ◌+◌, ◌<◌, ◌≤◌, suc, Bool, true, false, cond, nat_lt, ◌&&◌}
+use Rattle.std.proofs.Common.{List, [], ◌∷◌, ◌++◌, map, Option, Some, None, is_some, option_map}
+use Rattle.std.proofs.Common.{All, refl, sym, ◌∙◌, ap, subst, arith}
 use Rattle.std.specs.Option.{ForSome}
 use Rattle.std.specs.List.{slice_get, remove}
 use Rattle.std.proofs.lemmas.Bool.{ltb-true}
-use Rattle.std.proofs.lemmas.Option.{same_Some, none-some, cond_some, option_and_then_some, slice_get_within}
-use Rattle.std.proofs.lemmas.Option.{get_or_from_slice_get}
-use Rattle.std.proofs.lemmas.List.Elements.{All-nil, All-cons, All-head, All-tail, All-append, All-push, All-map}
-use Rattle.std.proofs.lemmas.List.Elements.{All-take, All-drop}
+use Rattle.std.proofs.lemmas.Option.{same_Some, none-some, cond_some, option_and_then_some}
+use Rattle.std.proofs.lemmas.Option.{slice_get_within, get_or_from_slice_get}
+use Rattle.std.proofs.lemmas.List.Elements.{All-nil, All-cons, All-head, All-tail, All-append}
+use Rattle.std.proofs.lemmas.List.Elements.{All-push, All-map, All-take, All-drop}
 use Rattle.st_core.specs.declared.types.Pid.{Pid}
 use Rattle.st_core.specs.declared.types.Token.{Token}
 use Rattle.st_core.specs.declared.types.Message.{Message}
@@ -27,8 +28,8 @@ use Rattle.st_core.specs.Stamp.{stamp, stamp_any, stamped_token}
 use Rattle.st_core.specs.Local.{received, with_set, default_token, wiped, has_label}
 use Rattle.st_core.specs.Pick.{matches, pick, pick_from}
 use Rattle.st_core.specs.Report.{flag_of, report, token_event}
-use Rattle.st_core.specs.Step.{Acted, Outcome, acted, actor, answers, sends, prints, receives, untraced, reached}
-use Rattle.st_core.specs.Step.{changed, step}
+use Rattle.st_core.specs.Step.{Acted, Outcome, acted, actor, answers, sends, prints, receives}
+use Rattle.st_core.specs.Step.{untraced, reached, changed, step}
 use Rattle.st_core.specs.Run.{run, run_from}
 use Rattle.st_core.specs.Laws.{IsStamped, IsSound, KeepsSound}
 use Rattle.st_core.proofs.Others.{mapped, process_pid, step_parts, run_parts}
@@ -44,8 +45,10 @@ pub record IsAfterStamp (top : ℕ) (p : Pid) (l : LocalState) : Type 0 where
 pub stamp_sound : (top : ℕ) (p : Pid) (l m : LocalState) → l.last ≤ l.clock → stamp top p l ≡ Some m
     → IsAfterStamp top p m
 stamp_sound top p l m ordered h =
-    let made = λ (t : Token). record l { token = Some (stamped_token p l t); clock = l.clock + 1 } in
-    option_and_then_some (λ t. cond (nat_lt l.clock top) (Some (made t)) None) l.token m h (λ t0 _ at.
+    let made = λ (t : Token).
+    record l { token = Some (stamped_token p l t); clock = l.clock + 1 } in
+    option_and_then_some (λ t. cond (nat_lt l.clock top) (Some (made t)) None) l.token m h
+    (λ t0 _ at.
     let parts =
     cond_some (nat_lt l.clock top) (made t0) m at in
     let below : l.clock < top = ltb-true l.clock top parts.0 in
@@ -57,11 +60,18 @@ stamp_sound top p l m ordered h =
       token = λ t e. subst (IsStamped top p) (same_Some (stamped_token p l t0) t e) stamped;
     }))
 
-stamp_any_at : (top : ℕ) (p : Pid) (l m : LocalState) → l.last ≤ l.clock → l.clock ≤ top → (token : Option Token)
-    → l.token ≡ token → cond (is_some token) (stamp top p l) (Some l) ≡ Some m → IsAfterStamp top p m
+stamp_any_at : (top : ℕ) (p : Pid) (l m : LocalState) → l.last ≤ l.clock → l.clock ≤ top
+    → (token : Option Token)
+    → l.token ≡ token → cond (is_some token) (stamp top p l) (Some l) ≡ Some m
+    → IsAfterStamp top p m
 stamp_any_at top p l m ordered within None e h =
     subst (IsAfterStamp top p) (same_Some l m h)
-    (record { ordered = ordered; within = within; token = λ t is. absurd (none-some t (sym e ∙ is)) })
+    (record {
+      ordered = ordered;
+      within = within;
+      token =
+          λ t is. absurd (none-some t (sym e ∙ is));
+    })
 stamp_any_at top p l m ordered within (Some t) e h = stamp_sound top p l m ordered h
 
 pub stamp_any_sound : (top : ℕ) (p : Pid) (l m : LocalState) → l.last ≤ l.clock → l.clock ≤ top
@@ -70,7 +80,8 @@ stamp_any_sound top p l m ordered within h = stamp_any_at top p l m ordered with
 
 -- THE PICK
 
-pick_from_found : (k : ℕ) (w : Want) (queue : List Message) (found : ℕ × Message) → pick_from k w queue ≡ Some found
+pick_from_found : (k : ℕ) (w : Want) (queue : List Message) (found : ℕ × Message)
+    → pick_from k w queue ≡ Some found
     → (j : ℕ) × (found.0 ≡ k + j) × (slice_get queue j ≡ Some found.1)
 pick_from_found k w [] found h = absurd (none-some found h)
 pick_from_found k w (m ∷ ms) found h =
@@ -96,10 +107,13 @@ pick_found w queue found h =
     ap (slice_get queue) (sym same) ∙ at.2
 
 -- what holds of each element holds of one
-pub All_at : {X : Type 0} (P : X → Type 0) (xs : List X) (k : ℕ) (x : X) → slice_get xs k ≡ Some x → All P xs → P x
-All_at P xs k x h all = subst P (get_or_from_slice_get xs k x x h) (all k x (slice_get_within xs k x h))
+pub All_at : {X : Type 0} (P : X → Type 0) (xs : List X) (k : ℕ) (x : X) → slice_get xs k ≡ Some x
+    → All P xs → P x
+All_at P xs k x h all = subst P (get_or_from_slice_get xs k x x h)
+    (all k x (slice_get_within xs k x h))
 
-pub All-remove : {X : Type 0} (P : X → Type 0) (xs : List X) (k : ℕ) → All P xs → All P (remove xs k)
+pub All-remove : {X : Type 0} (P : X → Type 0) (xs : List X) (k : ℕ) → All P xs
+    → All P (remove xs k)
 All-remove P xs k all = All-append P _ _ (All-take P k xs all) (All-drop P (suc k) xs all)
 
 -- THE ACTOR'S PART
@@ -118,14 +132,16 @@ pub record IsActed (top : ℕ) (a : Act) (r : Process) (done : Acted) : Type 0 w
   pub report : ForSome done.report Rises
 
 -- the event of a stamped token
-report_rises : (top : ℕ) (p : Pid) (traced : Bool) (k : Kind) (token : Option Token) (to : Option Pid) (value : ℕ)
+report_rises : (top : ℕ) (p : Pid) (traced : Bool) (k : Kind) (token : Option Token)
+    (to : Option Pid) (value : ℕ)
     → ForSome token (IsStamped top p) → ForSome (report traced k token to value) Rises
 report_rises top p traced k None to value stamped e h = absurd (none-some e h)
 report_rises top p traced k (Some t) to value stamped e h =
     let parts = cond_some (traced && flag_of k t.flags) (token_event k t to value) e h in
     subst Rises parts.1 ((stamped t refl).rises)
 
-answered : (top : ℕ) (a : Act) (r : Process) (l : LocalState) (y : Reply) → IsSound top r → l.last ≤ l.clock
+answered : (top : ℕ) (a : Act) (r : Process) (l : LocalState) (y : Reply) → IsSound top r
+    → l.last ≤ l.clock
     → l.clock ≤ top → SendsStamped top a l.token → IsActed top a r (answers r l y)
 answered top a r l y s ordered within sent = record {
   actor = record { ordered = ordered; within = within; queued = s.queued };
@@ -133,8 +149,10 @@ answered top a r l y s ordered within sent = record {
   report = λ e h. absurd (none-some e h);
 }
 
-printed : (top : ℕ) (a : Act) (r : Process) (v : ℕ) (stamped : Option LocalState) (done : Acted) → IsSound top r
-    → ((t : Option Token) → SendsStamped top a t) → ((m : LocalState) → stamped ≡ Some m → IsAfterStamp top r.pid m)
+printed : (top : ℕ) (a : Act) (r : Process) (v : ℕ) (stamped : Option LocalState) (done : Acted)
+    → IsSound top r
+    → ((t : Option Token) → SendsStamped top a t)
+    → ((m : LocalState) → stamped ≡ Some m → IsAfterStamp top r.pid m)
     → option_map (prints r v) stamped ≡ Some done → IsActed top a r done
 printed top a r v stamped done s unsent after h =
     let parts = mapped (prints r v) stamped done h in
@@ -159,7 +177,8 @@ sent_acted top p q v r done is s h =
     })
 
 -- the counts after a receive of a stamped token
-received_ordered : (top : ℕ) (p : Pid) (l : LocalState) (token : Option Token) → l.last ≤ l.clock → l.clock ≤ top
+received_ordered : (top : ℕ) (p : Pid) (l : LocalState) (token : Option Token) → l.last ≤ l.clock
+    → l.clock ≤ top
     → ForSome token (IsStamped top p)
     → ((received l token).last ≤ (received l token).clock) × ((received l token).clock ≤ top)
 received_ordered top p l None ordered within stamped = (ordered, within)
@@ -167,35 +186,46 @@ received_ordered top p l (Some t) ordered within stamped =
     let fits : t.serial.this ≤ top = (stamped t refl).within in
     (omega arith, omega arith)
 
-received_acted : (top : ℕ) (p : Pid) (w : Want) (r : Process) (found : Option (ℕ × Message)) → pick w r.queue ≡ found
+received_acted : (top : ℕ) (p : Pid) (w : Want) (r : Process) (found : Option (ℕ × Message))
+    → pick w r.queue ≡ found
     → IsSound top r → IsActed top (act.Receive p w) r (receives r found)
-received_acted top p w r None is s = answered top (act.Receive p w) r r.local reply.Nothing s s.ordered s.within tt
+received_acted top p w r None is s =
+    answered top (act.Receive p w) r r.local reply.Nothing s s.ordered s.within tt
 received_acted top p w r (Some found) is s =
     let m = found.1 in
     let stamped : ForSome m.token (IsStamped top m.from) =
-    All_at (λ m. ForSome m.token (IsStamped top m.from)) r.queue found.0 m (pick_found w r.queue found is) s.queued in
+    All_at (λ m. ForSome m.token (IsStamped top m.from)) r.queue found.0 m
+    (pick_found w r.queue found is) s.queued in
     let counts = received_ordered top m.from r.local m.token s.ordered s.within stamped in
     record {
       actor =
           record {
             ordered = counts.0;
             within = counts.1;
-            queued = All-remove (λ m. ForSome m.token (IsStamped top m.from)) r.queue found.0 s.queued;
+            queued = All-remove (λ m. ForSome m.token (IsStamped top m.from)) r.queue found.0
+                s.queued;
           };
       sent = tt;
-      report = report_rises top m.from r.local.traced kind.Receive m.token (Some r.pid) m.value stamped;
+      report = report_rises top m.from r.local.traced kind.Receive m.token (Some r.pid) m.value
+          stamped;
     }
 
 -- the counts after a set
-set_ordered : (top : ℕ) (p : Pid) (c : Component) (l : LocalState) → l.last ≤ l.clock → l.clock ≤ top
+set_ordered : (top : ℕ) (p : Pid) (c : Component) (l : LocalState) → l.last ≤ l.clock
+    → l.clock ≤ top
     → ((with_set p c l).last ≤ (with_set p c l).clock) × ((with_set p c l).clock ≤ top)
 set_ordered top p c l ordered within =
     let begun =
     λ (token : Option Token).
     let m : LocalState =
-    elim token [ None ↦ record l { token = Some (default_token p); last = l.clock } | Some t ↦ l ] in
+    elim token [
+      | None ↦ record l { token = Some (default_token p); last = l.clock }
+      | Some t ↦
+          l
+    ] in
     m in
-    elim l.token as (λ token. ((begun token).last ≤ (begun token).clock) × ((begun token).clock ≤ top)) [
+    elim l.token as (λ token. ((begun token).last ≤ (begun token).clock)
+    × ((begun token).clock ≤ top)) [
       | None ↦ (omega arith, within)
       | Some t ↦ (ordered, within)
     ]
@@ -204,13 +234,15 @@ pub acted_sound : (top : ℕ) (a : Act) (r : Process) (done : Acted) → r.pid �
     → acted top r a ≡ Some done → IsActed top a r done
 acted_sound top (act.Send p q v) r done is s h = sent_acted top p q v r done is s h
 acted_sound top (act.Receive p w) r done is s h =
-    subst (IsActed top (act.Receive p w) r) (same_Some _ done h) (received_acted top p w r (pick w r.queue) refl s)
+    subst (IsActed top (act.Receive p w) r) (same_Some _ done h)
+    (received_acted top p w r (pick w r.queue) refl s)
 acted_sound top (act.Print p v) r done is s h =
     printed top (act.Print p v) r v (stamp_any top r.pid r.local) done s (λ t. tt)
     (λ m at. stamp_any_sound top r.pid r.local m s.ordered s.within at) h
 acted_sound top (act.PrintAt p n v) r done is s h =
     elim (has_label n r.local.token) as (λ b.
-    cond b (option_map (prints r v) (stamp top r.pid r.local)) (Some (answers r r.local reply.Done)) ≡ Some done
+    cond b (option_map (prints r v) (stamp top r.pid r.local)) (Some (answers r r.local reply.Done))
+    ≡ Some done
     → IsActed top (act.PrintAt p n v) r done) [
       | true ↦ λ h.
           printed top (act.PrintAt p n v) r v (stamp top r.pid r.local) done s (λ t. tt)
@@ -221,16 +253,20 @@ acted_sound top (act.PrintAt p n v) r done is s h =
     ] h
 acted_sound top (act.Set p c) r done is s h =
     let counts = set_ordered top r.pid c r.local s.ordered s.within in
-    subst (IsActed top (act.Set p c) r) (same_Some _ done h) (answered top (act.Set p c) r _ _ s counts.0 counts.1 tt)
+    subst (IsActed top (act.Set p c) r) (same_Some _ done h)
+    (answered top (act.Set p c) r _ _ s counts.0 counts.1 tt)
 acted_sound top (act.Clear p) r done is s h =
-    subst (IsActed top (act.Clear p) r) (same_Some _ done h) (answered top (act.Clear p) r _ _ s s.ordered s.within tt)
+    subst (IsActed top (act.Clear p) r) (same_Some _ done h)
+    (answered top (act.Clear p) r _ _ s s.ordered s.within tt)
 acted_sound top (act.Restore p t) r done is s h =
     subst (IsActed top (act.Restore p t) r) (same_Some _ done h)
     (answered top (act.Restore p t) r _ _ s s.ordered s.within tt)
 acted_sound top (act.Look p) r done is s h =
-    subst (IsActed top (act.Look p) r) (same_Some _ done h) (answered top (act.Look p) r _ _ s s.ordered s.within tt)
+    subst (IsActed top (act.Look p) r) (same_Some _ done h)
+    (answered top (act.Look p) r _ _ s s.ordered s.within tt)
 acted_sound top (act.Reset p) r done is s h =
-    subst (IsActed top (act.Reset p) r) (same_Some _ done h) (answered top (act.Reset p) r _ _ s s.ordered s.within tt)
+    subst (IsActed top (act.Reset p) r) (same_Some _ done h)
+    (answered top (act.Reset p) r _ _ s s.ordered s.within tt)
 acted_sound top (act.Tracer p b) r done is s h =
     subst (IsActed top (act.Tracer p b) r) (same_Some _ done h)
     (answered top (act.Tracer p b) r _ _ s s.ordered s.within tt)
@@ -240,12 +276,19 @@ acted_sound top (act.Tracer p b) r done is s h =
 abbrev Queued : ℕ → Message → Type 0
 Queued top m = ForSome m.token (IsStamped top m.from)
 
-reached_sound : (top : ℕ) (a : Act) (token : Option Token) (r : Process) → SendsStamped top a token → IsSound top r
+reached_sound : (top : ℕ) (a : Act) (token : Option Token) (r : Process) → SendsStamped top a token
+    → IsSound top r
     → IsSound top (reached a token r)
 reached_sound top (act.Send p q v) token r sent s =
     let m : Message = record { from = p; value = v; token = token } in
-    elim (pid_eq r.pid q) as (λ b. IsSound top (cond b (record r { queue = r.queue ++ m ∷ [] }) r)) [
-      | true ↦ record { ordered = s.ordered; within = s.within; queued = All-push (Queued top) r.queue m s.queued sent }
+    elim (pid_eq r.pid q) as (λ b.
+    IsSound top (cond b (record r { queue = r.queue ++ m ∷ [] }) r)) [
+      | true ↦ record {
+        ordered = s.ordered;
+        within = s.within;
+        queued =
+            All-push (Queued top) r.queue m s.queued sent;
+      }
       | false ↦ s
     ]
 reached_sound top (act.Reset p) token r sent s =
@@ -255,12 +298,14 @@ reached_sound top (act.Reset p) token r sent s =
           record {
             ordered = omega arith;
             within = omega arith;
-            queued = All-map (Queued top) untraced r.queue (λ k d within t e. absurd (none-some t e));
+            queued = All-map (Queued top) untraced r.queue
+                (λ k d within t e. absurd (none-some t e));
           }
       | false ↦ s
     ]
 reached_sound top (act.Tracer p on) token r sent s =
-    elim (node_eq r.pid p) as (λ b. IsSound top (cond b (record r { local = record r.local { traced = on } }) r)) [
+    elim (node_eq r.pid p) as (λ b.
+    IsSound top (cond b (record r { local = record r.local { traced = on } }) r)) [
       | true ↦ record { ordered = s.ordered; within = s.within; queued = s.queued }
       | false ↦ s
     ]
@@ -272,7 +317,8 @@ reached_sound top (act.Clear p) token r sent s = s
 reached_sound top (act.Restore p t) token r sent s = s
 reached_sound top (act.Look p) token r sent s = s
 
-changed_sound : (top : ℕ) (a : Act) (before : Process) (done : Acted) → IsActed top a before done → (r : Process)
+changed_sound : (top : ℕ) (a : Act) (before : Process) (done : Acted) → IsActed top a before done
+    → (r : Process)
     → IsSound top r → IsSound top (changed a done r)
 changed_sound top a before done part r s =
     let mine = part.actor in
@@ -286,7 +332,8 @@ changed_sound top a before done part r s =
 -- STEPS AND RUNS
 
 -- what holds of each process holds of that of p
-pub process_holds : (P : Process → Type 0) (s : State) (p : Pid) (r : Process) → process s p ≡ Some r → All P s → P r
+pub process_holds : (P : Process → Type 0) (s : State) (p : Pid) (r : Process)
+    → process s p ≡ Some r → All P s → P r
 process_holds P [] p r h all = absurd (none-some r h)
 process_holds P (x ∷ s) p r h all =
     elim (pid_eq x.pid p) as (λ b. cond b (Some x) (process s p) ≡ Some r → P r) [
@@ -294,7 +341,8 @@ process_holds P (x ∷ s) p r h all =
       | false ↦ λ h. process_holds P s p r h (All-tail P x s all)
     ] h
 
-pub step_sound : (top : ℕ) (s : State) (a : Act) (o : Outcome) → step top s a ≡ Some o → All (IsSound top) s
+pub step_sound : (top : ℕ) (s : State) (a : Act) (o : Outcome) → step top s a ≡ Some o
+    → All (IsSound top) s
     → KeepsSound top o
 step_sound top s a o h all =
     let t = step_parts top s a o h in
@@ -308,9 +356,11 @@ step_sound top s a o h all =
       report = part.report;
     })
 
-pub run_from_sound : (top : ℕ) (s : State) (acts : List Act) (os : List Outcome) → run_from top s acts ≡ Some os
+pub run_from_sound : (top : ℕ) (s : State) (acts : List Act) (os : List Outcome)
+    → run_from top s acts ≡ Some os
     → All (IsSound top) s → All (KeepsSound top) os
-run_from_sound top s [] os h all = subst (All (KeepsSound top)) (same_Some [] os h) (All-nil (KeepsSound top))
+run_from_sound top s [] os h all =
+    subst (All (KeepsSound top)) (same_Some [] os h) (All-nil (KeepsSound top))
 run_from_sound top s (a ∷ acts) os h all =
     let t = run_parts top s a acts os h in
     let kept = step_sound top s a t.first t.is_first all in
@@ -321,9 +371,15 @@ run_from_sound top s (a ∷ acts) os h all =
 pub zero_sound : (top : ℕ) (pids : List Pid) → All (IsSound top) (zero_state pids)
 zero_sound top pids =
     All-map (IsSound top) (λ p. record { pid = p; local = zero_local; queue = [] }) pids
-    (λ k d within. record { ordered = omega arith; within = omega arith; queued = All-nil (Queued top) })
+    (λ k d within. record {
+      ordered = omega arith;
+      within = omega arith;
+      queued =
+          All-nil (Queued top);
+    })
 
 -- in every run
-pub run_sound : (top : ℕ) (pids : List Pid) (acts : List Act) (os : List Outcome) → run top pids acts ≡ Some os
+pub run_sound : (top : ℕ) (pids : List Pid) (acts : List Act) (os : List Outcome)
+    → run top pids acts ≡ Some os
     → All (KeepsSound top) os
 run_sound top pids acts os h = run_from_sound top (zero_state pids) acts os h (zero_sound top pids)

@@ -27,7 +27,8 @@ pub record Underway (top : ℕ) (acts : List Act) (os : List Outcome)
   pub are : AreTags acts os s tags
 
 -- before the first act
-pub starts : (top : ℕ) (pids : List Pid) (acts : List Act) (os : List Outcome) → run top pids acts ≡ Some os
+pub starts : (top : ℕ) (pids : List Pid) (acts : List Act) (os : List Outcome)
+    → run top pids acts ≡ Some os
     → Underway top acts os 0 (zero_state pids) no_tags acts os
 starts top pids acts os h = record {
   acts_left = refl;
@@ -40,14 +41,16 @@ starts top pids acts os h = record {
 
 -- the next act, its outcome, and the run after it
 pub record Next (top : ℕ) (acts : List Act) (os : List Outcome)
-    (n : ℕ) (s : State) (tags : Tags) (a : Act) (rest : List Act) (outs : List Outcome) : Type 0 where
-  pub outcome : Outcome
-  pub others : List Outcome
-  pub is_whole : outs ≡ outcome ∷ others
-  pub act_at : slice_get acts n ≡ Some a
-  pub outcome_at : slice_get os n ≡ Some outcome
-  pub is_step : step top s a ≡ Some outcome
-  pub later : Underway top acts os (n + 1) outcome.after (tags_after tags n a outcome.place) rest others
+    (n : ℕ) (s : State) (tags : Tags) (a : Act) (rest : List Act) (outs : List Outcome) : Type 0
+  where
+    pub outcome : Outcome
+    pub others : List Outcome
+    pub is_whole : outs ≡ outcome ∷ others
+    pub act_at : slice_get acts n ≡ Some a
+    pub outcome_at : slice_get os n ≡ Some outcome
+    pub is_step : step top s a ≡ Some outcome
+    pub later : Underway top acts os (n + 1) outcome.after (tags_after tags n a outcome.place) rest
+        others
 
 pub next : (top : ℕ) (acts : List Act) (os : List Outcome)
     (n : ℕ) (s : State) (tags : Tags) (a : Act) (rest : List Act) (outs : List Outcome)

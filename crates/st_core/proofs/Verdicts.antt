@@ -1,8 +1,8 @@
--- A verdict that computes is the verdict, since it looks at each front of the run in turn; by it worked cases
--- evaluate.
-use Rattle.std.proofs.Common.{◌≡◌, ℕ, ◌+◌, ◌<◌, ◌≤◌, ◌&&◌, zero, suc, Bool, true, false, not, cond, List, [], ◌∷◌}
-use Rattle.std.proofs.Common.{◌++◌, length, take, find, Option, Some, None, is_some, ◌⊎◌, inl, inr, refl, sym, ◌∙◌, ap}
-use Rattle.std.proofs.Common.{subst, arith}
+-- A verdict that computes is the verdict, since it looks at each front of the run in turn; by it
+-- worked cases evaluate.
+use Rattle.std.proofs.Common.{◌≡◌, ℕ, ◌+◌, ◌<◌, ◌≤◌, ◌&&◌, zero, suc, Bool, true, false, not, cond}
+use Rattle.std.proofs.Common.{List, [], ◌∷◌, ◌++◌, length, take, find, Option, Some, None, is_some}
+use Rattle.std.proofs.Common.{◌⊎◌, inl, inr, refl, sym, ◌∙◌, ap, subst, arith}
 use Rattle.std.specs.List.{AllByRecursion, list_all}
 use mathlib.Core.List.{IsPrefix}
 use Rattle.std.proofs.lemmas.Bool.{false≢true, cases_lt}
@@ -15,7 +15,8 @@ use Rattle.st_core.specs.Event.{event_eq}
 use Rattle.st_core.specs.Step.{Outcome}
 use Rattle.st_core.specs.Run.{Stream, pids_of, run, stream}
 use Rattle.st_core.specs.Pairs.{pairs}
-use Rattle.st_core.specs.Verdict.{Verdict, Stuck, Differs, Left, Yes, IsPassing, Passes, left_over, IsVerdict}
+use Rattle.st_core.specs.Verdict.{Verdict, Stuck, Differs, Left, Yes, IsPassing, Passes, left_over}
+use Rattle.st_core.specs.Verdict.{IsVerdict}
 use Rattle.st_core.proofs.Events.{event_eq-true, event_eq-same}
 use Rattle.st_core.proofs.Runs.{FailsAt}
 use Rattle.st_core.proofs.Exists.{none_passes, passed_yes}
@@ -45,7 +46,8 @@ numbers_from n (a ∷ acts) = n ∷ numbers_from (n + 1) acts
 
 -- the first act that fails to pass
 abbrev pub first_fault : ℕ → List Stream → List Act → Option ℕ
-first_fault top streams acts = find (λ n. not (passes top streams (take (n + 1) acts))) (numbers_from 0 acts)
+first_fault top streams acts =
+    find (λ n. not (passes top streams (take (n + 1) acts))) (numbers_from 0 acts)
 
 -- the verdict if act n fails, by the run of the acts up to it
 abbrev pub failed : ℕ → Option (List Outcome) → Verdict
@@ -101,12 +103,14 @@ all_complete : (acts : List Act) (os : List Outcome) (streams : List Stream)
     → list_all (λ x. is_front (stream acts os x.pid) x.events) streams ≡ true
 all_complete acts os [] all = refl
 all_complete acts os (x ∷ streams) all =
-    rw (front_complete (stream acts os x.pid) x.events all.0.0 all.0.1) (all_complete acts os streams all.1)
+    rw (front_complete (stream acts os x.pid) x.events all.0.0 all.0.1)
+    (all_complete acts os streams all.1)
 
 -- ACTS THAT PASS
 
 fronts_sound : (top : ℕ) (streams : List Stream) (acts : List Act) (outs : Option (List Outcome))
-    → run top (pids_of streams) acts ≡ outs → fronts streams acts outs ≡ true → Passes top streams acts
+    → run top (pids_of streams) acts ≡ outs → fronts streams acts outs ≡ true
+    → Passes top streams acts
 fronts_sound top streams acts None e h = absurd (false≢true h)
 fronts_sound top streams acts (Some os) e h = (
   os,
@@ -119,7 +123,8 @@ fronts_sound top streams acts (Some os) e h = (
 
 passes_sound : (top : ℕ) (streams : List Stream) (acts : List Act) → passes top streams acts ≡ true
     → Passes top streams acts
-passes_sound top streams acts h = fronts_sound top streams acts (run top (pids_of streams) acts) refl h
+passes_sound top streams acts h =
+    fronts_sound top streams acts (run top (pids_of streams) acts) refl h
 
 passes_complete : (top : ℕ) (streams : List Stream) (acts : List Act) → Passes top streams acts
     → passes top streams acts ≡ true
@@ -138,14 +143,20 @@ record IsFirst (test : ℕ → Bool) (k : ℕ) (acts : List Act) (n : ℕ) : Typ
   before : (m : ℕ) → k ≤ m → m < n → test m ≡ false
 
 below_or_at : (k m : ℕ) → k ≤ m → (k ≡ m) ⊎ (k + 1 ≤ m)
-below_or_at k m above = elim (cases_lt k m) [ inl below ↦ inr (omega arith) | inr at ↦ inl (omega arith) ]
+below_or_at k m above = elim (cases_lt k m) [
+  | inl below ↦ inr (omega arith)
+  | inr at ↦
+      inl (omega arith)
+]
 
-number_found : (test : ℕ → Bool) (k : ℕ) (acts : List Act) (n : ℕ) → find test (numbers_from k acts) ≡ Some n
+number_found : (test : ℕ → Bool) (k : ℕ) (acts : List Act) (n : ℕ)
+    → find test (numbers_from k acts) ≡ Some n
     → IsFirst test k acts n
 number_found test k [] n h = absurd (none-some n h)
 number_found test k (a ∷ acts) n h =
     elim (test k) as (λ b.
-    test k ≡ b → cond b (Some k) (find test (numbers_from (k + 1) acts)) ≡ Some n → IsFirst test k (a ∷ acts) n) [
+    test k ≡ b → cond b (Some k) (find test (numbers_from (k + 1) acts)) ≡ Some n
+    → IsFirst test k (a ∷ acts) n) [
       | true ↦ λ e h.
           let same : k ≡ n = same_Some k n h in
           record {
@@ -169,7 +180,8 @@ number_found test k (a ∷ acts) n h =
           }
     ] refl h
 
-number_missing : (test : ℕ → Bool) (k : ℕ) (acts : List Act) (m : ℕ) → find test (numbers_from k acts) ≡ None → k ≤ m
+number_missing : (test : ℕ → Bool) (k : ℕ) (acts : List Act) (m : ℕ)
+    → find test (numbers_from k acts) ≡ None → k ≤ m
     → m < k + length acts → test m ≡ false
 number_missing test k [] m h above below = absurd (omega arith)
 number_missing test k (a ∷ acts) m h above below =
@@ -185,7 +197,8 @@ number_missing test k (a ∷ acts) m h above below =
 -- THE VERDICT
 
 passing_before : (top : ℕ) (streams : List Stream) (acts : List Act) (n : ℕ)
-    → ((m : ℕ) → m < n → not (passes top streams (take (m + 1) acts)) ≡ false) → Passes top streams (take n acts)
+    → ((m : ℕ) → m < n → not (passes top streams (take (m + 1) acts)) ≡ false)
+    → Passes top streams (take n acts)
 passing_before top streams acts zero before = none_passes top streams
 passing_before top streams acts (suc n) before =
     let next : n + 1 ≡ suc n = omega arith in
@@ -199,29 +212,36 @@ failed_is top streams acts n f None e = (f.within, f.before, e)
 failed_is top streams acts n f (Some os) e =
     (f.within, f.before, ap (λ (o : Option (List Outcome)). is_some o) e, f.fails)
 
-passed_is : (top : ℕ) (streams : List Stream) (acts : List Act) (os : List Outcome) → IsPassing top streams acts os
-    → (left : Option Stream) → left_over streams acts os ≡ left → IsVerdict top streams acts (passed acts os left)
+passed_is : (top : ℕ) (streams : List Stream) (acts : List Act) (os : List Outcome)
+    → IsPassing top streams acts os
+    → (left : Option Stream) → left_over streams acts os ≡ left
+    → IsVerdict top streams acts (passed acts os left)
 passed_is top streams acts os passing (Some x) e = (os, passing, x, e, refl)
 passed_is top streams acts os passing None e = passed_yes top streams acts os passing e
 
 judged_is : (top : ℕ) (streams : List Stream) (acts : List Act) (fault : Option ℕ)
-    → first_fault top streams acts ≡ fault → IsVerdict top streams acts (judged top streams acts fault)
+    → first_fault top streams acts ≡ fault
+    → IsVerdict top streams acts (judged top streams acts fault)
 judged_is top streams acts (Some n) e =
     let first = number_found (λ n. not (passes top streams (take (n + 1) acts))) 0 acts n e in
     let within : n < 0 + length acts = first.within in
     let fails : FailsAt top streams acts n = record {
       within = omega arith;
       before = passing_before top streams acts n (λ m below. first.before m (omega arith) below);
-      fails = λ h. false≢true (sym (not_true _ first.passes) ∙ passes_complete top streams (take (n + 1) acts) h);
+      fails = λ h. false≢true (sym (not_true _ first.passes)
+          ∙ passes_complete top streams (take (n + 1) acts) h);
     } in
     failed_is top streams acts n fails (run top (pids_of streams) (take (n + 1) acts)) refl
 judged_is top streams acts None e =
     let all =
     passing_before top streams acts (length acts)
     (λ m below.
-    number_missing (λ n. not (passes top streams (take (n + 1) acts))) 0 acts m e (omega arith) (omega arith)) in
-    let whole : Passes top streams acts = subst (Passes top streams) (take_all (length acts) acts (omega arith)) all in
-    subst (λ (outs : Option (List Outcome)). IsVerdict top streams acts (ended streams acts outs)) (sym whole.1.runs)
+    number_missing (λ n. not (passes top streams (take (n + 1) acts))) 0 acts m e (omega arith)
+    (omega arith)) in
+    let whole : Passes top streams acts =
+    subst (Passes top streams) (take_all (length acts) acts (omega arith)) all in
+    subst (λ (outs : Option (List Outcome)). IsVerdict top streams acts (ended streams acts outs))
+    (sym whole.1.runs)
     (passed_is top streams acts whole.0 whole.1 (left_over streams acts whole.0) refl)
 
 -- what is computed is the verdict
@@ -230,6 +250,7 @@ pub verdict_is : (top : ℕ) (streams : List Stream) (acts : List Act)
 verdict_is top streams acts = judged_is top streams acts (first_fault top streams acts) refl
 
 -- so what it computes to is the verdict
-pub computed : (top : ℕ) (streams : List Stream) (acts : List Act) (v : Verdict) → verdict top streams acts ≡ v
+pub computed : (top : ℕ) (streams : List Stream) (acts : List Act) (v : Verdict)
+    → verdict top streams acts ≡ v
     → IsVerdict top streams acts v
 computed top streams acts v h = subst (IsVerdict top streams acts) h (verdict_is top streams acts)

@@ -1,7 +1,8 @@
 -- A fact about two lists place by place, or about all pairs of one, stays so if both lose the same
 -- place or gain one at the end, by induction over the lists.
-use Rattle.std.proofs.Common.{◌≡◌, ℕ, ◌+◌, ◌<◌, ◌≤◌, ◌≢◌, zero, suc, List, [], ◌∷◌, ◌++◌, length, take, drop, map}
-use Rattle.std.proofs.Common.{get_or, Some, All, AllPairs, refl, sym, ◌∙◌, ap, subst, arith, inl, inr}
+use Rattle.std.proofs.Common.{◌≡◌, ℕ, ◌+◌, ◌<◌, ◌≤◌, ◌≢◌, zero, suc, List, [], ◌∷◌, ◌++◌, length}
+use Rattle.std.proofs.Common.{take, drop, map, get_or, Some, All, AllPairs, refl, sym, ◌∙◌, ap}
+use Rattle.std.proofs.Common.{subst, arith, inl, inr}
 use Rattle.std.specs.List.{AllZip, slice_get, remove}
 use Rattle.std.proofs.lemmas.Bool.{cases_lt}
 use Rattle.std.proofs.lemmas.List.{take_all, drop_all, append-nil, drop-drop}
@@ -12,14 +13,16 @@ use Rattle.st_core.specs.Pairs.{pairs}
 
 -- TWO LISTS PLACE BY PLACE
 
-pub AllZip_push : {A B : Type 0} (R : A → B → Type 0) (xs : List A) (ys : List B) (x : A) (y : B) → AllZip R xs ys
+pub AllZip_push : {A B : Type 0} (R : A → B → Type 0) (xs : List A) (ys : List B) (x : A) (y : B)
+    → AllZip R xs ys
     → R x y → AllZip R (xs ++ x ∷ []) (ys ++ y ∷ [])
 AllZip_push R [] [] x y all one = (one, tt)
 AllZip_push R [] (b ∷ ys) x y all one = absurd all
 AllZip_push R (a ∷ xs) [] x y all one = absurd all
 AllZip_push R (a ∷ xs) (b ∷ ys) x y all one = (all.0, AllZip_push R xs ys x y all.1 one)
 
-pub AllZip_remove : {A B : Type 0} (R : A → B → Type 0) (xs : List A) (ys : List B) (k : ℕ) → AllZip R xs ys
+pub AllZip_remove : {A B : Type 0} (R : A → B → Type 0) (xs : List A) (ys : List B) (k : ℕ)
+    → AllZip R xs ys
     → AllZip R (remove xs k) (remove ys k)
 AllZip_remove R [] [] zero all = tt
 AllZip_remove R [] [] (suc k) all = tt
@@ -28,14 +31,16 @@ AllZip_remove R (a ∷ xs) [] k all = absurd all
 AllZip_remove R (a ∷ xs) (b ∷ ys) zero all = all.1
 AllZip_remove R (a ∷ xs) (b ∷ ys) (suc k) all = (all.0, AllZip_remove R xs ys k all.1)
 
-pub AllZip_map : {A B : Type 0} (R : A → B → Type 0) (f : B → B) → ((x : A) (y : B) → R x y → R x (f y)) → (xs : List A)
+pub AllZip_map : {A B : Type 0} (R : A → B → Type 0) (f : B → B)
+    → ((x : A) (y : B) → R x y → R x (f y)) → (xs : List A)
     (ys : List B) → AllZip R xs ys → AllZip R xs (map f ys)
 AllZip_map R f keeps [] [] all = tt
 AllZip_map R f keeps [] (b ∷ ys) all = absurd all
 AllZip_map R f keeps (a ∷ xs) [] all = absurd all
 AllZip_map R f keeps (a ∷ xs) (b ∷ ys) all = (keeps a b all.0, AllZip_map R f keeps xs ys all.1)
 
-pub AllZip_at : {A B : Type 0} (R : A → B → Type 0) (xs : List A) (ys : List B) (k : ℕ) (x : A) (y : B) → AllZip R xs ys
+pub AllZip_at : {A B : Type 0} (R : A → B → Type 0) (xs : List A) (ys : List B) (k : ℕ) (x : A)
+    (y : B) → AllZip R xs ys
     → slice_get xs k ≡ Some x → slice_get ys k ≡ Some y → R x y
 AllZip_at R [] ys k x y all at there = absurd (none-some x at)
 AllZip_at R (a ∷ xs) [] k x y all at there = absurd all
@@ -58,19 +63,22 @@ remove_past xs k past =
     ∙ ap (λ ys. ys ++ []) (sym (take_all k xs past))
     ∙ ap (λ ys. take k xs ++ ys) (sym (drop_all (suc k) xs (omega arith)))
 
-pub AllPairs_remove : {A : Type 0} (R : A → A → Type 0) (xs : List A) (k : ℕ) → AllPairs R xs → AllPairs R (remove xs k)
+pub AllPairs_remove : {A : Type 0} (R : A → A → Type 0) (xs : List A) (k : ℕ) → AllPairs R xs
+    → AllPairs R (remove xs k)
 AllPairs_remove R xs k pairs =
     elim (cases_lt k (length xs)) [
       | inl within ↦ all_pairs_remove R xs k within pairs
       | inr past ↦ subst (AllPairs R) (remove_past xs k past) pairs
     ]
 
-pub AllPairs_cons : {A : Type 0} (R : A → A → Type 0) (x : A) (xs : List A) → All (R x) xs → AllPairs R xs
+pub AllPairs_cons : {A : Type 0} (R : A → A → Type 0) (x : A) (xs : List A) → All (R x) xs
+    → AllPairs R xs
     → AllPairs R (x ∷ xs)
 AllPairs_cons R x xs all pairs zero zero d below within = absurd (omega arith)
 AllPairs_cons R x xs all pairs zero (suc j) d below within = all j d (omega arith)
 AllPairs_cons R x xs all pairs (suc i) zero d below within = absurd (omega arith)
-AllPairs_cons R x xs all pairs (suc i) (suc j) d below within = pairs i j d (omega arith) (omega arith)
+AllPairs_cons R x xs all pairs (suc i) (suc j) d below within =
+    pairs i j d (omega arith) (omega arith)
 
 -- in a list of distinct numbers, the one at k is nowhere else
 pub removed_once : (xs : List ℕ) (k i : ℕ) → AllPairs (λ a b. a ≢ b) xs → slice_get xs k ≡ Some i
@@ -80,9 +88,11 @@ removed_once xs k i once at m d below =
     let size = length-remove xs k within in
     let is : get_or xs k d ≡ i = get_or_from_slice_get xs k i d at in
     elim (cases_lt m k) [
-      | inl less ↦ λ same. once m k d less within (sym (get_or-remove_below xs k d m less within) ∙ sym same ∙ sym is)
+      | inl less ↦ λ same. once m k d less within
+          (sym (get_or-remove_below xs k d m less within) ∙ sym same ∙ sym is)
       | inr more ↦ λ same.
-          once k (m + 1) d (omega arith) (omega arith) (is ∙ same ∙ get_or-remove_above xs k d m more within)
+          once k (m + 1) d (omega arith) (omega arith)
+          (is ∙ same ∙ get_or-remove_above xs k d m more within)
     ]
 
 -- THE REST OF A LIST

@@ -1,6 +1,7 @@
 -- How collected streams are kept: the pids in one list, and in another the events of each.
 -- For the invariants of `Draft` and `Streams` alone: contracts speak of the list of streams.
-use Rattle.std.specs.Prelude.{◌≡◌, ℕ, Bool, not, List, [], ◌∷◌, length, position, Option, Some, None}
+use Rattle.std.specs.Prelude.{◌≡◌, ℕ, Bool, not, List, [], ◌∷◌, length, position, Option, Some}
+use Rattle.std.specs.Prelude.{None}
 use Rattle.st_core.specs.declared.types.Pid.{Pid}
 use Rattle.st_core.specs.declared.types.Event.{Event}
 use Rattle.st_core.specs.Pid.{IsRising}

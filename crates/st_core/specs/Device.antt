@@ -1,7 +1,8 @@
 -- Devices: where bytes come from and go to (own profile).
 -- Words for the contracts of the byte sources and sinks; nothing here is about tracing.
-use Rattle.std.specs.Prelude.{◌≡◌, ℕ, ◌-◌, ◌==◌, ◌&&◌, ◌||◌, nat_lt, Bool, true, false, List, [], ◌++◌, length, drop}
-use Rattle.std.specs.Prelude.{replicate, min, Option, Some, None, Result, Ok, MatchResult, option_map, if◌then◌else◌}
+use Rattle.std.specs.Prelude.{◌≡◌, ℕ, ◌-◌, ◌==◌, ◌&&◌, ◌||◌, nat_lt, Bool, true, false, List, []}
+use Rattle.std.specs.Prelude.{◌++◌, length, drop, replicate, min, Option, Some, None, Result, Ok}
+use Rattle.std.specs.Prelude.{MatchResult, option_map, if◌then◌else◌}
 
 -- the mark of a device is false until a call fails, then true, and each later call fails
 abbrev pub MarksFailure : {T E : Type 0} → Bool → Bool → Result T E → Type 0

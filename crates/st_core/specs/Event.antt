@@ -22,4 +22,5 @@ to_eq _ _ = false
 -- d and e are one event
 abbrev pub event_eq : Event → Event → Bool
 event_eq d e = d.label.0 == e.label.0 && (kind_eq d.kind e.kind && (d.serial.prev == e.serial.prev
-    && (d.serial.this == e.serial.this && (pid_eq d.from e.from && (to_eq d.to e.to && d.value == e.value)))))
+    && (d.serial.this == e.serial.this
+    && (pid_eq d.from e.from && (to_eq d.to e.to && d.value == e.value)))))

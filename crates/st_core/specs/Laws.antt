@@ -1,7 +1,8 @@
 -- Laws of the machine: what one act leaves alone, what holds in every run, and what in every run
 -- without a reset.
-use Rattle.std.specs.Prelude.{◌≡◌, ◌≢◌, ℕ, ◌+◌, ◌<◌, ◌≤◌, ◌⊎◌, max, Bool, true, false, List, [], ◌∷◌, length, map, take}
-use Rattle.std.specs.Prelude.{Some, None, is_some, IsSome, slice_get, All, AllPairs, option_and_then}
+use Rattle.std.specs.Prelude.{◌≡◌, ◌≢◌, ℕ, ◌+◌, ◌<◌, ◌≤◌, ◌⊎◌, max, Bool, true, false, List, []}
+use Rattle.std.specs.Prelude.{◌∷◌, length, map, take, Some, None, is_some, IsSome, slice_get, All}
+use Rattle.std.specs.Prelude.{AllPairs, option_and_then}
 use Rattle.std.specs.List.{AllByRecursion}
 use Rattle.std.specs.Option.{ForSome, option_map_or}
 use Rattle.st_core.specs.declared.types.Pid.{Pid}

@@ -51,7 +51,8 @@ placed_stay (b ∷ briefs) n placed = (stays_placed n b placed.0, placed_stay br
 -- ---- one brief form more
 
 placed_push : (briefs : List Brief) (b : Brief) (n : ℕ)
-    → AllByRecursion (IsBriefPlaced n) briefs → IsBriefPlaced n b → AllByRecursion (IsBriefPlaced n) (briefs ++ b ∷ [])
+    → AllByRecursion (IsBriefPlaced n) briefs → IsBriefPlaced n b
+    → AllByRecursion (IsBriefPlaced n) (briefs ++ b ∷ [])
 placed_push [] b n placed one = (one, tt)
 placed_push (x ∷ briefs) b n placed one = (placed.0, placed_push briefs b n placed.1 one)
 
@@ -71,7 +72,8 @@ calls_grown briefs whole whole' u placed grown =
 grown_length : (whole whole' : List (Act × Reply)) (u : Act × Reply) → HasGrown whole whole' u
     → length whole' ≤ length whole + 1
 grown_length whole whole' u grown =
-    ⊎_elim (λ same. let long = ap (λ (xs : List (Act × Reply)). length xs) same in omega (arith, long))
+    ⊎_elim (λ same. let long = ap (λ (xs : List (Act × Reply)). length xs) same in
+    omega (arith, long))
     (λ more.
     let long : length whole' ≡ length whole + 1 = ap (λ (xs : List (Act × Reply)). length xs) more
     ∙ length-append whole (u ∷ []) in omega (arith, long)) grown
@@ -88,7 +90,8 @@ placed_grown briefs whole whole' u placed grown =
     subst Placed (sym long) (placed_stay briefs (length whole) placed)) grown
 
 -- the calls after a push
-pub calls_pushed : (briefs briefs' : List Brief) (whole whole' : List (Act × Reply)) (b : Brief) (u : Act × Reply)
+pub calls_pushed : (briefs briefs' : List Brief) (whole whole' : List (Act × Reply)) (b : Brief)
+    (u : Act × Reply)
     → AllByRecursion (IsBriefPlaced (length whole)) briefs → HasGrown whole whole' u
     → call_in whole' b ≡ u → briefs' ≡ briefs ++ b ∷ []
     → calls_in briefs' whole' ≡ calls_in briefs whole ++ u ∷ []
@@ -97,9 +100,11 @@ calls_pushed briefs briefs' whole whole' b u placed grown says more =
     ∙ (λ i. calls_grown briefs whole whole' u placed grown i ++ says i ∷ [])
 
 -- the inside after a push
-pub calls_kept : (briefs briefs' : List Brief) (whole whole' : List (Act × Reply)) (b : Brief) (u : Act × Reply)
+pub calls_kept : (briefs briefs' : List Brief) (whole whole' : List (Act × Reply)) (b : Brief)
+    (u : Act × Reply)
     (brief_room whole_room n m : ℕ)
-    → IsCallLog briefs whole brief_room whole_room n → HasGrown whole whole' u → IsBriefPlaced (length whole') b
+    → IsCallLog briefs whole brief_room whole_room n → HasGrown whole whole' u
+    → IsBriefPlaced (length whole') b
     → briefs' ≡ briefs ++ b ∷ [] → n ≡ m + 1
     → IsCallLog briefs' whole' brief_room whole_room m
 calls_kept briefs briefs' whole whole' b u brief_room whole_room n m is grown placed more fewer =

@@ -1,5 +1,6 @@
 -- A binary search by a key ends where a search of the keys would, since both compare the same.
-use Rattle.std.proofs.Common.{◌≡◌, ℕ, zero, suc, ◌<◌, List, [], ◌∷◌, length, map, get_or, arith, Result, Ok, Err}
+use Rattle.std.proofs.Common.{◌≡◌, ℕ, zero, suc, ◌<◌, List, [], ◌∷◌, length, map, get_or, arith}
+use Rattle.std.proofs.Common.{Result, Ok, Err}
 use Rattle.std.specs.List.Sorted.{IsBinarySearchResult, IsSearchInRange}
 use Rattle.std.specs.declared.cmp.Ordering.{Ordering}
 use Rattle.std.specs.declared.cmp.Ordering.TheVariants.{Less, Equal, Greater}
@@ -15,13 +16,16 @@ holds_key key P (x ∷ xs) (suc i) within holds d = holds_key key P xs i (omega 
 pub search_keys : {X K : Type 0} (key : X → K) (order : K → Ordering) (xs : List X) (r : Result ℕ ℕ)
     → IsSearchInRange r (length xs) → IsBinarySearchResult (λ x. order (key x)) xs r
     → IsBinarySearchResult order (map key xs) r
-search_keys key order xs (Ok i) within found = holds_key key (λ k. order k ≡ Equal) xs i within found
+search_keys key order xs (Ok i) within found =
+    holds_key key (λ k. order k ≡ Equal) xs i within found
 search_keys key order xs (Err i) within found = λ up.
     let long : length (map key xs) ≡ length xs = length-map xs key in
     let parts = found (λ a b d le below.
     let at_a = get_or-map key xs a d (key d) (omega arith) in
     let at_b = get_or-map key xs b d (key d) below in
     rw (← at_a, ← at_b) (up a b (key d) le (omega arith))) in (
-      λ k d low below. holds_key key (λ y. order y ≡ Less) xs k (omega arith) (λ e. parts.0 k e low below) d,
-      λ k d low below. holds_key key (λ y. order y ≡ Greater) xs k (omega arith) (λ e. parts.1 k e low (omega arith)) d,
+      λ k d low below. holds_key key (λ y. order y ≡ Less) xs k (omega arith)
+          (λ e. parts.0 k e low below) d,
+      λ k d low below. holds_key key (λ y. order y ≡ Greater) xs k (omega arith)
+          (λ e. parts.1 k e low (omega arith)) d,
     )

@@ -1,6 +1,6 @@
 -- Rows are only appended, and so are the lists that they refer to: each row keeps its entry.
-use Rattle.std.proofs.Common.{◌≡◌, ℕ, ◌+◌, ◌-◌, List, [], ◌∷◌, ◌++◌, length, Some, refl, sym, ap, ◌∙◌, arith, suc, ◌≤◌}
-use Rattle.std.proofs.Common.{⊎_elim, subst}
+use Rattle.std.proofs.Common.{◌≡◌, ℕ, ◌+◌, ◌-◌, List, [], ◌∷◌, ◌++◌, length, Some, refl, sym, ap}
+use Rattle.std.proofs.Common.{◌∙◌, arith, suc, ◌≤◌, ⊎_elim, subst}
 use Rattle.std.specs.Prelude.{slice_get, slice_index_or}
 use Rattle.std.proofs.lemmas.List.{append-nil, get_or_append_left, length-append, map-append}
 use Rattle.st_core.specs.declared.types.Act.{Act}
@@ -88,9 +88,12 @@ stays_placed : (b b' : Beside) (c : Content) → AllAtMost b b'
     → HasPlace (length b'.calls) (length b'.traced) (length b'.apart) c
 stays_placed b b' (content.Reset p) more placed = tt
 stays_placed b b' (content.Tracer p on was) more placed = tt
-stays_placed b b' (content.Call i) more placed = let most = more.calls in omega (arith, placed, most)
-stays_placed b b' (content.Traced i) more placed = let most = more.traced in omega (arith, placed, most)
-stays_placed b b' (content.Apart i) more placed = let most = more.apart in omega (arith, placed, most)
+stays_placed b b' (content.Call i) more placed = let most = more.calls in
+    omega (arith, placed, most)
+stays_placed b b' (content.Traced i) more placed = let most = more.traced in
+    omega (arith, placed, most)
+stays_placed b b' (content.Apart i) more placed = let most = more.apart in
+    omega (arith, placed, most)
 
 -- the rows refer to places that are there
 abbrev FitBeside : Beside → List LogRow → Type 0
@@ -109,7 +112,8 @@ entries_stay b b' (r ∷ rows) more placed =
     let rest = entries_stay b b' rows more placed.1 in
     λ i. first i ∷ rest i
 
-placed_stay : (b b' : Beside) (rows : List LogRow) → AllAtMost b b' → FitBeside b rows → FitBeside b' rows
+placed_stay : (b b' : Beside) (rows : List LogRow) → AllAtMost b b' → FitBeside b rows
+    → FitBeside b' rows
 placed_stay b b' [] more placed = tt
 placed_stay b b' (r ∷ rows) more placed =
     (stays_placed b b' r.content more placed.0, placed_stay b b' rows more placed.1)
@@ -117,20 +121,23 @@ placed_stay b b' (r ∷ rows) more placed =
 -- ---- one row more
 
 placed_push : (b : Beside) (rows : List LogRow) (r : LogRow) → FitBeside b rows
-    → HasPlace (length b.calls) (length b.traced) (length b.apart) r.content → FitBeside b (rows ++ r ∷ [])
+    → HasPlace (length b.calls) (length b.traced) (length b.apart) r.content
+    → FitBeside b (rows ++ r ∷ [])
 placed_push b [] r placed one = (one, tt)
 placed_push b (x ∷ rows) r placed one = (placed.0, placed_push b rows r placed.1 one)
 
 -- ---- both
 
 -- the lists that rows refer to grew by one item at most each
-record HaveGrown (calls calls' : List (Act × Reply)) (traced traced' : List TracedAct) (apart apart' : List Unranked)
+record HaveGrown (calls calls' : List (Act × Reply)) (traced traced' : List TracedAct)
+    (apart apart' : List Unranked)
     : Type 0 where
   pub calls_grown : HasGrown calls calls'
   pub traced_grown : HasGrown traced traced'
   pub apart_grown : HasGrown apart apart'
 
-all_begin : (calls calls' : List (Act × Reply)) (traced traced' : List TracedAct) (apart apart' : List Unranked)
+all_begin : (calls calls' : List (Act × Reply)) (traced traced' : List TracedAct)
+    (apart apart' : List Unranked)
     → HaveGrown calls calls' traced traced' apart apart'
     → AllBegin (record { calls = calls; traced = traced; apart = apart })
     (record { calls = calls'; traced = traced'; apart = apart' })
@@ -141,35 +148,43 @@ all_begin calls calls' traced traced' apart apart' grown = record {
 }
 
 -- the entries after a push
-pub entries_pushed : (rows rows' : List LogRow) (calls calls' : List (Act × Reply)) (traced traced' : List TracedAct)
+pub entries_pushed : (rows rows' : List LogRow) (calls calls' : List (Act × Reply))
+    (traced traced' : List TracedAct)
     (apart apart' : List Unranked) (c : Content) (e : Entry)
     → HavePlaces (length calls) (length traced) (length apart) rows
     → HasGrown calls calls' → HasGrown traced traced' → HasGrown apart apart'
     → without_rank_in calls' traced' apart' c ≡ without_rank e
     → rows' ≡ rows ++ record { rank = e.rank; content = c } ∷ []
     → entries_of calls' traced' apart' rows' ≡ entries_of calls traced apart rows ++ e ∷ []
-entries_pushed rows rows' calls calls' traced traced' apart apart' c e placed more_calls more_traced more_apart says
+entries_pushed rows rows' calls calls' traced traced' apart apart' c e placed more_calls more_traced
+    more_apart says
     more =
     let r : LogRow = record { rank = e.rank; content = c } in
     let last : row_entry calls' traced' apart' r ≡ e = ap (with_rank e.rank) says in
     let old = entries_stay _ _ rows (all_begin calls calls' traced traced' apart apart'
-    (record { calls_grown = more_calls; traced_grown = more_traced; apart_grown = more_apart })) placed in
-    ap (entries_of calls' traced' apart') more ∙ map-append (row_entry calls' traced' apart') rows (r ∷ [])
+    (record { calls_grown = more_calls; traced_grown = more_traced; apart_grown = more_apart }))
+    placed in
+    ap (entries_of calls' traced' apart') more ∙ map-append (row_entry calls' traced' apart') rows
+    (r ∷ [])
     ∙ (λ i. old i ++ last i ∷ [])
 
 -- the inside after a push
-pub log_pushed : (rows rows' : List LogRow) (kept kept' : CallList) (traced traced' : List TracedAct)
-    (apart apart' : List Unranked) (c : Content) (e : Entry) (row_room traced_room apart_room n m : ℕ)
+pub log_pushed : (rows rows' : List LogRow) (kept kept' : CallList)
+    (traced traced' : List TracedAct)
+    (apart apart' : List Unranked) (c : Content) (e : Entry)
+    (row_room traced_room apart_room n m : ℕ)
     → IsLog rows kept traced apart row_room traced_room apart_room n
     → HasGrown kept.calls kept'.calls → kept.spare ≤ kept'.spare + 1
     → HasGrown traced traced' → HasGrown apart apart'
     → HasPlace (length kept'.calls) (length traced') (length apart') c
     → rows' ≡ rows ++ record { rank = e.rank; content = c } ∷ [] → n ≡ m + 1
     → IsLog rows' kept' traced' apart' row_room traced_room apart_room m
-log_pushed rows rows' kept kept' traced traced' apart apart' c e row_room traced_room apart_room n m is more_calls spare
+log_pushed rows rows' kept kept' traced traced' apart apart' c e row_room traced_room apart_room n m
+    is more_calls spare
     more_traced more_apart placed more fewer =
     let r : LogRow = record { rank = e.rank; content = c } in
-    let long : length rows' ≡ length rows + 1 = ap (λ (xs : List LogRow). length xs) more ∙ length-append rows (r ∷ []) in
+    let long : length rows' ≡ length rows + 1 =
+    ap (λ (xs : List LogRow). length xs) more ∙ length-append rows (r ∷ []) in
     let at_most = grown_length apart apart' more_apart in
     let traced_at_most = grown_length traced traced' more_traced in
     let b : Beside = record { calls = kept.calls; traced = traced; apart = apart } in
@@ -190,11 +205,14 @@ log_pushed rows rows' kept kept' traced traced' apart apart' c e row_room traced
 -- ---- what is read
 
 -- the last row has the last rank
-pub last_rank-rows : (low : ℕ) (rows : List LogRow) (calls : List (Act × Reply)) (traced : List TracedAct)
+pub last_rank-rows : (low : ℕ) (rows : List LogRow) (calls : List (Act × Reply))
+    (traced : List TracedAct)
     (apart : List Unranked) (r : LogRow)
-    → Some r ≡ slice_get rows (length rows - 1) → r.rank ≡ last_rank low (entries_of calls traced apart rows)
+    → Some r ≡ slice_get rows (length rows - 1)
+    → r.rank ≡ last_rank low (entries_of calls traced apart rows)
 last_rank-rows low [] calls traced apart r is = cc
-last_rank-rows low (x ∷ []) calls traced apart r is = let same : r ≡ x = cc in ap (λ (y : LogRow). y.rank) same
+last_rank-rows low (x ∷ []) calls traced apart r is = let same : r ≡ x = cc in
+    ap (λ (y : LogRow). y.rank) same
 last_rank-rows low (x ∷ y ∷ ys) calls traced apart r is =
     let place : length (x ∷ y ∷ ys) - 1 ≡ suc (length (y ∷ ys) - 1) = omega arith in
     last_rank-rows x.rank (y ∷ ys) calls traced apart r (is ∙ ap (slice_get (x ∷ y ∷ ys)) place)

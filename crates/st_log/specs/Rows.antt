@@ -1,7 +1,8 @@
 -- How a log keeps its entries: a row for each. That of a reset or a tracer change says all of its
 -- entry. Any other says the place of the rest: among the calls if the act wasn't reported and
 -- carried no token; else among the frequent acts under a token, or apart.
-use Rattle.std.specs.Prelude.{◌≡◌, ℕ, ◌+◌, ◌<◌, ◌≤◌, ◌⊎◌, List, [], ◌∷◌, ◌++◌, length, map, None, slice_index_or}
+use Rattle.std.specs.Prelude.{◌≡◌, ℕ, ◌+◌, ◌<◌, ◌≤◌, ◌⊎◌, List, [], ◌∷◌, ◌++◌, length, map, None}
+use Rattle.std.specs.Prelude.{slice_index_or}
 use Rattle.std.specs.List.{AllByRecursion}
 use Rattle.st_core.specs.declared.types.Act.{Act}
 use Rattle.st_core.specs.declared.types.Act.TheVariants as act
@@ -42,7 +43,8 @@ abbrev pub row_entry : List (Act × Reply) → List TracedAct → List Unranked 
 row_entry calls traced apart r = with_rank r.rank (without_rank_in calls traced apart r.content)
 
 -- the entries of rows
-abbrev pub entries_of : List (Act × Reply) → List TracedAct → List Unranked → List LogRow → List Entry
+abbrev pub entries_of : List (Act × Reply) → List TracedAct → List Unranked → List LogRow
+    → List Entry
 entries_of calls traced apart rows = map (row_entry calls traced apart) rows
 
 -- the place of the content is below the number of calls, of acts under a token, or of

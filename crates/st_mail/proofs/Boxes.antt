@@ -1,8 +1,8 @@
 -- Counts and stored lists are read and written box by box, so what holds of one wiped front holds
 -- of the box that a call names, and all others stay.
-use Rattle.std.proofs.Common.{◌≡◌, ℕ, zero, suc, ◌+◌, ◌<◌, ◌≤◌, Bool, false, List, [], ◌∷◌, ◌++◌, length, map}
-use Rattle.std.proofs.Common.{drop, get_or, set, remove, replicate, Option, None, Some, option_map, position, slice_get}
-use Rattle.std.proofs.Common.{refl, sym, ◌∙◌, ap, arith}
+use Rattle.std.proofs.Common.{◌≡◌, ℕ, zero, suc, ◌+◌, ◌<◌, ◌≤◌, Bool, false, List, [], ◌∷◌, ◌++◌}
+use Rattle.std.proofs.Common.{length, map, drop, get_or, set, remove, replicate, Option, None, Some}
+use Rattle.std.proofs.Common.{option_map, position, slice_get, refl, sym, ◌∙◌, ap, arith}
 use Rattle.std.proofs.lemmas.List.{get_or_read, set-get_or, length_push}
 use Rattle.std.proofs.lemmas.List.Edits.{length-remove}
 use Rattle.std.proofs.lemmas.Option.{slice_get-get_or, slice_get_past, slice_get_within}
@@ -11,7 +11,8 @@ use Rattle.st_core.specs.declared.types.Token.{Token}
 use Rattle.st_core.specs.Step.{untraced}
 use Rattle.st_mail.specs.Mail.{queue_in}
 use Rattle.st_mail.specs.Wiped.{front_wiped, fronts_wiped, AreFronts}
-use Rattle.st_mail.proofs.Fronts.{length-front, get-wiped, get-kept, wipe_all, front-push, remove-wiped, remove-kept}
+use Rattle.st_mail.proofs.Fronts.{length-front, get-wiped, get-kept, wipe_all, front-push}
+use Rattle.st_mail.proofs.Fronts.{remove-wiped, remove-kept}
 use Rattle.st_mail.proofs.Fronts.{IsBlind, position-blind, position-skips}
 
 -- if nothing is found a list has ended
@@ -38,7 +39,8 @@ length_counts : (counts : List ℕ) (stored : List (List Message)) → AreFronts
 length_counts [] [] fronts = refl
 length_counts [] (queue ∷ stored) fronts = absurd fronts
 length_counts (count ∷ counts) [] fronts = absurd fronts
-length_counts (count ∷ counts) (queue ∷ stored) fronts = ap suc (length_counts counts stored fronts.1)
+length_counts (count ∷ counts) (queue ∷ stored) fronts =
+    ap suc (length_counts counts stored fronts.1)
 
 length_boxes : (counts : List ℕ) (stored : List (List Message)) → AreFronts counts stored
     → length (fronts_wiped counts stored) ≡ length stored
@@ -48,22 +50,26 @@ length_boxes (count ∷ counts) [] fronts = absurd fronts
 length_boxes (count ∷ counts) (queue ∷ stored) fronts = ap suc (length_boxes counts stored fronts.1)
 
 -- each box is a wiped front
-box_at : (counts : List ℕ) (stored : List (List Message)) (i : ℕ) → AreFronts counts stored → i < length stored
+box_at : (counts : List ℕ) (stored : List (List Message)) (i : ℕ) → AreFronts counts stored
+    → i < length stored
     → queue_in (fronts_wiped counts stored) i ≡ front_wiped (get_or counts i 0) (queue_in stored i)
 box_at [] [] i fronts within = absurd (omega arith)
 box_at [] (queue ∷ stored) i fronts within = absurd fronts
 box_at (count ∷ counts) [] i fronts within = absurd fronts
 box_at (count ∷ counts) (queue ∷ stored) zero fronts within = refl
-box_at (count ∷ counts) (queue ∷ stored) (suc i) fronts within = box_at counts stored i fronts.1 (omega arith)
+box_at (count ∷ counts) (queue ∷ stored) (suc i) fronts within =
+    box_at counts stored i fronts.1 (omega arith)
 
 -- of messages that lie there
-count_at : (counts : List ℕ) (stored : List (List Message)) (i : ℕ) → AreFronts counts stored → i < length stored
+count_at : (counts : List ℕ) (stored : List (List Message)) (i : ℕ) → AreFronts counts stored
+    → i < length stored
     → get_or counts i 0 ≤ length (queue_in stored i)
 count_at [] [] i fronts within = absurd (omega arith)
 count_at [] (queue ∷ stored) i fronts within = absurd fronts
 count_at (count ∷ counts) [] i fronts within = absurd fronts
 count_at (count ∷ counts) (queue ∷ stored) zero fronts within = fronts.0
-count_at (count ∷ counts) (queue ∷ stored) (suc i) fronts within = count_at counts stored i fronts.1 (omega arith)
+count_at (count ∷ counts) (queue ∷ stored) (suc i) fronts within =
+    count_at counts stored i fronts.1 (omega arith)
 
 -- both written at one place write one box
 box_set : (counts : List ℕ) (stored : List (List Message)) (i count : ℕ) (queue : List Message)
@@ -77,7 +83,8 @@ box_set (old ∷ counts) (was ∷ stored) (suc i) count queue =
     ap (λ rest. front_wiped old was ∷ rest) (box_set counts stored i count queue)
 
 fronts_set : (counts : List ℕ) (stored : List (List Message)) (i count : ℕ) (queue : List Message)
-    → AreFronts counts stored → count ≤ length queue → AreFronts (set counts i count) (set stored i queue)
+    → AreFronts counts stored → count ≤ length queue
+    → AreFronts (set counts i count) (set stored i queue)
 fronts_set [] [] i count queue fronts le = tt
 fronts_set [] (was ∷ stored) i count queue fronts le = absurd fronts
 fronts_set (old ∷ counts) [] i count queue fronts le = absurd fronts
@@ -121,7 +128,8 @@ module _ (counts : List ℕ) (stored : List (List Message)) (fronts : AreFronts 
     -- a write of the count and of the list
     written : (new : ℕ) (queue : List Message)
         → fronts_wiped (set counts i new) (set stored i queue) ≡ set boxes i (front_wiped new queue)
-    written new queue = box_set counts stored i new queue ∙ ap (λ bs. set bs i (front_wiped new queue)) view
+    written new queue = box_set counts stored i new queue
+        ∙ ap (λ bs. set bs i (front_wiped new queue)) view
 
     written_fronts : (new : ℕ) (queue : List Message) → new ≤ length queue
         → AreFronts (set counts i new) (set stored i queue)
@@ -133,33 +141,39 @@ module _ (counts : List ℕ) (stored : List (List Message)) (fronts : AreFronts 
     len_is = sym (length-front count list) ∙ ap length (sym queue_is)
 
     pub get_none : (k : ℕ) → slice_get list k ≡ None → slice_get (queue_in boxes i) k ≡ None
-    get_none k none = slice_get_past (queue_in boxes i) k (omega (arith, len_is, none_past list k none))
+    get_none k none = slice_get_past (queue_in boxes i) k
+        (omega (arith, len_is, none_past list k none))
 
     pub get_some : (k : ℕ) (m : Message) → slice_get (queue_in boxes i) k ≡ Some m
         → slice_get list k ≡ Some (get_or list k m)
     get_some k m there =
-        slice_get-get_or list k m (omega (arith, len_is, slice_get_within (queue_in boxes i) k m there))
+        slice_get-get_or list k m
+        (omega (arith, len_is, slice_get_within (queue_in boxes i) k m there))
 
     pub get_front : (k : ℕ) (m : Message) → slice_get list k ≡ Some m → k < count
         → slice_get (queue_in boxes i) k ≡ Some (untraced m)
     get_front k m there below =
-        ap (λ ms. slice_get ms k) queue_is ∙ get-wiped count k list below ∙ ap (option_map untraced) there
+        ap (λ ms. slice_get ms k) queue_is ∙ get-wiped count k list below
+        ∙ ap (option_map untraced) there
 
     pub get_behind : (k : ℕ) → count ≤ k → slice_get (queue_in boxes i) k ≡ slice_get list k
     get_behind k behind = ap (λ ms. slice_get ms k) queue_is ∙ get-kept count k list behind
 
-    pub found : (test : Message → Bool) → IsBlind test → position test list ≡ position test (queue_in boxes i)
+    pub found : (test : Message → Bool) → IsBlind test
+        → position test list ≡ position test (queue_in boxes i)
     found test blind = position-blind test count list blind ∙ ap (position test) (sym queue_is)
 
     pub found_behind : (test : Option Token → Bool) → test None ≡ false
         → position (λ m. test m.token) (queue_in boxes i)
         ≡ option_map (λ k. count + k) (position (λ m. test m.token) (drop count list))
-    found_behind test fails = ap (position (λ m. test m.token)) queue_is ∙ position-skips test fails count list
+    found_behind test fails =
+        ap (position (λ m. test m.token)) queue_is ∙ position-skips test fails count list
 
     -- what is changed
 
     pub pushed : (m : Message)
-        → fronts_wiped counts (set stored i (list ++ m ∷ [])) ≡ set boxes i (queue_in boxes i ++ m ∷ [])
+        → fronts_wiped counts (set stored i (list ++ m ∷ []))
+        ≡ set boxes i (queue_in boxes i ++ m ∷ [])
     pushed m =
         ap (λ cs. fronts_wiped cs (set stored i (list ++ m ∷ []))) (sym count_stays)
         ∙ written count (list ++ m ∷ [])
@@ -168,10 +182,12 @@ module _ (counts : List ℕ) (stored : List (List Message)) (fronts : AreFronts 
 
     pub pushed_fronts : (m : Message) → AreFronts counts (set stored i (list ++ m ∷ []))
     pushed_fronts m =
-        let le : count ≤ length (list ++ m ∷ []) = omega (arith, count_within, length_push list m) in
+        let le : count ≤ length (list ++ m ∷ []) =
+        omega (arith, count_within, length_push list m) in
         rw count_stays at (written_fronts count (list ++ m ∷ []) le)
 
-    pub wiped : fronts_wiped (set counts i (length list)) stored ≡ set boxes i (map untraced (queue_in boxes i))
+    pub wiped : fronts_wiped (set counts i (length list)) stored
+        ≡ set boxes i (map untraced (queue_in boxes i))
     wiped =
         ap (fronts_wiped (set counts i (length list))) (sym list_stays)
         ∙ written (length list) list
@@ -187,7 +203,8 @@ module _ (counts : List ℕ) (stored : List (List Message)) (fronts : AreFronts 
 
       -- a message after the front is taken
       pub taken_behind : count ≤ k
-          → fronts_wiped counts (set stored i (remove list k)) ≡ set boxes i (remove (queue_in boxes i) k)
+          → fronts_wiped counts (set stored i (remove list k))
+          ≡ set boxes i (remove (queue_in boxes i) k)
       taken_behind behind =
           ap (λ cs. fronts_wiped cs (set stored i (remove list k))) (sym count_stays)
           ∙ written count (remove list k)

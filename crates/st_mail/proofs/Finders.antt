@@ -1,6 +1,7 @@
--- Finders and stored lists are read and written queue by queue, so what finds the messages of one queue follows that
--- queue, and all others stay.
-use Rattle.std.proofs.Common.{◌≡◌, ℕ, zero, suc, ◌+◌, ◌<◌, List, [], ◌∷◌, ◌++◌, length, get_or, set, replicate, Option}
+-- Finders and stored lists are read and written queue by queue, so what finds the messages of one
+-- queue follows that queue, and all others stay.
+use Rattle.std.proofs.Common.{◌≡◌, ℕ, zero, suc, ◌+◌, ◌<◌, List, [], ◌∷◌, ◌++◌, length, get_or, set}
+use Rattle.std.proofs.Common.{replicate, Option}
 use Rattle.std.proofs.Common.{Some, None, option_map, Global, refl, ap, subst, ◌∙◌, arith}
 use Rattle.std.proofs.lemmas.List.{get_or-set_same}
 use Rattle.std.specs.Prelude.{Box, IfSome}
@@ -31,16 +32,20 @@ length_finders [] (queue ∷ stored) found = absurd found
 length_finders (f ∷ finders) [] found = absurd found
 length_finders (f ∷ finders) (queue ∷ stored) found = ap suc (length_finders finders stored found.1)
 
-found_at : (finders : List Finder) (stored : List (List Message)) (i : ℕ) (f : Finder) → AllFound finders stored
+found_at : (finders : List Finder) (stored : List (List Message)) (i : ℕ) (f : Finder)
+    → AllFound finders stored
     → i < length stored → get_or finders i f ≡ f → Finds f (queue_in stored i)
 found_at [] [] i f found within is = absurd (omega arith)
 found_at [] (queue ∷ stored) i f found within is = absurd found
 found_at (g ∷ finders) [] i f found within is = absurd found
-found_at (g ∷ finders) (queue ∷ stored) zero f found within is = subst (λ h. Finds h queue) is found.0
-found_at (g ∷ finders) (queue ∷ stored) (suc i) f found within is = found_at finders stored i f found.1 (omega arith) is
+found_at (g ∷ finders) (queue ∷ stored) zero f found within is =
+    subst (λ h. Finds h queue) is found.0
+found_at (g ∷ finders) (queue ∷ stored) (suc i) f found within is =
+    found_at finders stored i f found.1 (omega arith) is
 
 -- both written at one place
-pub found_set : (finders : List Finder) (stored : List (List Message)) (i : ℕ) (f : Finder) (queue : List Message)
+pub found_set : (finders : List Finder) (stored : List (List Message)) (i : ℕ) (f : Finder)
+    (queue : List Message)
     → AllFound finders stored → Finds f queue → AllFound (set finders i f) (set stored i queue)
 found_set [] [] i f queue found is = tt
 found_set [] (was ∷ stored) i f queue found is = absurd found
@@ -50,16 +55,19 @@ found_set (g ∷ finders) (was ∷ stored) (suc i) f queue found is =
     (found.0, found_set finders stored i f queue found.1 is)
 
 -- another finder of the same queue
-pub kept_found : (finders : List Finder) (stored : List (List Message)) (found : AllFound finders stored) (i : ℕ)
+pub kept_found : (finders : List Finder) (stored : List (List Message))
+    (found : AllFound finders stored) (i : ℕ)
     (f : Finder) → Finds f (queue_in stored i) → AllFound (set finders i f) stored
 kept_found [] [] found i f is = tt
 kept_found [] (queue ∷ stored) found i f is = absurd found
 kept_found (g ∷ finders) [] found i f is = absurd found
 kept_found (g ∷ finders) (queue ∷ stored) found zero f is = (is, found.1)
-kept_found (g ∷ finders) (queue ∷ stored) found (suc i) f is = (found.0, kept_found finders stored found.1 i f is)
+kept_found (g ∷ finders) (queue ∷ stored) found (suc i) f is =
+    (found.0, kept_found finders stored found.1 i f is)
 
 -- one more of an empty queue
-pub found_more : (finders : List Finder) (n : ℕ) (f : Finder) → AllFound finders (replicate n []) → Finds f []
+pub found_more : (finders : List Finder) (n : ℕ) (f : Finder) → AllFound finders (replicate n [])
+    → Finds f []
     → AllFound (finders ++ f ∷ []) (replicate (suc n) [])
 found_more [] zero f found is = (is, tt)
 found_more [] (suc n) f found is = absurd found
@@ -85,10 +93,12 @@ module _ (finders : List Finder) (stored : List (List Message)) (found : AllFoun
         (found_at finders stored i f found (omega (arith, ap length view)) is)
 
   -- its finder and its list are written
-  pub written_found : (f : Finder) (queue : List Message) (new : List (List Message)) → new ≡ set stored i queue
+  pub written_found : (f : Finder) (queue : List Message) (new : List (List Message))
+      → new ≡ set stored i queue
       → Finds f (queue_in new i) → AllFound (set finders i f) new
   written_found f queue new is finds =
       let inside : i < length stored = omega (arith, ap length view) in
       let there : queue_in new i ≡ queue =
-      ap (λ (ls : List (List Message)). queue_in ls i) is ∙ get_or-set_same stored i queue [] inside in
+      ap (λ (ls : List (List Message)). queue_in ls i) is ∙ get_or-set_same stored i queue []
+      inside in
       rw is (found_set finders stored i f queue found (subst (Finds f) there finds))

@@ -1,4 +1,5 @@
--- Each token in a queue can still be met after a change of the queue, since no change puts one in that can't.
+-- Each token in a queue can still be met after a change of the queue, since no change puts one in
+-- that can't.
 use Rattle.std.proofs.Common.{◌≡◌, ℕ, suc, List, [], ◌∷◌, ◌++◌, take, drop, Option, Some, None, All}
 use Rattle.std.proofs.lemmas.List.Elements.{All-append, All-drop, All-push, All-take}
 use Rattle.st_core.specs.declared.types.Message.{Message}
@@ -19,7 +20,8 @@ module _ (top : ℕ) where
   pick_fits w ms k m fit picked = All_at Fits ms k m (pick_found w ms (k, m) picked) fit
 
   -- what is left
-  pub left_fits : (o : Option (ℕ × Message)) (ms : List Message) → QueueFits top ms → QueueFits top (queue_without o ms)
+  pub left_fits : (o : Option (ℕ × Message)) (ms : List Message) → QueueFits top ms
+      → QueueFits top (queue_without o ms)
   left_fits None ms fit = fit
   left_fits (Some found) ms fit =
       let front : All Fits (take found.0 ms) = All-take Fits found.0 ms fit in

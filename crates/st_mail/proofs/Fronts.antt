@@ -1,8 +1,8 @@
 -- A wiped front differs from what is stored in its tokens alone, message by message: so each change
 -- and each look at the queue is one at what is stored, at the same place.
-use Rattle.std.proofs.Common.{◌≡◌, ℕ, zero, suc, ◌+◌, ◌<◌, ◌≤◌, Bool, true, false, cond, List, [], ◌∷◌, ◌++◌}
-use Rattle.std.proofs.Common.{length, map, drop, remove, Option, None, Some, option_map, position, slice_get}
-use Rattle.std.proofs.Common.{refl, sym, ◌∙◌, ap, arith}
+use Rattle.std.proofs.Common.{◌≡◌, ℕ, zero, suc, ◌+◌, ◌<◌, ◌≤◌, Bool, true, false, cond, List, []}
+use Rattle.std.proofs.Common.{◌∷◌, ◌++◌, length, map, drop, remove, Option, None, Some, option_map}
+use Rattle.std.proofs.Common.{position, slice_get, refl, sym, ◌∙◌, ap, arith}
 use Rattle.std.specs.List.{position_from}
 use Rattle.std.proofs.lemmas.Iterator.Adapters.{position_from-zero}
 use Rattle.st_core.specs.declared.types.Message.{Message}
@@ -27,7 +27,8 @@ get-wiped (suc n) zero (m ∷ ms) below = refl
 get-wiped (suc n) (suc k) (m ∷ ms) below = get-wiped n k ms (omega arith)
 
 -- after it a message is as it is stored
-pub get-kept : (n k : ℕ) (ms : List Message) → n ≤ k → slice_get (front_wiped n ms) k ≡ slice_get ms k
+pub get-kept : (n k : ℕ) (ms : List Message) → n ≤ k
+    → slice_get (front_wiped n ms) k ≡ slice_get ms k
 get-kept zero k ms behind = refl
 get-kept (suc n) zero ms behind = absurd (omega arith)
 get-kept (suc n) (suc k) [] behind = refl
@@ -36,7 +37,8 @@ get-kept (suc n) (suc k) (m ∷ ms) behind = get-kept n k ms (omega arith)
 -- CHANGES
 
 -- all of it is wiped, whatever was before
-pub wipe_all : (n : ℕ) (ms : List Message) → front_wiped (length ms) ms ≡ map untraced (front_wiped n ms)
+pub wipe_all : (n : ℕ) (ms : List Message)
+    → front_wiped (length ms) ms ≡ map untraced (front_wiped n ms)
 wipe_all zero [] = refl
 wipe_all zero (m ∷ ms) = ap (λ rest. untraced m ∷ rest) (wipe_all zero ms)
 wipe_all (suc n) [] = refl
@@ -47,7 +49,8 @@ pub front-push : (n : ℕ) (ms : List Message) (last : Message) → n ≤ length
     → front_wiped n (ms ++ last ∷ []) ≡ front_wiped n ms ++ last ∷ []
 front-push zero ms last within = refl
 front-push (suc n) [] last within = absurd (omega arith)
-front-push (suc n) (m ∷ ms) last within = ap (λ rest. untraced m ∷ rest) (front-push n ms last (omega arith))
+front-push (suc n) (m ∷ ms) last within =
+    ap (λ rest. untraced m ∷ rest) (front-push n ms last (omega arith))
 
 -- a message leaves the front
 pub remove-wiped : (n k : ℕ) (ms : List Message) → k ≤ n
@@ -57,7 +60,8 @@ remove-wiped (suc n) zero [] within = refl
 remove-wiped n zero (m ∷ ms) within = refl
 remove-wiped zero (suc k) ms within = absurd (omega arith)
 remove-wiped (suc n) (suc k) [] within = refl
-remove-wiped (suc n) (suc k) (m ∷ ms) within = ap (λ rest. untraced m ∷ rest) (remove-wiped n k ms (omega arith))
+remove-wiped (suc n) (suc k) (m ∷ ms) within =
+    ap (λ rest. untraced m ∷ rest) (remove-wiped n k ms (omega arith))
 
 -- one leaves from after it
 pub remove-kept : (n k : ℕ) (ms : List Message) → n ≤ k
@@ -65,7 +69,8 @@ pub remove-kept : (n k : ℕ) (ms : List Message) → n ≤ k
 remove-kept zero k ms behind = refl
 remove-kept (suc n) zero ms behind = absurd (omega arith)
 remove-kept (suc n) (suc k) [] behind = refl
-remove-kept (suc n) (suc k) (m ∷ ms) behind = ap (λ rest. untraced m ∷ rest) (remove-kept n k ms (omega arith))
+remove-kept (suc n) (suc k) (m ∷ ms) behind =
+    ap (λ rest. untraced m ∷ rest) (remove-kept n k ms (omega arith))
 
 -- SEARCHES
 

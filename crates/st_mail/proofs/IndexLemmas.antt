@@ -1,6 +1,7 @@
--- An index finds the first slot of a key, and the rank of that slot is the place of the first message that passes the
--- key's test.
-use Rattle.std.proofs.Common.{◌≡◌, ℕ, ◌+◌, ◌<◌, ◌≤◌, Bool, true, List, length, take, drop, get_or, slice_get, position}
+-- An index finds the first slot of a key, and the rank of that slot is the place of the first
+-- message that passes the key's test.
+use Rattle.std.proofs.Common.{◌≡◌, ℕ, ◌+◌, ◌<◌, ◌≤◌, Bool, true, List, length, take, drop, get_or}
+use Rattle.std.proofs.Common.{slice_get, position}
 use Rattle.std.proofs.Common.{Option, Some, None, option_map, refl, sym, ap, subst, ◌∙◌, arith}
 use Rattle.std.specs.declared.cmp.Ordering.{Ordering}
 use Rattle.std.specs.List.{sum}
@@ -21,7 +22,8 @@ module _ (index : Index) (slots : List (Option Message)) (has : HasSlots index s
   pub slots-len : length slots ≤ length index.ranks
   slots-len = omega (arith, ranks_room index.ranks slots has.ranks)
 
-  pub rank-of : (slot : ℕ) (m : Message) → item_at slots slot ≡ Some m → sum (take slot index.ranks) ≡ before slots slot
+  pub rank-of : (slot : ℕ) (m : Message) → item_at slots slot ≡ Some m
+      → sum (take slot index.ranks) ≡ before slots slot
   rank-of slot m is =
       let within = inside slots slot m is in
       rank-before index.ranks slots has.ranks slot (omega (arith, within))
@@ -30,7 +32,8 @@ module _ (index : Index) (slots : List (Option Message)) (has : HasSlots index s
   total-of = live-kept index.ranks slots has.ranks
 
   -- the item of a live slot is the one at its rank
-  pub item-at : (slot place : ℕ) (m : Message) → get_or index.ranks slot 0 ≡ 1 → sum (take slot index.ranks) ≡ place
+  pub item-at : (slot place : ℕ) (m : Message) → get_or index.ranks slot 0 ≡ 1
+      → sum (take slot index.ranks) ≡ place
       → slice_get (kept slots) place ≡ Some m → item_at slots slot ≡ Some m
   item-at slot place m live rank there =
       let item = live_item index.ranks slots has.ranks slot live in
@@ -47,7 +50,8 @@ module _ (index : Index) (slots : List (Option Message)) (has : HasSlots index s
       (tells : IsKeyedBy cmp test keyed slots) (on : is_kept keyed ≡ true) (key : K) where
     passes_first : (start : ℕ) (found : Option ℕ) → IsFirst (has_key cmp keyed key) start found
         → IsFirst (λ s. passes (test key) (item_at slots s)) start found
-    passes_first start found first = subst (λ (f : ℕ → Bool). IsFirst f start found) (λ i s. tells on key s i) first
+    passes_first start found first =
+        subst (λ (f : ℕ → Bool). IsFirst f start found) (λ i s. tells on key s i) first
 
     item_of : (slot : ℕ) → has_key cmp keyed key slot ≡ true → HasItem slots slot
     item_of slot there = passing (test key) slots slot (sym (tells on key slot) ∙ there)
@@ -60,7 +64,8 @@ module _ (index : Index) (slots : List (Option Message)) (has : HasSlots index s
         ap (λ k. Some k) (rank-of s item.item item.is)
 
     -- a slot that has the key has a rank
-    pub in_ranks : (start slot : ℕ) → IsFirst (has_key cmp keyed key) start (Some slot) → slot < length index.ranks
+    pub in_ranks : (start slot : ℕ) → IsFirst (has_key cmp keyed key) start (Some slot)
+        → slot < length index.ranks
     in_ranks start slot first =
         let item = item_of slot first.0.1 in
         omega (arith, inside slots slot item.item item.is, slots-len)
@@ -83,8 +88,10 @@ module _ (index : Index) (slots : List (Option Message)) (has : HasSlots index s
           let item = live_item index.ranks slots has.ranks start live in
           let is = rank-of start item.0 (get-item slots start item.0 item.1) in
           ranks_of start found first
-          ∙ found_from (test key) slots start place found (sym is ∙ rank) (passes_first start found first)
-          ∙ ap (λ (ms : List Message). option_map (λ k. place + k) (position (test key) (drop place ms))) items
+          ∙ found_from (test key) slots start place found (sym is ∙ rank)
+          (passes_first start found first)
+          ∙ ap (λ (ms : List Message).
+          option_map (λ k. place + k) (position (test key) (drop place ms))) items
 
       pub place_none : (place : ℕ) → sum index.ranks ≤ place
           → None ≡ option_map (λ k. place + k) (position (test key) (drop place queue))

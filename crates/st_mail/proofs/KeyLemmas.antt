@@ -1,6 +1,7 @@
--- Each set of keys follows the slots: a message that comes brings its own keys, and a slot that is emptied loses them.
-use Rattle.std.proofs.Common.{◌≡◌, ℕ, Bool, true, false, not, ◌==◌, ◌&&◌, ◌||◌, List, [], ◌∷◌, ◌++◌, length, set}
-use Rattle.std.proofs.Common.{Option, Some, None, refl, sym, ap, ◌∙◌}
+-- Each set of keys follows the slots: a message that comes brings its own keys, and a slot that is
+-- emptied loses them.
+use Rattle.std.proofs.Common.{◌≡◌, ℕ, Bool, true, false, not, ◌==◌, ◌&&◌, ◌||◌, List, [], ◌∷◌, ◌++◌}
+use Rattle.std.proofs.Common.{length, set, Option, Some, None, refl, sym, ap, ◌∙◌}
 use Rattle.std.proofs.lemmas.Bool.{eqb-true}
 use Rattle.std.specs.declared.cmp.Ordering.{Ordering}
 use Rattle.std.specs.Ordering.{nat_cmp, is_eq}
@@ -10,7 +11,8 @@ use Rattle.st_core.specs.declared.types.Token.{Token}
 use Rattle.st_core.specs.Pid.{pid_cmp, pid_eq}
 use Rattle.st_mail.specs.declared.keyed_slots.KeyedSlots.{KeyedSlots}
 use Rattle.st_mail.specs.KeyedSlots.{has_key, is_kept}
-use Rattle.st_mail.specs.Index.{IsKeyedBy, bears_stamp, is_from, is_of_value, is_of_both, pid_count_cmp}
+use Rattle.st_mail.specs.Index.{IsKeyedBy, bears_stamp, is_from, is_of_value, is_of_both}
+use Rattle.st_mail.specs.Index.{pid_count_cmp}
 use Rattle.st_mail.specs.Slots.{item_at, passes}
 use Rattle.st_mail.proofs.PairLemmas.{nat_cmp-is_eq, both_equal}
 use Rattle.st_mail.proofs.SlotLemmas.{passes-push, passes-set}
@@ -34,7 +36,8 @@ from_key m k = pid_equal m.from k
 
 pub both_key : (m : Message) → IsKeyOf pid_count_cmp is_of_both (m.from, m.value) m
 both_key m k =
-    both_equal (pid_cmp m.from k.0) m.value k.1 ∙ ap (λ (b : Bool). b && m.value == k.1) (pid_equal m.from k.0)
+    both_equal (pid_cmp m.from k.0) m.value k.1 ∙ ap (λ (b : Bool). b && m.value == k.1)
+    (pid_equal m.from k.0)
 
 pub stamp_key : (t : Token) (k : Pid × ℕ)
     → is_eq (pid_count_cmp (t.from, t.serial.this) k) ≡ bears_stamp k.0 k.1 (Some t)
@@ -53,10 +56,12 @@ gone true c is = rw is refl
 gone false c is = rw is refl
 
 module _ {K : Type 0} (cmp : K → K → Ordering) (test : K → Message → Bool) where
-  module _ (slots : List (Option Message)) (m : Message) (own : K → Bool) (same : (k : K) → own k ≡ test k m) where
+  module _ (slots : List (Option Message)) (m : Message) (own : K → Bool)
+      (same : (k : K) → own k ≡ test k m) where
     -- a message comes with its keys
     pub keyed-push : (old new : KeyedSlots K) (slot : ℕ) → slot ≡ length slots
-        → (is_kept old ≡ true → (k : K) (s : ℕ) → has_key cmp new k s ≡ (own k && slot == s || has_key cmp old k s))
+        → (is_kept old ≡ true → (k : K) (s : ℕ)
+        → has_key cmp new k s ≡ (own k && slot == s || has_key cmp old k s))
         → is_kept new ≡ is_kept old
         → IsKeyedBy cmp test old slots → IsKeyedBy cmp test new (slots ++ Some m ∷ [])
     keyed-push old new slot at is stays kept on k s =
@@ -65,17 +70,20 @@ module _ {K : Type 0} (cmp : K → K → Ordering) (test : K → Message → Boo
 
     -- it leaves with them
     pub keyed-set : (slot : ℕ) → item_at slots slot ≡ Some m → (old new : KeyedSlots K)
-        → ((k : K) (s : ℕ) → has_key cmp new k s ≡ (not (own k && slot == s) && has_key cmp old k s))
+        → ((k : K) (s : ℕ) → has_key cmp new k s
+        ≡ (not (own k && slot == s) && has_key cmp old k s))
         → is_kept new ≡ is_kept old
         → IsKeyedBy cmp test old slots → IsKeyedBy cmp test new (set slots slot None)
     keyed-set slot there old new is stays kept on k s =
-        is k s ∙ rw (same k, kept (sym stays ∙ on) k s) (by (slot == s) refl ∙ sym (passes-set (test k) slots slot s))
+        is k s ∙ rw (same k, kept (sym stays ∙ on) k s)
+        (by (slot == s) refl ∙ sym (passes-set (test k) slots slot s))
       where
         by : (c : Bool) → (slot == s) ≡ c
             → (not (test k m && slot == s) && passes (test k) (item_at slots s))
             ≡ (not (slot == s) && passes (test k) (item_at slots s))
         by true e =
             let here : passes (test k) (item_at slots s) ≡ test k m =
-            ap (λ n. passes (test k) (item_at slots n)) (sym (eqb-true slot s e)) ∙ ap (passes (test k)) there in
+            ap (λ n. passes (test k) (item_at slots n)) (sym (eqb-true slot s e))
+            ∙ ap (passes (test k)) there in
             rw here (gone (test k m) (slot == s) e)
         by false e = left (test k m) (slot == s) (passes (test k) (item_at slots s)) e

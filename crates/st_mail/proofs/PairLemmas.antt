@@ -1,5 +1,5 @@
--- The slots of one key are together in the order of the pairs and rise there, so the first pair from (key, start) on
--- has the least slot of the key, or another key if the key has none.
+-- The slots of one key are together in the order of the pairs and rise there, so the first pair
+-- from (key, start) on has the least slot of the key, or another key if the key has none.
 use Rattle.std.proofs.Common.{◌≡◌, ℕ, ◌≤◌, Bool, true, false, cond, not, ◌==◌, ◌&&◌, ◌||◌}
 use Rattle.std.proofs.Common.{List, [], ◌∷◌, Option, Some, None, refl, sym, ap, subst, ◌∙◌, arith}
 use Rattle.std.specs.declared.cmp.Ordering.{Ordering}
@@ -22,7 +22,8 @@ pub nat_cmp-is_eq : (a b : ℕ) → is_eq (nat_cmp a b) ≡ (a == b)
 nat_cmp-is_eq a b = grind (arith, nat_tests)
 
 -- pairs are equal if both parts are
-pub both_equal : (o : Ordering) (a b : ℕ) → is_eq (ordering_then o (nat_cmp a b)) ≡ (is_eq o && a == b)
+pub both_equal : (o : Ordering) (a b : ℕ)
+    → is_eq (ordering_then o (nat_cmp a b)) ≡ (is_eq o && a == b)
 both_equal Less a b = refl
 both_equal Equal a b = nat_cmp-is_eq a b
 both_equal Greater a b = refl
@@ -46,15 +47,18 @@ not_gt a b h = grind (arith, nat_tests)
 
 -- KEYS THAT ARE KEPT
 
-module _ {K : Type 0} (cmp : K → K → Ordering) (keyed : KeyedSlots K) (set : BTreeSet (K × ℕ)) (is : keyed.pairs ≡ Some set)
+module _ {K : Type 0} (cmp : K → K → Ordering) (keyed : KeyedSlots K) (set : BTreeSet (K × ℕ))
+    (is : keyed.pairs ≡ Some set)
   where
     -- a slot has those of the set
     pub kept_keys : (k : K) (s : ℕ) → has_key cmp keyed k s ≡ contains (pair_cmp cmp) set (k, s)
     kept_keys k s =
-        ap (λ (o : Option (BTreeSet (K × ℕ))). option_map_or (λ pairs. contains (pair_cmp cmp) pairs (k, s)) o false) is
+        ap (λ (o : Option (BTreeSet (K × ℕ))).
+        option_map_or (λ pairs. contains (pair_cmp cmp) pairs (k, s)) o false) is
 
     pub kept_first : (key : K) (start : ℕ) (found : Option ℕ)
-        → IsFirst (λ s. contains (pair_cmp cmp) set (key, s)) start found → IsFirst (has_key cmp keyed key) start found
+        → IsFirst (λ s. contains (pair_cmp cmp) set (key, s)) start found
+        → IsFirst (has_key cmp keyed key) start found
     kept_first key start found first =
         subst (λ (test : ℕ → Bool). IsFirst test start found) (λ i s. sym (kept_keys key s) i) first
 
@@ -62,7 +66,8 @@ module _ {K : Type 0} (cmp : K → K → Ordering) (keyed : KeyedSlots K) (set :
 
 module _ {K : Type 0} (cmp : K → K → Ordering) (total : IsTotalOrder cmp) where
   pub pair_total : IsTotalOrder (pair_cmp cmp)
-  pair_total = then_total (on_total (λ (p : K × ℕ). p.0) total) (on_total (λ (p : K × ℕ). p.1) nat_cmp_total)
+  pair_total = then_total (on_total (λ (p : K × ℕ). p.0) total)
+      (on_total (λ (p : K × ℕ). p.1) nat_cmp_total)
 
   module _ (set : BTreeSet (K × ℕ)) (key : K) (start : ℕ) where
     abbrev in_set : ℕ → Bool
@@ -81,12 +86,14 @@ module _ {K : Type 0} (cmp : K → K → Ordering) (total : IsTotalOrder cmp) wh
     none_from pairs none from = (tt, λ k after. from.5 none (key, k) (in_from k after, tt))
 
     -- so the first is at most as far as each
-    up_to : (x : K × ℕ) (rest : List (K × ℕ)) → AreFrom (x ∷ rest) → (k : ℕ) → start ≤ k → in_set k ≡ true
+    up_to : (x : K × ℕ) (rest : List (K × ℕ)) → AreFrom (x ∷ rest) → (k : ℕ) → start ≤ k
+        → in_set k ≡ true
         → is_gt (pair_cmp cmp x (key, k)) ≡ false
     up_to x rest from k after there = from.2 (key, k) (in_from k after, tt) there
 
     -- if the first has the key
-    pub first_from : (pairs : List (K × ℕ)) (x : K × ℕ) (rest : List (K × ℕ)) → pairs ≡ x ∷ rest → AreFrom pairs
+    pub first_from : (pairs : List (K × ℕ)) (x : K × ℕ) (rest : List (K × ℕ)) → pairs ≡ x ∷ rest
+        → AreFrom pairs
         → is_eq (cmp x.0 key) ≡ true → IsFirst in_set start (Some x.1)
     first_from pairs x rest is all same =
         let from : AreFrom (x ∷ rest) = subst AreFrom is all in
@@ -96,7 +103,8 @@ module _ {K : Type 0} (cmp : K → K → Ordering) (total : IsTotalOrder cmp) wh
         let alike : pair_cmp cmp x (key, x.1) ≡ Equal = rw eq
         (is_eq-Equal _ (nat_cmp-is_eq x.1 x.1 ∙ grind (arith, nat_tests))) in
         let there : in_set x.1 ≡ true =
-        sym (ap (λ (f : K × ℕ → Ordering). contains_by f set) (λ i z. pair_total.congr x (key, x.1) z alike i))
+        sym (ap (λ (f : K × ℕ → Ordering). contains_by f set)
+        (λ i z. pair_total.congr x (key, x.1) z alike i))
         ∙ from.1.1 in (
           (
             le,
@@ -104,7 +112,8 @@ module _ {K : Type 0} (cmp : K → K → Ordering) (total : IsTotalOrder cmp) wh
             λ k after before.
                 elim (in_set k) as (λ b. in_set k ≡ b → b ≡ false) [
                   | true ↦ λ is.
-                      let at : x.1 ≤ k = le_from_not_gt x.1 k (rw eq at (up_to x rest from k after is)) in
+                      let at : x.1 ≤ k = le_from_not_gt x.1 k
+                      (rw eq at (up_to x rest from k after is)) in
                       absurd (omega arith)
                   | false ↦ λ is. refl
                 ] refl,
@@ -113,7 +122,8 @@ module _ {K : Type 0} (cmp : K → K → Ordering) (total : IsTotalOrder cmp) wh
         )
 
     -- if it has another
-    pub none_first : (pairs : List (K × ℕ)) (x : K × ℕ) (rest : List (K × ℕ)) → pairs ≡ x ∷ rest → AreFrom pairs
+    pub none_first : (pairs : List (K × ℕ)) (x : K × ℕ) (rest : List (K × ℕ)) → pairs ≡ x ∷ rest
+        → AreFrom pairs
         → is_eq (cmp x.0 key) ≡ false → IsFirst in_set start None
     none_first pairs x rest is all other =
         let from : AreFrom (x ∷ rest) = subst AreFrom is all in (
@@ -123,7 +133,8 @@ module _ {K : Type 0} (cmp : K → K → Ordering) (total : IsTotalOrder cmp) wh
                 | true ↦ λ is.
                     let less : cmp x.0 key ≡ Less = less_else (cmp x.0 key) (nat_cmp x.1 k) other
                     (up_to x rest from k after is) in
-                    let greater : cmp key x.0 ≡ Greater = total.antisymm key x.0 ∙ ap ordering_reverse less in
+                    let greater : cmp key x.0 ≡ Greater =
+                    total.antisymm key x.0 ∙ ap ordering_reverse less in
                     absurd (cc (rw greater at from.1.0.0))
                 | false ↦ λ is. refl
               ] refl,

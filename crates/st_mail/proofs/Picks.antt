@@ -1,8 +1,9 @@
--- If a pattern doesn't ask for a place, the message that pick gives is at the first position that passes a
--- test, and if it does, at that place: so a search by the test finds the place, and what is there is what pick
--- gives.
-use Rattle.std.proofs.Common.{◌≡◌, ℕ, ◌+◌, ◌<◌, ◌≤◌, suc, ◌==◌, Bool, true, false, cond, nat_lt, List, [], ◌∷◌}
-use Rattle.std.proofs.Common.{length, Option, Some, None, option_map, position, slice_get, refl, sym, ◌∙◌, ap, arith}
+-- If a pattern doesn't ask for a place, the message that pick gives is at the first position that
+-- passes a test, and if it does, at that place: so a search by the test finds the place, and what
+-- is there is what pick gives.
+use Rattle.std.proofs.Common.{◌≡◌, ℕ, ◌+◌, ◌<◌, ◌≤◌, suc, ◌==◌, Bool, true, false, cond, nat_lt}
+use Rattle.std.proofs.Common.{List, [], ◌∷◌, length, Option, Some, None, option_map, position}
+use Rattle.std.proofs.Common.{slice_get, refl, sym, ◌∙◌, ap, arith}
 use Rattle.std.specs.List.{position_from}
 use Rattle.std.proofs.lemmas.Bool.{eqb-true}
 use Rattle.std.proofs.lemmas.Bool.Decides.{nat_tests}
@@ -36,7 +37,8 @@ picked_from : (n : ℕ) (w : Want) (test : Message → Bool) (ms : List Message)
     → IsTest w test → place_from n w ms ≡ position_from test n ms
 picked_from n w test [] same = refl
 picked_from n w test (m ∷ ms) same =
-    let this = λ (b : Bool). option_map (λ f. f.0) (cond b (Some (n, m)) (pick_from (n + 1) w ms)) in
+    let this = λ (b : Bool).
+    option_map (λ f. f.0) (cond b (Some (n, m)) (pick_from (n + 1) w ms)) in
     let that = λ (b : Bool). cond b (Some n) (position_from test (n + 1) ms) in
     rw (same n m) (elim (test m) as (λ b. this b ≡ that b) [
       | true ↦ refl
@@ -58,7 +60,8 @@ lt_false m n h = grind (arith, nat_tests)
 past : (m n : ℕ) → m ≤ n → (m == n) ≡ false → m + 1 ≤ n
 past m n h e = grind (arith, nat_tests)
 
-placed_from : (n k : ℕ) (ms : List Message) → n ≤ k → place_from n (want.Place k) ms ≡ below k (n + length ms)
+placed_from : (n k : ℕ) (ms : List Message) → n ≤ k
+    → place_from n (want.Place k) ms ≡ below k (n + length ms)
 placed_from n k [] h = rw (lt_false k (n + 0) (omega arith)) refl
 placed_from n k (m ∷ ms) h =
     let rest : n + 1 ≤ k → place_from (n + 1) (want.Place k) ms ≡ below k (n + suc (length ms)) =
@@ -90,10 +93,12 @@ pub record IsPicked (w : Want) (ms : List Message) (k : ℕ) : Type 0 where
   pub stands : slice_get ms k ≡ Some message
   pub given : pick w ms ≡ Some (k, message)
 
-pub picked_at : (w : Want) (ms : List Message) (k : ℕ) → place_picked w ms ≡ Some k → IsPicked w ms k
+pub picked_at : (w : Want) (ms : List Message) (k : ℕ) → place_picked w ms ≡ Some k
+    → IsPicked w ms k
 picked_at w ms k e = by (pick w ms) refl e
   where
-    by : (o : Option (ℕ × Message)) → pick w ms ≡ o → option_map (λ f. f.0) o ≡ Some k → IsPicked w ms k
+    by : (o : Option (ℕ × Message)) → pick w ms ≡ o → option_map (λ f. f.0) o ≡ Some k
+        → IsPicked w ms k
     by None is e = absurd (cc)
     by (Some found) is e =
         let at : found.0 ≡ k = same_Some found.0 k e in

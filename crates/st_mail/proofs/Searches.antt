@@ -1,6 +1,7 @@
 -- The first slot from some slot on that passes a test has the first item that passes it, from that
 -- slot's place on.
-use Rattle.std.proofs.Common.{◌≡◌, ℕ, zero, suc, ◌+◌, ◌-◌, ◌≤◌, Bool, true, false, cond, List, [], ◌∷◌, drop, length}
+use Rattle.std.proofs.Common.{◌≡◌, ℕ, zero, suc, ◌+◌, ◌-◌, ◌≤◌, Bool, true, false, cond, List, []}
+use Rattle.std.proofs.Common.{◌∷◌, drop, length}
 use Rattle.std.proofs.Common.{Option, Some, None, option_map, position, refl, sym, ap, ◌∙◌, arith}
 use Rattle.std.specs.List.{position_from}
 use Rattle.std.proofs.lemmas.Iterator.Adapters.{position_from-zero}
@@ -14,7 +15,8 @@ record Shift (test : ℕ → Bool) (start : ℕ) (found : Option ℕ) : Type 0 w
   is : found ≡ option_map suc behind
   first : IsFirst (λ s. test (suc s)) start behind
 
-shift : (test : ℕ → Bool) (start less : ℕ) (found : Option ℕ) → less ≡ start - 1 → IsFirst test start found
+shift : (test : ℕ → Bool) (start less : ℕ) (found : Option ℕ) → less ≡ start - 1
+    → IsFirst test start found
     → (start ≡ 0 → test 0 ≡ false) → Shift test less found
 shift test start less None is first fails = record {
   behind = None;
@@ -27,7 +29,15 @@ shift test start less (Some zero) is first fails =
 shift test start less (Some (suc s)) is first fails = record {
   behind = Some s;
   is = refl;
-  first = ((omega (arith, first.0.0), first.0.1, λ k after before. first.0.2 (suc k) (omega arith) (omega arith)), tt);
+  first = (
+    (
+      omega (arith, first.0.0),
+      first.0.1,
+      λ k after before.
+          first.0.2 (suc k) (omega arith) (omega arith),
+    ),
+    tt,
+  );
 }
 
 module _ {T : Type 0} (test : T → Bool) where
@@ -56,29 +66,36 @@ module _ {T : Type 0} (test : T → Bool) where
   none_there [] start (Some s) is first = absurd (cc (first.0.1))
   none_there (o ∷ slots) start found is first = absurd (cc)
 
-  none_placed : (n : ℕ) (slots : List (Option T)) (found : Option ℕ) → found ≡ None → None ≡ place_of n slots found
+  none_placed : (n : ℕ) (slots : List (Option T)) (found : Option ℕ) → found ≡ None
+      → None ≡ place_of n slots found
   none_placed n slots found is = rw is refl
 
-  here : (item : T) (slots : List (Option T)) (found : Option ℕ) → IsFirst (passes_in (Some item ∷ slots)) 0 found
+  here : (item : T) (slots : List (Option T)) (found : Option ℕ)
+      → IsFirst (passes_in (Some item ∷ slots)) 0 found
       → test item ≡ true → found ≡ Some 0
   here item slots None first is = absurd (cc (first.1 0 (omega arith), is))
   here item slots (Some zero) first is = refl
-  here item slots (Some (suc s)) first is = absurd (cc (first.0.2 0 (omega arith) (omega arith), is))
+  here item slots (Some (suc s)) first is =
+      absurd (cc (first.0.2 0 (omega arith) (omega arith), is))
 
   -- the item in front passes, or the search goes on after it
-  by_test : (b : Bool) (n : ℕ) (item : T) (slots : List (Option T)) (found : Option ℕ) → test item ≡ b
+  by_test : (b : Bool) (n : ℕ) (item : T) (slots : List (Option T)) (found : Option ℕ)
+      → test item ≡ b
       → IsFirst (passes_in (Some item ∷ slots)) 0 found
       → ((behind : Option ℕ) → IsFirst (passes_in slots) 0 behind
       → position_from test (n + 1) (kept slots) ≡ place_of (n + 1) slots behind)
-      → cond b (Some n) (position_from test (n + 1) (kept slots)) ≡ place_of n (Some item ∷ slots) found
-  by_test true n item slots found is first rest = rw (here item slots found first is) (ap (λ k. Some k) (omega arith))
+      → cond b (Some n) (position_from test (n + 1) (kept slots))
+      ≡ place_of n (Some item ∷ slots) found
+  by_test true n item slots found is first rest =
+      rw (here item slots found first is) (ap (λ k. Some k) (omega arith))
   by_test false n item slots found is first rest =
       let behind = shift (passes_in (Some item ∷ slots)) 0 0 found (omega arith) first (λ _. is) in
       rest behind.behind behind.first
       ∙ past_item n item slots behind.behind
       ∙ ap (place_of n (Some item ∷ slots)) (sym behind.is)
 
-  from_first : (n : ℕ) (slots : List (Option T)) (found : Option ℕ) → IsFirst (passes_in slots) 0 found
+  from_first : (n : ℕ) (slots : List (Option T)) (found : Option ℕ)
+      → IsFirst (passes_in slots) 0 found
       → position_from test n (kept slots) ≡ place_of n slots found
   from_first n [] found first = none_placed n [] found (none_there [] 0 found refl first)
   from_first n (None ∷ slots) found first =
@@ -118,7 +135,8 @@ module _ {T : Type 0} (test : T → Bool) where
   pub found_first : (slots : List (Option T)) (found : Option ℕ) → IsFirst (passes_in slots) 0 found
       → option_map (before slots) found ≡ position test (kept slots)
   found_first slots found first =
-      plain found ∙ sym (from_first 0 slots found first) ∙ sym (position_from-zero test (kept slots))
+      plain found ∙ sym (from_first 0 slots found first)
+      ∙ sym (position_from-zero test (kept slots))
     where
       plain : (o : Option ℕ) → option_map (before slots) o ≡ place_of 0 slots o
       plain None = refl
@@ -139,9 +157,11 @@ module _ {T : Type 0} (test : T → Bool) where
       by true there = ap (λ k. Some k) there
       by false there = refl
 
-  pub found_from : (slots : List (Option T)) (start place : ℕ) (found : Option ℕ) → before slots start ≡ place
+  pub found_from : (slots : List (Option T)) (start place : ℕ) (found : Option ℕ)
+      → before slots start ≡ place
       → IsFirst (passes_in slots) start found
-      → option_map (before slots) found ≡ option_map (λ k. place + k) (position test (drop place (kept slots)))
+      → option_map (before slots) found
+      ≡ option_map (λ k. place + k) (position test (drop place (kept slots)))
   found_from slots start place found is first =
       let here : 0 + before slots start ≡ 0 + place = omega (arith, is) in
       plain found

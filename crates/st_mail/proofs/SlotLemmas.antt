@@ -1,6 +1,8 @@
--- A test of a slot's item asks no other slot, so a new slot or an emptied one changes its answer there alone.
+-- A test of a slot's item asks no other slot, so a new slot or an emptied one changes its answer
+-- there alone.
 use Rattle.std.proofs.Common.{◌≡◌, ℕ, zero, suc, ◌<◌, Bool, true, false, not, ◌==◌, ◌&&◌, ◌||◌}
-use Rattle.std.proofs.Common.{List, [], ◌∷◌, ◌++◌, length, set, slice_get, Option, Some, None, refl, ap, arith}
+use Rattle.std.proofs.Common.{List, [], ◌∷◌, ◌++◌, length, set, slice_get, Option, Some, None, refl}
+use Rattle.std.proofs.Common.{ap, arith}
 use Rattle.std.proofs.lemmas.Bool.Decides.{nat_tests}
 use Rattle.std.proofs.lemmas.Option.{same_Some}
 use Rattle.st_mail.specs.Slots.{item_at, passes}
@@ -32,7 +34,8 @@ module _ {T : Type 0} where
     pub item : T
     pub is : item_at slots slot ≡ Some item
 
-  pub inside : (slots : List (Option T)) (slot : ℕ) (item : T) → item_at slots slot ≡ Some item → slot < length slots
+  pub inside : (slots : List (Option T)) (slot : ℕ) (item : T) → item_at slots slot ≡ Some item
+      → slot < length slots
   inside [] slot item is = absurd (cc)
   inside (o ∷ slots) zero item is = omega arith
   inside (o ∷ slots) (suc slot) item is = omega (arith, inside slots slot item is)
@@ -44,7 +47,8 @@ module _ {T : Type 0} where
   item-get (o ∷ slots) zero item is = ap (λ x. Some x) is
   item-get (o ∷ slots) (suc slot) item is = item-get slots slot item is
 
-  pub get-item : (slots : List (Option T)) (slot : ℕ) (item : T) → slice_get slots slot ≡ Some (Some item)
+  pub get-item : (slots : List (Option T)) (slot : ℕ) (item : T)
+      → slice_get slots slot ≡ Some (Some item)
       → item_at slots slot ≡ Some item
   get-item [] slot item is = absurd (cc)
   get-item (o ∷ slots) zero item is = same_Some o (Some item) is
@@ -52,7 +56,8 @@ module _ {T : Type 0} where
 
   -- TESTS
 
-  pub passing : (test : T → Bool) (slots : List (Option T)) (slot : ℕ) → passes test (item_at slots slot) ≡ true
+  pub passing : (test : T → Bool) (slots : List (Option T)) (slot : ℕ)
+      → passes test (item_at slots slot) ≡ true
       → HasItem slots slot
   passing test slots slot h = by (item_at slots slot) refl h
     where
@@ -71,7 +76,8 @@ module _ {T : Type 0} where
 
   -- at all slots but one
   pub passes-set : (test : T → Bool) (slots : List (Option T)) (slot s : ℕ)
-      → passes test (item_at (set slots slot None) s) ≡ (not (slot == s) && passes test (item_at slots s))
+      → passes test (item_at (set slots slot None) s)
+      ≡ (not (slot == s) && passes test (item_at slots s))
   passes-set test [] slot s = by (slot == s)
     where
       by : (b : Bool) → false ≡ (not b && false)

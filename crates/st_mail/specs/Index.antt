@@ -1,5 +1,6 @@
 -- An index of a queue: its slots, and the keys that it finds.
-use Rattle.std.specs.Prelude.{◌≡◌, ◌==◌, ◌&&◌, ◌-◌, ℕ, Bool, true, false, List, Option, Some, None, length}
+use Rattle.std.specs.Prelude.{◌≡◌, ◌==◌, ◌&&◌, ◌-◌, ℕ, Bool, true, false, List, Option, Some, None}
+use Rattle.std.specs.Prelude.{length}
 use Rattle.std.specs.declared.cmp.Ordering.{Ordering}
 use Rattle.std.specs.Ordering.{nat_cmp, ordering_then}
 use Rattle.st_core.specs.declared.types.Message.{Message}
@@ -37,7 +38,8 @@ abbrev pub pid_count_cmp : Pid × ℕ → Pid × ℕ → Ordering
 pid_count_cmp a b = ordering_then (pid_cmp a.0 b.0) (nat_cmp a.1 b.1)
 
 -- if keys are kept, a slot has a key exactly if a message is there that passes the key's test
-abbrev pub IsKeyedBy : {K : Type 0} → (K → K → Ordering) → (K → Message → Bool) → KeyedSlots K → List
+abbrev pub IsKeyedBy : {K : Type 0} → (K → K → Ordering) → (K → Message → Bool) → KeyedSlots K
+    → List
     (Option Message) → Type 0
 IsKeyedBy {K} cmp test keyed slots = is_kept keyed ≡ true →
     (k : K) (s : ℕ) → has_key cmp keyed k s ≡ passes (test k) (item_at slots s)

@@ -13,7 +13,11 @@ has keys key.Stamp = keys.stamp
 
 -- these and this one
 abbrev pub with_key : SearchKey → Keys → Keys
-with_key key.Value keys = record { value = true; sender = keys.sender; both = keys.both; stamp = keys.stamp }
-with_key key.Sender keys = record { value = keys.value; sender = true; both = keys.both; stamp = keys.stamp }
-with_key key.Both keys = record { value = keys.value; sender = keys.sender; both = true; stamp = keys.stamp }
-with_key key.Stamp keys = record { value = keys.value; sender = keys.sender; both = keys.both; stamp = true }
+with_key key.Value keys =
+    record { value = true; sender = keys.sender; both = keys.both; stamp = keys.stamp }
+with_key key.Sender keys =
+    record { value = keys.value; sender = true; both = keys.both; stamp = keys.stamp }
+with_key key.Both keys =
+    record { value = keys.value; sender = keys.sender; both = true; stamp = keys.stamp }
+with_key key.Stamp keys =
+    record { value = keys.value; sender = keys.sender; both = keys.both; stamp = true }

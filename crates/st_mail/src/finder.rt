@@ -1,8 +1,8 @@
 //! How the messages of one queue are found: by a walk, or by an index of what long walks looked
 //! for.
 
-ghost use Rattle.std.specs.Prelude.{◌≡◌, ◌≤◌, ◌↔◌, ◌++◌, [], ◌∷◌, List, Some, IfSome, length, remove, true};
-ghost use Rattle.std.specs.Prelude.{slice_get};
+ghost use Rattle.std.specs.Prelude.{◌≡◌, ◌≤◌, ◌↔◌, ◌++◌, [], ◌∷◌, List, Some, IfSome, length};
+ghost use Rattle.std.specs.Prelude.{remove, true, slice_get};
 ghost use Rattle.st_arena.specs.Arena.{list_at};
 ghost use Rattle.st_core.specs.declared.types.Message.{Message};
 

@@ -7,8 +7,8 @@ ghost use Rattle.st_mail.specs.KeyedSlots.{has_key, is_kept, IsFirst};
 use std::alloc::{AllocError, Global};
 use std::collections::BTreeSet;
 
-/// Pairs of a key and a slot that has it, in order of key and then slot: so the slots of one key are
-/// together and rise. If the keys of this sort aren't kept, there is none.
+/// Pairs of a key and a slot that has it, in order of key and then slot: so the slots of one key
+/// are together and rise. If the keys of this sort aren't kept, there is none.
 #[derive(Drop)]
 pub struct KeyedSlots<K: Ord> {
     pairs: Option<BTreeSet<(K, usize)>>,

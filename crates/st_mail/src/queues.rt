@@ -1,8 +1,9 @@
 //! The stored queues. One in which calls have walked far has an index.
 
-ghost use Rattle.std.specs.Prelude.{◌≡◌, ◌+◌, ◌<◌, ◌≤◌, ◌==◌, ◌&&◌, ◌++◌, [], ◌∷◌, true, IfNone, IfOk};
-ghost use Rattle.std.specs.Prelude.{IfSome, IsOk, OnOk, OnErr, OnSome, drop, length, option_map, position};
-ghost use Rattle.std.specs.Prelude.{remove, replicate, slice_get, slice_set, option_copied};
+ghost use Rattle.std.specs.Prelude.{◌≡◌, ◌+◌, ◌<◌, ◌≤◌, ◌==◌, ◌&&◌, ◌++◌, [], ◌∷◌, true, IfNone};
+ghost use Rattle.std.specs.Prelude.{IfOk, IfSome, IsOk, OnOk, OnErr, OnSome, drop, length};
+ghost use Rattle.std.specs.Prelude.{option_map, position, remove, replicate, slice_get, slice_set};
+ghost use Rattle.std.specs.Prelude.{option_copied};
 ghost use Rattle.st_core.specs.Pid.{pid_eq};
 ghost use Rattle.st_arena.specs.Arena.{list_at};
 ghost use Rattle.st_arena.specs.Calls.{PassesOnce};

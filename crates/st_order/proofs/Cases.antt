@@ -1,4 +1,5 @@
--- Worked cases: the definitions computed. Nothing cites this file; it shows that the definitions say what is meant.
+-- Worked cases: the definitions computed. Nothing cites this file; it shows that the definitions
+-- say what is meant.
 use Rattle.std.specs.Prelude.{◌≡◌, ◌==◌, Bool, true, false, List, [], ◌∷◌, ◌||◌, None, filter, refl}
 use Rattle.st_core.specs.Run.{Stream}
 use Rattle.st_order.specs.declared.item.Item.{Item}
@@ -25,7 +26,10 @@ hidden_is = refl
 hidden_rises : KeysRise hidden_sends hidden_order
 hidden_rises = (
   (refl, (refl, (refl, (refl, (refl, tt))))),
-  ((refl, (refl, (refl, (refl, tt)))), ((refl, (refl, (refl, tt))), ((refl, (refl, tt)), ((refl, tt), (tt, tt))))),
+  (
+    (refl, (refl, (refl, (refl, tt)))),
+    ((refl, (refl, (refl, tt))), ((refl, (refl, tt)), ((refl, tt), (tt, tt)))),
+  ),
 )
 
 hidden_heights : height hidden_sends a 0
@@ -45,14 +49,21 @@ six_times true = refl
 six_times false = refl
 
 hidden_by_label : IsByLabel hidden_sends hidden_order ((record { 0 = 17 }, hidden_order) ∷ [])
-hidden_by_label = record { rises = (tt, tt); labels = λ label. six_times (17 == label.0); lists = (refl, tt) }
+hidden_by_label = record {
+  rises = (tt, tt);
+  labels = λ label. six_times (17 == label.0);
+  lists =
+      (refl, tt);
+}
 
 -- a receive of a low count is at the height of its process
 abbrev low_counts : List Stream
-low_counts = of a [] ∷ of b (got 1 0 2 a b 0 ∷ got 1 0 1 c b 0 ∷ printed 1 1 2 b 0 ∷ []) ∷ of c [] ∷ []
+low_counts = of a [] ∷ of b (got 1 0 2 a b 0 ∷ got 1 0 1 c b 0 ∷ printed 1 1 2 b 0 ∷ []) ∷ of c []
+    ∷ []
 
 low_counts_are : order low_counts
-    ≡ item.Hidden b 1 ∷ item.Hidden b 0 ∷ item.Reported b 2 ∷ item.Reported b 0 ∷ item.Reported b 1 ∷ []
+    ≡ item.Hidden b 1 ∷ item.Hidden b 0 ∷ item.Reported b 2 ∷ item.Reported b 0 ∷ item.Reported b 1
+    ∷ []
 low_counts_are = refl
 
 -- its print doesn't count more than the receives before it, and is in front of them
@@ -75,5 +86,6 @@ one_key : key repeats (item.Hidden b 0) ≡ key repeats (item.Hidden b 1)
 one_key = refl
 
 -- nothing is past the end of a stream, nor in one that isn't listed
-past_the_end : label_of passed (item.Reported a 1) ∷ label_of passed (item.Hidden c 0) ∷ [] ≡ None ∷ None ∷ []
+past_the_end : label_of passed (item.Reported a 1) ∷ label_of passed (item.Hidden c 0) ∷ []
+    ≡ None ∷ None ∷ []
 past_the_end = refl

@@ -1,6 +1,7 @@
--- The first group of a list ends before the first item that has another label, by induction on what follows.
-use Rattle.std.proofs.Common.{◌≡◌, ℕ, ◌+◌, ◌==◌, ◌++◌, suc, Bool, true, false, cond, List, [], ◌∷◌, take}
-use Rattle.std.proofs.Common.{drop, Some, slice_get, append_assoc, refl, sym, ◌∙◌, ap, arith}
+-- The first group of a list ends before the first item that has another label, by induction on what
+-- follows.
+use Rattle.std.proofs.Common.{◌≡◌, ℕ, ◌+◌, ◌==◌, ◌++◌, suc, Bool, true, false, cond, List, [], ◌∷◌}
+use Rattle.std.proofs.Common.{take, drop, Some, slice_get, append_assoc, refl, sym, ◌∙◌, ap, arith}
 use Rattle.std.proofs.lemmas.Bool.{eqb-true, eq-eqb}
 use Rattle.std.proofs.lemmas.Option.{same_Some}
 use Rattle.st_core.specs.declared.types.Label.{Label}
@@ -23,7 +24,8 @@ pub grouped_after : (x : LabelledItem) (xs : List LabelledItem)
     → groups_of (x ∷ xs) ≡ cut_after x (leading_with x.label xs) xs
 grouped_after x [] = refl
 grouped_after x (y ∷ ys) = elim (y.label.0 == x.label.0) as (λ b. (y.label.0 == x.label.0) ≡ b
-    → put_before x (groups_of (y ∷ ys)) ≡ cut_after x (cond b (leading_with x.label ys + 1) 0) (y ∷ ys)) [
+    → put_before x (groups_of (y ∷ ys)) ≡ cut_after x (cond b (leading_with x.label ys + 1) 0)
+    (y ∷ ys)) [
       | true ↦ λ is.
           let n = leading_with x.label ys in
           let same = same_label y.label x.label is in
@@ -31,22 +33,26 @@ grouped_after x (y ∷ ys) = elim (y.label.0 == x.label.0) as (λ b. (y.label.0 
           let rest : groups_of (y ∷ ys) ≡ cut_after y n ys =
           grouped_after y ys ∙ ap (λ (l : Label). cut_after y (leading_with l ys) ys) same in
           ap (put_before x) rest
-          ∙ ap (λ (b : Bool). cond b ((y.label, x.item ∷ y.item ∷ items_in (take n ys)) ∷ groups_of (drop n ys))
+          ∙ ap (λ (b : Bool). cond b
+          ((y.label, x.item ∷ y.item ∷ items_in (take n ys)) ∷ groups_of (drop n ys))
           ((x.label, x.item ∷ []) ∷ cut_after y n ys)) is
-          ∙ ap (λ (l : Label). let g : Group = (l, x.item ∷ y.item ∷ items_in (take n ys)) in g ∷ groups_of (drop n ys))
+          ∙ ap (λ (l : Label). let g : Group = (l, x.item ∷ y.item ∷ items_in (take n ys)) in
+          g ∷ groups_of (drop n ys))
           same
           ∙ ap (λ (m : ℕ). cut_after x m (y ∷ ys)) next
       | false ↦ λ is.
           let n = leading_with y.label ys in
           let rest = grouped_after y ys in
           ap (put_before x) rest
-          ∙ ap (λ (b : Bool). cond b ((y.label, x.item ∷ y.item ∷ items_in (take n ys)) ∷ groups_of (drop n ys))
+          ∙ ap (λ (b : Bool). cond b
+          ((y.label, x.item ∷ y.item ∷ items_in (take n ys)) ∷ groups_of (drop n ys))
           ((x.label, x.item ∷ []) ∷ cut_after y n ys)) is
           ∙ ap (λ (gs : List Group). let g : Group = (x.label, x.item ∷ []) in g ∷ gs) (sym rest)
     ] refl
 
 -- so the first group is what leads with the first label
-pub grouped_cut : (x : LabelledItem) (rest : List LabelledItem) (n : ℕ) → n ≡ leading_with x.label (x ∷ rest)
+pub grouped_cut : (x : LabelledItem) (rest : List LabelledItem) (n : ℕ)
+    → n ≡ leading_with x.label (x ∷ rest)
     → groups_of (x ∷ rest) ≡ (x.label, items_in (take n (x ∷ rest))) ∷ groups_of (drop n (x ∷ rest))
 grouped_cut x rest n is =
     let leads : leading_with x.label (x ∷ rest) ≡ leading_with x.label rest + 1 =
@@ -63,10 +69,12 @@ pub group_passed : (all rest : List LabelledItem) (x : LabelledItem) (n : ℕ)
     → front ≡ take n rest → others ≡ drop n rest → its ≡ items_in front
     → before ++ groups_of rest ≡ groups_of all → after ≡ before ++ (x.label, its) ∷ []
     → after ++ groups_of others ≡ groups_of all
-group_passed all [] x n before after its front others first count led back are so given = absurd (cc)
+group_passed all [] x n before after its front others first count led back are so given =
+    absurd (cc)
 group_passed all (y ∷ rest) x n before after its front others first count led back are so given =
     let same = same_Some x y first in
-    let cut = grouped_cut y rest n (count ∙ ap (λ (z : LabelledItem). leading_with z.label (y ∷ rest)) same) in
+    let cut = grouped_cut y rest n
+    (count ∙ ap (λ (z : LabelledItem). leading_with z.label (y ∷ rest)) same) in
     let g : Group = (x.label, its) in
     let h : Group = (y.label, items_in (take n (y ∷ rest))) in
     let one : g ≡ h = λ i. ((same i).label, (are ∙ ap items_in led) i) in

@@ -1,8 +1,10 @@
--- The lemmas that proofs of the crates above may cite: on keys and what comes before what, on the order as a list, and
--- on what items there are. They hold by the definitions alone; nothing here speaks of how the code does it.
+-- The lemmas that proofs of the crates above may cite: on keys and what comes before what, on the
+-- order as a list, and on what items there are. They hold by the definitions alone; nothing here
+-- speaks of how the code does it.
 
 -- ---- keys, and what comes before what
-pub use Rattle.st_order.proofs.Keys.{key_total, IsKeyed, items_keyed, comes_before_is, one_way, chain, hidden_receives}
+pub use Rattle.st_order.proofs.Keys.{key_total, IsKeyed, items_keyed, comes_before_is, one_way}
+pub use Rattle.st_order.proofs.Keys.{chain, hidden_receives}
 pub use Rattle.st_order.proofs.DistinctItems.{index_of}
 -- ---- the one order
 pub use Rattle.st_order.proofs.OneOrder.{one_order, Among, among_all, members}

@@ -1,7 +1,8 @@
--- The groups of items that rise by label are the items by label: those of one label are one group, and a stable sort
--- leaves them in their order.
-use Rattle.std.proofs.Common.{◌≡◌, ℕ, ◌==◌, ◌<◌, ◌≤◌, ◌||◌, suc, Bool, true, false, cond, List, [], ◌∷◌, map}
-use Rattle.std.proofs.Common.{filter, length, get_or, Option, Some, None, option_map, refl, sym, ◌∙◌, ap, arith}
+-- The groups of items that rise by label are the items by label: those of one label are one group,
+-- and a stable sort leaves them in their order.
+use Rattle.std.proofs.Common.{◌≡◌, ℕ, ◌==◌, ◌<◌, ◌≤◌, ◌||◌, suc, Bool, true, false, cond, List, []}
+use Rattle.std.proofs.Common.{◌∷◌, map, filter, length, get_or, Option, Some, None, option_map}
+use Rattle.std.proofs.Common.{refl, sym, ◌∙◌, ap, arith}
 use Rattle.std.specs.List.{AllByRecursion, cons_option, filter_map, list_any}
 use Rattle.std.specs.List.Sorted.{IsSortedByKey, IsStableByKey, IsNonDecreasingBy, ties}
 use Rattle.std.specs.Ordering.{nat_cmp, is_lt}
@@ -43,7 +44,8 @@ all_above : (x : LabelledItem) (xs : List LabelledItem)
     → ((j : ℕ) (d : LabelledItem) → j < length xs → number_of x ≤ number_of (get_or xs j d))
     → AllByRecursion (λ y. number_of x ≤ number_of y) xs
 all_above x [] far = tt
-all_above x (y ∷ xs) far = (far 0 x (omega arith), all_above x xs (λ j d within. far (suc j) d (omega arith)))
+all_above x (y ∷ xs) far =
+    (far 0 x (omega arith), all_above x xs (λ j d within. far (suc j) d (omega arith)))
 
 climbs_from : (xs : List LabelledItem) → IsNonDecreasingBy number_of xs → Climbs xs
 climbs_from [] up = tt
@@ -57,7 +59,8 @@ module _ (P : Label → Type 0) where
       → AllByRecursion (λ g. P g.0) (put_before x gs)
   all_put x [] one all = (one, tt)
   all_put x (g ∷ gs) one all = elim (g.0.0 == x.label.0) as
-      (λ b. AllByRecursion (λ h. P h.0) (cond b ((g.0, x.item ∷ g.1) ∷ gs) ((x.label, x.item ∷ []) ∷ g ∷ gs))) [
+      (λ b. AllByRecursion (λ h. P h.0)
+      (cond b ((g.0, x.item ∷ g.1) ∷ gs) ((x.label, x.item ∷ []) ∷ g ∷ gs))) [
         | true ↦ (all.0, all.1)
         | false ↦ (one, all)
       ]
@@ -70,15 +73,22 @@ module _ (P : Label → Type 0) where
 apart_above : (m n : ℕ) → (n == m) ≡ false → m ≤ n → m < n
 apart_above m n apart low = grind (arith, nat_tests)
 
-put_rises : (x : LabelledItem) (gs : List Group) → AllByRecursion (λ g. number_of x ≤ g.0.0) gs → LabelsRise gs
+put_rises : (x : LabelledItem) (gs : List Group) → AllByRecursion (λ g. number_of x ≤ g.0.0) gs
+    → LabelsRise gs
     → LabelsRise (put_before x gs)
 put_rises x [] low up = (tt, tt)
 put_rises x (g ∷ gs) low up = elim (g.0.0 == x.label.0) as (λ b. (g.0.0 == x.label.0) ≡ b
     → LabelsRise (cond b ((g.0, x.item ∷ g.1) ∷ gs) ((x.label, x.item ∷ []) ∷ g ∷ gs))) [
       | true ↦ λ is. up
       | false ↦ λ is.
-          let above = apart_above (number_of x) g.0.0 is low.0 in
-          ((above, all_mapped (λ h. g.0.0 < h.0.0) (λ h. number_of x < h.0.0) gs (λ h higher. omega arith) up.0), up)
+          let above = apart_above (number_of x) g.0.0 is low.0 in (
+            (
+              above,
+              all_mapped (λ h. g.0.0 < h.0.0) (λ h. number_of x < h.0.0) gs
+                  (λ h higher. omega arith) up.0,
+            ),
+            up,
+          )
     ] refl
 
 grouped_rise : (xs : List LabelledItem) → Climbs xs → LabelsRise (groups_of xs)
@@ -131,11 +141,13 @@ unlike m n differ = elim (m == n) as (λ b. (m == n) ≡ b → b ≡ false) [
 alike : (m n : ℕ) → m ≡ n → (m == n) ≡ true
 alike m n same = eq-eqb m n same
 
-above_all : (n : ℕ) (gs : List Group) (label : Label) → label.0 ≡ n → AllByRecursion (λ h. n < h.0.0) gs
+above_all : (n : ℕ) (gs : List Group) (label : Label) → label.0 ≡ n
+    → AllByRecursion (λ h. n < h.0.0) gs
     → list_any (is_of label) gs ≡ false
 above_all n [] label same above = refl
 above_all n (g ∷ gs) label same above =
-    let head : is_of label g ≡ false = unlike g.0.0 label.0 (λ is. let low = above.0 in absurd (omega arith)) in
+    let head : is_of label g ≡ false =
+    unlike g.0.0 label.0 (λ is. let low = above.0 in absurd (omega arith)) in
     ap (λ (b : Bool). b || list_any (is_of label) gs) head ∙ above_all n gs label same above.1
 
 -- the group has exactly the items of its label
@@ -147,8 +159,12 @@ held_later : (x : LabelledItem) (xs : List LabelledItem) (gs : List Group)
     → AllByRecursion (Holds xs) gs → AllByRecursion (Holds (x ∷ xs)) gs
 held_later x xs [] above all = tt
 held_later x xs (g ∷ gs) above all =
-    let other : is_with g.0 x ≡ false = unlike x.label.0 g.0.0 (λ is. let low = above.0 in absurd (omega arith)) in (
-      all.0 ∙ sym (ap (λ (b : Bool). items_in (cond b (x ∷ filter (is_with g.0) xs) (filter (is_with g.0) xs))) other),
+    let other : is_with g.0 x ≡ false =
+    unlike x.label.0 g.0.0 (λ is. let low = above.0 in absurd (omega arith)) in (
+      all.0
+          ∙ sym
+          (ap (λ (b : Bool). items_in
+          (cond b (x ∷ filter (is_with g.0) xs) (filter (is_with g.0) xs))) other),
       held_later x xs gs above.1 all.1,
     )
 
@@ -156,8 +172,11 @@ held_later x xs (g ∷ gs) above all =
 alone : (x : LabelledItem) (xs : List LabelledItem) → list_any (is_with x.label) xs ≡ false
     → (x.item ∷ []) ≡ items_in (filter (is_with x.label) (x ∷ xs))
 alone x xs none =
-    ap (λ (ys : List LabelledItem). x.item ∷ items_in ys) (sym (none_passes (is_with x.label) xs none))
-    ∙ sym (ap (λ (b : Bool). items_in (cond b (x ∷ filter (is_with x.label) xs) (filter (is_with x.label) xs)))
+    ap (λ (ys : List LabelledItem). x.item ∷ items_in ys)
+    (sym (none_passes (is_with x.label) xs none))
+    ∙ sym
+    (ap (λ (b : Bool). items_in
+    (cond b (x ∷ filter (is_with x.label) xs) (filter (is_with x.label) xs)))
     (alike x.label.0 x.label.0 refl))
 
 put_holds : (x : LabelledItem) (xs : List LabelledItem) (gs : List Group) → LabelsRise gs
@@ -166,7 +185,8 @@ put_holds : (x : LabelledItem) (xs : List LabelledItem) (gs : List Group) → La
     → AllByRecursion (Holds xs) gs → AllByRecursion (Holds (x ∷ xs)) (put_before x gs)
 put_holds x xs [] up low any all = (alone x xs (sym (any x.label)), tt)
 put_holds x xs (g ∷ gs) up low any all = elim (g.0.0 == x.label.0) as (λ b. (g.0.0 == x.label.0) ≡ b
-    → AllByRecursion (Holds (x ∷ xs)) (cond b ((g.0, x.item ∷ g.1) ∷ gs) ((x.label, x.item ∷ []) ∷ g ∷ gs))) [
+    → AllByRecursion (Holds (x ∷ xs))
+    (cond b ((g.0, x.item ∷ g.1) ∷ gs) ((x.label, x.item ∷ []) ∷ g ∷ gs))) [
       | true ↦ λ is.
           let same = eqb-true g.0.0 x.label.0 is in
           let its : is_with g.0 x ≡ true = alike x.label.0 g.0.0 (sym same) in (
@@ -178,8 +198,10 @@ put_holds x xs (g ∷ gs) up low any all = elim (g.0.0 == x.label.0) as (λ b. (
           )
       | false ↦ λ is.
           let above = apart_above (number_of x) g.0.0 is low.0 in
-          let rest = all_mapped (λ h. g.0.0 < h.0.0) (λ h. number_of x < h.0.0) gs (λ h higher. omega arith) up.0 in (
-            alone x xs (sym (any x.label) ∙ above_all (number_of x) (g ∷ gs) x.label refl (above, rest)),
+          let rest = all_mapped (λ h. g.0.0 < h.0.0) (λ h. number_of x < h.0.0) gs
+          (λ h higher. omega arith) up.0 in (
+            alone x xs (sym (any x.label) ∙ above_all (number_of x) (g ∷ gs) x.label refl
+                (above, rest)),
             held_later x xs (g ∷ gs) (above, rest) all,
           )
     ] refl
@@ -187,7 +209,8 @@ put_holds x xs (g ∷ gs) up low any all = elim (g.0.0 == x.label.0) as (λ b. (
 grouped_hold : (xs : List LabelledItem) → Climbs xs → AllByRecursion (Holds xs) (groups_of xs)
 grouped_hold [] up = tt
 grouped_hold (x ∷ xs) up =
-    put_holds x xs (groups_of xs) (grouped_rise xs up.1) (all_grouped (λ l. number_of x ≤ l.0) xs up.0)
+    put_holds x xs (groups_of xs) (grouped_rise xs up.1)
+    (all_grouped (λ l. number_of x ≤ l.0) xs up.0)
     (λ label. any_grouped label xs) (grouped_hold xs up.1)
 
 -- WHAT A STABLE SORT KEEPS
@@ -199,12 +222,18 @@ ties_are x y = grind (arith, nat_tests)
 kept_filter : (xs ys : List LabelledItem) (label : Label) → IsStableByKey number_of nat_cmp xs ys
     → filter (is_with label) ys ≡ filter (is_with label) xs
 kept_filter xs ys label stable =
-    let x : LabelledItem = record { label = label; item = item.Reported (record { node = 0; number = 0 }) 0 } in
-    let test : ties (λ a b. is_lt (nat_cmp (number_of a) (number_of b))) x ≡ is_with label = λ i y. ties_are x y i in
+    let x : LabelledItem = record {
+      label = label;
+      item =
+          item.Reported (record { node = 0; number = 0 }) 0;
+    } in
+    let test : ties (λ a b. is_lt (nat_cmp (number_of a) (number_of b))) x ≡ is_with label =
+    λ i y. ties_are x y i in
     ap (λ (p : LabelledItem → Bool). filter p ys) (sym test) ∙ stable x
     ∙ ap (λ (p : LabelledItem → Bool). filter p xs) test
 
-any_filtered : {A : Type 0} (p : A → Bool) (xs : List A) → list_any p xs ≡ list_any (λ x. true) (filter p xs)
+any_filtered : {A : Type 0} (p : A → Bool) (xs : List A)
+    → list_any p xs ≡ list_any (λ x. true) (filter p xs)
 any_filtered p [] = refl
 any_filtered p (x ∷ xs) = elim (p x) as
     (λ b. (b || list_any p xs) ≡ list_any (λ x. true) (cond b (x ∷ filter p xs) (filter p xs))) [
@@ -223,19 +252,22 @@ module _ (streams : List Stream) (label : Label) where
 
   filtered_by : (x : Item) (o : Option Label) (rest : List LabelledItem)
       → items_in (filter (is_with label) (with_label_by x o rest))
-      ≡ cond (has_by o) (x ∷ items_in (filter (is_with label) rest)) (items_in (filter (is_with label) rest))
+      ≡ cond (has_by o) (x ∷ items_in (filter (is_with label) rest))
+      (items_in (filter (is_with label) rest))
   filtered_by x None rest = refl
   filtered_by x (Some l) rest = elim (l.0 == label.0) as
       (λ b. items_in (cond b ((let y : LabelledItem = record { label = l; item = x } in y)
       ∷ filter (is_with label) rest)
       (filter (is_with label) rest))
-      ≡ cond b (x ∷ items_in (filter (is_with label) rest)) (items_in (filter (is_with label) rest))) [
+      ≡ cond b (x ∷ items_in (filter (is_with label) rest))
+      (items_in (filter (is_with label) rest))) [
         | true ↦ refl
         | false ↦ refl
       ]
 
   any_by : (x : Item) (o : Option Label) (rest : List LabelledItem)
-      → list_any (is_with label) (with_label_by x o rest) ≡ (has_by o || list_any (is_with label) rest)
+      → list_any (is_with label) (with_label_by x o rest)
+      ≡ (has_by o || list_any (is_with label) rest)
   any_by x None rest = refl
   any_by x (Some l) rest = refl
 
@@ -243,7 +275,8 @@ module _ (streams : List Stream) (label : Label) where
       → filter_map (with_label streams) (x ∷ xs)
       ≡ with_label_by x (label_of streams x) (filter_map (with_label streams) xs)
   mapped_by x xs = elim (label_of streams x) as
-      (λ o. cons_option (option_map (λ l. record { label = l; item = x }) o) (filter_map (with_label streams) xs)
+      (λ o. cons_option (option_map (λ l. record { label = l; item = x }) o)
+      (filter_map (with_label streams) xs)
       ≡ with_label_by x o (filter_map (with_label streams) xs)) [
         | None ↦ refl
         | Some l ↦ refl
@@ -256,10 +289,12 @@ module _ (streams : List Stream) (label : Label) where
   labelled_filter (x ∷ xs) =
       ap (λ (l : List LabelledItem). items_in (filter (is_with label) l)) (mapped_by x xs)
       ∙ filtered_by x (label_of streams x) (filter_map (with_label streams) xs)
-      ∙ ap (λ (ys : List Item). cond (item_has_label streams label x) (x ∷ ys) ys) (labelled_filter xs)
+      ∙ ap (λ (ys : List Item). cond (item_has_label streams label x) (x ∷ ys) ys)
+      (labelled_filter xs)
 
   labelled_any : (xs : List Item)
-      → list_any (is_with label) (filter_map (with_label streams) xs) ≡ list_any (item_has_label streams label) xs
+      → list_any (is_with label) (filter_map (with_label streams) xs)
+      ≡ list_any (item_has_label streams label) xs
   labelled_any [] = refl
   labelled_any (x ∷ xs) =
       ap (list_any (is_with label)) (mapped_by x xs)
@@ -269,7 +304,8 @@ module _ (streams : List Stream) (label : Label) where
 -- BY LABEL
 
 listed : (streams : List Stream) (xs : List Item) (ys : List LabelledItem) (gs : List Group)
-    → IsStableByKey number_of nat_cmp (filter_map (with_label streams) xs) ys → AllByRecursion (Holds ys) gs
+    → IsStableByKey number_of nat_cmp (filter_map (with_label streams) xs) ys
+    → AllByRecursion (Holds ys) gs
     → AllByRecursion (λ g. g.1 ≡ filter (item_has_label streams g.0) xs) gs
 listed streams xs ys [] stable all = tt
 listed streams xs ys (g ∷ gs) stable all = (
@@ -279,7 +315,8 @@ listed streams xs ys (g ∷ gs) stable all = (
 )
 
 pub grouped_by_label : (streams : List Stream) (xs : List Item) (ys : List LabelledItem)
-    → IsSortedByKey number_of nat_cmp ys → IsStableByKey number_of nat_cmp (filter_map (with_label streams) xs) ys
+    → IsSortedByKey number_of nat_cmp ys
+    → IsStableByKey number_of nat_cmp (filter_map (with_label streams) xs) ys
     → IsByLabel streams xs (groups_of ys)
 grouped_by_label streams xs ys sorted stable =
     let climbs = climbs_from ys (IsNonDecreasingBy-from_sort number_of ys sorted) in
@@ -287,7 +324,9 @@ grouped_by_label streams xs ys sorted stable =
       rises = grouped_rise ys climbs;
       labels = λ label.
           any_grouped label ys ∙ any_filtered (is_with label) ys
-          ∙ ap (list_any (λ x. true)) (kept_filter (filter_map (with_label streams) xs) ys label stable)
-          ∙ sym (any_filtered (is_with label) (filter_map (with_label streams) xs)) ∙ labelled_any streams label xs;
+          ∙ ap (list_any (λ x. true))
+          (kept_filter (filter_map (with_label streams) xs) ys label stable)
+          ∙ sym (any_filtered (is_with label) (filter_map (with_label streams) xs))
+          ∙ labelled_any streams label xs;
       lists = listed streams xs ys (groups_of ys) stable (grouped_hold ys climbs);
     }

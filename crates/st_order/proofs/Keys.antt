@@ -1,6 +1,7 @@
--- A key says which item has it: a hidden send is found by its receive, which no other repeats, and an event by its
--- place. So two items of one key are one.
-use Rattle.std.proofs.Common.{◌≡◌, ℕ, ◌+◌, ◌-◌, ◌==◌, Bool, true, false, cond, if◌then◌else◌, List, [], ◌∷◌, drop}
+-- A key says which item has it: a hidden send is found by its receive, which no other repeats, and
+-- an event by its place. So two items of one key are one.
+use Rattle.std.proofs.Common.{◌≡◌, ℕ, ◌+◌, ◌-◌, ◌==◌, Bool, true, false, cond, if◌then◌else◌, List}
+use Rattle.std.proofs.Common.{[], ◌∷◌, drop}
 use Rattle.std.proofs.Common.{Option, Some, None, option_map, suc, refl, sym, ◌∙◌, ap, arith}
 use Rattle.std.specs.List.{AllByRecursion}
 use Rattle.std.specs.Cmp.{IsTotalOrder}
@@ -33,7 +34,8 @@ use Rattle.st_order.proofs.ListedEvents.{drop_front, AreFound, all_found}
 pub key_total : IsTotalOrder key_cmp
 key_total = then_total (on_total (λ (k : Key). k.height) nat_cmp_total)
     (then_total (on_total (λ (k : Key). k.rank) nat_cmp_total)
-    (then_total (on_total (λ (k : Key). k.pid) pid_total) (on_total (λ (k : Key). k.place) nat_cmp_total)))
+    (then_total (on_total (λ (k : Key). k.pid) pid_total)
+    (on_total (λ (k : Key). k.place) nat_cmp_total)))
 
 then_eq : (a b : Ordering) → is_eq (ordering_then a b) ≡ true → (is_eq a ≡ true) × (is_eq b ≡ true)
 then_eq Less b h = absurd (cc)
@@ -67,7 +69,8 @@ key_same k l h =
 -- the item that has the key, if one does
 abbrev pub item_at : List Stream → Key → Option Item
 item_at streams k =
-    if k.place == 0 then option_map (λ at. item.Hidden at.0 at.1) (receive_of streams k.pid k.height)
+    if k.place == 0 then option_map (λ at. item.Hidden at.0 at.1)
+    (receive_of streams k.pid k.height)
     else Some (item.Reported k.pid (k.place - 1))
 
 -- the item has a key, which finds it
@@ -85,7 +88,11 @@ same_key streams x y = elim (key streams x) [
 ]
 
 abbrev test_of : (Ordering → Bool) → Option Key → Option Key → Bool
-test_of test a b = elim a [ None ↦ false | Some k ↦ elim b [ None ↦ false | Some l ↦ test (key_cmp k l) ] ]
+test_of test a b = elim a [
+  | None ↦ false
+  | Some k ↦
+      elim b [ None ↦ false | Some l ↦ test (key_cmp k l) ]
+]
 
 pub comes_before_is : (streams : List Stream) (x y : Item) (k l : Key) → key streams x ≡ Some k
     → key streams y ≡ Some l
@@ -93,7 +100,8 @@ pub comes_before_is : (streams : List Stream) (x y : Item) (k l : Key) → key s
 comes_before_is streams x y k l a b =
     ap (λ o. test_of is_lt o (key streams y)) a ∙ ap (λ o. test_of is_lt (Some k) o) b
 
-same_key_is : (streams : List Stream) (x y : Item) (k l : Key) → key streams x ≡ Some k → key streams y ≡ Some l
+same_key_is : (streams : List Stream) (x y : Item) (k l : Key) → key streams x ≡ Some k
+    → key streams y ≡ Some l
     → same_key streams x y ≡ is_eq (key_cmp k l)
 same_key_is streams x y k l a b =
     ap (λ o. test_of is_eq o (key streams y)) a ∙ ap (λ o. test_of is_eq (Some k) o) b
@@ -101,7 +109,8 @@ same_key_is streams x y k l a b =
 pub one_item : (streams : List Stream) (x y : Item) → IsKeyed streams x → IsKeyed streams y
     → same_key streams x y ≡ true → x ≡ y
 one_item streams x y a b h =
-    let same = key_same a.its b.its (sym (same_key_is streams x y a.its b.its a.given b.given) ∙ h) in
+    let same = key_same a.its b.its
+    (sym (same_key_is streams x y a.its b.its a.given b.given) ∙ h) in
     same_Some x y (sym a.found ∙ ap (item_at streams) same ∙ b.found)
 
 less_from : (o : Ordering) → is_eq o ≡ false → is_lt (ordering_reverse o) ≡ false → is_lt o ≡ true
@@ -111,10 +120,12 @@ less_from Greater a b = absurd (cc)
 
 -- of two keys that differ, the one that isn't below the other is above it
 pub before_from : (streams : List Stream) (x y : Item) → IsKeyed streams x → IsKeyed streams y
-    → same_key streams x y ≡ false → comes_before streams y x ≡ false → comes_before streams x y ≡ true
+    → same_key streams x y ≡ false → comes_before streams y x ≡ false
+    → comes_before streams x y ≡ true
 before_from streams x y a b apart h =
     comes_before_is streams x y a.its b.its a.given b.given
-    ∙ less_from (key_cmp a.its b.its) (sym (same_key_is streams x y a.its b.its a.given b.given) ∙ apart)
+    ∙ less_from (key_cmp a.its b.its)
+    (sym (same_key_is streams x y a.its b.its a.given b.given) ∙ apart)
     (ap is_lt (sym (key_total.antisymm b.its a.its))
     ∙ sym (comes_before_is streams y x b.its a.its b.given a.given) ∙ h)
 
@@ -123,9 +134,11 @@ before_from streams x y a b apart h =
 above_zero : (i : ℕ) → (i + 1 == 0) ≡ false
 above_zero i = grind (arith, nat_tests)
 
-pub hidden_receives : (streams : List Stream) (e : Event) → is_hidden streams e ≡ true → is_stamp e ≡ false
+pub hidden_receives : (streams : List Stream) (e : Event) → is_hidden streams e ≡ true
+    → is_stamp e ≡ false
 hidden_receives streams e h = elim (is_stamp e) as
-    (λ b. cond b false (elim (source_of streams e) [ source.Hidden ↦ true | source.Event q j ↦ false ]) ≡ true
+    (λ b. cond b false (elim
+    (source_of streams e) [ source.Hidden ↦ true | source.Event q j ↦ false ]) ≡ true
     → b ≡ false) [
       | true ↦ λ h. absurd (cc)
       | false ↦ λ h. refl
@@ -154,7 +167,8 @@ module _ (streams : List Stream) (once : first (repeated streams) streams ≡ No
         }
 
     at_keyed : AllByRecursion (IsKeyed streams) (items_at streams p i e)
-    at_keyed = elim (is_hidden streams e) as (λ b. is_hidden streams e ≡ b → AllByRecursion (IsKeyed streams)
+    at_keyed = elim (is_hidden streams e) as (λ b. is_hidden streams e ≡ b
+        → AllByRecursion (IsKeyed streams)
         (cond b (item.Hidden p i ∷ item.Reported p i ∷ []) (item.Reported p i ∷ []))) [
           | true ↦ λ is. (hidden_keyed is, (reported_keyed, tt))
           | false ↦ λ is. (reported_keyed, tt)
@@ -166,7 +180,8 @@ module _ (streams : List Stream) (once : first (repeated streams) streams ≡ No
   from_keyed p i (e ∷ es) left =
       let front = drop_front (events_of streams p) i e es left in
       let next : suc i ≡ i + 1 = omega arith in
-      all_append (IsKeyed streams) (items_at streams p i e) (items_from streams p (i + 1) es) (at_keyed p i e front.0)
+      all_append (IsKeyed streams) (items_at streams p i e) (items_from streams p (i + 1) es)
+      (at_keyed p i e front.0)
       (from_keyed p (i + 1) es (ap (λ (n : ℕ). drop n (events_of streams p)) (sym next) ∙ front.1))
 
   among_keyed : (some : List Stream) → AreFound streams some
@@ -189,9 +204,11 @@ one_way_by Greater a b = absurd (cc)
 one_way_of : (a b : Option Key) → test_of is_lt a b ≡ true → test_of is_lt b a ≡ true → ⊥
 one_way_of None b h g = absurd (cc)
 one_way_of (Some k) None h g = absurd (cc)
-one_way_of (Some k) (Some l) h g = one_way_by (key_cmp k l) h (ap is_lt (sym (key_total.antisymm l k)) ∙ g)
+one_way_of (Some k) (Some l) h g =
+    one_way_by (key_cmp k l) h (ap is_lt (sym (key_total.antisymm l k)) ∙ g)
 
-chain_of : (a b c : Option Key) → test_of is_lt a b ≡ true → test_of is_lt b c ≡ true → test_of is_lt a c ≡ true
+chain_of : (a b c : Option Key) → test_of is_lt a b ≡ true → test_of is_lt b c ≡ true
+    → test_of is_lt a c ≡ true
 chain_of None b c h g = absurd (cc)
 chain_of (Some k) None c h g = absurd (cc)
 chain_of (Some k) (Some l) None h g = absurd (cc)
@@ -203,6 +220,7 @@ pub one_way : (streams : List Stream) (x y : Item) → comes_before streams x y 
     → comes_before streams y x ≡ true → ⊥
 one_way streams x y h g = one_way_of (key streams x) (key streams y) h g
 
-pub chain : (streams : List Stream) (x y z : Item) → comes_before streams x y ≡ true → comes_before streams y z ≡ true
+pub chain : (streams : List Stream) (x y z : Item) → comes_before streams x y ≡ true
+    → comes_before streams y z ≡ true
     → comes_before streams x z ≡ true
 chain streams x y z h g = chain_of (key streams x) (key streams y) (key streams z) h g

@@ -1,5 +1,7 @@
--- In streams whose pids rise the events of a listed process are those of its stream, since no earlier one has its pid.
-use Rattle.std.proofs.Common.{◌≡◌, ℕ, zero, suc, Bool, cond, List, [], ◌∷◌, drop, slice_get, Some, None, ◌∙◌, ap}
+-- In streams whose pids rise the events of a listed process are those of its stream, since no
+-- earlier one has its pid.
+use Rattle.std.proofs.Common.{◌≡◌, ℕ, zero, suc, Bool, cond, List, [], ◌∷◌, drop, slice_get, Some}
+use Rattle.std.proofs.Common.{None, ◌∙◌, ap}
 use Rattle.std.specs.List.{AllByRecursion}
 use Rattle.st_core.specs.Pid.{IsBelow, IsRising}
 use Rattle.st_core.specs.Run.{Stream, pids_of}
@@ -18,11 +20,16 @@ drop_front (y ∷ xs) (suc i) x rest h = drop_front xs i x rest h
 abbrev pub AreFound : List Stream → List Stream → Type 0
 AreFound all some = AllByRecursion (λ (s : Stream). events_of all s.pid ≡ s.events) some
 
-found_later : (x : Stream) (streams rest : List Stream) → AllByRecursion (IsBelow x.pid) (pids_of rest)
+found_later : (x : Stream) (streams rest : List Stream)
+    → AllByRecursion (IsBelow x.pid) (pids_of rest)
     → AreFound streams rest → AreFound (x ∷ streams) rest
 found_later x streams [] above found = tt
 found_later x streams (s ∷ rest) above found = (
-  ap (λ (b : Bool). elim (cond b (Some x) (stream_of streams s.pid)) [ None ↦ [] | Some y ↦ y.events ])
+  ap (λ (b : Bool). elim (cond b (Some x) (stream_of streams s.pid)) [
+    | None ↦ []
+    | Some y ↦
+        y.events
+  ])
       (IsBelow-apart x.pid s.pid above.0) ∙ found.0,
   found_later x streams rest above.1 found.1,
 )
@@ -30,7 +37,11 @@ found_later x streams (s ∷ rest) above found = (
 pub all_found : (streams : List Stream) → IsRising (pids_of streams) → AreFound streams streams
 all_found [] rising = tt
 all_found (x ∷ streams) rising = (
-  ap (λ (b : Bool). elim (cond b (Some x) (stream_of streams x.pid)) [ None ↦ [] | Some y ↦ y.events ])
+  ap (λ (b : Bool). elim (cond b (Some x) (stream_of streams x.pid)) [
+    | None ↦ []
+    | Some y ↦
+        y.events
+  ])
       (pid_eq-same x.pid),
   found_later x streams streams rising.0 (all_found streams rising.1),
 )

@@ -6,7 +6,8 @@ use Rattle.std.proofs.lemmas.List.Elements.{All-from_recursion, recursion_from_A
 use Rattle.std.proofs.lemmas.List.Sorted.{All-permutation}
 
 module _ {A : Type 0} (P : A → Type 0) where
-  pub all_append : (xs ys : List A) → AllByRecursion P xs → AllByRecursion P ys → AllByRecursion P (xs ++ ys)
+  pub all_append : (xs ys : List A) → AllByRecursion P xs → AllByRecursion P ys
+      → AllByRecursion P (xs ++ ys)
   all_append [] ys a b = b
   all_append (x ∷ xs) ys a b = (a.0, all_append xs ys a.1 b)
 
@@ -29,7 +30,8 @@ module _ {A : Type 0} (P : A → Type 0) where
   all_drop (suc n) (x ∷ xs) h = all_drop n xs h.1
 
   pub all_moved : (xs ys : List A) → IsPermutation xs ys → AllByRecursion P xs → AllByRecursion P ys
-  all_moved xs ys moved h = recursion_from_All P ys (All-permutation P xs ys moved (All-from_recursion P xs h))
+  all_moved xs ys moved h =
+      recursion_from_All P ys (All-permutation P xs ys moved (All-from_recursion P xs h))
 
 pub all_mapped : {A : Type 0} (P Q : A → Type 0) (xs : List A) → ((x : A) → P x → Q x)
     → AllByRecursion P xs → AllByRecursion Q xs
@@ -49,8 +51,10 @@ all_crossed P Q R [] ys f a b = tt
 all_crossed P Q R (x ∷ xs) ys f a b =
     (all_mapped Q (R x) ys (λ y q. f x y a.0 q) b, all_crossed P Q R xs ys f a.1 b)
 
-pub distinct_append : {A : Type 0} (same : A → A → Bool) (xs ys : List A) → IsDistinct same xs → IsDistinct same ys
-    → AllByRecursion (λ x. AllByRecursion (λ y. same x y ≡ false) ys) xs → IsDistinct same (xs ++ ys)
+pub distinct_append : {A : Type 0} (same : A → A → Bool) (xs ys : List A) → IsDistinct same xs
+    → IsDistinct same ys
+    → AllByRecursion (λ x. AllByRecursion (λ y. same x y ≡ false) ys) xs
+    → IsDistinct same (xs ++ ys)
 unfolding IsDistinct
 distinct_append same [] ys a b c = b
 distinct_append same (x ∷ xs) ys a b c =

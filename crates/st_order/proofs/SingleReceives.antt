@@ -1,7 +1,8 @@
--- If no receive repeats another, each receive is the first from its sender with its count: a first one that is
--- another would be a repeat, and there is a first one, since the receive itself is there.
-use Rattle.std.proofs.Common.{◌≡◌, ℕ, ◌==◌, ◌&&◌, ◌||◌, true, false, cond, List, Some, None, option_and_then, refl}
-use Rattle.std.proofs.Common.{sym, ◌∙◌, ap, if◌then◌else◌}
+-- If no receive repeats another, each receive is the first from its sender with its count: a first
+-- one that is another would be a repeat, and there is a first one, since the receive itself is
+-- there.
+use Rattle.std.proofs.Common.{◌≡◌, ℕ, ◌==◌, ◌&&◌, ◌||◌, true, false, cond, List, Some, None}
+use Rattle.std.proofs.Common.{option_and_then, refl, sym, ◌∙◌, ap, if◌then◌else◌}
 use Rattle.std.proofs.lemmas.Bool.{eqb-true, eq-eqb, and_parts, and_from}
 use Rattle.std.proofs.lemmas.Option.{none-some}
 use Rattle.st_core.specs.declared.types.Pid.{Pid}
@@ -24,19 +25,24 @@ module _ (streams : List Stream) (p : Pid) (i : ℕ) (e : Event) (at : event_at 
       (eq-eqb e.serial.this e.serial.this refl) in
       let place : Pid × ℕ = (p, i) in
       none-some place (sym given
-      ∙ ap (λ b. cond b None (cond (pid_eq e.from e.from && e.serial.this == e.serial.this) (Some place) None)) receive
+      ∙ ap
+      (λ b. cond b None (cond (pid_eq e.from e.from && e.serial.this == e.serial.this)
+      (Some place) None)) receive
       ∙ ap (λ b. cond b (Some place) None) test)
 
-  pub only_receive : first (repeated streams) streams ≡ None → receive_of streams e.from e.serial.this ≡ Some (p, i)
+  pub only_receive : first (repeated streams) streams ≡ None
+      → receive_of streams e.from e.serial.this ≡ Some (p, i)
   only_receive once =
       let given = event_none (repeated streams) streams once p i e at in
       let found = receive_of streams e.from e.serial.this in
       elim found as (λ o. found ≡ o
-      → option_and_then (λ (x : Pid × ℕ). if is_stamp e || (pid_eq x.0 p && x.1 == i) then None else Some
+      → option_and_then (λ (x : Pid × ℕ). if is_stamp e || (pid_eq x.0 p && x.1 == i) then None else
+      Some
       (fault.Repeated p i x.0 x.1)) o ≡ None → o ≡ Some (p, i)) [
         | None ↦ λ is h. absurd (there is)
         | Some x ↦ λ is h.
-            let tests = cond_none (is_stamp e || (pid_eq x.0 p && x.1 == i)) (fault.Repeated p i x.0 x.1) h in
+            let tests = cond_none (is_stamp e || (pid_eq x.0 p && x.1 == i))
+            (fault.Repeated p i x.0 x.1) h in
             let parts = and_parts (pid_eq x.0 p) (x.1 == i)
             (ap (λ b. b || (pid_eq x.0 p && x.1 == i)) (sym receive) ∙ tests) in
             let who = pid_eq-true x.0 p parts.0 in

@@ -1,9 +1,10 @@
--- Where stamps lead, the keys of a process's events rise by index: a height never falls, and an event at the height of
--- the one before it is a receive, whose rank is the greater and whose place is later. So the events among an order and
--- the events among the items are two rising lists with the same members.
-use Rattle.std.proofs.Common.{◌≡◌, ℕ, zero, suc, ◌+◌, ◌<◌, ◌≤◌, Bool, true, false, cond, if◌then◌else◌, inl, inr}
-use Rattle.std.proofs.Common.{List, [], ◌∷◌, ◌++◌, map, take, length, filter, Some, option_map, slice_get, refl, sym}
-use Rattle.std.proofs.Common.{◌∙◌, ap, subst, arith}
+-- Where stamps lead, the keys of a process's events rise by index: a height never falls, and an
+-- event at the height of the one before it is a receive, whose rank is the greater and whose place
+-- is later. So the events among an order and the events among the items are two rising lists with
+-- the same members.
+use Rattle.std.proofs.Common.{◌≡◌, ℕ, zero, suc, ◌+◌, ◌<◌, ◌≤◌, Bool, true, false, cond}
+use Rattle.std.proofs.Common.{if◌then◌else◌, inl, inr, List, [], ◌∷◌, ◌++◌, map, take, length}
+use Rattle.std.proofs.Common.{filter, Some, option_map, slice_get, refl, sym, ◌∙◌, ap, subst, arith}
 use Rattle.std.specs.List.{AllByRecursion}
 use Rattle.std.specs.Ordering.{nat_cmp, ordering_then, is_lt}
 use Rattle.std.proofs.lemmas.Bool.{cases_order}
@@ -16,13 +17,14 @@ use Rattle.st_core.specs.declared.types.Event.{Event}
 use Rattle.st_core.specs.Pid.{pid_eq, pid_cmp, IsBelow, IsRising}
 use Rattle.st_core.specs.Run.{Stream, pids_of}
 use Rattle.st_core.specs.Streams.{stream_of, events_of}
-use Rattle.st_core.proofs.ForCallers.{pid_eq-true, pid_eq-swap, pid_cmp-same, IsBelow-apart, nat_cmp-same}
-use Rattle.st_core.proofs.ForCallers.{nat_cmp-below}
+use Rattle.st_core.proofs.ForCallers.{pid_eq-true, pid_eq-swap, pid_cmp-same, IsBelow-apart}
+use Rattle.st_core.proofs.ForCallers.{nat_cmp-same, nat_cmp-below}
 use Rattle.st_pair.specs.Places.{event_at, is_stamp}
 use Rattle.st_pair.proofs.ForCallers.{events_in}
 use Rattle.st_order.specs.declared.item.Item.{Item}
 use Rattle.st_order.specs.declared.item.Item.TheVariants as item
-use Rattle.st_order.specs.Items.{greatest, height, is_hidden, items, items_among, items_at, items_from}
+use Rattle.st_order.specs.Items.{greatest, height, is_hidden, items, items_among, items_at}
+use Rattle.st_order.specs.Items.{items_from}
 use Rattle.st_order.specs.Order.{Key, comes_before, key_by, key_cmp, KeysRise, IsOrder}
 use Rattle.st_order.specs.Turn.{in_turn, is_event_of, StampsLead}
 use Rattle.st_order.proofs.Keys.{comes_before_is}
@@ -51,10 +53,12 @@ under_less k l u =
                 ∙ ap (λ o. is_lt (ordering_then o (nat_cmp k.place l.place)))
                 (ap (pid_cmp k.pid) (sym u.pid) ∙ pid_cmp-same k.pid)
                 ∙ ap is_lt (nat_cmp-below k.place l.place u.place)
-            | inr (inl less) ↦ ap (λ o. is_lt (ordering_then o pids)) (nat_cmp-below k.rank l.rank less)
+            | inr (inl less) ↦ ap (λ o. is_lt (ordering_then o pids))
+                (nat_cmp-below k.rank l.rank less)
             | inr (inr more) ↦ absurd (omega arith)
           ]
-      | inr (inl less) ↦ ap (λ o. is_lt (ordering_then o ranks)) (nat_cmp-below k.height l.height less)
+      | inr (inl less) ↦ ap (λ o. is_lt (ordering_then o ranks))
+          (nat_cmp-below k.height l.height less)
       | inr (inr more) ↦ absurd (omega arith)
     ]
 
@@ -68,7 +72,8 @@ tallest_grows : (es : List Event) (m n : ℕ) → m ≤ n → tallest es m ≤ t
 tallest_grows es zero n less = omega arith
 tallest_grows es (suc m) zero less = absurd (omega arith)
 tallest_grows [] (suc m) (suc n) less = omega arith
-tallest_grows (e ∷ es) (suc m) (suc n) less = let rest = tallest_grows es m n (omega arith) in omega arith
+tallest_grows (e ∷ es) (suc m) (suc n) less = let rest = tallest_grows es m n (omega arith) in
+    omega arith
 
 pub tallest_has : (es : List Event) (n j : ℕ) (e : Event) → slice_get es j ≡ Some e → j < n
     → e.serial.this ≤ tallest es n
@@ -80,7 +85,8 @@ tallest_has (d ∷ es) (suc n) (suc j) e at less =
     let rest = tallest_has es n j e at (omega arith) in omega arith
 
 tallest_below : (es : List Event) (n this : ℕ) → 0 < this
-    → ((j : ℕ) (d : Event) → j < n → slice_get es j ≡ Some d → d.serial.this < this) → tallest es n < this
+    → ((j : ℕ) (d : Event) → j < n → slice_get es j ≡ Some d → d.serial.this < this)
+    → tallest es n < this
 tallest_below es zero this some each = some
 tallest_below [] (suc n) this some each = some
 tallest_below (d ∷ es) (suc n) this some each =
@@ -99,7 +105,8 @@ module _ (streams : List Stream) (p : Pid) (lead : StampsLead streams p) where
   events = events_of streams p
 
   -- a stamp is higher than each event before it
-  stamp_higher : (i j : ℕ) (d e : Event) → i < j → event_at streams p i ≡ Some d → event_at streams p j ≡ Some e
+  stamp_higher : (i j : ℕ) (d e : Event) → i < j → event_at streams p i ≡ Some d
+      → event_at streams p j ≡ Some e
       → is_stamp e ≡ true → height streams p i < height streams p j
   stamp_higher i j d e less at_d at_e stamp =
       let above = lead i j d e less at_d at_e stamp in
@@ -108,24 +115,29 @@ module _ (streams : List Stream) (p : Pid) (lead : StampsLead streams p) where
       (λ k x within at. lead k j x e (omega arith) at at_e stamp) in
       omega arith
 
-  event_under : (i j : ℕ) (d e : Event) → i < j → event_at streams p i ≡ Some d → event_at streams p j ≡ Some e
+  event_under : (i j : ℕ) (d e : Event) → i < j → event_at streams p i ≡ Some d
+      → event_at streams p j ≡ Some e
       → IsUnder (key_by streams (item.Reported p i) d) (key_by streams (item.Reported p j) e)
   event_under i j d e less at_d at_e = record {
     height = tallest_grows events (i + 1) (j + 1) (omega arith);
-    rank = λ same. elim (is_stamp e) as (λ b. is_stamp e ≡ b → (if is_stamp d then 0 else 1) ≤ (if b then 0 else 1)) [
-      | true ↦ λ stamp. let higher = stamp_higher i j d e less at_d at_e stamp in absurd (omega arith)
-      | false ↦ λ receive. rank_of (is_stamp d)
-    ] refl;
+    rank = λ same. elim (is_stamp e) as (λ b. is_stamp e ≡ b
+        → (if is_stamp d then 0 else 1) ≤ (if b then 0 else 1)) [
+          | true ↦ λ stamp. let higher = stamp_higher i j d e less at_d at_e stamp in
+              absurd (omega arith)
+          | false ↦ λ receive. rank_of (is_stamp d)
+        ] refl;
     pid = refl;
     place = omega arith;
   }
 
-  event_before : (i j : ℕ) (d e : Event) → i < j → event_at streams p i ≡ Some d → event_at streams p j ≡ Some e
+  event_before : (i j : ℕ) (d e : Event) → i < j → event_at streams p i ≡ Some d
+      → event_at streams p j ≡ Some e
       → comes_before streams (item.Reported p i) (item.Reported p j) ≡ true
   event_before i j d e less at_d at_e =
       let x = item.Reported p i in
       let y = item.Reported p j in
-      comes_before_is streams x y (key_by streams x d) (key_by streams y e) (ap (option_map (key_by streams x)) at_d)
+      comes_before_is streams x y (key_by streams x d) (key_by streams y e)
+      (ap (option_map (key_by streams x)) at_d)
       (ap (option_map (key_by streams y)) at_e)
       ∙ under_less (key_by streams x d) (key_by streams y e) (event_under i j d e less at_d at_e)
 
@@ -151,10 +163,13 @@ module _ (streams : List Stream) (p : Pid) (lead : StampsLead streams p) where
 
 item_here : (streams : List Stream) (p q : Pid) (i : ℕ) (e : Event) (rest : List Item)
     → filter (is_event_of p) (items_at streams q i e ++ rest)
-    ≡ cond (pid_eq q p) (item.Reported q i ∷ filter (is_event_of p) rest) (filter (is_event_of p) rest)
+    ≡ cond (pid_eq q p) (item.Reported q i ∷ filter (is_event_of p) rest)
+    (filter (is_event_of p) rest)
 item_here streams p q i e rest = elim (is_hidden streams e) as
-    (λ b. filter (is_event_of p) (cond b (item.Hidden q i ∷ item.Reported q i ∷ []) (item.Reported q i ∷ []) ++ rest)
-    ≡ cond (pid_eq q p) (item.Reported q i ∷ filter (is_event_of p) rest) (filter (is_event_of p) rest)) [
+    (λ b. filter (is_event_of p)
+    (cond b (item.Hidden q i ∷ item.Reported q i ∷ []) (item.Reported q i ∷ []) ++ rest)
+    ≡ cond (pid_eq q p) (item.Reported q i ∷ filter (is_event_of p) rest)
+    (filter (is_event_of p) rest)) [
       | true ↦ refl
       | false ↦ refl
     ]
@@ -166,7 +181,8 @@ module _ (all : List Stream) (p : Pid) where
   own_items q i (e ∷ es) own =
       let rest = items_from all q (i + 1) es in
       item_here all p q i e rest
-      ∙ ap (λ (b : Bool). cond b (item.Reported q i ∷ filter (is_event_of p) rest) (filter (is_event_of p) rest)) own
+      ∙ ap (λ (b : Bool). cond b (item.Reported q i ∷ filter (is_event_of p) rest)
+      (filter (is_event_of p) rest)) own
       ∙ ap (λ ys. item.Reported q i ∷ ys) (own_items q (i + 1) es own)
 
   no_items : (q : Pid) (i : ℕ) (es : List Event) → pid_eq q p ≡ false
@@ -175,7 +191,8 @@ module _ (all : List Stream) (p : Pid) where
   no_items q i (e ∷ es) other =
       let rest = items_from all q (i + 1) es in
       item_here all p q i e rest
-      ∙ ap (λ (b : Bool). cond b (item.Reported q i ∷ filter (is_event_of p) rest) (filter (is_event_of p) rest)) other
+      ∙ ap (λ (b : Bool). cond b (item.Reported q i ∷ filter (is_event_of p) rest)
+      (filter (is_event_of p) rest)) other
       ∙ no_items q (i + 1) es other
 
   none_above : (rest : List Stream) → AllByRecursion (IsBelow p) (pids_of rest)
@@ -205,7 +222,8 @@ module _ (all : List Stream) (p : Pid) where
             ∙ ap (λ ys. in_turn s.pid 0 (length s.events) ++ ys) (none_above rest above)
             ∙ append-nil (in_turn s.pid 0 (length s.events))
             ∙ ap (λ q. in_turn q 0 (length s.events)) same
-        | false ↦ λ other. ap (λ ys. ys ++ filter (is_event_of p) later) (no_items s.pid 0 s.events other)
+        | false ↦ λ other. ap (λ ys. ys ++ filter (is_event_of p) later)
+            (no_items s.pid 0 s.events other)
             ∙ items_turn rest rising.1
       ] refl
 
@@ -214,10 +232,11 @@ module _ (all : List Stream) (p : Pid) where
 all_kept : (P : Item → Type 0) (test : Item → Bool) (xs : List Item) → AllByRecursion P xs
     → AllByRecursion P (filter test xs)
 all_kept P test [] all = tt
-all_kept P test (x ∷ xs) all = elim (test x) as (λ b. AllByRecursion P (cond b (x ∷ filter test xs) (filter test xs))) [
-  | true ↦ (all.0, all_kept P test xs all.1)
-  | false ↦ all_kept P test xs all.1
-]
+all_kept P test (x ∷ xs) all =
+    elim (test x) as (λ b. AllByRecursion P (cond b (x ∷ filter test xs) (filter test xs))) [
+      | true ↦ (all.0, all_kept P test xs all.1)
+      | false ↦ all_kept P test xs all.1
+    ]
 
 kept_rises : (streams : List Stream) (test : Item → Bool) (xs : List Item) → KeysRise streams xs
     → KeysRise streams (filter test xs)
@@ -231,34 +250,44 @@ kept_rises streams test (x ∷ xs) rises = elim (test x) as
       | false ↦ kept_rises streams test xs rises.1
     ]
 
-among_kept : (test : Item → Bool) (xs : List Item) (z : Item) → test z ≡ true → Among z xs → Among z (filter test xs)
+among_kept : (test : Item → Bool) (xs : List Item) (z : Item) → test z ≡ true → Among z xs
+    → Among z (filter test xs)
 among_kept test [] z passes m = m
 among_kept test (x ∷ xs) z passes (inl same) =
     let here = ap test (sym same) ∙ passes in
-    subst (Among z) (ap (λ (b : Bool). cond b (x ∷ filter test xs) (filter test xs)) (sym here)) (inl same)
+    subst (Among z) (ap (λ (b : Bool). cond b (x ∷ filter test xs) (filter test xs)) (sym here))
+    (inl same)
 among_kept test (x ∷ xs) z passes (inr m) =
     let rest = among_kept test xs z passes m in
-    elim (test x) as (λ b. Among z (cond b (x ∷ filter test xs) (filter test xs))) [ true ↦ inr rest | false ↦ rest ]
+    elim (test x) as (λ b. Among z (cond b (x ∷ filter test xs) (filter test xs))) [
+      | true ↦
+          inr rest
+      | false ↦ rest
+    ]
 
 each_kept : (test : Item → Bool) (ys xs : List Item) → AllByRecursion (λ z. Among z ys) xs
     → AllByRecursion (λ z. Among z (filter test ys)) (filter test xs)
 each_kept test ys [] all = tt
 each_kept test ys (x ∷ xs) all = elim (test x) as (λ b. test x ≡ b
-    → AllByRecursion (λ z. Among z (filter test ys)) (cond b (x ∷ filter test xs) (filter test xs))) [
+    → AllByRecursion (λ z. Among z (filter test ys))
+    (cond b (x ∷ filter test xs) (filter test xs))) [
       | true ↦ λ passes. (among_kept test ys x passes all.0, each_kept test ys xs all.1)
       | false ↦ λ _. each_kept test ys xs all.1
     ] refl
 
 -- the order lists the events of p in turn
-pub keeps_turn : (streams : List Stream) (xs : List Item) (p : Pid) → IsRising (pids_of streams) → IsOrder streams xs
+pub keeps_turn : (streams : List Stream) (xs : List Item) (p : Pid) → IsRising (pids_of streams)
+    → IsOrder streams xs
     → StampsLead streams p → filter (is_event_of p) xs ≡ in_turn p 0 (length (events_of streams p))
 keeps_turn streams xs p rising order lead =
     let test = is_event_of p in
     let all = items streams in
     let n = length (events_of streams p) in
     let turn = items_turn streams p streams rising in
-    let sorted = subst (KeysRise streams) (sym turn) (turn_rises streams p lead 0 n (omega arith)) in
-    same_rising streams (filter test xs) (filter test all) (kept_rises streams test xs order.rises) sorted
+    let sorted = subst (KeysRise streams) (sym turn)
+    (turn_rises streams p lead 0 n (omega arith)) in
+    same_rising streams (filter test xs) (filter test all) (kept_rises streams test xs order.rises)
+    sorted
     (each_kept test all xs (members all xs order.same))
     (each_kept test xs all (members xs all (IsPermutation-sym all xs order.same)))
     ∙ turn

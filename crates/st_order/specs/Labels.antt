@@ -1,5 +1,6 @@
 -- Items by label: for each label that an item has, the items that have it (own profile).
-use Rattle.std.specs.Prelude.{◌≡◌, ◌==◌, ◌<◌, Bool, false, List, [], ◌∷◌, filter, Option, Some, None, option_map}
+use Rattle.std.specs.Prelude.{◌≡◌, ◌==◌, ◌<◌, Bool, false, List, [], ◌∷◌, filter, Option, Some}
+use Rattle.std.specs.Prelude.{None, option_map}
 use Rattle.std.specs.List.{AllByRecursion, list_any}
 use Rattle.st_core.specs.declared.types.Label.{Label}
 use Rattle.st_core.specs.Run.{Stream}

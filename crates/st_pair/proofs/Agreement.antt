@@ -1,4 +1,5 @@
--- A send agrees with a receive exactly if it is a send and both have one label, prev, receiver and value.
+-- A send agrees with a receive exactly if it is a send and both have one label, prev, receiver and
+-- value.
 use Rattle.std.proofs.Common.{◌≡◌, ◌==◌, ◌&&◌, true, sym, ◌∙◌, ap}
 use Rattle.std.proofs.lemmas.Bool.{eqb-true, eq-eqb, and_parts, and_from}
 use Rattle.st_core.specs.declared.types.Label.{Label}

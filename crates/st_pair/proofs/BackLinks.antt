@@ -1,7 +1,7 @@
 -- The links of events before the receives of sends are known, and once they are.
-use Rattle.std.proofs.Common.{◌≡◌, ℕ, ◌+◌, ◌<◌, ◌++◌, zero, suc, true}
-use Rattle.std.proofs.Common.{List, [], ◌∷◌, length, map, take, drop, get_or, set, None, Some, slice_get}
-use Rattle.std.proofs.Common.{option_map, refl, sym, ◌∙◌, ap, subst, arith}
+use Rattle.std.proofs.Common.{◌≡◌, ℕ, ◌+◌, ◌<◌, ◌++◌, zero, suc, true, List, [], ◌∷◌, length, map}
+use Rattle.std.proofs.Common.{take, drop, get_or, set, None, Some, slice_get, option_map, refl, sym}
+use Rattle.std.proofs.Common.{◌∙◌, ap, subst, arith}
 use Rattle.std.proofs.lemmas.Option.{same_Some, none-some}
 use Rattle.st_core.specs.declared.types.Pid.{Pid}
 use Rattle.st_core.specs.declared.types.Event.{Event}
@@ -23,12 +23,14 @@ use Rattle.st_pair.proofs.Firsts.{at_get_or, events_in, is_at}
 
 module _ {A B : Type 0} (f g : A → B) where
   exchange : (xs : List A) (k : ℕ) (x : A) (y : B) → slice_get xs k ≡ Some x → y ≡ f x
-      → set (map f (take k xs) ++ map g (drop k xs)) k y ≡ map f (take (suc k) xs) ++ map g (drop (suc k) xs)
+      → set (map f (take k xs) ++ map g (drop k xs)) k y ≡ map f (take (suc k) xs)
+      ++ map g (drop (suc k) xs)
   exchange [] k x y at is = absurd (none-some x at)
   exchange (z ∷ xs) zero x y at is = ap (λ b. b ∷ map g xs) (is ∙ ap f (sym (same_Some z x at)))
   exchange (z ∷ xs) (suc k) x y at is = ap (λ bs. f z ∷ bs) (exchange xs k x y at is)
 
-  pub exchanged : (xs : List A) (k : ℕ) (x : A) (y : B) (before : List B) → slice_get xs k ≡ Some x → y ≡ f x
+  pub exchanged : (xs : List A) (k : ℕ) (x : A) (y : B) (before : List B) → slice_get xs k ≡ Some x
+      → y ≡ f x
       → before ≡ map f (take k xs) ++ map g (drop k xs)
       → set before k y ≡ map f (take (k + 1) xs) ++ map g (drop (k + 1) xs)
   exchanged xs k x y before at is far =
@@ -56,10 +58,15 @@ sent_back streams e is = ap (λ (k : Kind). (let l : Link = elim k [
   | kind.Receive ↦ received_link e.from (stamp_of streams e.from e.serial.this)
   | kind.Print ↦ link.Printed
 ] in sent_in l)) is ∙ elim (stamp_of streams e.from e.serial.this)
-    as (λ o. sent_in (received_link e.from o) ≡ option_map (λ (f : ℕ × Event). f.0) o) [ None ↦ refl | Some f ↦ refl ]
+    as (λ o. sent_in (received_link e.from o) ≡ option_map (λ (f : ℕ × Event). f.0) o) [
+      | None ↦
+          refl
+      | Some f ↦ refl
+    ]
 
 -- a send's or print's own key is found at its index
-pub own_index : (streams : List Stream) (p : Pid) (i : ℕ) (e : Event) → first (not_rising streams) streams ≡ None
+pub own_index : (streams : List Stream) (p : Pid) (i : ℕ) (e : Event)
+    → first (not_rising streams) streams ≡ None
     → event_at streams p i ≡ Some e → is_stamp e ≡ true
     → stamp_index streams (record { from = p; this = e.serial.this }) ≡ Some i
 own_index streams p i e rising at stamps =
@@ -78,7 +85,8 @@ made_at streams pids k d es rising are within events =
     let who = s.pid in
     s.at ∙ (λ i. Some (record { pid = who i; events = same i }))
 
-pub read_made : {A B : Type 0} (f : A → B) (xs : List A) (i : ℕ) (x : A) (d : B) (ys : List B) → ys ≡ map f xs
+pub read_made : {A B : Type 0} (f : A → B) (xs : List A) (i : ℕ) (x : A) (d : B) (ys : List B)
+    → ys ≡ map f xs
     → slice_get xs i ≡ Some x → get_or ys i d ≡ f x
 read_made {A} {B} f xs i x d ys are at = ap (λ (l : List B). get_or l i d) are ∙ read xs i at where
   read : (xs : List A) (i : ℕ) → slice_get xs i ≡ Some x → get_or (map f xs) i d ≡ f x

@@ -1,4 +1,5 @@
--- Worked cases: the definitions computed. Nothing cites this file; it shows that the definitions say what is meant.
+-- Worked cases: the definitions computed. Nothing cites this file; it shows that the definitions
+-- say what is meant.
 use Rattle.std.specs.Prelude.{◌≡◌, true, List, [], ◌∷◌, ◌++◌, Some, None, refl}
 use Rattle.std.specs.List.{AllByRecursion}
 use Rattle.std.proofs.lemmas.List.Elements.{All-from_recursion}
@@ -28,7 +29,8 @@ hidden_source = refl
 
 -- the vector 'Not replayed'
 abbrev pub not_replayed : List Stream
-not_replayed = of a [] ∷ of b (got 1 0 2 a b 5 ∷ got 1 0 1 c b 4 ∷ printed 1 1 2 b 9 ∷ []) ∷ of c [] ∷ []
+not_replayed = of a [] ∷ of b (got 1 0 2 a b 5 ∷ got 1 0 1 c b 4 ∷ printed 1 1 2 b 9 ∷ []) ∷ of c []
+    ∷ []
 
 not_replayed_paired : refusal not_replayed ≡ None
 not_replayed_paired = refl
@@ -39,16 +41,19 @@ prev_first : refusal (of a (printed 1 0 5 a 1 ∷ printed 1 0 5 a 1 ∷ printed 
 prev_first = refl
 
 abbrev pub falling : List Stream
-falling = of a (printed 1 0 5 a 1 ∷ printed 1 0 6 a 1 ∷ got 1 0 3 b a 1 ∷ printed 1 0 6 a 1 ∷ []) ∷ of b [] ∷ []
+falling = of a (printed 1 0 5 a 1 ∷ printed 1 0 6 a 1 ∷ got 1 0 3 b a 1 ∷ printed 1 0 6 a 1 ∷ [])
+    ∷ of b [] ∷ []
 
 rising_last : refusal falling ≡ Some (fault.NotRising a 3 1)
 rising_last = refl
 
-repeated_twice : refusal (of a (got 1 0 3 b a 1 ∷ []) ∷ of b (got 1 0 3 b b 2 ∷ got 1 0 3 b b 2 ∷ []) ∷ [])
+repeated_twice : refusal
+    (of a (got 1 0 3 b a 1 ∷ []) ∷ of b (got 1 0 3 b b 2 ∷ got 1 0 3 b b 2 ∷ []) ∷ [])
     ≡ Some (fault.Repeated b 0 a 0)
 repeated_twice = refl
 
-mismatched : refusal (of a (got 1 0 3 b a 1 ∷ []) ∷ of b (printed 1 0 2 b 1 ∷ sent 1 2 3 b a 1 ∷ []) ∷ [])
+mismatched : refusal (of a (got 1 0 3 b a 1 ∷ []) ∷ of b (printed 1 0 2 b 1 ∷ sent 1 2 3 b a 1 ∷ [])
+    ∷ [])
     ≡ Some (fault.Mismatch a 0 b 1)
 mismatched = refl
 
@@ -99,11 +104,13 @@ no_other : refusal (beside (sent 17 0 1 a b 5)) ≡ None
 no_other = refl
 
 -- one stamp received by two processes: the second is named, with the first
-repeated_elsewhere : refusal (of a [] ∷ of b (got 17 0 1 a b 5 ∷ []) ∷ of c (got 17 0 1 a c 5 ∷ []) ∷ [])
+repeated_elsewhere : refusal
+    (of a [] ∷ of b (got 17 0 1 a b 5 ∷ []) ∷ of c (got 17 0 1 a c 5 ∷ []) ∷ [])
     ≡ Some (fault.Repeated c 0 b 0)
 repeated_elsewhere = refl
 
--- two processes that receive the same count from themselves repeat nothing, and both sends are hidden
+-- two processes that receive the same count from themselves repeat nothing, and both sends are
+-- hidden
 abbrev pub self_sends : List Stream
 self_sends = of a (got 17 0 1 a a 5 ∷ []) ∷ of b (got 17 0 1 b b 5 ∷ []) ∷ []
 
@@ -114,11 +121,13 @@ self_sends_hidden : source_at self_sends b 0 ≡ Some source.Hidden
 self_sends_hidden = refl
 
 -- a low count of a receive is no reason
-low_receive : refusal (of a (printed 17 0 5 a 1 ∷ got 17 0 3 b a 1 ∷ printed 17 3 6 a 1 ∷ []) ∷ of b [] ∷ []) ≡ None
+low_receive : refusal (of a (printed 17 0 5 a 1 ∷ got 17 0 3 b a 1 ∷ printed 17 3 6 a 1 ∷ [])
+    ∷ of b [] ∷ []) ≡ None
 low_receive = refl
 
 -- PrevNotBefore at a later place comes before NotRising
-prev_before_rising : refusal (of a (printed 17 0 2 a 1 ∷ printed 17 0 1 a 1 ∷ printed 17 3 3 a 1 ∷ []) ∷ [])
+prev_before_rising : refusal
+    (of a (printed 17 0 2 a 1 ∷ printed 17 0 1 a 1 ∷ printed 17 3 3 a 1 ∷ []) ∷ [])
     ≡ Some (fault.PrevNotBefore a 2)
 prev_before_rising = refl
 
@@ -137,8 +146,10 @@ level_never = prev_never_shown level (fault.PrevNotBefore a 0) refl tt
 abbrev outcomes : List Stream → List Act → List Outcome
 outcomes streams acts = elim (run top (pids_of streams) acts) [ None ↦ [] | Some os ↦ os ]
 
-shows : (streams : List Stream) (acts : List Act) → run top (pids_of streams) acts ≡ Some (outcomes streams acts)
-    → AllByRecursion (λ x. stream acts (outcomes streams acts) x.pid ≡ x.events) streams → Shows top streams acts
+shows : (streams : List Stream) (acts : List Act)
+    → run top (pids_of streams) acts ≡ Some (outcomes streams acts)
+    → AllByRecursion (λ x. stream acts (outcomes streams acts) x.pid ≡ x.events) streams
+    → Shows top streams acts
 shows streams acts runs shown = (outcomes streams acts, runs, All-from_recursion _ streams shown)
 
 -- a token of label 17 with one flag
@@ -150,7 +161,8 @@ abbrev printed_twice : List Stream
 printed_twice = of a (printed 17 0 1 a 7 ∷ printed 17 0 1 a 7 ∷ []) ∷ []
 
 abbrev print_twice : List Act
-print_twice = (act.Tracer a true ∷ begun a (component.Print true)) ++ (act.Print a 7 ∷ act.Reset a ∷ [])
+print_twice = (act.Tracer a true ∷ begun a (component.Print true))
+    ++ (act.Print a 7 ∷ act.Reset a ∷ [])
     ++ begun a (component.Print true) ++ (act.Print a 7 ∷ [])
 
 printed_twice_refused : refusal printed_twice ≡ Some (fault.NotRising a 1 0)
@@ -185,7 +197,8 @@ abbrev print_not_send : List Stream
 print_not_send = of a (printed 17 0 1 a 7 ∷ []) ∷ of b (got 17 0 1 a b 5 ∷ []) ∷ []
 
 abbrev print_then_send : List Act
-print_then_send = (act.Tracer a true ∷ begun a (component.Print true)) ++ (act.Print a 7 ∷ act.Reset a ∷ [])
+print_then_send = (act.Tracer a true ∷ begun a (component.Print true))
+    ++ (act.Print a 7 ∷ act.Reset a ∷ [])
     ++ begun a (component.Receive true) ++ (act.Send a b 5 ∷ act.Receive b want.First ∷ [])
 
 print_not_send_refused : refusal print_not_send ≡ Some (fault.Mismatch b 0 a 0)
@@ -195,5 +208,7 @@ print_not_send_shown : Shows top print_not_send print_then_send
 print_not_send_shown = shows print_not_send print_then_send refl (refl, (refl, tt))
 
 -- so the refusals without PrevNotBefore aren't final for all acts
-not_final : ¬ ((streams : List Stream) (f : PairFault) → refusal streams ≡ Some f → NeverShown streams)
-not_final final = final printed_twice (fault.NotRising a 1 0) refl top print_twice printed_twice_shown
+not_final : ¬ ((streams : List Stream) (f : PairFault) → refusal streams ≡ Some f
+    → NeverShown streams)
+not_final final = final printed_twice (fault.NotRising a 1 0) refl top print_twice
+    printed_twice_shown

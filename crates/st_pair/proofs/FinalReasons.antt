@@ -1,8 +1,9 @@
--- No run shows what a reason says of two events: a report's serial rises, and without a reset a process stamps no count
--- twice, since each stamp lifts its clock to a count above all that the clock was before.
-use Rattle.std.proofs.Common.{◌≡◌, ◌≢◌, ℕ, ◌+◌, ◌<◌, ◌==◌, Bool, true, false, cond, List, [], ◌∷◌, length, take, get_or}
-use Rattle.std.proofs.Common.{Some, option_and_then, All, AllPairs, inl, inr, refl, sym, ◌∙◌, ap, Result}
-use Rattle.std.proofs.Common.{Ok, Err, IfErr, subst, arith}
+-- No run shows what a reason says of two events: a report's serial rises, and without a reset a
+-- process stamps no count twice, since each stamp lifts its clock to a count above all that the
+-- clock was before.
+use Rattle.std.proofs.Common.{◌≡◌, ◌≢◌, ℕ, ◌+◌, ◌<◌, ◌==◌, Bool, true, false, cond, List, [], ◌∷◌}
+use Rattle.std.proofs.Common.{length, take, get_or, Some, option_and_then, All, AllPairs, inl, inr}
+use Rattle.std.proofs.Common.{refl, sym, ◌∙◌, ap, Result, Ok, Err, IfErr, subst, arith}
 use Rattle.std.specs.List.{slice_get, Contains}
 use Rattle.std.proofs.lemmas.Bool.{eq-eqb, and_from, false≢true, cases_order}
 use Rattle.std.proofs.lemmas.List.Elements.{All-head, All-tail, All-from_recursion}
@@ -18,13 +19,15 @@ use Rattle.st_core.specs.Run.{Stream, pids_of, run, stream}
 use Rattle.st_core.specs.Streams.{stream_of, events_of}
 use Rattle.st_core.specs.Pairs.{IsFollowing, pairs}
 use Rattle.st_core.specs.Laws.{KeepsSound, NoReset, LiftsClock, ReportsEvent}
-use Rattle.st_core.proofs.ForCallers.{pid_eq-true, pid_eq-same, All_at, run_sound, receives_follow, receives_are_paired}
-use Rattle.st_core.proofs.ForCallers.{event_reported, reported_in_order, reported_sends_agree, reported_stamps_lift}
+use Rattle.st_core.proofs.ForCallers.{pid_eq-true, pid_eq-same, All_at, run_sound, receives_follow}
+use Rattle.st_core.proofs.ForCallers.{receives_are_paired, event_reported, reported_in_order}
+use Rattle.st_core.proofs.ForCallers.{reported_sends_agree, reported_stamps_lift}
 use Rattle.st_core.proofs.ForCallers.{followed_sends_lift, lifted_once, lifted_later}
 use Rattle.st_pair.specs.declared.answer.PairFault.{PairFault}
 use Rattle.st_pair.specs.declared.answer.PairFault.TheVariants as fault
 use Rattle.st_pair.specs.Places.{event_at, is_stamp, first}
-use Rattle.st_pair.specs.Pairing.{agrees, prev_not_before, not_rising, repeated, mismatch, refusal, IsPairFault}
+use Rattle.st_pair.specs.Pairing.{agrees, prev_not_before, not_rising, repeated, mismatch, refusal}
+use Rattle.st_pair.specs.Pairing.{IsPairFault}
 use Rattle.st_pair.specs.Final.{NeverShown, NeverShownInOneTrace, RulesOut}
 use Rattle.st_pair.proofs.AcceptedEvents.{Rule, got_rule}
 use Rattle.st_pair.proofs.Agreement.{agrees_if}
@@ -41,7 +44,8 @@ stamp_not_received e stamps is = false≢true (sym (receive_unstamped e is) ∙ 
 
 pub receive_kind : (e : Event) → is_stamp e ≡ false → e.kind ≡ kind.Receive
 receive_kind e receives = elim e.kind as (λ k.
-    (let b : Bool = elim k [ kind.Send ↦ true | kind.Receive ↦ false | kind.Print ↦ true ] in b) ≡ false
+    (let b : Bool = elim k [ kind.Send ↦ true | kind.Receive ↦ false | kind.Print ↦ true ] in b)
+    ≡ false
     → k ≡ kind.Receive) [
       | kind.Send ↦ λ h. absurd (false≢true (sym h))
       | kind.Receive ↦ λ h. refl
@@ -59,8 +63,10 @@ send_agrees e =
 abbrev pub AreShown : List Stream → List Act → List Outcome → Type 0
 AreShown streams acts os = All (λ (x : Stream). stream acts os x.pid ≡ x.events) streams
 
-pub shown_at : (streams : List Stream) (acts : List Act) (os : List Outcome) (p : Pid) (i : ℕ) (e : Event)
-    → AreShown streams acts os → event_at streams p i ≡ Some e → slice_get (stream acts os p) i ≡ Some e
+pub shown_at : (streams : List Stream) (acts : List Act) (os : List Outcome) (p : Pid) (i : ℕ)
+    (e : Event)
+    → AreShown streams acts os → event_at streams p i ≡ Some e
+    → slice_get (stream acts os p) i ≡ Some e
 shown_at [] acts os p i e shown at = absurd (none-some e at)
 shown_at (x ∷ streams) acts os p i e shown at =
     let whole = λ (y : Stream). stream acts os y.pid ≡ y.events in
@@ -75,21 +81,24 @@ shown_at (x ∷ streams) acts os p i e shown at =
     ] refl at
 
 -- what a rule gives first it gives at an event of the run
-record IsTold {X : Type 0} (rule : Rule X) (acts : List Act) (os : List Outcome) (x : X) : Type 0 where
-  pid : Pid
-  index : ℕ
-  event : Event
-  gives : rule pid index event ≡ Some x
-  number : ℕ
-  reports : ReportsEvent acts os pid index event number
+record IsTold {X : Type 0} (rule : Rule X) (acts : List Act) (os : List Outcome) (x : X) : Type 0
+  where
+    pid : Pid
+    index : ℕ
+    event : Event
+    gives : rule pid index event ≡ Some x
+    number : ℕ
+    reports : ReportsEvent acts os pid index event number
 
-told_first : {X : Type 0} (rule : Rule X) (streams : List Stream) (acts : List Act) (os : List Outcome) (x : X)
+told_first : {X : Type 0} (rule : Rule X) (streams : List Stream) (acts : List Act)
+    (os : List Outcome) (x : X)
     → AreShown streams acts os → first rule streams ≡ Some x → IsTold rule acts os x
 told_first {X} rule streams acts os x shown h =
     let found = first_in rule streams x h in
     let s = found.1 in
     let here = given_from rule s.pid 0 s.events x found.3 in
-    let whole = All_at (λ (y : Stream). stream acts os y.pid ≡ y.events) streams found.0 s found.2 shown in
+    let whole = All_at (λ (y : Stream). stream acts os y.pid ≡ y.events) streams found.0 s found.2
+    shown in
     let at = ap (λ es. slice_get es here.0) whole ∙ here.2 in
     let number : 0 + here.0 ≡ here.0 = omega arith in
     let act = event_reported acts os s.pid here.0 here.1 at in
@@ -124,7 +133,8 @@ same_receive ps m n s once a b =
     ap (λ (x : ℕ × ℕ). x.1) here ∙ sym (ap (λ (x : ℕ × ℕ). x.1) there) in
     elim (cases_order a.0 b.0) [
       | inl same ↦
-          ap (λ (x : ℕ × ℕ). x.0) (sym here) ∙ ap (λ k. (get_or ps k d).0) same ∙ ap (λ (x : ℕ × ℕ). x.0) there
+          ap (λ (x : ℕ × ℕ). x.0) (sym here) ∙ ap (λ k. (get_or ps k d).0) same
+          ∙ ap (λ (x : ℕ × ℕ). x.0) there
       | inr (inl less) ↦ absurd (once a.0 b.0 d less b.1 sends)
       | inr (inr more) ↦ absurd (once b.0 a.0 d more a.1 (sym sends))
     ]
@@ -137,17 +147,21 @@ module _ (top : ℕ) (streams : List Stream) (acts : List Act) (os : List Outcom
   no_prev f h =
       let x = told_first prev_not_before streams acts os f shown h in
       let falls = (reasons.prev_says streams x.pid x.index x.event f x.gives).falls in
-      option_and_then_some (λ (o : Outcome). o.report) (slice_get os x.number) x.event x.reports.reports.report
+      option_and_then_some (λ (o : Outcome). o.report) (slice_get os x.number) x.event
+      x.reports.reports.report
       (λ o out is.
-      let kept = All_at (KeepsSound top) os x.number o out (run_sound top (pids_of streams) acts os runs) in
+      let kept = All_at (KeepsSound top) os x.number o out
+      (run_sound top (pids_of streams) acts os runs) in
       let rises : x.event.serial.prev < x.event.serial.this = kept.report x.event is in
       absurd (omega arith))
 
   module _ (none : NoReset acts) where
-    stamp_lifts : (p : Pid) (i : ℕ) (e : Event) (n : ℕ) → ReportsEvent acts os p i e n → is_stamp e ≡ true
+    stamp_lifts : (p : Pid) (i : ℕ) (e : Event) (n : ℕ) → ReportsEvent acts os p i e n
+        → is_stamp e ≡ true
         → LiftsClock os p e.serial.this n
     stamp_lifts p i e n r stamps =
-        reported_stamps_lift top (pids_of streams) acts os runs none p n e r.reports (stamp_not_received e stamps)
+        reported_stamps_lift top (pids_of streams) acts os runs none p n e r.reports
+        (stamp_not_received e stamps)
 
     -- COUNTS THAT DON'T RISE
 
@@ -158,9 +172,11 @@ module _ (top : ℕ) (streams : List Stream) (acts : List Act) (os : List Outcom
         let says = reasons.rising_says streams p x.index x.event f x.gives in
         let g = says.other in
         let before = reasons.stamp_before_at (events_of streams p) x.index g says.before in
-        let early = event_reported acts os p g.0 g.1 (shown_at streams acts os p g.0 g.1 shown before.at) in
+        let early = event_reported acts os p g.0 g.1
+        (shown_at streams acts os p g.0 g.1 shown before.at) in
         let order =
-        reported_in_order acts os p g.0 x.index early.0 x.number g.1 x.event early.1 x.reports before.below in
+        reported_in_order acts os p g.0 x.index early.0 x.number g.1 x.event early.1 x.reports
+        before.below in
         let rises =
         lifted_later os p g.1.serial.this x.event.serial.this early.0 x.number
         (stamp_lifts p g.0 g.1 early.0 early.1 before.stamps)
@@ -178,18 +194,21 @@ module _ (top : ℕ) (streams : List Stream) (acts : List Act) (os : List Outcom
       pub event : follows.event ≡ e
       pub lifts : LiftsClock os e.from e.serial.this send
 
-    pub taken : (p : Pid) (i : ℕ) (e : Event) (n : ℕ) → ReportsEvent acts os p i e n → is_stamp e ≡ false → IsTaken n e
+    pub taken : (p : Pid) (i : ℕ) (e : Event) (n : ℕ) → ReportsEvent acts os p i e n
+        → is_stamp e ≡ false → IsTaken n e
     taken p i e n r receives =
         let pids = pids_of streams in
         let reported = r.reports.report in
-        let pair = receives_are_paired top pids acts os runs n e reported (receive_kind e receives) in
+        let pair = receives_are_paired top pids acts os runs n e reported
+        (receive_kind e receives) in
         let s = pair.0 in
         let each = All-from_recursion (λ (x : ℕ × ℕ). IsFollowing acts os x.0 x.1) (pairs acts os)
         (receives_follow top pids acts os runs).each in
         let follows : IsFollowing acts os n s =
         All_at (λ (x : ℕ × ℕ). IsFollowing acts os x.0 x.1) (pairs acts os) pair.1.0 (n, s)
         (contained (pairs acts os) (n, s) pair.1) each in
-        let event : follows.event ≡ e = same_Some follows.event e (sym follows.reports ∙ reported) in
+        let event : follows.event ≡ e =
+        same_Some follows.event e (sym follows.reports ∙ reported) in
         record {
           send = s;
           paired = pair.1;
@@ -202,7 +221,8 @@ module _ (top : ℕ) (streams : List Stream) (acts : List Act) (os : List Outcom
     -- ONE MESSAGE RECEIVED TWICE
 
     -- two receives with one sender and one count are one
-    one_receive : (p q : Pid) (i j m n : ℕ) (d e : Event) → ReportsEvent acts os p i d m → ReportsEvent acts os q j e n
+    one_receive : (p q : Pid) (i j m n : ℕ) (d e : Event) → ReportsEvent acts os p i d m
+        → ReportsEvent acts os q j e n
         → is_stamp d ≡ false → is_stamp e ≡ false → e.from ≡ d.from → e.serial.this ≡ d.serial.this
         → (p ≡ q) × (i ≡ j)
     one_receive p q i j m n d e first second is_d is_e from count =
@@ -211,12 +231,14 @@ module _ (top : ℕ) (streams : List Stream) (acts : List Act) (os : List Outcom
         let lifts : LiftsClock os d.from d.serial.this b.send =
         subst (λ x. LiftsClock os x d.serial.this b.send) from
         (subst (λ this. LiftsClock os e.from this b.send) count b.lifts) in
-        let send : a.send ≡ b.send = lifted_once os d.from d.serial.this a.send b.send a.lifts lifts in
+        let send : a.send ≡ b.send =
+        lifted_once os d.from d.serial.this a.send b.send a.lifts lifts in
         let paired : Contains (pairs acts os) (m, b.send) =
         subst (λ s. Contains (pairs acts os) (m, s)) send a.paired in
         let once = (receives_follow top (pids_of streams) acts os runs).once in
         let number : m ≡ n = same_receive (pairs acts os) m n b.send once paired b.paired in
-        let there : ReportsEvent acts os p i d n = subst (ReportsEvent acts os p i d) number first in
+        let there : ReportsEvent acts os p i d n =
+        subst (ReportsEvent acts os p i d) number first in
         reported_once acts os p q i j n d e there second
 
     no_repeated : (f : PairFault) → first (repeated streams) streams ≡ Some f → ⊥
@@ -228,7 +250,8 @@ module _ (top : ℕ) (streams : List Stream) (acts : List Act) (os : List Outcom
         let y = told_first (got_rule e.from e.serial.this) streams acts os at shown says.earlier in
         let got = got_says e.from e.serial.this y.pid y.index y.event at y.gives in
         let same =
-        one_receive x.pid y.pid x.index y.index x.number y.number e y.event x.reports y.reports says.receives
+        one_receive x.pid y.pid x.index y.index x.number y.number e y.event x.reports y.reports
+        says.receives
         got.receives got.from got.count in
         let pid : at.0 ≡ x.pid = sym got.pid ∙ sym same.0 in
         let index : at.1 ≡ x.index = sym got.index ∙ sym same.1 in
@@ -239,7 +262,8 @@ module _ (top : ℕ) (streams : List Stream) (acts : List Act) (os : List Outcom
     -- A RECEIVE THAT DIFFERS FROM ITS SEND
 
     -- a reported stamp of a receive's sender with its count is its send
-    one_send : (p : Pid) (i j m n : ℕ) (d e : Event) → ReportsEvent acts os e.from j d m → ReportsEvent acts os p i e n
+    one_send : (p : Pid) (i j m n : ℕ) (d e : Event) → ReportsEvent acts os e.from j d m
+        → ReportsEvent acts os p i e n
         → is_stamp d ≡ true → is_stamp e ≡ false → d.serial.this ≡ e.serial.this
         → d ≡ (let f : Event = record e { kind = kind.Send } in f)
     one_send p i j m n d e first second is_d is_e count =
@@ -249,7 +273,8 @@ module _ (top : ℕ) (streams : List Stream) (acts : List Act) (os : List Outcom
         subst (λ this. LiftsClock os q this m) count (stamp_lifts q j d m first is_d) in
         let send : m ≡ b.send = lifted_once os q e.serial.this m b.send lifts b.lifts in
         let reported : option_and_then (λ (o : Outcome). o.report) (slice_get os b.send) ≡ Some d =
-        subst (λ s. option_and_then (λ (o : Outcome). o.report) (slice_get os s) ≡ Some d) send first.reports.report in
+        subst (λ s. option_and_then (λ (o : Outcome). o.report) (slice_get os s) ≡ Some d) send
+        first.reports.report in
         reported_sends_agree top (pids_of streams) acts os runs n b.send b.follows d reported
         ∙ ap (λ (x : Event). let f : Event = record x { kind = kind.Send } in f) b.event
 
@@ -259,14 +284,18 @@ module _ (top : ℕ) (streams : List Stream) (acts : List Act) (os : List Outcom
         let e = x.event in
         let says = reasons.mismatch_says streams x.pid x.index e f x.gives in
         let g = says.other in
-        let found = given_from (own_rule e.serial.this) e.from 0 (events_of streams e.from) g says.sent in
+        let found = given_from (own_rule e.serial.this) e.from 0 (events_of streams e.from) g
+        says.sent in
         let own = own_says e.serial.this e.from (0 + found.0) found.1 g found.3 in
         let stamps : is_stamp g.1 ≡ true = ap is_stamp (sym own.event) ∙ own.stamps in
-        let count : g.1.serial.this ≡ e.serial.this = ap (λ (y : Event). y.serial.this) (sym own.event) ∙ own.count in
+        let count : g.1.serial.this ≡ e.serial.this =
+        ap (λ (y : Event). y.serial.this) (sym own.event) ∙ own.count in
         let at = stamp_at streams e.from e.serial.this g says.sent in
-        let stamp = event_reported acts os e.from g.0 g.1 (shown_at streams acts os e.from g.0 g.1 shown at) in
+        let stamp = event_reported acts os e.from g.0 g.1
+        (shown_at streams acts os e.from g.0 g.1 shown at) in
         let same =
-        one_send x.pid x.index g.0 stamp.0 x.number g.1 e stamp.1 x.reports stamps says.receives count in
+        one_send x.pid x.index g.0 stamp.0 x.number g.1 e stamp.1 x.reports stamps says.receives
+        count in
         false≢true (sym says.differs ∙ ap (λ y. agrees y e) same ∙ send_agrees e)
 
 -- THE TWO STATEMENTS
@@ -289,7 +318,8 @@ IsPrevNotBefore (fault.PrevNotBefore p i) = Unit {0}
 IsPrevNotBefore f = ⊥
 
 -- if it is PrevNotBefore, which its own rule alone gives
-pub prev_never_shown : (streams : List Stream) (f : PairFault) → refusal streams ≡ Some f → IsPrevNotBefore f
+pub prev_never_shown : (streams : List Stream) (f : PairFault) → refusal streams ≡ Some f
+    → IsPrevNotBefore f
     → NeverShown streams
 prev_never_shown streams f h prev top acts shows =
     let os = shows.0 in
@@ -313,12 +343,15 @@ prev_never_shown streams f h prev top acts shows =
 -- WHAT PAIRING RETURNS
 
 -- what a reason rules out
-pub refusal_rules_out : (streams : List Stream) (f : PairFault) → refusal streams ≡ Some f → RulesOut streams f
+pub refusal_rules_out : (streams : List Stream) (f : PairFault) → refusal streams ≡ Some f
+    → RulesOut streams f
 refusal_rules_out streams fault.Memory h = tt
-refusal_rules_out streams (fault.PrevNotBefore p i) h = prev_never_shown streams (fault.PrevNotBefore p i) h tt
+refusal_rules_out streams (fault.PrevNotBefore p i) h =
+    prev_never_shown streams (fault.PrevNotBefore p i) h tt
 refusal_rules_out streams f h = refused_never_shown streams f h
 
-pub answered_rules_out : {T : Type 0} (streams : List Stream) (r : Result T PairFault) → IfErr r (IsPairFault streams)
+pub answered_rules_out : {T : Type 0} (streams : List Stream) (r : Result T PairFault)
+    → IfErr r (IsPairFault streams)
     → IfErr r (RulesOut streams)
 answered_rules_out streams (Ok x) h = tt
 answered_rules_out streams (Err fault.Memory) h = tt

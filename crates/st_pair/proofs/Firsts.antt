@@ -1,5 +1,6 @@
 -- A rule's first fault, at a loop's index and in what is left.
-use Rattle.std.proofs.Common.{◌≡◌, ℕ, ◌+◌, ◌<◌, zero, suc, List, [], ◌∷◌, length, get_or, drop, Option, None, Some}
+use Rattle.std.proofs.Common.{◌≡◌, ℕ, ◌+◌, ◌<◌, zero, suc, List, [], ◌∷◌, length, get_or, drop}
+use Rattle.std.proofs.Common.{Option, None, Some}
 use Rattle.std.proofs.Common.{slice_get, refl, sym, ◌∙◌, ap, subst, arith, add-one}
 use Rattle.std.proofs.lemmas.Option.{same_Some}
 use Rattle.st_core.specs.declared.types.Pid.{Pid}
@@ -22,45 +23,53 @@ module _ {X : Type 0} where
 module _ {X : Type 0} (rule : Pid → ℕ → Event → Option X) where
   -- the event at the front of what is left, and then the rest
   pub first_from-at : (p : Pid) (i k : ℕ) (es : List Event) (e : Event) → slice_get es k ≡ Some e
-      → first_from rule p i (drop k es) ≡ or_else (rule p i e) (first_from rule p (i + 1) (drop (suc k) es))
+      → first_from rule p i (drop k es)
+      ≡ or_else (rule p i e) (first_from rule p (i + 1) (drop (suc k) es))
   first_from-at p i k [] e at = absurd (cc)
-  first_from-at p i zero (f ∷ es) e at = ap (λ (x : Event). or_else (rule p i x) (first_from rule p (i + 1) es))
+  first_from-at p i zero (f ∷ es) e at =
+      ap (λ (x : Event). or_else (rule p i x) (first_from rule p (i + 1) es))
       (same_Some f e at)
   first_from-at p i (suc k) (f ∷ es) e at = first_from-at p i k es e at
 
   -- the same in a loop over the events
   pub first_from-step : (p : Pid) (i : ℕ) (es : List Event) (e : Event) → slice_get es i ≡ Some e
-      → first_from rule p i (drop i es) ≡ or_else (rule p i e) (first_from rule p (i + 1) (drop (i + 1) es))
+      → first_from rule p i (drop i es)
+      ≡ or_else (rule p i e) (first_from rule p (i + 1) (drop (i + 1) es))
   first_from-step p i es e at =
       let next : suc i ≡ i + 1 = omega arith in
       first_from-at p i i es e at
       ∙ ap (λ (n : ℕ). or_else (rule p i e) (first_from rule p (i + 1) (drop n es))) next
 
   -- past an event at which it gives nothing
-  pub first_from-passed : (p : Pid) (i : ℕ) (es : List Event) (e : Event) → slice_get es i ≡ Some e → rule p i e ≡ None
+  pub first_from-passed : (p : Pid) (i : ℕ) (es : List Event) (e : Event) → slice_get es i ≡ Some e
+      → rule p i e ≡ None
       → first_from rule p 0 es ≡ first_from rule p i (drop i es)
       → first_from rule p 0 es ≡ first_from rule p (i + 1) (drop (i + 1) es)
   first_from-passed p i es e at none far = far ∙ first_from-step p i es e at
       ∙ ap (λ (o : Option X). or_else o (first_from rule p (i + 1) (drop (i + 1) es))) none
 
   -- at an event at which it gives something
-  pub first_from-given : (p : Pid) (i : ℕ) (es : List Event) (e : Event) (x : X) → slice_get es i ≡ Some e
+  pub first_from-given : (p : Pid) (i : ℕ) (es : List Event) (e : Event) (x : X)
+      → slice_get es i ≡ Some e
       → rule p i e ≡ Some x → first_from rule p 0 es ≡ first_from rule p i (drop i es)
       → first_from rule p 0 es ≡ Some x
   first_from-given p i es e x at given far = far ∙ first_from-step p i es e at
       ∙ ap (λ (o : Option X). or_else o (first_from rule p (i + 1) (drop (i + 1) es))) given
 
-  pub first_from-end : (p : Pid) (i k : ℕ) (es : List Event) → length es ≡ k → first_from rule p i (drop k es) ≡ None
+  pub first_from-end : (p : Pid) (i k : ℕ) (es : List Event) → length es ≡ k
+      → first_from rule p i (drop k es) ≡ None
   first_from-end p i zero [] len = refl
   first_from-end p i (suc k) [] len = refl
   first_from-end p i zero (f ∷ es) len = absurd (omega arith)
   first_from-end p i (suc k) (f ∷ es) len = first_from-end p i k es (omega arith)
 
   first-drop : (k : ℕ) (streams : List Stream) (s : Stream) → slice_get streams k ≡ Some s
-      → first rule (drop k streams) ≡ or_else (first_from rule s.pid 0 s.events) (first rule (drop (suc k) streams))
+      → first rule (drop k streams)
+      ≡ or_else (first_from rule s.pid 0 s.events) (first rule (drop (suc k) streams))
   first-drop k [] s at = absurd (cc)
   first-drop zero (x ∷ streams) s at =
-      ap (λ (x : Stream). or_else (first_from rule x.pid 0 x.events) (first rule streams)) (same_Some x s at)
+      ap (λ (x : Stream). or_else (first_from rule x.pid 0 x.events) (first rule streams))
+      (same_Some x s at)
   first-drop (suc k) (x ∷ streams) s at = first-drop k streams s at
 
 -- the stream at a place
@@ -98,10 +107,13 @@ module _ {X : Type 0} (rule : Pid → ℕ → Event → Option X) where
       let s = is_at streams k p rising at in
       let events : s.stream.events ≡ events_of streams p = sym (ap events_in s.found) in
       first-drop rule k streams s.stream s.at
-      ∙ ap (λ (q : Pid). or_else (first_from rule q 0 s.stream.events) (first rule (drop (suc k) streams))) s.pid
-      ∙ ap (λ (es : List Event). or_else (first_from rule p 0 es) (first rule (drop (suc k) streams))) events
+      ∙ ap (λ (q : Pid). or_else (first_from rule q 0 s.stream.events)
+      (first rule (drop (suc k) streams))) s.pid
+      ∙ ap (λ (es : List Event).
+      or_else (first_from rule p 0 es) (first rule (drop (suc k) streams))) events
 
-pub at_get_or : {A : Type 0} (xs : List A) (k : ℕ) (d : A) → k < length xs → slice_get xs k ≡ Some (get_or xs k d)
+pub at_get_or : {A : Type 0} (xs : List A) (k : ℕ) (d : A) → k < length xs
+    → slice_get xs k ≡ Some (get_or xs k d)
 at_get_or [] k d within = absurd (omega arith)
 at_get_or (x ∷ xs) zero d within = refl
 at_get_or (x ∷ xs) (suc k) d within = at_get_or xs k d (omega arith)
@@ -111,23 +123,27 @@ module _ {X : Type 0} (rule : Pid → ℕ → Event
   -- the same in a loop over the pids
   pub first-loop : (pids : List Pid) (k : ℕ) (d : Pid) → pids ≡ pids_of streams → k < length pids
       → first rule (drop k streams) ≡ or_else
-      (first_from rule (get_or pids k d) 0 (events_of streams (get_or pids k d))) (first rule (drop (k + 1) streams))
+      (first_from rule (get_or pids k d) 0 (events_of streams (get_or pids k d)))
+      (first rule (drop (k + 1) streams))
   first-loop pids k d are within =
       let at = at_get_or pids k d within in
       rw add-one (first-at rule k streams (get_or pids k d) rising
       (subst (λ (ps : List Pid). slice_get ps k ≡ Some (get_or pids k d)) are at))
 
   -- of events that are the process's
-  pub first-events : (pids : List Pid) (k : ℕ) (d : Pid) (es : List Event) → pids ≡ pids_of streams → k < length pids
+  pub first-events : (pids : List Pid) (k : ℕ) (d : Pid) (es : List Event) → pids ≡ pids_of streams
+      → k < length pids
       → es ≡ events_of streams (get_or pids k d)
       → first rule (drop k streams)
       ≡ or_else (first_from rule (get_or pids k d) 0 es) (first rule (drop (k + 1) streams))
   first-events pids k d es are within events = first-loop pids k d are within
-      ∙ ap (λ (l : List Event). or_else (first_from rule (get_or pids k d) 0 l) (first rule (drop (k + 1) streams)))
+      ∙ ap (λ (l : List Event). or_else (first_from rule (get_or pids k d) 0 l)
+      (first rule (drop (k + 1) streams)))
       (sym events)
 
   -- a process that gives something
-  pub first-given : (pids : List Pid) (k : ℕ) (d : Pid) (x : X) → pids ≡ pids_of streams → k < length pids
+  pub first-given : (pids : List Pid) (k : ℕ) (d : Pid) (x : X) → pids ≡ pids_of streams
+      → k < length pids
       → Some x ≡ first_from rule (get_or pids k d) 0 (events_of streams (get_or pids k d))
       → first rule streams ≡ first rule (drop k streams) → Some x ≡ first rule streams
   first-given pids k d x are within given far = sym (far ∙ first-loop pids k d are within
@@ -136,7 +152,8 @@ module _ {X : Type 0} (rule : Pid → ℕ → Event
   -- a process that gives nothing
   pub first-passed : (pids : List Pid) (k : ℕ) (d : Pid) → pids ≡ pids_of streams → k < length pids
       → None ≡ first_from rule (get_or pids k d) 0 (events_of streams (get_or pids k d))
-      → first rule streams ≡ first rule (drop k streams) → first rule streams ≡ first rule (drop (k + 1) streams)
+      → first rule streams ≡ first rule (drop k streams)
+      → first rule streams ≡ first rule (drop (k + 1) streams)
   first-passed pids k d are within given far = far ∙ first-loop pids k d are within
       ∙ ap (λ (o : Option X). or_else o (first rule (drop (k + 1) streams))) (sym given)
 
@@ -147,7 +164,10 @@ module _ {X : Type 0} (rule : Pid → ℕ → Event
       → or_else before (first rule (drop k streams)) ≡ first rule streams
       → or_else after (first rule (drop (k + 1) streams)) ≡ first rule streams
   table-passed before after pids k d es are within events given far =
-      let here : after ≡ or_else before (first_from rule (get_or pids k d) 0 (events_of streams (get_or pids k d))) =
-      subst (λ (l : List Event). after ≡ or_else before (first_from rule (get_or pids k d) 0 l)) events given in
-      ap (λ (o : Option X). or_else o (first rule (drop (k + 1) streams))) here ∙ or_assoc before _ _
+      let here : after ≡ or_else before
+      (first_from rule (get_or pids k d) 0 (events_of streams (get_or pids k d))) =
+      subst (λ (l : List Event). after ≡ or_else before (first_from rule (get_or pids k d) 0 l))
+      events given in
+      ap (λ (o : Option X). or_else o (first rule (drop (k + 1) streams))) here
+      ∙ or_assoc before _ _
       ∙ ap (or_else before) (sym (first-loop pids k d are within)) ∙ far

@@ -1,9 +1,12 @@
--- A receive is noted under its own key alone: no other sender and count have the send or print at which it is noted.
+-- A receive is noted under its own key alone: no other sender and count have the send or print at
+-- which it is noted.
 use Rattle.std.proofs.Common.{◌≡◌, ℕ, ◌+◌, ◌<◌, ◌⊎◌, inl, inr, zero, suc, Bool, true, false, cond}
-use Rattle.std.proofs.Common.{List, [], ◌∷◌, get_or, length, map, replicate, set, Option, None, Some, slice_get}
+use Rattle.std.proofs.Common.{List, [], ◌∷◌, get_or, length, map, replicate, set, Option, None}
+use Rattle.std.proofs.Common.{Some, slice_get}
 use Rattle.std.proofs.Common.{option_and_then, option_map, refl, sym, ◌∙◌, ap, subst, arith}
 use Rattle.std.specs.List.{AllByRecursion}
-use Rattle.std.proofs.lemmas.Option.{same_Some, none-some, get_or_from_slice_get, slice_get-get_or, slice_get_within}
+use Rattle.std.proofs.lemmas.Option.{same_Some, none-some, get_or_from_slice_get, slice_get-get_or}
+use Rattle.std.proofs.lemmas.Option.{slice_get_within}
 use Rattle.st_core.specs.declared.types.Pid.{Pid}
 use Rattle.st_core.specs.declared.types.Event.{Event}
 use Rattle.st_core.specs.Pid.{pid_eq, IsRising}
@@ -30,7 +33,8 @@ module _ {X : Type 0} where
   set_same (y ∷ xs) zero x within = refl
   set_same (y ∷ xs) (suc i) x within = set_same xs i x (omega arith)
 
-  set_apart : (xs : List X) (i j : ℕ) (x : X) → (i ≡ j → ⊥) → slice_get (set xs i x) j ≡ slice_get xs j
+  set_apart : (xs : List X) (i j : ℕ) (x : X) → (i ≡ j → ⊥)
+      → slice_get (set xs i x) j ≡ slice_get xs j
   set_apart [] i j x apart = refl
   set_apart (y ∷ xs) zero zero x apart = absurd (apart refl)
   set_apart (y ∷ xs) zero (suc j) x apart = refl
@@ -38,7 +42,8 @@ module _ {X : Type 0} where
   set_apart (y ∷ xs) (suc i) (suc j) x apart = set_apart xs i j x (λ same. apart (omega arith))
 
 -- the marks at a process's place are its own
-pub marks_read : (streams : List Stream) (lists : List (List Mark)) (n i : ℕ) (p : Pid) → IsRising (pids_of streams)
+pub marks_read : (streams : List Stream) (lists : List (List Mark)) (n i : ℕ) (p : Pid)
+    → IsRising (pids_of streams)
     → slice_get (pids_of streams) n ≡ Some p
     → mark_at lists n i ≡ slice_get (marks_in streams lists p) i
 marks_read [] lists n i p rising at = absurd (none-some p at)
@@ -47,10 +52,12 @@ marks_read (s ∷ streams) (l ∷ lists) zero i p rising at =
     let same = same_Some s.pid p at in
     rw (same, pid_eq-same p) refl
 marks_read (s ∷ streams) (l ∷ lists) (suc n) i p rising at =
-    rw (above_apart (pids_of streams) s.pid p n rising.0 at) (marks_read streams lists n i p rising.1 at)
+    rw (above_apart (pids_of streams) s.pid p n rising.0 at)
+    (marks_read streams lists n i p rising.1 at)
 
 -- what is noted of a key
-pub mark_read : (streams : List Stream) (lists : List (List Mark)) (key : Key) (n i : ℕ) → IsRising (pids_of streams)
+pub mark_read : (streams : List Stream) (lists : List (List Mark)) (key : Key) (n i : ℕ)
+    → IsRising (pids_of streams)
     → slice_get (pids_of streams) n ≡ Some key.from → stamp_index streams key ≡ Some i
     → mark_of streams lists key ≡ mark_at lists n i
 mark_read streams lists key n i rising at is =
@@ -62,14 +69,17 @@ unlisted_marks : (streams : List Stream) (lists : List (List Mark)) (p : Pid)
     → AllByRecursion (λ q. pid_eq q p ≡ false) (pids_of streams) → marks_in streams lists p ≡ []
 unlisted_marks [] lists p missing = refl
 unlisted_marks (s ∷ streams) [] p missing = refl
-unlisted_marks (s ∷ streams) (l ∷ lists) p missing = rw missing.0 (unlisted_marks streams lists p missing.1)
+unlisted_marks (s ∷ streams) (l ∷ lists) p missing =
+    rw missing.0 (unlisted_marks streams lists p missing.1)
 
 pub unlisted_mark : (streams : List Stream) (lists : List (List Mark)) (key : Key)
-    → AllByRecursion (λ q. pid_eq q key.from ≡ false) (pids_of streams) → mark_of streams lists key ≡ None
+    → AllByRecursion (λ q. pid_eq q key.from ≡ false) (pids_of streams)
+    → mark_of streams lists key ≡ None
 unlisted_mark streams lists key missing = elim (stamp_index streams key)
     as (λ o. option_and_then (λ (j : ℕ). slice_get (marks_in streams lists key.from) j) o ≡ None) [
       | None ↦ refl
-      | Some i ↦ ap (λ (l : List Mark). slice_get l i) (unlisted_marks streams lists key.from missing)
+      | Some i ↦ ap (λ (l : List Mark). slice_get l i)
+          (unlisted_marks streams lists key.from missing)
     ]
 
 -- one process's marks are all that changes
@@ -86,7 +96,8 @@ marks_put (s ∷ streams) (m ∷ lists) (suc n) p q l rising at within =
     let apart = above_apart (pids_of streams) s.pid p n rising.0 at in
     let rest = marks_put streams lists n p q l rising.1 at (omega arith) in
     elim (pid_eq s.pid q) as (λ b. pid_eq s.pid q ≡ b
-    → cond b m (marks_in streams (set lists n l) q) ≡ cond (pid_eq p q) l (cond b m (marks_in streams lists q))) [
+    → cond b m (marks_in streams (set lists n l) q)
+    ≡ cond (pid_eq p q) l (cond b m (marks_in streams lists q))) [
       | true ↦ λ is.
           let other : pid_eq p q ≡ false = pid_eq-swap p q
           ∙ ap (λ (x : Pid). pid_eq x p) (sym (pid_eq-true s.pid q is)) ∙ apart in
@@ -99,7 +110,8 @@ marks_put (s ∷ streams) (m ∷ lists) (suc n) p q l rising at within =
 -- the send or print with an index has the count
 index_counts : (streams : List Stream) (k : Key) (i : ℕ) → stamp_index streams k ≡ Some i
     → (e : Event) × (slice_get (events_of streams k.from) i ≡ Some e) × (e.serial.this ≡ k.this)
-index_counts streams k i h = elim (stamp_of streams k.from k.this) as (λ o. stamp_of streams k.from k.this ≡ o
+index_counts streams k i h =
+    elim (stamp_of streams k.from k.this) as (λ o. stamp_of streams k.from k.this ≡ o
     → option_map (λ (f : ℕ × Event). f.0) o ≡ Some i
     → (e : Event) × (slice_get (events_of streams k.from) i ≡ Some e) × (e.serial.this ≡ k.this)) [
       | None ↦ λ is given. absurd (none-some i given)
@@ -111,7 +123,8 @@ index_counts streams k i h = elim (stamp_of streams k.from k.this) as (λ o. sta
           (found.1, ap (slice_get (events_of streams k.from)) (sym here) ∙ found.2, says.count)
     ] refl h
 
-one_index : (streams : List Stream) (k l : Key) (i : ℕ) → k.from ≡ l.from → stamp_index streams k ≡ Some i
+one_index : (streams : List Stream) (k l : Key) (i : ℕ) → k.from ≡ l.from
+    → stamp_index streams k ≡ Some i
     → stamp_index streams l ≡ Some i → k.this ≡ l.this
 one_index streams k l i from first second =
     let d = index_counts streams k i first in
@@ -123,7 +136,8 @@ one_index streams k l i from first second =
 
 module _ (streams : List Stream) (lists : List (List Mark)) (key : Key) (n i : ℕ) (place : Pid × ℕ)
     (rising : IsRising (pids_of streams)) (at : slice_get (pids_of streams) n ≡ Some key.from)
-    (is : stamp_index streams key ≡ Some i) (marks : List Mark) (there : slice_get lists n ≡ Some marks)
+    (is : stamp_index streams key ≡ Some i) (marks : List Mark)
+    (there : slice_get lists n ≡ Some marks)
     (within : i < length marks) where
   abbrev after : List (List Mark)
   after = set lists n (set marks i (Some place))
@@ -141,15 +155,18 @@ module _ (streams : List Stream) (lists : List (List Mark)) (key : Key) (n i : �
   marked_here =
       ap (option_and_then (λ (j : ℕ). slice_get (marks_in streams after key.from) j)) is
       ∙ ap (λ (l : List Mark). slice_get l i) (moved key.from)
-      ∙ ap (λ (b : Bool). slice_get (cond b (set marks i (Some place)) (marks_in streams lists key.from)) i)
+      ∙ ap (λ (b : Bool). slice_get
+      (cond b (set marks i (Some place)) (marks_in streams lists key.from)) i)
       (pid_eq-same key.from)
       ∙ set_same marks i (Some place) within
 
-  elsewhere : (k : Key) → (key ≡ k → ⊥) → pid_eq key.from k.from ≡ true → (j : ℕ) → stamp_index streams k ≡ Some j
+  elsewhere : (k : Key) → (key ≡ k → ⊥) → pid_eq key.from k.from ≡ true → (j : ℕ)
+      → stamp_index streams k ≡ Some j
       → slice_get (set marks i (Some place)) j ≡ slice_get (marks_in streams lists k.from) j
   elsewhere k apart same j found =
       let from = pid_eq-true key.from k.from same in
-      let other : i ≡ j → ⊥ = λ index. apart (let this = one_index streams key k j from (is ∙ ap Some index) found in
+      let other : i ≡ j → ⊥ = λ index.
+      apart (let this = one_index streams key k j from (is ∙ ap Some index) found in
       λ m. record { from = from m; this = this m }) in
       set_apart marks i j (Some place) other ∙ own_mark j
       ∙ ap (λ (p : Pid). slice_get (marks_in streams lists p) j) from
@@ -174,10 +191,11 @@ given mark hidden = elim mark [ None ↦ hidden | Some place ↦ place ]
 
 module _ (key : Key) (place : Pid × ℕ) (k : Key) where
   here_apart : (key ≡ k → ⊥) → here key place k ≡ None
-  here_apart apart = elim (key_eq key k) as (λ b. key_eq key k ≡ b → cond b (Some place) None ≡ None) [
-    | true ↦ λ same. absurd (apart (key_eq-true key k same))
-    | false ↦ λ other. refl
-  ] refl
+  here_apart apart = elim (key_eq key k) as (λ b. key_eq key k ≡ b
+      → cond b (Some place) None ≡ None) [
+        | true ↦ λ same. absurd (apart (key_eq-true key k same))
+        | false ↦ λ other. refl
+      ] refl
 
 -- one key, or another
 key_or : (key k : Key) → (key ≡ k) ⊎ (key ≡ k → ⊥)
@@ -198,7 +216,8 @@ noted_again table key place has k = elim (key_or key k) [
 ]
 
 -- a receive of a reported send or print
-pub noted_shown : (streams : List Stream) (lists : List (List Mark)) (hidden : Table) (key : Key) (n i : ℕ)
+pub noted_shown : (streams : List Stream) (lists : List (List Mark)) (hidden : Table) (key : Key)
+    (n i : ℕ)
     (place : Pid × ℕ) → IsRising (pids_of streams) → slice_get (pids_of streams) n ≡ Some key.from
     → stamp_index streams key ≡ Some i → (marks : List Mark) → slice_get lists n ≡ Some marks
     → slice_get marks i ≡ Some None → (k : Key)
@@ -215,12 +234,14 @@ noted_shown streams lists hidden key n i place rising at is marks there free k =
           ≡ or_else (given (mark_of streams lists x) (hidden x)) (here key place x)) same
           (ap (λ (o : Option Mark). given o (hidden key))
           (marked_here streams lists key n i place rising at is marks there within)
-          ∙ sym (ap (λ (o : Option Mark). or_else (given o (hidden key)) (here key place key)) unmarked
+          ∙ sym (ap (λ (o : Option Mark). or_else (given o (hidden key)) (here key place key))
+          unmarked
           ∙ here_same key place))
       | inr apart ↦
           ap (λ (o : Option Mark). given o (hidden k))
           (marked_elsewhere streams lists key n i place rising at is marks there within k apart)
-          ∙ sym (ap (or_else (given (mark_of streams lists k) (hidden k))) (here_apart key place k apart)
+          ∙ sym (ap (or_else (given (mark_of streams lists k) (hidden k)))
+          (here_apart key place k apart)
           ∙ or_none (given (mark_of streams lists k) (hidden k)))
     ]
 
@@ -238,7 +259,8 @@ mark_within lists n i m h = elim (slice_get lists n) as (λ o. slice_get lists n
           )
     ] refl h
 
-pub noted_at : (streams : List Stream) (lists : List (List Mark)) (hidden : Table) (key : Key) (n i : ℕ)
+pub noted_at : (streams : List Stream) (lists : List (List Mark)) (hidden : Table) (key : Key)
+    (n i : ℕ)
     (place : Pid × ℕ) → IsRising (pids_of streams) → slice_get (pids_of streams) n ≡ Some key.from
     → stamp_index streams key ≡ Some i → mark_at lists n i ≡ Some None → (k : Key)
     → given (mark_of streams (set lists n (set (get_or lists n []) i (Some place))) k) (hidden k)
@@ -249,7 +271,8 @@ noted_at streams lists hidden key n i place rising at is free =
     (ap (option_and_then (λ (l : List Mark). slice_get l i)) (sym there) ∙ free)
 
 -- a receive of a hidden send
-pub noted_hidden : (streams : List Stream) (lists : List (List Mark)) (before after : Table) (key : Key)
+pub noted_hidden : (streams : List Stream) (lists : List (List Mark)) (before after : Table)
+    (key : Key)
     (place : Pid × ℕ) → mark_of streams lists key ≡ None
     → ((k : Key) → after k ≡ cond (key_eq key k) (Some place) (before k))
     → (before key ≡ None) ⊎ (before key ≡ Some place) → (k : Key)
@@ -286,7 +309,8 @@ blank_marks : (streams : List Stream) (p : Pid) (i : ℕ) (mark : Mark)
     → slice_get (marks_in streams (map no_marks streams) p) i ≡ Some mark → mark ≡ None
 blank_marks [] p i mark h = absurd (none-some mark h)
 blank_marks (s ∷ streams) p i mark h = elim (pid_eq s.pid p)
-    as (λ b. slice_get (cond b (no_marks s) (marks_in streams (map no_marks streams) p)) i ≡ Some mark → mark ≡ None) [
+    as (λ b. slice_get (cond b (no_marks s) (marks_in streams (map no_marks streams) p)) i
+    ≡ Some mark → mark ≡ None) [
       | true ↦ λ has. blank_at (length s.events) i mark has
       | false ↦ λ has. blank_marks streams p i mark has
     ] h
@@ -297,7 +321,8 @@ unmarked streams k hidden none = elim (mark_of streams (map no_marks streams) k)
     as (λ o. mark_of streams (map no_marks streams) k ≡ o → given o hidden ≡ None) [
       | None ↦ λ is. none
       | Some mark ↦ λ is. elim (stamp_index streams k) as (λ o.
-          option_and_then (λ (i : ℕ). slice_get (marks_in streams (map no_marks streams) k.from) i) o ≡ Some mark
+          option_and_then (λ (i : ℕ). slice_get (marks_in streams (map no_marks streams) k.from) i)
+          o ≡ Some mark
           → mark ≡ None) [
             | None ↦ λ h. absurd (none-some mark h)
             | Some i ↦ λ h. blank_marks streams k.from i mark h

@@ -1,6 +1,7 @@
--- A receive's link says which send or print has its count, so that only this one can differ from it.
-use Rattle.std.proofs.Common.{◌≡◌, ℕ, ◌||◌, Bool, false, cond, if◌then◌else◌, List, Option, None, Some}
-use Rattle.std.proofs.Common.{option_and_then, slice_get, refl, sym, ◌∙◌, ap, subst}
+-- A receive's link says which send or print has its count, so that only this one can differ from
+-- it.
+use Rattle.std.proofs.Common.{◌≡◌, ℕ, ◌||◌, Bool, false, cond, if◌then◌else◌, List, Option, None}
+use Rattle.std.proofs.Common.{Some, option_and_then, slice_get, refl, sym, ◌∙◌, ap, subst}
 use Rattle.std.proofs.lemmas.Option.{same_Some, none-some}
 use Rattle.st_core.specs.declared.types.Pid.{Pid}
 use Rattle.st_core.specs.declared.types.Kind.TheVariants as kind
@@ -35,7 +36,8 @@ module _ (streams : List Stream) (p : Pid) (e : Event) (q : Pid) (j : ℕ) where
               | Some at ↦ λ same. absurd (cc)
             ] given
         | kind.Receive ↦ λ is given. elim (stamp_of streams e.from e.serial.this)
-            as (λ o. stamp_of streams e.from e.serial.this ≡ o → received_link e.from o ≡ link.From q j
+            as (λ o. stamp_of streams e.from e.serial.this ≡ o
+            → received_link e.from o ≡ link.From q j
             → IsFrom streams e q j) [
               | None ↦ λ found same. absurd (cc)
               | Some f ↦ λ found same.
@@ -59,18 +61,21 @@ module _ (streams : List Stream) (p : Pid) (e : Event) (q : Pid) (j : ℕ) where
     pub not_absent : None ≡ slice_get (events_of streams q) j → ⊥
     not_absent none = none-some is.event (none ∙ there)
 
-    pub mismatch_is : (i : ℕ) (sent : Event) → Some sent ≡ slice_get (events_of streams q) j → (b : Bool)
+    pub mismatch_is : (i : ℕ) (sent : Event) → Some sent ≡ slice_get (events_of streams q) j
+        → (b : Bool)
         → b ≡ agrees sent e → mismatch streams p i e ≡ cond b None (Some (fault.Mismatch p i q j))
     mismatch_is i sent at b same =
         let found : is.event ≡ sent = same_Some is.event sent (sym there ∙ sym at) in
         ap (option_and_then (λ (f : ℕ × Event). if is_stamp e || agrees f.1 e then None
         else Some (fault.Mismatch p i e.from f.0))) is.sent
-        ∙ ap (λ (c : Bool). cond (c || agrees is.event e) None (Some (fault.Mismatch p i e.from j))) is.receives
+        ∙ ap (λ (c : Bool). cond (c || agrees is.event e) None (Some (fault.Mismatch p i e.from j)))
+        is.receives
         ∙ ap (λ (f : Event). cond (agrees f e) None (Some (fault.Mismatch p i e.from j))) found
         ∙ ap (λ (c : Bool). cond c None (Some (fault.Mismatch p i e.from j))) (sym same)
         ∙ ap (λ (x : Pid). cond b None (Some (fault.Mismatch p i x j))) is.from
 
 -- a send's link is the first receive that has its process and count
-pub linked_send : (streams : List Stream) (p : Pid) (e : Event) (o : Option (Pid × ℕ)) → e.kind ≡ kind.Send
+pub linked_send : (streams : List Stream) (p : Pid) (e : Event) (o : Option (Pid × ℕ))
+    → e.kind ≡ kind.Send
     → o ≡ receive_of streams p e.serial.this → sent_link o ≡ link_of streams p e
 linked_send streams p e o is found = rw is (ap sent_link found)

@@ -5,4 +5,5 @@ use Rattle.st_core.specs.declared.types.Pid.{Pid}
 use Rattle.st_core.specs.Pid.{pid_cmp}
 
 pub pid_total : IsTotalOrder pid_cmp
-pid_total = then_total (on_total (λ (p : Pid). p.node) nat_cmp_total) (on_total (λ (p : Pid). p.number) nat_cmp_total)
+pid_total = then_total (on_total (λ (p : Pid). p.node) nat_cmp_total)
+    (on_total (λ (p : Pid). p.number) nat_cmp_total)

@@ -1,7 +1,8 @@
--- A refusal is what one of the four rules gives at some event, so its reason says of that event and of the one that it
--- was compared with what the rule tests.
-use Rattle.std.proofs.Common.{◌≡◌, ℕ, ◌<◌, ◌≤◌, ◌==◌, ◌&&◌, ◌||◌, ◌⊎◌, zero, suc, nat_lt, Bool, true, false, not, cond}
-use Rattle.std.proofs.Common.{List, [], ◌∷◌, Some, None, inl, inr, refl, sym, subst, arith, if◌then◌else◌}
+-- A refusal is what one of the four rules gives at some event, so its reason says of that event and
+-- of the one that it was compared with what the rule tests.
+use Rattle.std.proofs.Common.{◌≡◌, ℕ, ◌<◌, ◌≤◌, ◌==◌, ◌&&◌, ◌||◌, ◌⊎◌, zero, suc, nat_lt, Bool}
+use Rattle.std.proofs.Common.{true, false, not, cond, List, [], ◌∷◌, Some, None, inl, inr, refl}
+use Rattle.std.proofs.Common.{sym, subst, arith, if◌then◌else◌}
 use Rattle.std.specs.List.{slice_get}
 use Rattle.std.proofs.lemmas.Bool.{ltb-false, false≢true}
 use Rattle.std.proofs.lemmas.Option.{same_Some, none-some, option_and_then_some}
@@ -14,18 +15,24 @@ use Rattle.st_core.proofs.ForCallers.{not_false}
 use Rattle.st_pair.specs.declared.answer.PairFault.{PairFault}
 use Rattle.st_pair.specs.declared.answer.PairFault.TheVariants as fault
 use Rattle.st_pair.specs.Places.{is_stamp, first, or_else}
-use Rattle.st_pair.specs.Pairing.{stamp_before, stamp_of, receive_of, agrees, prev_not_before, not_rising, repeated}
-use Rattle.st_pair.specs.Pairing.{mismatch, first_rule, refusal}
+use Rattle.st_pair.specs.Pairing.{stamp_before, stamp_of, receive_of, agrees, prev_not_before}
+use Rattle.st_pair.specs.Pairing.{not_rising, repeated, mismatch, first_rule, refusal}
 use Rattle.st_pair.proofs.AcceptedEvents.{Rule}
 use Rattle.st_pair.proofs.Converse.{some_unless}
 
 -- WHICH RULE DECIDED
 
-one_rule : (streams : List Stream) (rule : Rule PairFault) (rules : List (Rule PairFault)) (f : PairFault)
-    → first_rule streams (rule ∷ rules) ≡ Some f → (first rule streams ≡ Some f) ⊎ (first_rule streams rules ≡ Some f)
+one_rule : (streams : List Stream) (rule : Rule PairFault) (rules : List (Rule PairFault))
+    (f : PairFault)
+    → first_rule streams (rule ∷ rules) ≡ Some f → (first rule streams ≡ Some f)
+    ⊎ (first_rule streams rules ≡ Some f)
 one_rule streams rule rules f h = elim (first rule streams)
     as (λ given. or_else given (first_rule streams rules) ≡ Some f
-    → (given ≡ Some f) ⊎ (first_rule streams rules ≡ Some f)) [ None ↦ λ h. inr h | Some g ↦ λ h. inl h ] h
+    → (given ≡ Some f) ⊎ (first_rule streams rules ≡ Some f)) [
+      | None ↦ λ h. inr h
+      | Some g ↦
+          λ h. inl h
+    ] h
 
 pub data IsReason (streams : List Stream) (f : PairFault) : Type 0 where
   ByPrev : first prev_not_before streams ≡ Some f → IsReason streams f
@@ -33,7 +40,8 @@ pub data IsReason (streams : List Stream) (f : PairFault) : Type 0 where
   ByRepeated : first (repeated streams) streams ≡ Some f → IsReason streams f
   ByMismatch : first (mismatch streams) streams ≡ Some f → IsReason streams f
 
-pub reason_of : (streams : List Stream) (f : PairFault) → refusal streams ≡ Some f → IsReason streams f
+pub reason_of : (streams : List Stream) (f : PairFault) → refusal streams ≡ Some f
+    → IsReason streams f
 reason_of streams f h =
     let fourth = mismatch streams ∷ [] in
     let third = repeated streams ∷ fourth in
@@ -77,7 +85,8 @@ module _ (streams : List Stream) (p : Pid) (i : ℕ) (e : Event) (f : PairFault)
   pub rising_says : not_rising streams p i e ≡ Some f → SaysRising
   rising_says h =
       let test = λ (g : ℕ × Event). not (is_stamp e) || nat_lt g.1.serial.this e.serial.this in
-      option_and_then_some (λ (g : ℕ × Event). if test g then None else Some (fault.NotRising p i g.0))
+      option_and_then_some (λ (g : ℕ × Event).
+      if test g then None else Some (fault.NotRising p i g.0))
       (stamp_before (events_of streams p) i) f h (λ g is given.
       let parts = some_unless (test g) (fault.NotRising p i g.0) f given in
       let tests = neither (not (is_stamp e)) (nat_lt g.1.serial.this e.serial.this) parts.0 in
@@ -100,7 +109,8 @@ module _ (streams : List Stream) (p : Pid) (i : ℕ) (e : Event) (f : PairFault)
   repeated_says h =
       let here = λ (at : Pid × ℕ). pid_eq at.0 p && at.1 == i in
       option_and_then_some (λ (at : Pid × ℕ). if is_stamp e || here at then None
-      else Some (fault.Repeated p i at.0 at.1)) (receive_of streams e.from e.serial.this) f h (λ at is given.
+      else Some (fault.Repeated p i at.0 at.1)) (receive_of streams e.from e.serial.this) f h
+      (λ at is given.
       let parts = some_unless (is_stamp e || here at) (fault.Repeated p i at.0 at.1) f given in
       let tests = neither (is_stamp e) (here at) parts.0 in
       record { other = at; earlier = is; receives = tests.0; apart = tests.1; is = parts.1 })
@@ -115,8 +125,10 @@ module _ (streams : List Stream) (p : Pid) (i : ℕ) (e : Event) (f : PairFault)
   pub mismatch_says : mismatch streams p i e ≡ Some f → SaysMismatch
   mismatch_says h =
       option_and_then_some (λ (g : ℕ × Event). if is_stamp e || agrees g.1 e then None
-      else Some (fault.Mismatch p i e.from g.0)) (stamp_of streams e.from e.serial.this) f h (λ g is given.
-      let parts = some_unless (is_stamp e || agrees g.1 e) (fault.Mismatch p i e.from g.0) f given in
+      else Some (fault.Mismatch p i e.from g.0)) (stamp_of streams e.from e.serial.this) f h
+      (λ g is given.
+      let parts = some_unless (is_stamp e || agrees g.1 e) (fault.Mismatch p i e.from g.0) f
+      given in
       let tests = neither (is_stamp e) (agrees g.1 e) parts.0 in
       record { other = g; sent = is; receives = tests.0; differs = tests.1; is = parts.1 })
 
@@ -126,10 +138,12 @@ pub record IsStampBefore (es : List Event) (i : ℕ) (g : ℕ × Event) : Type 0
   pub at : slice_get es g.0 ≡ Some g.1
   pub stamps : is_stamp g.1 ≡ true
 
-later : (es : List Event) (i : ℕ) (g : ℕ × Event) → IsStampBefore es i g → IsStampBefore es (suc i) g
+later : (es : List Event) (i : ℕ) (g : ℕ × Event) → IsStampBefore es i g
+    → IsStampBefore es (suc i) g
 later es i g b = let below = b.below in record { below = omega arith; at = b.at; stamps = b.stamps }
 
-pub stamp_before_at : (es : List Event) (i : ℕ) (g : ℕ × Event) → stamp_before es i ≡ Some g → IsStampBefore es i g
+pub stamp_before_at : (es : List Event) (i : ℕ) (g : ℕ × Event) → stamp_before es i ≡ Some g
+    → IsStampBefore es i g
 stamp_before_at es zero g h = absurd (none-some g h)
 stamp_before_at es (suc i) g h =
     let rest = stamp_before es i in
@@ -138,7 +152,8 @@ stamp_before_at es (suc i) g h =
     → IsStampBefore es (suc i) g) [
       | None ↦ λ at h. later es i g (stamp_before_at es i g h)
       | Some e ↦ λ at h. elim (is_stamp e)
-          as (λ b. is_stamp e ≡ b → cond b (Some (i, e)) rest ≡ Some g → IsStampBefore es (suc i) g) [
+          as (λ b. is_stamp e ≡ b → cond b (Some (i, e)) rest ≡ Some g
+          → IsStampBefore es (suc i) g) [
             | true ↦ λ is h. subst (IsStampBefore es (suc i)) (same_Some (i, e) g h)
                 (record { below = omega arith; at = at; stamps = is })
             | false ↦ λ is h. later es i g (stamp_before_at es i g h)

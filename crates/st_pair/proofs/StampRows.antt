@@ -1,8 +1,9 @@
--- The sends and prints of a process as rows: the first with a count is the one that `stamp_of` finds, and since counts
--- rise it is the only one, so that a search by halves finds it.
-use Rattle.std.proofs.Common.{◌≡◌, ℕ, ◌+◌, ◌<◌, ◌==◌, ◌&&◌, zero, suc, ltb, Bool, true, false, cond, List, [], ◌∷◌}
-use Rattle.std.proofs.Common.{length, get_or, find, drop, ◌++◌, Option, None, Some, option_map, option_and_then}
-use Rattle.std.proofs.Common.{slice_get, refl, inl, inr, sym, ◌∙◌, ap, arith, append_assoc}
+-- The sends and prints of a process as rows: the first with a count is the one that `stamp_of`
+-- finds, and since counts rise it is the only one, so that a search by halves finds it.
+use Rattle.std.proofs.Common.{◌≡◌, ℕ, ◌+◌, ◌<◌, ◌==◌, ◌&&◌, zero, suc, ltb, Bool, true, false, cond}
+use Rattle.std.proofs.Common.{List, [], ◌∷◌, length, get_or, find, drop, ◌++◌, Option, None, Some}
+use Rattle.std.proofs.Common.{option_map, option_and_then, slice_get, refl, inl, inr, sym, ◌∙◌, ap}
+use Rattle.std.proofs.Common.{arith, append_assoc}
 use Rattle.std.specs.List.{AllByRecursion}
 use Rattle.std.specs.List.Sorted.{IsNonDecreasingBy, IsPartitionPoint}
 use Rattle.std.proofs.lemmas.Bool.{eqb-true, eq-eqb, ltb-true, ltb-false, cases_lt}
@@ -33,14 +34,16 @@ abbrev pub index_in : Option StampRow → Option ℕ
 index_in o = option_map (λ r. r.index) o
 
 pub row_index : (q : Pid) (this i : ℕ) (es : List Event)
-    → index_in (row_of this (stamp_rows i es)) ≡ option_map (λ f. f.0) (first_from (own_rule this) q i es)
+    → index_in (row_of this (stamp_rows i es))
+    ≡ option_map (λ f. f.0) (first_from (own_rule this) q i es)
 row_index q this i [] = refl
 row_index q this i (e ∷ es) =
     let row : StampRow = record { count = e.serial.this; index = i } in
     let rest = stamp_rows (i + 1) es in
     let later = first_from (own_rule this) q (i + 1) es in
     elim (is_stamp e) as (λ b. index_in (row_of this (cond b (row ∷ rest) rest))
-    ≡ option_map (λ (f : ℕ × Event). f.0) (or_else (cond (b && e.serial.this == this) (Some (i, e)) None) later)) [
+    ≡ option_map (λ (f : ℕ × Event). f.0)
+    (or_else (cond (b && e.serial.this == this) (Some (i, e)) None) later)) [
       | true ↦ elim (e.serial.this == this) as (λ b. index_in (cond b (Some row) (row_of this rest))
           ≡ option_map (λ (f : ℕ × Event). f.0) (or_else (cond b (Some (i, e)) None) later)) [
             | true ↦ refl
@@ -50,14 +53,19 @@ row_index q this i (e ∷ es) =
     ]
 
 -- the rows of the process at a place
-pub place_rows : (streams : List Stream) (rows : List (List StampRow)) (place : ℕ) (p : Pid) → AreStamps streams rows
-    → slice_get (pids_of streams) place ≡ Some p → slice_get rows place ≡ Some (stamp_rows 0 (events_of streams p))
+pub place_rows : (streams : List Stream) (rows : List (List StampRow)) (place : ℕ) (p : Pid)
+    → AreStamps streams rows
+    → slice_get (pids_of streams) place ≡ Some p
+    → slice_get rows place ≡ Some (stamp_rows 0 (events_of streams p))
 place_rows streams rows place p are at =
     let s = is_at streams place p are.pids at in
-    ap (λ (xs : List (List StampRow)). slice_get xs place) are.rows ∙ slice_get_map rows_in streams place
-    ∙ ap (option_map rows_in) s.at ∙ ap (λ (es : List Event). Some (stamp_rows 0 es)) (sym (ap events_in s.found))
+    ap (λ (xs : List (List StampRow)). slice_get xs place) are.rows ∙ slice_get_map rows_in streams
+    place
+    ∙ ap (option_map rows_in) s.at ∙ ap (λ (es : List Event). Some (stamp_rows 0 es))
+    (sym (ap events_in s.found))
 
-no_stream : (streams : List Stream) (p : Pid) → AllByRecursion (λ q. pid_eq q p ≡ false) (pids_of streams)
+no_stream : (streams : List Stream) (p : Pid)
+    → AllByRecursion (λ q. pid_eq q p ≡ false) (pids_of streams)
     → stream_of streams p ≡ None
 no_stream [] p all = refl
 no_stream (s ∷ streams) p all = ap (λ (b : Bool). cond b (Some s) (stream_of streams p)) all.0
@@ -68,18 +76,21 @@ pub no_stamp : (streams : List Stream) (p : Pid) (this : ℕ)
     → AllByRecursion (λ q. pid_eq q p ≡ false) (pids_of streams)
     → None ≡ option_map (λ f. f.0) (stamp_of streams p this)
 no_stamp streams p this all = sym (ap (λ (o : Option Stream).
-    option_map (λ (f : ℕ × Event). f.0) (first_from (own_rule this) p 0 (events_in o))) (no_stream streams p all))
+    option_map (λ (f : ℕ × Event). f.0) (first_from (own_rule this) p 0 (events_in o)))
+    (no_stream streams p all))
 
 -- a row at the end, or none
 rows-at : (i k : ℕ) (es : List Event) (e : Event) → slice_get es k ≡ Some e
     → stamp_rows i (drop k es) ≡ cond (is_stamp e) (record { count = e.serial.this; index = i }
     ∷ stamp_rows (i + 1) (drop (suc k) es)) (stamp_rows (i + 1) (drop (suc k) es))
 rows-at i k [] e at = absurd (none-some e at)
-rows-at i zero (d ∷ es) e at = ap (λ (x : Event). cond (is_stamp x) (record { count = x.serial.this; index = i }
+rows-at i zero (d ∷ es) e at =
+    ap (λ (x : Event). cond (is_stamp x) (record { count = x.serial.this; index = i }
     ∷ stamp_rows (i + 1) es) (stamp_rows (i + 1) es)) (same_Some d e at)
 rows-at i (suc k) (d ∷ es) e at = rows-at i k es e at
 
-rows-step : (i : ℕ) (es : List Event) (e : Event) → slice_get es i ≡ Some e → (b : Bool) → is_stamp e ≡ b
+rows-step : (i : ℕ) (es : List Event) (e : Event) → slice_get es i ≡ Some e → (b : Bool)
+    → is_stamp e ≡ b
     → stamp_rows i (drop i es) ≡ cond b (record { count = e.serial.this; index = i }
     ∷ stamp_rows (i + 1) (drop (i + 1) es)) (stamp_rows (i + 1) (drop (i + 1) es))
 rows-step i es e at b is =
@@ -89,11 +100,14 @@ rows-step i es e at b is =
 
 module _ (rows : List StampRow) (i : ℕ) (es : List Event) (e : Event) (at : slice_get es i ≡ Some e)
     (all : rows ++ stamp_rows i (drop i es) ≡ stamp_rows 0 es) where
-  pub row_passed : is_stamp e ≡ false → rows ++ stamp_rows (i + 1) (drop (i + 1) es) ≡ stamp_rows 0 es
-  row_passed receives = ap (λ (xs : List StampRow). rows ++ xs) (sym (rows-step i es e at false receives)) ∙ all
+  pub row_passed : is_stamp e ≡ false
+      → rows ++ stamp_rows (i + 1) (drop (i + 1) es) ≡ stamp_rows 0 es
+  row_passed receives = ap (λ (xs : List StampRow). rows ++ xs)
+      (sym (rows-step i es e at false receives)) ∙ all
 
   pub row_added : is_stamp e ≡ true
-      → (rows ++ record { count = e.serial.this; index = i } ∷ []) ++ stamp_rows (i + 1) (drop (i + 1) es)
+      → (rows ++ record { count = e.serial.this; index = i } ∷ [])
+      ++ stamp_rows (i + 1) (drop (i + 1) es)
       ≡ stamp_rows 0 es
   row_added stamps = append_assoc rows _ _
       ∙ ap (λ (xs : List StampRow). rows ++ xs) (sym (rows-step i es e at true stamps)) ∙ all
@@ -112,7 +126,8 @@ above n k (e ∷ es) h =
     let row : StampRow = record { count = e.serial.this; index = k } in
     let rest = stamp_rows (k + 1) es in
     let later = above n (k + 1) es (λ j f at. h (suc j) f at) in
-    elim (is_stamp e) as (λ b. is_stamp e ≡ b → AllByRecursion (λ s. n < s.count) (cond b (row ∷ rest) rest)) [
+    elim (is_stamp e) as (λ b. is_stamp e ≡ b
+    → AllByRecursion (λ s. n < s.count) (cond b (row ∷ rest) rest)) [
       | true ↦ λ is. (h 0 e refl is, later)
       | false ↦ λ is. later
     ] refl
@@ -122,10 +137,14 @@ rise_from k [] h = tt
 rise_from k (e ∷ es) h =
     let row : StampRow = record { count = e.serial.this; index = k } in
     let rest = stamp_rows (k + 1) es in
-    let later = rise_from (k + 1) es (λ j i d f less at_d at_f. h (suc j) (suc i) d f (omega arith) at_d at_f) in
+    let later = rise_from (k + 1) es
+    (λ j i d f less at_d at_f. h (suc j) (suc i) d f (omega arith) at_d at_f) in
     elim (is_stamp e) as (λ b. is_stamp e ≡ b → AreRising (cond b (row ∷ rest) rest)) [
-      | true ↦ λ is.
-          (above e.serial.this (k + 1) es (λ j f at stamps. h 0 (suc j) e f (omega arith) refl at is stamps), later)
+      | true ↦ λ is. (
+        above e.serial.this (k + 1) es
+            (λ j f at stamps. h 0 (suc j) e f (omega arith) refl at is stamps),
+        later,
+      )
       | false ↦ λ is. later
     ] refl
 
@@ -146,12 +165,15 @@ rows_up [] rising i j d le within = absurd (omega arith)
 rows_up (x ∷ rows) rising zero zero d le within = omega arith
 rows_up (x ∷ rows) rising zero (suc j) d le within =
     let at : j < length rows = omega arith in
-    let more : x.count < (get_or rows j d).count = All-from_recursion (λ s. x.count < s.count) rows rising.0 j d at in
+    let more : x.count < (get_or rows j d).count =
+    All-from_recursion (λ s. x.count < s.count) rows rising.0 j d at in
     omega arith
 rows_up (x ∷ rows) rising (suc i) zero d le within = absurd (omega arith)
-rows_up (x ∷ rows) rising (suc i) (suc j) d le within = rows_up rows rising.1 i j d (omega arith) (omega arith)
+rows_up (x ∷ rows) rising (suc i) (suc j) d le within =
+    rows_up rows rising.1 i j d (omega arith) (omega arith)
 
-find_at : (rows : List StampRow) (this n : ℕ) (r : StampRow) → AreRising rows → slice_get rows n ≡ Some r → r.count ≡ this
+find_at : (rows : List StampRow) (this n : ℕ) (r : StampRow) → AreRising rows
+    → slice_get rows n ≡ Some r → r.count ≡ this
     → row_of this rows ≡ Some r
 find_at [] this n r rising at is = absurd (none-some r at)
 find_at (x ∷ rows) this zero r rising at is =
@@ -168,7 +190,8 @@ find_at (x ∷ rows) this (suc n) r rising at is =
     ∙ find_at rows this n r rising.1 at is
 
 none_found : (rows : List StampRow) (this : ℕ)
-    → ((j : ℕ) (d : StampRow) → j < length rows → ((get_or rows j d).count == this) ≡ false) → row_of this rows ≡ None
+    → ((j : ℕ) (d : StampRow) → j < length rows → ((get_or rows j d).count == this) ≡ false)
+    → row_of this rows ≡ None
 none_found [] this apart = refl
 none_found (x ∷ rows) this apart =
     ap (λ (b : Bool). cond b (Some x) (row_of this rows)) (apart 0 x (omega arith))
@@ -185,11 +208,13 @@ under_is this x r h = elim (x.count == this)
 pub found_at : (rows : List StampRow) (this n : ℕ) (r : StampRow) → AreRising rows
     → Some r ≡ option_and_then (row_under this) (slice_get rows n) → Some r ≡ row_of this rows
 found_at rows this n r rising h = elim (slice_get rows n)
-    as (λ o. slice_get rows n ≡ o → Some r ≡ option_and_then (row_under this) o → Some r ≡ row_of this rows) [
+    as (λ o. slice_get rows n ≡ o → Some r ≡ option_and_then (row_under this) o
+    → Some r ≡ row_of this rows) [
       | None ↦ λ at given. absurd (none-some r (sym given))
       | Some x ↦ λ at given.
           let is = under_is this x r (sym given) in
-          sym (find_at rows this n r rising (at ∙ ap Some is.0) (sym (ap (λ (y : StampRow). y.count) is.0) ∙ is.1))
+          sym (find_at rows this n r rising (at ∙ ap Some is.0)
+          (sym (ap (λ (y : StampRow). y.count) is.0) ∙ is.1))
     ] refl h
 
 unequal : (this : ℕ) (x : StampRow) → None ≡ row_under this x → (x.count == this) ≡ false
@@ -209,7 +234,8 @@ none_at rows this n rising point h = sym (none_found rows this (λ j d within. e
   | inr behind ↦
       let at : n < length rows = omega arith in
       let there = at_get_or rows n d at in
-      let apart = unequal this (get_or rows n d) (h ∙ ap (option_and_then (row_under this)) there) in
+      let apart = unequal this (get_or rows n d)
+      (h ∙ ap (option_and_then (row_under this)) there) in
       let low = ltb-false (get_or rows n d).count this (point.1 n d (omega arith) at) in
       let up = rows_up rows rising n j d behind within in
       let more : this < (get_or rows j d).count = grind (arith, nat_tests) in

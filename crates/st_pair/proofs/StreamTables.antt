@@ -1,6 +1,7 @@
 -- A list of what is kept of each process, in the order of the streams: one process more, and what
 -- is read at a process's place.
-use Rattle.std.proofs.Common.{◌≡◌, ℕ, ◌+◌, ◌<◌, zero, suc, List, [], ◌∷◌, ◌++◌, length, map, take, drop, get_or, Bool}
+use Rattle.std.proofs.Common.{◌≡◌, ℕ, ◌+◌, ◌<◌, zero, suc, List, [], ◌∷◌, ◌++◌, length, map, take}
+use Rattle.std.proofs.Common.{drop, get_or, Bool}
 use Rattle.std.proofs.Common.{false, cond, Some, slice_get, refl, sym, ◌∙◌, ap, subst, arith}
 use Rattle.std.specs.List.{AllByRecursion}
 use Rattle.std.proofs.lemmas.Option.{same_Some}
@@ -12,8 +13,10 @@ use Rattle.st_core.specs.Streams.{events_of, stream_of}
 use Rattle.st_pair.proofs.Firsts.{is_at, at_get_or, events_in}
 use Rattle.st_pair.proofs.Linkage.{take_map}
 
-pub process_passed : {A : Type 0} (f : List Event → A) (streams : List Stream) (pids : List Pid) (k : ℕ) (d : Pid)
-    (es : List Event) (before : List A) (x : A) → IsRising (pids_of streams) → pids ≡ pids_of streams
+pub process_passed : {A : Type 0} (f : List Event → A) (streams : List Stream) (pids : List Pid)
+    (k : ℕ) (d : Pid)
+    (es : List Event) (before : List A) (x : A) → IsRising (pids_of streams)
+    → pids ≡ pids_of streams
     → k < length pids → es ≡ events_of streams (get_or pids k d) → x ≡ f es
     → before ≡ map (λ s. f s.events) (take k streams)
     → before ++ x ∷ [] ≡ map (λ s. f s.events) (take (k + 1) streams)
@@ -28,14 +31,17 @@ process_passed {A} f streams pids k d es before x rising are within events is fa
     ∙ sym (take_map (λ (t : Stream). f t.events) streams k s.stream s.at)
     ∙ ap (λ (n : ℕ). map (λ (t : Stream). f t.events) (take n streams)) next
 
-get_or_map : {A B : Type 0} (f : A → B) (xs : List A) (k : ℕ) (x : A) (d : B) → slice_get xs k ≡ Some x
+get_or_map : {A B : Type 0} (f : A → B) (xs : List A) (k : ℕ) (x : A) (d : B)
+    → slice_get xs k ≡ Some x
     → get_or (map f xs) k d ≡ f x
 get_or_map f [] k x d at = absurd (cc)
 get_or_map f (y ∷ xs) zero x d at = ap f (same_Some y x at)
 get_or_map f (y ∷ xs) (suc k) x d at = get_or_map f xs k x d at
 
-pub process_read : {A : Type 0} (f : List Event → A) (streams : List Stream) (p : Pid) (k : ℕ) (kept : List A) (read : A)
-    → IsRising (pids_of streams) → kept ≡ map (λ s. f s.events) streams → slice_get (pids_of streams) k ≡ Some p
+pub process_read : {A : Type 0} (f : List Event → A) (streams : List Stream) (p : Pid) (k : ℕ)
+    (kept : List A) (read : A)
+    → IsRising (pids_of streams) → kept ≡ map (λ s. f s.events) streams
+    → slice_get (pids_of streams) k ≡ Some p
     → read ≡ get_or kept k read → read ≡ f (events_of streams p)
 process_read {A} f streams p k kept read rising are at is =
     let s = is_at streams k p rising at in
@@ -67,5 +73,6 @@ drop_next (y ∷ xs) (suc k) x at = drop_next xs k x at
 pub missing_events : (streams : List Stream) (p : Pid)
     → AllByRecursion (λ (q : Pid). pid_eq q p ≡ false) (pids_of streams) → events_of streams p ≡ []
 missing_events [] p all = refl
-missing_events (x ∷ streams) p all = ap (λ (b : Bool). events_in (cond b (Some x) (stream_of streams p))) all.0
+missing_events (x ∷ streams) p all =
+    ap (λ (b : Bool). events_in (cond b (Some x) (stream_of streams p))) all.0
     ∙ missing_events streams p all.1

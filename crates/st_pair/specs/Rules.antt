@@ -1,5 +1,6 @@
 -- Rules as the parts look for them.
-use Rattle.std.specs.Prelude.{◌≡◌, ℕ, ◌==◌, ◌&&◌, List, Option, Some, None, option_map, if◌then◌else◌}
+use Rattle.std.specs.Prelude.{◌≡◌, ℕ, ◌==◌, ◌&&◌, List, Option, Some, None, option_map}
+use Rattle.std.specs.Prelude.{if◌then◌else◌}
 use Rattle.st_core.specs.declared.types.Pid.{Pid}
 use Rattle.st_core.specs.declared.types.Event.{Event}
 use Rattle.st_core.specs.Pid.{pid_eq}
@@ -17,7 +18,8 @@ fault_at rule.NotRising streams = not_rising streams
 
 -- what `repeated` gives at a receive, if this is the first one with its sender and count
 abbrev pub repeated_by : Pid × ℕ → Pid → ℕ → Option PairFault
-repeated_by at p i = if pid_eq at.0 p && at.1 == i then None else Some (fault.Repeated p i at.0 at.1)
+repeated_by at p i = if pid_eq at.0 p && at.1 == i then None else Some
+    (fault.Repeated p i at.0 at.1)
 
 -- a rule gives this first, or memory ran out
 abbrev pub IsFirstFault : Option PairFault → PairFault → Type 0

@@ -1,7 +1,8 @@
 -- The tables of pairing: the first receive from each sender with each count, and the sends and
 -- prints of each process.
 use Rattle.std.specs.Prelude.{◌≡◌, ℕ, ◌+◌, ◌<◌, ◌==◌, ◌&&◌, Bool, List, [], ◌∷◌, Option, Some, None}
-use Rattle.std.specs.Prelude.{if◌then◌else◌, length, map, replicate, option_and_then, option_map, slice_get}
+use Rattle.std.specs.Prelude.{if◌then◌else◌, length, map, replicate, option_and_then, option_map}
+use Rattle.std.specs.Prelude.{slice_get}
 use Rattle.std.specs.List.{AllByRecursion}
 use Rattle.indexmap.specs.IndexMap.{get}
 use Rattle.st_core.specs.declared.types.Pid.{Pid}
@@ -36,7 +37,8 @@ no_marks s = replicate (length s.events) None
 abbrev pub marks_in : List Stream → List (List (Option (Pid × ℕ))) → Pid → List (Option (Pid × ℕ))
 marks_in [] lists p = []
 marks_in (s ∷ streams) [] p = []
-marks_in (s ∷ streams) (marks ∷ lists) p = if pid_eq s.pid p then marks else marks_in streams lists p
+marks_in (s ∷ streams) (marks ∷ lists) p =
+    if pid_eq s.pid p then marks else marks_in streams lists p
 
 -- what is noted of the send or print that has this sender and this count, if it was reported
 abbrev pub mark_of : List Stream → List (List (Option (Pid × ℕ))) → Key → Option (Option (Pid × ℕ))

@@ -3,7 +3,8 @@
 ghost use Rattle.std.specs.Prelude.{◌≡◌, List};
 ghost use Rattle.st_core.specs.Run.{Stream};
 ghost use Rattle.st_pair.specs.Links.{IsPairing};
-ghost use Rattle.st_pair.specs.Rows.{partner_of, partner_of_receive, partner_of_send, place_of_partner};
+ghost use Rattle.st_pair.specs.Rows.{partner_of, partner_of_receive, partner_of_send};
+ghost use Rattle.st_pair.specs.Rows.{place_of_partner};
 
 use crate::answer::Source;
 use crate::pairing::Pairing;

@@ -4,8 +4,8 @@
 //! hidden sends are in a map, by the sender and the count. Whoever writes the streams chooses both,
 //! so the map's hashes begin with a digest of all its keys.
 
-ghost use Rattle.std.specs.Prelude.{◌≡◌, ℕ, ◌<◌, Option, None, Some, IfOk, IfErr, IfNone, IfSome, OnOk};
-ghost use Rattle.std.specs.Prelude.{length, map, slice_get, slice_index_or, slice_set};
+ghost use Rattle.std.specs.Prelude.{◌≡◌, ℕ, ◌<◌, Option, None, Some, IfOk, IfErr, IfNone, IfSome};
+ghost use Rattle.std.specs.Prelude.{OnOk, length, map, slice_get, slice_index_or, slice_set};
 ghost use Rattle.st_core.specs.declared.types.Pid.{Pid as PidValue};
 ghost use Rattle.st_core.specs.Pid.{IsRising};
 ghost use Rattle.st_core.specs.Run.{pids_of};

@@ -20,7 +20,8 @@ use Rattle.st_plan.specs.Moves.{Move, move_by, is_taking, clock}
 use Rattle.st_plan.specs.Plain.{event_count}
 use Rattle.st_plan.proofs.FreeMoves.{AllAlong, IsInTurn}
 use Rattle.st_plan.proofs.EarlierMoves.{clock_below, IsAt, IsKeyBelow}
-use Rattle.st_plan.proofs.RisingStamps.{height_is, height_more, height_of, rank_of, this_below, IsTop, Stamps}
+use Rattle.st_plan.proofs.RisingStamps.{height_is, height_more, height_of, rank_of, this_below}
+use Rattle.st_plan.proofs.RisingStamps.{IsTop, Stamps}
 
 abbrev pub IsBelow : List Stream → Move → Move → Type 0
 IsBelow streams m y = IsKeyBelow (key_by streams y.item y.event) (key_by streams m.item m.event)

@@ -20,7 +20,8 @@ use Rattle.st_core.proofs.ForCallers.{all_at, pid_cmp-same, pid_same, nat_cmp-sa
 use Rattle.st_pair.specs.Places.{event_at}
 use Rattle.st_order.specs.declared.item.Item.{Item}
 use Rattle.st_order.specs.declared.item.Item.TheVariants as item
-use Rattle.st_order.specs.Items.{event_of, height, is_hidden, items, items_among, items_at, items_from}
+use Rattle.st_order.specs.Items.{event_of, height, is_hidden, items, items_among, items_at}
+use Rattle.st_order.specs.Items.{items_from}
 use Rattle.st_order.specs.Order.{comes_before, Key, key, key_by, key_cmp, IsOrder, KeysRise}
 use Rattle.st_order.proofs.ForCallers.{all_found, among_all, comes_before_is, drop_front, members}
 use Rattle.st_order.proofs.ForCallers.{tallest_has, Among, AreFound}

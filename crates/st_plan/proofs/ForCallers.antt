@@ -3,18 +3,20 @@
 -- acts before a stamp do, and on streams that tell all.
 
 -- ---- the moves along an order
-pub use Rattle.st_plan.proofs.EarlierMoves.{take_more, moves_append, moves_by, one_move, earlier_more, order_there}
-pub use Rattle.st_plan.proofs.EarlierMoves.{hidden_clock, IsAt, IsThere}
+pub use Rattle.st_plan.proofs.EarlierMoves.{take_more, moves_append, moves_by, one_move}
+pub use Rattle.st_plan.proofs.EarlierMoves.{earlier_more, order_there, hidden_clock, IsAt, IsThere}
 pub use Rattle.st_plan.proofs.OrderedMoves.{item_is}
 -- ---- acts as steps of the machine
-pub use Rattle.st_plan.proofs.OwnActs.{run_append, state_append, lifted, stream_silent, Lifted, Silent}
+pub use Rattle.st_plan.proofs.OwnActs.{run_append, state_append, lifted, stream_silent, Lifted}
+pub use Rattle.st_plan.proofs.OwnActs.{Silent}
 pub use Rattle.st_plan.proofs.Receives.{pick_at}
 -- ---- what the moves say of the machine, from the first acts on
 pub use Rattle.st_plan.proofs.KeptState.{IsKept, IsSo}
 pub use Rattle.st_plan.proofs.Tracers.{opens, IsOpened}
 pub use Rattle.st_plan.proofs.BuiltActs.{stream_append}
 -- ---- what holds at each move of settled streams
-pub use Rattle.st_plan.proofs.SettledStreams.{goes_on, in_turn_at, caused_at, clock_at, tells_told_events}
+pub use Rattle.st_plan.proofs.SettledStreams.{goes_on, in_turn_at, caused_at, clock_at}
+pub use Rattle.st_plan.proofs.SettledStreams.{tells_told_events}
 pub use Rattle.st_plan.proofs.SettledStreams.{told_pids, tells_only, settled_is_shown}
 pub use Rattle.st_plan.proofs.PlainStreams.{only_whole, plain_is_shown, told_whole}
 pub use Rattle.st_plan.proofs.Wholes.{told_of_whole, completion_is_shown}

@@ -1,7 +1,8 @@
 -- A full run has such streams: pairing accepts them, each stamp goes on from the events
 -- before it, no send is hidden, and each count is one that a clock has had.
 use Rattle.std.proofs.Common.{◌≡◌, ℕ, ◌+◌, ◌≤◌, ◌==◌, ◌&&◌, Bool, true, false, cond, List, [], take}
-use Rattle.std.proofs.Common.{Some, None, slice_get, option_and_then, refl, sym, ◌∙◌, ap, subst, arith}
+use Rattle.std.proofs.Common.{Some, None, slice_get, option_and_then, refl, sym, ◌∙◌, ap, subst}
+use Rattle.std.proofs.Common.{arith}
 use Rattle.std.specs.List.{All}
 use Rattle.std.proofs.lemmas.Bool.{eqb-true, false≢true, and_parts}
 use Rattle.std.proofs.lemmas.Option.{none-some, same_Some}
@@ -12,14 +13,16 @@ use Rattle.st_core.specs.State.{State, process, zero_state}
 use Rattle.st_core.specs.Step.{Outcome}
 use Rattle.st_core.specs.Run.{Stream, Shows, pids_of, stream}
 use Rattle.st_core.specs.Streams.{events_of}
-use Rattle.st_core.specs.Laws.{clock_in, GoesOnFrom, IsSound, KeepsSound, NoReset, ReportsEverything}
+use Rattle.st_core.specs.Laws.{clock_in, GoesOnFrom, IsSound, KeepsSound, NoReset}
+use Rattle.st_core.specs.Laws.{ReportsEverything}
 use Rattle.st_core.proofs.ForCallers.{All_at, event_reported, process_holds}
 use Rattle.st_core.proofs.ForCallers.{reported_stamps_lift, run_sound, tell_counts}
 use Rattle.st_pair.specs.declared.answer.Source.{Source}
 use Rattle.st_pair.specs.declared.answer.Source.TheVariants as source
 use Rattle.st_pair.specs.Places.{event_at, is_stamp}
 use Rattle.st_pair.specs.Pairing.{source_of, stamp_of}
-use Rattle.st_pair.proofs.ForCallers.{AreShown, given_from, listed_if, own_rule, send_shown, shown_accepted}
+use Rattle.st_pair.proofs.ForCallers.{AreShown, given_from, listed_if, own_rule, send_shown}
+use Rattle.st_pair.proofs.ForCallers.{shown_accepted}
 use Rattle.st_pair.proofs.ForCallers.{shown_events, source_by, source_from, stamp_not_received}
 use Rattle.st_order.specs.Items.{is_hidden}
 use Rattle.st_plan.specs.Full.{IsFull}
@@ -29,7 +32,8 @@ events_shown : (streams : List Stream) (acts : List Act) (os : List Outcome) (p 
     (e : Event)
     → AreShown streams acts os → event_at streams p i ≡ Some e
     → stream acts os p ≡ events_of streams p
-events_shown streams acts os p i e shown at = sym (shown_events streams acts os p shown (listed_if streams p i e at))
+events_shown streams acts os p i e shown at =
+    sym (shown_events streams acts os p shown (listed_if streams p i e at))
 
 clock_within : (top : ℕ) (s : State) (p : Pid) → All (IsSound top) s → clock_in s p ≤ top
 clock_within top s p all = elim (process s p) as (λ o. process s p ≡ o

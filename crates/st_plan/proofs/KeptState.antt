@@ -1,9 +1,10 @@
 -- The moves follow the machine, tokens aside: after the acts of the moves so far each process
 -- has the clock and the last count that they leave it, and in its queue the messages that they sent
 -- to it and didn't take.
-use Rattle.std.proofs.Common.{◌≡◌, ℕ, ◌<◌, ◌≤◌, ◌&&◌, ◌⊎◌, max, nat_lt, Bool, true, false, not, ◌==◌, cond, List, []}
-use Rattle.std.proofs.Common.{◌∷◌, ◌++◌, Option, Some, None, is_some, option_map, option_to_list, inl, inr, refl, sym}
-use Rattle.std.proofs.Common.{◌∙◌, ap, subst, arith, if◌then◌else◌}
+use Rattle.std.proofs.Common.{◌≡◌, ℕ, ◌<◌, ◌≤◌, ◌&&◌, ◌⊎◌, max, nat_lt, Bool, true, false, not}
+use Rattle.std.proofs.Common.{◌==◌, cond, List, [], ◌∷◌, ◌++◌, Option, Some, None, is_some}
+use Rattle.std.proofs.Common.{option_map, option_to_list, inl, inr, refl, sym, ◌∙◌, ap, subst}
+use Rattle.std.proofs.Common.{arith, if◌then◌else◌}
 use Rattle.std.specs.List.{remove, position}
 use Rattle.std.specs.Option.{option_map_or}
 use Rattle.std.proofs.lemmas.Bool.{eqb-true, ltb-false, false≢true}
@@ -20,7 +21,8 @@ use Rattle.st_core.specs.Report.{report}
 use Rattle.st_core.specs.Step.{actor, changed, outcome_of, reached, Acted, Outcome}
 use Rattle.st_core.specs.Run.{Stream, run_from, stream}
 use Rattle.st_core.specs.Streams.{lists}
-use Rattle.st_core.proofs.ForCallers.{mapped, pid_same, pid_eq-refl, process_pid, run_parts, pid_eq-swap}
+use Rattle.st_core.proofs.ForCallers.{mapped, pid_same, pid_eq-refl, process_pid, run_parts}
+use Rattle.st_core.proofs.ForCallers.{pid_eq-swap}
 use Rattle.st_mail.specs.Mail.{bears_stamp}
 use Rattle.st_order.specs.declared.item.Item.{Item}
 use Rattle.st_order.specs.declared.item.Item.TheVariants as item

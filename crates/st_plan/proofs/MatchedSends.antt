@@ -1,6 +1,7 @@
 -- An accepting pairing clears a receive of the moves before it: none took its message, since
 -- no other receive has its sender and count, and its sender's stamp with its count is its send.
-use Rattle.std.proofs.Common.{◌≡◌, ℕ, ◌==◌, ◌&&◌, ◌||◌, Bool, true, false, not, List, [], ◌∷◌, Some, None}
+use Rattle.std.proofs.Common.{◌≡◌, ℕ, ◌==◌, ◌&&◌, ◌||◌, Bool, true, false, not, List, [], ◌∷◌, Some}
+use Rattle.std.proofs.Common.{None}
 use Rattle.std.proofs.Common.{option_and_then, refl, sym, ◌∙◌, ap, subst, arith, if◌then◌else◌}
 use Rattle.std.specs.List.{AllByRecursion}
 use Rattle.std.proofs.lemmas.Bool.{eqb-true, false≢true, and_parts}
@@ -13,7 +14,8 @@ use Rattle.st_core.proofs.ForCallers.{pid_same, not_true}
 use Rattle.st_pair.specs.declared.answer.PairFault.TheVariants as fault
 use Rattle.st_pair.specs.Places.{event_at, is_stamp}
 use Rattle.st_pair.specs.Pairing.{stamp_of, receive_of, agrees, mismatch}
-use Rattle.st_pair.proofs.ForCallers.{agreed, cond_none, event_none, IsAgreed, IsPaired, once_place, stamp_once}
+use Rattle.st_pair.proofs.ForCallers.{agreed, cond_none, event_none, IsAgreed, IsPaired, once_place}
+use Rattle.st_pair.proofs.ForCallers.{stamp_once}
 use Rattle.st_order.specs.declared.item.Item.{Item}
 use Rattle.st_order.specs.declared.item.Item.TheVariants as item
 use Rattle.st_order.specs.Order.{key_by}

@@ -19,7 +19,8 @@ use Rattle.st_order.specs.Order.{key_by, key, comes_before, KeysRise}
 use Rattle.st_order.proofs.ForCallers.{comes_before_is}
 use Rattle.st_plan.specs.Marks.{Marks}
 use Rattle.st_plan.specs.Moves.{Move, move_by, moves, is_taking, clock}
-use Rattle.st_plan.proofs.EarlierMoves.{event_is, key_below, one_move, there_event, IsAt, IsKeyBelow, IsThere}
+use Rattle.st_plan.proofs.EarlierMoves.{event_is, key_below, one_move, there_event, IsAt}
+use Rattle.st_plan.proofs.EarlierMoves.{IsKeyBelow, IsThere}
 use Rattle.st_plan.proofs.FreeMoves.{AllAlong, IsInTurn}
 use Rattle.st_plan.proofs.Receives.{IsWaiting}
 use Rattle.st_plan.proofs.RisingStamps.{IsTop}
@@ -184,7 +185,9 @@ source_came streams earlier p i e xs at receive rise covers source =
       | inr (suc n, there) ↦
           let before = all_at (λ z. comes_before streams (item.Reported p i) z
           ≡ true) xs n source.thing rise.0 there in
-          absurd (source.before (before_below streams (item.Reported p i) source.thing e source.event at
+          absurd
+          (source.before (before_below streams (item.Reported p i) source.thing e source.event
+          at
           (there_event streams source.thing source.event source.at) before))
     ]
 

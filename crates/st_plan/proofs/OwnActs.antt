@@ -1,5 +1,6 @@
 -- Acts of one process's own as steps of the whole machine.
-use Rattle.std.proofs.Common.{◌≡◌, ℕ, true, false, cond, List, [], ◌∷◌, ◌++◌, Option, Some, None, option_map}
+use Rattle.std.proofs.Common.{◌≡◌, ℕ, true, false, cond, List, [], ◌∷◌, ◌++◌, Option, Some, None}
+use Rattle.std.proofs.Common.{option_map}
 use Rattle.std.proofs.Common.{option_and_then, option_to_list, refl, sym, ◌∙◌, ap, subst}
 use Rattle.std.specs.List.{AllByRecursion}
 use Rattle.std.proofs.lemmas.Option.{same_Some, none-some}
@@ -8,9 +9,11 @@ use Rattle.st_core.specs.declared.types.Act.{Act}
 use Rattle.st_core.specs.declared.types.Act.TheVariants as act
 use Rattle.st_core.specs.Pid.{pid_eq}
 use Rattle.st_core.specs.State.{LocalState, Process, State, process}
-use Rattle.st_core.specs.Step.{Acted, Outcome, acted, actor, receiver, touches, reached, changed, outcome_of, step}
+use Rattle.st_core.specs.Step.{Acted, Outcome, acted, actor, receiver, touches, reached, changed}
+use Rattle.st_core.specs.Step.{outcome_of, step}
 use Rattle.st_core.specs.Run.{run_from, stream}
-use Rattle.st_core.proofs.ForCallers.{changed_pid, changed_untouched, pid_eq-refl, process_pid, process-map, step_done}
+use Rattle.st_core.proofs.ForCallers.{changed_pid, changed_untouched, pid_eq-refl, process_pid}
+use Rattle.st_core.proofs.ForCallers.{process-map, step_done}
 use Rattle.st_plan.specs.Build.{state_after}
 use Rattle.st_plan.proofs.Readiness.{is_alone, QuietRun}
 

@@ -106,7 +106,8 @@ module _ (top : ℕ) (streams : List Stream) (rising : IsRising (pids_of streams
       → IsNext earlier m
   along earlier m later split =
       at_each streams rising full.reported (stamps_lead top streams full) xs order IsNext
-      (λ p i e before after. at_move streams p i e before after (full.goes_on p)) earlier m later split
+      (λ p i e before after. at_move streams p i e before after (full.goes_on p)) earlier m later
+      split
 
   no_skips : (earlier later : List Move) → moves streams xs ≡ reverse earlier ++ later
       → skips earlier ≡ 0

@@ -277,7 +277,8 @@ brought : (top : ℕ) (p : Pid) (l : LocalState) (n : Label) (prev : ℕ) → l.
     ++ silent_prints p (prev - l.clock) else []) prev
 brought top p l n prev least within =
     elim (nat_lt l.clock prev) as (λ b. nat_lt l.clock prev ≡ b
-    → Brings top p l (cond b (dress p l.token n quiet ++ silent_prints p (prev - l.clock)) []) prev) [
+    → Brings top p l (cond b (dress p l.token n quiet ++ silent_prints p (prev - l.clock)) [])
+    prev) [
       | true ↦ λ e.
           let less = ltb-true l.clock prev e in
           let one = dressed top p l l.token n quiet refl in

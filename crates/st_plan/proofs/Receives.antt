@@ -27,7 +27,8 @@ use Rattle.st_plan.specs.Marks.{Marks}
 use Rattle.st_plan.specs.Moves.{Move, is_taking, clock, last, move_by}
 use Rattle.st_plan.specs.Build.{act_of}
 use Rattle.st_plan.proofs.OwnActs.{changed_own}
-use Rattle.st_plan.proofs.KeptState.{queue_of, IsSo, IsKept, is_told, told_event, Continues, found, apart_from}
+use Rattle.st_plan.proofs.KeptState.{queue_of, IsSo, IsKept, is_told, told_event, Continues, found}
+use Rattle.st_plan.proofs.KeptState.{apart_from}
 use Rattle.st_plan.proofs.KeptState.{step_keeps, other_clock, other_last, taken_queue, told_last}
 
 pick_place : (n k : ℕ) (queue : List Message) (x : Message) → slice_get queue k ≡ Some x
@@ -77,7 +78,8 @@ taken_by r m = option_map (λ k. act.Receive m.who (want.Place k))
     (position (λ x. bears_stamp m.event.from m.event.serial.this x.token) r.queue)
 
 -- the message at its place is what the receive takes
-taken_message : (top : ℕ) (streams : List Stream) (marks : Marks) (earlier : List Move) (r : Process)
+taken_message : (top : ℕ) (streams : List Stream) (marks : Marks) (earlier : List Move)
+    (r : Process)
     (m : Move)
     → IsSo streams marks earlier m.who r → (w : IsWaiting streams marks earlier m)
     → acted top r (act.Receive m.who (want.Place w.place))

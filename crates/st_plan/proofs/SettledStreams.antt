@@ -26,7 +26,8 @@ use Rattle.st_plan.proofs.KeptState.{IsKept}
 use Rattle.st_plan.proofs.FreeMoves.{along_at, settled_free, AllAlong, IsFree, IsInTurn}
 use Rattle.st_plan.proofs.BuiltActs.{construction_shows, Serves}
 use Rattle.st_plan.proofs.Clocks.{IsNext}
-use Rattle.st_plan.proofs.OrderedMoves.{item_is, next_along, orderly, AreInTurn, AreThere, IsClockBelow, IsOrderly}
+use Rattle.st_plan.proofs.OrderedMoves.{item_is, next_along, orderly, AreInTurn, AreThere}
+use Rattle.st_plan.proofs.OrderedMoves.{IsClockBelow, IsOrderly}
 use Rattle.st_plan.proofs.NextMoves.{serves_along}
 use Rattle.st_plan.proofs.ProperEvents.{are_proper}
 use Rattle.st_plan.proofs.ToldMoves.{tells_all, AreMoved}

@@ -8,5 +8,7 @@ last_print : (p : Pid) (n : ℕ) → silent_prints p (suc n) ≡ silent_prints p
 last_print p zero = refl
 last_print p (suc n) = ap (λ acts. act.Print p 0 ∷ acts) (last_print p n)
 
-pub silent_more : (p : Pid) (n : ℕ) → silent_prints p (n + 1) ≡ silent_prints p n ++ act.Print p 0 ∷ []
-silent_more p n = let next : n + 1 ≡ suc n = omega arith in ap (silent_prints p) next ∙ last_print p n
+pub silent_more : (p : Pid) (n : ℕ)
+    → silent_prints p (n + 1) ≡ silent_prints p n ++ act.Print p 0 ∷ []
+silent_more p n = let next : n + 1 ≡ suc n = omega arith in
+    ap (silent_prints p) next ∙ last_print p n

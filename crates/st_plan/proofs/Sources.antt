@@ -1,7 +1,8 @@
 -- A receive's message is of its source, a hidden send or its sender's stamp with its count, which
 -- has a lower key: it is a send, and at most as high. And each send that came with its sender and
 -- count gives its event.
-use Rattle.std.proofs.Common.{◌≡◌, ℕ, suc, ◌+◌, ◌==◌, ◌&&◌, max, Bool, true, false, not, cond, List, Option, Some, None}
+use Rattle.std.proofs.Common.{◌≡◌, ℕ, suc, ◌+◌, ◌==◌, ◌&&◌, max, Bool, true, false, not, cond, List}
+use Rattle.std.proofs.Common.{Option, Some, None}
 use Rattle.std.proofs.Common.{option_and_then, refl, sym, ◌∙◌, ap, subst, arith, if◌then◌else◌}
 use Rattle.std.specs.List.{slice_get, AllByRecursion}
 use Rattle.std.specs.Option.{option_map_or}
@@ -29,7 +30,8 @@ use Rattle.st_plan.specs.Moves.{Move, move_by}
 use Rattle.st_plan.specs.Build.{quiet}
 use Rattle.st_plan.proofs.Receives.{IsWaiting}
 use Rattle.st_plan.proofs.EarlierMoves.{IsAt, IsKeyBelow}
-use Rattle.st_plan.proofs.RisingStamps.{height_is, height_more, height_of, hidden_by, rank_of, source_by, IsTop}
+use Rattle.st_plan.proofs.RisingStamps.{height_is, height_more, height_of, hidden_by, rank_of}
+use Rattle.st_plan.proofs.RisingStamps.{source_by, IsTop}
 use Rattle.st_plan.proofs.Clocks.{HasCome, IsBelow}
 use Rattle.st_plan.proofs.WaitingMessages.{is_waiting, Fits, IsSendTo}
 use Rattle.st_plan.proofs.MatchedSends.{matched_send, same_place, untaken}

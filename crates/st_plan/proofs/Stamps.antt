@@ -1,7 +1,8 @@
 -- A stamp keeps the invariant: the acts before it leave its process ready, and then its act stamps
 -- the move's serial, so that it reports the move's event and queues its message.
-use Rattle.std.proofs.Common.{◌≡◌, ℕ, ◌+◌, ◌<◌, ◌≤◌, ◌⊎◌, Bool, true, false, cond, List, [], ◌∷◌, ◌++◌, Option, Some}
-use Rattle.std.proofs.Common.{None, is_some, inl, inr, refl, sym, ◌∙◌, ap, subst, arith, option_to_list, if◌then◌else◌}
+use Rattle.std.proofs.Common.{◌≡◌, ℕ, ◌+◌, ◌<◌, ◌≤◌, ◌⊎◌, Bool, true, false, cond, List, [], ◌∷◌}
+use Rattle.std.proofs.Common.{◌++◌, Option, Some, None, is_some, inl, inr, refl, sym, ◌∙◌, ap}
+use Rattle.std.proofs.Common.{subst, arith, option_to_list, if◌then◌else◌}
 use Rattle.std.proofs.lemmas.Bool.{lt-ltb}
 use Rattle.st_core.specs.declared.types.Pid.{Pid}
 use Rattle.st_core.specs.declared.types.Token.{Token}
@@ -10,7 +11,8 @@ use Rattle.st_core.specs.declared.types.Kind.{Kind}
 use Rattle.st_core.specs.declared.types.Kind.TheVariants as kind
 use Rattle.st_core.specs.declared.types.Event.{Event}
 use Rattle.st_core.specs.declared.types.Reply.TheVariants as reply
-use Rattle.st_core.specs.Step.{actor, answers, receiver, Acted, acted, reached, changed, outcome_of, step}
+use Rattle.st_core.specs.Step.{actor, answers, receiver, Acted, acted, reached, changed, outcome_of}
+use Rattle.st_core.specs.Step.{step}
 use Rattle.st_core.specs.Run.{stream, Stream}
 use Rattle.st_core.specs.declared.types.Act.{Act}
 use Rattle.st_core.specs.declared.types.Act.TheVariants as act
@@ -25,9 +27,10 @@ use Rattle.st_plan.specs.Plain.{told_of_move}
 use Rattle.st_plan.specs.Moves.{Move, is_taking, clock, move_by}
 use Rattle.st_plan.specs.Reasons.{uncaused}
 use Rattle.st_plan.specs.Build.{ready, flags_of, act_of, state_after, start_of}
-use Rattle.st_plan.proofs.KeptState.{step_keeps, token_of, message_of, sends_to, queue_of, IsSo, IsKept, told_event}
-use Rattle.st_plan.proofs.KeptState.{Continues, found, still_there, caused, own_clock, own_last, other_clock}
-use Rattle.st_plan.proofs.KeptState.{other_last, stamp_queue, stream_last, told_last}
+use Rattle.st_plan.proofs.KeptState.{step_keeps, token_of, message_of, sends_to, queue_of, IsSo}
+use Rattle.st_plan.proofs.KeptState.{IsKept, told_event, Continues, found, still_there, caused}
+use Rattle.st_plan.proofs.KeptState.{own_clock, own_last, other_clock, other_last, stamp_queue}
+use Rattle.st_plan.proofs.KeptState.{stream_last, told_last}
 use Rattle.st_plan.proofs.Readiness.{is_ready}
 use Rattle.st_plan.proofs.OwnActs.{run_append, state_append, Lifted, lifted, changed_own}
 

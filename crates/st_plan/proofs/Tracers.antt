@@ -1,6 +1,7 @@
 -- The tracers come first: a tracer for each node marks all its processes, reports nothing and
 -- leaves all else at zero, so that after them the state is what no moves say.
-use Rattle.std.proofs.Common.{◌≡◌, ℕ, ◌==◌, ◌&&◌, zero, suc, Bool, true, false, cond, List, [], ◌∷◌, Option, Some, None}
+use Rattle.std.proofs.Common.{◌≡◌, ℕ, ◌==◌, ◌&&◌, zero, suc, Bool, true, false, cond, List, [], ◌∷◌}
+use Rattle.std.proofs.Common.{Option, Some, None}
 use Rattle.std.proofs.Common.{is_some, option_map, option_and_then, refl, sym, ◌∙◌, ap, subst}
 use Rattle.std.specs.List.{slice_get}
 use Rattle.std.specs.Option.{option_map_or}
@@ -15,7 +16,8 @@ use Rattle.st_core.specs.State.{Process, State, process, zero_local, zero_state}
 use Rattle.st_core.specs.Step.{Acted, Outcome, answers, changed, outcome_of, step}
 use Rattle.st_core.specs.Run.{Stream, pids_of, run_from}
 use Rattle.st_core.specs.Streams.{lists, stream_of}
-use Rattle.st_core.proofs.ForCallers.{pid_same, pid_eq-refl, process_pid, mapped, eqb-swap, step_done}
+use Rattle.st_core.proofs.ForCallers.{pid_same, pid_eq-refl, process_pid, mapped, eqb-swap}
+use Rattle.st_core.proofs.ForCallers.{step_done}
 use Rattle.st_plan.specs.Marks.{Marks}
 use Rattle.st_plan.specs.Build.{state_after, tracers_after}
 use Rattle.st_plan.proofs.OwnActs.{process_then, Silent}

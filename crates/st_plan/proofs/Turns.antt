@@ -173,13 +173,15 @@ After events p earlier later =
 -- p's next move is in turn, and of its next event
 pub next_event : (events : List Event) (p : Pid) (i : ℕ) (e : Event) (earlier later : List Move)
     → After events p earlier (event_move p i e ∷ later)
-    → (out_of_turn earlier (event_move p i e) ≡ false) × (slice_get events (event_count p earlier) ≡ Some e)
+    → (out_of_turn earlier (event_move p i e) ≡ false)
+    × (slice_get events (event_count p earlier) ≡ Some e)
 next_event events p i e earlier later before =
     let n = event_count p earlier in
     let ms = filter (is_move_of p) later in
     let left : event_move p i e ∷ ms ≡ turned p n (drop n events) =
     ap (λ (b : Bool). cond b (event_move p i e ∷ ms) ms) (sym (pid_eq-refl p)) ∙ before.left in
-    let own = own_step events p n (clock p earlier) (last p earlier) i e later before.clocked left in
+    let own = own_step events p n (clock p earlier) (last p earlier) i e later before.clocked
+    left in
     (ap not (eq-eqb n i (sym own.0)), own.1)
 
 step : (events : List Event) (p q : Pid) (j : ℕ) (e : Event) (earlier later : List Move)
@@ -247,7 +249,8 @@ module _ (streams : List Stream) (rising : IsRising (pids_of streams)) (shown : 
   -- what holds of each event that comes next holds of each move of the order
   pub at_each : (P : List Move → Move → Type 0)
       → ((p : Pid) (i : ℕ) (e : Event) (earlier later : List Move)
-      → After (events_of streams p) p earlier (event_move p i e ∷ later) → P earlier (event_move p i e))
+      → After (events_of streams p) p earlier (event_move p i e ∷ later)
+      → P earlier (event_move p i e))
       → (earlier : List Move) (m : Move) (later : List Move)
       → moves streams xs ≡ reverse earlier ++ m ∷ later → P earlier m
   at_each P each earlier m later split =

@@ -19,7 +19,8 @@ use Rattle.st_mail.specs.Mail as mail
 use Rattle.st_plan.specs.Marks.{Marks}
 use Rattle.st_plan.specs.Moves.{Move, is_taking}
 use Rattle.st_plan.specs.Build.{flags_of}
-use Rattle.st_plan.proofs.KeptState.{is_told, message_of, queue_of, sends_to, stamp_queue, token_of, without}
+use Rattle.st_plan.proofs.KeptState.{is_told, message_of, queue_of, sends_to, stamp_queue, token_of}
+use Rattle.st_plan.proofs.KeptState.{without}
 use Rattle.st_plan.proofs.Receives.{got_of, IsWaiting}
 
 -- the message's token has this from and this count

@@ -1,6 +1,7 @@
 -- The acts that are built for an item, from what the process whose it is has before.
-use Rattle.std.specs.Prelude.{◌≡◌, ℕ, ◌-◌, ◌==◌, ◌&&◌, zero, suc, max, nat_lt, Bool, true, false, not, List, [], ◌∷◌}
-use Rattle.std.specs.Prelude.{◌++◌, Option, Some, None, if◌then◌else◌, option_map, option_and_then, position}
+use Rattle.std.specs.Prelude.{◌≡◌, ℕ, ◌-◌, ◌==◌, ◌&&◌, zero, suc, max, nat_lt, Bool, true, false}
+use Rattle.std.specs.Prelude.{not, List, [], ◌∷◌, ◌++◌, Option, Some, None, if◌then◌else◌}
+use Rattle.std.specs.Prelude.{option_map, option_and_then, position}
 use Rattle.std.specs.Option.{option_map_or}
 use Rattle.st_core.specs.declared.types.Pid.{Pid}
 use Rattle.st_core.specs.declared.types.Label.{Label}
@@ -62,7 +63,8 @@ silent_prints p (suc n) = act.Print p 0 ∷ silent_prints p n
 -- if the prev isn't the last count: the clock is brought up to it, and a new trace begun there
 abbrev pub renew : Pid → Start → Label → ℕ → List Act
 renew p x n prev =
-    (if nat_lt x.clock prev then dress p x.token n quiet ++ silent_prints p (prev - x.clock) else [])
+    (if nat_lt x.clock prev then dress p x.token n quiet ++ silent_prints p (prev - x.clock) else
+    [])
     ++ act.Clear p ∷ act.Set p (component.Label n) ∷ []
 
 -- the clock is brought up to that count, then the flags are put on

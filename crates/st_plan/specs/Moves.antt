@@ -1,7 +1,8 @@
 -- The items of an order as moves of counts: what the clock and the last count of each process are
 -- between them (own profile). `earlier` is always the list of the moves before one, the nearest
 -- first.
-use Rattle.std.specs.Prelude.{ℕ, ◌+◌, ◌-◌, max, Bool, false, not, List, [], ◌∷◌, reverse, None, Some, if◌then◌else◌}
+use Rattle.std.specs.Prelude.{ℕ, ◌+◌, ◌-◌, max, Bool, false, not, List, [], ◌∷◌, reverse, None}
+use Rattle.std.specs.Prelude.{Some, if◌then◌else◌}
 use Rattle.st_core.specs.declared.types.Pid.{Pid}
 use Rattle.st_core.specs.declared.types.Event.{Event}
 use Rattle.st_core.specs.Pid.{pid_eq}

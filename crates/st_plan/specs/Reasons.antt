@@ -1,6 +1,7 @@
 -- The auditor's own reasons against an item of the order: what it would have to explain by
 -- unreported receives, and what by too many unreported stamps (own profile).
-use Rattle.std.specs.Prelude.{◌≡◌, ℕ, ◌==◌, ◌&&◌, ◌||◌, nat_lt, Bool, true, not, List, ◌∷◌, ◌++◌, reverse}
+use Rattle.std.specs.Prelude.{◌≡◌, ℕ, ◌==◌, ◌&&◌, ◌||◌, nat_lt, Bool, true, not, List, ◌∷◌, ◌++◌}
+use Rattle.std.specs.Prelude.{reverse}
 use Rattle.st_core.specs.declared.types.Pid.{Pid}
 use Rattle.st_core.specs.Run.{Stream}
 use Rattle.st_order.specs.declared.item.Item.{Item}

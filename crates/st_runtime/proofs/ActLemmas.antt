@@ -20,16 +20,20 @@ between_from (act.Look p) apart = absurd (apart refl)
 between_from (act.Reset p) apart = absurd (apart refl)
 between_from (act.Tracer p b) apart = absurd (apart refl)
 
-pub between_at : (a : Act) (p q : Pid) → receiver a ≢ actor a → p ≡ actor a → q ≡ receiver a → IsBetween a p q
+pub between_at : (a : Act) (p q : Pid) → receiver a ≢ actor a → p ≡ actor a → q ≡ receiver a
+    → IsBetween a p q
 between_at a p q apart from to =
-    subst (λ x. IsBetween a x q) (sym from) (subst (λ y. IsBetween a (actor a) y) (sym to) (between_from a apart))
+    subst (λ x. IsBetween a x q) (sym from)
+    (subst (λ y. IsBetween a (actor a) y) (sym to) (between_from a apart))
 
 -- a receive of the actor
-pub alone_receive : (a : Act) (p me : Pid) (w : Want) → a ≡ act.Receive p w → actor a ≡ me → a ≡ act.Receive me w
+pub alone_receive : (a : Act) (p me : Pid) (w : Want) → a ≡ act.Receive p w → actor a ≡ me
+    → a ≡ act.Receive me w
 alone_receive a p me w is mine = is ∙ ap (λ q. act.Receive q w) (sym (ap actor is) ∙ mine)
 
 -- a send of the actor that touches it alone
-pub alone_send : (a : Act) (p q me : Pid) (v : ℕ) → a ≡ act.Send p q v → is_alone a ≡ true → actor a ≡ me
+pub alone_send : (a : Act) (p q me : Pid) (v : ℕ) → a ≡ act.Send p q v → is_alone a ≡ true
+    → actor a ≡ me
     → a ≡ act.Send me me v
 alone_send a p q me v is alone mine =
     let from : p ≡ me = sym (ap actor is) ∙ mine in

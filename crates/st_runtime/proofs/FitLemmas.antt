@@ -22,7 +22,8 @@ seated_in pieces each x i =
 
 -- pieces fit if each process does and each seat is that of a process
 pub all_fit : (pieces : Parts) → ((k : ℕ) → k < length pieces.processes → FitsAt pieces k)
-    → All (λ (s : Calls). is_among (pids_in pieces.processes) s.pid ≡ true) pieces.seats → IsFit pieces
+    → All (λ (s : Calls). is_among (pids_in pieces.processes) s.pid ≡ true) pieces.seats
+    → IsFit pieces
 all_fit pieces each listed =
     let xs = pieces.processes in
     let Listed : Calls → Type 0 = λ s. is_among (pids_in xs) s.pid ≡ true in
@@ -38,8 +39,10 @@ all_fit pieces each listed =
 
 -- all numbers below n are all places
 pub fits_each : (pieces : Parts) (n : ℕ) (ks : List ℕ) → ks ≡ range_with_len 0 n
-    → ((i d : ℕ) → i < length ks → FitsAt pieces (get_or ks i d)) → (k : ℕ) → k < n → FitsAt pieces k
+    → ((i d : ℕ) → i < length ks → FitsAt pieces (get_or ks i d)) → (k : ℕ) → k < n
+    → FitsAt pieces k
 fits_each pieces n ks is each k below =
     let zero_more : 0 + k ≡ k = omega arith in
-    subst (FitsAt pieces) (ap (λ (l : List ℕ). get_or l k 0) is ∙ get_or-range_with_len 0 n k 0 below ∙ zero_more)
+    subst (FitsAt pieces) (ap (λ (l : List ℕ). get_or l k 0) is ∙ get_or-range_with_len 0 n k 0
+    below ∙ zero_more)
     (each k 0 (omega (arith, ap length is, length-range_with_len 0 n)))

@@ -39,7 +39,8 @@ pub record IsDone (top : ℕ) (e : Entry) (before : Process) (done : Acted) : Ty
   pub carried : carried_by e.act done.local.token ≡ e.carried
 
 -- a legal part leaves what the machine's step leaves
-pub part_changed : (top : ℕ) (r : Process) (e : Entry) (m : Process) (before : Process) (done : Acted)
+pub part_changed : (top : ℕ) (r : Process) (e : Entry) (m : Process) (before : Process)
+    (done : Acted)
     → IsDone top e before done → (r.pid ≡ actor e.act → r ≡ before)
     → IsPart top r e m → changed e.act done r ≡ m
 part_changed top r e m before done is one part =
@@ -62,6 +63,7 @@ pub untouched_other : (a : Act) (p : Pid) → touches a p ≡ false → pid_eq (
 untouched_other a p away =
     elim (pid_eq (actor a) p) as (λ b. pid_eq (actor a) p ≡ b → b ≡ false) [
       | true ↦ λ is.
-          let near : touches a p ≡ true = ap (touches a) (sym (pid_eq-true (actor a) p is)) ∙ touches_actor a in cc
+          let near : touches a p ≡ true = ap (touches a) (sym (pid_eq-true (actor a) p is))
+          ∙ touches_actor a in cc
       | false ↦ λ is. refl
     ] refl

@@ -1,7 +1,7 @@
 -- The findings for one result of a call on lent processes exclude those for the others: so each
 -- refusal comes exactly if its reason holds.
-use Rattle.std.proofs.Common.{◌≡◌, ℕ, ◌+◌, ◌≤◌, true, false, max, List, [], ◌∷◌, Option, Some, option_map}
-use Rattle.std.proofs.Common.{refl, sym, ◌∙◌, ap, subst, arith}
+use Rattle.std.proofs.Common.{◌≡◌, ℕ, ◌+◌, ◌≤◌, true, false, max, List, [], ◌∷◌, Option, Some}
+use Rattle.std.proofs.Common.{option_map, refl, sym, ◌∙◌, ap, subst, arith}
 use Rattle.std.specs.Prelude.{◌↔◌, IfOk, IfErr, OnErr, IsSome, Result, Ok, Err}
 use Rattle.st_core.specs.declared.types.Act.{Act}
 use Rattle.st_core.specs.declared.types.Reply.{Reply}
@@ -35,12 +35,14 @@ lent_err top ranks a xs ys (Err fault.RankFull) is = is.1
 lent_err top ranks a xs ys (Err fault.Memory) is = is.1
 
 -- a step excludes that there is none
-no_step : (top : ℕ) (a : Act) (xs : List Control) → IsSome (step top (lent_state xs) a) → ¬ FindsClockFull top a xs
+no_step : (top : ℕ) (a : Act) (xs : List Control) → IsSome (step top (lent_state xs) a)
+    → ¬ FindsClockFull top a xs
 no_step top a xs steps none = let bad = subst IsSome none steps in cc
 
 pub lent_clock : (top ranks : ℕ) (a : Act) (xs ys : List Control) (r : Result Reply PcbFault)
     → IsLentStep top ranks a xs ys r → (r ≡ Err fault.ClockFull) ↔ FindsClockFull top a xs
-lent_clock top ranks a xs ys (Ok y) is = (λ same. cc, λ none. absurd (no_step top a xs is.0.steps none))
+lent_clock top ranks a xs ys (Ok y) is =
+    (λ same. cc, λ none. absurd (no_step top a xs is.0.steps none))
 lent_clock top ranks a xs ys (Err fault.ClockFull) is = (λ same. is.0, λ none. refl)
 lent_clock top ranks a xs ys (Err fault.RankFull) is =
     (λ same. cc, λ none. absurd (no_step top a xs is.0.steps none))
@@ -53,7 +55,8 @@ lent_rank top ranks a xs ys (Ok y) is = (λ same. cc, λ finds. absurd (is.0.ran
 lent_rank top ranks a xs ys (Err fault.ClockFull) is =
     (λ same. cc, λ finds. absurd (no_step top a xs finds.steps is.0))
 lent_rank top ranks a xs ys (Err fault.RankFull) is = (λ same. is.0, λ finds. refl)
-lent_rank top ranks a xs ys (Err fault.Memory) is = (λ same. cc, λ finds. absurd (is.0.rank finds.full))
+lent_rank top ranks a xs ys (Err fault.Memory) is =
+    (λ same. cc, λ finds. absurd (is.0.rank finds.full))
 
 -- ---- how a call comes to its result
 
@@ -76,17 +79,22 @@ map_some f o x is = rw is refl
 pub alone_rank : (x : Control) → greatest_rank (x ∷ []) ≡ last_rank 0 x.log
 alone_rank x = omega arith
 
-pub alone_steps : (top : ℕ) (a : Act) (x : Control) (done : Acted) → is_alone a ≡ true → actor a ≡ x.process.pid
+pub alone_steps : (top : ℕ) (a : Act) (x : Control) (done : Acted) → is_alone a ≡ true
+    → actor a ≡ x.process.pid
     → acted top x.process a ≡ Some done → IsSome (step top (lent_state (x ∷ [])) a)
 alone_steps top a x done alone mine acts =
-    rw (step_alone top x.process a alone mine) (map_some (outcome_of (x.process ∷ []) a) _ done acts)
+    rw (step_alone top x.process a alone mine)
+    (map_some (outcome_of (x.process ∷ []) a) _ done acts)
 
-pub alone_stepped : (top ranks : ℕ) (a : Act) (y : Reply) (x z : Control) (n : ℕ) → is_alone a ≡ true
+pub alone_stepped : (top ranks : ℕ) (a : Act) (y : Reply) (x z : Control) (n : ℕ)
+    → is_alone a ≡ true
     → actor a ≡ x.process.pid → n ≡ last_rank 0 x.log + 1 → n ≤ ranks → IsAppended top a y x z
     → IsLentStep top ranks a (x ∷ []) (z ∷ []) (Ok y)
 alone_stepped top ranks a y x z n alone mine next within is =
-    let acts : acted top x.process a ≡ Some is.part.done = ap (acted top x.process) (sym is.act) ∙ is.part.acts in (
-      finds_step top ranks a (x ∷ []) (last_rank 0 x.log) n (alone_steps top a x is.part.done alone mine acts)
+    let acts : acted top x.process a ≡ Some is.part.done =
+    ap (acted top x.process) (sym is.act) ∙ is.part.acts in (
+      finds_step top ranks a (x ∷ []) (last_rank 0 x.log) n
+          (alone_steps top a x is.part.done alone mine acts)
           (alone_rank x) next within,
       stepped_alone top a y x z alone mine is,
     )
@@ -106,15 +114,18 @@ inner_alone (act.Tracer p b) inner = absurd (cc)
 
 -- ---- of two
 
-pub between_rank : (x y : Control) → greatest_rank (x ∷ y ∷ []) ≡ max (last_rank 0 x.log) (last_rank 0 y.log)
+pub between_rank : (x y : Control)
+    → greatest_rank (x ∷ y ∷ []) ≡ max (last_rank 0 x.log) (last_rank 0 y.log)
 between_rank x y = omega arith
 
-pub between_steps : (top : ℕ) (x y : Control) (v : ℕ) (done : Acted) → pid_eq x.process.pid y.process.pid ≡ false
+pub between_steps : (top : ℕ) (x y : Control) (v : ℕ) (done : Acted)
+    → pid_eq x.process.pid y.process.pid ≡ false
     → acted top x.process (act.Send x.process.pid y.process.pid v) ≡ Some done
     → IsSome (step top (lent_state (x ∷ y ∷ [])) (act.Send x.process.pid y.process.pid v))
 between_steps top x y v done apart acts =
     rw (step_between top x.process y.process v apart)
-    (map_some (outcome_of (x.process ∷ y.process ∷ []) (act.Send x.process.pid y.process.pid v)) _ done acts)
+    (map_some (outcome_of (x.process ∷ y.process ∷ []) (act.Send x.process.pid y.process.pid v)) _
+    done acts)
 
 -- ---- under locks, whose refusals are those of the call
 
@@ -125,13 +136,16 @@ pub record IsTold (r : Result Reply PcbFault) (q : Result Reply ActFault) : Type
   pub clock : (q ≡ Err act_fault.ClockFull) ↔ (r ≡ Err fault.ClockFull)
   pub rank : (q ≡ Err act_fault.RankFull) ↔ (r ≡ Err fault.RankFull)
 
-told_ok : (top ranks : ℕ) (a : Act) (xs ys : List Control) (r : Result Reply PcbFault) (q : Result Reply ActFault)
-    → IsLentStep top ranks a xs ys r → IfOk q (λ y. r ≡ Ok y) → IfOk q (λ y. IsStepped top a y xs ys)
+told_ok : (top ranks : ℕ) (a : Act) (xs ys : List Control) (r : Result Reply PcbFault)
+    (q : Result Reply ActFault)
+    → IsLentStep top ranks a xs ys r → IfOk q (λ y. r ≡ Ok y)
+    → IfOk q (λ y. IsStepped top a y xs ys)
 told_ok top ranks a xs ys r (Ok y) is same =
     lent_ok top ranks a xs ys (Ok y) (subst (IsLentStep top ranks a xs ys) same is)
 told_ok top ranks a xs ys r (Err f) is same = tt
 
-told_err : (top ranks : ℕ) (a : Act) (xs ys : List Control) (r : Result Reply PcbFault) (q : Result Reply ActFault)
+told_err : (top ranks : ℕ) (a : Act) (xs ys : List Control) (r : Result Reply PcbFault)
+    (q : Result Reply ActFault)
     → IsLentStep top ranks a xs ys r → IfErr q (λ f. (refusal : PcbFault) × (r ≡ Err refusal))
     → OnErr q (AreSame xs ys)
 told_err top ranks a xs ys r (Ok y) is told = tt

@@ -1,5 +1,7 @@
--- A log with one legal entry of a greater rank more keeps what its type keeps, since those before stay as they are.
-use Rattle.std.proofs.Common.{◌≡◌, ℕ, ◌<◌, ◌≤◌, List, [], ◌∷◌, ◌++◌, length, refl, sym, subst, arith}
+-- A log with one legal entry of a greater rank more keeps what its type keeps, since those before
+-- stay as they are.
+use Rattle.std.proofs.Common.{◌≡◌, ℕ, ◌<◌, ◌≤◌, List, [], ◌∷◌, ◌++◌, length, refl, sym, subst}
+use Rattle.std.proofs.Common.{arith}
 use Rattle.st_core.specs.declared.types.Pid.{Pid}
 use Rattle.st_core.specs.declared.types.Message.{Message}
 use Rattle.st_core.specs.State.{LocalState, Process}
@@ -15,7 +17,8 @@ use Rattle.st_runtime.proofs.PartLemmas.{part_pid}
 LeadTo-push : (top : ℕ) (r : Process) (log : List Entry) (m : Process) (e : Entry) (s : Process)
     → LeadTo top r log m → IsPart top m e s → LeadTo top r (log ++ e ∷ []) s
 LeadTo-push top r [] m e s same part = (s, subst (λ x. IsPart top x e s) (sym same) part, refl)
-LeadTo-push top r (x ∷ xs) m e s led part = (led.0, led.1, LeadTo-push top led.0 xs m e s led.2 part)
+LeadTo-push top r (x ∷ xs) m e s led part =
+    (led.0, led.1, LeadTo-push top led.0 xs m e s led.2 part)
 
 RanksRise-push : (low : ℕ) (log : List Entry) (e : Entry)
     → RanksRise low log → last_rank low log < e.rank → RanksRise low (log ++ e ∷ [])
@@ -33,18 +36,21 @@ pub record IsNext (ranks : ℕ) (log : List Entry) (n : ℕ) : Type 0 where
 
 -- a legal entry with such a rank
 kept_push : (top ranks : ℕ) (r : Process) (log : List Entry) (e : Entry) (s : Process)
-    → IsFromLog top ranks r log → IsPart top r e s → IsNext ranks log e.rank → IsFromLog top ranks s (log ++ e ∷ [])
+    → IsFromLog top ranks r log → IsPart top r e s → IsNext ranks log e.rank
+    → IsFromLog top ranks s (log ++ e ∷ [])
 kept_push top ranks r log e s kept part next =
     let led : LeadTo top (zero_process r.pid) (log ++ e ∷ []) s =
     LeadTo-push top (zero_process r.pid) log r e s kept.local part in
     record {
       rises = RanksRise-push 0 log e kept.rises next.above;
       within = let below = next.within in omega (arith, last_rank-push 0 log e);
-      local = subst (λ p. LeadTo top (zero_process p) (log ++ e ∷ []) s) (sym (part_pid top r e s part)) led;
+      local = subst (λ p. LeadTo top (zero_process p) (log ++ e ∷ []) s)
+          (sym (part_pid top r e s part)) led;
     }
 
 -- the same inside, if the queue is what it is afterwards
-pub inside_push : (top ranks : ℕ) (p : Pid) (l : LocalState) (boxes : List (List Message)) (log : List Entry)
+pub inside_push : (top ranks : ℕ) (p : Pid) (l : LocalState) (boxes : List (List Message))
+    (log : List Entry)
     (e : Entry) (m : LocalState) (boxes' : List (List Message))
     → IsInside top ranks p l boxes log
     → length boxes' ≡ 1 → QueueFits top (queue_in boxes' 0)
@@ -54,6 +60,7 @@ pub inside_push : (top ranks : ℕ) (p : Pid) (l : LocalState) (boxes : List (Li
 inside_push top ranks p l boxes log e m boxes' inside one fit part next = record {
   one_box = one;
   fit = fit;
-  kept = kept_push top ranks (process_of p l (queue_in boxes 0)) log e (process_of p m (queue_in boxes' 0))
+  kept = kept_push top ranks (process_of p l (queue_in boxes 0)) log e
+      (process_of p m (queue_in boxes' 0))
       inside.kept part next;
 }

@@ -1,6 +1,7 @@
 -- Membership in a list, by recursion, and lists of entries in order.
-use Rattle.std.proofs.Common.{◌≡◌, ℕ, zero, suc, ◌<◌, List, [], ◌∷◌, length, get_or, Bool, true, false, cond, map}
-use Rattle.std.proofs.Common.{refl, sym, ap, ◌∙◌, subst, arith, inl, inr, ⊎_elim, ◌⊎◌, take, set, ◌≤◌}
+use Rattle.std.proofs.Common.{◌≡◌, ℕ, zero, suc, ◌<◌, List, [], ◌∷◌, length, get_or, Bool, true}
+use Rattle.std.proofs.Common.{false, cond, map, refl, sym, ap, ◌∙◌, subst, arith, inl, inr, ⊎_elim}
+use Rattle.std.proofs.Common.{◌⊎◌, take, set, ◌≤◌}
 use Rattle.std.specs.Prelude.{filter, All, AllPairs, Contains}
 use Rattle.st_core.specs.Step.{actor}
 use Rattle.st_core.proofs.ForCallers.{IsBelow-trans, not_below_itself}
@@ -18,14 +19,16 @@ In-Contains x (y ∷ ys) h =
     ⊎_elim (λ same. (0, omega arith, sym same)) (λ later. let r =
     In-Contains x ys later in let place : r.0 < length ys = r.1 in (suc r.0, omega arith, r.2)) h
 
-contains_at : {X : Type 0} (x y : X) (ys : List X) (k : ℕ) → k < length (y ∷ ys) → get_or (y ∷ ys) k x ≡ x
+contains_at : {X : Type 0} (x y : X) (ys : List X) (k : ℕ) → k < length (y ∷ ys)
+    → get_or (y ∷ ys) k x ≡ x
     → (x ≡ y) ⊎ Contains ys x
 contains_at x y ys zero l e = inl (sym e)
 contains_at x y ys (suc k) l e = inr (k, omega arith, e)
 
 pub Contains-In : {X : Type 0} (x : X) (xs : List X) → Contains xs x → In x xs
 Contains-In x [] c = absurd (let l = c.1 in omega arith)
-Contains-In x (y ∷ ys) c = ⊎_elim (λ e. inl e) (λ r. inr (Contains-In x ys r)) (contains_at x y ys c.0 c.1 c.2)
+Contains-In x (y ∷ ys) c =
+    ⊎_elim (λ e. inl e) (λ r. inr (Contains-In x ys r)) (contains_at x y ys c.0 c.1 c.2)
 
 -- what holds of each item holds of each element
 pub All-In : {X : Type 0} (P : X → Type 0) (xs : List X) (x : X) → All P xs → In x xs → P x
@@ -36,18 +39,21 @@ In-All P [] each k d l = absurd (omega arith)
 In-All P (x ∷ xs) each zero d l = each x (inl refl)
 In-All P (x ∷ xs) each (suc k) d l = In-All P xs (λ y i. each y (inr i)) k d (omega arith)
 
-kept_in : {X : Type 0} (test : X → Bool) (x y : X) (zs : List X) (b : Bool) → test y ≡ b → In x (cond b (y ∷ zs) zs)
+kept_in : {X : Type 0} (test : X → Bool) (x y : X) (zs : List X) (b : Bool) → test y ≡ b
+    → In x (cond b (y ∷ zs) zs)
     → ((x ≡ y) × (test x ≡ true)) ⊎ In x zs
 kept_in test x y zs true is h = ⊎_elim (λ e. inl (e, ap test e ∙ is)) (λ i. inr i) h
 kept_in test x y zs false is h = inr h
 
-pub In-filter : {X : Type 0} (test : X → Bool) (x : X) (xs : List X) → In x (filter test xs) → In x xs × (test x ≡ true)
+pub In-filter : {X : Type 0} (test : X → Bool) (x : X) (xs : List X) → In x (filter test xs)
+    → In x xs × (test x ≡ true)
 In-filter test x [] h = absurd h
 In-filter test x (y ∷ ys) h =
     ⊎_elim (λ e. (inl e.0, e.1)) (λ i. let r = In-filter test x ys i in (inr r.0, r.1))
     (kept_in test x y (filter test ys) (test y) refl h)
 
-in_kept : {X : Type 0} (x y : X) (zs : List X) (b : Bool) → ((x ≡ y) × (b ≡ true)) ⊎ In x zs → In x (cond b (y ∷ zs) zs)
+in_kept : {X : Type 0} (x y : X) (zs : List X) (b : Bool) → ((x ≡ y) × (b ≡ true)) ⊎ In x zs
+    → In x (cond b (y ∷ zs) zs)
 in_kept x y zs true h = ⊎_elim (λ e. inl e.0) (λ i. inr i) h
 in_kept x y zs false h = ⊎_elim (λ e. let w : false ≡ true = e.1 in cc) (λ i. i) h
 
@@ -64,15 +70,20 @@ abbrev pub IsOrdered : List Entry → Type 0
 IsOrdered [] = Unit {0}
 IsOrdered (e ∷ es) = ((d : Entry) → In d es → IsBefore e d) × IsOrdered es
 
-pairs_head : (e : Entry) (es : List Entry) → AllPairs IsBefore (e ∷ es) → (d : Entry) → In d es → IsBefore e d
+pairs_head : (e : Entry) (es : List Entry) → AllPairs IsBefore (e ∷ es) → (d : Entry) → In d es
+    → IsBefore e d
 pairs_head e es h d i =
     let c = In-Contains d es i in
-    subst (IsBefore e) c.2 (h 0 (suc c.0) d (omega arith) (let l : c.0 < length es = c.1 in omega arith))
+    subst (IsBefore e) c.2 (h 0 (suc c.0) d (omega arith)
+    (let l : c.0 < length es = c.1 in omega arith))
 
 pub IsOrdered-from_pairs : (es : List Entry) → AllPairs IsBefore es → IsOrdered es
 IsOrdered-from_pairs [] h = tt
-IsOrdered-from_pairs (e ∷ es) h =
-    (pairs_head e es h, IsOrdered-from_pairs es (λ i j d a b. h (suc i) (suc j) d (omega arith) (omega arith)))
+IsOrdered-from_pairs (e ∷ es) h = (
+  pairs_head e es h,
+  IsOrdered-from_pairs es
+      (λ i j d a b. h (suc i) (suc j) d (omega arith) (omega arith)),
+)
 
 IsOrdered-kept : (test : Entry → Bool) (e : Entry) (es zs : List Entry) (b : Bool)
     → ((d : Entry) → In d es → IsBefore e d) → ((d : Entry) → In d zs → In d es) → IsOrdered zs
@@ -80,7 +91,8 @@ IsOrdered-kept : (test : Entry → Bool) (e : Entry) (es zs : List Entry) (b : B
 IsOrdered-kept test e es zs true below part_of rest = (λ d i. below d (part_of d i), rest)
 IsOrdered-kept test e es zs false below part_of rest = rest
 
-pub IsOrdered-filter : (test : Entry → Bool) (es : List Entry) → IsOrdered es → IsOrdered (filter test es)
+pub IsOrdered-filter : (test : Entry → Bool) (es : List Entry) → IsOrdered es
+    → IsOrdered (filter test es)
 IsOrdered-filter test [] h = tt
 IsOrdered-filter test (e ∷ es) h =
     IsOrdered-kept test e es (filter test es) (test e) h.0 (λ d i. (In-filter test d es i).0)
@@ -89,37 +101,47 @@ IsOrdered-filter test (e ∷ es) h =
 Rises-above : (low : ℕ) (es : List Entry) (d : Entry) → RanksRise low es → In d es → low < d.rank
 Rises-above low [] d r i = absurd i
 Rises-above low (e ∷ es) d r i =
-    ⊎_elim (λ same. let P : Entry → Type 0 = λ x. low < x.rank in subst P (sym same) r.0) (λ later. let h =
+    ⊎_elim (λ same. let P : Entry → Type 0 = λ x. low < x.rank in subst P (sym same) r.0)
+    (λ later. let h =
     Rises-above e.rank es d r.1 later in let g = r.0 in omega arith) i
 
 pub IsOrdered-from_rises : (low : ℕ) (es : List Entry) → RanksRise low es → IsOrdered es
 IsOrdered-from_rises low [] r = tt
-IsOrdered-from_rises low (e ∷ es) r = (λ d i. inl (Rises-above e.rank es d r.1 i), IsOrdered-from_rises e.rank es r.1)
+IsOrdered-from_rises low (e ∷ es) r =
+    (λ d i. inl (Rises-above e.rank es d r.1 i), IsOrdered-from_rises e.rank es r.1)
 
 before_irreflexive : (e : Entry) → IsBefore e e → ⊥
-before_irreflexive e h = ⊎_elim (λ a. let x = a in omega arith) (λ b. not_below_itself (actor e.act) b.1) h
+before_irreflexive e h =
+    ⊎_elim (λ a. let x = a in omega arith) (λ b. not_below_itself (actor e.act) b.1) h
 
 before_asymmetric : (d e : Entry) → IsBefore d e → IsBefore e d → ⊥
 before_asymmetric d e h k =
     ⊎_elim
-    (λ a. ⊎_elim (λ b. let x = a in let y = b in omega arith) (λ b. let x = a in let y = b.0 in omega arith) k)
+    (λ a. ⊎_elim (λ b. let x = a in let y = b in omega arith)
+    (λ b. let x = a in let y = b.0 in omega arith) k)
     (λ a. ⊎_elim (λ b. let x = a.0 in let y = b in omega arith)
-    (λ b. not_below_itself (actor d.act) (IsBelow-trans (actor d.act) (actor e.act) (actor d.act) a.1 b.1)) k)
+    (λ b. not_below_itself (actor d.act)
+    (IsBelow-trans (actor d.act) (actor e.act) (actor d.act) a.1 b.1)) k)
     h
 
-head_same : (x y : Entry) (xs ys : List Entry) → IsOrdered (x ∷ xs) → IsOrdered (y ∷ ys) → In x (y ∷ ys)
+head_same : (x y : Entry) (xs ys : List Entry) → IsOrdered (x ∷ xs) → IsOrdered (y ∷ ys)
+    → In x (y ∷ ys)
     → In y (x ∷ xs) → x ≡ y
 head_same x y xs ys a b i j =
     ⊎_elim (λ same. same) (λ later. ⊎_elim (λ same. sym same)
     (λ later'. absurd (before_asymmetric x y (a.0 y later') (b.0 x later))) j) i
 
-tail_in : (x y : Entry) (xs ys : List Entry) (e : Entry) → x ≡ y → IsOrdered (x ∷ xs) → In e xs → In e (y ∷ ys)
+tail_in : (x y : Entry) (xs ys : List Entry) (e : Entry) → x ≡ y → IsOrdered (x ∷ xs) → In e xs
+    → In e (y ∷ ys)
     → In e ys
 tail_in x y xs ys e same a i j =
-    ⊎_elim (λ first. absurd (before_irreflexive x (subst (IsBefore x) (first ∙ sym same) (a.0 e i)))) (λ later. later) j
+    ⊎_elim
+    (λ first. absurd (before_irreflexive x (subst (IsBefore x) (first ∙ sym same) (a.0 e i))))
+    (λ later. later) j
 
 -- two lists in order with the same elements are one
-pub same_list : (xs ys : List Entry) → IsOrdered xs → IsOrdered ys → ((e : Entry) → In e xs → In e ys)
+pub same_list : (xs ys : List Entry) → IsOrdered xs → IsOrdered ys
+    → ((e : Entry) → In e xs → In e ys)
     → ((e : Entry) → In e ys → In e xs) → xs ≡ ys
 same_list [] [] a b f g = refl
 same_list [] (y ∷ ys) a b f g = absurd (g y (inl refl))
@@ -139,11 +161,13 @@ take_past zero (x ∷ xs) h = absurd (omega arith)
 take_past (suc n) [] h = refl
 take_past (suc n) (x ∷ xs) h = ap (λ ys. x ∷ ys) (take_past n xs (omega arith))
 
-pub All-past : {X : Type 0} (P : X → Type 0) (n : ℕ) (xs : List X) → length xs ≤ n → All P (take n xs) → All P xs
+pub All-past : {X : Type 0} (P : X → Type 0) (n : ℕ) (xs : List X) → length xs ≤ n
+    → All P (take n xs) → All P xs
 All-past P n xs h all = subst (All P) (take_past n xs h) all
 
 -- a write that f doesn't see
-pub map-set_same : {X Y : Type 0} (f : X → Y) (xs : List X) (i : ℕ) (x z : X) → z ≡ get_or xs i z → f x ≡ f z
+pub map-set_same : {X Y : Type 0} (f : X → Y) (xs : List X) (i : ℕ) (x z : X) → z ≡ get_or xs i z
+    → f x ≡ f z
     → map f (set xs i x) ≡ map f xs
 map-set_same f [] i x z at h = refl
 map-set_same f (y ∷ ys) zero x z at h = ap (λ n. n ∷ map f ys) (h ∙ ap f at)

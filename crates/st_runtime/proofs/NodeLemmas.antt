@@ -1,7 +1,8 @@
--- The processes of a node have the same entries of acts of the whole node if each has those of the first process there.
--- So an entry that one of them has, all have, and it is whole if its actor is there.
-use Rattle.std.proofs.Common.{◌≡◌, ◌≢◌, ℕ, ◌+◌, ◌<◌, Bool, true, false, List, [], ◌∷◌, ◌++◌, length, get_or, take, cond}
-use Rattle.std.proofs.Common.{refl, sym, ◌∙◌, ap, subst, arith, ⊎_elim, ◌⊎◌}
+-- The processes of a node have the same entries of acts of the whole node if each has those of the
+-- first process there. So an entry that one of them has, all have, and it is whole if its actor is
+-- there.
+use Rattle.std.proofs.Common.{◌≡◌, ◌≢◌, ℕ, ◌+◌, ◌<◌, Bool, true, false, List, [], ◌∷◌, ◌++◌, length}
+use Rattle.std.proofs.Common.{get_or, take, cond, refl, sym, ◌∙◌, ap, subst, arith, ⊎_elim, ◌⊎◌}
 use Rattle.std.proofs.lemmas.Bool.{cases_lt, cases_order, eqb-true}
 use Rattle.std.proofs.lemmas.List.Elements.{at_read, filter_more}
 use Rattle.std.specs.Prelude.{eqb}
@@ -27,7 +28,8 @@ nat_same : (m n : ℕ) → eqb m n ≡ true → m ≡ n
 nat_same m n is = eqb-true m n is
 
 -- a node has one first process
-one_first : (xs : List Control) (m n i j : ℕ) (d : Control) → m ≡ n → IsFirstOf xs m i → IsFirstOf xs n j → i ≡ j
+one_first : (xs : List Control) (m n i j : ℕ) (d : Control) → m ≡ n → IsFirstOf xs m i
+    → IsFirstOf xs n j → i ≡ j
 one_first xs m n i j d same a b =
     ⊎_elim (λ equal. equal)
     (λ apart. ⊎_elim
@@ -49,7 +51,8 @@ none_more xs node k x within is away before i below =
 
 -- ---- processes that are alike
 
-wide_touches : (a : Act) (p : Pid) → is_wide a ≡ true → touches a p ≡ true → node_of p ≡ node_of (actor a)
+wide_touches : (a : Act) (p : Pid) → is_wide a ≡ true → touches a p ≡ true
+    → node_of p ≡ node_of (actor a)
 wide_touches (act.Reset q) p wide touched = nat_same _ _ touched
 wide_touches (act.Tracer q b) p wide touched = nat_same _ _ touched
 wide_touches a p wide touched = absurd (cc)
@@ -57,8 +60,10 @@ wide_touches a p wide touched = absurd (cc)
 -- ---- whole entries
 
 -- an entry of an act of a whole node is whole, if all processes are alike
-wide_whole : (xs : List Control) (d : Control) → ((k : ℕ) → k < length xs → HoldsAt (IsAlike xs k) xs k)
-    → (k : ℕ) → k < length xs → (e : Entry) → is_wide e.act ≡ true → In e (get_or xs k d).log → IsWholeEntry xs e
+wide_whole : (xs : List Control) (d : Control)
+    → ((k : ℕ) → k < length xs → HoldsAt (IsAlike xs k) xs k)
+    → (k : ℕ) → k < length xs → (e : Entry) → is_wide e.act ≡ true → In e (get_or xs k d).log
+    → IsWholeEntry xs e
 wide_whole xs d each k below e wide i =
     let x = get_or xs k d in
     let alike : IsAlike xs k x = each k below d in
@@ -80,7 +85,8 @@ wide_whole xs d each k below e wide i =
           let also : IsAlike xs at.0 z = subst (IsAlike xs at.0) at.2 (each at.0 at.1 z) in
           let near : node_of z.process.pid ≡ node_of x.process.pid =
           wide_touches e.act z.process.pid wide touched ∙ on.node ∙ node in
-          let led : also.first ≡ j = one_first xs _ _ also.first j d near also.is_first alike.is_first in
+          let led : also.first ≡ j =
+          one_first xs _ _ also.first j d near also.is_first alike.is_first in
           let same : wide_of z.log ≡ wide_of y.log =
           also.same d ∙ ap (λ (n : ℕ). wide_of (get_or xs n d).log) led in
           let there : In e (wide_of z.log) = subst (In e) (sym same) has in
@@ -88,7 +94,8 @@ wide_whole xs d each k below e wide i =
     }
 
 -- an entry is in its actor's log, and whole if it is its own, whatever kind its act is of
-own_or_wide : (xs : List Control) (p : Pid) (e : Entry) (b : Bool) → is_wide e.act ≡ b → IsSharedUnlessWide xs p e
+own_or_wide : (xs : List Control) (p : Pid) (e : Entry) (b : Bool) → is_wide e.act ≡ b
+    → IsSharedUnlessWide xs p e
     → (is_wide e.act ≡ true → IsWholeEntry xs e) → IsWholeIfOwn xs p e
 own_or_wide xs p e false is settled wide = settled is
 own_or_wide xs p e true is settled wide =
@@ -101,7 +108,8 @@ settled_whole xs each =
     let x = get_or xs k d in
     let settled = (each k below).settled d in
     In-All (IsWholeIfOwn xs x.process.pid) x.log (λ e i.
-    own_or_wide xs x.process.pid e (is_wide e.act) refl (All-In (IsSharedUnlessWide xs x.process.pid) x.log e settled i)
+    own_or_wide xs x.process.pid e (is_wide e.act) refl
+    (All-In (IsSharedUnlessWide xs x.process.pid) x.log e settled i)
     (λ wide. wide_whole xs d (λ m within. (each m within).alike) k below e wide i)))
 
 -- ---- a walk over two logs

@@ -1,4 +1,5 @@
--- An entry is legal for a process by the machine's own parts, which the calls on that process answered.
+-- An entry is legal for a process by the machine's own parts, which the calls on that process
+-- answered.
 use Rattle.std.proofs.Common.{◌≡◌, ℕ, Bool, true, false, ◌&&◌, ◌==◌, List, Option}
 use Rattle.std.proofs.Common.{Some, None, option_map, refl, sym, ◌∙◌, ap}
 use Rattle.std.specs.Prelude.{MatchBool}
@@ -57,7 +58,8 @@ part_pid top r e m part =
     elim (pid_eq r.pid (actor e.act)) as (λ b.
     MatchBool b (IsOwnPart top r e m) (IsOtherPart top r e m) → m.pid ≡ r.pid) [
       | true ↦ λ own. ap (λ (x : Process). x.pid) (sym own.after) ∙ changed_pid e.act own.done r
-      | false ↦ λ other. ap (λ (x : Process). x.pid) (sym other.after) ∙ reached_pid e.act e.carried r
+      | false ↦ λ other. ap (λ (x : Process). x.pid) (sym other.after)
+          ∙ reached_pid e.act e.carried r
     ] part.part
 
 -- THE ACTOR'S OWN PART
@@ -66,7 +68,8 @@ pub own_is_part : (top : ℕ) (r : Process) (e : Entry) (s : Process)
     → actor e.act ≡ r.pid → IsOwnPart top r e s → IsPart top r e s
 own_is_part top r e s mine own = record {
   touched = ap (touches e.act) (sym mine) ∙ touches_actor e.act;
-  part = match_true (pid_eq r.pid (actor e.act)) _ _ (ap (pid_eq r.pid) mine ∙ pid_eq-same r.pid) own;
+  part = match_true (pid_eq r.pid (actor e.act)) _ _ (ap (pid_eq r.pid) mine ∙ pid_eq-same r.pid)
+      own;
 }
 
 -- the entry of an act that tells this
@@ -80,7 +83,8 @@ entry_of n a told carried = record {
 }
 
 -- the actor is changed by its own part, and then by what reaches it
-pub own_part : (top : ℕ) (a : Act) (p : Pid) (l m : LocalState) (queue queue' : List Message) (n : ℕ) (told : Told)
+pub own_part : (top : ℕ) (a : Act) (p : Pid) (l m : LocalState) (queue queue' : List Message)
+    (n : ℕ) (told : Told)
     → actor a ≡ p → acted top (process_of p l queue) a ≡ Some (part_of told m queue')
     → IsOwnPart top (process_of p l queue) (entry_of n a told (carried_by a m.token))
     (reached a m.token (process_of p m queue'))
@@ -104,8 +108,10 @@ inner_carried (act.Send p q v) t inner = absurd (cc)
 inner_carried a t inner = refl
 
 -- an act that leaves all queues
-pub inner_part : (top : ℕ) (a : Act) (p : Pid) (l m : LocalState) (queue : List Message) (n : ℕ) (told : Told)
-    → is_inner a ≡ true → actor a ≡ p → acted top (process_of p l queue) a ≡ Some (part_of told m queue)
+pub inner_part : (top : ℕ) (a : Act) (p : Pid) (l m : LocalState) (queue : List Message) (n : ℕ)
+    (told : Told)
+    → is_inner a ≡ true → actor a ≡ p
+    → acted top (process_of p l queue) a ≡ Some (part_of told m queue)
     → IsOwnPart top (process_of p l queue) (entry_of n a told None) (process_of p m queue)
 inner_part top a p l m queue n told inner mine acts =
     let carried : carried_by a m.token ≡ None = inner_carried a m.token inner in
@@ -113,15 +119,20 @@ inner_part top a p l m queue n told inner mine acts =
     inner_reached a m.token (process_of p m queue) inner in
     rw (← carried, ← after) (own_part top a p l m queue queue n told mine acts)
 
-pub receive_part : (top : ℕ) (p : Pid) (w : Want) (l m : LocalState) (queue queue' : List Message) (n : ℕ)
-    (told : Told) → acted top (process_of p l queue) (act.Receive p w) ≡ Some (part_of told m queue')
-    → IsOwnPart top (process_of p l queue) (entry_of n (act.Receive p w) told None) (process_of p m queue')
-receive_part top p w l m queue queue' n told acts = own_part top (act.Receive p w) p l m queue queue' n told refl acts
+pub receive_part : (top : ℕ) (p : Pid) (w : Want) (l m : LocalState) (queue queue' : List Message)
+    (n : ℕ)
+    (told : Told) → acted top (process_of p l queue) (act.Receive p w)
+    ≡ Some (part_of told m queue')
+    → IsOwnPart top (process_of p l queue) (entry_of n (act.Receive p w) told None)
+    (process_of p m queue')
+receive_part top p w l m queue queue' n told acts =
+    own_part top (act.Receive p w) p l m queue queue' n told refl acts
 
 -- THE PART OF ANOTHER
 
 pub other_is_part : (top : ℕ) (r : Process) (e : Entry) (s : Process)
-    → touches e.act r.pid ≡ true → pid_eq r.pid (actor e.act) ≡ false → IsOtherPart top r e s → IsPart top r e s
+    → touches e.act r.pid ≡ true → pid_eq r.pid (actor e.act) ≡ false → IsOtherPart top r e s
+    → IsPart top r e s
 other_is_part top r e s touched apart other = record {
   touched = touched;
   part = match_false (pid_eq r.pid (actor e.act)) _ _ apart other;
@@ -135,7 +146,8 @@ wide_entry n a y = record { rank = n; act = a; reply = y; report = None; carried
 
 -- the act's reply is the machine's, if r is its actor
 abbrev pub IsReplied : ℕ → Process → Act → Reply → Type 0
-IsReplied top r a y = actor a ≡ r.pid → option_map (λ (done : Acted). done.reply) (acted top r a) ≡ Some y
+IsReplied top r a y = actor a ≡ r.pid → option_map (λ (done : Acted). done.reply) (acted top r a)
+    ≡ Some y
 
 pub wide_part : (top : ℕ) (r : Process) (n : ℕ) (a : Act) (y : Reply)
     → is_wide a ≡ true → node_eq r.pid (actor a) ≡ true → IsReplied top r a y

@@ -1,6 +1,6 @@
 -- A pid that is found is among the pids, and one that is missing from a search isn't.
-use Rattle.std.proofs.Common.{◌≡◌, ℕ, true, false, List, length, get_or, refl, sym, ◌∙◌, ap, is_some, Option, Some}
-use Rattle.std.proofs.Common.{None, IfNone, IfSome, Result, Ok, Err}
+use Rattle.std.proofs.Common.{◌≡◌, ℕ, true, false, List, length, get_or, refl, sym, ◌∙◌, ap}
+use Rattle.std.proofs.Common.{is_some, Option, Some, None, IfNone, IfSome, Result, Ok, Err}
 use Rattle.std.specs.List.{AllByRecursion}
 use Rattle.std.specs.List.Sorted.{IsBinarySearchResult, IsSearchInRange}
 use Rattle.std.specs.Prelude.{not, slice_get}
@@ -9,11 +9,13 @@ use Rattle.std.proofs.lemmas.Option.{slice_get-get_or}
 use Rattle.st_core.specs.declared.types.Pid.{Pid}
 use Rattle.st_core.specs.Pid.{pid_cmp, pid_eq}
 use Rattle.st_core.specs.Streams.{is_among}
-use Rattle.st_core.proofs.ForCallers.{pid_cmp-Equal, pid_eq-refl, pid_eq-true, is_among-found, is_among-missing}
+use Rattle.st_core.proofs.ForCallers.{pid_cmp-Equal, pid_eq-refl, pid_eq-true, is_among-found}
+use Rattle.st_core.proofs.ForCallers.{is_among-missing}
 
 -- a place that was searched for
 pub place_tells : (ps : List Pid) (p : Pid) (o : Option ℕ)
-    → IfSome o (λ i. slice_get ps i ≡ Some p) → IfNone o (AllByRecursion (λ q. pid_eq q p ≡ false) ps)
+    → IfSome o (λ i. slice_get ps i ≡ Some p)
+    → IfNone o (AllByRecursion (λ q. pid_eq q p ≡ false) ps)
     → is_some o ≡ is_among ps p
 place_tells ps p (Some i) found missing = sym (is_among-found ps p i found)
 place_tells ps p None found missing = sym (is_among-missing ps p missing)

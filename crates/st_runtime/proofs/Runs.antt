@@ -1,6 +1,7 @@
 -- Merged entries are a run.
-use Rattle.std.proofs.Common.{◌≡◌, ℕ, Bool, true, false, cond, List, [], ◌∷◌, ◌++◌, map, Option, Some, None, option_map}
-use Rattle.std.proofs.Common.{IsSome, ◌||◌, if◌then◌else◌, refl, sym, ◌∙◌, ap, subst, inl, inr, ⊎_elim}
+use Rattle.std.proofs.Common.{◌≡◌, ℕ, Bool, true, false, cond, List, [], ◌∷◌, ◌++◌, map, Option}
+use Rattle.std.proofs.Common.{Some, None, option_map, IsSome, ◌||◌, if◌then◌else◌, refl, sym, ◌∙◌}
+use Rattle.std.proofs.Common.{ap, subst, inl, inr, ⊎_elim}
 use Rattle.std.specs.Prelude.{filter, All, Contains, option_to_list}
 use Rattle.std.proofs.lemmas.Option.{same_Some}
 use Rattle.st_core.specs.declared.types.Pid.{Pid}
@@ -10,8 +11,8 @@ use Rattle.st_core.specs.State.{Process, State, process, zero_state}
 use Rattle.st_core.specs.Step.{Acted, Outcome, actor, receiver, touches, changed, outcome_of}
 use Rattle.st_core.specs.Run.{Stream, run, run_from, stream, pids_of}
 use Rattle.st_core.specs.Streams.{is_among}
-use Rattle.st_core.proofs.ForCallers.{pid_eq-true, some_of, step_done, run_from-more, changed_pid, changed_untouched}
-use Rattle.st_core.proofs.ForCallers.{process_pid, process-map, mapped}
+use Rattle.st_core.proofs.ForCallers.{pid_eq-true, some_of, step_done, run_from-more, changed_pid}
+use Rattle.st_core.proofs.ForCallers.{changed_untouched, process_pid, process-map, mapped}
 use Rattle.st_log.specs.declared.entry.Entry.{Entry}
 use Rattle.st_runtime.specs.Logs.{IsPart, LeadTo, zero_process}
 use Rattle.st_runtime.specs.Pcb.{Control, IsFromLog}
@@ -19,14 +20,16 @@ use Rattle.st_runtime.specs.Pieces.{pids_in, HasIfTouched, IsWholeEntry, AreWhol
 use Rattle.st_runtime.specs.Joined.{reports_of, streams_of, IsMerged, IsOneRun}
 use Rattle.st_runtime.proofs.PartLemmas.{touches_actor, part_pid}
 use Rattle.st_runtime.proofs.Legal.{own_of_part, IsDone, part_changed, untouched_other}
-use Rattle.st_runtime.proofs.Members.{In, In-Contains, Contains-In, All-In, In-All, In-filter, In-to_filter}
-use Rattle.st_runtime.proofs.Members.{IsOrdered-from_pairs, IsOrdered-filter, IsOrdered-from_rises, same_list}
+use Rattle.st_runtime.proofs.Members.{In, In-Contains, Contains-In, All-In, In-All, In-filter}
+use Rattle.st_runtime.proofs.Members.{In-to_filter, IsOrdered-from_pairs, IsOrdered-filter}
+use Rattle.st_runtime.proofs.Members.{IsOrdered-from_rises, same_list}
 
 abbrev pub touching : Pid → Entry → Bool
 touching p e = touches e.act p
 
 -- an entry that touches a process is first in what is left of its log
-leads_first : (top : ℕ) (r : Process) (e : Entry) (xs : List Entry) (f : Process) (b : Bool) → b ≡ true
+leads_first : (top : ℕ) (r : Process) (e : Entry) (xs : List Entry) (f : Process) (b : Bool)
+    → b ≡ true
     → LeadTo top r (cond b (e ∷ xs) xs) f → (m : Process) × IsPart top r e m × LeadTo top m xs f
 leads_first top r e xs f true is l = l
 leads_first top r e xs f false is l = cc
@@ -38,7 +41,8 @@ AreLed top s es = (p : Pid) (r : Process) → process s p ≡ Some r
 
 -- the actor and the receiver are there
 abbrev AreThere : State → List Entry → Type 0
-AreThere s es = (e : Entry) → In e es → IsSome (process s (actor e.act)) × IsSome (process s (receiver e.act))
+AreThere s es = (e : Entry) → In e es → IsSome (process s (actor e.act))
+    × IsSome (process s (receiver e.act))
 
 -- a run with what its entries tell
 record Ran (top : ℕ) (s : State) (es : List Entry) : Type 0 where
@@ -52,9 +56,11 @@ some_map f None h = absurd (cc)
 some_map f (Some x) h = refl
 
 -- what is left of a process's log after an entry, by whether the entry touches it
-led_on : (top : ℕ) (e : Entry) (es : List Entry) (p : Pid) (r : Process) (before : Process) (done : Acted) (f : Process)
+led_on : (top : ℕ) (e : Entry) (es : List Entry) (p : Pid) (r : Process) (before : Process)
+    (done : Acted) (f : Process)
     → IsDone top e before done → (r.pid ≡ actor e.act → r ≡ before) → r.pid ≡ p
-    → LeadTo top r (filter (touching p) (e ∷ es)) f → LeadTo top (changed e.act done r) (filter (touching p) es) f
+    → LeadTo top r (filter (touching p) (e ∷ es)) f
+    → LeadTo top (changed e.act done r) (filter (touching p) es) f
 led_on top e es p r before done f by one is led =
     elim (touches e.act p) as (λ b. touches e.act p ≡ b → LeadTo top r
     (cond b (e ∷ filter (touching p) es) (filter (touching p) es)) f
@@ -100,7 +106,8 @@ ran top (e ∷ es) s there led =
     let other = some_of (process s (receiver e.act)) known.1 in
     let mine : r.pid ≡ actor e.act = process_pid s (actor e.act) r here.1 in
     let first = led (actor e.act) r here.1 in
-    let next = leads_first top r e (filter (touching (actor e.act)) es) first.0 (touches e.act (actor e.act))
+    let next = leads_first top r e (filter (touching (actor e.act)) es) first.0
+    (touches e.act (actor e.act))
     (touches_actor e.act) first.1 in
     let own = own_of_part top r e next.0 mine next.1 in
     let done = own.done in
@@ -123,17 +130,21 @@ led_touches : (top : ℕ) (r f : Process) (es : List Entry) (e : Entry) → Lead
 led_touches top r f [] e l i = absurd i
 led_touches top r f (d ∷ ds) e l i =
     ⊎_elim (λ same. ap (λ (x : Entry). touches x.act r.pid) same ∙ l.1.touched)
-    (λ later. ap (touches e.act) (sym (part_pid top r d l.0 l.1)) ∙ led_touches top l.0 f ds e l.2 later) i
+    (λ later. ap (touches e.act) (sym (part_pid top r d l.0 l.1)) ∙ led_touches top l.0 f ds e l.2
+    later) i
 
 -- an entry that the merge has is whole
-pub merged_whole : (xs : List Control) (es : List Entry) (e : Entry) → IsMerged xs es → AreWhole xs → In e es
+pub merged_whole : (xs : List Control) (es : List Entry) (e : Entry) → IsMerged xs es → AreWhole xs
+    → In e es
     → IsWholeEntry xs e
 merged_whole xs es e merged whole i =
     let from = merged.logged e (In-Contains e es i) in
-    All-In (IsWholeEntry xs) from.0.log e (All-In (λ (x : Control). All (IsWholeEntry xs) x.log) xs from.0 whole
+    All-In (IsWholeEntry xs) from.0.log e
+    (All-In (λ (x : Control). All (IsWholeEntry xs) x.log) xs from.0 whole
     (Contains-In from.0 xs from.1)) (Contains-In e from.0.log from.2)
 
-pub restricted : (top ranks : ℕ) (xs : List Control) (es : List Entry) (x : Control) → IsMerged xs es → AreWhole xs
+pub restricted : (top ranks : ℕ) (xs : List Control) (es : List Entry) (x : Control)
+    → IsMerged xs es → AreWhole xs
     → In x xs → IsFromLog top ranks x.process x.log → filter (touching x.process.pid) es ≡ x.log
 restricted top ranks xs es x merged whole here kept =
     let p = x.process.pid in
@@ -166,7 +177,8 @@ record IsZeroOf (xs : List Control) (p : Pid) (r : Process) : Type 0 where
   pid : control.process.pid ≡ p
   zero : zero_process p ≡ r
 
-zero_found : (xs : List Control) (p : Pid) (r : Process) → process (zero_state (pids_in xs)) p ≡ Some r
+zero_found : (xs : List Control) (p : Pid) (r : Process)
+    → process (zero_state (pids_in xs)) p ≡ Some r
     → IsZeroOf xs p r
 zero_found [] p r h = absurd (cc)
 zero_found (x ∷ xs) p r h =
@@ -175,7 +187,13 @@ zero_found (x ∷ xs) p r h =
     → IsZeroOf (x ∷ xs) p r) [
       | true ↦ λ is h.
           let same : x.process.pid ≡ p = pid_eq-true x.process.pid p is in
-          record { control = x; among = inl refl; pid = same; zero = ap zero_process (sym same) ∙ same_Some _ r h }
+          record {
+            control = x;
+            among = inl refl;
+            pid = same;
+            zero =
+                ap zero_process (sym same) ∙ same_Some _ r h;
+          }
       | false ↦ λ is h. let found = zero_found xs p r h in record {
         control = found.control;
         among =
@@ -188,12 +206,14 @@ zero_found (x ∷ xs) p r h =
 -- WHAT THE RUN SHOWS
 
 -- the reports of one process among all entries, and among those that touch it
-reports_touching : (p : Pid) (es : List Entry) → reports_of p es ≡ reports_of p (filter (touching p) es)
+reports_touching : (p : Pid) (es : List Entry)
+    → reports_of p es ≡ reports_of p (filter (touching p) es)
 reports_touching p [] = refl
 reports_touching p (e ∷ es) =
     elim (touches e.act p) as (λ b. touches e.act p ≡ b → reports_of p (e ∷ es) ≡ reports_of p
     (cond b (e ∷ filter (touching p) es) (filter (touching p) es))) [
-      | true ↦ λ t. ap (λ rest. (if pid_eq (actor e.act) p then option_to_list e.report else []) ++ rest)
+      | true ↦ λ t. ap (λ rest. (if pid_eq (actor e.act) p then option_to_list e.report else [])
+          ++ rest)
           (reports_touching p es)
       | false ↦ λ t. rw (untouched_other e.act p t) (reports_touching p es)
     ] refl
@@ -203,7 +223,8 @@ calls_touching p [] = refl
 calls_touching p (e ∷ es) =
     elim (touches e.act p) as (λ b. touches e.act p ≡ b → calls_of p (e ∷ es) ≡ calls_of p
     (cond b (e ∷ filter (touching p) es) (filter (touching p) es))) [
-      | true ↦ λ t. ap (λ rest. (if pid_eq (actor e.act) p then (e.act, e.reply) ∷ [] else []) ++ rest)
+      | true ↦ λ t. ap (λ rest. (if pid_eq (actor e.act) p then (e.act, e.reply) ∷ [] else [])
+          ++ rest)
           (calls_touching p es)
       | false ↦ λ t. rw (untouched_other e.act p t) (calls_touching p es)
     ] refl
@@ -234,20 +255,24 @@ pids_streams (x ∷ xs) = ap (λ ps. x.process.pid ∷ ps) (pids_streams xs)
 all_streams : (acts : List Act) (os : List Outcome) (xs : List Control)
     → ((x : Control) → In x xs → stream acts os x.process.pid ≡ reports_of x.process.pid x.log)
     → All (λ (x : Stream). stream acts os x.pid ≡ x.events) (streams_of xs)
-all_streams acts os xs each = In-All (λ (x : Stream). stream acts os x.pid ≡ x.events) (streams_of xs)
+all_streams acts os xs each =
+    In-All (λ (x : Stream). stream acts os x.pid ≡ x.events) (streams_of xs)
     (λ y i. by xs each y i)
   where
     by : (xs : List Control)
-        → ((x : Control) → In x xs → stream acts os x.process.pid ≡ reports_of x.process.pid x.log) → (y : Stream)
+        → ((x : Control) → In x xs → stream acts os x.process.pid ≡ reports_of x.process.pid x.log)
+        → (y : Stream)
         → In y (streams_of xs) → stream acts os y.pid ≡ y.events
     by [] each y i = absurd i
     by (x ∷ xs) each y i =
-        ⊎_elim (λ same. subst (λ (z : Stream). stream acts os z.pid ≡ z.events) (sym same) (each x (inl refl)))
+        ⊎_elim (λ same. subst (λ (z : Stream). stream acts os z.pid ≡ z.events) (sym same)
+        (each x (inl refl)))
         (λ later. by xs (λ z j. each z (inr j)) y later) i
 
 -- ONE RUN
 pub one_run : (top ranks : ℕ) (xs : List Control) (es : List Entry)
-    → All (λ (x : Control). IsFromLog top ranks x.process x.log) xs → AreWhole xs → IsMerged xs es → IsOneRun top xs es
+    → All (λ (x : Control). IsFromLog top ranks x.process x.log) xs → AreWhole xs → IsMerged xs es
+    → IsOneRun top xs es
 one_run top ranks xs es kept whole merged =
     let acts : List Act = map (λ (e : Entry). e.act) es in
     let log : (x : Control) → In x xs → filter (touching x.process.pid) es ≡ x.log =
@@ -262,11 +287,13 @@ one_run top ranks xs es kept whole merged =
     let found = zero_found xs p r h in
     let x = found.control in
     let k = All-In (λ (y : Control). IsFromLog top ranks y.process y.log) xs x kept found.among in
-    let led : LeadTo top (zero_process x.process.pid) (filter (touching x.process.pid) es) x.process =
+    let led : LeadTo top (zero_process x.process.pid) (filter (touching x.process.pid) es)
+    x.process =
     rw (log x found.among) k.local in (
       x.process,
       subst (λ y. LeadTo top y (filter (touching p) es) x.process) found.zero
-          (subst (λ q. LeadTo top (zero_process q) (filter (touching q) es) x.process) found.pid led),
+          (subst (λ q. LeadTo top (zero_process q) (filter (touching q) es) x.process) found.pid
+          led),
     )) in
     record {
       outcomes = all.outcomes;
@@ -276,7 +303,8 @@ one_run top ranks xs es kept whole merged =
       shows = (
         all.outcomes,
         ap (λ ps. run top ps acts) (pids_streams xs) ∙ all.runs,
-        all_streams acts all.outcomes xs (λ x i. stream_reports x.process.pid es all.outcomes all.reports
+        all_streams acts all.outcomes xs
+            (λ x i. stream_reports x.process.pid es all.outcomes all.reports
             ∙ reports_touching x.process.pid es ∙ ap (reports_of x.process.pid) (log x i)),
       );
       calls = In-All (λ (x : Control). calls_of x.process.pid es ≡ calls_of x.process.pid x.log) xs

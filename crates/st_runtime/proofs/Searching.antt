@@ -45,8 +45,10 @@ rank_rises : (low : ℕ) (log : List Entry) (i j : ℕ) (d : Entry)
     → RanksRise low log → i < j → j < length log → (get_or log i d).rank < (get_or log j d).rank
 rank_rises low [] i j d rises lt within = absurd (omega arith)
 rank_rises low (x ∷ xs) i zero d rises lt within = absurd (omega arith)
-rank_rises low (x ∷ xs) zero (suc j) d rises lt within = rank_above x.rank xs j d rises.1 (omega arith)
-rank_rises low (x ∷ xs) (suc i) (suc j) d rises lt within = rank_rises x.rank xs i j d rises.1 (omega arith)
+rank_rises low (x ∷ xs) zero (suc j) d rises lt within =
+    rank_above x.rank xs j d rises.1 (omega arith)
+rank_rises low (x ∷ xs) (suc i) (suc j) d rises lt within =
+    rank_rises x.rank xs i j d rises.1 (omega arith)
     (omega arith)
 
 rank_itself : (n : ℕ) → nat_cmp n n ≡ Equal
@@ -72,7 +74,8 @@ at_its_rank log e i rises within same has =
 
 -- what a binary search for an entry's rank says of the entry
 pub entry_found : (log : List Entry) (e : Entry) (i : ℕ) → RanksRise 0 log → i < length log
-    → IsBinarySearchResult (λ (y : Entry). nat_cmp y.rank e.rank) log (Ok i) → Contains log e → get_or log i e ≡ e
+    → IsBinarySearchResult (λ (y : Entry). nat_cmp y.rank e.rank) log (Ok i) → Contains log e
+    → get_or log i e ≡ e
 entry_found log e i rises within found has =
     at_its_rank log e i rises within (nat_cmp-Equal (get_or log i e).rank e.rank (found e)) has
 
@@ -90,18 +93,21 @@ entry_missing log e i rises found has =
     let Ranked : Ordering → Entry → Type 0 = λ o d. nat_cmp d.rank e.rank ≡ o in
     let parts = found (λ a b d le below. ⊎_elim
     (λ lt. let up = rank_rises 0 log a b d rises lt below in rank_order _ _ e.rank (omega arith))
-    (λ eq. let one : a ≡ b = omega arith in rank_order _ _ e.rank (omega (arith, ap (λ n. (get_or log n d).rank) one)))
+    (λ eq. let one : a ≡ b = omega arith in
+    rank_order _ _ e.rank (omega (arith, ap (λ n. (get_or log n d).rank) one)))
     (cases_lt a b)) in
     ⊎_elim
     (λ below. not_less_itself e.rank (subst (Ranked Less) has.2 (parts.0 k e (omega arith) below)))
-    (λ from. not_greater_itself e.rank (subst (Ranked Greater) has.2 (parts.1 k e (omega arith) inside)))
+    (λ from. not_greater_itself e.rank
+    (subst (Ranked Greater) has.2 (parts.1 k e (omega arith) inside)))
     (cases_lt k i)
 
 -- ---- processes
 
 -- a process that a binary search for its pid finds
 pub process_found : (xs : List Control) (p : Pid) (r : Result ℕ ℕ)
-    → IsSearchInRange r (length xs) → IsBinarySearchResult (λ (x : Control). pid_cmp x.process.pid p) xs r
+    → IsSearchInRange r (length xs)
+    → IsBinarySearchResult (λ (x : Control). pid_cmp x.process.pid p) xs r
     → IfSome (result_ok r) (λ i. (i < length xs) × (slice_get (pids_in xs) i ≡ Some p))
 process_found xs p (Ok i) within found =
     let long : length (pids_in xs) ≡ length xs = length-map xs (λ (x : Control). x.process.pid) in (
@@ -113,7 +119,8 @@ process_found xs p (Err i) within found = tt
 
 -- the same of the pids alone
 pub pids_found : (xs : List Control) (p : Pid) (r : Result ℕ ℕ)
-    → IsSearchInRange r (length xs) → IsBinarySearchResult (λ (x : Control). pid_cmp x.process.pid p) xs r
+    → IsSearchInRange r (length xs)
+    → IsBinarySearchResult (λ (x : Control). pid_cmp x.process.pid p) xs r
     → IfSome (result_ok r) (λ i. slice_get (pids_in xs) i ≡ Some p)
 pids_found xs p (Ok i) within found = (process_found xs p (Ok i) within found).1
 pids_found xs p (Err i) within found = tt

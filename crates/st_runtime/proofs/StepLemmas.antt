@@ -1,4 +1,5 @@
--- The machine's step on the lent processes alone is their parts side by side, since the act's processes are all there.
+-- The machine's step on the lent processes alone is their parts side by side, since the act's
+-- processes are all there.
 use Rattle.std.proofs.Common.{◌≡◌, ◌≢◌, ℕ, ◌+◌, true, false, cond, max, [], ◌∷◌, ◌++◌, Option, Some}
 use Rattle.std.proofs.Common.{option_map, refl, sym, ◌∙◌, ap, arith}
 use Rattle.st_core.specs.declared.types.Pid.{Pid}
@@ -38,13 +39,15 @@ step_alone top r a alone mine =
     step_is top (r ∷ []) a r r (found_first r [] (actor a) mine)
     (found_first r [] (receiver a) (alone_receiver a alone ∙ mine))
 
-pub stepped_alone : (top : ℕ) (a : Act) (y : Reply) (x z : Control) → is_alone a ≡ true → actor a ≡ x.process.pid
+pub stepped_alone : (top : ℕ) (a : Act) (y : Reply) (x z : Control) → is_alone a ≡ true
+    → actor a ≡ x.process.pid
     → IsAppended top a y x z → IsStepped top a y (x ∷ []) (z ∷ [])
 stepped_alone top a y x z alone mine is =
     let e = is.entry in
     let own = is.part in
     let s : State = x.process ∷ [] in
-    let acts : acted top x.process a ≡ Some own.done = ap (acted top x.process) (sym is.act) ∙ own.acts in
+    let acts : acted top x.process a ≡ Some own.done =
+    ap (acted top x.process) (sym is.act) ∙ own.acts in
     let after : changed a own.done x.process ≡ z.process =
     ap (λ b. changed b own.done x.process) (sym is.act) ∙ own.after in
     let outcome : outcome_of s a own.done ≡ entry_outcome e own.done.place (z ∷ []) = λ i. record {
@@ -56,7 +59,8 @@ stepped_alone top a y x z alone mine is =
     record {
       entry = e;
       place = own.done.place;
-      step = step_alone top x.process a alone mine ∙ ap (option_map (outcome_of s a)) acts ∙ ap (λ o. Some o) outcome;
+      step = step_alone top x.process a alone mine ∙ ap (option_map (outcome_of s a)) acts
+          ∙ ap (λ o. Some o) outcome;
       act = is.act;
       reply = is.reply;
       rank = is.rank ∙ omega arith;
@@ -73,7 +77,8 @@ apart_eq p q apart =
     ] refl
 
 -- what reaches a process is the same by the actor's token and by the carried one
-pub reached_carried : (a : Act) (t : Option Token) (r : Process) → reached a (carried_by a t) r ≡ reached a t r
+pub reached_carried : (a : Act) (t : Option Token) (r : Process)
+    → reached a (carried_by a t) r ≡ reached a t r
 reached_carried (act.Send p q v) t r = refl
 reached_carried (act.Reset p) t r = refl
 reached_carried (act.Tracer p b) t r = refl
@@ -82,7 +87,8 @@ reached_carried a t r = refl
 -- the step of a send from x to y
 pub step_between : (top : ℕ) (x y : Process) (v : ℕ) → pid_eq x.pid y.pid ≡ false
     → step top (x ∷ y ∷ []) (act.Send x.pid y.pid v)
-    ≡ option_map (outcome_of (x ∷ y ∷ []) (act.Send x.pid y.pid v)) (acted top x (act.Send x.pid y.pid v))
+    ≡ option_map (outcome_of (x ∷ y ∷ []) (act.Send x.pid y.pid v))
+    (acted top x (act.Send x.pid y.pid v))
 step_between top x y v apart =
     let second : process (x ∷ y ∷ []) y.pid ≡ Some y = rw (apart, pid_eq-same y.pid) refl in
     step_is top (x ∷ y ∷ []) (act.Send x.pid y.pid v) x y (found_first x (y ∷ []) x.pid refl) second
@@ -95,23 +101,27 @@ pub record AreLogged (x y z w : Control) (e : Entry) : Type 0 where
 
 pub stepped_between : (top : ℕ) (v : ℕ) (x y z w : Control) (e : Entry)
     → pid_eq x.process.pid y.process.pid ≡ false → e.act ≡ act.Send x.process.pid y.process.pid v
-    → IsOwnPart top x.process e z.process → IsOtherPart top y.process e w.process → AreLogged x y z w e
+    → IsOwnPart top x.process e z.process → IsOtherPart top y.process e w.process
+    → AreLogged x y z w e
     → IsStepped top (act.Send x.process.pid y.process.pid v) e.reply (x ∷ y ∷ []) (z ∷ w ∷ [])
 stepped_between top v x y z w e apart is own other logged =
     let a = act.Send x.process.pid y.process.pid v in
     let s : State = x.process ∷ y.process ∷ [] in
-    let acts : acted top x.process a ≡ Some own.done = ap (acted top x.process) (sym is) ∙ own.acts in
+    let acts : acted top x.process a ≡ Some own.done =
+    ap (acted top x.process) (sym is) ∙ own.acts in
     let from : changed a own.done x.process ≡ z.process =
     ap (λ b. changed b own.done x.process) (sym is) ∙ own.after in
     let carried : own.done.local.token ≡ e.carried =
     ap (λ b. carried_by b own.done.local.token) (sym is) ∙ own.carried in
-    let away : pid_eq y.process.pid x.process.pid ≡ false = pid_eq-swap y.process.pid x.process.pid ∙ apart in
+    let away : pid_eq y.process.pid x.process.pid ≡ false =
+    pid_eq-swap y.process.pid x.process.pid ∙ apart in
     let mine : Process = record y.process { local = own.done.local; queue = own.done.queue } in
     let to : changed a own.done y.process ≡ w.process =
     ap (λ b. reached a own.done.local.token (cond b mine y.process)) away
     ∙ ap (λ t. reached a t y.process) carried
     ∙ ap (λ b. reached b e.carried y.process) (sym is) ∙ other.after in
-    let outcome : outcome_of s a own.done ≡ entry_outcome e own.done.place (z ∷ w ∷ []) = λ i. record {
+    let outcome : outcome_of s a own.done ≡ entry_outcome e own.done.place (z ∷ w ∷ []) =
+    λ i. record {
       reply = own.reply i;
       report = own.report i;
       place = own.done.place;

@@ -1,7 +1,7 @@
--- An act that isn't one of a whole node touches its actor and a send's receiver alone; and pids that rise tell
--- processes apart.
-use Rattle.std.proofs.Common.{◌≡◌, cond, ℕ, ◌<◌, Bool, true, false, ◌||◌, List, [], ◌∷◌, length, get_or, Some, refl}
-use Rattle.std.proofs.Common.{sym, ◌∙◌, ap, subst, inl, inr, ⊎_elim, ◌⊎◌}
+-- An act that isn't one of a whole node touches its actor and a send's receiver alone; and pids
+-- that rise tell processes apart.
+use Rattle.std.proofs.Common.{◌≡◌, cond, ℕ, ◌<◌, Bool, true, false, ◌||◌, List, [], ◌∷◌, length}
+use Rattle.std.proofs.Common.{get_or, Some, refl, sym, ◌∙◌, ap, subst, inl, inr, ⊎_elim, ◌⊎◌}
 use Rattle.std.specs.Prelude.{All, Contains, slice_get}
 use Rattle.st_core.specs.declared.types.Pid.{Pid}
 use Rattle.st_core.specs.declared.types.Act.{Act}
@@ -52,7 +52,8 @@ pub control_at : (xs : List Control) (i : ℕ) (x : Control) (p : Pid) → i < l
     → slice_get (pids_in xs) i ≡ Some p → x ≡ get_or xs i x → Contains xs x × (x.process.pid ≡ p)
 control_at xs i x p within pid is = (
   (i, within, sym is),
-  ap (λ (y : Control). y.process.pid) is ∙ key_at (λ (y : Control). y.process.pid) xs i x p within pid,
+  ap (λ (y : Control). y.process.pid) is ∙ key_at (λ (y : Control). y.process.pid) xs i x p within
+      pid,
 )
 
 -- whoever of this pid has the entry, the one process of this pid has it
@@ -61,26 +62,32 @@ pub has_at_one : (xs : List Control) (x : Control) (p : Pid) (e : Entry) → IsR
 has_at_one xs x p e rising among pid has =
     let y = has.control in
     let one : y ≡ x =
-    one_process xs y x rising (Contains-In y xs has.among) (Contains-In x xs among) (has.pid ∙ sym pid) in
+    one_process xs y x rising (Contains-In y xs has.among) (Contains-In x xs among)
+    (has.pid ∙ sym pid) in
     subst (λ (z : Control). Contains z.log e) one has.has
 
-in_among : (xs : List Control) (x : Control) (p : Pid) → In x xs → x.process.pid ≡ p → is_among (pids_in xs) p ≡ true
+in_among : (xs : List Control) (x : Control) (p : Pid) → In x xs → x.process.pid ≡ p
+    → is_among (pids_in xs) p ≡ true
 in_among [] x p i pid = absurd i
 in_among (y ∷ ys) x p i pid =
-    elim (pid_eq y.process.pid p) as (λ b. pid_eq y.process.pid p ≡ b → (b || is_among (pids_in ys) p) ≡ true) [
+    elim (pid_eq y.process.pid p) as (λ b. pid_eq y.process.pid p ≡ b
+    → (b || is_among (pids_in ys) p) ≡ true) [
       | true ↦ λ is. refl
       | false ↦ λ is. ⊎_elim
           (λ first. let same : pid_eq y.process.pid p ≡ true =
-          ap (λ (z : Control). pid_eq z.process.pid p) (sym first) ∙ ap (pid_eq x.process.pid) (sym pid)
+          ap (λ (z : Control). pid_eq z.process.pid p) (sym first)
+          ∙ ap (pid_eq x.process.pid) (sym pid)
           ∙ pid_eq-same x.process.pid in cc)
           (λ later. in_among ys x p later pid) i
     ] refl
 
-pub not_among : (xs : List Control) (p : Pid) (e : Entry) → is_among (pids_in xs) p ≡ false → HasAt xs p e → ⊥
+pub not_among : (xs : List Control) (p : Pid) (e : Entry) → is_among (pids_in xs) p ≡ false
+    → HasAt xs p e → ⊥
 not_among xs p e none has =
     let some = in_among xs has.control p (Contains-In has.control xs has.among) has.pid in cc
 
-pub among_has : (xs : List Control) (p : Pid) (e : Entry) → HasAt xs p e → is_among (pids_in xs) p ≡ true
+pub among_has : (xs : List Control) (p : Pid) (e : Entry) → HasAt xs p e
+    → is_among (pids_in xs) p ≡ true
 among_has xs p e has = in_among xs has.control p (Contains-In has.control xs has.among) has.pid
 
 -- ---- whole entries
@@ -89,7 +96,8 @@ either_true : (a b : Bool) → cond a true b ≡ true → (a ≡ true) ⊎ (b �
 either_true true b is = inl refl
 either_true false b is = inr is
 
-touches_two : (a : Act) (p : Pid) → is_wide a ≡ false → touches a p ≡ true → (p ≡ actor a) ⊎ (p ≡ receiver a)
+touches_two : (a : Act) (p : Pid) → is_wide a ≡ false → touches a p ≡ true
+    → (p ≡ actor a) ⊎ (p ≡ receiver a)
 touches_two (act.Send p q v) r narrow touched = ⊎_elim
     (λ l. inl (pid_eq-true _ _ l)) (λ s. inr (pid_eq-true _ _ s)) (either_true _ _ touched)
 touches_two (act.Reset p) r narrow touched = absurd (cc)
@@ -98,7 +106,11 @@ touches_two a r narrow touched = inl (pid_eq-true r (actor a) touched)
 
 touches_receiver : (a : Act) → touches a (receiver a) ≡ true
 touches_receiver (act.Send p q v) =
-    elim (pid_eq q p) as (λ b. cond b true (pid_eq q q) ≡ true) [ true ↦ refl | false ↦ pid_eq-same q ]
+    elim (pid_eq q p) as (λ b. cond b true (pid_eq q q) ≡ true) [
+      | true ↦ refl
+      | false ↦
+          pid_eq-same q
+    ]
 touches_receiver (act.Reset p) = touches_actor (act.Reset p)
 touches_receiver (act.Tracer p b) = touches_actor (act.Tracer p b)
 touches_receiver a = touches_actor a
@@ -120,15 +132,18 @@ wide_receiver (act.Send p q v) wide = absurd (cc)
 wide_receiver a wide = refl
 
 -- an entry of a whole node that its actor has, and each process of the node, is whole
-pub whole_of_wide : (xs : List Control) (e : Entry) → is_wide e.act ≡ true → HasAt xs (actor e.act) e
+pub whole_of_wide : (xs : List Control) (e : Entry) → is_wide e.act ≡ true
+    → HasAt xs (actor e.act) e
     → All (HasIfTouched e) xs → IsWholeEntry xs e
 whole_of_wide xs e wide made everywhere = record {
   actor = among_has xs (actor e.act) e made;
-  receiver = ap (is_among (pids_in xs)) (wide_receiver e.act wide) ∙ among_has xs (actor e.act) e made;
+  receiver = ap (is_among (pids_in xs)) (wide_receiver e.act wide)
+      ∙ among_has xs (actor e.act) e made;
   everywhere = everywhere;
 }
 
-has_at_of : (xs : List Control) (e : Entry) (p : Pid) → touches e.act p ≡ true → is_among (pids_in xs) p ≡ true
+has_at_of : (xs : List Control) (e : Entry) (p : Pid) → touches e.act p ≡ true
+    → is_among (pids_in xs) p ≡ true
     → All (HasIfTouched e) xs → HasAt xs p e
 has_at_of xs e p touched there everywhere =
     let found = among_in p xs there in
@@ -137,24 +152,32 @@ has_at_of xs e p touched there everywhere =
       control = x;
       among = In-Contains x xs found.1.0;
       pid = found.1.1;
-      has = All-In (HasIfTouched e) xs x everywhere found.1.0 (ap (touches e.act) found.1.1 ∙ touched);
+      has = All-In (HasIfTouched e) xs x everywhere found.1.0
+          (ap (touches e.act) found.1.1 ∙ touched);
     }
 
 pub whole_actor : (xs : List Control) (e : Entry) → IsWholeEntry xs e → HasAt xs (actor e.act) e
-whole_actor xs e whole = has_at_of xs e (actor e.act) (touches_actor e.act) whole.actor whole.everywhere
+whole_actor xs e whole =
+    has_at_of xs e (actor e.act) (touches_actor e.act) whole.actor whole.everywhere
 
-pub whole_receiver : (xs : List Control) (e : Entry) → IsWholeEntry xs e → HasAt xs (receiver e.act) e
-whole_receiver xs e whole = has_at_of xs e (receiver e.act) (touches_receiver e.act) whole.receiver whole.everywhere
+pub whole_receiver : (xs : List Control) (e : Entry) → IsWholeEntry xs e
+    → HasAt xs (receiver e.act) e
+whole_receiver xs e whole =
+    has_at_of xs e (receiver e.act) (touches_receiver e.act) whole.receiver whole.everywhere
 
 -- ---- entries that are looked for everywhere once
 
--- if each process's own entries are whole, and its other ones are in their actors' logs, all are whole
-pub all_whole : (xs : List Control) → All (λ (x : Control). All (IsWholeIfOwn xs x.process.pid) x.log) xs → AreWhole xs
+-- if each process's own entries are whole, and its other ones are in their actors' logs, all are
+-- whole
+pub all_whole : (xs : List Control)
+    → All (λ (x : Control). All (IsWholeIfOwn xs x.process.pid) x.log) xs → AreWhole xs
 all_whole xs own =
     let Settles : Control → Type 0 = λ x. All (IsWholeIfOwn xs x.process.pid) x.log in
-    let settles : (x : Control) (e : Entry) → In x xs → In e x.log → IsWholeIfOwn xs x.process.pid e =
+    let settles : (x : Control) (e : Entry) → In x xs → In e x.log
+    → IsWholeIfOwn xs x.process.pid e =
     λ x e i j. All-In (IsWholeIfOwn xs x.process.pid) x.log e (All-In Settles xs x own i) j in
-    In-All (λ (x : Control). All (IsWholeEntry xs) x.log) xs (λ x i. In-All (IsWholeEntry xs) x.log (λ e j.
+    In-All (λ (x : Control). All (IsWholeEntry xs) x.log) xs
+    (λ x i. In-All (IsWholeEntry xs) x.log (λ e j.
     let has = (settles x e i j).made in
     let y = has.control in
     (settles y e (Contains-In y xs has.among) (Contains-In e y.log has.has)).whole (sym has.pid)))

@@ -1,6 +1,7 @@
 -- Each job ends as its worker's promise says.
-use Rattle.std.proofs.Common.{◌≡◌, ℕ, suc, ◌<◌, List, [], ◌∷◌, length, map, get_or, take, reverse, refl, ap, subst}
-use Rattle.std.proofs.Common.{arith, ◌++◌, ◌≢◌, ◌↔◌, ◌∙◌, sym, Bool, true, false, Result, Ok, Err, Option, Some, IfOk}
+use Rattle.std.proofs.Common.{◌≡◌, ℕ, suc, ◌<◌, List, [], ◌∷◌, length, map, get_or, take, reverse}
+use Rattle.std.proofs.Common.{refl, ap, subst, arith, ◌++◌, ◌≢◌, ◌↔◌, ◌∙◌, sym, Bool, true, false}
+use Rattle.std.proofs.Common.{Result, Ok, Err, Option, Some, IfOk}
 use Rattle.std.specs.Prelude.{All, slice_get}
 use Rattle.std.specs.List.{AllZip, zip}
 use Rattle.std.proofs.lemmas.List.{append_assoc, reverse-append}
@@ -37,7 +38,8 @@ all_left system job pids (h ∷ hs) (t ∷ ts) (o ∷ os) even of each =
     subst (λ x. LeavesEnding (system x) (job x) o) here.1 here.2 in
     let of_t : LeavesEnding (system h) t o = subst (λ x. LeavesEnding (system h) x o) of.0.0 of_h in (
       subst (λ x. LeavesEnding x t o) of.0.1 of_t,
-      all_left system job pids hs ts os (omega arith) of.1 (λ i d below. each (suc i) d (omega arith)),
+      all_left system job pids hs ts os (omega arith) of.1
+          (λ i d below. each (suc i) d (omega arith)),
     )
 
 -- none of them was told to stop
@@ -50,7 +52,8 @@ all_worked pids (t ∷ ts) (e ∷ es) left = (left.0, all_worked pids ts es left
 
 pub ended_worked : {V E : Type 0} (pids : List Pid) (ts : List Job) (os : List (Option Ending))
     (items : V → List Ending)
-    (r : Result V E) → AllZip (LeavesEnding pids) ts os → IfOk r (λ v. map (λ e. Some e) (items v) ≡ os)
+    (r : Result V E) → AllZip (LeavesEnding pids) ts os
+    → IfOk r (λ v. map (λ e. Some e) (items v) ≡ os)
     → IfOk r (λ v. AllZip (IsWorked pids) ts (items v))
 ended_worked pids ts os items (Ok v) left same =
     all_worked pids ts (items v) (subst (AllZip (LeavesEnding pids) ts) (sym same) left)
@@ -66,7 +69,9 @@ zip_map f (x ∷ xs) (y ∷ ys) = ap (λ rest. (f x, y) ∷ rest) (zip_map f xs 
 same_by : (p q : Pid) (b : Bool) → pid_eq p q ≡ b → ¬ (p ≢ q) → p ≡ q
 same_by p q true is alike = pid_eq-true p q is
 same_by p q false is alike =
-    absurd (alike (λ same. let one : pid_eq p q ≡ true = ap (λ r. pid_eq p r) (sym same) ∙ pid_eq-same p in cc))
+    absurd
+    (alike (λ same. let one : pid_eq p q ≡ true =
+    ap (λ r. pid_eq p r) (sym same) ∙ pid_eq-same p in cc))
 
 known_unless : (b : Bool) → ¬ (b ≡ false) → b ≡ true
 known_unless true h = refl
@@ -79,7 +84,8 @@ pub own_act : (pids : List Pid) (p : Pid) (a : Act) (r : Result Reply ActFault)
     → ((f : ActFault) → r ≢ Err f) → IsOwn pids p a
 own_act pids p a r not_yours unknown done =
     let mine : actor a ≡ p =
-    same_by (actor a) p (pid_eq (actor a) p) refl (λ apart. done fault.NotYours (not_yours.1 apart)) in
+    same_by (actor a) p (pid_eq (actor a) p) refl
+    (λ apart. done fault.NotYours (not_yours.1 apart)) in
     record {
       mine = mine;
       known = known_unless (knows pids a) (λ not. done fault.Unknown (unknown.1 (mine, not)));
@@ -104,7 +110,8 @@ acts_before (c ∷ mine) rest = ap (λ acts. c.0 ∷ acts) (acts_before mine res
 
 -- what is left begins with the act that is last
 next_first : (mine : List (Act × Reply)) (a : Act) (rest script : List Act)
-    → called_acts mine ++ reverse (rest ++ a ∷ []) ≡ script → called_acts mine ++ a ∷ reverse rest ≡ script
+    → called_acts mine ++ reverse (rest ++ a ∷ []) ≡ script
+    → called_acts mine ++ a ∷ reverse rest ≡ script
 next_first mine a rest script is =
     ap (λ acts. called_acts mine ++ acts) (sym (reverse-append rest (a ∷ []))) ∙ is
 
@@ -128,19 +135,29 @@ pub refusal_of : (pids : List Pid) (p q : Pid) (a : Act) (r : Result Reply ActFa
     → (r ≡ Err fault.ClockFull → is_stamping a ≡ true) → IsRefusal pids p a f
 refusal_of pids p q a r f is same not_yours unknown clock =
     subst (λ o. IsRefusal pids o a f) same (record {
-      not_yours = (λ it. not_yours.0 (is ∙ ap (λ g. Err g) it), λ apart. let told = not_yours.1 apart in cc);
-      unknown = (λ it. unknown.0 (is ∙ ap (λ g. Err g) it), λ both. let told = unknown.1 both in cc);
+      not_yours = (
+        λ it. not_yours.0 (is ∙ ap (λ g. Err g) it),
+        λ apart. let told =
+            not_yours.1 apart in cc,
+      );
+      unknown = (
+        λ it. unknown.0 (is ∙ ap (λ g. Err g) it),
+        λ both. let told = unknown.1 both in
+            cc,
+      );
       clock = λ it. clock (is ∙ ap (λ g. Err g) it);
     })
 
-pub refused_next : (pids : List Pid) (p : Pid) (mine : List (Act × Reply)) (a : Act) (rest script : List Act)
+pub refused_next : (pids : List Pid) (p : Pid) (mine : List (Act × Reply)) (a : Act)
+    (rest script : List Act)
     (f : ActFault) → called_acts mine ++ reverse (rest ++ a ∷ []) ≡ script → IsRefusal pids p a f
     → All (IsOwn pids p) (called_acts mine) → IsRefused pids p script (length mine) f
 refused_next pids p mine a rest script f is refusal own =
     let split = next_first mine a rest script is in
     record {
       asked = a;
-      place = subst (λ acts. slice_get acts (length mine) ≡ Some a) split (next_act mine a (reverse rest));
+      place = subst (λ acts. slice_get acts (length mine) ≡ Some a) split
+          (next_act mine a (reverse rest));
       not_yours = refusal.not_yours;
       unknown = refusal.unknown;
       clock = refusal.clock;

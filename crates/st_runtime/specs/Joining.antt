@@ -1,7 +1,7 @@
 -- The steps of joining: where an entry is, the least pid that isn't seated, and each process's
 -- own entries and reports.
-use Rattle.std.specs.Prelude.{◌≡◌, ◌≢◌, ℕ, ◌<◌, Bool, true, false, MatchBool, List, length, map, filter, Option}
-use Rattle.std.specs.Prelude.{Some, None, if◌then◌else◌, All, Contains, IfSome}
+use Rattle.std.specs.Prelude.{◌≡◌, ◌≢◌, ℕ, ◌<◌, Bool, true, false, MatchBool, List, length, map}
+use Rattle.std.specs.Prelude.{filter, Option, Some, None, if◌then◌else◌, All, Contains, IfSome}
 use Rattle.std.specs.Borrow.{Bor}
 use Rattle.std.specs.Ordering.{is_lt}
 use Rattle.std.specs.List.{flat_map, HoldsAt}

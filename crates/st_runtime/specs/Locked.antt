@@ -1,5 +1,6 @@
 -- An act under its locks, of which nothing is known but what their types keep.
-use Rattle.std.specs.Prelude.{◌≡◌, ◌<◌, ◌≤◌, ◌↔◌, ℕ, Bool, List, Option, None, IfSome, Result, Ok, Err, IfOk, OnErr}
+use Rattle.std.specs.Prelude.{◌≡◌, ◌<◌, ◌≤◌, ◌↔◌, ℕ, Bool, List, Option, None, IfSome, Result, Ok}
+use Rattle.std.specs.Prelude.{Err, IfOk, OnErr}
 use Rattle.st_core.specs.Step.{actor, receiver}
 use Rattle.st_runtime.specs.Lent.{AreSame, FindsClockFull, FindsRankFull}
 use Rattle.st_runtime.specs.Pcb.{Control, IsStepped}

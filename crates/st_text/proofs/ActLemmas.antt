@@ -13,13 +13,14 @@ use Rattle.st_core.specs.declared.types.Act.{Act}
 use Rattle.st_core.specs.declared.types.Act.TheVariants as acts
 use Rattle.st_text.specs.Spelling.{bool, pid, label, component, want, flags, token, act}
 use Rattle.st_text.specs.Range.{FitsComponent, FitsWant, FitsToken, FitsAct}
-use Rattle.st_text.specs.Parsing.{parse_component, parse_both, parse_want, parse_flags, parse_token, parse_send}
-use Rattle.st_text.specs.Parsing.{parse_receive, parse_print, parse_printat, parse_set, parse_restore, parse_tracer}
-use Rattle.st_text.specs.Parsing.{parse_alone, parse_act}
+use Rattle.st_text.specs.Parsing.{parse_component, parse_both, parse_want, parse_flags, parse_token}
+use Rattle.st_text.specs.Parsing.{parse_send, parse_receive, parse_print, parse_printat, parse_set}
+use Rattle.st_text.specs.Parsing.{parse_restore, parse_tracer, parse_alone, parse_act}
 use Rattle.st_text.proofs.Numbers.{Stops}
-use Rattle.st_text.proofs.Fields.{Takes, Any, unread, begins_cases, word_next, field_next, actor_next, made, none_left}
-use Rattle.st_text.proofs.Fields.{five_parts, value_takes, value_again, bool_takes, bool_again, pid_takes, pid_again}
-use Rattle.st_text.proofs.Fields.{label_takes, label_again, actor_again, actor_then}
+use Rattle.st_text.proofs.Fields.{Takes, Any, unread, begins_cases, word_next, field_next}
+use Rattle.st_text.proofs.Fields.{actor_next, made, none_left, five_parts, value_takes, value_again}
+use Rattle.st_text.proofs.Fields.{bool_takes, bool_again, pid_takes, pid_again, label_takes}
+use Rattle.st_text.proofs.Fields.{label_again, actor_again, actor_then}
 
 component_takes : (bytes : List ℕ) (x : Component × List ℕ) → parse_component bytes ≡ Some x
     → Takes component FitsComponent bytes x
@@ -119,7 +120,8 @@ token_again t rest fits =
 
 pub act_takes : (bytes : List ℕ) (x : Act × List ℕ) → parse_act bytes ≡ Some x
     → Takes act FitsAct bytes x
-unfolding parse_act parse_send parse_receive parse_print parse_printat parse_set parse_restore parse_tracer parse_alone
+unfolding parse_act parse_send parse_receive parse_print parse_printat parse_set parse_restore
+    parse_tracer parse_alone
 act_takes bytes x e =
     begins_cases (codes "send ") bytes e
     (λ rest s e. actor_next s e λ p p_fits s e.
@@ -154,7 +156,8 @@ act_takes bytes x e =
 
 pub act_again : (a : Act) (rest : List ℕ) → FitsAct a → Stops rest
     → parse_act (act a ++ rest) ≡ Some (a, rest)
-unfolding parse_act parse_alone parse_send parse_receive parse_print parse_printat parse_set parse_restore parse_tracer
+unfolding parse_act parse_alone parse_send parse_receive parse_print parse_printat parse_set
+    parse_restore parse_tracer
 act_again (acts.Send p q v) rest fits stops =
     rw (
       five_parts (pid p) (codes " ") (pid q) (codes " ") (decimal v),

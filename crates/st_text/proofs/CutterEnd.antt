@@ -1,6 +1,7 @@
--- At the end the lines are judged and the tail is what was kept, so that the answer is the bytes' bundle or fault.
-use Rattle.std.proofs.Common.{◌≡◌, ℕ, ◌+◌, ◌^◌, ◌<◌, ◌≤◌, Bool, true, false, List, [], ◌∷◌, ◌++◌, length}
-use Rattle.std.proofs.Common.{map, Option, Some, None, refl, sym, ap, subst, ◌∙◌, arith}
+-- At the end the lines are judged and the tail is what was kept, so that the answer is the bytes'
+-- bundle or fault.
+use Rattle.std.proofs.Common.{◌≡◌, ℕ, ◌+◌, ◌^◌, ◌<◌, ◌≤◌, Bool, true, false, List, [], ◌∷◌, ◌++◌}
+use Rattle.std.proofs.Common.{length, map, Option, Some, None, refl, sym, ap, subst, ◌∙◌, arith}
 use Rattle.std.specs.Prelude.{Result, Ok, Err}
 use Rattle.std.specs.List.{flat_map, count_by}
 use Rattle.std.proofs.lemmas.List.{append-nil, length-append, length-map}
@@ -24,15 +25,16 @@ use Rattle.st_text.specs.Parts.Finish.{IsFinished, Finishes}
 use Rattle.st_text.specs.Parts.Cutter.{IsTail}
 use Rattle.st_text.specs.Parts.CutterState.{HasTakenAs}
 use Rattle.st_text.specs.Answer.{IsReadResultOrMemory, IsReadResult, Reads}
-use Rattle.st_text.proofs.Newlines.{spelled_by, no_lines, fault_of_line, fault_truncated, fault_at_end, truncated_tail}
-use Rattle.st_text.proofs.Newlines.{truncated_nothing, truncated_none}
+use Rattle.st_text.proofs.Newlines.{spelled_by, no_lines, fault_of_line, fault_truncated}
+use Rattle.st_text.proofs.Newlines.{fault_at_end, truncated_tail, truncated_nothing, truncated_none}
 use Rattle.st_text.proofs.CountLimits.{all_few}
 use Rattle.st_text.proofs.GoodLines.{count-append, count-cons}
 use Rattle.st_text.proofs.Headers.{spelled_whole, body_fits}
 use Rattle.st_text.specs.declared.limits.Limits.{Limits}
 
 -- an answer that isn't Memory is one
-pub answers : (limits : Limits) (bytes : List ℕ) (r : Result Bundle ReadFault) → IsReadResult limits bytes r
+pub answers : (limits : Limits) (bytes : List ℕ) (r : Result Bundle ReadFault)
+    → IsReadResult limits bytes r
     → IsReadResultOrMemory limits bytes r
 answers limits bytes (Ok b) h = h
 answers limits bytes (Err faults.Memory) h = tt
@@ -46,19 +48,23 @@ answers limits bytes (Err (faults.TooMany n)) h = h
 answers limits bytes (Err faults.Truncated) h = h
 
 -- a fault was met
-pub end_fault : (limits : Limits) (bytes : List ℕ) (out : Bool) (o : Option ReadFault) (long : Bool) (kept : List ℕ)
+pub end_fault : (limits : Limits) (bytes : List ℕ) (out : Bool) (o : Option ReadFault) (long : Bool)
+    (kept : List ℕ)
     (p : Option BundleBuilder) (f : ReadFault)
-    → out ≡ false → o ≡ Some f → length bytes ≤ limits.bytes → HasTakenAs limits out o bytes long kept p
+    → out ≡ false → o ≡ Some f → length bytes ≤ limits.bytes
+    → HasTakenAs limits out o bytes long kept p
     → fault_within limits bytes ≡ Some f
 end_fault limits bytes true o long kept p f eo ef few h = absurd cc
 end_fault limits bytes false None long kept p f eo ef few h = absurd cc
 end_fault limits bytes false (Some g) long kept p f eo ef few h =
     let same : g ≡ f =
-    cc in fault_of_line limits bytes f few (subst (λ (x : ReadFault). first_fault limits [] (sayings bytes) ≡ Some x)
+    cc in fault_of_line limits bytes f few
+    (subst (λ (x : ReadFault). first_fault limits [] (sayings bytes) ≡ Some x)
     same h)
 
 -- none was met
-pub good : (limits : Limits) (bytes : List ℕ) (out : Bool) (o : Option ReadFault) (long : Bool) (kept : List ℕ)
+pub good : (limits : Limits) (bytes : List ℕ) (out : Bool) (o : Option ReadFault) (long : Bool)
+    (kept : List ℕ)
     (p : Option BundleBuilder)
     → out ≡ false → o ≡ None → HasTakenAs limits out o bytes long kept p
     → HasTakenAs limits false None bytes long kept p
@@ -74,13 +80,16 @@ kept_some : (long : Bool) (kept t : List ℕ) → long ≡ false → IsTail long
 kept_some true kept t e h = absurd cc
 kept_some false kept t e h = h
 
-pub end_long : (limits : Limits) (bytes : List ℕ) (long : Bool) (kept : List ℕ) (p : Option BundleBuilder) → long ≡ true
+pub end_long : (limits : Limits) (bytes : List ℕ) (long : Bool) (kept : List ℕ)
+    (p : Option BundleBuilder) → long ≡ true
     → length bytes ≤ limits.bytes → HasTakenAs limits false None bytes long kept p
     → fault_within limits bytes ≡ Some faults.Truncated
 end_long limits bytes long kept p e few h =
-    fault_truncated limits bytes few h.1.good (truncated_tail bytes (long_some long kept (cut bytes).1 e h.1.tail_is))
+    fault_truncated limits bytes few h.1.good
+    (truncated_tail bytes (long_some long kept (cut bytes).1 e h.1.tail_is))
 
-pub end_tail : (limits : Limits) (bytes : List ℕ) (long : Bool) (kept : List ℕ) (p : Option BundleBuilder)
+pub end_tail : (limits : Limits) (bytes : List ℕ) (long : Bool) (kept : List ℕ)
+    (p : Option BundleBuilder)
     → long ≡ false
     → 0 < length kept → length bytes ≤ limits.bytes → HasTakenAs limits false None bytes long kept p
     → fault_within limits bytes ≡ Some faults.Truncated
@@ -88,7 +97,8 @@ end_tail limits bytes long kept p e some few h =
     fault_truncated limits bytes few h.1.good (truncated_tail bytes
     (omega (arith, some, ap length (kept_some long kept (cut bytes).1 e h.1.tail_is))))
 
-pub end_nothing : (limits : Limits) (bytes : List ℕ) (long : Bool) (kept : List ℕ) (p : Option BundleBuilder) → p ≡ None
+pub end_nothing : (limits : Limits) (bytes : List ℕ) (long : Bool) (kept : List ℕ)
+    (p : Option BundleBuilder) → p ≡ None
     → length bytes ≤ limits.bytes → HasTakenAs limits false None bytes long kept p
     → fault_within limits bytes ≡ Some faults.Truncated
 end_nothing limits bytes long kept p e few h =
@@ -99,30 +109,42 @@ end_nothing limits bytes long kept p e few h =
 
 event_events : (es : List Event) → count_by is_event (map lines.Event es) ≡ length es
 event_events [] = refl
-event_events (e ∷ es) = omega (arith, count-cons is_event (lines.Event e) (map lines.Event es), event_events es)
+event_events (e ∷ es) = omega
+    (arith, count-cons is_event (lines.Event e) (map lines.Event es), event_events es)
 
 act_events : (list : List Act) → count_by is_event (map lines.Act list) ≡ 0
 act_events [] = refl
-act_events (a ∷ list) = omega (arith, count-cons is_event (lines.Act a) (map lines.Act list), act_events list)
+act_events (a ∷ list) = omega
+    (arith, count-cons is_event (lines.Act a) (map lines.Act list), act_events list)
 
 acts_events : (o : Option (List Act)) → count_by is_event (act_lines o) ≡ 0
 acts_events None = refl
-acts_events (Some list) = omega (arith, count-cons is_event lines.Acts (map lines.Act list), act_events list)
+acts_events (Some list) =
+    omega (arith, count-cons is_event lines.Acts (map lines.Act list), act_events list)
 
 abbrev pub all_of : List Stream → List Event
 all_of ss = flat_map {X = Stream} {A = Event} (λ s. s.events) ss
 
-stream_events : (ss : List Stream) → count_by is_event (flat_map process_lines ss) ≡ length (all_of ss)
+stream_events : (ss : List Stream) → count_by is_event (flat_map process_lines ss)
+    ≡ length (all_of ss)
 stream_events [] = refl
 stream_events (s ∷ ss) =
     let split = count-append is_event (process_lines s) (flat_map process_lines ss) in
     let first = count-cons is_event (lines.Process s.pid) (map lines.Event s.events) in
-    omega (arith, split, first, event_events s.events, stream_events ss, length-append s.events (all_of ss))
+    omega (
+      arith,
+      split,
+      first,
+      event_events s.events,
+      stream_events ss,
+      length-append s.events (all_of ss),
+    )
 
 pub all_events : (wide : Bool) (ss : List Stream) (o : Option (List Act))
     → count_by is_event (so_far wide ss o) ≡ length (all_of ss)
 all_events wide ss o =
-    let header = count-cons is_event (lines.Header wide) (flat_map process_lines ss ++ act_lines o) in
+    let header = count-cons is_event (lines.Header wide)
+    (flat_map process_lines ss ++ act_lines o) in
     let split = count-append is_event (flat_map process_lines ss) (act_lines o) in
     omega (arith, header, split, acts_events o, stream_events ss)
 
@@ -133,29 +155,50 @@ acts_are (Some list) = refl
 -- the finished lines are the text of a bundle within the limits
 reads : (limits : Limits) (bytes : List ℕ) (ls : List Line) (p : BundleBuilder) (b : Bundle)
     → length bytes ≤ limits.bytes
-    → (cut bytes).1 ≡ [] → sayings bytes ≡ map Some ls → first_fault limits [] (sayings bytes) ≡ None → IsBuilt p ls
+    → (cut bytes).1 ≡ [] → sayings bytes ≡ map Some ls
+    → first_fault limits [] (sayings bytes) ≡ None → IsBuilt p ls
     → IsFinished ls p b → Reads limits bytes (contents b)
 reads limits bytes ls p b few over said clean s fin =
     let counts = all_few limits ls (ap (first_fault limits []) (sym said) ∙ clean) in
     let whole : bytes ≡ flat_map ended ls =
-    spelled_by bytes ls said ∙ ap (λ (x : List ℕ). flat_map ended ls ++ x) over ∙ append-nil (flat_map ended ls) in
-    let says : sayings bytes ≡ map Some (lines.Header p.wide ∷ body (contents b)) = said ∙ ap (map Some) fin.lines in
+    spelled_by bytes ls said ∙ ap (λ (x : List ℕ). flat_map ended ls ++ x) over
+    ∙ append-nil (flat_map ended ls) in
+    let says : sayings bytes ≡ map Some (lines.Header p.wide ∷ body (contents b)) =
+    said ∙ ap (map Some) fin.lines in
     let spelled : bytes ≡ spelling (contents b) =
-    spelled_whole limits bytes p.wide (contents b) says clean (ap closing_fault (sym fin.lines) ∙ fin.closes)
+    spelled_whole limits bytes p.wide (contents b) says clean
+    (ap closing_fault (sym fin.lines) ∙ fin.closes)
     (whole ∙ ap (flat_map ended) fin.lines) in
     let processes : length p.draft ≡ p.processes =
-    omega (arith, s.processes_are, ap length s.pids_are, length-map p.draft (λ (x : Stream). x.pid)) in
+    omega (
+      arith,
+      s.processes_are,
+      ap length s.pids_are,
+      length-map p.draft (λ (x : Stream). x.pid),
+    ) in
     let events : length (flat_map {X = Stream} {A = Event} (λ s. s.events) p.draft) ≡ p.events =
-    sym (all_events p.wide p.draft p.acts) ∙ ap (λ (x : List Line). count_by is_event x) (sym s.lines)
+    sym (all_events p.wide p.draft p.acts) ∙ ap (λ (x : List Line). count_by is_event x)
+    (sym s.lines)
     ∙ sym s.events_are in
     record {
       text = record {
-        bundle = record { streams = fin.streams; listed = b.listed; fits = body_fits bytes p.wide (contents b) says };
+        bundle = record {
+          streams = fin.streams;
+          listed = b.listed;
+          fits =
+              body_fits bytes p.wide (contents b) says;
+        };
         spelled = spelled;
       };
       within = record {
         bytes = omega (arith, few, ap length spelled);
-        processes = omega (arith, processes, counts.processes, s.processes_are, ap length fin.draft);
+        processes = omega (
+          arith,
+          processes,
+          counts.processes,
+          s.processes_are,
+          ap length fin.draft,
+        );
         events =
             omega (
               arith,
@@ -163,7 +206,8 @@ reads limits bytes ls p b few over said clean s fin =
               counts.events,
               s.events_are,
               ap
-                  (λ (d : List Stream). length (flat_map {X = Stream} {A = Event} (λ s. s.events) d)) fin.draft,
+                  (λ (d : List Stream). length
+                  (flat_map {X = Stream} {A = Event} (λ s. s.events) d)) fin.draft,
             );
         acts = omega (arith, counts.acts, s.acts_are, ap acts_len fin.acts, acts_are b.acts);
       };
@@ -176,9 +220,18 @@ lines_of_acts (Some list) = omega arith
 
 small_count : (ls : List Line) (p : BundleBuilder) → IsBuilt p ls → length ls < 2 ^ 64
 small_count ls p s =
-    omega (arith, s.count, p.counted, p.few_processes, p.few_events, p.few_acts, lines_of_acts p.acts)
+    omega (
+      arith,
+      s.count,
+      p.counted,
+      p.few_processes,
+      p.few_events,
+      p.few_acts,
+      lines_of_acts p.acts,
+    )
 
-pub end_finish : (limits : Limits) (bytes : List ℕ) (long : Bool) (kept : List ℕ) (o : Option BundleBuilder)
+pub end_finish : (limits : Limits) (bytes : List ℕ) (long : Bool) (kept : List ℕ)
+    (o : Option BundleBuilder)
     (p : BundleBuilder)
     (r : Result Bundle ReadFault)
     → long ≡ false → kept ≡ [] → o ≡ Some p → length bytes ≤ limits.bytes
@@ -187,9 +240,15 @@ pub end_finish : (limits : Limits) (bytes : List ℕ) (long : Bool) (kept : List
 end_finish limits bytes long kept o p r el empty eo few fin h =
     let ls = h.0 in
     let s : IsBuilt p ls = some_held o p ls eo h.1.held in
-    let over : (cut bytes).1 ≡ [] = sym (kept_some long kept (cut bytes).1 el h.1.tail_is) ∙ empty in
+    let over : (cut bytes).1 ≡ [] = sym (kept_some long kept (cut bytes).1 el h.1.tail_is)
+    ∙ empty in
     let count : length (cut bytes).0 ≡ length ls =
-    omega (arith, length-map (cut bytes).0 line_of, ap length h.1.said, length-map ls (λ (l : Line). Some l)) in
+    omega (
+      arith,
+      length-map (cut bytes).0 line_of,
+      ap length h.1.said,
+      length-map ls (λ (l : Line). Some l),
+    ) in
     let some : 0 < length (cut bytes).0 = omega (arith, count, ap length s.lines) in
     let whole : fault_within limits bytes ≡ closing_fault ls =
     fault_at_end limits bytes ls few h.1.good (truncated_none bytes over some) h.1.said in

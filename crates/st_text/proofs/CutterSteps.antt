@@ -1,11 +1,12 @@
 -- More bytes add to the unfinished line, and a newline ends it: so a cutter goes from what it took
 -- to what it took and the piece.
-use Rattle.std.proofs.Common.{◌≡◌, ℕ, zero, suc, ◌+◌, ◌<◌, ◌≤◌, Bool, true, false, eqb, ◌||◌, List, [], ◌∷◌, ◌++◌}
-use Rattle.std.proofs.Common.{length, map, take, drop, get_or, drop-cons, Option, Some, None, refl, sym, ap, subst}
-use Rattle.std.proofs.Common.{◌∙◌, append_assoc, inl, inr, arith}
+use Rattle.std.proofs.Common.{◌≡◌, ℕ, zero, suc, ◌+◌, ◌<◌, ◌≤◌, Bool, true, false, eqb, ◌||◌, List}
+use Rattle.std.proofs.Common.{[], ◌∷◌, ◌++◌, length, map, take, drop, get_or, drop-cons, Option}
+use Rattle.std.proofs.Common.{Some, None, refl, sym, ap, subst, ◌∙◌, append_assoc, inl, inr, arith}
 use Rattle.std.specs.Prelude.{is_some}
 use Rattle.std.proofs.lemmas.Bool.{eqb-true}
-use Rattle.std.proofs.lemmas.List.{append-nil, length-append, length_push, map_push, take_all, take-append-drop}
+use Rattle.std.proofs.lemmas.List.{append-nil, length-append, length_push, map_push, take_all}
+use Rattle.std.proofs.lemmas.List.{take-append-drop}
 use Rattle.st_text.specs.declared.limits.Limits.{Limits}
 use Rattle.st_text.specs.declared.line.Line.{Line}
 use Rattle.st_text.specs.declared.line.Line.TheVariants as lines
@@ -21,7 +22,8 @@ use Rattle.st_text.specs.Parts.Cutter.{IsStateAfter, TakesSaid, header_of, HasNo
 use Rattle.st_text.specs.Growth.{EndsKept, EndsWithin, Grows, KeepsLine, EndsLine, LeavesBytes}
 use Rattle.st_text.specs.declared.cutter.Cutter.{Cutter}
 use Rattle.st_text.specs.Parts.CutterState.{HasTaken, HasTakenAs, Comes, AddsBytes, EndsOne}
-use Rattle.st_text.proofs.Newlines.{cut_newline, cut_byte, sayings_newline, sayings_byte, fault_push, fault_stays}
+use Rattle.st_text.proofs.Newlines.{cut_newline, cut_byte, sayings_newline, sayings_byte}
+use Rattle.st_text.proofs.Newlines.{fault_push, fault_stays}
 use Rattle.st_text.proofs.Longest.{too_long}
 
 abbrev Cut : Type 0
@@ -31,9 +33,11 @@ one_by_one : (bytes xs : List ℕ) (x : ℕ) → bytes ++ (x ∷ xs) ≡ (bytes 
 one_by_one bytes xs x = sym (append_assoc bytes (x ∷ []) xs)
 
 -- bytes without a newline join the unfinished line
-cut_plain : (bytes xs : List ℕ) → HasNoNewline xs → cut (bytes ++ xs) ≡ ((cut bytes).0, (cut bytes).1 ++ xs)
+cut_plain : (bytes xs : List ℕ) → HasNoNewline xs
+    → cut (bytes ++ xs) ≡ ((cut bytes).0, (cut bytes).1 ++ xs)
 cut_plain bytes [] plain =
-    ap cut (append-nil bytes) ∙ ap (λ (t : List ℕ). ((cut bytes).0, t)) (sym (append-nil (cut bytes).1))
+    ap cut (append-nil bytes) ∙ ap (λ (t : List ℕ). ((cut bytes).0, t))
+    (sym (append-nil (cut bytes).1))
 cut_plain bytes (x ∷ xs) plain =
     ap cut (one_by_one bytes xs x) ∙ cut_plain (bytes ++ x ∷ []) xs plain.1
     ∙ ap (λ (c : Cut). (c.0, c.1 ++ xs)) (cut_byte bytes x plain.0)
@@ -58,7 +62,8 @@ sayings_line bytes xs plain =
     ∙ rw (sayings_plain bytes xs plain, tail_plain bytes xs plain) refl
 
 -- a fault stays the first one
-fault_byte : (limits : Limits) (bytes : List ℕ) (b : ℕ) (f : ReadFault) → first_fault limits [] (sayings bytes) ≡ Some f
+fault_byte : (limits : Limits) (bytes : List ℕ) (b : ℕ) (f : ReadFault)
+    → first_fault limits [] (sayings bytes) ≡ Some f
     → first_fault limits [] (sayings (bytes ++ b ∷ [])) ≡ Some f
 fault_byte limits bytes b f e = by (eqb b 10) refl
   where
@@ -70,25 +75,30 @@ fault_byte limits bytes b f e = by (eqb b 10) refl
         ∙ fault_stays limits [] (sayings bytes) (line_of (cut bytes).1 ∷ []) f e
     by false is = ap (first_fault limits []) (sayings_byte bytes b is) ∙ e
 
-pub fault_more : (limits : Limits) (bytes xs : List ℕ) (f : ReadFault) → first_fault limits [] (sayings bytes) ≡ Some f
+pub fault_more : (limits : Limits) (bytes xs : List ℕ) (f : ReadFault)
+    → first_fault limits [] (sayings bytes) ≡ Some f
     → first_fault limits [] (sayings (bytes ++ xs)) ≡ Some f
-fault_more limits bytes [] f e = ap (λ (b : List ℕ). first_fault limits [] (sayings b)) (append-nil bytes) ∙ e
+fault_more limits bytes [] f e =
+    ap (λ (b : List ℕ). first_fault limits [] (sayings b)) (append-nil bytes) ∙ e
 fault_more limits bytes (x ∷ xs) f e =
     ap (λ (b : List ℕ). first_fault limits [] (sayings b)) (one_by_one bytes xs x)
     ∙ fault_more limits (bytes ++ x ∷ []) xs f (fault_byte limits bytes x f e)
 
 -- ---- what is held
 
-pub holds_nothing : (limits : Limits) (kept : List ℕ) → kept ≡ [] → HasTakenAs limits false None [] false kept None
+pub holds_nothing : (limits : Limits) (kept : List ℕ) → kept ≡ []
+    → HasTakenAs limits false None [] false kept None
 unfolding first_fault
 holds_nothing limits kept e = ([], record { tail_is = e; held = refl; said = refl; good = refl })
 
-pub holds_kept : (limits : Limits) (out : Bool) (fault : Option ReadFault) (bytes xs : List ℕ) (long long' : Bool)
+pub holds_kept : (limits : Limits) (out : Bool) (fault : Option ReadFault) (bytes xs : List ℕ)
+    (long long' : Bool)
     (kept kept' : List ℕ)
     (p : Option BundleBuilder)
     → out ≡ false → fault ≡ None → HasNoNewline xs
     → (IsTail long kept (cut bytes).1 → IsTail long' kept' ((cut bytes).1 ++ xs))
-    → HasTakenAs limits out fault bytes long kept p → HasTakenAs limits out fault (bytes ++ xs) long' kept' p
+    → HasTakenAs limits out fault bytes long kept p
+    → HasTakenAs limits out fault (bytes ++ xs) long' kept' p
 holds_kept limits true fault bytes xs long long' kept kept' p eo ef plain tail h = absurd cc
 holds_kept limits false (Some f) bytes xs long long' kept kept' p eo ef plain tail h = absurd cc
 holds_kept limits false None bytes xs long long' kept kept' p eo ef plain tail h =
@@ -102,39 +112,48 @@ holds_kept limits false None bytes xs long long' kept kept' p eo ef plain tail h
       },
     )
 
-pub tail_long : (long : Bool) (kept t xs : List ℕ) → long ≡ true → IsTail long kept t → IsTail long kept (t ++ xs)
+pub tail_long : (long : Bool) (kept t xs : List ℕ) → long ≡ true → IsTail long kept t
+    → IsTail long kept (t ++ xs)
 tail_long true kept t xs e h = omega (arith, h, length-append t xs)
 tail_long false kept t xs e h = absurd cc
 
-pub tail_outgrown : (long : Bool) (kept kept' t xs : List ℕ) → long ≡ false → 131 < length kept + length xs
+pub tail_outgrown : (long : Bool) (kept kept' t xs : List ℕ) → long ≡ false
+    → 131 < length kept + length xs
     → IsTail long kept t → IsTail true kept' (t ++ xs)
 tail_outgrown true kept kept' t xs e more h = absurd cc
 tail_outgrown false kept kept' t xs e more h = omega (arith, ap length h, length-append t xs)
 
-pub tail_grown : (long : Bool) (kept kept' t xs : List ℕ) → long ≡ false → kept' ≡ kept ++ xs → IsTail long kept t
+pub tail_grown : (long : Bool) (kept kept' t xs : List ℕ) → long ≡ false → kept' ≡ kept ++ xs
+    → IsTail long kept t
     → IsTail long kept' (t ++ xs)
 tail_grown true kept kept' t xs e more h = absurd cc
 tail_grown false kept kept' t xs e more h = more ∙ ap (λ (x : List ℕ). x ++ xs) h
 
 -- ---- what the unfinished line says
 
-pub long_says_none : (long : Bool) (kept t xs : List ℕ) → long ≡ true → IsTail long kept t → line_of (t ++ xs) ≡ None
+pub long_says_none : (long : Bool) (kept t xs : List ℕ) → long ≡ true → IsTail long kept t
+    → line_of (t ++ xs) ≡ None
 long_says_none true kept t xs e h = too_long (t ++ xs) (omega (arith, h, length-append t xs))
 long_says_none false kept t xs e h = absurd cc
 
-pub outgrown_says_none : (long : Bool) (kept t xs : List ℕ) → long ≡ false → 131 < length kept + length xs
+pub outgrown_says_none : (long : Bool) (kept t xs : List ℕ) → long ≡ false
+    → 131 < length kept + length xs
     → IsTail long kept t → line_of (t ++ xs) ≡ None
 outgrown_says_none true kept t xs e more h = absurd cc
-outgrown_says_none false kept t xs e more h = too_long (t ++ xs) (omega (arith, ap length h, length-append t xs))
+outgrown_says_none false kept t xs e more h =
+    too_long (t ++ xs) (omega (arith, ap length h, length-append t xs))
 
-pub kept_says : (long : Bool) (kept t xs whole : List ℕ) (s : Option Line) → long ≡ false → whole ≡ kept ++ xs
+pub kept_says : (long : Bool) (kept t xs whole : List ℕ) (s : Option Line) → long ≡ false
+    → whole ≡ kept ++ xs
     → s ≡ line_of whole → IsTail long kept t → s ≡ line_of (t ++ xs)
 kept_says true kept t xs whole s e w says h = absurd cc
-kept_says false kept t xs whole s e w says h = says ∙ ap line_of (w ∙ ap (λ (x : List ℕ). x ++ xs) h)
+kept_says false kept t xs whole s e w says h =
+    says ∙ ap line_of (w ∙ ap (λ (x : List ℕ). x ++ xs) h)
 
 -- ---- a line
 
-pub said_by : (limits : Limits) (ls : List Line) (said : Option Line) (new : BundleBuilder) (step : Step)
+pub said_by : (limits : Limits) (ls : List Line) (said : Option Line) (new : BundleBuilder)
+    (step : Step)
     → TakesLine limits ls said new step
     → TakesSaid limits ls said (Some new) step
 said_by limits ls (Some l) new Goes h = (l, record { said_is = refl; good = h.0; held = h.1 })
@@ -144,11 +163,13 @@ said_by limits ls None new Goes h = absurd h
 said_by limits ls None new (Stops f) h = h
 said_by limits ls None new Halts h = absurd h
 
-pub first_is_header : (limits : Limits) (wide : Bool) → line_fault limits [] (Some (lines.Header wide)) ≡ None
+pub first_is_header : (limits : Limits) (wide : Bool)
+    → line_fault limits [] (Some (lines.Header wide)) ≡ None
 unfolding line_fault
 first_is_header limits wide = refl
 
-pub header_some : (said : Option Line) (wide : Bool) → header_of said ≡ Some wide → said ≡ Some (lines.Header wide)
+pub header_some : (said : Option Line) (wide : Bool) → header_of said ≡ Some wide
+    → said ≡ Some (lines.Header wide)
 header_some None wide e = absurd cc
 header_some (Some (lines.Header w)) wide e = let same : w ≡ wide = cc in cc
 header_some (Some (lines.Process p)) wide e = absurd cc
@@ -170,21 +191,27 @@ pub none_held : (o : Option BundleBuilder) (ls : List Line) → o ≡ None → I
 none_held None ls e h = h
 none_held (Some p) ls e h = absurd cc
 
-pub some_held : (o : Option BundleBuilder) (p : BundleBuilder) (ls : List Line) → o ≡ Some p → IsStateAfter o ls
+pub some_held : (o : Option BundleBuilder) (p : BundleBuilder) (ls : List Line) → o ≡ Some p
+    → IsStateAfter o ls
     → IsBuilt p ls
 some_held o p ls e h = subst (λ (x : Option BundleBuilder). IsStateAfter x ls) e h
 
-pub said_some : (limits : Limits) (old : Option BundleBuilder) (p new : BundleBuilder) (ls : List Line)
+pub said_some : (limits : Limits) (old : Option BundleBuilder) (p new : BundleBuilder)
+    (ls : List Line)
     (said : Option Line)
     (step : Step)
-    → old ≡ Some p → ((ls : List Line) → IsBuilt p ls → TakesLine limits ls said new step) → IsStateAfter old ls
+    → old ≡ Some p → ((ls : List Line) → IsBuilt p ls → TakesLine limits ls said new step)
+    → IsStateAfter old ls
     → TakesSaid limits ls said (Some new) step
-said_some limits old p new ls said step e takes h = said_by limits ls said new step (takes ls (some_held old p ls e h))
+said_some limits old p new ls said step e takes h =
+    said_by limits ls said new step (takes ls (some_held old p ls e h))
 
-pub said_header : (limits : Limits) (old : Option BundleBuilder) (new : BundleBuilder) (ls : List Line)
+pub said_header : (limits : Limits) (old : Option BundleBuilder) (new : BundleBuilder)
+    (ls : List Line)
     (said : Option Line)
     (wide : Bool)
-    → old ≡ None → header_of said ≡ Some wide → IsBuilt new (lines.Header wide ∷ []) → IsStateAfter old ls
+    → old ≡ None → header_of said ≡ Some wide → IsBuilt new (lines.Header wide ∷ [])
+    → IsStateAfter old ls
     → TakesSaid limits ls said (Some new) Goes
 said_header limits old new ls said wide e is sound h =
     let none : ls ≡ [] = none_held old ls e h in (
@@ -192,33 +219,42 @@ said_header limits old new ls said wide e is sound h =
       record {
         said_is = header_some said wide is;
         good = rw none (first_is_header limits wide);
-        held = subst (λ (x : List Line). IsBuilt new (x ++ lines.Header wide ∷ [])) (sym none) sound;
+        held = subst (λ (x : List Line). IsBuilt new (x ++ lines.Header wide ∷ [])) (sym none)
+            sound;
       },
     )
 
-pub said_none : (limits : Limits) (old : Option BundleBuilder) (ls : List Line) (said : Option Line) → old ≡ None
+pub said_none : (limits : Limits) (old : Option BundleBuilder) (ls : List Line) (said : Option Line)
+    → old ≡ None
     → header_of said ≡ None
     → IsStateAfter old ls → line_fault limits ls said ≡ Some (faults.Line 1)
 said_none limits old ls said e is h = rw (none_held old ls e h) (header_none limits said is)
 
 -- a good line
-pub line_goes : (limits : Limits) (out : Bool) (fault : Option ReadFault) (bytes xs : List ℕ) (long long' : Bool)
+pub line_goes : (limits : Limits) (out : Bool) (fault : Option ReadFault) (bytes xs : List ℕ)
+    (long long' : Bool)
     (kept kept' : List ℕ)
     (p new : Option BundleBuilder) (said : Option Line)
     → out ≡ false → fault ≡ None → long' ≡ false → HasNoNewline xs → kept' ≡ []
     → (IsTail long kept (cut bytes).1 → said ≡ line_of ((cut bytes).1 ++ xs))
     → ((ls : List Line) → IsStateAfter p ls → TakesSaid limits ls said new Goes)
-    → HasTakenAs limits out fault bytes long kept p → HasTakenAs limits out fault (bytes ++ (xs ++ 10 ∷ [])) long'
+    → HasTakenAs limits out fault bytes long kept p
+    → HasTakenAs limits out fault (bytes ++ (xs ++ 10 ∷ [])) long'
     kept' new
-line_goes limits true fault bytes xs long long' kept kept' p new said eo ef el plain empty says takes h = absurd cc
-line_goes limits false (Some f) bytes xs long long' kept kept' p new said eo ef el plain empty says takes h = absurd cc
-line_goes limits false None bytes xs long true kept kept' p new said eo ef el plain empty says takes h = absurd cc
-line_goes limits false None bytes xs long false kept kept' p new said eo ef el plain empty says takes h =
+line_goes limits true fault bytes xs long long' kept kept' p new said eo ef el plain empty says
+    takes h = absurd cc
+line_goes limits false (Some f) bytes xs long long' kept kept' p new said eo ef el plain empty says
+    takes h = absurd cc
+line_goes limits false None bytes xs long true kept kept' p new said eo ef el plain empty says takes
+    h = absurd cc
+line_goes limits false None bytes xs long false kept kept' p new said eo ef el plain empty says
+    takes h =
     let ls = h.0 in
     let t = takes ls h.1.held in
     let all : sayings (bytes ++ (xs ++ 10 ∷ [])) ≡ map Some ls ++ Some t.0 ∷ [] =
     sayings_line bytes xs plain ∙ rw (h.1.said, ← says h.1.tail_is, t.1.said_is) refl in
-    let at : first_fault limits [] (map Some ls ++ Some t.0 ∷ []) ≡ line_fault limits ls (Some t.0) =
+    let at : first_fault limits [] (map Some ls ++ Some t.0 ∷ [])
+    ≡ line_fault limits ls (Some t.0) =
     fault_push limits [] ls (Some t.0) (ap (first_fault limits []) (sym h.1.said) ∙ h.1.good) in (
       ls ++ t.0 ∷ [],
       record {
@@ -230,16 +266,20 @@ line_goes limits false None bytes xs long false kept kept' p new said eo ef el p
     )
 
 -- a faulty line
-pub line_stops : (limits : Limits) (out : Bool) (fault : Option ReadFault) (bytes xs : List ℕ) (long long' : Bool)
+pub line_stops : (limits : Limits) (out : Bool) (fault : Option ReadFault) (bytes xs : List ℕ)
+    (long long' : Bool)
     (kept kept' : List ℕ)
     (p new : Option BundleBuilder) (said : Option Line) (f : ReadFault)
     → out ≡ false → fault ≡ None → HasNoNewline xs
     → (IsTail long kept (cut bytes).1 → said ≡ line_of ((cut bytes).1 ++ xs))
     → ((ls : List Line) → IsStateAfter p ls → TakesSaid limits ls said new (Stops f))
-    → HasTakenAs limits out fault bytes long kept p → HasTakenAs limits out (Some f) (bytes ++ (xs ++ 10 ∷ [])) long'
+    → HasTakenAs limits out fault bytes long kept p
+    → HasTakenAs limits out (Some f) (bytes ++ (xs ++ 10 ∷ [])) long'
     kept' new
-line_stops limits true fault bytes xs long long' kept kept' p new said f eo ef plain says takes h = absurd cc
-line_stops limits false (Some g) bytes xs long long' kept kept' p new said f eo ef plain says takes h = absurd cc
+line_stops limits true fault bytes xs long long' kept kept' p new said f eo ef plain says takes h =
+    absurd cc
+line_stops limits false (Some g) bytes xs long long' kept kept' p new said f eo ef plain says takes
+    h = absurd cc
 line_stops limits false None bytes xs long long' kept kept' p new said f eo ef plain says takes h =
     let ls = h.0 in
     let at : first_fault limits [] (map Some ls ++ said ∷ []) ≡ line_fault limits ls said =
@@ -249,7 +289,8 @@ line_stops limits false None bytes xs long long' kept kept' p new said f eo ef p
     ap (first_fault limits []) all ∙ at ∙ takes ls h.1.held
 
 -- a good line for which there was no room
-pub line_halts : (limits : Limits) (out : Bool) (fault : Option ReadFault) (bytes xs : List ℕ) (long : Bool)
+pub line_halts : (limits : Limits) (out : Bool) (fault : Option ReadFault) (bytes xs : List ℕ)
+    (long : Bool)
     (kept : List ℕ)
     (p new : Option BundleBuilder) (said : Option Line)
     → out ≡ false → fault ≡ None → HasNoNewline xs
@@ -263,7 +304,8 @@ line_halts limits false None bytes xs long kept p new said eo ef plain says take
     let t = takes ls h.1.held in
     let all : sayings (bytes ++ (xs ++ 10 ∷ [])) ≡ map Some ls ++ Some t.line ∷ [] =
     sayings_line bytes xs plain ∙ rw (h.1.said, ← says h.1.tail_is, t.said_is) refl in
-    let at : first_fault limits [] (map Some ls ++ Some t.line ∷ []) ≡ line_fault limits ls (Some t.line) =
+    let at : first_fault limits [] (map Some ls ++ Some t.line ∷ [])
+    ≡ line_fault limits ls (Some t.line) =
     fault_push limits [] ls (Some t.line) (ap (first_fault limits []) (sym h.1.said) ∙ h.1.good) in
     record {
       before = ls;
@@ -274,7 +316,8 @@ line_halts limits false None bytes xs long kept p new said eo ef plain says take
     }
 
 -- bytes join the unfinished line
-pub adds_bytes : (limits : Limits) (out : Bool) (fault : Option ReadFault) (bytes xs : List ℕ) (long : Bool)
+pub adds_bytes : (limits : Limits) (out : Bool) (fault : Option ReadFault) (bytes xs : List ℕ)
+    (long : Bool)
     (kept : List ℕ)
     (p : Option BundleBuilder)
     → out ≡ false → fault ≡ None → HasNoNewline xs → 0 < length xs
@@ -285,13 +328,19 @@ adds_bytes limits false None bytes xs long kept p eo ef plain some h =
     record {
       within = record {
         good = ap (first_fault limits []) (sayings_plain bytes xs plain) ∙ h.1.good;
-        some = omega (arith, some, ap length (tail_plain bytes xs plain), length-append (cut bytes).1 xs);
+        some = omega (
+          arith,
+          some,
+          ap length (tail_plain bytes xs plain),
+          length-append (cut bytes).1 xs,
+        );
       };
       some = some;
     }
 
 -- a line that is kept so far has begun
-pub ends_within : (limits : Limits) (out : Bool) (fault : Option ReadFault) (bytes : List ℕ) (long : Bool)
+pub ends_within : (limits : Limits) (out : Bool) (fault : Option ReadFault) (bytes : List ℕ)
+    (long : Bool)
     (kept : List ℕ)
     (p : Option BundleBuilder)
     → out ≡ false → fault ≡ None → long ≡ false → 0 < length kept
@@ -308,7 +357,8 @@ not_out true e f = absurd cc
 not_out false e f = absurd cc
 
 -- after a fault, or without memory, more bytes change nothing
-pub holds_over : (limits : Limits) (out : Bool) (fault : Option ReadFault) (bytes xs : List ℕ) (long : Bool)
+pub holds_over : (limits : Limits) (out : Bool) (fault : Option ReadFault) (bytes xs : List ℕ)
+    (long : Bool)
     (kept : List ℕ)
     (p : Option BundleBuilder)
     → (out || is_some fault) ≡ true → HasTakenAs limits out fault bytes long kept p
@@ -317,7 +367,8 @@ holds_over limits true fault bytes xs long kept p over h = tt
 holds_over limits false (Some f) bytes xs long kept p over h = fault_more limits bytes xs f h
 holds_over limits false None bytes xs long kept p over h = absurd cc
 
-pub going : (out : Bool) (fault : Option ReadFault) → (out || is_some fault) ≡ false → (out ≡ false) × (fault ≡ None)
+pub going : (out : Bool) (fault : Option ReadFault) → (out || is_some fault) ≡ false
+    → (out ≡ false) × (fault ≡ None)
 going true fault e = absurd cc
 going false (Some f) e = absurd cc
 going false None e = (refl, refl)
@@ -331,7 +382,8 @@ other_byte x not = by (eqb x 10) refl
     by true e = absurd (not e)
     by false e = refl
 
-pub plain_front : (xs : List ℕ) (k : ℕ) → ((j : ℕ) → 0 ≤ j → j < k → ¬ (eqb (get_or xs j 0) 10 ≡ true))
+pub plain_front : (xs : List ℕ) (k : ℕ)
+    → ((j : ℕ) → 0 ≤ j → j < k → ¬ (eqb (get_or xs j 0) 10 ≡ true))
     → HasNoNewline (take k xs)
 plain_front [] zero none = tt
 plain_front [] (suc k) none = tt
@@ -342,17 +394,21 @@ plain_front (x ∷ xs) (suc k) none = (
       (λ j low high. none (suc j) (omega arith) (omega arith)),
 )
 
-pub plain_all : (xs : List ℕ) → ((j : ℕ) → 0 ≤ j → j < length xs → ¬ (eqb (get_or xs j 0) 10 ≡ true)) → HasNoNewline xs
-plain_all xs none = subst HasNoNewline (take_all (length xs) xs (omega arith)) (plain_front xs (length xs) none)
+pub plain_all : (xs : List ℕ)
+    → ((j : ℕ) → 0 ≤ j → j < length xs → ¬ (eqb (get_or xs j 0) 10 ≡ true)) → HasNoNewline xs
+plain_all xs none = subst HasNoNewline (take_all (length xs) xs (omega arith))
+    (plain_front xs (length xs) none)
 
 -- a piece is its first line, the newline and the rest
 pub at_newline : (xs : List ℕ) (k : ℕ) → k < length xs → eqb (get_or xs k 0) 10 ≡ true
     → xs ≡ (take k xs ++ 10 ∷ []) ++ drop 1 (drop k xs)
 at_newline xs k lt e =
     let ten : get_or xs k 0 ≡ 10 = eqb-true (get_or xs k 0) 10 e in
-    let from : drop k xs ≡ 10 ∷ drop (suc k) xs = drop-cons xs k 0 lt ∙ ap (λ b. b ∷ drop (suc k) xs) ten in
+    let from : drop k xs ≡ 10 ∷ drop (suc k) xs =
+    drop-cons xs k 0 lt ∙ ap (λ b. b ∷ drop (suc k) xs) ten in
     let rest : drop 1 (drop k xs) ≡ drop (suc k) xs = ap (drop 1) from in
-    sym (take-append-drop k xs) ∙ ap (λ (t : List ℕ). take k xs ++ t) (from ∙ ap (λ (t : List ℕ). 10 ∷ t) (sym rest))
+    sym (take-append-drop k xs) ∙ ap (λ (t : List ℕ). take k xs ++ t)
+    (from ∙ ap (λ (t : List ℕ). 10 ∷ t) (sym rest))
     ∙ sym (append_assoc (take k xs) (10 ∷ []) (drop 1 (drop k xs)))
 
 -- a piece under way: what is done of it is whole lines, and the rest of it is left
@@ -364,7 +420,8 @@ pub record IsUnderWay (limits : Limits) (piece rest : List ℕ) (old now : Cutte
       → Comes limits (bytes ++ done) now (old.out ≡ false → Grows limits bytes piece)
 
 -- what a line's growth is for the piece
-pub grows_by : (limits : Limits) (bytes piece done xs more : List ℕ) → piece ≡ done ++ ((xs ++ 10 ∷ []) ++ more)
+pub grows_by : (limits : Limits) (bytes piece done xs more : List ℕ)
+    → piece ≡ done ++ ((xs ++ 10 ∷ []) ++ more)
     → (0 < length (cut (bytes ++ done)).1 → done ≡ [])
     → EndsOne limits (bytes ++ done) xs → Grows limits bytes piece
 grows_by limits bytes piece done xs more parts whole h = by h
@@ -381,11 +438,13 @@ grows_by limits bytes piece done xs more parts whole h = by h
         )
 
     from_done : EndsWithin limits (bytes ++ done) → EndsWithin limits bytes
-    from_done w = subst (EndsWithin limits) (ap (λ (x : List ℕ). bytes ++ x) (whole w.some) ∙ append-nil bytes) w
+    from_done w = subst (EndsWithin limits)
+        (ap (λ (x : List ℕ). bytes ++ x) (whole w.some) ∙ append-nil bytes) w
 
     kept : EndsKept limits ((bytes ++ done) ++ (xs ++ 10 ∷ [])) → Grows limits bytes piece
     kept k =
-        KeepsLine (done ++ (xs ++ 10 ∷ [])) more (parts ∙ sym (append_assoc done (xs ++ 10 ∷ []) more))
+        KeepsLine (done ++ (xs ++ 10 ∷ [])) more
+        (parts ∙ sym (append_assoc done (xs ++ 10 ∷ []) more))
         (subst (EndsKept limits) (append_assoc bytes done (xs ++ 10 ∷ [])) k)
 
     by : EndsOne limits (bytes ++ done) xs → Grows limits bytes piece

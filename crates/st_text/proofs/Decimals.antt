@@ -1,5 +1,7 @@
--- Two digits at a time: a number's last two are what it leaves by 100, and those before spell its hundredth part.
-use Rattle.std.proofs.Common.{◌≡◌, ℕ, zero, suc, ◌+◌, ◌*◌, ◌/◌, ◌%◌, ◌^◌, ◌<◌, ◌≤◌, Bool, true, ◌&&◌, eqb, List, []}
+-- Two digits at a time: a number's last two are what it leaves by 100, and those before spell its
+-- hundredth part.
+use Rattle.std.proofs.Common.{◌≡◌, ℕ, zero, suc, ◌+◌, ◌*◌, ◌/◌, ◌%◌, ◌^◌, ◌<◌, ◌≤◌, Bool, true}
+use Rattle.std.proofs.Common.{◌&&◌, eqb, List, []}
 use Rattle.std.proofs.Common.{◌∷◌, ◌++◌, get_or, refl, append_assoc, inl, inr, arith}
 use Rattle.std.specs.Prelude.{decimal}
 use Rattle.std.proofs.lemmas.Bool.{cases_lt, eqb-true}
@@ -48,7 +50,14 @@ last_two n lo hi =
     let a : n / 10 / 10 ≡ n / 100 = omega arith in
     let b : n / 10 % 10 ≡ n % 100 / 10 = omega arith in
     let c : n % 10 ≡ n % 100 % 10 = omega arith in
-    rw (decimal_step n (omega arith) hi, decimal_step (n / 10) (omega arith) (omega arith), append_assoc, a, b, ← c)
+    rw (
+      decimal_step n (omega arith) hi,
+      decimal_step (n / 10) (omega arith) (omega arith),
+      append_assoc,
+      a,
+      b,
+      ← c,
+    )
 
 pub last_four : (n : ℕ) → 10000 ≤ n → n < 2 ^ 64
     → decimal n ≡ decimal (n / 10000) ++ pair (n / 100 % 100) ++ pair (n % 100)

@@ -8,12 +8,15 @@ use Rattle.st_core.specs.declared.types.Kind.TheVariants as kinds
 use Rattle.st_core.specs.declared.types.Event.{Event}
 use Rattle.st_text.specs.Spelling.{pid, label, serial, kind, place}
 use Rattle.st_text.specs.Range.{FitsPid, FitsPlace, FitsEvent, most_label}
-use Rattle.st_text.specs.Parsing.{parse_kind, parse_head, parse_some_pid, parse_place, parse_ends, parse_event}
-use Rattle.st_text.proofs.Fields.{Takes, Any, unread, begins_cases, word_next, field_next, made, none_left, three_parts}
-use Rattle.st_text.proofs.Fields.{four_parts, five_parts, value_takes, value_again, pid_takes, pid_again, label_takes}
-use Rattle.st_text.proofs.Fields.{label_again, serial_takes, serial_again}
+use Rattle.st_text.specs.Parsing.{parse_kind, parse_head, parse_some_pid, parse_place, parse_ends}
+use Rattle.st_text.specs.Parsing.{parse_event}
+use Rattle.st_text.proofs.Fields.{Takes, Any, unread, begins_cases, word_next, field_next, made}
+use Rattle.st_text.proofs.Fields.{none_left, three_parts, four_parts, five_parts, value_takes}
+use Rattle.st_text.proofs.Fields.{value_again, pid_takes, pid_again, label_takes, label_again}
+use Rattle.st_text.proofs.Fields.{serial_takes, serial_again}
 
-kind_takes : (bytes : List ℕ) (x : Kind × List ℕ) → parse_kind bytes ≡ Some x → Takes kind Any bytes x
+kind_takes : (bytes : List ℕ) (x : Kind × List ℕ) → parse_kind bytes ≡ Some x
+    → Takes kind Any bytes x
 unfolding parse_kind
 kind_takes bytes x e =
     begins_cases (codes "send") bytes e (λ rest s e. made e s tt) λ e.
@@ -46,7 +49,8 @@ head_takes bytes x e =
     word_next (codes ",") s e λ b s e.
     made e s fits
 
-head_again : (h : Head) (rest : List ℕ) → FitsHead h → parse_head (head_of h ++ rest) ≡ Some (h, rest)
+head_again : (h : Head) (rest : List ℕ) → FitsHead h
+    → parse_head (head_of h ++ rest) ≡ Some (h, rest)
 unfolding parse_head
 head_again h rest fits =
     rw (

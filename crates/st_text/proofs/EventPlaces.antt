@@ -1,5 +1,6 @@
 -- The line of an event is counted process by process, and stays within a word if the text does.
-use Rattle.std.proofs.Common.{◌≡◌, ℕ, ◌+◌, ◌-◌, ◌^◌, ◌<◌, ◌≤◌, Bool, true, false, cond, List, [], ◌∷◌, length, drop}
+use Rattle.std.proofs.Common.{◌≡◌, ℕ, ◌+◌, ◌-◌, ◌^◌, ◌<◌, ◌≤◌, Bool, true, false, cond, List, []}
+use Rattle.std.proofs.Common.{◌∷◌, length, drop}
 use Rattle.std.proofs.Common.{get_or, refl, sym, ap, ◌∙◌, arith, add-one, drop-cons}
 use Rattle.std.specs.Prelude.{min}
 use Rattle.st_core.specs.declared.types.Pid.{Pid}
@@ -28,10 +29,12 @@ line_here f n ps p i k d lt t = front f n ps p i k d lt ∙ rw t refl
 
 pub line_later : (f : Pid → ℕ) (n : ℕ) (ps : List Pid) (p : Pid) (i k : ℕ) (d : Pid) → k < length ps
     → pid_eq (get_or ps k d) p ≡ false
-    → line_at_place f n (drop k ps) p i ≡ line_at_place f (n + 1 + f (get_or ps k d)) (drop (k + 1) ps) p i
+    → line_at_place f n (drop k ps) p i
+    ≡ line_at_place f (n + 1 + f (get_or ps k d)) (drop (k + 1) ps) p i
 line_later f n ps p i k d lt t = front f n ps p i k d lt ∙ rw t refl
 
 -- a sum that stops at the greatest number is the sum, if that is smaller
-pub exact : (a b s t : ℕ) → s ≡ min (a + 1) (2 ^ 64 - 1) → t ≡ min (s + b) (2 ^ 64 - 1) → a + 1 + b < 2 ^ 64
+pub exact : (a b s t : ℕ) → s ≡ min (a + 1) (2 ^ 64 - 1) → t ≡ min (s + b) (2 ^ 64 - 1)
+    → a + 1 + b < 2 ^ 64
     → t ≡ a + 1 + b
 exact a b s t e f small = omega arith

@@ -1,5 +1,5 @@
--- The lemmas that proofs of the crates above may cite: what a text and a fault exclude, and how writing goes on through
--- a buffer. Nothing here speaks of the reader's parts.
+-- The lemmas that proofs of the crates above may cite: what a text and a fault exclude, and how
+-- writing goes on through a buffer. Nothing here speaks of the reader's parts.
 
 -- ---- texts and faults
 pub use Rattle.st_text.proofs.OneBundle.{text_one}
@@ -9,5 +9,6 @@ pub use Rattle.st_text.proofs.Newlines.{fault_too_large}
 -- ---- spellings
 pub use Rattle.st_text.proofs.Spellings.{front_some, line_some}
 -- ---- writing through a buffer
-pub use Rattle.st_text.proofs.Puts.{finishes, part_longer, goes_then, goes_buffer, goes_still, then_on, on_err}
-pub use Rattle.st_text.proofs.Puts.{part_then, room_then, no_room, on_images, one_more, one_failed, all_done}
+pub use Rattle.st_text.proofs.Puts.{finishes, part_longer, goes_then, goes_buffer, goes_still}
+pub use Rattle.st_text.proofs.Puts.{then_on, on_err, part_then, room_then, no_room, on_images}
+pub use Rattle.st_text.proofs.Puts.{one_more, one_failed, all_done}

@@ -1,4 +1,5 @@
--- The lemmas, in the order in which they build on each other; what upper crates may cite is in `ForCallers`.
+-- The lemmas, in the order in which they build on each other; what upper crates may cite is in
+-- `ForCallers`.
 pub mod Numbers
 pub mod Digits
 pub mod Decimals

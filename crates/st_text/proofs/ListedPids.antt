@@ -1,7 +1,7 @@
 -- Pids rise, so that each stream is the one that its pid finds; and if no act fails the test each
 -- passes.
-use Rattle.std.proofs.Common.{◌≡◌, ℕ, ◌+◌, Bool, true, false, not, ◌&&◌, cond, List, [], ◌∷◌, ◌++◌, Option, Some, None}
-use Rattle.std.proofs.Common.{refl, sym, ap, ◌∙◌}
+use Rattle.std.proofs.Common.{◌≡◌, ℕ, ◌+◌, Bool, true, false, not, ◌&&◌, cond, List, [], ◌∷◌, ◌++◌}
+use Rattle.std.proofs.Common.{Option, Some, None, refl, sym, ap, ◌∙◌}
 use Rattle.std.specs.Prelude.{position}
 use Rattle.std.specs.List.{list_all, position_from, flat_map, AllByRecursion}
 use Rattle.std.proofs.lemmas.Iterator.Adapters.{position_from-zero}
@@ -14,13 +14,15 @@ use Rattle.st_core.proofs.ForCallers.{pid_eq-same, IsBelow-apart}
 use Rattle.st_text.specs.declared.line.Line.{Line}
 use Rattle.st_text.specs.Text.{process_lines}
 
-none_from : {A : Type 0} (p : A → Bool) (i : ℕ) (xs : List A) → position_from (λ x. not (p x)) i xs ≡ None
+none_from : {A : Type 0} (p : A → Bool) (i : ℕ) (xs : List A)
+    → position_from (λ x. not (p x)) i xs ≡ None
     → list_all p xs ≡ true
 none_from p i [] e = refl
 none_from p i (x ∷ xs) e = by (p x) e (none_from p (i + 1) xs)
   where
     by : (t : Bool) → cond (not t) (Some i) (position_from (λ x. not (p x)) (i + 1) xs) ≡ None
-        → (position_from (λ x. not (p x)) (i + 1) xs ≡ None → list_all p xs ≡ true) → (t && list_all p xs) ≡ true
+        → (position_from (λ x. not (p x)) (i + 1) xs ≡ None → list_all p xs ≡ true)
+        → (t && list_all p xs) ≡ true
     by true e more = more e
     by false e more = absurd cc
 
@@ -39,7 +41,8 @@ by_events : (ss : List Stream) (f : Pid → List Event) → AllByRecursion (λ s
     → flat_map process_lines ss ≡ flat_map (λ p. process_lines (stream_at f p)) (pids_of ss)
 by_events [] f all = refl
 by_events (s ∷ ss) f all =
-    ap (λ (x : List Event). process_lines (record { pid = s.pid; events = x }) ++ flat_map process_lines ss)
+    ap (λ (x : List Event). process_lines (record { pid = s.pid; events = x })
+    ++ flat_map process_lines ss)
     (sym all.0)
     ∙ ap (λ (x : List Line). process_lines (stream_at f s.pid) ++ x) (by_events ss f all.1)
 
@@ -47,14 +50,16 @@ found : Option Stream → List Event
 found None = []
 found (Some x) = x.events
 
-events_here : (s : Stream) (rest : List Stream) (p : Pid) → pid_eq s.pid p ≡ true → events_of (s ∷ rest) p ≡ s.events
+events_here : (s : Stream) (rest : List Stream) (p : Pid) → pid_eq s.pid p ≡ true
+    → events_of (s ∷ rest) p ≡ s.events
 unfolding found
 events_here s rest p e = let at : stream_of (s ∷ rest) p ≡ Some s = rw e refl in ap found at
 
 events_behind : (s : Stream) (rest : List Stream) (p : Pid) → pid_eq s.pid p ≡ false
     → events_of (s ∷ rest) p ≡ events_of rest p
 unfolding found
-events_behind s rest p e = let at : stream_of (s ∷ rest) p ≡ stream_of rest p = rw e refl in ap found at
+events_behind s rest p e = let at : stream_of (s ∷ rest) p ≡ stream_of rest p = rw e refl in
+    ap found at
 
 -- the other streams are found after the first
 behind : (s : Stream) (rest ss : List Stream) → AllByRecursion (IsBelow s.pid) (pids_of ss)
@@ -65,12 +70,14 @@ behind s rest (r ∷ ss) below all =
     let apart : pid_eq s.pid r.pid ≡ false = IsBelow-apart s.pid r.pid below.0 in
     (events_behind s rest r.pid apart ∙ all.0, behind s rest ss below.1 all.1)
 
-pub own_events : (ss : List Stream) → IsRising (pids_of ss) → AllByRecursion (λ s. events_of ss s.pid ≡ s.events) ss
+pub own_events : (ss : List Stream) → IsRising (pids_of ss)
+    → AllByRecursion (λ s. events_of ss s.pid ≡ s.events) ss
 own_events [] rising = tt
 own_events (s ∷ ss) rising =
     (events_here s ss s.pid (pid_eq-same s.pid), behind s ss ss rising.0 (own_events ss rising.1))
 
 -- The lines of streams are those of their pids, each with its events.
 pub by_pids : (ss : List Stream) → IsRising (pids_of ss)
-    → flat_map process_lines ss ≡ flat_map (λ p. process_lines (stream_at (events_of ss) p)) (pids_of ss)
+    → flat_map process_lines ss ≡ flat_map (λ p. process_lines (stream_at (events_of ss) p))
+    (pids_of ss)
 by_pids ss rising = by_events ss (events_of ss) (own_events ss rising)

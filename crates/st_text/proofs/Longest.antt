@@ -1,6 +1,7 @@
--- No line is longer than the longest: an event with the greatest numbers is, and each other form is shorter.
-use Rattle.std.proofs.Common.{◌≡◌, ℕ, ◌+◌, ◌<◌, ◌≤◌, Bool, true, false, List, ◌++◌, length, Option, Some, None, refl}
-use Rattle.std.proofs.Common.{ap, arith}
+-- No line is longer than the longest: an event with the greatest numbers is, and each other form is
+-- shorter.
+use Rattle.std.proofs.Common.{◌≡◌, ℕ, ◌+◌, ◌<◌, ◌≤◌, Bool, true, false, List, ◌++◌, length, Option}
+use Rattle.std.proofs.Common.{Some, None, refl, ap, arith}
 use Rattle.std.specs.Prelude.{codes, decimal}
 use Rattle.std.proofs.lemmas.List.{length-append}
 use Rattle.std.proofs.lemmas.Fmt.{length-decimal-le}
@@ -19,10 +20,10 @@ use Rattle.st_core.specs.declared.types.Act.{Act}
 use Rattle.st_core.specs.declared.types.Act.TheVariants as acts
 use Rattle.st_text.specs.declared.line.Line.{Line}
 use Rattle.st_text.specs.declared.line.Line.TheVariants as lines
-use Rattle.st_text.specs.Spelling.{bool, pid, label, serial, kind, place, head, ends, event, component, want, flags}
-use Rattle.st_text.specs.Spelling.{token, act, line}
-use Rattle.st_text.specs.Range.{FitsPid, FitsSerial, FitsPlace, FitsEvent, FitsComponent, FitsWant, FitsToken, FitsAct}
-use Rattle.st_text.specs.Range.{Fits, most_pid, most_label, most_number}
+use Rattle.st_text.specs.Spelling.{bool, pid, label, serial, kind, place, head, ends, event}
+use Rattle.st_text.specs.Spelling.{component, want, flags, token, act, line}
+use Rattle.st_text.specs.Range.{FitsPid, FitsSerial, FitsPlace, FitsEvent, FitsComponent, FitsWant}
+use Rattle.st_text.specs.Range.{FitsToken, FitsAct, Fits, most_pid, most_label, most_number}
 use Rattle.st_text.specs.Parsing.{line_of}
 use Rattle.st_text.proofs.LineLemmas.{line_takes}
 
@@ -88,9 +89,11 @@ place_len kinds.Print None f = omega arith
 
 event_len : (e : Event) → FitsEvent e → length (event e) ≤ 131
 event_len e f =
-    two (codes "{seq_trace," ++ head e ++ serial e.serial ++ codes "," ++ ends e ++ codes "," ++ decimal e.value)
+    two (codes "{seq_trace," ++ head e ++ serial e.serial ++ codes "," ++ ends e ++ codes ","
+    ++ decimal e.value)
     (codes "}}") 129 2
-    (two (codes "{seq_trace," ++ head e ++ serial e.serial ++ codes "," ++ ends e ++ codes ",") (decimal e.value) 109
+    (two (codes "{seq_trace," ++ head e ++ serial e.serial ++ codes "," ++ ends e ++ codes ",")
+    (decimal e.value) 109
     20
     (two (codes "{seq_trace," ++ head e ++ serial e.serial ++ codes "," ++ ends e) (codes ",") 108 1
     (two (codes "{seq_trace," ++ head e ++ serial e.serial ++ codes ",") (ends e) 77 31
@@ -99,58 +102,77 @@ event_len e f =
     (two (codes "{seq_trace,") (head e) 11 22 (omega arith)
     (two (label e.label ++ codes ",{" ++ kind e.kind) (codes ",") 21 1
     (two (label e.label ++ codes ",{") (kind e.kind) 12 9
-    (two (label e.label) (codes ",{") 10 2 (middle e.label.0 f.label) (omega arith)) (kind_len e.kind))
+    (two (label e.label) (codes ",{") 10 2 (middle e.label.0 f.label) (omega arith))
+    (kind_len e.kind))
     (omega arith)))
     (serial_len e.serial f.serial)) (omega arith))
     (two (pid e.from ++ codes ",") (place e.to) 16 15
-    (two (pid e.from) (codes ",") 15 1 (pid_len e.from f.from) (omega arith)) (place_len e.kind e.to f.to)))
+    (two (pid e.from) (codes ",") 15 1 (pid_len e.from f.from) (omega arith))
+    (place_len e.kind e.to f.to)))
     (omega arith))
     (large e.value f.value)) (omega arith)
 
 component_len : (c : Component) → FitsComponent c → length (component c) ≤ 26
-component_len (components.Label l) f = omega (arith, two (codes "label ") (label l) 6 10 (omega arith) (middle l.0 f))
-component_len (components.Send b) f = omega (arith, two (codes "send ") (bool b) 5 5 (omega arith) (bool_len b))
-component_len (components.Receive b) f = omega (arith, two (codes "receive ") (bool b) 8 5 (omega arith) (bool_len b))
-component_len (components.Print b) f = omega (arith, two (codes "print ") (bool b) 6 5 (omega arith) (bool_len b))
+component_len (components.Label l) f =
+    omega (arith, two (codes "label ") (label l) 6 10 (omega arith) (middle l.0 f))
+component_len (components.Send b) f =
+    omega (arith, two (codes "send ") (bool b) 5 5 (omega arith) (bool_len b))
+component_len (components.Receive b) f =
+    omega (arith, two (codes "receive ") (bool b) 8 5 (omega arith) (bool_len b))
+component_len (components.Print b) f =
+    omega (arith, two (codes "print ") (bool b) 6 5 (omega arith) (bool_len b))
 
 want_len : (w : Want) → FitsWant w → length (want w) ≤ 41
 want_len wants.First f = omega arith
-want_len (wants.From p) f = omega (arith, two (codes "from ") (pid p) 5 15 (omega arith) (pid_len p f))
-want_len (wants.Value v) f = omega (arith, two (codes "value ") (decimal v) 6 20 (omega arith) (large v f))
+want_len (wants.From p) f =
+    omega (arith, two (codes "from ") (pid p) 5 15 (omega arith) (pid_len p f))
+want_len (wants.Value v) f =
+    omega (arith, two (codes "value ") (decimal v) 6 20 (omega arith) (large v f))
 want_len (wants.Both p v) f =
     two (codes "both " ++ pid p ++ codes " ") (decimal v) 21 20
-    (two (codes "both " ++ pid p) (codes " ") 20 1 (two (codes "both ") (pid p) 5 15 (omega arith) (pid_len p f.0))
+    (two (codes "both " ++ pid p) (codes " ") 20 1
+    (two (codes "both ") (pid p) 5 15 (omega arith) (pid_len p f.0))
     (omega arith)) (large v f.1)
-want_len (wants.Place k) f = omega (arith, two (codes "place ") (decimal k) 6 20 (omega arith) (large k f))
+want_len (wants.Place k) f =
+    omega (arith, two (codes "place ") (decimal k) 6 20 (omega arith) (large k f))
 
 flags_len : (f : Flags) → length (flags f) ≤ 17
 flags_len f =
     two (bool f.send ++ codes " " ++ bool f.receive ++ codes " ") (bool f.print) 12 5
     (two (bool f.send ++ codes " " ++ bool f.receive) (codes " ") 11 1
     (two (bool f.send ++ codes " ") (bool f.receive) 6 5
-    (two (bool f.send) (codes " ") 5 1 (bool_len f.send) (omega arith)) (bool_len f.receive)) (omega arith))
+    (two (bool f.send) (codes " ") 5 1 (bool_len f.send) (omega arith)) (bool_len f.receive))
+    (omega arith))
     (bool_len f.print)
 
 token_len : (t : Token) → FitsToken t → length (token t) ≤ 86
 token_len t f =
-    two (label t.label ++ codes " " ++ flags t.flags ++ codes " " ++ decimal t.serial.prev ++ codes " "
+    two (label t.label ++ codes " " ++ flags t.flags ++ codes " " ++ decimal t.serial.prev
+    ++ codes " "
     ++ decimal t.serial.this ++ codes " ") (pid t.from) 71 15
-    (two (label t.label ++ codes " " ++ flags t.flags ++ codes " " ++ decimal t.serial.prev ++ codes " "
+    (two (label t.label ++ codes " " ++ flags t.flags ++ codes " " ++ decimal t.serial.prev
+    ++ codes " "
     ++ decimal t.serial.this) (codes " ") 70 1
-    (two (label t.label ++ codes " " ++ flags t.flags ++ codes " " ++ decimal t.serial.prev ++ codes " ")
+    (two (label t.label ++ codes " " ++ flags t.flags ++ codes " " ++ decimal t.serial.prev
+    ++ codes " ")
     (decimal t.serial.this) 50 20
-    (two (label t.label ++ codes " " ++ flags t.flags ++ codes " " ++ decimal t.serial.prev) (codes " ") 49 1
+    (two (label t.label ++ codes " " ++ flags t.flags ++ codes " " ++ decimal t.serial.prev)
+    (codes " ") 49 1
     (two (label t.label ++ codes " " ++ flags t.flags ++ codes " ") (decimal t.serial.prev) 29 20
     (two (label t.label ++ codes " " ++ flags t.flags) (codes " ") 28 1
     (two (label t.label ++ codes " ") (flags t.flags) 11 17
-    (two (label t.label) (codes " ") 10 1 (middle t.label.0 f.label) (omega arith)) (flags_len t.flags))
+    (two (label t.label) (codes " ") 10 1 (middle t.label.0 f.label) (omega arith))
+    (flags_len t.flags))
     (omega arith))
-    (large t.serial.prev f.serial.prev)) (omega arith)) (large t.serial.this f.serial.this)) (omega arith))
+    (large t.serial.prev f.serial.prev)) (omega arith)) (large t.serial.this f.serial.this))
+    (omega arith))
     (pid_len t.from f.from)
 
 -- a word of at most eight bytes, a pid and a space
-actor_len : (word : List ℕ) (p : Pid) → length word ≤ 8 → FitsPid p → length (word ++ pid p ++ codes " ") ≤ 24
-actor_len word p le f = two (word ++ pid p) (codes " ") 23 1 (two word (pid p) 8 15 le (pid_len p f)) (omega arith)
+actor_len : (word : List ℕ) (p : Pid) → length word ≤ 8 → FitsPid p
+    → length (word ++ pid p ++ codes " ") ≤ 24
+actor_len word p le f = two (word ++ pid p) (codes " ") 23 1
+    (two word (pid p) 8 15 le (pid_len p f)) (omega arith)
 
 act_len : (a : Act) → FitsAct a → length (act a) ≤ 131
 act_len (acts.Send p q v) f =
@@ -158,7 +180,8 @@ act_len (acts.Send p q v) f =
       arith,
       two (codes "send " ++ pid p ++ codes " " ++ pid q ++ codes " ") (decimal v) 40 20
           (two (codes "send " ++ pid p ++ codes " " ++ pid q) (codes " ") 39 1
-          (two (codes "send " ++ pid p ++ codes " ") (pid q) 24 15 (actor_len (codes "send ") p (omega arith) f.0)
+          (two (codes "send " ++ pid p ++ codes " ") (pid q) 24 15
+          (actor_len (codes "send ") p (omega arith) f.0)
           (pid_len q f.1)) (omega arith)) (large v f.2),
     )
 act_len (acts.Receive p w) f =
@@ -179,7 +202,8 @@ act_len (acts.PrintAt p l v) f =
       two (codes "printat " ++ pid p ++ codes " " ++ label l ++ codes " ") (decimal v) 35 20
           (two (codes "printat " ++ pid p ++ codes " " ++ label l) (codes " ") 34 1
           (two (codes "printat " ++ pid p ++ codes " ") (label l) 24 10
-          (actor_len (codes "printat ") p (omega arith) f.0) (middle l.0 f.1)) (omega arith)) (large v f.2),
+          (actor_len (codes "printat ") p (omega arith) f.0) (middle l.0 f.1)) (omega arith))
+          (large v f.2),
     )
 act_len (acts.Set p c) f =
     omega (
@@ -187,15 +211,18 @@ act_len (acts.Set p c) f =
       two (codes "set " ++ pid p ++ codes " ") (component c) 24 26
           (actor_len (codes "set ") p (omega arith) f.0) (component_len c f.1),
     )
-act_len (acts.Clear p) f = omega (arith, two (codes "clear ") (pid p) 6 15 (omega arith) (pid_len p f))
+act_len (acts.Clear p) f =
+    omega (arith, two (codes "clear ") (pid p) 6 15 (omega arith) (pid_len p f))
 act_len (acts.Restore p t) f =
     omega (
       arith,
       two (codes "restore " ++ pid p ++ codes " ") (token t) 24 86
           (actor_len (codes "restore ") p (omega arith) f.0) (token_len t f.1),
     )
-act_len (acts.Look p) f = omega (arith, two (codes "look ") (pid p) 5 15 (omega arith) (pid_len p f))
-act_len (acts.Reset p) f = omega (arith, two (codes "reset ") (pid p) 6 15 (omega arith) (pid_len p f))
+act_len (acts.Look p) f =
+    omega (arith, two (codes "look ") (pid p) 5 15 (omega arith) (pid_len p f))
+act_len (acts.Reset p) f =
+    omega (arith, two (codes "reset ") (pid p) 6 15 (omega arith) (pid_len p f))
 act_len (acts.Tracer p b) f =
     omega (
       arith,
@@ -206,7 +233,8 @@ act_len (acts.Tracer p b) f =
 line_len : (l : Line) → Fits l → length (line l) ≤ 131
 line_len (lines.Header false) f = omega arith
 line_len (lines.Header true) f = omega arith
-line_len (lines.Process p) f = omega (arith, two (codes "process ") (pid p) 8 15 (omega arith) (pid_len p f))
+line_len (lines.Process p) f =
+    omega (arith, two (codes "process ") (pid p) 8 15 (omega arith) (pid_len p f))
 line_len (lines.Event e) f = event_len e f
 line_len lines.Acts f = omega arith
 line_len (lines.Act a) f = act_len a f
@@ -216,4 +244,5 @@ too_long bytes long = by (line_of bytes) refl
   where
     by : (o : Option Line) → line_of bytes ≡ o → o ≡ None
     by None e = refl
-    by (Some l) e = let t = line_takes bytes l e in absurd (omega (arith, line_len l t.1, ap length t.0, long))
+    by (Some l) e = let t = line_takes bytes l e in
+        absurd (omega (arith, line_len l t.1, ap length t.0, long))

@@ -1,5 +1,6 @@
 -- Bytes are cut from the front, but one more byte or line at their end changes only the last line.
-use Rattle.std.proofs.Common.{◌≡◌, ℕ, ◌≤◌, Bool, true, false, cond, eqb, List, [], ◌∷◌, ◌++◌, length, map, Option, Some}
+use Rattle.std.proofs.Common.{◌≡◌, ℕ, ◌≤◌, Bool, true, false, cond, eqb, List, [], ◌∷◌, ◌++◌}
+use Rattle.std.proofs.Common.{length, map, Option, Some}
 use Rattle.std.proofs.Common.{None, refl, sym, ap, ◌∙◌, append_assoc, arith, nat_lt, ◌<◌, ◌&&◌, not}
 use Rattle.std.proofs.lemmas.Bool.Decides.{nat_tests}
 use Rattle.std.proofs.lemmas.List.{append-nil, map_push, length-map}
@@ -11,25 +12,28 @@ use Rattle.std.proofs.lemmas.Bool.{eqb-true}
 use Rattle.std.specs.List.{flat_map}
 use Rattle.st_text.specs.Text.{ended}
 use Rattle.st_text.proofs.LineLemmas.{line_takes}
-use Rattle.st_text.specs.Fault.{cut, onto_first, sayings, first_fault, line_fault, first_of, fault_within, truncated}
-use Rattle.st_text.specs.Fault.{closing_fault, said}
+use Rattle.st_text.specs.Fault.{cut, onto_first, sayings, first_fault, line_fault, first_of}
+use Rattle.st_text.specs.Fault.{fault_within, truncated, closing_fault, said}
 use Rattle.st_text.specs.declared.limits.Limits.{Limits}
 
 abbrev Cut : Type 0
 Cut = List (List ℕ) × List ℕ
 
 onto_newline : (b : ℕ) (ls : List (List ℕ)) (tail : List ℕ)
-    → onto_first b (ls ++ tail ∷ []) [] ≡ ((onto_first b ls tail).0 ++ (onto_first b ls tail).1 ∷ [], [])
+    → onto_first b (ls ++ tail ∷ []) []
+    ≡ ((onto_first b ls tail).0 ++ (onto_first b ls tail).1 ∷ [], [])
 onto_newline b [] tail = refl
 onto_newline b (l ∷ ls) tail = refl
 
 onto_byte : (b c : ℕ) (ls : List (List ℕ)) (tail : List ℕ)
-    → onto_first b ls (tail ++ c ∷ []) ≡ ((onto_first b ls tail).0, (onto_first b ls tail).1 ++ c ∷ [])
+    → onto_first b ls (tail ++ c ∷ [])
+    ≡ ((onto_first b ls tail).0, (onto_first b ls tail).1 ++ c ∷ [])
 onto_byte b c [] tail = refl
 onto_byte b c (l ∷ ls) tail = refl
 
 -- a newline ends the unfinished line
-pub cut_newline : (bytes : List ℕ) → cut (bytes ++ 10 ∷ []) ≡ ((cut bytes).0 ++ (cut bytes).1 ∷ [], [])
+pub cut_newline : (bytes : List ℕ)
+    → cut (bytes ++ 10 ∷ []) ≡ ((cut bytes).0 ++ (cut bytes).1 ∷ [], [])
 cut_newline [] = refl
 cut_newline (b ∷ bytes) = by (eqb b 10) (cut_newline bytes)
   where
@@ -38,11 +42,13 @@ cut_newline (b ∷ bytes) = by (eqb b 10) (cut_newline bytes)
         (onto_first b (cut (bytes ++ 10 ∷ [])).0 (cut (bytes ++ 10 ∷ [])).1)
         ≡ (
           (cond t ([] ∷ (cut bytes).0, (cut bytes).1) (onto_first b (cut bytes).0 (cut bytes).1)).0
-              ++ (cond t ([] ∷ (cut bytes).0, (cut bytes).1) (onto_first b (cut bytes).0 (cut bytes).1)).1 ∷ [],
+              ++ (cond t ([] ∷ (cut bytes).0, (cut bytes).1)
+              (onto_first b (cut bytes).0 (cut bytes).1)).1 ∷ [],
           [],
         )
     by true more = ap (λ (x : Cut). ([] ∷ x.0, x.1)) more
-    by false more = ap (λ (x : Cut). onto_first b x.0 x.1) more ∙ onto_newline b (cut bytes).0 (cut bytes).1
+    by false more = ap (λ (x : Cut). onto_first b x.0 x.1) more
+        ∙ onto_newline b (cut bytes).0 (cut bytes).1
 
 -- another byte joins it
 pub cut_byte : (bytes : List ℕ) (c : ℕ) → eqb c 10 ≡ false
@@ -55,16 +61,21 @@ cut_byte (b ∷ bytes) c other = by (eqb b 10) (cut_byte bytes c other)
         (onto_first b (cut (bytes ++ c ∷ [])).0 (cut (bytes ++ c ∷ [])).1)
         ≡ (
           (cond t ([] ∷ (cut bytes).0, (cut bytes).1) (onto_first b (cut bytes).0 (cut bytes).1)).0,
-          (cond t ([] ∷ (cut bytes).0, (cut bytes).1) (onto_first b (cut bytes).0 (cut bytes).1)).1 ++ c ∷ [],
+          (cond t ([] ∷ (cut bytes).0, (cut bytes).1) (onto_first b (cut bytes).0 (cut bytes).1)).1
+              ++ c ∷ [],
         )
     by true more = ap (λ (x : Cut). ([] ∷ x.0, x.1)) more
-    by false more = ap (λ (x : Cut). onto_first b x.0 x.1) more ∙ onto_byte b c (cut bytes).0 (cut bytes).1
+    by false more = ap (λ (x : Cut). onto_first b x.0 x.1) more
+        ∙ onto_byte b c (cut bytes).0 (cut bytes).1
 
-pub sayings_newline : (bytes : List ℕ) → sayings (bytes ++ 10 ∷ []) ≡ sayings bytes ++ line_of (cut bytes).1 ∷ []
+pub sayings_newline : (bytes : List ℕ)
+    → sayings (bytes ++ 10 ∷ []) ≡ sayings bytes ++ line_of (cut bytes).1 ∷ []
 sayings_newline bytes =
-    ap (λ (x : Cut). map line_of x.0) (cut_newline bytes) ∙ map_push line_of (cut bytes).0 (cut bytes).1
+    ap (λ (x : Cut). map line_of x.0) (cut_newline bytes) ∙ map_push line_of (cut bytes).0
+    (cut bytes).1
 
-pub sayings_byte : (bytes : List ℕ) (c : ℕ) → eqb c 10 ≡ false → sayings (bytes ++ c ∷ []) ≡ sayings bytes
+pub sayings_byte : (bytes : List ℕ) (c : ℕ) → eqb c 10 ≡ false
+    → sayings (bytes ++ c ∷ []) ≡ sayings bytes
 sayings_byte bytes c other = ap (λ (x : Cut). map line_of x.0) (cut_byte bytes c other)
 
 -- ---- faults
@@ -78,15 +89,18 @@ pub fault_push : (limits : Limits) (ls more : List Line) (r : Option Line)
     → first_fault limits ls (map Some more) ≡ None
     → first_fault limits ls (map Some more ++ r ∷ []) ≡ line_fault limits (ls ++ more) r
 unfolding first_fault
-fault_push limits ls [] None good = ap (λ (x : List Line). line_fault limits x None) (sym (append-nil ls))
+fault_push limits ls [] None good =
+    ap (λ (x : List Line). line_fault limits x None) (sym (append-nil ls))
 fault_push limits ls [] (Some l) good =
-    by (line_fault limits ls (Some l)) ∙ ap (λ (x : List Line). line_fault limits x (Some l)) (sym (append-nil ls))
+    by (line_fault limits ls (Some l)) ∙ ap (λ (x : List Line). line_fault limits x (Some l))
+    (sym (append-nil ls))
   where
     by : (o : Option ReadFault) → first_of o None ≡ o
     by None = refl
     by (Some f) = refl
 fault_push limits ls (k ∷ more) r good =
-    let p = none_of (line_fault limits ls (Some k)) (first_fault limits (ls ++ k ∷ []) (map Some more)) good in
+    let p = none_of (line_fault limits ls (Some k))
+    (first_fault limits (ls ++ k ∷ []) (map Some more)) good in
     rw p.0 (fault_push limits (ls ++ k ∷ []) more r p.1
     ∙ ap (λ (x : List Line). line_fault limits x r) (append_assoc ls (k ∷ []) more))
 
@@ -101,7 +115,8 @@ fault_stays limits ls (Some l ∷ rs) more f e = by (line_fault limits ls (Some 
     (fault_stays limits (ls ++ l ∷ []) rs more f)
   where
     by : (o : Option ReadFault) → first_of o (first_fault limits (ls ++ l ∷ []) rs) ≡ Some f
-        → (first_fault limits (ls ++ l ∷ []) rs ≡ Some f → first_fault limits (ls ++ l ∷ []) (rs ++ more) ≡ Some f)
+        → (first_fault limits (ls ++ l ∷ []) rs ≡ Some f
+        → first_fault limits (ls ++ l ∷ []) (rs ++ more) ≡ Some f)
         → first_of o (first_fault limits (ls ++ l ∷ []) (rs ++ more)) ≡ Some f
     by None e more = more e
     by (Some g) e more = e
@@ -125,7 +140,8 @@ cut_back (b ∷ bytes) = by (eqb b 10) refl (cut_back bytes)
         → b ∷ bytes ≡ flat_map with_newline
         (cond t ([] ∷ (cut bytes).0, (cut bytes).1) (onto_first b (cut bytes).0 (cut bytes).1)).0
         ++ (cond t ([] ∷ (cut bytes).0, (cut bytes).1) (onto_first b (cut bytes).0 (cut bytes).1)).1
-    by true is more = let ten : b ≡ 10 = eqb-true b 10 is in rw ten (ap (λ (x : List ℕ). 10 ∷ x) more)
+    by true is more = let ten : b ≡ 10 = eqb-true b 10 is in
+        rw ten (ap (λ (x : List ℕ). 10 ∷ x) more)
     by false is more = ap (λ (x : List ℕ). b ∷ x) more ∙ onto b (cut bytes).0 (cut bytes).1
 
 lines_back : (bs : List (List ℕ)) (ls : List Line) → map line_of bs ≡ map Some ls
@@ -143,7 +159,8 @@ lines_back (b ∷ bs) (l ∷ ls) e =
 -- bytes whose lines say these, up to an unfinished line, are their spelling
 pub spelled_by : (bytes : List ℕ) (ls : List Line) → sayings bytes ≡ map Some ls
     → bytes ≡ flat_map ended ls ++ (cut bytes).1
-spelled_by bytes ls e = cut_back bytes ∙ ap (λ (x : List ℕ). x ++ (cut bytes).1) (lines_back (cut bytes).0 ls e)
+spelled_by bytes ls e = cut_back bytes ∙ ap (λ (x : List ℕ). x ++ (cut bytes).1)
+    (lines_back (cut bytes).0 ls e)
 
 pub said_back : (ls : List Line) → said (map Some ls) ≡ ls
 said_back [] = refl
@@ -158,7 +175,8 @@ no_lines bytes e = sym (length-map (cut bytes).0 line_of) ∙ ap length e
 pub fault_too_large : (limits : Limits) (bytes : List ℕ) → limits.bytes < length bytes
     → fault_within limits bytes ≡ Some faults.TooLarge
 unfolding fault_within
-fault_too_large limits bytes large = let t : nat_lt limits.bytes (length bytes) ≡ true = grind (arith, nat_tests) in
+fault_too_large limits bytes large = let t : nat_lt limits.bytes (length bytes) ≡ true =
+    grind (arith, nat_tests) in
     rw t refl
 
 small_test : (limits : Limits) (bytes : List ℕ) → length bytes ≤ limits.bytes
@@ -178,23 +196,30 @@ fault_truncated limits bytes small e t = rw (small_test limits bytes small, e) (
 
 pub fault_at_end : (limits : Limits) (bytes : List ℕ) (ls : List Line) → length bytes ≤ limits.bytes
     → first_fault limits [] (sayings bytes) ≡ None
-    → truncated bytes ≡ None → sayings bytes ≡ map Some ls → fault_within limits bytes ≡ closing_fault ls
+    → truncated bytes ≡ None → sayings bytes ≡ map Some ls
+    → fault_within limits bytes ≡ closing_fault ls
 unfolding fault_within
 fault_at_end limits bytes ls small e t says =
     rw (small_test limits bytes small, e) (rw t
-    (ap (λ (x : List (Option Line)). closing_fault (said x)) says ∙ ap closing_fault (said_back ls)))
+    (ap (λ (x : List (Option Line)). closing_fault (said x)) says
+    ∙ ap closing_fault (said_back ls)))
 
-pub truncated_tail : (bytes : List ℕ) → 0 < length (cut bytes).1 → truncated bytes ≡ Some faults.Truncated
-truncated_tail bytes some = let t : eqb (length (cut bytes).1) 0 ≡ false = grind (arith, nat_tests) in rw t refl
+pub truncated_tail : (bytes : List ℕ) → 0 < length (cut bytes).1
+    → truncated bytes ≡ Some faults.Truncated
+truncated_tail bytes some = let t : eqb (length (cut bytes).1) 0 ≡ false =
+    grind (arith, nat_tests) in rw t refl
 
-pub truncated_nothing : (bytes : List ℕ) → length (cut bytes).0 ≡ 0 → truncated bytes ≡ Some faults.Truncated
+pub truncated_nothing : (bytes : List ℕ) → length (cut bytes).0 ≡ 0
+    → truncated bytes ≡ Some faults.Truncated
 truncated_nothing bytes none = by (eqb (length (cut bytes).1) 0)
   where
     by : (t : Bool)
-        → cond (t && not (eqb (length (cut bytes).0) 0)) None (Some faults.Truncated) ≡ Some faults.Truncated
+        → cond (t && not (eqb (length (cut bytes).0) 0)) None (Some faults.Truncated)
+        ≡ Some faults.Truncated
     by true = rw none refl
     by false = refl
 
-pub truncated_none : (bytes : List ℕ) → (cut bytes).1 ≡ [] → 0 < length (cut bytes).0 → truncated bytes ≡ None
+pub truncated_none : (bytes : List ℕ) → (cut bytes).1 ≡ [] → 0 < length (cut bytes).0
+    → truncated bytes ≡ None
 truncated_none bytes none some =
     let t : eqb (length (cut bytes).0) 0 ≡ false = grind (arith, nat_tests) in rw (none, t) refl

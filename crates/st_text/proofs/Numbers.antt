@@ -1,7 +1,7 @@
 -- Words and numbers at the front: what is read is spelled so, and what is spelled so is read.
-use Rattle.std.proofs.Common.{◌≡◌, ℕ, suc, ◌+◌, ◌-◌, ◌*◌, ◌^◌, ◌<◌, ◌≤◌, ◌⊎◌, Bool, true, false, ◌&&◌, cond, eqb, leb}
-use Rattle.std.proofs.Common.{List, [], ◌∷◌, ◌++◌, length, get_or, take, drop, Option, Some, None, refl, sym, ap}
-use Rattle.std.proofs.Common.{subst, ◌∙◌, arith, inl, inr}
+use Rattle.std.proofs.Common.{◌≡◌, ℕ, suc, ◌+◌, ◌-◌, ◌*◌, ◌^◌, ◌<◌, ◌≤◌, ◌⊎◌, Bool, true, false}
+use Rattle.std.proofs.Common.{◌&&◌, cond, eqb, leb, List, [], ◌∷◌, ◌++◌, length, get_or, take, drop}
+use Rattle.std.proofs.Common.{Option, Some, None, refl, sym, ap, subst, ◌∙◌, arith, inl, inr}
 use Rattle.std.specs.Prelude.{decimal, MatchOption}
 use Rattle.std.specs.Borrow.{Bor}
 use Rattle.std.specs.Char.{is_ascii_digit, digit_value}
@@ -17,18 +17,22 @@ use Rattle.std.proofs.lemmas.List.Folds.{length-prefix_len}
 use Rattle.std.proofs.lemmas.List.Sums.{prefix_len-le-length, prefix_len_passes, prefix_len_stops}
 use Rattle.std.proofs.lemmas.Slice.Eq.{bytes_eq-Decides, strip_prefix_is}
 use Rattle.std.proofs.lemmas.Str.{digit_value_digit}
-use Rattle.std.proofs.lemmas.Str.Parse.{IsNumeralModel, numerals_by_value, tells_digits, digits_value-take-le, digit_at}
-use Rattle.std.proofs.lemmas.Fmt.{decimal_is_IsNumeral, decimal_digit, first_decimal, decimal-digits_value}
+use Rattle.std.proofs.lemmas.Str.Parse.{IsNumeralModel, numerals_by_value, tells_digits}
+use Rattle.std.proofs.lemmas.Str.Parse.{digits_value-take-le, digit_at}
+use Rattle.std.proofs.lemmas.Fmt.{decimal_is_IsNumeral, decimal_digit, first_decimal}
+use Rattle.std.proofs.lemmas.Fmt.{decimal-digits_value}
 use Rattle.st_text.specs.Parts.Words.{Gives}
 use Rattle.st_text.specs.Parsing.{after, number_from, number}
 use Rattle.st_core.proofs.ForCallers.{both_of}
 
 -- a test and a value
-pub chosen : {A : Type 0} (b : Bool) (o : Option A) (y : A) → cond b o None ≡ Some y → (b ≡ true) × (o ≡ Some y)
+pub chosen : {A : Type 0} (b : Bool) (o : Option A) (y : A) → cond b o None ≡ Some y
+    → (b ≡ true) × (o ≡ Some y)
 chosen true o y e = (refl, e)
 chosen false o y e = absurd cc
 
-not_both : {A : Type 0} (a b : Bool) (x : A) → (a ≡ true → b ≡ true → ⊥) → cond (a && b) (Some x) None ≡ None
+not_both : {A : Type 0} (a b : Bool) (x : A) → (a ≡ true → b ≡ true → ⊥)
+    → cond (a && b) (Some x) None ≡ None
 not_both true true x not = absurd (not refl refl)
 not_both true false x not = refl
 not_both false b x not = refl
@@ -53,7 +57,8 @@ after_takes (c ∷ word) (b ∷ bytes) rest e =
     let more = after_takes word bytes rest g.1 in
     cc
 
-pub after_none : (word bytes : List ℕ) → ((rest : List ℕ) → bytes ≡ word ++ rest → ⊥) → after word bytes ≡ None
+pub after_none : (word bytes : List ℕ) → ((rest : List ℕ) → bytes ≡ word ++ rest → ⊥)
+    → after word bytes ≡ None
 after_none word bytes not = by (after word bytes) refl
   where
     by : (o : Option (List ℕ)) → after word bytes ≡ o → o ≡ None
@@ -62,10 +67,12 @@ after_none word bytes not = by (after word bytes) refl
 
 pub after_is : (word bytes : List ℕ) (r : Option (Bor (List ℕ)))
     → MatchOption r (pointwise eqb (take (length word) bytes) word ≡ false)
-    (λ x. (pointwise eqb (take (length word) bytes) word ≡ true) × (x.now ≡ drop (length word) bytes)
+    (λ x. (pointwise eqb (take (length word) bytes) word ≡ true)
+    × (x.now ≡ drop (length word) bytes)
     × (length x.now + length word ≡ length bytes))
     → Gives (λ x. x.now) r (after word bytes)
-after_is word bytes None m = after_none word bytes (λ rest e. strip_prefix_is Decides-eqb bytes word None m rest e)
+after_is word bytes None m =
+    after_none word bytes (λ rest e. strip_prefix_is Decides-eqb bytes word None m rest e)
 after_is word bytes (Some x) m =
     let e : bytes ≡ word ++ x.now = strip_prefix_is Decides-eqb bytes word (Some x) m in
     rw e (after_again word x.now)
@@ -85,7 +92,8 @@ digits_front (b ∷ bs) = by (is_ascii_digit b) refl (digits_front bs)
     by : (t : Bool) → is_ascii_digit b ≡ t → AllDigits 10 (take (prefix_len is_ascii_digit bs) bs)
         → AllDigits 10 (take (cond t (1 + prefix_len is_ascii_digit bs) 0) (b ∷ bs))
     by true e more =
-        let one : 1 + prefix_len is_ascii_digit bs ≡ suc (prefix_len is_ascii_digit bs) = omega arith in
+        let one : 1 + prefix_len is_ascii_digit bs ≡ suc (prefix_len is_ascii_digit bs) =
+        omega arith in
         rw one (digit_small b e, more)
     by false e more = tt
 
@@ -125,7 +133,8 @@ pub further : (bytes : List ℕ) (i : ℕ) → i ≤ digits_len bytes → i < le
 further bytes i le lt is =
     let inside = more_digits bytes i le lt is in
     let count = length-prefix_len is_ascii_digit bytes in
-    let same : get_or (front bytes) i 0 ≡ get_or bytes i 0 = get_or-take (digits_len bytes) bytes i 0 inside in
+    let same : get_or (front bytes) i 0 ≡ get_or bytes i 0 =
+    get_or-take (digits_len bytes) bytes i 0 inside in
     let digit = digit_at (front bytes) i (digits_front bytes) (omega arith) in
     let value = digit_value_digit _ digit in
     record {
@@ -138,7 +147,8 @@ further bytes i le lt is =
 
 -- the first i digits are all of them
 pub all_digits : (bytes : List ℕ) (i n : ℕ) → i ≤ digits_len bytes
-    → (i < length bytes → is_ascii_digit (get_or bytes i 0) ≡ false) → n < 2 ^ 64 → n ≡ worth i bytes
+    → (i < length bytes → is_ascii_digit (get_or bytes i 0) ≡ false) → n < 2 ^ 64
+    → n ≡ worth i bytes
     → (digits_value 10 (front bytes) < 2 ^ 64)
     × (◌≡◌ {A = ℕ × ℕ} (n, i) (digits_value 10 (front bytes), digits_len bytes))
 all_digits bytes i n le stops small is =
@@ -159,7 +169,8 @@ all_digits bytes i n le stops small is =
 abbrev pub Stops : List ℕ → Type 0
 Stops rest = prefix_len is_ascii_digit rest ≡ 0
 
-prefix_digits : (ds rest : List ℕ) → AllDigits 10 ds → Stops rest → prefix_len is_ascii_digit (ds ++ rest) ≡ length ds
+prefix_digits : (ds rest : List ℕ) → AllDigits 10 ds → Stops rest
+    → prefix_len is_ascii_digit (ds ++ rest) ≡ length ds
 prefix_digits [] rest all stops = stops
 prefix_digits (c ∷ cs) rest all stops =
     let test = digit_test c all.0 in
@@ -171,9 +182,11 @@ own = numerals_by_value (AllDigits 10) tells_digits
 
 -- ---- numbers
 
-pub none_by_value : (most : ℕ) (ds rest : List ℕ) → most < digits_value 10 ds → number_from most ds rest ≡ None
+pub none_by_value : (most : ℕ) (ds rest : List ℕ) → most < digits_value 10 ds
+    → number_from most ds rest ≡ None
 none_by_value most ds rest large =
-    not_both (bytes_eq (decimal (digits_value 10 ds)) ds) (leb (digits_value 10 ds) most) (digits_value 10 ds, rest)
+    not_both (bytes_eq (decimal (digits_value 10 ds)) ds) (leb (digits_value 10 ds) most)
+    (digits_value 10 ds, rest)
     (λ a b. omega (arith, le_from (digits_value 10 ds) most b))
 
 no_lead : (n : ℕ) (ds : List ℕ) → n < 2 ^ 64 → decimal n ≡ ds
@@ -181,7 +194,12 @@ no_lead : (n : ℕ) (ds : List ℕ) → n < 2 ^ 64 → decimal n ≡ ds
 no_lead n ds small e (inl none) = omega (arith, (decimal_is_IsNumeral n small).0.0, ap length e)
 no_lead n ds small e (inr zeros) =
     elim (cases_lt 0 n) [
-      | inl some ↦ omega (arith, first_decimal n some small, ap (λ (x : List ℕ). get_or x 0 0) e, zeros.0)
+      | inl some ↦ omega (
+        arith,
+        first_decimal n some small,
+        ap (λ (x : List ℕ). get_or x 0 0) e,
+        zeros.0,
+      )
       | inr le ↦ let z : n ≡ 0 = omega arith in omega
           (arith, ap length (sym (decimal_digit 0 (omega arith)) ∙ ap decimal (sym z) ∙ e), zeros.1)
     ]
@@ -189,7 +207,8 @@ no_lead n ds small e (inr zeros) =
 pub none_by_lead : (most : ℕ) (ds rest : List ℕ) → most < 2 ^ 64
     → (length ds ≡ 0) ⊎ ((get_or ds 0 0 ≡ 48) × (1 < length ds)) → number_from most ds rest ≡ None
 none_by_lead most ds rest small lead =
-    not_both (bytes_eq (decimal (digits_value 10 ds)) ds) (leb (digits_value 10 ds) most) (digits_value 10 ds, rest)
+    not_both (bytes_eq (decimal (digits_value 10 ds)) ds) (leb (digits_value 10 ds) most)
+    (digits_value 10 ds, rest)
     (λ a b. no_lead (digits_value 10 ds) ds (omega (arith, le_from (digits_value 10 ds) most b))
     ((bytes_eq-Decides (decimal (digits_value 10 ds)) ds).0 a) lead)
 
@@ -226,7 +245,8 @@ number_takes most bytes x e =
     let spelled : decimal v ≡ ds = (bytes_eq-Decides (decimal v) ds).0 tests.0 in
     let whole : bytes ≡ decimal v ++ drop k bytes = rw spelled (sym (take-append-drop k bytes)) in
     let made : ◌≡◌ {A = ℕ × List ℕ} (v, drop k bytes) x = cc in
-    subst (λ (y : ℕ × List ℕ). (bytes ≡ decimal y.0 ++ y.1) × (y.0 ≤ most)) made (whole, le_from v most tests.1)
+    subst (λ (y : ℕ × List ℕ). (bytes ≡ decimal y.0 ++ y.1) × (y.0 ≤ most)) made
+    (whole, le_from v most tests.1)
 
 pub number_again : (most n : ℕ) (rest : List ℕ) → n ≤ most → most < 2 ^ 64 → Stops rest
     → number most (decimal n ++ rest) ≡ Some (n, rest)
@@ -240,6 +260,7 @@ number_again most n rest le small stops =
     let back : drop (length (decimal n)) (decimal n ++ rest) ≡ rest =
     drop_at (decimal n) rest (length (decimal n)) refl in
     let value : digits_value 10 (decimal n) ≡ n = num.1 in
-    let same : bytes_eq (decimal n) (decimal n) ≡ true = (bytes_eq-Decides (decimal n) (decimal n)).1 refl in
+    let same : bytes_eq (decimal n) (decimal n) ≡ true =
+    (bytes_eq-Decides (decimal n) (decimal n)).1 refl in
     let fits : leb n most ≡ true = grind (arith, nat_tests) in
     rw (len, front, back, value, same, fits) refl

@@ -1,5 +1,7 @@
--- Bytes are the text of one bundle at most: the lines are read off the bytes, and the bundle off the lines.
-use Rattle.std.proofs.Common.{◌≡◌, ℕ, List, [], ◌∷◌, ◌++◌, map, Option, Some, None, refl, sym, ap, ◌∙◌, append_assoc}
+-- Bytes are the text of one bundle at most: the lines are read off the bytes, and the bundle off
+-- the lines.
+use Rattle.std.proofs.Common.{◌≡◌, ℕ, List, [], ◌∷◌, ◌++◌, map, Option, Some, None, refl, sym, ap}
+use Rattle.std.proofs.Common.{◌∙◌, append_assoc}
 use Rattle.std.specs.Prelude.{Result, Ok, Err}
 use Rattle.std.specs.List.{flat_map, AllByRecursion}
 use Rattle.std.proofs.lemmas.List.{append-nil}
@@ -13,7 +15,8 @@ use Rattle.st_text.specs.declared.line.Line.TheVariants as lines
 use Rattle.st_text.specs.declared.fault.ReadFault.{ReadFault}
 use Rattle.st_text.specs.declared.fault.ReadFault.TheVariants as faults
 use Rattle.st_text.specs.Range.{Fits}
-use Rattle.st_text.specs.Text.{Contents, process_lines, act_lines, body, lines_of, spelling, IsBundle, IsText, IsWithin}
+use Rattle.st_text.specs.Text.{Contents, process_lines, act_lines, body, lines_of, spelling}
+use Rattle.st_text.specs.Text.{IsBundle, IsText, IsWithin}
 use Rattle.st_text.specs.Contents.{contents}
 use Rattle.st_text.specs.Fault.{sayings, fault_within}
 use Rattle.st_text.specs.Answer.{Reads, IsReadResultOrMemory}
@@ -59,7 +62,8 @@ unfolding acts_back
 back_acts [] = refl
 back_acts (a ∷ list) = ap (λ (x : List Act). a ∷ x) (back_acts list)
 
-back_act_lines : (o : Option (List Act)) → back (act_lines o) ≡ record { events = []; streams = []; acts = o }
+back_act_lines : (o : Option (List Act))
+    → back (act_lines o) ≡ record { events = []; streams = []; acts = o }
 unfolding back
 back_act_lines None = refl
 back_act_lines (Some list) =
@@ -71,10 +75,12 @@ back_events : (es : List Event) (rest : List Line)
 unfolding back
 back_events [] rest = refl
 back_events (e ∷ es) rest =
-    ap (λ (x : Back). record { events = e ∷ x.events; streams = x.streams; acts = x.acts }) (back_events es rest)
+    ap (λ (x : Back). record { events = e ∷ x.events; streams = x.streams; acts = x.acts })
+    (back_events es rest)
 
 back_streams : (ss : List Stream) (o : Option (List Act))
-    → back (flat_map process_lines ss ++ act_lines o) ≡ record { events = []; streams = ss; acts = o }
+    → back (flat_map process_lines ss ++ act_lines o)
+    ≡ record { events = []; streams = ss; acts = o }
 unfolding back
 back_streams [] o = back_act_lines o
 back_streams (s ∷ ss) o =
@@ -82,8 +88,14 @@ back_streams (s ∷ ss) o =
     let one : back (map lines.Event s.events ++ (flat_map process_lines ss ++ act_lines o))
     ≡ record { events = s.events; streams = ss; acts = o } =
     back_events s.events (flat_map process_lines ss ++ act_lines o)
-    ∙ ap (λ (x : Back). record { events = s.events ++ x.events; streams = x.streams; acts = x.acts }) later
-    ∙ ap (λ (es : List Event). record { events = es; streams = ss; acts = o }) (append-nil s.events) in
+    ∙ ap (λ (x : Back). record {
+      events = s.events ++ x.events;
+      streams = x.streams;
+      acts =
+          x.acts;
+    }) later
+    ∙ ap (λ (es : List Event). record { events = es; streams = ss; acts = o })
+    (append-nil s.events) in
     ap (λ (x : List Line). back (lines.Process s.pid ∷ x))
     (append_assoc (map lines.Event s.events) (flat_map process_lines ss) (act_lines o))
     ∙ ap (λ (x : Back). record {
@@ -97,7 +109,8 @@ abbrev held : Back → Contents
 held x = record { streams = x.streams; acts = x.acts }
 
 body_one : (c d : Contents) → body c ≡ body d → c ≡ d
-body_one c d e = ap held (sym (back_streams c.streams c.acts) ∙ ap back e ∙ back_streams d.streams d.acts)
+body_one c d e = ap held
+    (sym (back_streams c.streams c.acts) ∙ ap back e ∙ back_streams d.streams d.acts)
 
 -- ---- lines
 
@@ -121,14 +134,16 @@ text_one bytes c d t u =
     let says_d : sayings bytes ≡ map Some (lines_of d) =
     let fits : AllByRecursion Fits (lines_of d) =
     (tt, u.bundle.fits) in ap sayings u.spelled ∙ sayings_spelled (lines_of d) fits in
-    body_one c d (tail_one _ _ (body c) (body d) (some_one (lines_of c) (lines_of d) (sym says_c ∙ says_d)))
+    body_one c d (tail_one _ _ (body c) (body d)
+    (some_one (lines_of c) (lines_of d) (sym says_c ∙ says_d)))
 
 no_fault : (limits : Limits) (bytes : List ℕ) (f : ReadFault) → fault_within limits bytes ≡ None
     → fault_within limits bytes ≡ Some f → ⊥
 no_fault limits bytes f e g = cc
 
 -- what is written is read
-pub read_back : (limits : Limits) (c : Contents) (r : Result Bundle ReadFault) → IsBundle c → IsWithin limits c
+pub read_back : (limits : Limits) (c : Contents) (r : Result Bundle ReadFault) → IsBundle c
+    → IsWithin limits c
     → IsReadResultOrMemory limits (spelling c) r
     → IsReadBack c r
 read_back limits c r b w a = by r a

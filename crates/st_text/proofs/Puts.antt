@@ -1,6 +1,7 @@
 -- The bytes written and those that wait are together the text so far: so each part goes on where
 -- the one before stopped.
-use Rattle.std.proofs.Common.{◌≡◌, ℕ, ◌+◌, ◌<◌, ◌≤◌, Bool, false, List, [], ◌∷◌, ◌++◌, length, map, take, drop, get_or}
+use Rattle.std.proofs.Common.{◌≡◌, ℕ, ◌+◌, ◌<◌, ◌≤◌, Bool, false, List, [], ◌∷◌, ◌++◌, length, map}
+use Rattle.std.proofs.Common.{take, drop, get_or}
 use Rattle.std.proofs.Common.{refl, sym, ap, subst, ◌∙◌, append_assoc, inl, inr, arith}
 use Rattle.std.specs.List.{flat_map}
 use Rattle.std.specs.Prelude.{Result, Ok, Err, OnOk}
@@ -12,14 +13,17 @@ use Rattle.st_core.specs.Device.{InARow, NoCall, OneMore}
 use Rattle.st_text.specs.Writing.{WritesPart, WritesText, Goes, WritesOn}
 
 -- calls in a row, and then more
-pub in_a_row : {S : Type 0} (puts : S → List ℕ → S → Type 0) {a b c : S} {xs ys : List ℕ} → InARow puts b ys c
+pub in_a_row : {S : Type 0} (puts : S → List ℕ → S → Type 0) {a b c : S} {xs ys : List ℕ}
+    → InARow puts b ys c
     → InARow puts a xs b → InARow puts a (xs ++ ys) c
-in_a_row puts {a} {xs} (NoCall s) first = subst (λ (x : List ℕ). InARow puts a x s) (sym (append-nil xs)) first
+in_a_row puts {a} {xs} (NoCall s) first =
+    subst (λ (x : List ℕ). InARow puts a x s) (sym (append-nil xs)) first
 in_a_row puts {a} {xs} (OneMore d e f more last row call) first =
     subst (λ (x : List ℕ). InARow puts a x f) (append_assoc xs more last)
     (OneMore a e f (xs ++ more) last (in_a_row puts row first) call)
 
-pub put_more : {S : Type 0} (puts : S → List ℕ → S → Type 0) {a b c : S} {bytes done : List ℕ} (rest : List ℕ) (n : ℕ)
+pub put_more : {S : Type 0} (puts : S → List ℕ → S → Type 0) {a b c : S} {bytes done : List ℕ}
+    (rest : List ℕ) (n : ℕ)
     → bytes ≡ done ++ rest → InARow puts a done b → puts b (take n rest) c
     → (bytes ≡ (done ++ take n rest) ++ drop n rest) × InARow puts a (done ++ take n rest) c
 put_more puts {a} {b} {c} {done} rest n e row call = (
@@ -28,13 +32,15 @@ put_more puts {a} {b} {c} {done} rest n e row call = (
   OneMore a b c done (take n rest) row call,
 )
 
-pub put_none : {S : Type 0} (puts : S → List ℕ → S → Type 0) {a b c : S} {done : List ℕ} → InARow puts a done b
+pub put_none : {S : Type 0} (puts : S → List ℕ → S → Type 0) {a b c : S} {done : List ℕ}
+    → InARow puts a done b
     → puts b [] c → InARow puts a done c
 put_none puts {a} {b} {c} {done} row call =
     subst (λ (x : List ℕ). InARow puts a x c) (append-nil done) (OneMore a b c done [] row call)
 
 -- what is done of the bytes was put in a row, and the rest is left
-pub record HasPut {S : Type 0} (puts : S → List ℕ → S → Type 0) (failed : S → Bool) (bytes rest : List ℕ)
+pub record HasPut {S : Type 0} (puts : S → List ℕ → S → Type 0) (failed : S → Bool)
+    (bytes rest : List ℕ)
     (old now : S) : Type 0 where
   pub done : List ℕ
   pub parts : bytes ≡ done ++ rest
@@ -48,15 +54,31 @@ pub goes_buffer : {S : Type 0} (puts : S → List ℕ → S → Type 0) (failed 
     {waited waits text : List ℕ}
     → waits ≡ waited ++ text → Goes puts failed text a a waited waits
 goes_buffer puts failed {a} e =
-    record { written = []; put = NoCall a; whole = sym e; mark = refl; alive = λ h. absurd (omega arith) }
+    record {
+      written = [];
+      put = NoCall a;
+      whole = sym e;
+      mark = refl;
+      alive =
+          λ h. absurd (omega arith);
+    }
 
 -- nothing yet
-pub goes_still : {S : Type 0} (puts : S → List ℕ → S → Type 0) (failed : S → Bool) {a : S} {waited : List ℕ}
+pub goes_still : {S : Type 0} (puts : S → List ℕ → S → Type 0)
+    (failed : S → Bool) {a : S} {waited : List ℕ}
     → Goes puts failed [] a a waited waited
 goes_still puts failed {a} {waited} =
-    record { written = []; put = NoCall a; whole = append-nil waited; mark = refl; alive = λ h. absurd (omega arith) }
+    record {
+      written = [];
+      put = NoCall a;
+      whole = append-nil waited;
+      mark = refl;
+      alive =
+          λ h. absurd (omega arith);
+    }
 
-pub goes_then : {S : Type 0} (puts : S → List ℕ → S → Type 0) (failed : S → Bool) (t u : List ℕ) {a b c : S}
+pub goes_then : {S : Type 0} (puts : S → List ℕ → S → Type 0) (failed : S → Bool)
+    (t u : List ℕ) {a b c : S}
     {x y z : List ℕ}
     → Goes puts failed t a b x y → Goes puts failed u b c y z → Goes puts failed (t ++ u) a c x z
 goes_then puts failed t u {x} {y} {z} g h =
@@ -64,75 +86,90 @@ goes_then puts failed t u {x} {y} {z} g h =
       written = g.written ++ h.written;
       put = in_a_row puts h.put g.put;
       whole =
-          sym (append_assoc x t u) ∙ ap (λ (w : List ℕ). w ++ u) g.whole ∙ append_assoc g.written y u
+          sym (append_assoc x t u) ∙ ap (λ (w : List ℕ). w ++ u) g.whole
+          ∙ append_assoc g.written y u
           ∙ ap (λ (w : List ℕ). g.written ++ w) h.whole ∙ sym (append_assoc g.written h.written z);
       mark = h.mark ∙ g.mark;
       alive = λ some. elim (cases_lt 0 (length g.written)) [
         | inl one ↦ g.alive one
-        | inr none ↦ sym g.mark ∙ h.alive (omega (arith, some, none, length-append g.written h.written))
+        | inr none ↦ sym g.mark ∙ h.alive
+            (omega (arith, some, none, length-append g.written h.written))
       ];
     }
 
 -- the second text failed
-pub part_then : {S : Type 0} (puts : S → List ℕ → S → Type 0) (failed : S → Bool) (t u : List ℕ) {a b c : S}
+pub part_then : {S : Type 0} (puts : S → List ℕ → S → Type 0) (failed : S → Bool)
+    (t u : List ℕ) {a b c : S}
     {x y : List ℕ}
-    → Goes puts failed t a b x y → WritesPart puts failed (y ++ u) b c → WritesPart puts failed (x ++ (t ++ u)) a c
+    → Goes puts failed t a b x y → WritesPart puts failed (y ++ u) b c
+    → WritesPart puts failed (x ++ (t ++ u)) a c
 part_then puts failed t u {x} {y} g h =
     record {
       written = g.written ++ h.written;
       rest = h.rest;
       prefix =
-          sym (append_assoc x t u) ∙ ap (λ (w : List ℕ). w ++ u) g.whole ∙ append_assoc g.written y u
-          ∙ ap (λ (w : List ℕ). g.written ++ w) h.prefix ∙ sym (append_assoc g.written h.written h.rest);
+          sym (append_assoc x t u) ∙ ap (λ (w : List ℕ). w ++ u) g.whole
+          ∙ append_assoc g.written y u
+          ∙ ap (λ (w : List ℕ). g.written ++ w) h.prefix
+          ∙ sym (append_assoc g.written h.written h.rest);
       put = in_a_row puts h.put g.put;
       after = h.after;
     }
 
 -- the first text failed
-pub part_longer : {S : Type 0} (puts : S → List ℕ → S → Type 0) (failed : S → Bool) (t u : List ℕ) {a b : S}
+pub part_longer : {S : Type 0} (puts : S → List ℕ → S → Type 0) (failed : S → Bool)
+    (t u : List ℕ) {a b : S}
     (x : List ℕ)
     → WritesPart puts failed (x ++ t) a b → WritesPart puts failed (x ++ (t ++ u)) a b
 part_longer puts failed t u x h =
     record {
       written = h.written;
       rest = h.rest ++ u;
-      prefix = sym (append_assoc x t u) ∙ ap (λ (w : List ℕ). w ++ u) h.prefix ∙ append_assoc h.written h.rest u;
+      prefix = sym (append_assoc x t u) ∙ ap (λ (w : List ℕ). w ++ u) h.prefix
+          ∙ append_assoc h.written h.rest u;
       put = h.put;
       after = h.after;
     }
 
 -- the same of what a call returned
-pub then_on : {S T E : Type 0} (puts : S → List ℕ → S → Type 0) (failed : S → Bool) (t u : List ℕ) {a b : S}
+pub then_on : {S T E : Type 0} (puts : S → List ℕ → S → Type 0) (failed : S → Bool)
+    (t u : List ℕ) {a b : S}
     (c : S) {x y : List ℕ} (z : List ℕ) (r : Result T E)
-    → Goes puts failed t a b x y → WritesOn puts failed u b c y z r → WritesOn puts failed (t ++ u) a c x z r
+    → Goes puts failed t a b x y → WritesOn puts failed u b c y z r
+    → WritesOn puts failed (t ++ u) a c x z r
 then_on puts failed t u c z (Ok v) g h = goes_then puts failed t u g h
 then_on puts failed t u c z (Err e) g h = part_then puts failed t u g h
 
 -- ---- what calls returned
 
 -- a refusal, if a call failed
-pub on_err : {S T E : Type 0} {puts : S → List ℕ → S → Type 0} {failed : S → Bool} (t : List ℕ) {a b : S}
+pub on_err : {S T E : Type 0} {puts : S → List ℕ → S → Type 0} {failed : S → Bool}
+    (t : List ℕ) {a b : S}
     (x y : List ℕ) (r : Result T E)
     → IsErr r → WritesPart puts failed (x ++ t) a b → WritesOn puts failed t a b x y r
 on_err t x y (Ok v) is h = absurd cc
 on_err t x y (Err e) is h = h
 
 -- room was made, and then the text was put after what waits
-pub room_then : {S : Type 0} (puts : S → List ℕ → S → Type 0) (failed : S → Bool) (text : List ℕ) {a b : S}
+pub room_then : {S : Type 0} (puts : S → List ℕ → S → Type 0) (failed : S → Bool)
+    (text : List ℕ) {a b : S}
     {x y z : List ℕ}
     → Goes puts failed [] a b x y → z ≡ y ++ text → Goes puts failed text a b x z
 room_then puts failed text g e = goes_then puts failed [] text g (goes_buffer puts failed e)
 
 -- no room could be made
-pub no_room : {S T E : Type 0} (puts : S → List ℕ → S → Type 0) (failed : S → Bool) (text : List ℕ) {a b : S}
+pub no_room : {S T E : Type 0} (puts : S → List ℕ → S → Type 0) (failed : S → Bool)
+    (text : List ℕ) {a b : S}
     (x y : List ℕ) (r : Result T E)
     → IsErr r → WritesPart puts failed (x ++ []) a b → WritesOn puts failed text a b x y r
 no_room puts failed text x y r is h = on_err text x y r is (part_longer puts failed [] text x h)
 
 -- the front of what waited went
-pub front_went : {S : Type 0} (puts : S → List ℕ → S → Type 0) (failed : S → Bool) (text front back : List ℕ)
+pub front_went : {S : Type 0} (puts : S → List ℕ → S → Type 0) (failed : S → Bool)
+    (text front back : List ℕ)
     {a b : S} {waited : List ℕ}
-    → waited ≡ front ++ back → text ≡ front → Goes puts failed text a b [] [] → Goes puts failed [] a b waited back
+    → waited ≡ front ++ back → text ≡ front → Goes puts failed text a b [] []
+    → Goes puts failed [] a b waited back
 front_went puts failed text front back {waited} parts same g =
     record {
       written = g.written;
@@ -145,16 +182,19 @@ front_went puts failed text front back {waited} parts same g =
     }
 
 -- it failed on the way
-pub front_failed : {S : Type 0} (puts : S → List ℕ → S → Type 0) (failed : S → Bool) (text front back : List ℕ)
+pub front_failed : {S : Type 0} (puts : S → List ℕ → S → Type 0) (failed : S → Bool)
+    (text front back : List ℕ)
     {a b : S} {waited : List ℕ}
     → waited ≡ front ++ back → text ≡ front → WritesPart puts failed text a b
     → WritesPart puts failed (waited ++ []) a b
 front_failed puts failed text front back {a} {b} {waited} parts same h =
     subst (λ (w : List ℕ). WritesPart puts failed w a b) (sym (append-nil waited ∙ parts))
-    (part_longer puts failed front back [] (subst (λ (w : List ℕ). WritesPart puts failed w a b) same h))
+    (part_longer puts failed front back []
+    (subst (λ (w : List ℕ). WritesPart puts failed w a b) same h))
 
 -- the text so far and one more failed, so all of it did
-pub failed_among : {S : Type 0} (puts : S → List ℕ → S → Type 0) (failed : S → Bool) (t u v : List ℕ) {whole : List ℕ}
+pub failed_among : {S : Type 0} (puts : S → List ℕ → S → Type 0) (failed : S → Bool)
+    (t u v : List ℕ) {whole : List ℕ}
     {a b c : S} {x y : List ℕ}
     → whole ≡ t ++ (u ++ v) → Goes puts failed t a b x y → WritesPart puts failed (y ++ u) b c
     → WritesPart puts failed (x ++ whole) a c
@@ -170,7 +210,8 @@ flat_map-map f g [] = refl
 flat_map-map f g (x ∷ xs) = ap (λ ys. f (g x) ++ ys) (flat_map-map f g xs)
 
 -- what went of items went of their images
-pub on_images : {S X Y T E : Type 0} (puts : S → List ℕ → S → Type 0) (failed : S → Bool) (f : Y → List ℕ) (g : X → Y)
+pub on_images : {S X Y T E : Type 0} (puts : S → List ℕ → S → Type 0) (failed : S → Bool)
+    (f : Y → List ℕ) (g : X → Y)
     (xs : List X) (a b : S) (x y : List ℕ) (r : Result T E)
     → WritesOn puts failed (flat_map (λ v. f (g v)) xs) a b x y r
     → WritesOn puts failed (flat_map f (map g xs)) a b x y r
@@ -186,7 +227,8 @@ flat_map_take f xs i d lt =
 pub flat_map_split : {X A : Type 0} (f : X → List A) (xs : List X) (i : ℕ) (d : X) → i < length xs
     → flat_map f xs ≡ flat_map f (take i xs) ++ (f (get_or xs i d) ++ flat_map f (drop (i + 1) xs))
 flat_map_split f xs i d lt =
-    ap (flat_map f) (sym (take-append-drop (i + 1) xs)) ∙ flat_map-append f (take (i + 1) xs) (drop (i + 1) xs)
+    ap (flat_map f) (sym (take-append-drop (i + 1) xs)) ∙ flat_map-append f (take (i + 1) xs)
+    (drop (i + 1) xs)
     ∙ ap (λ ys. ys ++ flat_map f (drop (i + 1) xs)) (flat_map_take f xs i d lt)
     ∙ append_assoc (flat_map f (take i xs)) (f (get_or xs i d)) (flat_map f (drop (i + 1) xs))
 
@@ -194,44 +236,54 @@ pub flat_map-flat_map : {X Y A : Type 0} (f : Y → List A) (g : X → List Y) (
     → flat_map f (flat_map g xs) ≡ flat_map (λ x. flat_map f (g x)) xs
 flat_map-flat_map f g [] = refl
 flat_map-flat_map f g (x ∷ xs) =
-    flat_map-append f (g x) (flat_map g xs) ∙ ap (λ ys. flat_map f (g x) ++ ys) (flat_map-flat_map f g xs)
+    flat_map-append f (g x) (flat_map g xs) ∙ ap (λ ys. flat_map f (g x) ++ ys)
+    (flat_map-flat_map f g xs)
 
 -- ---- a loop over items, each of which has a text
 
-pub one_more : {S X : Type 0} (puts : S → List ℕ → S → Type 0) (failed : S → Bool) (f : X → List ℕ) (xs : List X)
+pub one_more : {S X : Type 0} (puts : S → List ℕ → S → Type 0) (failed : S → Bool) (f : X → List ℕ)
+    (xs : List X)
     (i : ℕ) (d : X) {a b c : S} {x y z : List ℕ}
-    → i < length xs → Goes puts failed (flat_map f (take i xs)) a b x y → Goes puts failed (f (get_or xs i d)) b c y z
+    → i < length xs → Goes puts failed (flat_map f (take i xs)) a b x y
+    → Goes puts failed (f (get_or xs i d)) b c y z
     → Goes puts failed (flat_map f (take (i + 1) xs)) a c x z
 one_more puts failed f xs i d {a} {c} {x} {z} lt g h =
     subst (λ (t : List ℕ). Goes puts failed t a c x z) (sym (flat_map_take f xs i d lt))
     (goes_then puts failed (flat_map f (take i xs)) (f (get_or xs i d)) g h)
 
-pub one_failed : {S X : Type 0} (puts : S → List ℕ → S → Type 0) (failed : S → Bool) (f : X → List ℕ) (xs : List X)
+pub one_failed : {S X : Type 0} (puts : S → List ℕ → S → Type 0) (failed : S → Bool)
+    (f : X → List ℕ) (xs : List X)
     (i : ℕ) (d : X) {whole : List ℕ} {a b c : S} {x y : List ℕ}
     → whole ≡ flat_map f xs → i < length xs → Goes puts failed (flat_map f (take i xs)) a b x y
     → WritesPart puts failed (y ++ f (get_or xs i d)) b c → WritesPart puts failed (x ++ whole) a c
 one_failed puts failed f xs i d e lt g h =
-    failed_among puts failed (flat_map f (take i xs)) (f (get_or xs i d)) (flat_map f (drop (i + 1) xs))
+    failed_among puts failed (flat_map f (take i xs)) (f (get_or xs i d))
+    (flat_map f (drop (i + 1) xs))
     (e ∙ flat_map_split f xs i d lt) g h
 
-pub all_done : {S X : Type 0} (puts : S → List ℕ → S → Type 0) (failed : S → Bool) (f : X → List ℕ) (xs : List X)
+pub all_done : {S X : Type 0} (puts : S → List ℕ → S → Type 0) (failed : S → Bool) (f : X → List ℕ)
+    (xs : List X)
     (i : ℕ) {whole : List ℕ} {a b : S} {x y : List ℕ}
     → whole ≡ flat_map f xs → length xs ≤ i → Goes puts failed (flat_map f (take i xs)) a b x y
     → Goes puts failed whole a b x y
 all_done puts failed f xs i {a} {b} {x} {y} e le g =
-    subst (λ (t : List ℕ). Goes puts failed t a b x y) (ap (flat_map f) (take_all i xs le) ∙ sym e) g
+    subst (λ (t : List ℕ). Goes puts failed t a b x y) (ap (flat_map f) (take_all i xs le) ∙ sym e)
+    g
 
 -- ---- the end of a text
 
 -- what waited last went too
-pub finishes : {S T E : Type 0} (puts : S → List ℕ → S → Type 0) (failed : S → Bool) (text : List ℕ) {a b : S}
+pub finishes : {S T E : Type 0} (puts : S → List ℕ → S → Type 0) (failed : S → Bool)
+    (text : List ℕ) {a b : S}
     (c : S) {x : List ℕ} (y : List ℕ) (r : Result T E)
-    → 0 < length text → Goes puts failed text a b [] x → WritesOn puts failed [] b c x y r → OnOk r (y ≡ [])
+    → 0 < length text → Goes puts failed text a b [] x → WritesOn puts failed [] b c x y r
+    → OnOk r (y ≡ [])
     → WritesText puts failed text a c r
 finishes puts failed text {a} c y (Ok v) some g h over =
     let all = goes_then puts failed text [] g h in
     let is : text ≡ all.written =
-    sym (append-nil text) ∙ all.whole ∙ ap (λ (w : List ℕ). all.written ++ w) over ∙ append-nil all.written in
+    sym (append-nil text) ∙ all.whole ∙ ap (λ (w : List ℕ). all.written ++ w) over
+    ∙ append-nil all.written in
     let before : failed a ≡ false = all.alive (omega (arith, some, ap length is)) in
     record {
       put = subst (λ (w : List ℕ). InARow puts a w c) (sym is) all.put;
@@ -242,6 +294,8 @@ finishes puts failed text {a} c y (Ok v) some g h over =
 finishes puts failed text c y (Err e) some g h over =
     part_whole puts failed text (part_then puts failed text [] g h)
   where
-    part_whole : {S : Type 0} (puts : S → List ℕ → S → Type 0) (failed : S → Bool) (t : List ℕ) {a b : S}
+    part_whole : {S : Type 0} (puts : S → List ℕ → S → Type 0) (failed : S → Bool)
+        (t : List ℕ) {a b : S}
         → WritesPart puts failed (t ++ []) a b → WritesPart puts failed t a b
-    part_whole puts failed t {a} {b} h = subst (λ (w : List ℕ). WritesPart puts failed w a b) (append-nil t) h
+    part_whole puts failed t {a} {b} h =
+        subst (λ (w : List ℕ). WritesPart puts failed w a b) (append-nil t) h

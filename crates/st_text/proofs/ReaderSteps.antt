@@ -1,7 +1,7 @@
--- A reader on its way: the calls so far gave some bytes in a row, its feed was fed them, and it asks for no byte past
--- the first one too many.
-use Rattle.std.proofs.Common.{◌≡◌, ℕ, ◌+◌, ◌≤◌, Bool, List, [], ◌++◌, length, Option, Some, None, refl, sym, ap, ◌∙◌}
-use Rattle.std.proofs.Common.{append_assoc}
+-- A reader on its way: the calls so far gave some bytes in a row, its feed was fed them, and it
+-- asks for no byte past the first one too many.
+use Rattle.std.proofs.Common.{◌≡◌, ℕ, ◌+◌, ◌≤◌, Bool, List, [], ◌++◌, length, Option, Some, None}
+use Rattle.std.proofs.Common.{refl, sym, ap, ◌∙◌, append_assoc}
 use Rattle.std.specs.Prelude.{Result, Err}
 use Rattle.std.proofs.lemmas.List.{append-nil}
 use Rattle.st_core.specs.Device.{InARow}
@@ -16,7 +16,8 @@ use Rattle.st_text.specs.Reads.{HadGrowth}
 use Rattle.st_text.proofs.TextFaults.{no_memory}
 use Rattle.st_text.specs.declared.limits.Limits.{Limits}
 
-pub record IsReading (limits : Limits) {S : Type 0} (gives : S → List ℕ → S → Type 0) (failed : S → Bool)
+pub record IsReading (limits : Limits) {S : Type 0} (gives : S → List ℕ → S → Type 0)
+    (failed : S → Bool)
     (old now : S) (feed : Feed)
     (left : ℕ) (buffer : List ℕ) : Type 0 where
   pub bytes : List ℕ
@@ -33,14 +34,16 @@ pub never_fresh : (o : Option ReadFault) (f : ReadFault) → o ≡ None → o �
 never_fresh o f e g = cc
 
 -- more bytes came after
-later_growth : (limits : Limits) {S : Type 0} (gives : S → List ℕ → S → Type 0) (old : S) (bytes more : List ℕ)
+later_growth : (limits : Limits) {S : Type 0} (gives : S → List ℕ → S → Type 0) (old : S)
+    (bytes more : List ℕ)
     → HadGrowth limits gives bytes old → HadGrowth limits gives (bytes ++ more) old
 later_growth limits gives old bytes more h =
     record {
       before = h.before;
       piece = h.piece;
       after = h.after ++ more;
-      parts = ap (λ (x : List ℕ). x ++ more) h.parts ∙ append_assoc h.before (h.piece ++ h.after) more
+      parts = ap (λ (x : List ℕ). x ++ more) h.parts ∙ append_assoc h.before (h.piece ++ h.after)
+          more
           ∙ ap (λ (x : List ℕ). h.before ++ x) (append_assoc h.piece h.after more);
       from = h.from;
       to = h.to;
@@ -50,11 +53,14 @@ later_growth limits gives old bytes more h =
     }
 
 -- one more piece, after which memory has run out: in it, or before it
-pub growth_after : (limits : Limits) {S : Type 0} (gives : S → List ℕ → S → Type 0) (old now next : S)
+pub growth_after : (limits : Limits) {S : Type 0} (gives : S → List ℕ → S → Type 0)
+    (old now next : S)
     (bytes piece : List ℕ)
     (was is : Option ReadFault)
-    → InARow gives old bytes now → gives now piece next → (was ≡ Some faults.Memory → HadGrowth limits gives bytes old)
-    → (was ≡ None → is ≡ Some faults.Memory → Grows limits bytes piece) → ((f : ReadFault) → was ≡ Some f → is ≡ Some f)
+    → InARow gives old bytes now → gives now piece next
+    → (was ≡ Some faults.Memory → HadGrowth limits gives bytes old)
+    → (was ≡ None → is ≡ Some faults.Memory → Grows limits bytes piece)
+    → ((f : ReadFault) → was ≡ Some f → is ≡ Some f)
     → is ≡ Some faults.Memory → HadGrowth limits gives (bytes ++ piece) old
 growth_after limits gives old now next bytes piece None is row call before here again ran =
     record {
@@ -72,12 +78,14 @@ growth_after limits gives old now next bytes piece (Some f) is row call before h
     later_growth limits gives old bytes piece (before (sym (again f refl) ∙ ran))
 
 -- an answer of Memory at the end is that of the feed
-pub growth_at_end : (limits : Limits) {S : Type 0} (gives : S → List ℕ → S → Type 0) (old : S) (bytes : List ℕ)
+pub growth_at_end : (limits : Limits) {S : Type 0} (gives : S → List ℕ → S → Type 0) (old : S)
+    (bytes : List ℕ)
     (was : Option ReadFault)
     (r : Result Bundle ReadFault)
     → length bytes ≤ limits.bytes → (was ≡ Some faults.Memory → HadGrowth limits gives bytes old)
     → (was ≡ None → IsReadResult limits bytes r)
-    → ((f : ReadFault) → was ≡ Some f → r ≡ Err f) → r ≡ Err faults.Memory → HadGrowth limits gives bytes old
+    → ((f : ReadFault) → was ≡ Some f → r ≡ Err f) → r ≡ Err faults.Memory
+    → HadGrowth limits gives bytes old
 growth_at_end limits gives old bytes None r small before exact again e =
     absurd (no_memory limits bytes r small (exact refl) e)
 growth_at_end limits gives old bytes (Some f) r small before exact again e =

@@ -1,7 +1,8 @@
 -- The refusal of bytes that are no text of a bundle, told from all the bytes and their lines.
 -- In order: too many bytes; the first faulty line; bytes after the last newline, or none at all; a
 -- needless header 2; the first line that names an unlisted pid.
-use Rattle.std.specs.Prelude.{ℕ, ◌+◌, ◌-◌, Bool, true, false, not, ◌&&◌, ◌||◌, List, [], ◌∷◌, ◌++◌, length, map, Option}
+use Rattle.std.specs.Prelude.{ℕ, ◌+◌, ◌-◌, Bool, true, false, not, ◌&&◌, ◌||◌, List, [], ◌∷◌, ◌++◌}
+use Rattle.std.specs.Prelude.{length, map, Option}
 use Rattle.std.specs.Prelude.{Some, None, nat_lt, nat_le, ◌==◌, if◌then◌else◌, option_to_list}
 use Rattle.std.specs.List.{flat_map, count_by, list_any, list_all, slice_get}
 use Rattle.std.specs.Ordering.{is_lt}

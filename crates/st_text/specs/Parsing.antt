@@ -1,7 +1,8 @@
 -- The meaning of one line's bytes, computed from the front. That this is the spelling read
 -- backwards, and nothing more, is proved: what is read is spelled so, and what is spelled so is
 -- read.
-use Rattle.std.specs.Prelude.{ℕ, Bool, true, false, ◌&&◌, List, [], ◌∷◌, length, take, drop, Option, Some, None}
+use Rattle.std.specs.Prelude.{ℕ, Bool, true, false, ◌&&◌, List, [], ◌∷◌, length, take, drop, Option}
+use Rattle.std.specs.Prelude.{Some, None}
 use Rattle.std.specs.Prelude.{option_and_then, nat_le, ◌==◌, if◌then◌else◌, codes, decimal}
 use Rattle.std.specs.Char.{is_ascii_digit}
 use Rattle.std.specs.List.{prefix_len}
@@ -152,7 +153,8 @@ parse_actor bytes = do
 
 unfoldable pub parse_component : List ℕ → Option (Component × List ℕ)
 parse_component bytes =
-    begins (codes "label ") bytes (λ rest. parse_label rest >>= λ l. Some (components.Label l.0, l.1))
+    begins (codes "label ") bytes
+    (λ rest. parse_label rest >>= λ l. Some (components.Label l.0, l.1))
     (begins (codes "send ") bytes (λ rest. parse_bool rest >>= λ b. Some (components.Send b.0, b.1))
     (begins (codes "receive ") bytes
     (λ rest. parse_bool rest >>= λ b. Some (components.Receive b.0, b.1))
@@ -255,7 +257,8 @@ unfoldable pub parse_alone : List ℕ → Option (Act × List ℕ)
 parse_alone bytes =
     begins (codes "clear ") bytes (λ rest. parse_pid rest >>= λ p. Some (acts.Clear p.0, p.1))
     (begins (codes "look ") bytes (λ rest. parse_pid rest >>= λ p. Some (acts.Look p.0, p.1))
-    (begins (codes "reset ") bytes (λ rest. parse_pid rest >>= λ p. Some (acts.Reset p.0, p.1)) None))
+    (begins (codes "reset ") bytes (λ rest. parse_pid rest >>= λ p. Some (acts.Reset p.0, p.1))
+    None))
 
 unfoldable pub parse_act : List ℕ → Option (Act × List ℕ)
 parse_act bytes =
@@ -281,7 +284,8 @@ parse_rare bytes =
 -- No two lines begin alike, so the order of the tests is free: the commonest come first.
 unfoldable pub parse_line : List ℕ → Option (Line × List ℕ)
 parse_line bytes =
-    begins (codes "{seq_trace,") bytes (λ rest. parse_event rest >>= λ e. Some (lines.Event e.0, e.1))
+    begins (codes "{seq_trace,") bytes
+    (λ rest. parse_event rest >>= λ e. Some (lines.Event e.0, e.1))
     (on_some (parse_act bytes) (λ a. Some (lines.Act a.0, a.1)) (parse_rare bytes))
 
 -- what all the bytes of a line say

@@ -1,5 +1,6 @@
 -- The bytes that a writer hands to a sink, through a buffer of bytes that wait.
-use Rattle.std.specs.Prelude.{◌≡◌, ℕ, ◌<◌, length, Bool, true, false, List, ◌++◌, Result, MatchResult}
+use Rattle.std.specs.Prelude.{◌≡◌, ℕ, ◌<◌, length, Bool, true, false, List, ◌++◌, Result}
+use Rattle.std.specs.Prelude.{MatchResult}
 use Rattle.st_core.specs.Device.{InARow}
 
 -- the calls put these bytes in a row, and no call failed

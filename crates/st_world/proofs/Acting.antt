@@ -1,7 +1,7 @@
--- An act of one process on the rows, once that process was made ready: it reads there what the state has of its actor,
--- and what it writes there is written in the state.
-use Rattle.std.proofs.Common.{◌≡◌, ◌≢◌, ℕ, ◌<◌, List, [], length, get_or, set, Some, Ok, Err, Result, IfOk, OnErr}
-use Rattle.std.proofs.Common.{position, refl, sym, ◌∙◌, ap, subst, arith}
+-- An act of one process on the rows, once that process was made ready: it reads there what the
+-- state has of its actor, and what it writes there is written in the state.
+use Rattle.std.proofs.Common.{◌≡◌, ◌≢◌, ℕ, ◌<◌, List, [], length, get_or, set, Some, Ok, Err}
+use Rattle.std.proofs.Common.{Result, IfOk, OnErr, position, refl, sym, ◌∙◌, ap, subst, arith}
 use Rattle.std.proofs.lemmas.List.{get_or-set_same, get_or-set_other, length-set}
 use Rattle.st_core.specs.declared.types.Pid.{Pid}
 use Rattle.st_core.specs.declared.types.Message.{Message}
@@ -10,7 +10,8 @@ use Rattle.st_core.specs.Pid.{pid_eq}
 use Rattle.st_core.specs.State.{LocalState, zero_local}
 use Rattle.st_mail.specs.Actor.{process_of, part_of, ActsOutside}
 use Rattle.st_mail.specs.declared.outcome.Outcome.{Outcome as Told}
-use Rattle.st_world.specs.Nodes.{Groups, tracers, traced_at, are_traced, flagged, AreByNode, IsListed, IsCleanOrListed}
+use Rattle.st_world.specs.Nodes.{Groups, tracers, traced_at, are_traced, flagged, AreByNode}
+use Rattle.st_world.specs.Nodes.{IsListed, IsCleanOrListed}
 use Rattle.st_world.specs.Rows.{AreRows, AreKept}
 use Rattle.st_world.proofs.Kept.{listed_after, marked_at, marked_rows, same_flags, written_rows}
 use Rattle.st_world.proofs.Marks.{acted_mark}
@@ -19,11 +20,14 @@ use Rattle.st_world.proofs.RowLemmas.{number_within}
 -- an act that leaves all queues leaves the mark
 pub inner_mark : {E : Type 0} (top : ℕ) (a : Act) (p : Pid) (l l2 : LocalState) (r : Result Told E)
     → IfOk r (ActsOutside top a p l l2) → OnErr r (l2 ≡ l) → l2.traced ≡ l.traced
-inner_mark top a p l l2 (Ok told) acts err = acted_mark top (process_of p l []) a (part_of told l2 []) (acts [])
+inner_mark top a p l l2 (Ok told) acts err =
+    acted_mark top (process_of p l []) a (part_of told l2 []) (acts [])
 inner_mark top a p l l2 (Err e) acts err = ap (λ (x : LocalState). x.traced) err
 
--- the process p, of number i, was made ready for its act: it keeps l1, which is what it kept with its mark
-pub record Started (top : ℕ) (ps : List Pid) (g : Groups) (raw : List LocalState) (bs : List (List Message))
+-- the process p, of number i, was made ready for its act: it keeps l1, which is what it kept with
+-- its mark
+pub record Started (top : ℕ) (ps : List Pid) (g : Groups) (raw : List LocalState)
+    (bs : List (List Message))
     (h : Groups) (p : Pid) (i : ℕ) (l1 : LocalState) : Type 0 where
   pub kept : AreKept top ps g raw bs
   pub places : h.places ≡ g.places
@@ -35,10 +39,12 @@ pub record Started (top : ℕ) (ps : List Pid) (g : Groups) (raw : List LocalSta
   pub is_was : was ≡ get_or raw i was
   pub put : l1 ≡ record was { traced = traced_at g i }
 
-pub started : {top : ℕ} {ps : List Pid} {g : Groups} {raw : List LocalState} {bs : List (List Message)} {h : Groups}
+pub started : {top : ℕ} {ps : List Pid} {g : Groups} {raw : List LocalState} {bs : List
+    (List Message)} {h : Groups}
     {p : Pid} {i : ℕ} {l l1 : LocalState}
     → AreKept top ps g raw bs → h.places ≡ g.places → tracers h ≡ tracers g
-    → ((j : ℕ) → j < length g.places → IsListed g j → IsListed h j) → position (λ x. pid_eq x p) ps ≡ Some i
+    → ((j : ℕ) → j < length g.places → IsListed g j → IsListed h j)
+    → position (λ x. pid_eq x p) ps ≡ Some i
     → IsListed h i → l ≡ get_or raw i l → l1 ≡ record l { traced = traced_at g i }
     → Started top ps g raw bs h p i l1
 started {l} kept places same others at here is_was put =
@@ -55,12 +61,15 @@ started {l} kept places same others at here is_was put =
     }
 
 -- another process was listed too
-pub touched : {top : ℕ} {ps : List Pid} {g : Groups} {raw : List LocalState} {bs : List (List Message)} {h : Groups}
+pub touched : {top : ℕ} {ps : List Pid} {g : Groups} {raw : List LocalState} {bs : List
+    (List Message)} {h : Groups}
     {p : Pid} {i : ℕ} {l1 : LocalState} {h2 : Groups}
     → Started top ps g raw bs h p i l1 → h2.places ≡ h.places → tracers h2 ≡ tracers h
-    → ((j : ℕ) → j < length h.places → IsListed h j → IsListed h2 j) → Started top ps g raw bs h2 p i l1
+    → ((j : ℕ) → j < length h.places → IsListed h j → IsListed h2 j)
+    → Started top ps g raw bs h2 p i l1
 touched {ps} {g} {p} {i} s places same others =
-    let within : i < length g.places = omega (arith, number_within ps p i s.at, s.kept.by_node.len) in
+    let within : i < length g.places =
+    omega (arith, number_within ps p i s.at, s.kept.by_node.len) in
     record {
       kept = s.kept;
       places = places ∙ s.places;
@@ -73,16 +82,19 @@ touched {ps} {g} {p} {i} s places same others =
       put = s.put;
     }
 
-module _ {top : ℕ} {ps : List Pid} {g : Groups} {raw : List LocalState} {bs : List (List Message)} {h : Groups}
+module _ {top : ℕ} {ps : List Pid} {g : Groups} {raw : List LocalState} {bs : List
+    (List Message)} {h : Groups}
     {p : Pid} {i : ℕ} {l1 : LocalState} (s : Started top ps g raw bs h p i l1) where
   within : i < length raw
   within = omega (arith, number_within ps p i s.at, s.kept.locals_len)
 
   -- what is read there afterwards
-  read_is : (x : LocalState) → x ≡ get_or (set raw i l1) i x → x ≡ record (s.was) { traced = traced_at g i }
+  read_is : (x : LocalState) → x ≡ get_or (set raw i l1) i x
+      → x ≡ record (s.was) { traced = traced_at g i }
   read_is x e = e ∙ get_or-set_same raw i l1 x within ∙ s.put
 
-  pub read_at : (x : LocalState) → x ≡ get_or (set raw i l1) i x → x ≡ get_or (flagged (are_traced g) raw) i x
+  pub read_at : (x : LocalState) → x ≡ get_or (set raw i l1) i x
+      → x ≡ get_or (flagged (are_traced g) raw) i x
   read_at x e =
       subst (λ (y : LocalState). y ≡ get_or (flagged (are_traced g) raw) i y) (sym (read_is x e))
       (marked_at top ps g raw bs s.kept p i s.at s.was s.is_was)
@@ -117,7 +129,8 @@ module _ {top : ℕ} {ps : List Pid} {g : Groups} {raw : List LocalState} {bs : 
 
   act_other : (l2 : LocalState) (j : ℕ) → j ≢ i
       → get_or (set (set raw i l1) i l2) j zero_local ≡ get_or raw j zero_local
-  act_other l2 j other = get_or-set_other (set raw i l1) i j l2 zero_local other ∙ ready_other j other
+  act_other l2 j other = get_or-set_other (set raw i l1) i j l2 zero_local other
+      ∙ ready_other j other
 
   act_len : (l2 : LocalState) → length (set (set raw i l1) i l2) ≡ length raw
   act_len l2 = length-set (set raw i l1) i l2 ∙ length-set raw i l1
@@ -139,7 +152,8 @@ module _ {top : ℕ} {ps : List Pid} {g : Groups} {raw : List LocalState} {bs : 
       let ls = flagged (are_traced g) raw in
       kept_after (set raw i l1) bs2 ls (length-set raw i l1) ready_rows
       (subst (AreRows top ps ls) (sym is) s.kept.rows)
-      (act_listed (set raw i l1) bs2 ready_other (λ j other. ap (λ (y : List (List Message)). get_or y j []) is))
+      (act_listed (set raw i l1) bs2 ready_other
+      (λ j other. ap (λ (y : List (List Message)). get_or y j []) is))
 
   -- if it keeps l2 then, and its queue alone may be another
   pub acted_kept : (l2 : LocalState) (bs2 : List (List Message)) → l2.traced ≡ traced_at g i
@@ -157,6 +171,8 @@ module _ {top : ℕ} {ps : List Pid} {g : Groups} {raw : List LocalState} {bs : 
       → AreKept top ps h (set (set raw i l1) i l2) bs2
   sent_kept l2 bs2 k there mark rows queues =
       let raw2 = set (set raw i l1) i l2 in
-      kept_after raw2 bs2 (set (flagged (are_traced g) raw) i l2) (act_len l2) (act_rows l2 mark) rows
-      (listed_after (length ps) h h raw2 raw2 bs bs2 k (λ j apart. refl) queues (λ j below old. old) there
+      kept_after raw2 bs2 (set (flagged (are_traced g) raw) i l2) (act_len l2) (act_rows l2 mark)
+      rows
+      (listed_after (length ps) h h raw2 raw2 bs bs2 k (λ j apart. refl) queues (λ j below old. old)
+      there
       (act_listed raw2 bs (act_other l2) (λ j apart. refl)))

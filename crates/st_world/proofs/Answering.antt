@@ -1,7 +1,8 @@
 -- A part of `step` returns a step by its definition: an outcome is the definition's and keeps each
 -- process sound, and each refusal comes if the definition has no step, or none that memory was
 -- there for.
-use Rattle.std.proofs.Common.{◌≡◌, ◌⊎◌, ℕ, true, List, length, Option, Some, None, Ok, Err, IsSome, All, IfSome}
+use Rattle.std.proofs.Common.{◌≡◌, ◌⊎◌, ℕ, true, List, length, Option, Some, None, Ok, Err, IsSome}
+use Rattle.std.proofs.Common.{All, IfSome}
 use Rattle.std.proofs.Common.{Result, IfOk, OnErr, position, get_or, set, refl, ◌∙◌, ap, inl, inr}
 use Rattle.std.proofs.lemmas.List.{length-set, set-get_or}
 use Rattle.std.specs.Option.{ForSome}
@@ -54,7 +55,8 @@ module _ (top : ℕ) (s : State) (a : Act) where
     rises = tt;
     stays = refl;
     refused = gone;
-    stepless = inr (elim gone [ inl h ↦ step_no_actor top s a h | inr h ↦ step_no_receiver top s a h ]);
+    stepless =
+        inr (elim gone [ inl h ↦ step_no_actor top s a h | inr h ↦ step_no_receiver top s a h ]);
     memory = λ e. absurd (cc);
   }
 
@@ -84,7 +86,8 @@ module _ (top : ℕ) (s : State) (a : Act) where
   }
 
   -- an outcome
-  pub answered : (told : Told) (new : State) → All (IsSound top) s → step top s a ≡ Some (outcome_to told new)
+  pub answered : (told : Told) (new : State) → All (IsSound top) s
+      → step top s a ≡ Some (outcome_to told new)
       → IsStep top s a (Ok told) new
   answered told new sound steps = record {
     steps = steps;
@@ -97,22 +100,27 @@ module _ (top : ℕ) (s : State) (a : Act) where
 
 -- the rows after a step
 pub rows_after
-    : (top : ℕ) (ps : List Pid) (ls ls2 : List LocalState) (bs bs2 : List (List Message)) (a : Act) (told : Told)
+    : (top : ℕ) (ps : List Pid) (ls ls2 : List LocalState) (bs bs2 : List (List Message)) (a : Act)
+    (told : Told)
     → AreRows top ps ls bs → length ls2 ≡ length ls → length bs2 ≡ length bs
-    → step top (state_of ps ls bs) a ≡ Some (outcome_to told (state_of ps ls2 bs2)) → AreRows top ps ls2 bs2
+    → step top (state_of ps ls bs) a ≡ Some (outcome_to told (state_of ps ls2 bs2))
+    → AreRows top ps ls2 bs2
 rows_after top ps ls ls2 bs bs2 a told rows locals queues steps = record {
   aligned = record {
     rising = rows.aligned.rising;
     locals_len = locals ∙ rows.aligned.locals_len;
     queues_len = queues ∙ rows.aligned.queues_len;
   };
-  sound = (step_sound top (state_of ps ls bs) a (outcome_to told (state_of ps ls2 bs2)) steps rows.sound).processes;
+  sound = (step_sound top (state_of ps ls bs) a (outcome_to told (state_of ps ls2 bs2)) steps
+      rows.sound).processes;
 }
 
 -- the rows after an act that leaves all queues, and after its refusal
-pub rows_after_inner : {E : Type 0} (top : ℕ) (ps : List Pid) (ls : List LocalState) (bs : List (List Message))
+pub rows_after_inner : {E : Type 0} (top : ℕ) (ps : List Pid) (ls : List LocalState)
+    (bs : List (List Message))
     → (a : Act) (i : ℕ) (l l2 : LocalState) (r : Result Told E)
-    → AreRows top ps ls bs → is_inner a ≡ true → position (λ p. pid_eq p (actor a)) ps ≡ Some i → l ≡ get_or ls i l
+    → AreRows top ps ls bs → is_inner a ≡ true → position (λ p. pid_eq p (actor a)) ps ≡ Some i
+    → l ≡ get_or ls i l
     → IfOk r (ActsOutside top a (actor a) l l2) → OnErr r (l2 ≡ l) → AreRows top ps (set ls i l2) bs
 rows_after_inner top ps ls bs a i l l2 (Ok told) rows inner at el acts err =
     rows_after top ps ls (set ls i l2) bs bs a told rows (length-set ls i l2) refl

@@ -1,14 +1,17 @@
--- A write to one node leaves each process on its node, if that node keeps its range, and a write to one slot of a node
--- lies in no other node's list, since nodes have ranges of their own. So a process stays listed when another is.
-use Rattle.std.proofs.Common.{◌≡◌, ◌≢◌, ℕ, ◌+◌, ◌<◌, ◌≤◌, ◌==◌, zero, suc, false, if◌then◌else◌, List, [], ◌∷◌}
+-- A write to one node leaves each process on its node, if that node keeps its range, and a write to
+-- one slot of a node lies in no other node's list, since nodes have ranges of their own. So a
+-- process stays listed when another is.
+use Rattle.std.proofs.Common.{◌≡◌, ◌≢◌, ℕ, ◌+◌, ◌<◌, ◌≤◌, ◌==◌, zero, suc, false, if◌then◌else◌}
+use Rattle.std.proofs.Common.{List, [], ◌∷◌}
 use Rattle.std.proofs.Common.{length, get_or, set, map, refl, sym, ◌∙◌, ap, subst, arith, inl, inr}
 use Rattle.std.proofs.lemmas.Bool.{cases_eq, eq-eqb}
 use Rattle.std.proofs.lemmas.Bool.Decides.{nat_tests}
-use Rattle.std.proofs.lemmas.List.{get_or_read, get_or-set_same, get_or-set_other, length-map, length-set, map-set}
+use Rattle.std.proofs.lemmas.List.{get_or_read, get_or-set_same, get_or-set_other, length-map}
+use Rattle.std.proofs.lemmas.List.{length-set, map-set}
 use Rattle.std.proofs.Math.Seq.{map-set_same}
 use Rattle.st_world.specs.declared.node.Node.{Node}
-use Rattle.st_world.specs.Nodes.{Groups, no_node, node_at, tracers, traced_at, process_in, IsListedFrom, IsListed}
-use Rattle.st_world.specs.Nodes.{AreGroups, IsPlaced}
+use Rattle.st_world.specs.Nodes.{Groups, no_node, node_at, tracers, traced_at, process_in}
+use Rattle.st_world.specs.Nodes.{IsListedFrom, IsListed, AreGroups, IsPlaced}
 
 -- ONE ELEMENT OF A LIST
 
@@ -31,7 +34,8 @@ set_part f (x ∷ xs) (suc k) zero y d same = refl
 set_part f (x ∷ xs) (suc k) (suc i) y d same = set_part f xs k i y d same
 
 -- a part of one element, among that part of each
-pub at_map : {X A : Type 0} (f : X → A) (xs : List X) (i : ℕ) (d : X) → get_or (map f xs) i (f d) ≡ f (get_or xs i d)
+pub at_map : {X A : Type 0} (f : X → A) (xs : List X) (i : ℕ) (d : X)
+    → get_or (map f xs) i (f d) ≡ f (get_or xs i d)
 at_map f [] i d = refl
 at_map f (x ∷ xs) zero d = refl
 at_map f (x ∷ xs) (suc i) d = at_map f xs i d
@@ -45,7 +49,8 @@ below_other m n h = grind (arith, nat_tests)
 pub full_in : (slots : List ℕ) (n : Node) (t : ℕ) → n.listed ≡ n.end → process_in slots n t ≡ t
 full_in slots n t full = rw (eq-eqb n.listed n.end full) refl
 
-pub part_in : (slots : List ℕ) (n : Node) (t : ℕ) → n.listed < n.end → process_in slots n t ≡ get_or slots t 0
+pub part_in : (slots : List ℕ) (n : Node) (t : ℕ) → n.listed < n.end
+    → process_in slots n t ≡ get_or slots t 0
 part_in slots n t part = rw (below_other n.listed n.end part) refl
 
 pub full_list : (first : ℕ) (slots : List ℕ) (n : Node) (i : ℕ)
@@ -61,7 +66,8 @@ full_list first slots n i full from below = record {
 abbrev pub one_more : Node → Node
 one_more n = record { start = n.start; end = n.end; listed = n.listed + 1; traced = n.traced }
 
-module _ (slots : List ℕ) (n : Node) (number : ℕ) (from : n.start ≤ n.listed) (part : n.listed < n.end)
+module _ (slots : List ℕ) (n : Node) (number : ℕ) (from : n.start ≤ n.listed)
+    (part : n.listed < n.end)
     (within : n.end ≤ length slots) where
   -- the process that was put in
   list_put : n.start ≤ number → number < n.end
@@ -80,7 +86,8 @@ module _ (slots : List ℕ) (n : Node) (number : ℕ) (from : n.start ≤ n.list
 
   -- those that were listed before
   list_kept : (i : ℕ) → n.start ≤ i → i < n.end
-      → IsListedFrom n.start slots n i → IsListedFrom n.start (set slots n.listed number) (one_more n) i
+      → IsListedFrom n.start slots n i
+      → IsListedFrom n.start (set slots n.listed number) (one_more n) i
   list_kept i first last old = elim (cases_eq (n.listed + 1) n.end) [
     | inl full ↦ full_list n.start (set slots n.listed number) (one_more n) i full first last
     | inr other ↦ record {
@@ -105,7 +112,8 @@ list_apart slots m slot number i listed apart old = record {
   below = old.below;
   is =
       ap (λ (x : ℕ). if m.listed == m.end then old.slot else x)
-      (get_or-set_other slots slot old.slot number 0 (apart old.slot old.from (omega (arith, old.below))))
+      (get_or-set_other slots slot old.slot number 0
+      (apart old.slot old.from (omega (arith, old.below))))
       ∙ old.is;
 }
 
@@ -135,20 +143,26 @@ module _ (g : Groups) (number k : ℕ) (n : Node) (inv : AreGroups g) (h : numbe
   With n2 slots = record { places = g.places; nodes = set g.nodes k n2; slots = slots }
 
   -- what the node is then
-  new_node : (n2 : Node) (slots : List ℕ) (i : ℕ) → get_or g.places i 0 ≡ k → node_at (With n2 slots) i ≡ n2
+  new_node : (n2 : Node) (slots : List ℕ) (i : ℕ) → get_or g.places i 0 ≡ k
+      → node_at (With n2 slots) i ≡ n2
   new_node n2 slots i e =
-      ap (λ j. get_or (set g.nodes k n2) j no_node) e ∙ get_or-set_same g.nodes k n2 no_node place_within
+      ap (λ j. get_or (set g.nodes k n2) j no_node) e ∙ get_or-set_same g.nodes k n2 no_node
+      place_within
 
-  old_node : (n2 : Node) (slots : List ℕ) (i : ℕ) → get_or g.places i 0 ≢ k → node_at (With n2 slots) i ≡ node_at g i
+  old_node : (n2 : Node) (slots : List ℕ) (i : ℕ) → get_or g.places i 0 ≢ k
+      → node_at (With n2 slots) i ≡ node_at g i
   old_node n2 slots i other = get_or-set_other g.nodes k (get_or g.places i 0) n2 no_node other
 
   -- whether nodes are traced
-  pub tracers_kept : (n2 : Node) → n2.traced ≡ n.traced → map (λ (m : Node). m.traced) (set g.nodes k n2) ≡ tracers g
+  pub tracers_kept : (n2 : Node) → n2.traced ≡ n.traced
+      → map (λ (m : Node). m.traced) (set g.nodes k n2) ≡ tracers g
   tracers_kept n2 same =
-      map-set_same (λ (m : Node). m.traced) g.nodes k n2 no_node (same ∙ ap (λ (m : Node). m.traced) read)
+      map-set_same (λ (m : Node). m.traced) g.nodes k n2 no_node
+      (same ∙ ap (λ (m : Node). m.traced) read)
 
   tracers_set : (n2 : Node)
-      → map (λ (m : Node). m.traced) (set g.nodes k n2) ≡ set (tracers g) (get_or g.places number 0) n2.traced
+      → map (λ (m : Node). m.traced) (set g.nodes k n2)
+      ≡ set (tracers g) (get_or g.places number 0) n2.traced
   tracers_set n2 =
       map-set (λ (m : Node). m.traced) g.nodes k n2 ∙ ap (λ i. set (tracers g) i n2.traced) place_is
 
@@ -165,18 +179,22 @@ module _ (g : Groups) (number k : ℕ) (n : Node) (inv : AreGroups g) (h : numbe
       → traced_at (With n2 g.slots) i ≡ traced_at g i
   traced_elsewhere n2 i other =
       ap (λ ts. get_or ts (get_or g.places i 0) false) (tracers_set n2)
-      ∙ get_or-set_other (tracers g) (get_or g.places number 0) (get_or g.places i 0) n2.traced false other
+      ∙ get_or-set_other (tracers g) (get_or g.places number 0) (get_or g.places i 0) n2.traced
+      false other
 
   -- each process stays on its node if the node keeps its range
-  placed_kept : (n2 : Node) (slots : List ℕ) → n2.start ≡ n.start → n2.end ≡ n.end → n2.start ≤ n2.listed
+  placed_kept : (n2 : Node) (slots : List ℕ) → n2.start ≡ n.start → n2.end ≡ n.end
+      → n2.start ≤ n2.listed
       → n2.listed ≤ n2.end → (i : ℕ) → i < length g.places → IsPlaced (With n2 slots) i
   placed_kept n2 slots start end from listed i below =
       let old = inv.placed i below in
       let place : ℕ = get_or g.places i 0 in
       let s : (node_at (With n2 slots) i).start ≡ (node_at g i).start =
-      set_part (λ (m : Node). m.start) g.nodes k place n2 no_node (start ∙ ap (λ (m : Node). m.start) read) in
+      set_part (λ (m : Node). m.start) g.nodes k place n2 no_node
+      (start ∙ ap (λ (m : Node). m.start) read) in
       let e : (node_at (With n2 slots) i).end ≡ (node_at g i).end =
-      set_part (λ (m : Node). m.end) g.nodes k place n2 no_node (end ∙ ap (λ (m : Node). m.end) read) in
+      set_part (λ (m : Node). m.end) g.nodes k place n2 no_node
+      (end ∙ ap (λ (m : Node). m.end) read) in
       record {
         place = omega (arith, old.place, length-set g.nodes k n2);
         start = omega (arith, old.start, s);
@@ -184,15 +202,18 @@ module _ (g : Groups) (number k : ℕ) (n : Node) (inv : AreGroups g) (h : numbe
         within = omega (arith, old.within, e);
         same = λ j first last. old.same j (omega (arith, first, s)) (omega (arith, last, e));
         from = set_any (λ (m : Node). m.start ≤ m.listed) g.nodes k place n2 no_node from old.from;
-        listed = set_any (λ (m : Node). m.listed ≤ m.end) g.nodes k place n2 no_node listed old.listed;
+        listed = set_any (λ (m : Node). m.listed ≤ m.end) g.nodes k place n2 no_node listed
+            old.listed;
       }
 
-  pub groups_kept : (n2 : Node) → n2.start ≡ n.start → n2.end ≡ n.end → n2.start ≤ n2.listed → n2.listed ≤ n2.end
+  pub groups_kept : (n2 : Node) → n2.start ≡ n.start → n2.end ≡ n.end → n2.start ≤ n2.listed
+      → n2.listed ≤ n2.end
       → AreGroups (With n2 g.slots)
   groups_kept n2 start end from listed = record {
     len = inv.len;
     placed = placed_kept n2 g.slots start end from listed;
-    slots = λ slot below. let old = inv.slots slot below in record { within = old.within; same = old.same };
+    slots = λ slot below. let old = inv.slots slot below in
+        record { within = old.within; same = old.same };
   }
 
   -- THE LIST OF A NODE
@@ -209,7 +230,8 @@ module _ (g : Groups) (number k : ℕ) (n : Node) (inv : AreGroups g) (h : numbe
 
   pub emptied : (n2 : Node) → n2.listed ≡ n2.start
       → (node_at (With n2 g.slots) number).listed ≡ (node_at (With n2 g.slots) number).start
-  emptied n2 empty = subst (λ (m : Node). m.listed ≡ m.start) (sym (new_node n2 g.slots number (sym place_is))) empty
+  emptied n2 empty = subst (λ (m : Node). m.listed ≡ m.start)
+      (sym (new_node n2 g.slots number (sym place_is))) empty
 
   -- the range of the node, by the fields that were read
   starts : n.start ≤ number
@@ -219,7 +241,12 @@ module _ (g : Groups) (number k : ℕ) (n : Node) (inv : AreGroups g) (h : numbe
   ends = omega (arith, (inv.placed number h).end, ap (λ (m : Node). m.end) node_is)
 
   ends_within : n.end ≤ length g.slots
-  ends_within = omega (arith, (inv.placed number h).within, ap (λ (m : Node). m.end) node_is, inv.len)
+  ends_within = omega (
+    arith,
+    (inv.placed number h).within,
+    ap (λ (m : Node). m.end) node_is,
+    inv.len,
+  )
 
   pub lists_from : n.start ≤ n.listed
   lists_from = rw node_is (inv.placed number h).from
@@ -230,7 +257,8 @@ module _ (g : Groups) (number k : ℕ) (n : Node) (inv : AreGroups g) (h : numbe
   -- a full list
   pub listed_full : n.end ≤ n.listed → IsListed (With n g.slots) number
   listed_full full =
-      subst (λ (m : Node). IsListedFrom m.start g.slots m number) (sym (new_node n g.slots number (sym place_is)))
+      subst (λ (m : Node). IsListedFrom m.start g.slots m number)
+      (sym (new_node n g.slots number (sym place_is)))
       (full_list n.start g.slots n number (omega (arith, lists_to)) starts ends)
 
   module _ (part : n.listed < n.end) where
@@ -288,11 +316,13 @@ module _ (g : Groups) (number k : ℕ) (n : Node) (inv : AreGroups g) (h : numbe
               (omega (arith, placed.start, ap (λ (m : Node). m.start) same))
               (omega (arith, placed.end, ap (λ (m : Node). m.end) same))
               (subst (λ (m : Node). IsListedFrom m.start g.slots m i) same old) in
-              subst (λ (m : Node). IsListedFrom m.start slots m i) (sym (new_node (one_more n) slots i e)) kept
+              subst (λ (m : Node). IsListedFrom m.start slots m i)
+              (sym (new_node (one_more n) slots i e)) kept
           | inr other ↦
               listed_elsewhere (one_more n) slots i other
               (list_apart g.slots (node_at g i) n.listed number i placed.listed
               (λ t first last e.
-              other (sym (placed.same t first last) ∙ ap (λ j. get_or g.places j 0) e ∙ own_slot ∙ sym place_is))
+              other (sym (placed.same t first last) ∙ ap (λ j. get_or g.places j 0) e ∙ own_slot
+              ∙ sym place_is))
               old)
         ]

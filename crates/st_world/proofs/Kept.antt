@@ -1,9 +1,9 @@
 -- The row of a process differs from its record in the state by the mark traced alone, which is its
 -- node's. So a write of what an act leaves is the same write in the state, if the mark was put in
 -- first; and with its actor listed, each process is clean or listed after it.
-use Rattle.std.proofs.Common.{◌≡◌, ◌≢◌, ℕ, ◌<◌, ◌==◌, zero, suc, Bool, true, false, if◌then◌else◌, List, [], ◌∷◌}
-use Rattle.std.proofs.Common.{length, map, get_or, set, drop, replicate, slice_get, Some, None, inl, inr, position}
-use Rattle.std.proofs.Common.{refl, sym, ◌∙◌, ap, arith}
+use Rattle.std.proofs.Common.{◌≡◌, ◌≢◌, ℕ, ◌<◌, ◌==◌, zero, suc, Bool, true, false, if◌then◌else◌}
+use Rattle.std.proofs.Common.{List, [], ◌∷◌, length, map, get_or, set, drop, replicate, slice_get}
+use Rattle.std.proofs.Common.{Some, None, inl, inr, position, refl, sym, ◌∙◌, ap, arith}
 use Rattle.std.proofs.lemmas.Bool.{cases_eq}
 use Rattle.std.proofs.lemmas.List.{get_or_default, length-map, set-set}
 use Rattle.st_core.specs.declared.types.Pid.{Pid}
@@ -15,7 +15,8 @@ use Rattle.st_core.specs.Pid.{pid_eq}
 use Rattle.st_core.specs.State.{LocalState, Process, State, zero_local}
 use Rattle.st_core.specs.Step.{reached, untraced}
 use Rattle.st_mail.specs.Actor.{process_of}
-use Rattle.st_world.specs.Nodes.{Groups, tracers, traced_at, are_traced, flagged, IsListed, IsCleanOrListed}
+use Rattle.st_world.specs.Nodes.{Groups, tracers, traced_at, are_traced, flagged, IsListed}
+use Rattle.st_world.specs.Nodes.{IsCleanOrListed}
 use Rattle.st_world.specs.Rows.{state_of, AreKept}
 use Rattle.st_world.proofs.Groups.{at_map}
 use Rattle.st_world.proofs.RowLemmas.{number_within}
@@ -56,20 +57,25 @@ pub flagged_at : (fs : List Bool) (ls : List LocalState) (i : ℕ) (l : LocalSta
 flagged_at [] ls i l b len h mark e = absurd (omega arith)
 flagged_at (f ∷ fs) [] i l b len h mark e = absurd (omega arith)
 flagged_at (f ∷ fs) (x ∷ ls) zero l b len h mark e = rw (mark, e) refl
-flagged_at (f ∷ fs) (x ∷ ls) (suc i) l b len h mark e = flagged_at fs ls i l b (omega arith) (omega arith) mark e
+flagged_at (f ∷ fs) (x ∷ ls) (suc i) l b len h mark e =
+    flagged_at fs ls i l b (omega arith) (omega arith) mark e
 
 -- the mark of a process is its node's
-pub flag_at : (g : Groups) (i : ℕ) (d : Bool) → i < length g.places → get_or (are_traced g) i d ≡ traced_at g i
+pub flag_at : (g : Groups) (i : ℕ) (d : Bool) → i < length g.places
+    → get_or (are_traced g) i d ≡ traced_at g i
 flag_at g i d h =
     let f : ℕ → Bool = λ k. get_or (tracers g) k false in
-    get_or_default (map f g.places) i d (f 0) (omega (arith, length-map g.places f)) ∙ at_map f g.places i 0
+    get_or_default (map f g.places) i d (f 0) (omega (arith, length-map g.places f))
+    ∙ at_map f g.places i 0
 
 pub length-flags : (g : Groups) → length (are_traced g) ≡ length g.places
 length-flags g = length-map g.places (λ k. get_or (tracers g) k false)
 
-pub same_flags : (g h : Groups) → h.places ≡ g.places → tracers h ≡ tracers g → are_traced h ≡ are_traced g
+pub same_flags : (g h : Groups) → h.places ≡ g.places → tracers h ≡ tracers g
+    → are_traced h ≡ are_traced g
 same_flags g h places same =
-    ap (map (λ k. get_or (tracers h) k false)) places ∙ ap (λ ts. map (λ k. get_or ts k false) g.places) same
+    ap (map (λ k. get_or (tracers h) k false)) places
+    ∙ ap (λ ts. map (λ k. get_or ts k false) g.places) same
 
 -- LISTS
 
@@ -85,7 +91,11 @@ listed_after count g h ls ls2 bs bs2 i locals queues others here all j below = e
   | inl e ↦ rw e (inr here)
   | inr other ↦ elim (all j below) [
     | inl clean ↦
-        inl (record { local = rw (locals j other) clean.local; queue = rw (queues j other) clean.queue })
+        inl (record {
+          local = rw (locals j other) clean.local;
+          queue =
+              rw (queues j other) clean.queue;
+        })
     | inr listed ↦ inr (others j below listed)
   ]
 ]
@@ -110,7 +120,8 @@ module _ (top : ℕ) (ps : List Pid) (g : Groups) (raw : List LocalState) (bs : 
         ≡ get_or (flagged (are_traced g) raw) i (record l { traced = traced_at g i })
     marked_at =
         flagged_at (are_traced g) raw i l (traced_at g i) marks_len
-        (omega (arith, within_places, length-flags g)) (sym (flag_at g i (traced_at g i) within_places)) el
+        (omega (arith, within_places, length-flags g))
+        (sym (flag_at g i (traced_at g i) within_places)) el
 
     -- with the mark put in, and then written with the same mark
     pub marked_rows : flagged (are_traced g) (set raw i (record l { traced = traced_at g i }))
@@ -126,7 +137,8 @@ module _ (top : ℕ) (ps : List Pid) (g : Groups) (raw : List LocalState) (bs : 
 -- WHOLE WORLDS
 
 -- at the start
-pub flagged_zero : (ts : List Bool) (ks : List ℕ) (n : ℕ) → length ks ≡ n → ((k : ℕ) → get_or ts k false ≡ false)
+pub flagged_zero : (ts : List Bool) (ks : List ℕ) (n : ℕ) → length ks ≡ n
+    → ((k : ℕ) → get_or ts k false ≡ false)
     → flagged (map (λ k. get_or ts k false) ks) (replicate n zero_local) ≡ replicate n zero_local
 flagged_zero ts [] zero e none = refl
 flagged_zero ts [] (suc n) e none = absurd (omega arith)
@@ -157,13 +169,15 @@ pub reset_flagged : (me : Pid) (ps : List Pid) (fs : List Bool) (ls ls2 : List L
     → length fs ≡ length ps → length ls ≡ length ps → length ls2 ≡ length ps → length bs ≡ length ps
     → length bs2 ≡ length ps
     → state_of ps ls2 bs2 ≡ map (reached (act.Reset me) None) (state_of ps ls bs)
-    → state_of ps (flagged fs ls2) bs2 ≡ map (reached (act.Reset me) None) (state_of ps (flagged fs ls) bs)
+    → state_of ps (flagged fs ls2) bs2
+    ≡ map (reached (act.Reset me) None) (state_of ps (flagged fs ls) bs)
 reset_flagged me [] fs ls ls2 bs bs2 a b c d e is = refl
 reset_flagged me (p ∷ ps) [] ls ls2 bs bs2 a b c d e is = absurd (omega arith)
 reset_flagged me (p ∷ ps) (f ∷ fs) [] ls2 bs bs2 a b c d e is = absurd (omega arith)
 reset_flagged me (p ∷ ps) (f ∷ fs) (l ∷ ls) [] bs bs2 a b c d e is = absurd (omega arith)
 reset_flagged me (p ∷ ps) (f ∷ fs) (l ∷ ls) (l2 ∷ ls2) [] bs2 a b c d e is = absurd (omega arith)
-reset_flagged me (p ∷ ps) (f ∷ fs) (l ∷ ls) (l2 ∷ ls2) (q ∷ bs) [] a b c d e is = absurd (omega arith)
+reset_flagged me (p ∷ ps) (f ∷ fs) (l ∷ ls) (l2 ∷ ls2) (q ∷ bs) [] a b c d e is =
+    absurd (omega arith)
 reset_flagged me (p ∷ ps) (f ∷ fs) (l ∷ ls) (l2 ∷ ls2) (q ∷ bs) (q2 ∷ bs2) a b c d e is =
     let x : Process = process_of p l2 q2 in
     let y : Process = reached (act.Reset me) None (process_of p l q) in
@@ -174,11 +188,13 @@ reset_flagged me (p ∷ ps) (f ∷ fs) (l ∷ ls) (l2 ∷ ls2) (q ∷ bs) (q2 �
     rw (ap (with_mark f) first ∙ reset_mark me f (process_of p l q), rest) refl
 
 -- a tracer change sets the marks of the node
-pub trace_flagged : (me : Pid) (on : Bool) (ps : List Pid) (fs fs2 : List Bool) (ls : List LocalState)
+pub trace_flagged : (me : Pid) (on : Bool) (ps : List Pid) (fs fs2 : List Bool)
+    (ls : List LocalState)
     → (bs : List (List Message)) → length fs ≡ length ps → length fs2 ≡ length ps
     → ((i : ℕ) → i < length ps
     → get_or fs2 i false ≡ (if (get_or ps i me).node == me.node then on else get_or fs i false))
-    → state_of ps (flagged fs2 ls) bs ≡ map (reached (act.Tracer me on) None) (state_of ps (flagged fs ls) bs)
+    → state_of ps (flagged fs2 ls) bs
+    ≡ map (reached (act.Tracer me on) None) (state_of ps (flagged fs ls) bs)
 trace_flagged me on [] fs fs2 ls bs a b marks = refl
 trace_flagged me on (p ∷ ps) [] fs2 ls bs a b marks = absurd (omega arith)
 trace_flagged me on (p ∷ ps) (f ∷ fs) [] ls bs a b marks = absurd (omega arith)
@@ -186,9 +202,11 @@ trace_flagged me on (p ∷ ps) (f ∷ fs) (f2 ∷ fs2) [] bs a b marks = refl
 trace_flagged me on (p ∷ ps) (f ∷ fs) (f2 ∷ fs2) (l ∷ ls) [] a b marks = refl
 trace_flagged me on (p ∷ ps) (f ∷ fs) (f2 ∷ fs2) (l ∷ ls) (q ∷ bs) a b marks =
     let rest =
-    trace_flagged me on ps fs fs2 ls bs (omega arith) (omega arith) (λ i h. marks (suc i) (omega arith)) in
+    trace_flagged me on ps fs fs2 ls bs (omega arith) (omega arith)
+    (λ i h. marks (suc i) (omega arith)) in
     let first : process_of p (let x : LocalState = record l { traced = f2 } in x) q
-    ≡ reached (act.Tracer me on) None (process_of p (let x : LocalState = record l { traced = f } in x) q) =
+    ≡ reached (act.Tracer me on) None
+    (process_of p (let x : LocalState = record l { traced = f } in x) q) =
     by (p.node == me.node) (marks 0 (omega arith)) in
     rw (first, rest) refl
   where

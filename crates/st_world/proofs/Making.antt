@@ -1,7 +1,7 @@
--- The nodes are made in the order of the pids: each pid is on the last node that was made, or is the first on a node of
--- its own, since the processes of a node are neighbours.
-use Rattle.std.proofs.Common.{◌≡◌, ℕ, ◌+◌, ◌-◌, ◌<◌, ◌≤◌, zero, suc, false, List, [], ◌∷◌, ◌++◌, length, get_or, map}
-use Rattle.std.proofs.Common.{inl, inr, refl, sym, ◌∙◌, ap, subst, arith}
+-- The nodes are made in the order of the pids: each pid is on the last node that was made, or is
+-- the first on a node of its own, since the processes of a node are neighbours.
+use Rattle.std.proofs.Common.{◌≡◌, ℕ, ◌+◌, ◌-◌, ◌<◌, ◌≤◌, zero, suc, false, List, [], ◌∷◌, ◌++◌}
+use Rattle.std.proofs.Common.{length, get_or, map, inl, inr, refl, sym, ◌∙◌, ap, subst, arith}
 use Rattle.std.proofs.lemmas.Bool.{cases_eq}
 use Rattle.std.proofs.lemmas.List.{get_or_append_left, get_or_push, length_push}
 use Rattle.st_core.specs.declared.types.Pid.{Pid}
@@ -17,19 +17,23 @@ abbrev on : List ℕ → List Node → ℕ → Node
 on places nodes i = get_or nodes (get_or places i 0) no_node
 
 -- the places of the first n processes, whose nodes end where the last of them does
-pub record AreMade (pids : List Pid) (n after : ℕ) (places : List ℕ) (nodes : List Node) : Type 0 where
-  pub len : length places ≡ n
-  pub within : (i : ℕ) → i < n → get_or places i 0 < length nodes
-  pub range : (i : ℕ) (d : Pid) → i < n
-      → IsNodeRange (node_of (get_or pids i d)) pids (on places nodes i).start (on places nodes i).end
-  pub same : (i j : ℕ) (d : Pid) → i < n → j < n → node_of (get_or pids i d) ≡ node_of (get_or pids j d)
-      → get_or places i 0 ≡ get_or places j 0
-  pub before : (i : ℕ) → i < n → (on places nodes i).end ≤ after
-  pub last : (i : ℕ) → i + 1 ≡ n → (get_or places i 0 + 1 ≡ length nodes) × ((on places nodes i).end ≡ after)
-  pub full : (i : ℕ) → i < n → (on places nodes i).listed ≡ (on places nodes i).end
-  pub untraced : (k : ℕ) → get_or (map (λ (m : Node). m.traced) nodes) k false ≡ false
-  pub to : n ≤ after
-  pub none : n ≡ 0 → after ≡ 0
+pub record AreMade (pids : List Pid) (n after : ℕ) (places : List ℕ) (nodes : List Node) : Type 0
+  where
+    pub len : length places ≡ n
+    pub within : (i : ℕ) → i < n → get_or places i 0 < length nodes
+    pub range : (i : ℕ) (d : Pid) → i < n
+        → IsNodeRange (node_of (get_or pids i d)) pids (on places nodes i).start
+        (on places nodes i).end
+    pub same : (i j : ℕ) (d : Pid) → i < n → j < n
+        → node_of (get_or pids i d) ≡ node_of (get_or pids j d)
+        → get_or places i 0 ≡ get_or places j 0
+    pub before : (i : ℕ) → i < n → (on places nodes i).end ≤ after
+    pub last : (i : ℕ) → i + 1 ≡ n → (get_or places i 0 + 1 ≡ length nodes)
+        × ((on places nodes i).end ≡ after)
+    pub full : (i : ℕ) → i < n → (on places nodes i).listed ≡ (on places nodes i).end
+    pub untraced : (k : ℕ) → get_or (map (λ (m : Node). m.traced) nodes) k false ≡ false
+    pub to : n ≤ after
+    pub none : n ≡ 0 → after ≡ 0
 
 pub upto : (P : ℕ → Type 0) (n : ℕ) → ((i : ℕ) → i < n → P i) → P n → (i : ℕ) → i < n + 1 → P i
 upto P n below last i h = elim (cases_eq i n) [
@@ -38,7 +42,8 @@ upto P n below last i h = elim (cases_eq i n) [
 ]
 
 -- a process of the node is in its range
-inside : (m : ℕ) (pids : List Pid) (start end i : ℕ) (d : Pid) → IsNodeRange m pids start end → i < length pids
+inside : (m : ℕ) (pids : List Pid) (start end i : ℕ) (d : Pid) → IsNodeRange m pids start end
+    → i < length pids
     → node_of (get_or pids i d) ≡ m → (start ≤ i) × (i < end)
 inside m pids start end i d range h is = (
   elim (cases_lt i start) [
@@ -90,7 +95,8 @@ module _ (pids : List Pid) (n after : ℕ) (places : List ℕ) (nodes : List Nod
               let range = made.range b d below in
               let m : ℕ = node_of (get_or pids b d) in
               let within =
-              inside m pids (on places nodes b).start (on places nodes b).end b d range (omega arith) refl in
+              inside m pids (on places nodes b).start (on places nodes b).end b d range
+              (omega arith) refl in
               range.on n d (omega (arith, within.0)) (omega (arith, last.1, less));
         }
 
@@ -109,17 +115,20 @@ module _ (pids : List Pid) (n after : ℕ) (places : List ℕ) (nodes : List Nod
     unfolding is_with
     more_same = record {
       len = length_push places k ∙ ap (λ m. m + 1) made.len;
-      within = λ i below. let w = all_with i below in omega (arith, w.place, made.within w.process w.below);
+      within = λ i below. let w = all_with i below in
+          omega (arith, w.place, made.within w.process w.below);
       range = λ i d below.
           let w = all_with i below in
           let m : ℕ = node_of (get_or pids i d) in
-          let old = subst (λ x. IsNodeRange x pids (on places nodes w.process).start (on places nodes w.process).end)
+          let old = subst (λ x. IsNodeRange x pids (on places nodes w.process).start
+          (on places nodes w.process).end)
           (sym (w.node d)) (made.range w.process d w.below) in
           subst (λ (x : Node). IsNodeRange m pids x.start x.end) (sym (node_with i w)) old;
       same = λ i j d one other e.
           let w = all_with i one in
           let v = all_with j other in
-          w.place ∙ made.same w.process v.process d w.below v.below (sym (w.node d) ∙ e ∙ v.node d) ∙ sym v.place;
+          w.place ∙ made.same w.process v.process d w.below v.below (sym (w.node d) ∙ e ∙ v.node d)
+          ∙ sym v.place;
       before = λ i below.
           let w = all_with i below in
           subst (λ (x : Node). x.end ≤ after) (sym (node_with i w)) (made.before w.process w.below);
@@ -129,11 +138,15 @@ module _ (pids : List Pid) (n after : ℕ) (places : List ℕ) (nodes : List Nod
           let old = made.last b (omega (arith, some)) in
           subst (λ j. (get_or (places ++ k ∷ []) j 0 + 1 ≡ length nodes) ×
           ((on (places ++ k ∷ []) nodes j).end ≡ after))
-          (sym here)
-          (omega (arith, new_place, last_place), ap (λ (x : Node). x.end) (node_with n is_with) ∙ old.1);
+          (sym here) (
+            omega (arith, new_place, last_place),
+            ap (λ (x : Node). x.end) (node_with n is_with)
+                ∙ old.1,
+          );
       full = λ i below.
           let w = all_with i below in
-          subst (λ (x : Node). x.listed ≡ x.end) (sym (node_with i w)) (made.full w.process w.below);
+          subst (λ (x : Node). x.listed ≡ x.end) (sym (node_with i w))
+          (made.full w.process w.below);
       untraced = made.untraced;
       to = omega (arith, less);
       none = λ e. absurd (omega (arith, e));
@@ -158,7 +171,8 @@ more_new pids n places nodes k start end made h last_place range =
     let more : List ℕ = places ++ k ∷ [] in
     let all : List Node = nodes ++ x ∷ [] in
     let p : Pid = record { node = 0; number = 0 } in
-    let ends : n < end = (inside (node_of (get_or pids n p)) pids start end n p (range p) h refl).1 in
+    let ends : n < end = (inside (node_of (get_or pids n p)) pids start end n p (range p) h
+    refl).1 in
     let old_at = old_place pids n n places nodes made h k in
     let new_at = new_place pids n n places nodes made h k in
     let old : (i : ℕ) → i < n → on more all i ≡ on places nodes i =
@@ -167,9 +181,11 @@ more_new pids n places nodes k start end made h last_place range =
     ∙ get_or_append_left nodes (x ∷ []) no_node (get_or places i 0) (made.within i below) in
     let new : on more all n ≡ x =
     ap (λ j. get_or all j no_node) new_at ∙ get_or_push nodes x no_node k (sym last_place) in
-    let apart : (i : ℕ) (d : Pid) → i < n → node_of (get_or pids n d) ≡ node_of (get_or pids i d) → ⊥ =
+    let apart : (i : ℕ) (d : Pid) → i < n → node_of (get_or pids n d) ≡ node_of (get_or pids i d)
+    → ⊥ =
     λ i d below e.
-    let at = inside (node_of (get_or pids i d)) pids (on places nodes i).start (on places nodes i).end n d
+    let at = inside (node_of (get_or pids i d)) pids (on places nodes i).start
+    (on places nodes i).end n d
     (made.range i d below) h e in
     omega (arith, at.1, made.before i below) in
     record {
@@ -178,22 +194,27 @@ more_new pids n places nodes k start end made h last_place range =
           (λ i below. omega (arith, old_at i below, made.within i below, length_push nodes x))
           (omega (arith, new_at, last_place, length_push nodes x));
       range = λ i d below.
-          upto (λ j. IsNodeRange (node_of (get_or pids j d)) pids (on more all j).start (on more all j).end) n
+          upto (λ j. IsNodeRange (node_of (get_or pids j d)) pids (on more all j).start
+          (on more all j).end) n
           (λ j lower.
-          subst (λ (y : Node). IsNodeRange (node_of (get_or pids j d)) pids y.start y.end) (sym (old j lower))
+          subst (λ (y : Node). IsNodeRange (node_of (get_or pids j d)) pids y.start y.end)
+          (sym (old j lower))
           (made.range j d lower))
-          (subst (λ (y : Node). IsNodeRange (node_of (get_or pids n d)) pids y.start y.end) (sym new) (range d))
+          (subst (λ (y : Node). IsNodeRange (node_of (get_or pids n d)) pids y.start y.end)
+          (sym new) (range d))
           i below;
       same = λ i j d one other e.
           elim (cases_eq i n) [
             | inl at ↦ elim (cases_eq j n) [
               | inl too ↦ ap (λ m. get_or more m 0) (at ∙ sym too)
               | inr lower ↦
-                  absurd (apart j d (omega (arith, lower)) (ap (λ m. node_of (get_or pids m d)) (sym at) ∙ e))
+                  absurd (apart j d (omega (arith, lower))
+                  (ap (λ m. node_of (get_or pids m d)) (sym at) ∙ e))
             ]
             | inr below ↦ elim (cases_eq j n) [
               | inl too ↦
-                  absurd (apart i d (omega (arith, below)) (ap (λ m. node_of (get_or pids m d)) (sym too) ∙ sym e))
+                  absurd (apart i d (omega (arith, below))
+                  (ap (λ m. node_of (get_or pids m d)) (sym too) ∙ sym e))
               | inr lower ↦
                   let a : i < n = omega (arith, below) in
                   let b : j < n = omega (arith, lower) in
@@ -202,14 +223,16 @@ more_new pids n places nodes k start end made h last_place range =
           ];
       before = upto (λ i. (on more all i).end ≤ end) n
           (λ i below.
-          subst (λ (y : Node). y.end ≤ end) (sym (old i below)) (omega (arith, made.before i below, ends)))
+          subst (λ (y : Node). y.end ≤ end) (sym (old i below))
+          (omega (arith, made.before i below, ends)))
           (subst (λ (y : Node). y.end ≤ end) (sym new) (omega arith));
       last = λ i e.
           let here : i ≡ n = omega (arith, e) in
           subst (λ j. (get_or more j 0 + 1 ≡ length all) × ((on more all j).end ≡ end)) (sym here)
           (omega (arith, new_at, last_place, length_push nodes x), ap (λ (y : Node). y.end) new);
       full = upto (λ i. (on more all i).listed ≡ (on more all i).end) n
-          (λ i below. subst (λ (y : Node). y.listed ≡ y.end) (sym (old i below)) (made.full i below))
+          (λ i below. subst (λ (y : Node). y.listed ≡ y.end) (sym (old i below))
+          (made.full i below))
           (subst (λ (y : Node). y.listed ≡ y.end) (sym new) refl);
       untraced = untraced_push nodes x refl made.untraced;
       to = omega (arith, ends);
@@ -227,9 +250,11 @@ module _ (pids : List Pid) (after : ℕ) (places : List ℕ) (nodes : List Node)
   none : Pid
   none = record { node = 0; number = 0 }
 
-  in_own : (i : ℕ) (d : Pid) → i < length pids → ((on places nodes i).start ≤ i) × (i < (on places nodes i).end)
+  in_own : (i : ℕ) (d : Pid) → i < length pids → ((on places nodes i).start ≤ i)
+      × (i < (on places nodes i).end)
   in_own i d h =
-      inside (node_of (get_or pids i d)) pids (on places nodes i).start (on places nodes i).end i d (made.range i d h)
+      inside (node_of (get_or pids i d)) pids (on places nodes i).start (on places nodes i).end i d
+      (made.range i d h)
       h refl
 
   pub made_by_node : AreByNode pids places
@@ -238,7 +263,8 @@ module _ (pids : List Pid) (after : ℕ) (places : List ℕ) (nodes : List Node)
     same = made.same;
     apart = λ i j d one other e.
         let within = in_own j d other in
-        let node : on places nodes j ≡ on places nodes i = ap (λ k. get_or nodes k no_node) (sym e) in
+        let node : on places nodes j ≡ on places nodes i =
+        ap (λ k. get_or nodes k no_node) (sym e) in
         sym ((made.range i d one).on j d (omega (arith, within.0, ap (λ (x : Node). x.start) node))
         (omega (arith, within.1, ap (λ (x : Node). x.end) node)));
   }
@@ -254,7 +280,8 @@ module _ (pids : List Pid) (after : ℕ) (places : List ℕ) (nodes : List Node)
         end = within.1;
         within = omega (arith, range.within, made.len);
         same = λ j first last.
-            made.same j i none (omega (arith, last, range.within)) below (range.on j none first last);
+            made.same j i none (omega (arith, last, range.within)) below
+            (range.on j none first last);
         from = omega (arith, range.ends, made.full i below);
         listed = omega (arith, made.full i below);
       }
@@ -271,4 +298,5 @@ module _ (pids : List Pid) (after : ℕ) (places : List ℕ) (nodes : List Node)
   pub made_listed : (i : ℕ) → i < length pids → IsListed All i
   made_listed i h =
       let within = in_own i none h in
-      full_list (on places nodes i).start slots (on places nodes i) i (made.full i h) within.0 within.1
+      full_list (on places nodes i).start slots (on places nodes i) i (made.full i h) within.0
+      within.1

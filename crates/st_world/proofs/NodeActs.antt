@@ -1,6 +1,8 @@
--- An act on a node is the definition's: a reset changes what it finds in the rows, where each other process of the node
--- is clean, and a tracer change sets the mark of each process whose node has that place.
-use Rattle.std.proofs.Common.{◌≡◌, ◌≢◌, ℕ, ◌<◌, ◌==◌, Bool, true, false, if◌then◌else◌, List, length, map, get_or, Some}
+-- An act on a node is the definition's: a reset changes what it finds in the rows, where each other
+-- process of the node is clean, and a tracer change sets the mark of each process whose node has
+-- that place.
+use Rattle.std.proofs.Common.{◌≡◌, ◌≢◌, ℕ, ◌<◌, ◌==◌, Bool, true, false, if◌then◌else◌, List}
+use Rattle.std.proofs.Common.{length, map, get_or, Some}
 use Rattle.std.proofs.Common.{None, inl, inr, position, refl, sym, ◌∙◌, ap, subst, arith}
 use Rattle.std.proofs.lemmas.Bool.{cases_eq, eq-eqb, eqb-true, false≢true}
 use Rattle.std.proofs.lemmas.List.{get_or_default}
@@ -15,13 +17,13 @@ use Rattle.st_core.specs.State.{LocalState, State, zero_local}
 use Rattle.st_core.specs.Step.{reached, step}
 use Rattle.st_core.proofs.ForCallers.{pid_eq-true}
 use Rattle.st_mail.specs.declared.outcome.Outcome.{Outcome as Told}
-use Rattle.st_world.specs.Nodes.{Groups, tracers, traced_at, are_traced, flagged, AreByNode, IsClean, IsListed}
-use Rattle.st_world.specs.Nodes.{IsCleanOrListed}
+use Rattle.st_world.specs.Nodes.{Groups, tracers, traced_at, are_traced, flagged, AreByNode}
+use Rattle.st_world.specs.Nodes.{IsClean, IsListed, IsCleanOrListed}
 use Rattle.st_world.specs.Rows.{state_of, AreKept}
 use Rattle.st_world.specs.World.{outcome_to}
 use Rattle.st_world.proofs.Answering.{rows_after}
-use Rattle.st_world.proofs.Kept.{flag_at, length-flagged, length-flags, marked_at, marks_len, reset_flagged, same_flags}
-use Rattle.st_world.proofs.Kept.{trace_flagged}
+use Rattle.st_world.proofs.Kept.{flag_at, length-flagged, length-flags, marked_at, marks_len}
+use Rattle.st_world.proofs.Kept.{reset_flagged, same_flags, trace_flagged}
 use Rattle.st_world.proofs.RowLemmas.{number_within}
 use Rattle.st_world.proofs.Steps.{step_node}
 
@@ -30,7 +32,8 @@ abbrev pub told_of : Reply → Told
 told_of y = record { reply = y; report = None; place = None }
 
 module _ (top : ℕ) (ps : List Pid) (g : Groups) (raw : List LocalState) (bs : List (List Message))
-    (kept : AreKept top ps g raw bs) (me : Pid) (i : ℕ) (at : position (λ p. pid_eq p me) ps ≡ Some i) (h : Groups)
+    (kept : AreKept top ps g raw bs) (me : Pid) (i : ℕ)
+    (at : position (λ p. pid_eq p me) ps ≡ Some i) (h : Groups)
     (places : h.places ≡ g.places) where
   abbrev Locals : List LocalState
   Locals = flagged (are_traced g) raw
@@ -45,7 +48,8 @@ module _ (top : ℕ) (ps : List Pid) (g : Groups) (raw : List LocalState) (bs : 
   pub actor_at : get_or (flagged (are_traced g) raw) i zero_local
       ≡ get_or (flagged (are_traced g) raw) i (get_or (flagged (are_traced g) raw) i zero_local)
   actor_at =
-      get_or_default (flagged (are_traced g) raw) i zero_local (get_or (flagged (are_traced g) raw) i zero_local)
+      get_or_default (flagged (are_traced g) raw) i zero_local
+      (get_or (flagged (are_traced g) raw) i zero_local)
       (omega (arith, within, kept.rows.aligned.locals_len))
 
   flags_len : length (are_traced h) ≡ length ps
@@ -70,14 +74,17 @@ module _ (top : ℕ) (ps : List Pid) (g : Groups) (raw : List LocalState) (bs : 
     pub reset_step : step top (state_of ps (flagged (are_traced g) raw) bs) (act.Reset me)
         ≡ Some (outcome_to (told_of reply.Done) (state_of ps (flagged (are_traced h) ls2) bs2))
     reset_step =
-        step_node top ps Locals bs kept.rows.aligned (act.Reset me) i (get_or Locals i zero_local) reply.Done refl
+        step_node top ps Locals bs kept.rows.aligned (act.Reset me) i (get_or Locals i zero_local)
+        reply.Done refl
         (λ t x. refl) at actor_at refl
         ∙ ap (λ (x : State). Some (outcome_to (told_of reply.Done) x)) (sym whole_reset)
 
-    pub reset_kept : ((j : ℕ) → j < length ps → IsCleanOrListed h ls2 bs2 j) → AreKept top ps h ls2 bs2
+    pub reset_kept : ((j : ℕ) → j < length ps → IsCleanOrListed h ls2 bs2 j)
+        → AreKept top ps h ls2 bs2
     reset_kept listed = record {
       rows =
-          rows_after top ps Locals (flagged (are_traced h) ls2) bs bs2 (act.Reset me) (told_of reply.Done) kept.rows
+          rows_after top ps Locals (flagged (are_traced h) ls2) bs bs2 (act.Reset me)
+          (told_of reply.Done) kept.rows
           (length-flagged (are_traced h) ls2 (flags_len ∙ sym (locals_len ∙ kept.locals_len))
           ∙ locals_len
           ∙ kept.locals_len
@@ -108,7 +115,8 @@ module _ (top : ℕ) (ps : List Pid) (g : Groups) (raw : List LocalState) (bs : 
 
   module _ (on : Bool)
       (here : (j : ℕ) → get_or g.places j 0 ≡ get_or g.places i 0 → traced_at h j ≡ on)
-      (elsewhere : (j : ℕ) → get_or g.places j 0 ≢ get_or g.places i 0 → traced_at h j ≡ traced_at g j) where
+      (elsewhere : (j : ℕ) → get_or g.places j 0 ≢ get_or g.places i 0
+      → traced_at h j ≡ traced_at g j) where
     marks : (j : ℕ) → j < length ps
         → get_or (are_traced h) j false ≡
         (if (get_or ps j me).node == me.node then on else get_or (are_traced g) j false)
@@ -124,11 +132,13 @@ module _ (top : ℕ) (ps : List Pid) (g : Groups) (raw : List LocalState) (bs : 
             → get_or (are_traced h) j false ≡ (if t then on else get_or (are_traced g) j false)
         by true e =
             let node : (get_or ps j me).node ≡ me.node = eqb-true (get_or ps j me).node me.node e in
-            new ∙ here j (kept.by_node.same j i me below within (node ∙ ap (λ (p : Pid). p.node) own_pid))
+            new ∙ here j (kept.by_node.same j i me below within
+            (node ∙ ap (λ (p : Pid). p.node) own_pid))
         by false e =
             new
             ∙ elsewhere j (λ same.
-            let node = kept.by_node.apart j i me below within same ∙ ap (λ (p : Pid). p.node) (sym own_pid) in
+            let node = kept.by_node.apart j i me below within same
+            ∙ ap (λ (p : Pid). p.node) (sym own_pid) in
             absurd (false≢true (sym e ∙ eq-eqb (get_or ps j me).node me.node node)))
             ∙ sym old
 
@@ -144,13 +154,16 @@ module _ (top : ℕ) (ps : List Pid) (g : Groups) (raw : List LocalState) (bs : 
         ≡ Some (outcome_to (told_of (reply.Was was)) (state_of ps (flagged (are_traced h) raw) bs))
     trace_step was is =
         let l : LocalState = get_or raw i zero_local in
-        let el : l ≡ get_or raw i l = get_or_default raw i zero_local l (omega (arith, within, kept.locals_len)) in
+        let el : l ≡ get_or raw i l =
+        get_or_default raw i zero_local l (omega (arith, within, kept.locals_len)) in
         let marked = marked_at top ps g raw bs kept me i at l el in
         rw is
         (step_node top ps Locals bs kept.rows.aligned (act.Tracer me on) i
-        (let x : LocalState = record l { traced = traced_at g i } in x) (reply.Was (traced_at g i)) refl (λ t x. refl)
+        (let x : LocalState = record l { traced = traced_at g i } in x) (reply.Was (traced_at g i))
+        refl (λ t x. refl)
         at marked refl
-        ∙ ap (λ (x : State). Some (outcome_to (told_of (reply.Was (traced_at g i))) x)) (sym whole_trace))
+        ∙ ap (λ (x : State). Some (outcome_to (told_of (reply.Was (traced_at g i))) x))
+        (sym whole_trace))
 
     pub trace_kept : (was : Bool) → was ≡ traced_at g i → ((j : ℕ) → IsListed g j → IsListed h j)
         → AreKept top ps h raw bs

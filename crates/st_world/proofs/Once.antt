@@ -1,7 +1,7 @@
--- A message with a stamp that occurs once in a queue is the only one that a search for it can find; and while no act is
--- a reset, each stamp does.
-use Rattle.std.proofs.Common.{◌≡◌, ℕ, ◌==◌, zero, suc, true, false, List, [], ◌∷◌, Option, Some, None}
-use Rattle.std.proofs.Common.{IfSome, Result, Ok, Err, slice_get, refl, sym, ◌∙◌, ap, subst}
+-- A message with a stamp that occurs once in a queue is the only one that a search for it can find;
+-- and while no act is a reset, each stamp does.
+use Rattle.std.proofs.Common.{◌≡◌, ℕ, ◌==◌, zero, suc, true, false, List, [], ◌∷◌, Option, Some}
+use Rattle.std.proofs.Common.{None, IfSome, Result, Ok, Err, slice_get, refl, sym, ◌∙◌, ap, subst}
 use Rattle.std.specs.List.{AllByRecursion}
 use Rattle.std.proofs.lemmas.Bool.{and_parts, eqb-true, false≢true}
 use Rattle.std.proofs.lemmas.Option.{none-some, same_Some}
@@ -27,28 +27,32 @@ record Bears (from : Pid) (this : ℕ) (m : Message) : Type 0 where
   by : token.from ≡ from
   count : token.serial.this ≡ this
 
-bears : (from : Pid) (this : ℕ) (m : Message) → bears_stamp from this m.token ≡ true → Bears from this m
-bears from this m h = elim m.token as (λ o. m.token ≡ o → bears_stamp from this o ≡ true → Bears from this m) [
-  | None ↦ λ _ h. absurd (false≢true h)
-  | Some t ↦ λ has h.
-      let parts = and_parts (pid_eq t.from from) (t.serial.this == this) h in
-      record {
-        token = t;
-        has = has;
-        by = pid_same t.from from parts.0;
-        count = eqb-true t.serial.this this parts.1;
-      }
-] refl h
+bears : (from : Pid) (this : ℕ) (m : Message) → bears_stamp from this m.token ≡ true
+    → Bears from this m
+bears from this m h = elim m.token as (λ o. m.token ≡ o → bears_stamp from this o ≡ true
+    → Bears from this m) [
+      | None ↦ λ _ h. absurd (false≢true h)
+      | Some t ↦ λ has h.
+          let parts = and_parts (pid_eq t.from from) (t.serial.this == this) h in
+          record {
+            token = t;
+            has = has;
+            by = pid_same t.from from parts.0;
+            count = eqb-true t.serial.this this parts.1;
+          }
+    ] refl h
 
 -- two that are apart don't bear one stamp
-never_both : (from : Pid) (this : ℕ) (m n : Message) → AreApart m n → bears_stamp from this m.token ≡ true
+never_both : (from : Pid) (this : ℕ) (m n : Message) → AreApart m n
+    → bears_stamp from this m.token ≡ true
     → bears_stamp from this n.token ≡ true → ⊥
 never_both from this m n apart one other =
     let a = bears from this m one in
     let b = bears from this n other in
     apart a.token b.token a.has b.has (a.by ∙ sym b.by) (a.count ∙ sym b.count)
 
-each : {X : Type 0} (P : X → Type 0) (xs : List X) (k : ℕ) (x : X) → AllByRecursion P xs → slice_get xs k ≡ Some x → P x
+each : {X : Type 0} (P : X → Type 0) (xs : List X) (k : ℕ) (x : X) → AllByRecursion P xs
+    → slice_get xs k ≡ Some x → P x
 each P [] k x all at = absurd (none-some x at)
 each P (y ∷ xs) zero x all at = subst P (same_Some y x at) all.0
 each P (y ∷ xs) (suc k) x all at = each P xs k x all.1 at
@@ -68,7 +72,8 @@ stands_once from this (m ∷ ms) once (suc i) (suc j) x y at_x at_y p q =
 
 -- so it is in each queue of a state in which they do
 pub one_in : (s : State) (p from : Pid) (this : ℕ) → HasStampsOnce s
-    → IfSome (process s p) (λ r. PassesOnce (λ (m : Message). bears_stamp from this m.token) r.queue)
+    → IfSome (process s p) (λ r. PassesOnce (λ (m : Message). bears_stamp from this m.token)
+    r.queue)
 one_in s p from this is = by (process s p) refl
   where
     by : (o : Option Process) → process s p ≡ o
@@ -89,7 +94,8 @@ no_reset (act.Look p) other = refl
 no_reset (act.Tracer p b) other = refl
 
 -- and no act but a reset changes that, whether it is refused or not
-pub kept_once : (top : ℕ) (s : State) (a : Act) (r : Result Told StepFault) (new : State) → IsStep top s a r new
+pub kept_once : (top : ℕ) (s : State) (a : Act) (r : Result Told StepFault) (new : State)
+    → IsStep top s a r new
     → ((p : Pid) → a ≡ act.Reset p → ⊥) → HasStampsOnce s → HasStampsOnce new
 kept_once top s a (Ok told) new is other once =
     step_once top s a (outcome_to told new) is.steps (no_reset a other) once

@@ -1,8 +1,8 @@
--- Pids that rise strictly occur once and by rising node, since the order goes by node first: so a search for where a
--- test on nodes changes its answer finds the processes of a node.
-use Rattle.std.proofs.Common.{◌≡◌, ℕ, ◌<◌, ◌≤◌, ◌+◌, zero, suc, Bool, true, false, List, [], ◌∷◌, length, get_or}
-use Rattle.std.proofs.Common.{take, cond, position, ltb, leb, refl, sym, ◌∙◌, ap, subst, arith, inl, inr, ◌⊎◌}
-use Rattle.std.proofs.Common.{Option, Some, None, slice_get}
+-- Pids that rise strictly occur once and by rising node, since the order goes by node first: so a
+-- search for where a test on nodes changes its answer finds the processes of a node.
+use Rattle.std.proofs.Common.{◌≡◌, ℕ, ◌<◌, ◌≤◌, ◌+◌, zero, suc, Bool, true, false, List, [], ◌∷◌}
+use Rattle.std.proofs.Common.{length, get_or, take, cond, position, ltb, leb, refl, sym, ◌∙◌, ap}
+use Rattle.std.proofs.Common.{subst, arith, inl, inr, ◌⊎◌, Option, Some, None, slice_get}
 use Rattle.std.specs.List.{list_any, position_or_len}
 use Rattle.indexmap.specs.IndexSet.{insert_key}
 use Rattle.std.specs.declared.cmp.Ordering.{Ordering}
@@ -26,7 +26,8 @@ below_apart p q below = pid_eq-swap q p ∙ IsBelow-apart p q below
 
 -- THE ORDER OF NODES
 
-node_by : (o rest : Ordering) (m n : ℕ) → MatchOrdering o (m < n) (m ≡ n) (n < m) → ordering_then o rest ≡ Less → m ≤ n
+node_by : (o rest : Ordering) (m n : ℕ) → MatchOrdering o (m < n) (m ≡ n) (n < m)
+    → ordering_then o rest ≡ Less → m ≤ n
 node_by Less rest m n is h = omega (arith, is)
 node_by Equal rest m n is h = omega (arith, is)
 node_by Greater rest m n is h = absurd (cc)
@@ -41,7 +42,8 @@ pub nodes_rise : (ps : List Pid) → IsRising ps → IsNonDecreasingBy (λ p. p.
 nodes_rise ps rising i j d le h =
     elim (cases_eq i j) [
       | inl e ↦ rw e (omega arith)
-      | inr ne ↦ below_node (get_or ps i d) (get_or ps j d) (rising_at ps i j d rising (omega (arith, ne)) h)
+      | inr ne ↦ below_node (get_or ps i d) (get_or ps j d)
+          (rising_at ps i j d rising (omega (arith, ne)) h)
     ]
 
 -- THE NUMBERS OF PIDS
@@ -57,7 +59,8 @@ number_at ps i p rising at =
     (subst (IsBelow (get_or ps k p)) here (rising_at ps k i p rising less within)))
     (λ h. ap (λ (q : Pid). pid_eq q p) here ∙ pid_eq-same p) in
     let there : position_or_len (λ q. pid_eq q p) ps < length ps = omega (arith, within, first) in
-    sym (ap (λ b. cond b (Some (position_or_len (λ q. pid_eq q p) ps)) None) (lt-ltb _ _ there) ∙ ap Some first)
+    sym (ap (λ b. cond b (Some (position_or_len (λ q. pid_eq q p) ps)) None) (lt-ltb _ _ there)
+    ∙ ap Some first)
 
 absent : (ps : List Pid) (i : ℕ) (d : Pid)
     → IsRising ps → i < length ps → list_any (pid_eq (get_or ps i d)) (take i ps) ≡ false
@@ -83,7 +86,8 @@ cases_lt m n = by (ltb m n) refl
     by false e = inr (omega (arith, ltb-false m n e))
 
 -- where the tests of two binary searches change their answer
-pub range_from_points : (node : ℕ) (ps : List Pid) (start end : ℕ) → start ≤ length ps → end ≤ length ps
+pub range_from_points : (node : ℕ) (ps : List Pid) (start end : ℕ) → start ≤ length ps
+    → end ≤ length ps
     → IsPartitionPoint (λ p. ltb p.node node ≡ true) (λ p. ltb p.node node ≡ false) ps start
     → IsPartitionPoint (λ p. leb p.node node ≡ true) (λ p. leb p.node node ≡ false) ps end
     → IsNodeRange node ps start end
@@ -95,14 +99,16 @@ range_from_points node ps start end hs he first last =
     let none : Pid = record { node = 0; number = 0 } in
     record {
       ends = elim (cases_lt end start) [
-        | inl lt ↦ absurd (omega (arith, below end none lt, after end none (omega arith) (omega arith)))
+        | inl lt ↦
+            absurd (omega (arith, below end none lt, after end none (omega arith) (omega arith)))
         | inr le ↦ le
       ];
       within = he;
       before = below;
       on = λ i d h lt.
           let n : ℕ = (get_or ps i d).node in
-          let high : node ≤ (get_or ps i d).node = omega (arith, ltb-false n node (first.1 i d h (omega arith))) in
+          let high : node ≤ (get_or ps i d).node =
+          omega (arith, ltb-false n node (first.1 i d h (omega arith))) in
           let low : (get_or ps i d).node ≤ node = leb-true n node (last.0 i d (omega arith) lt) in
           omega arith;
       after = after;

@@ -1,6 +1,7 @@
 -- A process is read so: the row at the number of its pid is what the state has of it, but for the
 -- mark, which its node has; and each process of the state is sound.
-use Rattle.std.proofs.Common.{◌≡◌, ℕ, ◌<◌, List, [], length, Some, None, IfSome, position, get_or, subst, arith}
+use Rattle.std.proofs.Common.{◌≡◌, ℕ, ◌<◌, List, [], length, Some, None, IfSome, position, get_or}
+use Rattle.std.proofs.Common.{subst, arith}
 use Rattle.std.proofs.lemmas.List.{get_or_default}
 use Rattle.st_core.specs.declared.types.Message.{Message}
 use Rattle.st_core.specs.declared.types.Pid.{Pid}
@@ -15,8 +16,10 @@ use Rattle.st_world.proofs.Kept.{marked_at}
 use Rattle.st_world.proofs.RowLemmas.{unknown, stands, number_within}
 
 -- these rows make the state
-module _ {top : ℕ} {ps : List Pid} {g : Groups} {raw : List LocalState} {bs : List (List Message)} {state : State}
-    (kept : AreKept top ps g raw bs) (is : state_of ps (flagged (are_traced g) raw) bs ≡ state) (p : Pid) where
+module _ {top : ℕ} {ps : List Pid} {g : Groups} {raw : List LocalState} {bs : List
+    (List Message)} {state : State}
+    (kept : AreKept top ps g raw bs) (is : state_of ps (flagged (are_traced g) raw) bs ≡ state)
+    (p : Pid) where
   -- a pid without a number has no process
   pub read_nothing : position (λ q. pid_eq q p) ps ≡ None → process state p ≡ None
   read_nothing at =
@@ -24,7 +27,8 @@ module _ {top : ℕ} {ps : List Pid} {g : Groups} {raw : List LocalState} {bs : 
       (unknown ps (flagged (are_traced g) raw) bs kept.rows.aligned p at)
 
   -- the process of number i, of which the row keeps l
-  pub read_kept : (i : ℕ) (l : LocalState) → position (λ q. pid_eq q p) ps ≡ Some i → l ≡ get_or raw i l
+  pub read_kept : (i : ℕ) (l : LocalState) → position (λ q. pid_eq q p) ps ≡ Some i
+      → l ≡ get_or raw i l
       → process state p ≡ Some (process_of p (record l { traced = traced_at g i }) (get_or bs i []))
   read_kept i l at el =
       let marked : LocalState = record l { traced = traced_at g i } in
@@ -39,7 +43,8 @@ module _ {top : ℕ} {ps : List Pid} {g : Groups} {raw : List LocalState} {bs : 
   read_queue i at =
       let ls = flagged (are_traced g) raw in
       let l : LocalState = get_or ls i zero_local in
-      let within : i < length ls = omega (arith, number_within ps p i at, kept.rows.aligned.locals_len) in
+      let within : i < length ls =
+      omega (arith, number_within ps p i at, kept.rows.aligned.locals_len) in
       subst (λ (s : State). process s p ≡ Some (process_of p l (get_or bs i []))) is
       (stands ps ls bs kept.rows.aligned p i at l (get_or_default ls i zero_local l within)).found
 

@@ -1,7 +1,9 @@
--- The number of a pid among the pids is the place of its process in the state, since the rows are of one length and
--- pids that rise occur once: so look-ups and writes at one number of the rows are those at one place of the state.
-use Rattle.std.proofs.Common.{◌≡◌, ℕ, ◌+◌, ◌<◌, ◌≤◌, nat_lt, zero, suc, Bool, true, false, cond, List, [], ◌∷◌, length}
-use Rattle.std.proofs.Common.{get_or, set, replicate, Some, None, position, slice_get, refl, sym, ◌∙◌, ap, arith}
+-- The number of a pid among the pids is the place of its process in the state, since the rows are
+-- of one length and pids that rise occur once: so look-ups and writes at one number of the rows are
+-- those at one place of the state.
+use Rattle.std.proofs.Common.{◌≡◌, ℕ, ◌+◌, ◌<◌, ◌≤◌, nat_lt, zero, suc, Bool, true, false, cond}
+use Rattle.std.proofs.Common.{List, [], ◌∷◌, length, get_or, set, replicate, Some, None, position}
+use Rattle.std.proofs.Common.{slice_get, refl, sym, ◌∙◌, ap, arith}
 use Rattle.std.specs.List.{AllByRecursion, position_or_len}
 use Rattle.std.proofs.lemmas.Bool.{ltb-false}
 use Rattle.std.proofs.lemmas.List.{set-get_or, get_or_default}
@@ -28,7 +30,8 @@ pub length-rows : (ps : List Pid) (ls : List LocalState) (bs : List (List Messag
 length-rows [] ls bs e f = refl
 length-rows (p ∷ ps) [] bs e f = absurd (omega arith)
 length-rows (p ∷ ps) (l ∷ ls) [] e f = absurd (omega arith)
-length-rows (p ∷ ps) (l ∷ ls) (b ∷ bs) e f = ap suc (length-rows ps ls bs (omega arith) (omega arith))
+length-rows (p ∷ ps) (l ∷ ls) (b ∷ bs) e f =
+    ap suc (length-rows ps ls bs (omega arith) (omega arith))
 
 next : (n : ℕ) → suc n ≡ 1 + n
 next n = omega arith
@@ -48,7 +51,8 @@ place_rows (p ∷ ps) (l ∷ ls) (b ∷ bs) q e f =
         → process (state_of (p ∷ ps) (l ∷ ls) (b ∷ bs)) q
         ≡ slice_get (state_of (p ∷ ps) (l ∷ ls) (b ∷ bs)) (number_in (p ∷ ps) q)
     by true t rest = rw t refl
-    by false t rest = rw t (rest ∙ ap (slice_get (process_of p l b ∷ state_of ps ls bs)) (next (number_in ps q)))
+    by false t rest = rw t (rest ∙ ap (slice_get (process_of p l b ∷ state_of ps ls bs))
+        (next (number_in ps q)))
 
 pub at_rows : (ps : List Pid) (ls : List LocalState) (bs : List (List Message)) (i : ℕ)
     → (p : Pid) (l : LocalState) (b : List Message)
@@ -72,14 +76,17 @@ set_rows (x ∷ ps) [] bs i p l b e f h ep = absurd (omega arith)
 set_rows (x ∷ ps) (y ∷ ls) [] i p l b e f h ep = absurd (omega arith)
 set_rows (x ∷ ps) (y ∷ ls) (z ∷ bs) zero p l b e f h ep = rw ep refl
 set_rows (x ∷ ps) (y ∷ ls) (z ∷ bs) (suc i) p l b e f h ep =
-    ap (λ s. process_of x y z ∷ s) (set_rows ps ls bs i p l b (omega arith) (omega arith) (omega arith) ep)
+    ap (λ s. process_of x y z ∷ s)
+    (set_rows ps ls bs i p l b (omega arith) (omega arith) (omega arith) ep)
 
 apart_rows_from : (ps : List Pid) (ls : List LocalState) (bs : List (List Message)) (p : Pid)
-    → AllByRecursion (IsBelow p) ps → AllByRecursion (λ (x : Process). pid_eq x.pid p ≡ false) (state_of ps ls bs)
+    → AllByRecursion (IsBelow p) ps
+    → AllByRecursion (λ (x : Process). pid_eq x.pid p ≡ false) (state_of ps ls bs)
 apart_rows_from [] ls bs p all = tt
 apart_rows_from (x ∷ ps) [] bs p all = tt
 apart_rows_from (x ∷ ps) (y ∷ ls) [] p all = tt
-apart_rows_from (x ∷ ps) (y ∷ ls) (z ∷ bs) p all = (below_apart p x all.0, apart_rows_from ps ls bs p all.1)
+apart_rows_from (x ∷ ps) (y ∷ ls) (z ∷ bs) p all =
+    (below_apart p x all.0, apart_rows_from ps ls bs p all.1)
 
 -- pids that rise occur once
 pub apart_rows : (ps : List Pid) (ls : List LocalState) (bs : List (List Message))
@@ -87,7 +94,8 @@ pub apart_rows : (ps : List Pid) (ls : List LocalState) (bs : List (List Message
 apart_rows [] ls bs rising = tt
 apart_rows (x ∷ ps) [] bs rising = tt
 apart_rows (x ∷ ps) (y ∷ ls) [] rising = tt
-apart_rows (x ∷ ps) (y ∷ ls) (z ∷ bs) rising = (apart_rows_from ps ls bs x rising.0, apart_rows ps ls bs rising.1)
+apart_rows (x ∷ ps) (y ∷ ls) (z ∷ bs) rising =
+    (apart_rows_from ps ls bs x rising.0, apart_rows ps ls bs rising.1)
 
 -- the rows of a new world
 pub zero_rows : (ps : List Pid)
@@ -102,10 +110,12 @@ cond_none true n h = absurd (cc)
 cond_none false n h = refl
 
 -- the place of a pid is within the rows
-pub number_within : (ps : List Pid) (q : Pid) (i : ℕ) → position (λ p. pid_eq p q) ps ≡ Some i → i < length ps
+pub number_within : (ps : List Pid) (q : Pid) (i : ℕ) → position (λ p. pid_eq p q) ps ≡ Some i
+    → i < length ps
 number_within ps q i h = (position-Some (λ p. pid_eq p q) ps i q h).0
 
-module _ (ps : List Pid) (ls : List LocalState) (bs : List (List Message)) (aligned : AreAligned ps ls bs)
+module _ (ps : List Pid) (ls : List LocalState) (bs : List (List Message))
+    (aligned : AreAligned ps ls bs)
     (q : Pid) where
   -- a pid that is nowhere is unknown
   pub unknown : position (λ p. pid_eq p q) ps ≡ None → process (state_of ps ls bs) q ≡ None
@@ -114,7 +124,8 @@ module _ (ps : List Pid) (ls : List LocalState) (bs : List (List Message)) (alig
       let len = length-rows ps ls bs aligned.locals_len aligned.queues_len in
       let none = ltb-false place (length ps) (cond_none (nat_lt place (length ps)) place h) in
       let past : length (state_of ps ls bs) ≤ place = omega (arith, len, none) in
-      place_rows ps ls bs q aligned.locals_len aligned.queues_len ∙ slice_get_past (state_of ps ls bs) place past
+      place_rows ps ls bs q aligned.locals_len aligned.queues_len
+      ∙ slice_get_past (state_of ps ls bs) place past
 
   module _ (i : ℕ) (at : position (λ p. pid_eq p q) ps ≡ Some i) where
     -- its process is there, where it keeps l
@@ -128,7 +139,8 @@ module _ (ps : List Pid) (ls : List LocalState) (bs : List (List Message)) (alig
         let eb : get_or bs i [] ≡ get_or bs i (get_or bs i []) =
         get_or_default bs i [] queue (omega (arith, facts.0, aligned.queues_len)) in
         let here : slice_get (state_of ps ls bs) i ≡ Some (process_of q l (get_or bs i [])) =
-        at_rows ps ls bs i q l queue aligned.locals_len aligned.queues_len facts.0 (sym own) el eb in
+        at_rows ps ls bs i q l queue aligned.locals_len aligned.queues_len facts.0 (sym own) el
+        eb in
         record {
           at = here;
           found =
@@ -149,10 +161,12 @@ module _ (ps : List Pid) (ls : List LocalState) (bs : List (List Message)) (alig
     -- a write of what the process keeps alone
     pub set_local : (l : LocalState)
         → state_of ps (set ls i l) bs ≡ set (state_of ps ls bs) i (process_of q l (get_or bs i []))
-    set_local l = ap (state_of ps (set ls i l)) (sym (set-get_or bs i [])) ∙ set_stands l (get_or bs i [])
+    set_local l = ap (state_of ps (set ls i l)) (sym (set-get_or bs i []))
+        ∙ set_stands l (get_or bs i [])
 
     -- a write of its queue alone
     pub set_queue : (l : LocalState) (b : List Message) → l ≡ get_or ls i l
         → state_of ps ls (set bs i b) ≡ set (state_of ps ls bs) i (process_of q l b)
     set_queue l b el =
-        ap (λ ks. state_of ps ks (set bs i b)) (sym (set-get_or ls i l) ∙ ap (set ls i) (sym el)) ∙ set_stands l b
+        ap (λ ks. state_of ps ks (set bs i b)) (sym (set-get_or ls i l) ∙ ap (set ls i) (sym el))
+        ∙ set_stands l b

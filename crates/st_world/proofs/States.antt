@@ -1,6 +1,8 @@
--- In a state in which no pid occurs twice, the definition's step changes the actor's record alone, at its place,
--- before the act reaches others: a map that leaves all records but one is a write at that one's place.
-use Rattle.std.proofs.Common.{◌≡◌, ℕ, zero, suc, false, if◌then◌else◌, List, [], ◌∷◌, map, set, Some, None, slice_get}
+-- In a state in which no pid occurs twice, the definition's step changes the actor's record alone,
+-- at its place, before the act reaches others: a map that leaves all records but one is a write at
+-- that one's place.
+use Rattle.std.proofs.Common.{◌≡◌, ℕ, zero, suc, false, if◌then◌else◌, List, [], ◌∷◌, map, set}
+use Rattle.std.proofs.Common.{Some, None, slice_get}
 use Rattle.std.proofs.Common.{option_map, option_and_then, refl, sym, ◌∙◌, ap, subst}
 use Rattle.std.specs.List.{AllByRecursion}
 use Rattle.std.proofs.lemmas.List.{map-id}
@@ -26,7 +28,8 @@ pub record StandsAt (s : State) (p : Pid) (i : ℕ) (r : Process) : Type 0 where
 
 -- MAPS
 
-pub map_agree : {A B : Type 0} (f g : A → B) (xs : List A) → ((x : A) → f x ≡ g x) → map f xs ≡ map g xs
+pub map_agree : {A B : Type 0} (f g : A → B) (xs : List A) → ((x : A) → f x ≡ g x)
+    → map f xs ≡ map g xs
 map_agree f g [] same = refl
 map_agree f g (x ∷ xs) same = rw (same x, map_agree f g xs same) refl
 
@@ -34,7 +37,8 @@ pub map_same : {A : Type 0} (f : A → A) (xs : List A) → ((x : A) → f x ≡
 map_same f xs same = map_agree f (λ x. x) xs same ∙ map-id xs
 
 -- to write what is there changes nothing
-pub set_back : {A : Type 0} (xs : List A) (i : ℕ) (x : A) → slice_get xs i ≡ Some x → set xs i x ≡ xs
+pub set_back : {A : Type 0} (xs : List A) (i : ℕ) (x : A) → slice_get xs i ≡ Some x
+    → set xs i x ≡ xs
 set_back [] i x h = refl
 set_back (z ∷ xs) zero x h = ap (λ w. w ∷ xs) (sym (same_Some z x h))
 set_back (z ∷ xs) (suc i) x h = ap (λ ys. z ∷ ys) (set_back xs i x h)
@@ -54,17 +58,21 @@ pub map_one : (s : State) (i : ℕ) (r : Process) (f : Process → Process)
 map_one [] i r f apart at same = absurd (cc)
 map_one (x ∷ s) zero r f apart at same =
     let e = same_Some x r at in
-    let others = subst (λ (y : Process). AllByRecursion (λ z. pid_eq z.pid y.pid ≡ false) s) e apart.0 in
+    let others = subst (λ (y : Process). AllByRecursion (λ z. pid_eq z.pid y.pid ≡ false) s) e
+    apart.0 in
     rw (e, map_rest s r.pid f others same) refl
 map_one (x ∷ s) (suc i) r f apart at same =
-    let other = pid_eq-swap x.pid r.pid ∙ all_at (λ z. pid_eq z.pid x.pid ≡ false) s i r apart.0 at in
+    let other = pid_eq-swap x.pid r.pid ∙ all_at (λ z. pid_eq z.pid x.pid ≡ false) s i r apart.0
+    at in
     rw (same x other, map_one s i r f apart.1 at same) refl
 
 -- THE STEP
 
 -- an act's step in two parts: the actor's own, and what reaches each process
-pub step_own : (top : ℕ) (s : State) (a : Act) (i : ℕ) (r q : Process) (done : Acted) (own : Process)
-    → AreApart s → StandsAt s (actor a) i r → process s (receiver a) ≡ Some q → acted top r a ≡ Some done
+pub step_own : (top : ℕ) (s : State) (a : Act) (i : ℕ) (r q : Process) (done : Acted)
+    (own : Process)
+    → AreApart s → StandsAt s (actor a) i r → process s (receiver a) ≡ Some q
+    → acted top r a ≡ Some done
     → own ≡ record r { local = done.local; queue = done.queue }
     → step top s a ≡ Some (record {
       reply = done.reply;
@@ -75,10 +83,13 @@ pub step_own : (top : ℕ) (s : State) (a : Act) (i : ℕ) (r q : Process) (done
 step_own top s a i r q done own apart stands there acts is =
     let token = done.local.token in
     let mine : Process → Process =
-    λ x. if pid_eq x.pid (actor a) then record x { local = done.local; queue = done.queue } else x in
-    let others : (x : Process) → pid_eq x.pid r.pid ≡ false → mine x ≡ x = λ x other. rw (sym stands.own, other) refl in
+    λ x. if pid_eq x.pid (actor a) then record x { local = done.local; queue = done.queue } else
+    x in
+    let others : (x : Process) → pid_eq x.pid r.pid ≡ false
+    → mine x ≡ x = λ x other. rw (sym stands.own, other) refl in
     let here : mine r ≡ own = rw (sym stands.own, pid_eq-same r.pid, is) refl in
-    let written : map mine s ≡ set s i own = map_one s i r mine apart stands.at others ∙ ap (set s i) here in
+    let written : map mine s ≡ set s i own =
+    map_one s i r mine apart stands.at others ∙ ap (set s i) here in
     let after : map (changed a done) s ≡ map (reached a done.local.token) (set s i own) =
     sym (map-map (reached a token) mine s) ∙ ap (map (reached a token)) written in
     rw (stands.found, there, acts) (rw after refl)

@@ -1,7 +1,9 @@
--- A wipe of one process of a node after another comes to the node's reset once each of them is clean: a reset of the
--- state makes no difference between a process and the same one wiped, and leaves those that are clean.
-use Rattle.std.proofs.Common.{◌≡◌, ℕ, ◌+◌, ◌<◌, ◌≤◌, ◌==◌, zero, suc, Bool, true, false, List, [], ◌∷◌, Some, None}
-use Rattle.std.proofs.Common.{◌⊎◌, inl, inr, length, map, get_or, set, slice_get, refl, sym, ◌∙◌, ap, subst, arith}
+-- A wipe of one process of a node after another comes to the node's reset once each of them is
+-- clean: a reset of the state makes no difference between a process and the same one wiped, and
+-- leaves those that are clean.
+use Rattle.std.proofs.Common.{◌≡◌, ℕ, ◌+◌, ◌<◌, ◌≤◌, ◌==◌, zero, suc, Bool, true, false, List, []}
+use Rattle.std.proofs.Common.{◌∷◌, Some, None, ◌⊎◌, inl, inr, length, map, get_or, set, slice_get}
+use Rattle.std.proofs.Common.{refl, sym, ◌∙◌, ap, subst, arith}
 use Rattle.std.proofs.lemmas.Bool.{cases_eq, eq-eqb, eqb-true}
 use Rattle.std.proofs.lemmas.List.{get_or_default, get_or-set_same, get_or-set_other}
 use Rattle.std.proofs.lemmas.Option.{same_Some, get_or_from_slice_get}
@@ -14,8 +16,8 @@ use Rattle.st_core.specs.State.{LocalState, Process, State, zero_local}
 use Rattle.st_core.specs.Step.{reached, untraced}
 use Rattle.st_mail.specs.Actor.{process_of}
 use Rattle.st_world.specs.declared.node.Node.{Node}
-use Rattle.st_world.specs.Nodes.{Groups, no_node, node_at, process_in, IsListedFrom, IsClean, IsCleanOrListed}
-use Rattle.st_world.specs.Nodes.{AreGroups}
+use Rattle.st_world.specs.Nodes.{Groups, no_node, node_at, process_in, IsListedFrom, IsClean}
+use Rattle.st_world.specs.Nodes.{IsCleanOrListed, AreGroups}
 use Rattle.st_world.specs.Rows.{state_of}
 use Rattle.st_world.proofs.Groups.{full_in, part_in}
 use Rattle.st_world.proofs.RowLemmas.{at_rows, set_rows}
@@ -27,15 +29,18 @@ untraced_again [] = refl
 untraced_again (m ∷ ms) = ap (λ ns. untraced m ∷ ns) (untraced_again ms)
 
 -- the process of a wipe is clean, and each that was clean stays so
-pub clean_here : (ls : List LocalState) (bs : List (List Message)) (n : ℕ) (l : LocalState) (b : List Message)
+pub clean_here : (ls : List LocalState) (bs : List (List Message)) (n : ℕ) (l : LocalState)
+    (b : List Message)
     → n < length ls → n < length bs → IsClean (set ls n (wiped l)) (set bs n (map untraced b)) n
 clean_here ls bs n l b local queue = record {
   local = rw (get_or-set_same ls n (wiped l) zero_local local) refl;
   queue = rw (get_or-set_same bs n (map untraced b) [] queue) (untraced_again b);
 }
 
-pub clean_still : (ls : List LocalState) (bs : List (List Message)) (n i : ℕ) (l : LocalState) (b : List Message)
-    → n < length ls → n < length bs → IsClean ls bs i → IsClean (set ls n (wiped l)) (set bs n (map untraced b)) i
+pub clean_still : (ls : List LocalState) (bs : List (List Message)) (n i : ℕ) (l : LocalState)
+    (b : List Message)
+    → n < length ls → n < length bs → IsClean ls bs i
+    → IsClean (set ls n (wiped l)) (set bs n (map untraced b)) i
 clean_still ls bs n i l b local queue clean = elim (cases_eq i n) [
   | inl e ↦ rw e (clean_here ls bs n l b local queue)
   | inr other ↦ record {
@@ -45,7 +50,8 @@ clean_still ls bs n i l b local queue clean = elim (cases_eq i n) [
 ]
 
 -- what a reset does to a process elsewhere, and to one on the node
-other_reset : (me : Pid) (r : Process) → (r.pid.node == me.node) ≡ false → reached (act.Reset me) None r ≡ r
+other_reset : (me : Pid) (r : Process) → (r.pid.node == me.node) ≡ false
+    → reached (act.Reset me) None r ≡ r
 other_reset me r h = rw h refl
 
 on_reset : (me p : Pid) (l : LocalState) (b : List Message) → p.node ≡ me.node
@@ -84,13 +90,15 @@ row_within [] ls bs i r at = absurd (cc)
 row_within (p ∷ ps) [] bs i r at = absurd (cc)
 row_within (p ∷ ps) (l ∷ ls) [] i r at = absurd (cc)
 row_within (p ∷ ps) (l ∷ ls) (b ∷ bs) zero r at = omega arith
-row_within (p ∷ ps) (l ∷ ls) (b ∷ bs) (suc i) r at = let rest = row_within ps ls bs i r at in omega (arith, rest)
+row_within (p ∷ ps) (l ∷ ls) (b ∷ bs) (suc i) r at = let rest = row_within ps ls bs i r at in
+    omega (arith, rest)
 
 module _ (ps : List Pid) (ls : List LocalState) (bs : List (List Message))
     (locals_len : length ls ≡ length ps) (queues_len : length bs ≡ length ps) where
   -- the process of a number
   row_at : (i : ℕ) (d : Pid) → i < length ps
-      → slice_get (state_of ps ls bs) i ≡ Some (process_of (get_or ps i d) (get_or ls i zero_local) (get_or bs i []))
+      → slice_get (state_of ps ls bs) i
+      ≡ Some (process_of (get_or ps i d) (get_or ls i zero_local) (get_or bs i []))
   row_at i d h =
       let p : Pid = get_or ps i d in
       let l : LocalState = get_or ls i zero_local in
@@ -99,9 +107,11 @@ module _ (ps : List Pid) (ls : List LocalState) (bs : List (List Message))
       (get_or_default ls i zero_local l (omega arith)) (get_or_default bs i [] b (omega arith))
 
   -- a wipe of one process on the node
-  pub wiped_one : (me : Pid) (n : ℕ) (l : LocalState) → n < length ps → (get_or ps n me).node ≡ me.node
+  pub wiped_one : (me : Pid) (n : ℕ) (l : LocalState) → n < length ps
+      → (get_or ps n me).node ≡ me.node
       → l ≡ get_or ls n l
-      → map (reached (act.Reset me) None) (state_of ps (set ls n (wiped l)) (set bs n (map untraced (get_or bs n []))))
+      → map (reached (act.Reset me) None)
+      (state_of ps (set ls n (wiped l)) (set bs n (map untraced (get_or bs n []))))
       ≡ map (reached (act.Reset me) None) (state_of ps ls bs)
   wiped_one me n l h on el =
       let f : Process → Process = reached (act.Reset me) None in
@@ -114,7 +124,8 @@ module _ (ps : List Pid) (ls : List LocalState) (bs : List (List Message))
       let here : get_or s n r ≡ r =
       get_or_from_slice_get s n r r (at_rows ps ls bs n p l b locals_len queues_len h ep el eb) in
       ap (map f) (set_rows ps ls bs n p (wiped l) (map untraced b) locals_len queues_len h ep)
-      ∙ map-set_same f s n (process_of p (wiped l) (map untraced b)) r (reset_again me p l b on ∙ ap f (sym here))
+      ∙ map-set_same f s n (process_of p (wiped l) (map untraced b)) r
+      (reset_again me p l b on ∙ ap f (sym here))
 
   -- a node whose processes are clean
   pub clean_node : (me : Pid)
@@ -126,7 +137,8 @@ module _ (ps : List Pid) (ls : List LocalState) (bs : List (List Message))
       let l : LocalState = get_or ls i zero_local in
       let b : List Message = get_or bs i [] in
       let is : process_of p l b ≡ r = same_Some (process_of p l b) r (sym (row_at i me h) ∙ at) in
-      let fixed = fixed_if me p l b (p.node == me.node) refl (λ on. let c = clean i h on in (c.local, c.queue)) in
+      let fixed = fixed_if me p l b (p.node == me.node) refl
+      (λ on. let c = clean i h on in (c.local, c.queue)) in
       subst (λ (x : Process). reached (act.Reset me) None x ≡ x) is fixed)
 
 -- THE LIST OF A NODE, SLOT BY SLOT
@@ -150,7 +162,13 @@ module _ (g : Groups) (number : ℕ) (n : Node) (inv : AreGroups g) (h : number 
         | inr part ↦
             let slot = inv.slots t within in
             let less : n.listed < n.end =
-            omega (arith, part, placed.listed, ap (λ (m : Node). m.listed) is, ap (λ (m : Node). m.end) is) in
+            omega (
+              arith,
+              part,
+              placed.listed,
+              ap (λ (m : Node). m.listed) is,
+              ap (λ (m : Node). m.end) is,
+            ) in
             rw (part_in g.slots n t less) (slot.within, slot.same ∙ same)
       ]
 
@@ -164,10 +182,13 @@ module _ (g : Groups) (number : ℕ) (n : Node) (inv : AreGroups g) (h : number 
       inr (subst (λ (m : Node). IsListedFrom m.start g.slots m i) node listed)
 
 -- one slot more
-pub fewer_left : (slots : List ℕ) (n : Node) (t i : ℕ) (ls : List LocalState) (bs : List (List Message))
-    → (l : LocalState) (b : List Message) → process_in slots n t < length ls → process_in slots n t < length bs
+pub fewer_left : (slots : List ℕ) (n : Node) (t i : ℕ) (ls : List LocalState)
+    (bs : List (List Message))
+    → (l : LocalState) (b : List Message) → process_in slots n t < length ls
+    → process_in slots n t < length bs
     → IsClean ls bs i ⊎ IsListedFrom t slots n i
-    → IsClean (set ls (process_in slots n t) (wiped l)) (set bs (process_in slots n t) (map untraced b)) i
+    → IsClean (set ls (process_in slots n t) (wiped l))
+    (set bs (process_in slots n t) (map untraced b)) i
     ⊎ IsListedFrom (t + 1) slots n i
 fewer_left slots n t i ls bs l b local queue (inl clean) =
     inl (clean_still ls bs (process_in slots n t) i l b local queue clean)
@@ -175,13 +196,21 @@ fewer_left slots n t i ls bs l b local queue (inr old) = elim (cases_eq old.slot
   | inl e ↦
       let m : ℕ = process_in slots n t in
       let here : process_in slots n t ≡ i = ap (process_in slots n) (sym e) ∙ old.is in
-      inl (subst (IsClean (set ls m (wiped l)) (set bs m (map untraced b))) here (clean_here ls bs m l b local queue))
+      inl (subst (IsClean (set ls m (wiped l)) (set bs m (map untraced b))) here
+      (clean_here ls bs m l b local queue))
   | inr other ↦
-      inr (record { slot = old.slot; from = omega (arith, old.from, other); below = old.below; is = old.is })
+      inr (record {
+        slot = old.slot;
+        from = omega (arith, old.from, other);
+        below = old.below;
+        is =
+            old.is;
+      })
 ]
 
 -- at the end
-pub none_left : (slots : List ℕ) (n : Node) (t i : ℕ) (ls : List LocalState) (bs : List (List Message))
+pub none_left : (slots : List ℕ) (n : Node) (t i : ℕ) (ls : List LocalState)
+    (bs : List (List Message))
     → n.listed ≤ t → IsClean ls bs i ⊎ IsListedFrom t slots n i → IsClean ls bs i
 none_left slots n t i ls bs past (inl clean) = clean
 none_left slots n t i ls bs past (inr left) = absurd (omega (arith, left.from, left.below))

@@ -43,11 +43,14 @@ pub record AreKept (top : ℕ) (pids : List Pid) (g : Groups) (locals : List Loc
 -- A wipe of the listed processes on the node of process `number` takes these rows to those after
 -- it. If each process was clean or listed, that resets the state. A process of the node that was
 -- clean or listed is clean then, and each that was clean stays so.
-pub record AreWiped (g : Groups) (number : ℕ) (locals : List LocalState) (queues : List (List Message))
+pub record AreWiped (g : Groups) (number : ℕ) (locals : List LocalState)
+    (queues : List (List Message))
     (locals_after : List LocalState) (queues_after : List (List Message)) : Type 0 where
-  pub state : (pids : List Pid) (me : Pid) → AreByNode pids g.places → me ≡ slice_index_or pids number me
+  pub state : (pids : List Pid) (me : Pid) → AreByNode pids g.places
+      → me ≡ slice_index_or pids number me
       → ((i : ℕ) → i < length pids → IsCleanOrListed g locals queues i)
-      → state_of pids locals_after queues_after ≡ map (reached (act.Reset me) None) (state_of pids locals queues)
+      → state_of pids locals_after queues_after
+      ≡ map (reached (act.Reset me) None) (state_of pids locals queues)
   pub node : (i : ℕ) → i < length g.places
       → slice_index_or g.places i 0 ≡ slice_index_or g.places number 0
       → IsCleanOrListed g locals queues i → IsClean locals_after queues_after i

@@ -1,6 +1,6 @@
 -- The results of a world's public calls.
-use Rattle.std.specs.Prelude.{◌≡◌, ℕ, ◌<◌, ◌≤◌, true, ◌⊎◌, List, Option, Some, None, Result, Err, IsSome, IfSome, IfOk}
-use Rattle.std.specs.Prelude.{IfErr, OnErr, All, option_and_then, position}
+use Rattle.std.specs.Prelude.{◌≡◌, ℕ, ◌<◌, ◌≤◌, true, ◌⊎◌, List, Option, Some, None, Result, Err}
+use Rattle.std.specs.Prelude.{IsSome, IfSome, IfOk, IfErr, OnErr, All, option_and_then, position}
 use Rattle.std.specs.Option.{ForSome}
 use Rattle.st_core.specs.declared.types.Pid.{Pid}
 use Rattle.st_core.specs.declared.types.Token.{Token}

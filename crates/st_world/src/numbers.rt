@@ -1,4 +1,5 @@
-//! The processes of a world by number: their pids rise, and the same number is one process's in each row.
+//! The processes of a world by number: their pids rise, and the same number is one process's in
+//! each row.
 //!
 //! Each act names pids. A guess at a pid's number is tested first, and what it misses is looked up
 //! in a set that keeps the pids in their order. Whoever writes the acts chooses the pids, so the

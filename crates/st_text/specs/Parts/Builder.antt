@@ -1,6 +1,7 @@
 -- A text under way: the lines from the header on, all good, and what is kept of
 -- them.
-use Rattle.std.specs.Prelude.{◌≡◌, Bool, true, List, [], ◌∷◌, ◌++◌, length, Option, Some, None, is_some}
+use Rattle.std.specs.Prelude.{◌≡◌, Bool, true, List, [], ◌∷◌, ◌++◌, length, Option, Some, None}
+use Rattle.std.specs.Prelude.{is_some}
 use Rattle.std.specs.List.{count_by, list_any}
 use Rattle.st_core.specs.declared.types.Act.{Act}
 use Rattle.st_core.specs.Pid.{IsRising}
@@ -12,7 +13,8 @@ use Rattle.st_text.specs.declared.step.Step.{Step}
 use Rattle.st_text.specs.declared.step.Step.TheVariants.{Goes, Stops, Halts}
 use Rattle.st_text.specs.declared.limits.Limits.{Limits}
 use Rattle.st_text.specs.Text.{body, is_remote}
-use Rattle.st_text.specs.Fault.{pids, last_of, has_acts, is_event, is_act, is_wide_header, line_fault}
+use Rattle.st_text.specs.Fault.{pids, last_of, has_acts, is_event, is_act, is_wide_header}
+use Rattle.st_text.specs.Fault.{line_fault}
 use Rattle.st_text.specs.Growth.{is_kept_line}
 use Rattle.st_text.specs.Parts.Counts.{acts_len}
 

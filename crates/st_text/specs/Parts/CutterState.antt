@@ -1,5 +1,6 @@
 -- The knowledge of a cutter: all bytes that it took, however they were cut into pieces.
-use Rattle.std.specs.Prelude.{◌≡◌, ℕ, ◌<◌, Bool, true, false, List, [], ◌∷◌, ◌++◌, length, map, Option, Some, None, ◌⊎◌}
+use Rattle.std.specs.Prelude.{◌≡◌, ℕ, ◌<◌, Bool, true, false, List, [], ◌∷◌, ◌++◌, length, map}
+use Rattle.std.specs.Prelude.{Option, Some, None, ◌⊎◌}
 use Rattle.st_text.specs.declared.line.Line.{Line}
 use Rattle.st_text.specs.declared.fault.ReadFault.{ReadFault}
 use Rattle.st_text.specs.declared.builder.BundleBuilder.{BundleBuilder}

@@ -16,7 +16,8 @@ loop-i-preserved c =
       left = c.after-left.ensures (take i es) c.loop-i.invariant.left ∙ left_more es i e at;
       fit = fit_more c.args.top c.args.streams.now c.args.links.now es i e at c.loop-i.invariant.fit
           (record {
-            goes_on = (c.goes_on.ensures (take i es) c.loop-i.invariant.left).0 c.if-not-goes_on.false;
+            goes_on = (c.goes_on.ensures (take i es) c.loop-i.invariant.left).0
+                c.if-not-goes_on.false;
             linked = c.has_send.ensures c.if-not-has_send.false;
           });
     }

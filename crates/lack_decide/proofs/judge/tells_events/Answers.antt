@@ -8,7 +8,8 @@ use Rattle.st_pair.proofs.ForCallers.{at_get_or, blank}
 use Rattle.lack_needs.specs.Completions.{marked_with}
 use Rattle.lack_needs.proofs.ForCallers.{told_end, told_more, untold_more}
 use Rattle.lack_decide.proofs.judge.tells_events.Goals as goal
-use Rattle.lack_decide.proofs.judge.tells_events.Goals.{then-is_marked+in-Some+else-not-is_same_event, else-is_marked}
+use Rattle.lack_decide.proofs.judge.tells_events.Goals.{then-is_marked+in-Some+else-not-is_same_event}
+use Rattle.lack_decide.proofs.judge.tells_events.Goals.{else-is_marked}
 
 pub loop-i-preserved : goal.loop-i-preserved
 loop-i-preserved c =

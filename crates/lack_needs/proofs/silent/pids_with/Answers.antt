@@ -1,11 +1,14 @@
 -- One pid more, listed or not, after all that came.
-use Rattle.std.proofs.Common.{◌+◌, ◌++◌, [], ◌∷◌, length, get_or, slice_get, sym, ◌∙◌, ap, subst, arith}
+use Rattle.std.proofs.Common.{◌+◌, ◌++◌, [], ◌∷◌, length, get_or, slice_get, sym, ◌∙◌, ap, subst}
+use Rattle.std.proofs.Common.{arith}
 use Rattle.st_core.specs.declared.types.Pid.{Pid}
 use Rattle.st_core.specs.Run.{pids_of}
 use Rattle.st_pair.proofs.ForCallers.{at_get_or, is_at}
-use Rattle.lack_needs.proofs.Merging.{all_merged, taken_within, ArePidsMerging, listed_pid_more, other_pid_more}
+use Rattle.lack_needs.proofs.Merging.{all_merged, taken_within, ArePidsMerging, listed_pid_more}
+use Rattle.lack_needs.proofs.Merging.{other_pid_more}
 use Rattle.lack_needs.proofs.silent.pids_with.Goals as goal
-use Rattle.lack_needs.proofs.silent.pids_with.Goals.{then-is_other_next+in_ok-push, else-is_other_next+in_ok-push-2}
+use Rattle.lack_needs.proofs.silent.pids_with.Goals.{then-is_other_next+in_ok-push}
+use Rattle.lack_needs.proofs.silent.pids_with.Goals.{else-is_other_next+in_ok-push-2}
 
 abbrev none : Pid
 none = record { node = 0; number = 0 }
@@ -33,7 +36,8 @@ loop-preserved c =
           is c.loop-test.true before.merging in
           let p = get_or ps c.loop.taken none in
           let x = is_at streams c.loop.taken p c.pids-pids.ensures.streams.draft.rising
-          (ap (λ qs. slice_get qs c.loop.taken) (sym are) ∙ at_get_or ps c.loop.taken none within) in
+          (ap (λ qs. slice_get qs c.loop.taken) (sym are) ∙ at_get_or ps c.loop.taken none
+          within) in
           let more = listed_pid_more streams others ps k c.loop.all.items all c.loop.taken
           c.loop.added x.stream are is x.at
           (ap (λ v. v.items) w.all-is ∙ w.in_ok-push-2.ensures.items

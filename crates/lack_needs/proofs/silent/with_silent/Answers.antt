@@ -1,14 +1,14 @@
 -- One process more, listed or not, after all that came.
-use Rattle.std.proofs.Common.{◌≡◌, ◌+◌, ◌++◌, ℕ, List, length, get_or, slice_get, Some, refl, sym, ◌∙◌, ap, subst}
-use Rattle.std.proofs.Common.{arith}
+use Rattle.std.proofs.Common.{◌≡◌, ◌+◌, ◌++◌, ℕ, List, length, get_or, slice_get, Some, refl, sym}
+use Rattle.std.proofs.Common.{◌∙◌, ap, subst, arith}
 use Rattle.st_core.specs.declared.types.Pid.{Pid}
 use Rattle.st_core.specs.Run.{Stream}
 use Rattle.st_core.specs.Streams.{unlisted}
 use Rattle.lack_laws.proofs.ForCallers.{silent_sound}
 use Rattle.lack_needs.specs.Merged.{merged}
 use Rattle.lack_needs.proofs.Ranking.{own_events}
-use Rattle.lack_needs.proofs.Merging.{all_merged, IsMerging, listed_last, listed_more, other_last, other_more}
-use Rattle.lack_needs.proofs.Merging.{taken_within}
+use Rattle.lack_needs.proofs.Merging.{all_merged, IsMerging, listed_last, listed_more, other_last}
+use Rattle.lack_needs.proofs.Merging.{other_more, taken_within}
 use Rattle.lack_needs.proofs.silent.with_silent.Goals as goal
 use Rattle.lack_needs.proofs.silent.with_silent.Goals.{then-is_other_next+in_ok-open_last}
 use Rattle.lack_needs.proofs.silent.with_silent.Goals.{else-is_other_next+in_ok-add_process}

@@ -1,5 +1,6 @@
 -- One process more.
-use Rattle.std.proofs.Common.{◌≡◌, length, Option, None, ℕ, List, [], ◌<◌, ◌≤◌, ◌+◌, take, refl, sym, subst}
+use Rattle.std.proofs.Common.{◌≡◌, length, Option, None, ℕ, List, [], ◌<◌, ◌≤◌, ◌+◌, take, refl}
+use Rattle.std.proofs.Common.{sym, subst}
 use Rattle.std.proofs.lemmas.List.{take_all}
 use Rattle.std.proofs.lemmas.Option.{none-some, slice_get-get_or}
 use Rattle.st_core.specs.declared.types.Pid.{Pid}

@@ -22,7 +22,8 @@ returns-in-Some-find_not_rising g c =
     let piece : Piece = record { pid = pid; events = es; receipts = rs } in
     let below0 = none_below T piece in
     let below1 = none_more T piece 0 below0 (c.in_default.ensures T rs) in
-    first_in T piece 1 c.in-Some-find_not_rising.found below1 (c.in-Some-find_not_rising.ensures.first T rs)
+    first_in T piece 1 c.in-Some-find_not_rising.found below1
+    (c.in-Some-find_not_rising.ensures.first T rs)
 
 pub returns-in-Some-find_repeated : goal.returns-in-Some-find_repeated
 returns-in-Some-find_repeated g c =
@@ -34,7 +35,8 @@ returns-in-Some-find_repeated g c =
     let below0 = none_below T piece in
     let below1 = none_more T piece 0 below0 (c.in_default.ensures T rs) in
     let below2 = none_more T piece 1 below1 (c.in_default-find_not_rising.ensures.first T rs) in
-    first_in T piece 2 c.in-Some-find_repeated.found below2 (c.in-Some-find_repeated.ensures T pid es)
+    first_in T piece 2 c.in-Some-find_repeated.found below2
+    (c.in-Some-find_repeated.ensures T pid es)
 
 pub returns-in-Some-find_mismatch : goal.returns-in-Some-find_mismatch
 returns-in-Some-find_mismatch g c =

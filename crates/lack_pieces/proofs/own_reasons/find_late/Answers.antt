@@ -1,14 +1,18 @@
 -- A send or print counts no higher than a receive before it, or those so far and it don't.
-use Rattle.std.proofs.Common.{◌≡◌, ◌≤◌, ◌<◌, ◌+◌, ℕ, true, false, get_or, slice_get, Some, refl, sym, ◌∙◌, subst, arith}
+use Rattle.std.proofs.Common.{◌≡◌, ◌≤◌, ◌<◌, ◌+◌, ℕ, true, false, get_or, slice_get, Some, refl}
+use Rattle.std.proofs.Common.{sym, ◌∙◌, subst, arith}
 use Rattle.std.proofs.lemmas.Bool.{false≢true}
 use Rattle.st_core.specs.declared.types.Event.{Event}
 use Rattle.st_pair.specs.Places.{is_stamp}
 use Rattle.st_pair.proofs.ForCallers.{at_get_or, blank}
 use Rattle.lack_pieces.specs.Firsts.{HoldsOfRank}
 use Rattle.lack_pieces.specs.Pieces.{Piece}
-use Rattle.lack_pieces.proofs.Walks.{first_own, late, late_at, more_passed, none_late, rise_more, within_length}
+use Rattle.lack_pieces.proofs.Walks.{first_own, late, late_at, more_passed, none_late, rise_more}
+use Rattle.lack_pieces.proofs.Walks.{within_length}
 use Rattle.lack_pieces.proofs.own_reasons.find_late.Goals as goal
-use Rattle.lack_pieces.proofs.own_reasons.find_late.Goals.{then-not-is_stamp, else-not-is_stamp+then-count-highest+in_default, else-not-is_stamp+else-count-highest}
+use Rattle.lack_pieces.proofs.own_reasons.find_late.Goals.{then-not-is_stamp}
+use Rattle.lack_pieces.proofs.own_reasons.find_late.Goals.{else-not-is_stamp+then-count-highest+in_default}
+use Rattle.lack_pieces.proofs.own_reasons.find_late.Goals.{else-not-is_stamp+else-count-highest}
 
 pub returns-in-Some : goal.returns-in-Some
 returns-in-Some c = λ top receipts.

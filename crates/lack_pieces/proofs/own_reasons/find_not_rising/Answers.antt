@@ -5,10 +5,12 @@ use Rattle.std.proofs.lemmas.Option.{none-some, same_Some}
 use Rattle.st_pair.proofs.ForCallers.{at_get_or, blank}
 use Rattle.lack_pieces.specs.Firsts.{HoldsOfRank}
 use Rattle.lack_pieces.specs.Pieces.{Piece}
-use Rattle.lack_pieces.proofs.Walks.{above_last, falls_at, first_own, none_falls, not_rising, rise_more}
-use Rattle.lack_pieces.proofs.Walks.{stamp_here, stamp_kept, within_length, IsLastStamp}
+use Rattle.lack_pieces.proofs.Walks.{above_last, falls_at, first_own, none_falls, not_rising}
+use Rattle.lack_pieces.proofs.Walks.{rise_more, stamp_here, stamp_kept, within_length, IsLastStamp}
 use Rattle.lack_pieces.proofs.own_reasons.find_not_rising.Goals as goal
-use Rattle.lack_pieces.proofs.own_reasons.find_not_rising.Goals.{then-is_stamp, in-Some+else-event-count, in_default, else-is_stamp}
+use Rattle.lack_pieces.proofs.own_reasons.find_not_rising.Goals.{then-is_stamp}
+use Rattle.lack_pieces.proofs.own_reasons.find_not_rising.Goals.{in-Some+else-event-count}
+use Rattle.lack_pieces.proofs.own_reasons.find_not_rising.Goals.{in_default, else-is_stamp}
 
 pub returns-then-event-count-clause-first : goal.returns-then-event-count-clause-first
 returns-then-event-count-clause-first c = λ top receipts.

@@ -14,7 +14,11 @@ returns-then-event c = λ top receipts.
     let piece : Piece = record { pid = c.args.pid; events = es; receipts = receipts } in
     let at = at_get_or es i blank c.loop-i-test.true in
     first_own (HoldsOfRank top piece 0) c.args.pid _
-    (record { event = get_or es i blank; holds = (record { own = refl; at = at }, omega arith); of_rank = refl })
+    (record {
+      event = get_or es i blank;
+      holds = (record { own = refl; at = at }, omega arith);
+      of_rank = refl;
+    })
     (λ other h. (prev_not_before top piece other h).0.own) refl
     (λ other h less.
     let x = prev_not_before top piece other h in

@@ -5,7 +5,10 @@ use Rattle.st_pair.proofs.ForCallers.{at_get_or, blank}
 use Rattle.lack_pieces.specs.Firsts.{IsLastReceive}
 use Rattle.lack_pieces.proofs.Walks.{receive_here, receive_kept}
 use Rattle.lack_pieces.proofs.own_reasons.last_receive.Goals as goal
-use Rattle.lack_pieces.proofs.own_reasons.last_receive.Goals.{then-not-is_stamp+then-count-events, else-not-is_stamp, else-not-is_stamp-via-then-not-is_stamp+else-count-events, else-not-is_stamp-via-else-not-is_stamp}
+use Rattle.lack_pieces.proofs.own_reasons.last_receive.Goals.{then-not-is_stamp+then-count-events}
+use Rattle.lack_pieces.proofs.own_reasons.last_receive.Goals.{else-not-is_stamp}
+use Rattle.lack_pieces.proofs.own_reasons.last_receive.Goals.{else-not-is_stamp-via-then-not-is_stamp+else-count-events}
+use Rattle.lack_pieces.proofs.own_reasons.last_receive.Goals.{else-not-is_stamp-via-else-not-is_stamp}
 
 pub loop-i-preserved : goal.loop-i-preserved
 loop-i-preserved c =

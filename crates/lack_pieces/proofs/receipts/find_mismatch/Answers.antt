@@ -7,11 +7,15 @@ use Rattle.lack_decide.specs.Answers.{IsSendOf}
 use Rattle.lack_pieces.specs.Firsts.{HasCount, HoldsOfRank, IsEarliest}
 use Rattle.lack_pieces.specs.Pieces.{Piece}
 use Rattle.lack_pieces.proofs.Candidates.{first_of_all}
-use Rattle.lack_pieces.proofs.ReceivedCounts.{blank_receipt, mismatch_found, mismatch_holds, mismatch_more, mismatch_still}
-use Rattle.lack_pieces.proofs.ReceivedCounts.{mismatch_widened, none_has, one_stamp, passed_next, IsMismatchBelow}
+use Rattle.lack_pieces.proofs.ReceivedCounts.{blank_receipt, mismatch_found, mismatch_holds}
+use Rattle.lack_pieces.proofs.ReceivedCounts.{mismatch_more, mismatch_still, mismatch_widened}
+use Rattle.lack_pieces.proofs.ReceivedCounts.{none_has, one_stamp, passed_next, IsMismatchBelow}
 use Rattle.lack_pieces.proofs.Walks.{at_same, within_length}
 use Rattle.lack_pieces.proofs.receipts.find_mismatch.Goals as goal
-use Rattle.lack_pieces.proofs.receipts.find_mismatch.Goals.{then-has_count+then-not-is_send_of, else-has_count, else-has_count-via-then-has_count+else-not-is_send_of, else-has_count-via-else-has_count}
+use Rattle.lack_pieces.proofs.receipts.find_mismatch.Goals.{then-has_count+then-not-is_send_of}
+use Rattle.lack_pieces.proofs.receipts.find_mismatch.Goals.{else-has_count}
+use Rattle.lack_pieces.proofs.receipts.find_mismatch.Goals.{else-has_count-via-then-has_count+else-not-is_send_of}
+use Rattle.lack_pieces.proofs.receipts.find_mismatch.Goals.{else-has_count-via-else-has_count}
 
 pub loop-receipt-preserved : goal.loop-receipt-preserved
 loop-receipt-preserved c =

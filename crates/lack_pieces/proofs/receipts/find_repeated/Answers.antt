@@ -4,9 +4,12 @@ use Rattle.st_pair.proofs.ForCallers.{at_get_or}
 use Rattle.lack_pieces.specs.Firsts.{HoldsOfRank, IsEarliest}
 use Rattle.lack_pieces.specs.Pieces.{Piece}
 use Rattle.lack_pieces.proofs.Candidates.{first_of_all}
-use Rattle.lack_pieces.proofs.ReceivedCounts.{blank_receipt, repeat_found, repeat_holds, repeat_more, repeat_still, repeat_widened, IsRepeatBelow}
+use Rattle.lack_pieces.proofs.ReceivedCounts.{blank_receipt, repeat_found, repeat_holds}
+use Rattle.lack_pieces.proofs.ReceivedCounts.{repeat_more, repeat_still, repeat_widened}
+use Rattle.lack_pieces.proofs.ReceivedCounts.{IsRepeatBelow}
 use Rattle.lack_pieces.proofs.receipts.find_repeated.Goals as goal
-use Rattle.lack_pieces.proofs.receipts.find_repeated.Goals.{then-before-receipt, else-before-receipt}
+use Rattle.lack_pieces.proofs.receipts.find_repeated.Goals.{then-before-receipt}
+use Rattle.lack_pieces.proofs.receipts.find_repeated.Goals.{else-before-receipt}
 
 pub loop-i-init : goal.loop-i-init
 loop-i-init c = λ other r. let next = r.next in let within = r.within in omega (arith, next, within)

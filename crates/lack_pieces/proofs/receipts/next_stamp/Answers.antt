@@ -1,12 +1,14 @@
 -- An event is such a send or print, or it is passed.
-use Rattle.std.proofs.Common.{◌≡◌, ◌≤◌, ◌<◌, ℕ, true, length, get_or, inl, inr, slice_get, Some, sym, ◌∙◌, ap, subst, arith}
+use Rattle.std.proofs.Common.{◌≡◌, ◌≤◌, ◌<◌, ℕ, true, length, get_or, inl, inr, slice_get, Some}
+use Rattle.std.proofs.Common.{sym, ◌∙◌, ap, subst, arith}
 use Rattle.std.proofs.lemmas.Bool.{cases_lt, false≢true}
 use Rattle.st_core.specs.declared.types.Event.{Event}
 use Rattle.st_pair.specs.Places.{is_stamp}
 use Rattle.st_pair.proofs.ForCallers.{at_get_or, blank}
 use Rattle.lack_pieces.proofs.Walks.{at_same, within_length}
 use Rattle.lack_pieces.proofs.receipts.next_stamp.Goals as goal
-use Rattle.lack_pieces.proofs.receipts.next_stamp.Goals.{else-is_stamp-via-then-is_stamp+else-count-events, else-is_stamp-via-else-is_stamp}
+use Rattle.lack_pieces.proofs.receipts.next_stamp.Goals.{else-is_stamp-via-then-is_stamp+else-count-events}
+use Rattle.lack_pieces.proofs.receipts.next_stamp.Goals.{else-is_stamp-via-else-is_stamp}
 
 pub returns-then-count-events : goal.returns-then-count-events
 returns-then-count-events c =

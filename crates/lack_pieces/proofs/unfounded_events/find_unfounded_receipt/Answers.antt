@@ -8,10 +8,15 @@ use Rattle.lack_pieces.specs.Lowest.{IsUnfoundedReceipt}
 use Rattle.lack_pieces.specs.Pieces.{Piece}
 use Rattle.lack_pieces.proofs.Candidates.{first_of_all}
 use Rattle.lack_pieces.proofs.Founding.{unfounded_more, unfounded_still, IsUnfoundedBelow}
-use Rattle.lack_pieces.proofs.ReceivedCounts.{blank_receipt, none_has, passed_next, stamp_none, stamp_some}
+use Rattle.lack_pieces.proofs.ReceivedCounts.{blank_receipt, none_has, passed_next, stamp_none}
+use Rattle.lack_pieces.proofs.ReceivedCounts.{stamp_some}
 use Rattle.lack_pieces.proofs.Walks.{within_length}
 use Rattle.lack_pieces.proofs.unfounded_events.find_unfounded_receipt.Goals as goal
-use Rattle.lack_pieces.proofs.unfounded_events.find_unfounded_receipt.Goals.{then-receipt-eq0+then-not-has_count+then-is_behind_stamp, else-receipt-eq0, else-receipt-eq0-via-then-receipt-eq0+then-not-has_count+else-is_behind_stamp, else-receipt-eq0-via-then-receipt-eq0+else-not-has_count, else-receipt-eq0-via-else-receipt-eq0}
+use Rattle.lack_pieces.proofs.unfounded_events.find_unfounded_receipt.Goals.{then-receipt-eq0+then-not-has_count+then-is_behind_stamp}
+use Rattle.lack_pieces.proofs.unfounded_events.find_unfounded_receipt.Goals.{else-receipt-eq0}
+use Rattle.lack_pieces.proofs.unfounded_events.find_unfounded_receipt.Goals.{else-receipt-eq0-via-then-receipt-eq0+then-not-has_count+else-is_behind_stamp}
+use Rattle.lack_pieces.proofs.unfounded_events.find_unfounded_receipt.Goals.{else-receipt-eq0-via-then-receipt-eq0+else-not-has_count}
+use Rattle.lack_pieces.proofs.unfounded_events.find_unfounded_receipt.Goals.{else-receipt-eq0-via-else-receipt-eq0}
 
 pub loop-receipt-preserved : goal.loop-receipt-preserved
 loop-receipt-preserved c =
@@ -45,7 +50,8 @@ loop-receipt-preserved c =
                 (unfounded_still piece n receipt at c.loop-receipt.least
                 (c.loop-receipt.invariant.least pid lowest) (λ zero_prev hidden behind.
                 elim w.else-receipt-eq0.branch [
-                  | else-receipt-eq0-via-then-receipt-eq0+then-not-has_count+else-is_behind_stamp v ↦
+                  | else-receipt-eq0-via-then-receipt-eq0+then-not-has_count+else-is_behind_stamp
+                      v ↦
                       false≢true (sym v.if-is_behind_stamp.false
                       ∙ (v.is_behind_stamp.ensures piece lowest).1 behind)
                   | else-receipt-eq0-via-then-receipt-eq0+else-not-has_count v ↦

@@ -4,10 +4,16 @@ use Rattle.std.proofs.lemmas.Bool.{false≢true}
 use Rattle.st_pair.proofs.ForCallers.{at_get_or, blank}
 use Rattle.lack_pieces.specs.Lowest.{IsUnfoundedStamp}
 use Rattle.lack_pieces.specs.Pieces.{Piece}
-use Rattle.lack_pieces.proofs.Founding.{after_receive, founded_more, not_after_receive, received_here, received_kept, IsReceived}
+use Rattle.lack_pieces.proofs.Founding.{after_receive, founded_more, not_after_receive}
+use Rattle.lack_pieces.proofs.Founding.{received_here, received_kept, IsReceived}
 use Rattle.lack_pieces.proofs.Walks.{first_own, within_length}
 use Rattle.lack_pieces.proofs.unfounded_events.find_unfounded_stamp.Goals as goal
-use Rattle.lack_pieces.proofs.unfounded_events.find_unfounded_stamp.Goals.{then-not-is_stamp, else-not-is_stamp+else-event-eq0, else-event-eq0-via-then-event-eq0+else-is_behind_stamp, then-received, else-received, else-event-eq0-via-else-event-eq0}
+use Rattle.lack_pieces.proofs.unfounded_events.find_unfounded_stamp.Goals.{then-not-is_stamp}
+use Rattle.lack_pieces.proofs.unfounded_events.find_unfounded_stamp.Goals.{else-not-is_stamp+else-event-eq0}
+use Rattle.lack_pieces.proofs.unfounded_events.find_unfounded_stamp.Goals.{else-event-eq0-via-then-event-eq0+else-is_behind_stamp}
+use Rattle.lack_pieces.proofs.unfounded_events.find_unfounded_stamp.Goals.{then-received}
+use Rattle.lack_pieces.proofs.unfounded_events.find_unfounded_stamp.Goals.{else-received}
+use Rattle.lack_pieces.proofs.unfounded_events.find_unfounded_stamp.Goals.{else-event-eq0-via-else-event-eq0}
 
 pub returns-then-is_behind_stamp : goal.returns-then-is_behind_stamp
 returns-then-is_behind_stamp c = λ receipts is.

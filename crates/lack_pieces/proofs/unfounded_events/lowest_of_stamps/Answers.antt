@@ -7,7 +7,8 @@ use Rattle.st_pair.proofs.ForCallers.{at_get_or, blank}
 use Rattle.lack_pieces.proofs.Founding.{lowest_stamp}
 use Rattle.lack_pieces.proofs.Walks.{more_passed, within_length}
 use Rattle.lack_pieces.proofs.unfounded_events.lowest_of_stamps.Goals as goal
-use Rattle.lack_pieces.proofs.unfounded_events.lowest_of_stamps.Goals.{else-is_stamp-via-then-is_stamp+else-event-ne0, else-is_stamp-via-else-is_stamp}
+use Rattle.lack_pieces.proofs.unfounded_events.lowest_of_stamps.Goals.{else-is_stamp-via-then-is_stamp+else-event-ne0}
+use Rattle.lack_pieces.proofs.unfounded_events.lowest_of_stamps.Goals.{else-is_stamp-via-else-is_stamp}
 
 pub returns-then-event-ne0 : goal.returns-then-event-ne0
 returns-then-event-ne0 c =

@@ -2,7 +2,9 @@
 use Rattle.std.proofs.Common.{◌∙◌, ap}
 use Rattle.lack_search.specs.Inventions.{without_messages}
 use Rattle.lack_search.proofs.Lists.{message_given}
-use Rattle.lack_search.proofs.inventions.set_prevs.Goals.{then-prev-ne0+then-number-sends+then-place-fed, then-prev-ne0+then-number-sends+else-place-fed, else-prev-ne0}
+use Rattle.lack_search.proofs.inventions.set_prevs.Goals.{then-prev-ne0+then-number-sends+then-place-fed}
+use Rattle.lack_search.proofs.inventions.set_prevs.Goals.{then-prev-ne0+then-number-sends+else-place-fed}
+use Rattle.lack_search.proofs.inventions.set_prevs.Goals.{else-prev-ne0}
 use Rattle.lack_search.proofs.inventions.set_prevs.Goals as goal
 
 pub loop-number-preserved : goal.loop-number-preserved

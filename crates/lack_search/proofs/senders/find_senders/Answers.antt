@@ -1,4 +1,5 @@
--- The turns are those that were found, sorted; and the unlisted processes are those that were given out.
+-- The turns are those that were found, sorted; and the unlisted processes are those that were given
+-- out.
 use Rattle.std.proofs.Common.{◌≡◌, false}
 use Rattle.std.proofs.lemmas.List.Sorted.{All-permutation}
 use Rattle.st_core.specs.Streams.{lists}

@@ -9,7 +9,8 @@ use Rattle.node_given.proofs.walk.given.Given as goal
 
 abbrev pub invariant-loop-event : goal.invariant-loop-event
 invariant-loop-event l = record {
-  known : IsKnown (take l.event-index l.events) l.walk.clocks.items l.walk.lift l.walk.last l.walk.takes
+  known : IsKnown (take l.event-index l.events) l.walk.clocks.items l.walk.lift l.walk.last
+      l.walk.takes
       l.walk.tokens;
   count : length l.ways.items ≡ l.event-index;
   ways : (i : ℕ) (e : Seen) (w : Way) → slice_get l.events i ≡ Some e

@@ -16,7 +16,8 @@ returns-in-Ok-clause-performed g c =
 pub returns-in-Err-clause-performed : goal.returns-in-Err-clause-performed
 returns-in-Err-clause-performed g c =
     performs (completed_means c.args.form) (never_means c.args.form)
-    (tells_fault greater (call g.R.ByteSource _ _) (IsOutputOfComplete c.args.form) Faulty _ _ c.in-Err.fault
+    (tells_fault greater (call g.R.ByteSource _ _) (IsOutputOfComplete c.args.form) Faulty _ _
+    c.in-Err.fault
     c.in-Err.ensures c.tell_fault.ensures)
 
 pub returns-in-Ok-clause-long : goal.returns-in-Ok-clause-long

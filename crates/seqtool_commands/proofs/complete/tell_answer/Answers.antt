@@ -16,6 +16,7 @@ returns-in-Never g c =
       output = out;
       owed = Finds (answer.Never p i r) out (rw c.in-Never.is at c.requires)
           (IsNever p i r);
-      delivered = delivers (call g.W.ByteSink _ _) out c.send_never-sent.result _ c.send_never-sent.ensures
+      delivered = delivers (call g.W.ByteSink _ _) out c.send_never-sent.result _
+          c.send_never-sent.ensures
           c.status_of.ensures;
     }

@@ -11,7 +11,8 @@ use Rattle.seqtool_commands.specs.Complete.{Adds, Completes, HasFewProcesses, Ha
 use Rattle.seqtool_commands.specs.Complete.{added_text, long, text_of_status}
 use Rattle.seqtool_commands.specs.Parts.{CompletesTo, Finds}
 use Rattle.seqtool_commands.proofs.complete.tell_completion.Goals as goal
-use Rattle.seqtool_commands.proofs.complete.tell_completion.Goals.{else-ne-via-else-ne, else-ne-via-then-ne+else-is_long}
+use Rattle.seqtool_commands.proofs.complete.tell_completion.Goals.{else-ne-via-else-ne}
+use Rattle.seqtool_commands.proofs.complete.tell_completion.Goals.{else-ne-via-then-ne+else-is_long}
 
 few_if : (n : ℕ) (long : Bool) → (greater.processes < n → IsTrue long) → long ≡ false
     → n ≤ greater.processes
@@ -31,7 +32,8 @@ pub returns-then-is_long : goal.returns-then-is_long
 returns-then-is_long g c =
     record {
       output = long;
-      owed = Finds (answer.Whole c.args.completion.now) long c.requires (IsLong c.args.completion.now
+      owed = Finds (answer.Whole c.args.completion.now) long c.requires
+          (IsLong c.args.completion.now
           (HasProcesses (λ same. false≢true (sym (rw same at c.ne.ensures) ∙ c.if-ne.true))
           (c.is_long.ensures.0 c.if-is_long.true)));
       delivered = c.tell_line.ensures;
@@ -66,7 +68,9 @@ returns-in-Added g c =
     let out = text_of_status (added_text c.args.completion.now) 0 in
     record {
       output = out;
-      owed = Finds (answer.Whole c.args.completion.now) out c.requires (Adds c.args.completion.now c.in-Added.is);
-      delivered = delivers (call g.W.ByteSink _ _) out c.send_added-sent.result _ c.send_added-sent.ensures
+      owed = Finds (answer.Whole c.args.completion.now) out c.requires
+          (Adds c.args.completion.now c.in-Added.is);
+      delivered = delivers (call g.W.ByteSink _ _) out c.send_added-sent.result _
+          c.send_added-sent.ensures
           c.status_of.ensures;
     }

@@ -1,4 +1,5 @@
--- The acts show the streams with their unlisted processes; running out of memory has a line of its own.
+-- The acts show the streams with their unlisted processes; running out of memory has a line of its
+-- own.
 use Rattle.std.proofs.Common.{◌≡◌, ℕ, List, refl, subst, arith}
 use Rattle.st_core.specs.Run.{Shows, Stream}
 use Rattle.st_text.specs.Limits.{greater}
@@ -9,7 +10,8 @@ use Rattle.lack_decide.specs.Bounds.{IsCertificateFault}
 use Rattle.lack_decide.specs.declared.answer.Answer.TheVariants as answer
 use Rattle.lack_decide.specs.declared.answer.CertificateFault.{CertificateFault}
 use Rattle.lack_laws.specs.Silent.{with_silent}
-use Rattle.seqtool_commands.specs.Complete.{Certifies, HasActs, IsLong, IsUncertified, long, uncertified}
+use Rattle.seqtool_commands.specs.Complete.{Certifies, HasActs, IsLong, IsUncertified, long}
+use Rattle.seqtool_commands.specs.Complete.{uncertified}
 use Rattle.seqtool_commands.specs.Parts.{Finds, NoRoomToComplete}
 use Rattle.seqtool_commands.proofs.complete.tell_shown.Goals as goal
 
@@ -26,7 +28,8 @@ returns-in-Ok g c =
       output = bundled more acts;
       owed = Finds (answer.Whole c.args.completion.now) (bundled more acts) c.requires.whole
           (Certifies c.args.completion.now acts refl
-          (subst (λ (xs : List Stream). Shows top xs acts) c.requires.more c.in-Ok.ensures.certified.shows)
+          (subst (λ (xs : List Stream). Shows top xs acts) c.requires.more
+          c.in-Ok.ensures.certified.shows)
           c.in-Ok.ensures.certified.one_trace c.requires.few c.in-Ok.ensures.certified.within);
       delivered = rw (c.as_slice.ensures, c.requires.more) at c.tell_bundle.ensures;
     }
@@ -35,15 +38,18 @@ pub returns-in-Err-TooManyActs : goal.returns-in-Err-TooManyActs
 returns-in-Err-TooManyActs g c =
     record {
       output = long;
-      owed = Finds (answer.Whole c.args.completion.now) long c.requires.whole (IsLong c.args.completion.now
-          (HasActs refl (fault_is c.args.completion.now.wholes greater.acts c.in-Err-TooManyActs.ensures.fault
+      owed = Finds (answer.Whole c.args.completion.now) long c.requires.whole
+          (IsLong c.args.completion.now
+          (HasActs refl (fault_is c.args.completion.now.wholes greater.acts
+          c.in-Err-TooManyActs.ensures.fault
           c.in-Err-TooManyActs.field-0-is)));
       delivered = c.tell_line.ensures;
     }
 
 pub returns-in-Err-Uncertified : goal.returns-in-Err-Uncertified
 returns-in-Err-Uncertified g c =
-    let enough = fault_is c.args.completion.now.wholes greater.acts c.in-Err-Uncertified.ensures.fault
+    let enough = fault_is c.args.completion.now.wholes greater.acts
+    c.in-Err-Uncertified.ensures.fault
     c.in-Err-Uncertified.field-0-is in
     record {
       output = uncertified;
@@ -53,4 +59,5 @@ returns-in-Err-Uncertified g c =
     }
 
 pub returns-in-Err-Memory : goal.returns-in-Err-Memory
-returns-in-Err-Memory g c = record { output = no_memory; owed = NoRoomToComplete; delivered = c.tell_fault.ensures }
+returns-in-Err-Memory g c =
+    record { output = no_memory; owed = NoRoomToComplete; delivered = c.tell_fault.ensures }

@@ -10,7 +10,8 @@ returns-in_err-write_never g c =
     let p = c.args.pid in
     let i = c.args.index in
     let reason = c.args.never in
-    fails_as g.W.ByteSink.puts g.W.ByteSink.failed (never_parts xs p i reason) (never_text xs p i reason)
+    fails_as g.W.ByteSink.puts g.W.ByteSink.failed (never_parts xs p i reason)
+    (never_text xs p i reason)
     (never_same xs p i reason) _
     c.from_residual.ensures.0 (rw c.new-buffer.ensures at c.in_err-write_never.ensures)
 
@@ -20,6 +21,8 @@ returns g c =
     let p = c.args.pid in
     let i = c.args.index in
     let reason = c.args.never in
-    finishes_as g.W.ByteSink.puts g.W.ByteSink.failed (never_parts xs p i reason) (never_text xs p i reason)
+    finishes_as g.W.ByteSink.puts g.W.ByteSink.failed (never_parts xs p i reason)
+    (never_text xs p i reason)
     (never_same xs p i reason) _ _ c.flush.result (never_some xs p i reason)
-    (rw c.new-buffer.ensures at c.in_ok-write_never.ensures) c.flush.ensures.goes c.flush.ensures.empty
+    (rw c.new-buffer.ensures at c.in_ok-write_never.ensures) c.flush.ensures.goes
+    c.flush.ensures.empty

@@ -16,10 +16,13 @@ loop-pid-preserved g c =
 pub returns-in_err-write_added_of : goal.returns-in_err-write_added_of
 returns-in_err-write_added_of g c =
     on_err _ _ _ _ c.from_residual.ensures.0
-    (one_failed g.W.ByteSink.puts g.W.ByteSink.failed (added_of c.args.completion.now.wholes) c.args.pids.now
-    c.loop-pid.pid-index _ refl c.loop-pid-test.true c.loop-pid.invariant c.in_err-write_added_of.ensures)
+    (one_failed g.W.ByteSink.puts g.W.ByteSink.failed (added_of c.args.completion.now.wholes)
+    c.args.pids.now
+    c.loop-pid.pid-index _ refl c.loop-pid-test.true c.loop-pid.invariant
+    c.in_err-write_added_of.ensures)
 
 pub returns : goal.returns
 returns g c =
-    all_done g.W.ByteSink.puts g.W.ByteSink.failed (added_of c.args.completion.now.wholes) c.args.pids.now
+    all_done g.W.ByteSink.puts g.W.ByteSink.failed (added_of c.args.completion.now.wholes)
+    c.args.pids.now
     c.loop-pid.pid-index refl c.loop-pid-test.false c.loop-pid.invariant

@@ -19,7 +19,8 @@ returns-in_err-write_event g c =
     let first = never_line c.args.pid c.args.index c.args.never in
     let event = event_line c.args.streams.now c.args.pid c.args.index in
     let rest = other_line c.args.streams.now c.args.pid c.args.never in
-    let part = part_then g.W.ByteSink.puts g.W.ByteSink.failed first event c.in_ok-write_line.ensures
+    let part = part_then g.W.ByteSink.puts g.W.ByteSink.failed first event
+    c.in_ok-write_line.ensures
     c.in_err-write_event.ensures in
     on_err _ _ _ _ c.from_residual-in_err-write_event.ensures.0
     (part_longer g.W.ByteSink.puts g.W.ByteSink.failed (first ++ event) rest _ part)
@@ -29,7 +30,8 @@ returns g c =
     let first = never_line c.args.pid c.args.index c.args.never in
     let event = event_line c.args.streams.now c.args.pid c.args.index in
     let rest = other_line c.args.streams.now c.args.pid c.args.never in
-    let begun = goes_then g.W.ByteSink.puts g.W.ByteSink.failed first event c.in_ok-write_line.ensures
+    let begun = goes_then g.W.ByteSink.puts g.W.ByteSink.failed first event
+    c.in_ok-write_line.ensures
     c.in_ok-write_event.ensures in
     then_on g.W.ByteSink.puts g.W.ByteSink.failed
     (first ++ event) rest _ _ c.write_other.result begun c.write_other.ensures

@@ -9,14 +9,16 @@ loop-pid-init g c = goes_still g.W.ByteSink.puts g.W.ByteSink.failed
 
 pub loop-pid-preserved : goal.loop-pid-preserved
 loop-pid-preserved g c =
-    one_more g.W.ByteSink.puts g.W.ByteSink.failed unlisted_line c.args.pids.now c.loop-pid.pid-index
+    one_more g.W.ByteSink.puts g.W.ByteSink.failed unlisted_line c.args.pids.now
+    c.loop-pid.pid-index
     _ c.loop-pid-test.true c.loop-pid.invariant c.in_ok-write_line.ensures
 
 pub returns-in_err-write_line : goal.returns-in_err-write_line
 returns-in_err-write_line g c =
     on_err _ _ _ _ c.from_residual.ensures.0
     (one_failed g.W.ByteSink.puts g.W.ByteSink.failed unlisted_line c.args.pids.now
-    c.loop-pid.pid-index _ refl c.loop-pid-test.true c.loop-pid.invariant c.in_err-write_line.ensures)
+    c.loop-pid.pid-index _ refl c.loop-pid-test.true c.loop-pid.invariant
+    c.in_err-write_line.ensures)
 
 pub returns : goal.returns
 returns g c =

@@ -14,4 +14,9 @@ returns-in-Ok g c =
     }
 
 pub returns-in-Err : goal.returns-in-Err
-returns-in-Err g c = record { output = no_memory; owed = NoRoomToRenumber; delivered = c.tell_fault.ensures }
+returns-in-Err g c = record {
+  output = no_memory;
+  owed = NoRoomToRenumber;
+  delivered =
+      c.tell_fault.ensures;
+}

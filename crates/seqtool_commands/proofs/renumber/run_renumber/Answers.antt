@@ -33,4 +33,5 @@ pub returns-in-Ok-clause-refused : goal.returns-in-Ok-clause-refused
 returns-in-Ok-clause-refused g c = says 2 (λ same. cc) refused_means (returns-in-Ok-clause-told g c)
 
 pub returns-in-Err-clause-refused : goal.returns-in-Err-clause-refused
-returns-in-Err-clause-refused g c = says 2 (λ same. cc) refused_means (returns-in-Err-clause-told g c)
+returns-in-Err-clause-refused g c =
+    says 2 (λ same. cc) refused_means (returns-in-Err-clause-told g c)

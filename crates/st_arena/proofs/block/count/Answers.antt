@@ -1,4 +1,5 @@
--- The marks so far and the next one are one live slot each at most, and a slice has no more than fit.
+-- The marks so far and the next one are one live slot each at most, and a slice has no more than
+-- fit.
 use Rattle.std.proofs.Common.{◌+◌, ◌≤◌, ◌<◌, length, arith}
 use Rattle.st_arena.proofs.BlockLemmas.{rank-most}
 use Rattle.st_arena.proofs.block.count.Goals as goal

@@ -5,7 +5,8 @@ use Rattle.st_arena.proofs.block.place_of.Given as goal
 
 -- what is left and the live slots that were passed make up what is wanted
 abbrev pub invariant-loop-left : goal.invariant-loop-left
-invariant-loop-left l = (l.left + sum (take l.place l.marks) ≡ l.fn.wanted) × (l.place ≤ length l.marks)
+invariant-loop-left l = (l.left + sum (take l.place l.marks) ≡ l.fn.wanted)
+    × (l.place ≤ length l.marks)
 
 abbrev pub decreases-loop-left : goal.decreases-loop-left
 decreases-loop-left l = length l.marks - l.place

@@ -9,7 +9,8 @@ pub returns : goal.returns
 returns c =
     let marks = c.args.marks.now in
     let block = c.args.slot / 64 in
-    let inside : block ≤ wide c.args.height = omega (arith, c.requires.in_range, c.requires.counted.len) in
+    let inside : block ≤ wide c.args.height =
+    omega (arith, c.requires.in_range, c.requires.counted.len) in
     let leaves = ap (λ n. sums (count_at c.args.counts.now) n block) c.requires.size in
     let front = c.requires.counted.blocks block inside in
     let split = sum-split marks (block * 64) (c.args.slot - block * 64) in
@@ -21,7 +22,8 @@ pub overflow_add-result : goal.overflow_add-result
 overflow_add-result c =
     let marks = c.args.marks.now in
     let block = c.args.slot / 64 in
-    let inside : block ≤ wide c.args.height = omega (arith, c.requires.in_range, c.requires.counted.len) in
+    let inside : block ≤ wide c.args.height =
+    omega (arith, c.requires.in_range, c.requires.counted.len) in
     let leaves = ap (λ n. sums (count_at c.args.counts.now) n block) c.requires.size in
     let front = c.requires.counted.blocks block inside in
     let split = sum-split marks (block * 64) (c.args.slot - block * 64) in

@@ -14,8 +14,10 @@ select_in-block-requires-clause-there c =
 pub place_of-requires-clause-there : goal.place_of-requires-clause-there
 place_of-requires-clause-there c =
     let block = c.select_in-block.result.0 in
-    let inside : block < wide c.args.height = omega (arith, c.select_in-block.ensures.in_range, c.requires.size) in
-    let holds = block-sum c.args.marks.now c.args.counts.now c.args.height c.requires.counted block inside in
+    let inside : block < wide c.args.height =
+    omega (arith, c.select_in-block.ensures.in_range, c.requires.size) in
+    let holds = block-sum c.args.marks.now c.args.counts.now c.args.height c.requires.counted block
+    inside in
     let leaf = ap (λ n. count_at c.args.counts.now (n + block)) c.requires.size in
     let width : block * 64 + 64 - block * 64 ≡ 64 = omega arith in
     let cut = ap (λ n. sum (take n (drop (block * 64) c.args.marks.now))) width in
@@ -25,7 +27,8 @@ pub returns-clause-rank : goal.returns-clause-rank
 returns-clause-rank c =
     let marks = c.args.marks.now in
     let block = c.select_in-block.result.0 in
-    let inside : block ≤ wide c.args.height = omega (arith, c.select_in-block.ensures.in_range, c.requires.size) in
+    let inside : block ≤ wide c.args.height =
+    omega (arith, c.select_in-block.ensures.in_range, c.requires.size) in
     let leaves = ap (λ n. sums (count_at c.args.counts.now) n block) c.requires.size in
     let front = c.requires.counted.blocks block inside in
     let split = sum-split marks (block * 64) c.place_of.result in
@@ -36,4 +39,13 @@ returns-clause-rank c =
     let there : place ≤ 64 = omega (arith, width, short, c.place_of.ensures.in_range) in
     let same = ap sum (take-take place 64 (drop (block * 64) marks) there) in
     let rank = ap (λ l. sum (take place l)) (sym cut) in
-    omega (arith, leaves, front, split, same, rank, c.place_of.ensures.rank, c.select_in-block.ensures.before)
+    omega (
+      arith,
+      leaves,
+      front,
+      split,
+      same,
+      rank,
+      c.place_of.ensures.rank,
+      c.select_in-block.ensures.before,
+    )

@@ -10,7 +10,8 @@ count_down-requires-clause-live c =
     let inside : block < wide c.args.height =
     omega (arith, c.requires.in_range, c.requires.counted.len) in
     let leaf =
-    leaf-some c.args.marks.now c.args.counts.now c.args.height c.requires.counted block c.args.slot inside (omega arith)
+    leaf-some c.args.marks.now c.args.counts.now c.args.height c.requires.counted block c.args.slot
+    inside (omega arith)
     (omega arith) c.requires.live in
     let at = ap (λ size. count_at c.args.counts.now (size + block)) c.requires.size in
     omega (arith, leaf, at)
@@ -27,6 +28,7 @@ returns-clause-counted c =
     let old_at = ap (λ n. count_at old (n + block)) size in
     let changed = c.count_down.ensures.less in
     counted-set c.args.marks.now old new c.args.height block c.args.slot 1 0 c.requires.counted
-    c.count_down.ensures.tree (omega arith) (omega arith) c.requires.in_range c.requires.live (omega arith)
+    c.count_down.ensures.tree (omega arith) (omega arith) c.requires.in_range c.requires.live
+    (omega arith)
     (omega (arith, changed.less, new_at, old_at))
     (λ other low apart. rw (← size) (changed.others other (omega (arith, size, low)) apart))

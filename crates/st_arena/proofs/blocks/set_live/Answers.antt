@@ -10,7 +10,8 @@ count_up-requires-clause-room c =
     let inside : block < wide c.args.height =
     omega (arith, c.requires.in_range, c.requires.counted.len) in
     let leaf =
-    leaf-room c.args.marks.now c.args.counts.now c.args.height c.requires.counted block c.args.slot inside (omega arith)
+    leaf-room c.args.marks.now c.args.counts.now c.args.height c.requires.counted block c.args.slot
+    inside (omega arith)
     (omega arith) c.requires.dead in
     let at = ap (λ size. count_at c.args.counts.now (size + block)) c.requires.size in
     omega (arith, leaf, at)
@@ -27,6 +28,7 @@ returns-clause-counted c =
     let old_at = ap (λ n. count_at old (n + block)) size in
     let changed = c.count_up.ensures.more in
     counted-set c.args.marks.now old new c.args.height block c.args.slot 0 1 c.requires.counted
-    c.count_up.ensures.tree (omega arith) (omega arith) c.requires.in_range c.requires.dead (omega arith)
+    c.count_up.ensures.tree (omega arith) (omega arith) c.requires.in_range c.requires.dead
+    (omega arith)
     (omega (arith, changed.more, new_at, old_at))
     (λ other low apart. rw (← size) (changed.others other (omega (arith, size, low)) apart))

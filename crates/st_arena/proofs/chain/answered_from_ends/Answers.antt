@@ -34,7 +34,8 @@ returns-then-pred-clause-found g c =
 pub index-far-requires : goal.index-far-requires
 index-far-requires g c =
     let k = c.args.ends.len - 1 - c.loop-place.place in
-    rw (c.loop-place.invariant.1 k (omega arith)) (held_after _ _ c.requires.chained k (omega arith))
+    rw (c.loop-place.invariant.1 k (omega arith))
+    (held_after _ _ c.requires.chained k (omega arith))
 
 pub returns-then-pred-2-clause-found : goal.returns-then-pred-2-clause-found
 returns-then-pred-2-clause-found g c =
@@ -68,7 +69,12 @@ loop-place-preserved g c =
                 item_after slots c.args.ends c.requires.chained place (omega arith)
                 ∙ ap (λ k. value_in (slots k)) (sym c.loop-place.invariant.0)
                 ∙ ap value_in c.index-near.ensures;
-            answered = record { shown = _; shows = refl; says = record { met = c.if-pred.ensures } };
+            answered = record {
+              shown = _;
+              shows = refl;
+              says =
+                  record { met = c.if-pred.ensures };
+            };
           }),
       λ k within past. elim (cases_lt (k + place) c.args.ends.len) [
         | inr beyond ↦ c.loop-place.invariant.3 k within (omega (arith, beyond))
@@ -76,9 +82,15 @@ loop-place-preserved g c =
           item = c.index-far.result.now.value;
           is_there =
               item_after slots c.args.ends c.requires.chained k within
-              ∙ ap (λ x. value_in (slots x)) (sym (c.loop-place.invariant.1 k (omega (arith, here, past))))
+              ∙ ap (λ x. value_in (slots x))
+              (sym (c.loop-place.invariant.1 k (omega (arith, here, past))))
               ∙ ap value_in c.index-far.ensures;
-          answered = record { shown = _; shows = refl; says = record { met = c.if-pred-2.ensures } };
+          answered = record {
+            shown = _;
+            shows = refl;
+            says =
+                record { met = c.if-pred-2.ensures };
+          };
         }
       ],
     )

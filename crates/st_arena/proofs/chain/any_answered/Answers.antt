@@ -5,4 +5,5 @@ use Rattle.st_arena.proofs.chain.any_answered.Goals as goal
 
 pub first_answered-requires-clause-whole : goal.first_answered-requires-clause-whole
 first_answered-requires-clause-whole g c =
-    length-values_of (get c.args.nodes.now) c.args.ends c.requires.chained.key c.requires.chained.chain
+    length-values_of (get c.args.nodes.now) c.args.ends c.requires.chained.key
+    c.requires.chained.chain

@@ -9,6 +9,7 @@ use Rattle.st_arena.proofs.chain.first_answered.Given as goal
 -- the items from the key on are those that are left, and each one before was answered false
 abbrev pub invariant-loop-place : goal.invariant-loop-place
 invariant-loop-place g l =
-    (values_from (get l.nodes) (l.fn.ends.len - l.place) l.key ≡ drop l.place (values_of (get l.nodes) l.fn.ends))
+    (values_from (get l.nodes) (l.fn.ends.len - l.place) l.key
+    ≡ drop l.place (values_of (get l.nodes) l.fn.ends))
     × ((place : ℕ) → place < l.place
     → IsAnswered (FnReturnsAt g.F.Fn l.pred) (values_of (get l.nodes) l.fn.ends) place false)

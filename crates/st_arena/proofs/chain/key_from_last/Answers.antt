@@ -13,7 +13,8 @@ loop-at-init g c = (
 )
 
 pub index-requires : goal.index-requires
-index-requires g c = rw c.loop-at.invariant.0 (held_after _ _ c.requires.chained c.loop-at.at c.loop-at.invariant.2)
+index-requires g c = rw c.loop-at.invariant.0
+    (held_after _ _ c.requires.chained c.loop-at.at c.loop-at.invariant.2)
 
 pub loop-at-preserved : goal.loop-at-preserved
 loop-at-preserved g c =

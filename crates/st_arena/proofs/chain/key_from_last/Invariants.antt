@@ -7,7 +7,8 @@ use Rattle.st_arena.proofs.chain.key_from_last.Given as goal
 -- the key is that of the node at the place that the loop has come back to
 abbrev pub invariant-loop-at : goal.invariant-loop-at
 invariant-loop-at g l =
-    (l.key ≡ key_after (get l.nodes) l.fn.ends.first l.at) × (l.place ≤ l.at) × (l.at < l.fn.ends.len)
+    (l.key ≡ key_after (get l.nodes) l.fn.ends.first l.at) × (l.place ≤ l.at)
+    × (l.at < l.fn.ends.len)
 
 abbrev pub decreases-loop-at : goal.decreases-loop-at
 decreases-loop-at g l = l.at

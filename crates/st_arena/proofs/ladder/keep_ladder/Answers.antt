@@ -20,9 +20,11 @@ returns-in-Some g c =
           if_ok (λ l. l ≡ wanted) w.new.result c.in-Some.ladder w.new.ensures
           (sym w.ok-ladder.ensures.value ∙ sym w.ladder-is ∙ c.in-Some.is)
       | in_default-2 w ↦
-          if_some (λ l. l ≡ wanted) c.args.ladder c.in-Some.ladder c.requires.ladder (sym w.ladder-is ∙ c.in-Some.is)
+          if_some (λ l. l ≡ wanted) c.args.ladder c.in-Some.ladder c.requires.ladder
+          (sym w.ladder-is ∙ c.in-Some.is)
       | in_default w ↦
-          if_some (λ l. l ≡ wanted) c.args.ladder c.in-Some.ladder c.requires.ladder (sym w.ladder-is ∙ c.in-Some.is)
+          if_some (λ l. l ≡ wanted) c.args.ladder c.in-Some.ladder c.requires.ladder
+          (sym w.ladder-is ∙ c.in-Some.is)
     ] in
     either_way _ _ (KeepsLadder old new c.args.list wanted) c.insert.result c.insert.ensures.updates
     c.insert.ensures.err

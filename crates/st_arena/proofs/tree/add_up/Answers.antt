@@ -30,7 +30,8 @@ overflow_add-counts-in-loop-node-3 c =
     c.requires.few in
     let right : node + node + 1 ≡ suc (node + node) = omega arith in
     let at = ap (count_at counts) right in
-    let most : count_at counts (node + node) + count_at counts (node + node + 1) ≤ 2 ^ 60 = omega (arith, bound, at) in
+    let most : count_at counts (node + node) + count_at counts (node + node + 1) ≤ 2 ^ 60 =
+    omega (arith, bound, at) in
     search (arith, most)
 
 pub loop-node-preserved : goal.loop-node-preserved

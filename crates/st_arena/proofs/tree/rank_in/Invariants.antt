@@ -6,7 +6,8 @@ use Rattle.st_arena.proofs.tree.rank_in.Given as goal
 -- what was added, and what is before the place on this level, make up what is before the slot
 abbrev pub invariant-loop-level : goal.invariant-loop-level
 invariant-loop-level l =
-    (l.sum + sums (count_at l.counts) l.start l.place ≡ sums (count_at l.counts) l.fn.size l.fn.block)
+    (l.sum + sums (count_at l.counts) l.start l.place
+    ≡ sums (count_at l.counts) l.fn.size l.fn.block)
     × (l.start ≡ wide l.level)
     × (l.place < l.start)
     × (l.level ≤ l.fn.height)

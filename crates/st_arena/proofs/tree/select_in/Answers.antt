@@ -11,7 +11,8 @@ bounds-counts-start c =
     ap (λ s. s + s) c.loop-level.invariant.2 in
     within c.args.counts.now c.args.height c.requires.tree (suc c.loop-level.level)
     (c.loop-level.start + c.loop-level.start)
-    (c.loop-level.place + c.loop-level.place) (omega arith) two (omega (arith, c.loop-level.invariant.3))
+    (c.loop-level.place + c.loop-level.place) (omega arith) two
+    (omega (arith, c.loop-level.invariant.3))
 
 pub loop-level-preserved : goal.loop-level-preserved
 loop-level-preserved c =
@@ -22,7 +23,8 @@ loop-level-preserved c =
     let two : start + start ≡ wide (c.loop-level.level + 1) =
     ap (λ s. s + s) c.loop-level.invariant.2 ∙ sym (ap wide next) in
     let step =
-    down c.args.counts.now c.args.height c.requires.tree c.loop-level.level start place (omega arith)
+    down c.args.counts.now c.args.height c.requires.tree c.loop-level.level start place
+    (omega arith)
     c.loop-level.invariant.2 c.loop-level.invariant.3 in
     elim c.if-left-lesser.branch [
       | then-left-lesser w ↦
@@ -40,9 +42,11 @@ loop-level-preserved c =
             omega arith,
           )
       | else-left-lesser w ↦
-          let total : sums f (start + start) c.if-left-lesser.place ≡ sums f (start + start) (place + place) =
+          let total : sums f (start + start) c.if-left-lesser.place
+          ≡ sums f (start + start) (place + place) =
           ap (sums f (start + start)) w.place-is in
-          let at : f ((start + start) + c.if-left-lesser.place) ≡ f ((start + start) + (place + place)) =
+          let at : f ((start + start) + c.if-left-lesser.place)
+          ≡ f ((start + start) + (place + place)) =
           ap (λ p. f ((start + start) + p)) w.place-is in (
             omega (arith, w.left-is, total, step, c.loop-level.invariant.0),
             omega (arith, w.left-is, w.if-left-lesser.false, at),

@@ -20,12 +20,14 @@ returns-clause-handed_on g c =
 pub returns-clause-rules_out : goal.returns-clause-rules_out
 returns-clause-rules_out g c =
     IfOk-weaker c.finding_of.result _ _
-    (λ found is. finding_rules_out g.row.TOP c.args.streams.now found (findings_hold g.row.TOP c.args.streams.now found
+    (λ found is. finding_rules_out g.row.TOP c.args.streams.now found
+    (findings_hold g.row.TOP c.args.streams.now found
     c.finding_of.ensures.streams is))
     c.finding_of.ensures.exact
 
 pub returns-clause-certain : goal.returns-clause-certain
 returns-clause-certain g c =
     IfOk-weaker c.finding_of.result _ _
-    (λ found is certain. certain_streams_fit g.row.TOP c.args.streams.now found c.finding_of.ensures.streams certain is)
+    (λ found is certain. certain_streams_fit g.row.TOP c.args.streams.now found
+    c.finding_of.ensures.streams certain is)
     c.finding_of.ensures.exact

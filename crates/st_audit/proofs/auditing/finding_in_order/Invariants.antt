@@ -9,6 +9,7 @@ abbrev pub invariant-loop-number : goal.invariant-loop-number
 invariant-loop-number g l =
     record {
       so_far : IsSoFar l.streams (earlier_of l.streams (take l.number l.items)) l.construction;
-      way : IsOnCourse g.row.TOP l.streams l.items l.number l.construction.world l.construction.acts;
+      way : IsOnCourse g.row.TOP l.streams l.items l.number l.construction.world
+          l.construction.acts;
       matched : IsMatched l.streams l.construction;
     }

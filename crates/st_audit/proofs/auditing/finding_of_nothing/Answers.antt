@@ -13,7 +13,8 @@ unreachable-requires-in-Ok-Left g c =
     let streams = c.args.streams.now in
     let told = c.in-Ok-Left.field-0 in
     let is : IsVerdict top streams [] (verdict_of told) =
-    subst (λ acts. IsVerdict top streams acts (verdict_of told)) (c.as_slice.ensures ∙ c.new-acts.ensures)
+    subst (λ acts. IsVerdict top streams acts (verdict_of told))
+    (c.as_slice.ensures ∙ c.new-acts.ensures)
     c.in-Ok-Left.ensures.verdict in
     accepts_nothing top streams (verdict_of told) c.requires is
     (subst (λ (v : Verdict). IsNo (verdict_of v)) (sym c.in-Ok-Left.field-0-is) tt)

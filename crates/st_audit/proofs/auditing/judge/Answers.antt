@@ -9,6 +9,7 @@ returns g c =
     let streams = c.args.streams.now in
     record {
       exact = c.finding_by.ensures g.row.TOP streams
-          (subst (λ acts. IsVerdict g.row.TOP streams acts (verdict_of c.in-Ok.verdict)) c.as_slice.ensures
+          (subst (λ acts. IsVerdict g.row.TOP streams acts (verdict_of c.in-Ok.verdict))
+          c.as_slice.ensures
           c.in-Ok.ensures.verdict);
     }

@@ -1,4 +1,5 @@
--- As long as acts are compared, what is kept moves with the act; if it doesn't pass, nothing is kept any more.
+-- As long as acts are compared, what is kept moves with the act; if it doesn't pass, nothing is
+-- kept any more.
 use Rattle.std.proofs.Common.{IfSome, subst}
 use Rattle.std.proofs.lemmas.Bool.{MatchBool-at_true}
 use Rattle.st_check.specs.Progress.{IsPassedBy}
@@ -6,5 +7,7 @@ use Rattle.st_audit.proofs.construction.compare.Goals as goal
 
 pub returns-then-passes : goal.returns-then-passes
 returns-then-passes c = λ top acts old new number passed steps.
-    let kept = subst (λ x. IfSome x (IsPassedBy top c.args.streams.now acts old)) c.in-Some.is passed in
-    MatchBool-at_true _ _ c.if-passes.true (c.in_ok-passes.ensures top acts old new number kept steps)
+    let kept = subst (λ x. IfSome x (IsPassedBy top c.args.streams.now acts old)) c.in-Some.is
+    passed in
+    MatchBool-at_true _ _ c.if-passes.true
+    (c.in_ok-passes.ensures top acts old new number kept steps)

@@ -1,4 +1,5 @@
--- The backs at a process's place are those of its stream, so the one at the event's index is the event's.
+-- The backs at a process's place are those of its stream, so the one at the event's index is the
+-- event's.
 use Rattle.std.proofs.Common.{sym, ◌∙◌, ap, slice_get, List}
 use Rattle.std.proofs.lemmas.Option.{none-some}
 use Rattle.st_core.specs.declared.types.Event.{Event}
@@ -13,5 +14,6 @@ returns-in-None c = λ e there stamps.
 
 pub returns-in-Some : goal.returns-in-Some
 returns-in-Some c = λ e there stamps. (rw c.as_slice.ensures at c.back_at.ensures)
-    ∙ back_read c.args.streams.now c.args.pid _ c.args.index _ _ e c.requires.sound.draft.rising c.requires.backs
+    ∙ back_read c.args.streams.now c.args.pid _ c.args.index _ _ e c.requires.sound.draft.rising
+    c.requires.backs
     c.in-Some.ensures.found c.index-backs-place.is there stamps

@@ -10,7 +10,8 @@ use Rattle.st_chain.proofs.label_table.list_events.Goals as goal
 use Rattle.st_chain.proofs.label_table.list_events.Goals.{in-Some+in_ok-push_back, in_default}
 
 pub push_back-requires : goal.push_back-requires
-push_back-requires c = rw c.loop-i.invariant.count (c.requires.within _ _ (sym c.in-Some.ensures.value))
+push_back-requires c = rw c.loop-i.invariant.count
+    (c.requires.within _ _ (sym c.in-Some.ensures.value))
 
 pub loop-i-preserved : goal.loop-i-preserved
 loop-i-preserved c =
@@ -21,12 +22,15 @@ loop-i-preserved c =
     let number = get chain_key_cmp c.args.numbers.now in
     elim c.match-get.branch [
       | in-Some+in_ok-push_back w ↦
-          let pushes = ap (λ (a : Arena ℕ). a.lists) w.lists-is ∙ w.in_ok-push_back.ensures.pushed in
+          let pushes = ap (λ (a : Arena ℕ). a.lists) w.lists-is
+          ∙ w.in_ok-push_back.ensures.pushed in
           record {
-            count = ap (λ (l : List (List ℕ)). length l) pushes ∙ length-set c.loop-i.lists.lists _ _
+            count = ap (λ (l : List (List ℕ)). length l) pushes ∙ length-set c.loop-i.lists.lists _
+                _
                 ∙ c.loop-i.invariant.count;
             listed = λ key n has.
-                pushed c.args.pid i es e at key number n has c.loop-i.lists.lists c.match-get.lists.lists _ _ _
+                pushed c.args.pid i es e at key number n has c.loop-i.lists.lists
+                c.match-get.lists.lists _ _ _
                 c.requires c.loop-i.invariant.count (sym w.in-Some.ensures.value) pushes
                 (c.loop-i.invariant.listed key n has);
           }

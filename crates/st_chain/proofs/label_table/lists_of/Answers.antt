@@ -19,6 +19,7 @@ returns-clause-listed c = λ key n has.
     let list = list_at c.loop-pid.lists n in
     sym (append-nil list)
     ∙ ap (λ (l : List ℕ). list ++ l)
-    (sym (parts_end c.args.streams.now _ _ key c.pids-pid-items.ensures.value c.loop-pid-test.false))
+    (sym (parts_end c.args.streams.now _ _ key c.pids-pid-items.ensures.value
+    c.loop-pid-test.false))
     ∙ c.loop-pid.invariant.listed key n has
     ∙ parts_are c.args.streams.now key c.pids-pid-items.ensures.streams.draft.rising

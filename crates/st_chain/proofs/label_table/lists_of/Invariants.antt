@@ -1,4 +1,5 @@
--- So far each number's list has what the taken streams have under its key, and what is still to come completes it.
+-- So far each number's list has what the taken streams have under its key, and what is still to
+-- come completes it.
 use Rattle.std.proofs.Common.{◌≡◌, ℕ, Some, ◌++◌, drop, length}
 use Rattle.std.specs.BTreeMap.{btree_map_len, get}
 use Rattle.st_arena.specs.Arena.{list_at}
@@ -11,5 +12,6 @@ abbrev pub invariant-loop-pid : goal.invariant-loop-pid
 invariant-loop-pid l = record {
   count : length l.lists.lists ≡ btree_map_len l.numbers;
   listed : (key : ChainKey) (n : ℕ) → get chain_key_cmp l.numbers key ≡ Some n
-      → list_at l.lists n ++ listed_under (drop l.pid-index l.streams) key ≡ listed_under l.streams key;
+      → list_at l.lists n ++ listed_under (drop l.pid-index l.streams) key
+      ≡ listed_under l.streams key;
 }

@@ -11,5 +11,6 @@ invariant-loop-event l = record {
   numbered : AreNumbers (get chain_key_cmp l.numbers) (btree_map_len l.numbers);
   missing : (key : ChainKey) → get chain_key_cmp l.numbers key ≡ None
       → (get chain_key_cmp l.initial.numbers key ≡ None)
-      × (part_from l.pid l.event-index (drop l.event-index l.events) key ≡ part_from l.pid 0 l.events key);
+      × (part_from l.pid l.event-index (drop l.event-index l.events) key
+      ≡ part_from l.pid 0 l.events key);
 }

@@ -1,4 +1,5 @@
--- A receive becomes the last one, and has no back; the back of a send or print is found among the receives before it.
+-- A receive becomes the last one, and has no back; the back of a send or print is found among the
+-- receives before it.
 use Rattle.std.proofs.Common.{◌≡◌, ◌+◌, ◌∙◌, ap, arith, cond, get_or, None, sym, subst, true, Bool}
 use Rattle.std.proofs.lemmas.Grind.{common_steps}
 use Rattle.st_pair.specs.Places.{is_stamp}
@@ -27,7 +28,8 @@ loop-i-preserved c =
             passed = subst (ArePassed es (i + 1)) (sym w.passed-is)
                 (receive_passed es i e at c.loop-i.passed c.loop-i.invariant.passed receives);
             found = rw (w.found-is, w.in_ok-push-in-Receive.ensures.items)
-                (backs_passed es i e c.loop-i.found.items all None at none c.loop-i.invariant.found);
+                (backs_passed es i e c.loop-i.found.items all None at none
+                c.loop-i.invariant.found);
           }
       | in-Send+in_ok-find-in-Send+in_ok-push-in-Send w ↦
           let stamps : is_stamp e ≡ true = grind (arith, common_steps, w.in-Send.is) in

@@ -8,5 +8,6 @@ use Rattle.st_chain.proofs.receives.backs.Given as goal
 abbrev pub invariant-loop-i : goal.invariant-loop-i
 invariant-loop-i l = record {
   passed : ArePassed l.events l.i l.passed;
-  found : l.found.items ++ backs_from l.events l.i (drop l.i l.events) ≡ backs_from l.events 0 l.events;
+  found : l.found.items ++ backs_from l.events l.i (drop l.i l.events)
+      ≡ backs_from l.events 0 l.events;
 }

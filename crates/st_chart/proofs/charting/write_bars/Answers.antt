@@ -30,10 +30,12 @@ returns-in_err-put_on g c =
     let run = c.min-run.result in
     let upto : run ≤ left = omega (arith, c.min-run.ensures) in
     on_err _ _ _ _ c.from_residual.ensures.0
-    (bars_failed g.W.ByteSink.puts g.W.ByteSink.failed c.args.count left run c.loop-left.invariant.0 upto
+    (bars_failed g.W.ByteSink.puts g.W.ByteSink.failed c.args.count left run c.loop-left.invariant.0
+    upto
     c.loop-left.invariant.1 (rw c.bars_of.ensures at c.in_err-put_on.ensures))
 
 pub returns : goal.returns
 returns g c =
-    let all : c.args.count ≡ c.args.count - c.loop-left.left = omega (arith, c.loop-left-test.false) in
+    let all : c.args.count ≡ c.args.count - c.loop-left.left =
+    omega (arith, c.loop-left-test.false) in
     rw all c.loop-left.invariant.1

@@ -41,5 +41,6 @@ returns g c =
     let begun =
     goes_then g.W.ByteSink.puts g.W.ByteSink.failed first lanes c.in_ok-write_label.ensures
     c.in_ok-write_lanes.ensures in
-    then_on g.W.ByteSink.puts g.W.ByteSink.failed (first ++ lanes) rest _ _ c.write_items.result begun
+    then_on g.W.ByteSink.puts g.W.ByteSink.failed (first ++ lanes) rest _ _ c.write_items.result
+    begun
     (rw same at c.write_items.ensures)

@@ -9,7 +9,8 @@ loop-lane-init g c = goes_still g.W.ByteSink.puts g.W.ByteSink.failed
 
 pub loop-lane-preserved : goal.loop-lane-preserved
 loop-lane-preserved g c =
-    one_more g.W.ByteSink.puts g.W.ByteSink.failed (mark c.args.charted.now) c.args.lanes.now c.loop-lane.lane-index _
+    one_more g.W.ByteSink.puts g.W.ByteSink.failed (mark c.args.charted.now) c.args.lanes.now
+    c.loop-lane.lane-index _
     c.loop-lane-test.true c.loop-lane.invariant (rw c.mark_of.ensures at c.in_ok-put_on.ensures)
 
 pub returns-in_err-put_on : goal.returns-in_err-put_on
@@ -21,5 +22,6 @@ returns-in_err-put_on g c =
 
 pub returns : goal.returns
 returns g c =
-    all_done g.W.ByteSink.puts g.W.ByteSink.failed (mark c.args.charted.now) c.args.lanes.now c.loop-lane.lane-index
+    all_done g.W.ByteSink.puts g.W.ByteSink.failed (mark c.args.charted.now) c.args.lanes.now
+    c.loop-lane.lane-index
     refl c.loop-lane-test.false c.loop-lane.invariant

@@ -7,5 +7,6 @@ use Rattle.st_chart.proofs.charting.write_each_mark.Given as goal
 
 abbrev pub invariant-loop-lane : goal.invariant-loop-lane
 invariant-loop-lane g l =
-    Goes g.W.ByteSink.puts g.W.ByteSink.failed (flat_map (mark l.charted) (take l.lane-index l.lanes))
+    Goes g.W.ByteSink.puts g.W.ByteSink.failed
+    (flat_map (mark l.charted) (take l.lane-index l.lanes))
     l.initial.writer l.writer l.initial.page.waits.items l.page.waits.items

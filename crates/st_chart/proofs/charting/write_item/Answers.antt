@@ -19,5 +19,6 @@ returns g c =
     let s = c.args.sheet.now in
     let marks = flat_map (mark c.args.charted.now) s.lanes.now in
     let words = ended_line (codes "  " ++ item_words s.causes.now c.args.charted.now) in
-    then_on g.W.ByteSink.puts g.W.ByteSink.failed marks words _ _ c.put_on.result c.in_ok-write_marks.ensures
+    then_on g.W.ByteSink.puts g.W.ByteSink.failed marks words _ _ c.put_on.result
+    c.in_ok-write_marks.ensures
     (rw (c.as_slice.ensures.value, c.put_item.ensures, c.clear.ensures) at c.put_on.ensures)

@@ -9,7 +9,8 @@ use Rattle.st_chart.proofs.charting.write_run.Goals as goal
 pub returns-in_default : goal.returns-in_default
 returns-in_default g c =
     let empty = rw c.in_default.is at c.split_last.ensures.cases in
-    rw (no_marks c.args.charted.now c.args.lanes.now empty) (goes_still g.W.ByteSink.puts g.W.ByteSink.failed)
+    rw (no_marks c.args.charted.now c.args.lanes.now empty)
+    (goes_still g.W.ByteSink.puts g.W.ByteSink.failed)
 
 pub returns-in_err-write_bars : goal.returns-in_err-write_bars
 returns-in_err-write_bars g c =
@@ -18,7 +19,8 @@ returns-in_err-write_bars g c =
     let parts = rw c.in-Some.is at c.split_last.ensures.cases in
     let marks = run_marks c.args.charted.now c.args.lanes.now others last c.requires parts.0 in
     rw (sym marks) (on_err _ _ _ _ c.from_residual.ensures.0
-    (part_longer g.W.ByteSink.puts g.W.ByteSink.failed (bars (length others)) (mark c.args.charted.now last) _
+    (part_longer g.W.ByteSink.puts g.W.ByteSink.failed (bars (length others))
+    (mark c.args.charted.now last) _
     c.in_err-write_bars.ensures))
 
 pub returns : goal.returns

@@ -13,7 +13,8 @@ returns-in_err-write_run g c =
     let middle = of c.split_at-2.result.1.now in
     let right = of c.split_at.result.1.now in
     let marks =
-    parts_marks c.args.charted.now c.args.lanes.now _ _ _ _ _ _ c.split_at.ensures.front c.split_at.ensures.back
+    parts_marks c.args.charted.now c.args.lanes.now _ _ _ _ _ _ c.split_at.ensures.front
+    c.split_at.ensures.back
     c.split_at-2.ensures.front c.split_at-2.ensures.back in
     rw (sym marks) (on_err _ _ _ _ c.from_residual.ensures.0
     (part_longer g.W.ByteSink.puts g.W.ByteSink.failed (left ++ middle) right _
@@ -26,7 +27,8 @@ returns-in_err-write_run-2 g c =
     let middle = of c.split_at-2.result.1.now in
     let right = of c.split_at.result.1.now in
     let marks =
-    parts_marks c.args.charted.now c.args.lanes.now _ _ _ _ _ _ c.split_at.ensures.front c.split_at.ensures.back
+    parts_marks c.args.charted.now c.args.lanes.now _ _ _ _ _ _ c.split_at.ensures.front
+    c.split_at.ensures.back
     c.split_at-2.ensures.front c.split_at-2.ensures.back in
     let part =
     part_then g.W.ByteSink.puts g.W.ByteSink.failed left middle c.in_ok-write_run.ensures
@@ -41,11 +43,13 @@ returns g c =
     let middle = of c.split_at-2.result.1.now in
     let right = of c.split_at.result.1.now in
     let marks =
-    parts_marks c.args.charted.now c.args.lanes.now _ _ _ _ _ _ c.split_at.ensures.front c.split_at.ensures.back
+    parts_marks c.args.charted.now c.args.lanes.now _ _ _ _ _ _ c.split_at.ensures.front
+    c.split_at.ensures.back
     c.split_at-2.ensures.front c.split_at-2.ensures.back in
     let begun =
     goes_then g.W.ByteSink.puts g.W.ByteSink.failed left middle c.in_ok-write_run.ensures
     c.in_ok-write_run-2.ensures in
     rw (sym marks)
-    (then_on g.W.ByteSink.puts g.W.ByteSink.failed (left ++ middle) right _ _ c.write_run-3.result begun
+    (then_on g.W.ByteSink.puts g.W.ByteSink.failed (left ++ middle) right _ _ c.write_run-3.result
+    begun
     c.write_run-3.ensures)

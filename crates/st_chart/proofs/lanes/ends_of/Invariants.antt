@@ -9,4 +9,5 @@ use Rattle.st_chart.proofs.lanes.ends_of.Given as goal
 
 abbrev pub invariant-loop-item : goal.invariant-loop-item
 invariant-loop-item l =
-    (p : Pid) → contains pid_cmp l.ends p ≡ list_any (is_end_in l.streams l.label p) (take l.item-index l.items)
+    (p : Pid) → contains pid_cmp l.ends p
+    ≡ list_any (is_end_in l.streams l.label p) (take l.item-index l.items)

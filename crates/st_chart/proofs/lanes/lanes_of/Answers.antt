@@ -19,5 +19,6 @@ pub returns-clause-rising : goal.returns-clause-rising
 returns-clause-rising c =
     let ends = contains pid_cmp c.in_ok-ends.ends in
     let rise = some_rise ends (pids_of c.args.streams.now) c.pids.ensures.streams.draft.rising in
-    IfOk-weaker c.ends_among.result _ (λ pids. IsRising pids.items) (λ pids is. subst IsRising (sym is) rise)
+    IfOk-weaker c.ends_among.result _ (λ pids. IsRising pids.items)
+    (λ pids is. subst IsRising (sym is) rise)
     (rw c.pids.ensures.value at c.ends_among.ensures)

@@ -14,6 +14,7 @@ pub returns-in-Err-clause-others : goal.returns-in-Err-clause-others
 returns-in-Err-clause-others c =
     let lanes = c.args.lanes.now in
     let searched =
-    missing_from_search lanes c.in-Some.pid c.binary_search.result c.requires c.binary_search.ensures.position in
+    missing_from_search lanes c.in-Some.pid c.binary_search.result c.requires
+    c.binary_search.ensures.position in
     let none = rw c.in-Err.is at searched in
     rw c.in-Some.is (found_never lanes c.in-Some.pid _ none)

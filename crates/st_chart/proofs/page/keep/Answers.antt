@@ -11,4 +11,5 @@ returns-in_ok-turn-in-Err g c =
     let turned = c.in_ok-turn-in-Err.ensures in
     let went = rw c.in-Err.ensures.items at (rw turned.empty at turned.goes) in
     rw turned.empty
-    (then_on g.W.ByteSink.puts g.W.ByteSink.failed [] c.args.bytes.now _ _ c.put_all.result went c.put_all.ensures)
+    (then_on g.W.ByteSink.puts g.W.ByteSink.failed [] c.args.bytes.now _ _ c.put_all.result went
+    c.put_all.ensures)

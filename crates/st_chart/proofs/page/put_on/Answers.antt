@@ -19,7 +19,8 @@ returns-in_err-turn g c =
     let back = drop c.min.result c.args.bytes.now in
     let went = rw c.split_at.ensures.front at c.in_ok-keep.ensures in
     on_err _ _ _ _ c.from_residual-in_err-turn.ensures.0
-    (no_room_before g.W.ByteSink.puts g.W.ByteSink.failed back (take-append-drop c.min.result c.args.bytes.now) went
+    (no_room_before g.W.ByteSink.puts g.W.ByteSink.failed back
+    (take-append-drop c.min.result c.args.bytes.now) went
     c.in_err-turn.ensures.goes)
 
 pub returns : goal.returns

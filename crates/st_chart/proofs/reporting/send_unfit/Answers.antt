@@ -9,4 +9,5 @@ returns g c =
     let text = unfit_text c.args.streams.now c.args.pid c.args.index c.args.reason.now in
     finishes g.W.ByteSink.puts g.W.ByteSink.failed text _ _ c.flush.result
     (unfit_some c.args.streams.now c.args.pid c.args.index c.args.reason.now)
-    (rw c.new-buffer.ensures at c.in_ok-write_unfit.ensures) c.flush.ensures.goes c.flush.ensures.empty
+    (rw c.new-buffer.ensures at c.in_ok-write_unfit.ensures) c.flush.ensures.goes
+    c.flush.ensures.empty

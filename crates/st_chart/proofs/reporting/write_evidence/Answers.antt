@@ -9,7 +9,8 @@ use Rattle.st_chart.specs.Report.{evidence}
 use Rattle.st_chart.proofs.reporting.write_evidence.Goals as goal
 
 no_more : (streams : List Stream) (p : Pid) (r : Reason)
-    → (r ≡ reason.PrevNotBefore) ⊎ ((r ≡ reason.Uncaused) ⊎ (r ≡ reason.TooWide)) → evidence streams p r ≡ []
+    → (r ≡ reason.PrevNotBefore) ⊎ ((r ≡ reason.Uncaused) ⊎ (r ≡ reason.TooWide))
+    → evidence streams p r ≡ []
 no_more streams p r (inl e) = rw e refl
 no_more streams p r (inr (inl e)) = rw e refl
 no_more streams p r (inr (inr e)) = rw e refl

@@ -17,7 +17,8 @@ returns-in_err-make_room-2 g c =
     let front = c.args.word.now ++ place_words c.args.pid c.args.index ++ codes " " in
     let rest = ended_line (event_words c.args.event) in
     let sink = g.W.ByteSink in
-    let begun = room_then sink.puts sink.failed front c.in_ok-make_room.ensures.goes c.put_front.ensures in
+    let begun = room_then sink.puts sink.failed front c.in_ok-make_room.ensures.goes
+    c.put_front.ensures in
     let is = c.from_residual-in_err-make_room-2.ensures.0 in
     then_on sink.puts sink.failed front rest _ _ _ begun
     (no_room sink.puts sink.failed rest _ _ _ is c.in_err-make_room-2.ensures.goes)
@@ -27,6 +28,8 @@ returns g c =
     let front = c.args.word.now ++ place_words c.args.pid c.args.index ++ codes " " in
     let rest = ended_line (event_words c.args.event) in
     let sink = g.W.ByteSink in
-    let begun = room_then sink.puts sink.failed front c.in_ok-make_room.ensures.goes c.put_front.ensures in
-    let ended = room_then sink.puts sink.failed rest c.in_ok-make_room-2.ensures.goes c.put_back.ensures in
+    let begun = room_then sink.puts sink.failed front c.in_ok-make_room.ensures.goes
+    c.put_front.ensures in
+    let ended = room_then sink.puts sink.failed rest c.in_ok-make_room-2.ensures.goes
+    c.put_back.ensures in
     goes_then sink.puts sink.failed front rest begun ended

@@ -11,7 +11,8 @@ returns-in_err-write_unfit_line g c =
     let rest = evidence c.args.streams.now c.args.pid c.args.reason.now in
     on_err _ _ _ _ c.from_residual.ensures.0
     (part_longer g.W.ByteSink.puts g.W.ByteSink.failed (first ++ event) rest _
-    (part_longer g.W.ByteSink.puts g.W.ByteSink.failed first event _ c.in_err-write_unfit_line.ensures))
+    (part_longer g.W.ByteSink.puts g.W.ByteSink.failed first event _
+    c.in_err-write_unfit_line.ensures))
 
 pub returns-in_err-write_event : goal.returns-in_err-write_event
 returns-in_err-write_event g c =
@@ -32,5 +33,6 @@ returns g c =
     let begun =
     goes_then g.W.ByteSink.puts g.W.ByteSink.failed first event c.in_ok-write_unfit_line.ensures
     c.in_ok-write_event.ensures in
-    then_on g.W.ByteSink.puts g.W.ByteSink.failed (first ++ event) rest _ _ c.write_evidence.result begun
+    then_on g.W.ByteSink.puts g.W.ByteSink.failed (first ++ event) rest _ _ c.write_evidence.result
+    begun
     c.write_evidence.ensures

@@ -1,4 +1,5 @@
--- After the loop all acts passed, so the verdict is that of what is kept; and what a yes shows holds in every run.
+-- After the loop all acts passed, so the verdict is that of what is kept; and what a yes shows
+-- holds in every run.
 use Rattle.std.proofs.Common.{arith, take}
 use Rattle.st_check.specs.Answers.{verdict_of}
 use Rattle.st_check.proofs.AllActs.{all}
@@ -10,14 +11,16 @@ pub into_verdict-requires : goal.into_verdict-requires
 into_verdict-requires g c =
     let loop = c.loop-number in (
       omega arith,
-      passed_even g.row.TOP c.args.streams.now (take loop.number c.args.acts.now) loop.progress.world
+      passed_even g.row.TOP c.args.streams.now (take loop.number c.args.acts.now)
+          loop.progress.world
           loop.progress.comparison loop.invariant,
     )
 
 pub returns-clause-verdict : goal.returns-clause-verdict
 returns-clause-verdict g c =
     let loop = c.loop-number in
-    c.into_verdict.ensures c.args.acts.now (all g.row.TOP c.args.streams.now c.args.acts.now loop.number
+    c.into_verdict.ensures c.args.acts.now
+    (all g.row.TOP c.args.streams.now c.args.acts.now loop.number
     loop.progress.world loop.progress.comparison c.loop-number-test.false loop.invariant)
 
 pub returns-clause-follows : goal.returns-clause-follows

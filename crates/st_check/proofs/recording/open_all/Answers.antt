@@ -9,14 +9,16 @@ use Rattle.st_check.proofs.recording.open_all.Goals as goal
 pub unreachable-requires : goal.unreachable-requires
 unreachable-requires c =
     (rw c.in-Err-NotRising.field-0-is at c.in-Err-NotRising.ensures.fault)
-    (comes_last c.args.pids.now c.loop-pid.pid-index _ c.loop-pid.draft c.requires c.loop-pid-test.true
+    (comes_last c.args.pids.now c.loop-pid.pid-index _ c.loop-pid.draft c.requires
+    c.loop-pid-test.true
     c.loop-pid.invariant)
 
 pub loop-pid-preserved : goal.loop-pid-preserved
 loop-pid-preserved c =
     let d : Pid = record { node = 0; number = 0 } in
     c.in-Ok.ensures.ok
-    ∙ ap (λ (xs : List Stream). xs ++ record { pid = get_or c.args.pids.now c.loop-pid.pid-index d; events = [] }
+    ∙ ap (λ (xs : List Stream).
+    xs ++ record { pid = get_or c.args.pids.now c.loop-pid.pid-index d; events = [] }
     ∷ []) c.loop-pid.invariant
     ∙ opened_more c.args.pids.now c.loop-pid.pid-index d c.loop-pid-test.true
 

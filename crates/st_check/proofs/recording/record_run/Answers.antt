@@ -32,7 +32,8 @@ returns-then-not-has_step-clause-replay g c =
     record {
       within = c.loop-number-test.true;
       before = ap is_some c.loop-number.invariant.runs;
-      none = subst (λ ps. run g.row.TOP ps (take (c.loop-number.number + 1) c.args.acts.now) ≡ None) (sym same)
+      none = subst (λ ps. run g.row.TOP ps (take (c.loop-number.number + 1) c.args.acts.now) ≡ None)
+          (sym same)
           (MatchBool-at_false _ _ c.if-not-has_step.true c.in-Ok.ensures);
     }
 
@@ -49,7 +50,8 @@ loop-number-preserved g c =
 pub unreachable-requires : goal.unreachable-requires
 unreachable-requires g c =
     let p = c.loop-number.invariant in
-    none-some _ (sym (run_listed g.row.TOP c.args.pids.now _ p.outcomes p.runs) ∙ ap unlisted (sym p.are_streams)
+    none-some _ (sym (run_listed g.row.TOP c.args.pids.now _ p.outcomes p.runs)
+    ∙ ap unlisted (sym p.are_streams)
     ∙ c.in-Err.ensures.place)
 
 pub returns-clause-rises : goal.returns-clause-rises

@@ -13,10 +13,12 @@ returns-in_default c =
 pub push_back-requires : goal.push_back-requires
 push_back-requires c =
     let even = c.requires.even in
-    let within = slice_get_within (pids_of c.args.streams.now) c.in-Some.list c.args.to c.in-Some.ensures.found in
+    let within = slice_get_within (pids_of c.args.streams.now) c.in-Some.list c.args.to
+    c.in-Some.ensures.found in
     omega arith
 
 pub returns : goal.returns
 returns c =
-    push_found c.args.tags.now.lists c.push_back.new.self.lists (pids_of c.args.streams.now) c.in-Some.list c.args.to
+    push_found c.args.tags.now.lists c.push_back.new.self.lists (pids_of c.args.streams.now)
+    c.in-Some.list c.args.to
     c.args.number c.requires.rising c.in-Some.ensures.found c.in_ok-push_back.ensures.pushed

@@ -14,7 +14,8 @@ returns-in-Receive-clause-tags c = λ t are.
     let at = c.requires.actor ∙ ap (λ (a : Act). Some (actor a)) is in
     subst (λ (a : Act). c.take_tag.new.tags.lists
     ≡ map (tags_after t c.args.number a c.args.place) (pids_of c.args.streams.now)) (sym is)
-    (without_is t c.args.tags.now.lists c.take_tag.new.tags.lists (pids_of c.args.streams.now) c.args.list
+    (without_is t c.args.tags.now.lists c.take_tag.new.tags.lists (pids_of c.args.streams.now)
+    c.args.list
     c.in-Receive.field-0 c.in-Receive.field-1 c.args.number c.args.place c.requires.rising at
     c.take_tag.ensures.lists are)
 
@@ -22,6 +23,8 @@ pub returns-in-Receive-clause-pair : goal.returns-in-Receive-clause-pair
 returns-in-Receive-clause-pair c = λ t are.
     let is = c.in-Receive.is in
     let at = c.requires.actor ∙ ap (λ (a : Act). Some (actor a)) is in
-    subst (λ (a : Act). pair_at t c.args.number a c.args.place ≡ pair_to c.args.number c.take_tag.result) (sym is)
+    subst (λ (a : Act). pair_at t c.args.number a c.args.place
+    ≡ pair_to c.args.number c.take_tag.result) (sym is)
     (pair_is t c.args.tags.now.lists (pids_of c.args.streams.now) c.args.list c.in-Receive.field-0
-    c.in-Receive.field-1 c.args.number c.args.place c.take_tag.result at c.take_tag.ensures.value are)
+    c.in-Receive.field-1 c.args.number c.args.place c.take_tag.result at c.take_tag.ensures.value
+    are)

@@ -17,5 +17,6 @@ returns-in-Ok g c =
 pub returns-in-Err : goal.returns-in-Err
 returns-in-Err g c =
     performs (driven_means c.args.limits) (stray_means c.args.limits)
-    (tells_fault c.args.limits (call g.R.ByteSource _ _) (IsRecorded c.args.limits) Faulty _ _ c.in-Err.fault
+    (tells_fault c.args.limits (call g.R.ByteSource _ _) (IsRecorded c.args.limits) Faulty _ _
+    c.in-Err.fault
     c.in-Err.ensures c.tell_fault.ensures)

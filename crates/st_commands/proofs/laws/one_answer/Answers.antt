@@ -1,5 +1,5 @@
--- Bytes are the text of one bundle or have one fault; acts have one verdict and one run, and streams
--- one order and one finding.
+-- Bytes are the text of one bundle or have one fault; acts have one verdict and one run, and
+-- streams one order and one finding.
 use Rattle.st_commands.proofs.Outputs.{one_check, one_replay}
 use Rattle.st_commands.proofs.AuditOutputs.{one_audit}
 use Rattle.st_commands.proofs.ChartOutputs.{one_chart}

@@ -19,5 +19,6 @@ pub returns-in-Err : goal.returns-in-Err
 returns-in-Err g c =
     let few : c.args.limits.acts ≤ top = omega arith in
     performs (replayed_means c.args.limits) (never_refused c.args.limits few)
-    (tells_fault c.args.limits (call g.R.ByteSource _ _) (IsReplayed c.args.limits) Faulty _ _ c.in-Err.fault
+    (tells_fault c.args.limits (call g.R.ByteSource _ _) (IsReplayed c.args.limits) Faulty _ _
+    c.in-Err.fault
     c.in-Err.ensures c.tell_fault.ensures)

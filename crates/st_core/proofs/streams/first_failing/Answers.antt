@@ -10,4 +10,5 @@ loop-place-preserved c =
     let within : c.loop-place.place < length c.args.lists.now = omega arith in
     rw add-one
     (c.loop-place.invariant
-    ∙ first_failing-drop (names_among c.args.pids.now) _ _ _ _ c.requires.even within c.index-lists-place.is none)
+    ∙ first_failing-drop (names_among c.args.pids.now) _ _ _ _ c.requires.even within
+    c.index-lists-place.is none)

@@ -11,7 +11,8 @@ meet-requires g c =
     let queue : List Message = queue_in c.args.queues.now.boxes c.args.mailbox in
     let picked = sym c.take.ensures.took ∙ c.in-Some.is in (
       omega arith,
-      pick_fits g.row.TOP c.args.want.now queue c.in-Some.place c.in-Some.message c.requires.fit picked,
+      pick_fits g.row.TOP c.args.want.now queue c.in-Some.place c.in-Some.message c.requires.fit
+          picked,
     )
 
 pub returns-in-Some-clause-fit : goal.returns-in-Some-clause-fit
@@ -20,5 +21,6 @@ returns-in-Some-clause-fit g c =
     let queue : List Message = queue_in c.args.queues.now.boxes c.args.mailbox in
     let left : queue_in c.take.new.self.boxes c.args.mailbox ≡ queue_without c.take.result queue =
     ap (λ bs. queue_in bs c.args.mailbox) c.take.ensures.boxes
-    ∙ get_or-set_same boxes c.args.mailbox (queue_without c.take.result queue) [] c.requires.mailbox in
+    ∙ get_or-set_same boxes c.args.mailbox (queue_without c.take.result queue) []
+    c.requires.mailbox in
     rw left (left_fits g.row.TOP c.take.result queue c.requires.fit)

@@ -1,6 +1,7 @@
 -- The walk gives the list, message by message, and each is pushed.
 use Rattle.std.proofs.Common.{◌∙◌, arith}
-use Rattle.std.proofs.lemmas.Iterator.Consumers.{YieldsList-from_first, YieldsList-turn, YieldsList-end}
+use Rattle.std.proofs.lemmas.Iterator.Consumers.{YieldsList-from_first, YieldsList-turn}
+use Rattle.std.proofs.lemmas.Iterator.Consumers.{YieldsList-end}
 use Rattle.std.proofs.lemmas.List.{length_push, map_push}
 use Rattle.st_arena.specs.Arena.{list_at}
 use Rattle.st_mail.proofs.finder.index_over.Goals as goal
@@ -17,7 +18,8 @@ push-requires-clause-room c =
     YieldsList-from_first (λ m. m.now) (λ ms. ms) list
     (c.into_iter-message-iterator.ensures.into_iter_gives ∙ c.walk-message-items.ensures) in
     let turn =
-    YieldsList-turn walked c.loop-message.yielded _ c.loop-message.yielded_by _ _ c.in-Some.message c.in-Some.is
+    YieldsList-turn walked c.loop-message.yielded _ c.loop-message.yielded_by _ _ c.in-Some.message
+    c.in-Some.is
     c.next.ensures.steps in
     omega (arith, turn.0, c.loop-message.invariant.1)
 
@@ -35,5 +37,6 @@ returns c =
     YieldsList-from_first (λ m. m.now) (λ ms. ms) list
     (c.into_iter-message-iterator.ensures.into_iter_gives ∙ c.walk-message-items.ensures) in
     let end =
-    YieldsList-end walked c.loop-message.yielded _ c.loop-message.yielded_by _ _ c.in-None.is c.next.ensures.steps in
+    YieldsList-end walked c.loop-message.yielded _ c.loop-message.yielded_by _ _ c.in-None.is
+    c.next.ensures.steps in
     rw c.in_ok-new.ensures.ok (rw end.0 at c.loop-message.invariant.0)

@@ -8,5 +8,6 @@ use Rattle.st_mail.proofs.index.remove_stamp.Goals as goal
 pub returns-in-Some-clause-removed : goal.returns-in-Some-clause-removed
 returns-in-Some-clause-removed c from this s =
     c.remove.ensures.removed (from, this) s
-    ∙ ap (λ (b : Bool). not (b && c.args.slot == s) && has_key pid_count_cmp c.args.stamps.now (from, this) s)
+    ∙ ap (λ (b : Bool). not (b && c.args.slot == s) && has_key pid_count_cmp c.args.stamps.now
+    (from, this) s)
     (stamp_key c.in-Some.token (from, this) ∙ ap (bears_stamp from this) (sym c.in-Some.is))

@@ -13,10 +13,13 @@ pub returns : goal.returns
 returns g c =
     let streams = c.args.streams.now in
     let items = c.args.items.now in
-    let sorted = c.in_ok-par_sort_by_key.ensures.sorted number_of (answers_always _ _ _ (λ f a r g h. search rules)) in
-    let stable = c.in_ok-par_sort_by_key.ensures.stable number_of (answers_always _ _ _ (λ f a r g h. search rules)) in
+    let sorted = c.in_ok-par_sort_by_key.ensures.sorted number_of
+    (answers_always _ _ _ (λ f a r g h. search rules)) in
+    let stable = c.in_ok-par_sort_by_key.ensures.stable number_of
+    (answers_always _ _ _ (λ f a r g h. search rules)) in
     let start = c.as_mut_slice-sorted.ensures.value ∙ c.in_ok-labelled.ensures in
     let after = c.par_sort_by_key.new.s in
-    let kept = subst (λ (xs : List LabelledItem). IsStableByKey number_of nat_cmp xs after) start stable in
+    let kept = subst (λ (xs : List LabelledItem). IsStableByKey number_of nat_cmp xs after) start
+    stable in
     IfOk-then c.groups_of.result _ _ c.groups_of.ensures (λ v h.
     subst (IsByLabel streams items) (sym h) (grouped_by_label streams items after sorted kept))

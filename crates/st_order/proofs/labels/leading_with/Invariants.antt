@@ -4,4 +4,5 @@ use Rattle.st_order.specs.Groups.{leading_with}
 use Rattle.st_order.proofs.labels.leading_with.Given as goal
 
 abbrev pub invariant-loop-i : goal.invariant-loop-i
-invariant-loop-i l = leading_with l.label l.labelled ≡ l.i + leading_with l.label (drop l.i l.labelled)
+invariant-loop-i l = leading_with l.label l.labelled
+    ≡ l.i + leading_with l.label (drop l.i l.labelled)

@@ -5,5 +5,6 @@ use Rattle.st_order.proofs.row.rows.Goals as goal
 pub loop-pid-preserved : goal.loop-pid-preserved
 loop-pid-preserved c =
     rows_passed c.args.streams.now _ _ _ _ _ _ c.pids-pid-items.ensures.streams.draft.rising
-    c.pids-pid-items.ensures.value c.loop-pid-test.true c.events.ensures.value c.in_ok-put_rows.ensures
+    c.pids-pid-items.ensures.value c.loop-pid-test.true c.events.ensures.value
+    c.in_ok-put_rows.ensures
     c.loop-pid.invariant

@@ -1,4 +1,5 @@
--- A receive and a send have each other if sender, count, label and value agree, whichever of the two is asked.
+-- A receive and a send have each other if sender, count, label and value agree, whichever of the
+-- two is asked.
 use Rattle.st_pair.proofs.AcceptedEvents.{paired}
 use Rattle.st_pair.proofs.Converse.{source_from_receiver, receiver_from_source}
 use Rattle.st_pair.proofs.laws.sources_and_receivers_agree.Goals as goal

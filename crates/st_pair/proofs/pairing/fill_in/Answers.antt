@@ -16,7 +16,8 @@ loop-i-preserved c =
     let e = get_or es i blank in
     let at = at_get_or es i blank c.loop-i-test.true in
     record {
-      links = c.put.ensures ∙ exchanged (link_of streams c.args.pid) (link_back streams) es i e _ c.loop-i.links at
+      links = c.put.ensures ∙ exchanged (link_of streams c.args.pid) (link_back streams) es i e _
+          c.loop-i.links at
           c.link_of-link.ensures c.loop-i.invariant.links;
       matched = first_from-passed (mismatch streams) c.args.pid i es e at
           (sym c.mismatch_at.ensures ∙ c.in_default.is) c.loop-i.invariant.matched;

@@ -9,7 +9,8 @@ use Rattle.st_pair.proofs.pairing.fill_in.Given as goal
 
 abbrev pub invariant-loop-i : goal.invariant-loop-i
 invariant-loop-i l = record {
-  links : l.links ≡ map (link_of l.streams l.pid) (take l.i l.events) ++ map (link_back l.streams) (drop l.i l.events);
+  links : l.links ≡ map (link_of l.streams l.pid) (take l.i l.events)
+      ++ map (link_back l.streams) (drop l.i l.events);
   matched : first_from (mismatch l.streams) l.pid 0 l.events
       ≡ first_from (mismatch l.streams) l.pid l.i (drop l.i l.events);
 }

@@ -1,4 +1,5 @@
--- A send is the only one with its process and count, so that what is noted of it is the first receive with them.
+-- A send is the only one with its process and count, so that what is noted of it is the first
+-- receive with them.
 use Rattle.std.proofs.Common.{◌∙◌}
 use Rattle.st_pair.specs.declared.receives.Key.{Key}
 use Rattle.st_pair.proofs.BackLinks.{own_index}
@@ -7,7 +8,8 @@ use Rattle.st_pair.proofs.Stamps.{send_stamped}
 use Rattle.st_pair.proofs.pairing.link_of.Goals as goal
 
 pub first_of-requires-clause-index : goal.first_of-requires-clause-index
-first_of-requires-clause-index c = own_index c.args.streams.now c.args.pid c.args.index c.args.event.now
+first_of-requires-clause-index c =
+    own_index c.args.streams.now c.args.pid c.args.index c.args.event.now
     c.requires.got.counts c.requires.event (send_stamped c.args.event.now c.in-Send.is)
 
 pub returns-in-None : goal.returns-in-None

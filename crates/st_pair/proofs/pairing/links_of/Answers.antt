@@ -17,14 +17,16 @@ fill_in-requires-clause-links c =
     let k = c.loop-place.place in
     let made = made_at streams c.pids-pids.result.now k _ _ c.pids-pids.ensures.streams.draft.rising
     c.pids-pids.ensures.value c.loop-place-test.true c.events-events.ensures.value in
-    let there = still (links_in streams) (links_back streams) streams k _ lists made c.loop-place.invariant.links in
+    let there = still (links_in streams) (links_back streams) streams k _ lists made
+    c.loop-place.invariant.links in
     c.index_mut.ensures.value ∙ get_or_from_slice_get lists k _ c.index_mut.result.now there
 
 pub returns-in-Some-clause-err : goal.returns-in-Some-clause-err
 returns-in-Some-clause-err c =
     let streams = c.args.streams.now in
     first_fault _ c.in-Some.fault (sym (first-given (mismatch streams) streams
-    c.pids-pids.ensures.streams.draft.rising _ _ _ c.in-Some.fault c.pids-pids.ensures.value c.loop-place-test.true
+    c.pids-pids.ensures.streams.draft.rising _ _ _ c.in-Some.fault c.pids-pids.ensures.value
+    c.loop-place-test.true
     (c.in-Some.ensures.fault ∙ ap (first_from (mismatch streams) _ 0) c.events-events.ensures.value)
     c.loop-place.invariant.matched))
 
@@ -42,6 +44,7 @@ loop-place-preserved c =
       links = exchanged (links_in streams) (links_back streams) streams k _ _ lists made
           (c.fill_in.ensures.links c.in_default.is) c.loop-place.invariant.links;
       matched = first-passed (mismatch streams) streams rising _ _ _ are within
-          (sym c.in_default.is ∙ c.fill_in.ensures.fault ∙ ap (first_from (mismatch streams) _ 0) events)
+          (sym c.in_default.is ∙ c.fill_in.ensures.fault ∙ ap (first_from (mismatch streams) _ 0)
+          events)
           c.loop-place.invariant.matched;
     }

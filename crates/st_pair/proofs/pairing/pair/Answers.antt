@@ -1,5 +1,5 @@
--- By what refuses the streams: a reason that `Tables` looks for before or while it makes the links. The links of all
--- streams are the pairing.
+-- By what refuses the streams: a reason that `Tables` looks for before or while it makes the links.
+-- The links of all streams are the pairing.
 use Rattle.std.proofs.Common.{◌∙◌, ap, rules, IfErr, None, Option}
 use Rattle.st_pair.specs.declared.answer.PairFault.{PairFault}
 use Rattle.st_pair.specs.Pairing.{IsPairFault}
@@ -14,7 +14,8 @@ returns-in_err-tables-clause-rules_out c =
 
 pub returns-in_err-links-clause-rules_out : goal.returns-in_err-links-clause-rules_out
 returns-in_err-links-clause-rules_out c =
-    let refused : IfErr c.from_residual-in_err-links.result (IsPairFault c.args.streams.now) = search rules in
+    let refused : IfErr c.from_residual-in_err-links.result (IsPairFault c.args.streams.now) =
+    search rules in
     answered_rules_out c.args.streams.now c.from_residual-in_err-links.result refused
 
 pub returns-in-Ok-clause-ok : goal.returns-in-Ok-clause-ok

@@ -8,5 +8,7 @@ use Rattle.st_pair.proofs.receives.all_marks.Goals as goal
 pub loop-pid-preserved : goal.loop-pid-preserved
 loop-pid-preserved c =
     c.in_ok-push.ensures.items ∙ gathered no_marks c.args.streams.now _ _ _ _ _ _
-    c.pids-pid-items.ensures.streams.draft.rising c.pids-pid-items.ensures.value c.loop-pid-test.true
-    c.events.ensures.value (blank_list _ _ c.in_ok-none.ensures.len c.in_ok-none.ensures.none) c.loop-pid.invariant
+    c.pids-pid-items.ensures.streams.draft.rising c.pids-pid-items.ensures.value
+    c.loop-pid-test.true
+    c.events.ensures.value (blank_list _ _ c.in_ok-none.ensures.len c.in_ok-none.ensures.none)
+    c.loop-pid.invariant

@@ -8,7 +8,8 @@ use Rattle.st_pair.proofs.rules.mismatch_at.Goals as goal
 pub returns-in-None : goal.returns-in-None
 returns-in-None c =
     let j = c.in-From.place in
-    let is = linked_from c.args.streams.now c.args.pid c.args.event.now _ _ (sym c.requires ∙ c.in-From.is) in
+    let is = linked_from c.args.streams.now c.args.pid c.args.event.now _ _
+    (sym c.requires ∙ c.in-From.is) in
     let past = slice_get_past c.events.result.now j c.in-None.ensures.lookup.3 in
     absurd (not_absent c.args.streams.now c.args.pid c.args.event.now _ _ is
     (sym past ∙ ap (λ (es : List Event). slice_get es j) c.events.ensures.value))
@@ -16,7 +17,8 @@ returns-in-None c =
 pub returns-then-is_send_of : goal.returns-then-is_send_of
 returns-then-is_send_of c =
     let j = c.in-From.place in
-    let is = linked_from c.args.streams.now c.args.pid c.args.event.now _ _ (sym c.requires ∙ c.in-From.is) in
+    let is = linked_from c.args.streams.now c.args.pid c.args.event.now _ _
+    (sym c.requires ∙ c.in-From.is) in
     let look = c.in-Some.ensures.lookup in
     let there = slice_get_read c.events.result.now _ j c.in-Some.sent.now refl look.3.0 look.1 in
     let at = sym there ∙ ap (λ (es : List Event). slice_get es j) c.events.ensures.value in
@@ -26,7 +28,8 @@ returns-then-is_send_of c =
 pub returns-else-is_send_of : goal.returns-else-is_send_of
 returns-else-is_send_of c =
     let j = c.in-From.place in
-    let is = linked_from c.args.streams.now c.args.pid c.args.event.now _ _ (sym c.requires ∙ c.in-From.is) in
+    let is = linked_from c.args.streams.now c.args.pid c.args.event.now _ _
+    (sym c.requires ∙ c.in-From.is) in
     let look = c.in-Some.ensures.lookup in
     let there = slice_get_read c.events.result.now _ j c.in-Some.sent.now refl look.3.0 look.1 in
     let at = sym there ∙ ap (λ (es : List Event). slice_get es j) c.events.ensures.value in

@@ -30,4 +30,5 @@ returns-clause-ok g c =
 pub returns-clause-kept : goal.returns-clause-kept
 returns-clause-kept g c =
     let is = c.as_slice.ensures.value ∙ c.into_processes-processes.ensures.processes in
-    subst (All (λ (x : Control). IsFromLog g.row.TOP g.row.RANKS x.process x.log)) is c.in_ok-run_by_threads.ensures.kept
+    subst (All (λ (x : Control). IsFromLog g.row.TOP g.row.RANKS x.process x.log)) is
+    c.in_ok-run_by_threads.ensures.kept

@@ -15,7 +15,8 @@ join-streams-requires-after_bounds g c κs within =
     let xs = c.args.processes.now in
     let entries : List Entry = map referred c.in_ok-merged.merged.items in
     let merged = c.in_ok-merged.ensures.merged c.requires.whole in
-    let run = one_run top g.row.RANKS xs entries c.in_ok-merged.ensures.kept c.requires.whole merged in
+    let run = one_run top g.row.RANKS xs entries c.in_ok-merged.ensures.kept c.requires.whole
+    merged in
     ((omega arith, are_streams top xs entries c.requires.rising run), search rules)
 
 pub returns-clause-logged : goal.returns-clause-logged

@@ -35,5 +35,6 @@ streams_of-requires g c =
     let xs = c.args.processes.now in
     let entries : List Entry = map referred c.in_ok-entries.entries.items in
     let merged = c.in_ok-entries.ensures.merged c.requires.whole in
-    let run = one_run top g.row.RANKS xs entries c.in_ok-entries.ensures.kept c.requires.whole merged in
+    let run = one_run top g.row.RANKS xs entries c.in_ok-entries.ensures.kept c.requires.whole
+    merged in
     (omega arith, are_streams top xs entries c.requires.rising run)

@@ -15,8 +15,10 @@ returns-then-ne-clause-step g c =
 pub returns-clause-step : goal.returns-clause-step
 returns-clause-step g c =
     let mine : c.args.pcb.now.process.pid ≡ actor c.args.act.now = sym c.pid.ensures
-    ∙ same_unless c.pid.result c.actor.result (sym c.ne.ensures ∙ c.if-ne.false) ∙ c.actor.ensures in
-    held_step g.row.TOP g.row.RANKS c.args.act.now _ (c.args.pcb.now ∷ []) (c.alone.new.self ∷ []) c.alone.result
+    ∙ same_unless c.pid.result c.actor.result (sym c.ne.ensures ∙ c.if-ne.false)
+    ∙ c.actor.ensures in
+    held_step g.row.TOP g.row.RANKS c.args.act.now _ (c.args.pcb.now ∷ []) (c.alone.new.self ∷ [])
+    c.alone.result
     c.act_result.result mine c.alone.ensures.step
     (record {
       ok = c.act_result.ensures.ok;

@@ -9,9 +9,11 @@ use Rattle.st_runtime.proofs.system.act_between.Goals as goal
 pub between-requires : goal.between-requires
 between-requires g c =
     let from = same_unless c.pid.result c.actor.result (sym c.ne.ensures ∙ c.if-ne.false) in
-    let to = same_unless c.pid-2.result c.receiver_of.result (sym c.ne-2.ensures ∙ c.if-ne-2.false) in (
+    let to = same_unless c.pid-2.result c.receiver_of.result
+    (sym c.ne-2.ensures ∙ c.if-ne-2.false) in (
       omega arith,
-      between_at c.args.act.now c.args.from.now.process.pid c.args.to.now.process.pid c.requires.apart
+      between_at c.args.act.now c.args.from.now.process.pid c.args.to.now.process.pid
+          c.requires.apart
           (sym c.pid.ensures ∙ from ∙ c.actor.ensures)
           (sym c.pid-2.ensures ∙ to ∙ c.receiver_of.ensures),
     )
@@ -35,11 +37,14 @@ returns-then-ne-2-clause-step g c =
 pub returns-clause-step : goal.returns-clause-step
 returns-clause-step g c =
     let from : c.args.from.now.process.pid ≡ actor c.args.act.now = sym c.pid.ensures
-    ∙ same_unless c.pid.result c.actor.result (sym c.ne.ensures ∙ c.if-ne.false) ∙ c.actor.ensures in
+    ∙ same_unless c.pid.result c.actor.result (sym c.ne.ensures ∙ c.if-ne.false)
+    ∙ c.actor.ensures in
     let to : c.args.to.now.process.pid ≡ receiver c.args.act.now = sym c.pid-2.ensures
-    ∙ same_unless c.pid-2.result c.receiver_of.result (sym c.ne-2.ensures ∙ c.if-ne-2.false) ∙ c.receiver_of.ensures in
+    ∙ same_unless c.pid-2.result c.receiver_of.result (sym c.ne-2.ensures ∙ c.if-ne-2.false)
+    ∙ c.receiver_of.ensures in
     held_step g.row.TOP g.row.RANKS c.args.act.now _ (c.args.from.now ∷ c.args.to.now ∷ [])
-    (c.between.new.from ∷ c.between.new.to ∷ []) c.between.result c.act_result.result (from, to) c.between.ensures.step
+    (c.between.new.from ∷ c.between.new.to ∷ []) c.between.result c.act_result.result (from, to)
+    c.between.ensures.step
     (record {
       ok = c.act_result.ensures.ok;
       err = c.act_result.ensures.err;

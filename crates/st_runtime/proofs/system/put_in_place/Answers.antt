@@ -9,6 +9,7 @@ pub returns-then-eq : goal.returns-then-eq
 returns-then-eq g c =
     map-set_same (λ (x : Control). x.process.pid) c.args.all.now c.args.place c.args.process
     c.index-all-place.result c.index-all-place.is
-    (sym c.pid.ensures ∙ pid_eq-true c.pid.result c.pid-then-place-all.result (sym c.eq.ensures ∙ c.if-eq.true)
+    (sym c.pid.ensures ∙ pid_eq-true c.pid.result c.pid-then-place-all.result
+    (sym c.eq.ensures ∙ c.if-eq.true)
     ∙ c.pid-then-place-all.ensures
     ∙ ap (λ (x : Control). x.process.pid) (sym c.index-all-place.is))

@@ -9,5 +9,6 @@ returns-then-long-clause-said c =
 
 pub returns-then-rest-len-clause-said : goal.returns-then-rest-len-clause-said
 returns-then-rest-len-clause-said c =
-    λ t h. sym (outgrown_says_none c.args.long c.args.tail.now.items t c.args.rest.now c.if-long.false
+    λ t h. sym (outgrown_says_none c.args.long c.args.tail.now.items t c.args.rest.now
+    c.if-long.false
     (omega (arith, c.if-rest-len.true, c.len.ensures, c.args.tail.now.ok.0, c.requires)) h)

@@ -12,7 +12,8 @@ use Rattle.st_text.proofs.finish.finish.Goals as goal
 
 pub returns-then-is_needless : goal.returns-then-is_needless
 returns-then-is_needless c =
-    λ ls s few. closing_needless c.args.builder ls s (sym c.is_needless.ensures ∙ c.if-is_needless.true)
+    λ ls s few. closing_needless c.args.builder ls s
+    (sym c.is_needless.ensures ∙ c.if-is_needless.true)
 
 pub returns-in-Err : goal.returns-in-Err
 returns-in-Err c = λ ls s few.
@@ -30,9 +31,11 @@ pub returns-in-Err-new : goal.returns-in-Err-new
 returns-in-Err-new c = λ ls s few.
     let p = c.args.builder in
     let first =
-    ap (λ (d : List Stream). unlisted_act d p.acts) (sym c.in-Ok.ensures.ok) ∙ c.in-Err-new.ensures.first in
+    ap (λ (d : List Stream). unlisted_act d p.acts) (sym c.in-Ok.ensures.ok)
+    ∙ c.in-Err-new.ensures.first in
     let at =
-    closing_act p ls (Some c.in-Err-new.unknown.n) s (sym c.is_needless.ensures ∙ c.if-is_needless.false)
+    closing_act p ls (Some c.in-Err-new.unknown.n) s
+    (sym c.is_needless.ensures ∙ c.if-is_needless.false)
     c.in-Ok.ensures.streams.listed first in
     let within = act_within p.draft p.acts c.in-Err-new.unknown.n first in
     at
@@ -44,13 +47,16 @@ returns-in-Ok-new c = λ ls s few.
     let p = c.args.builder in
     let b = c.in-Ok-new.bundle in
     let draft : b.streams ≡ p.draft = c.in-Ok-new.ensures.parts.0 ∙ c.in-Ok.ensures.ok in
-    let none = ap (λ (d : List Stream). unlisted_act d p.acts) (sym c.in-Ok.ensures.ok) ∙ c.in-Ok-new.ensures.listed in
+    let none = ap (λ (d : List Stream). unlisted_act d p.acts) (sym c.in-Ok.ensures.ok)
+    ∙ c.in-Ok-new.ensures.listed in
     record {
       lines =
           s.lines ∙ ap (λ (d : List Stream). so_far p.wide d p.acts) (sym draft)
-          ∙ ap (λ (o : Option (List Act)). so_far p.wide b.streams o) (sym c.in-Ok-new.ensures.parts.1);
+          ∙ ap (λ (o : Option (List Act)). so_far p.wide b.streams o)
+          (sym c.in-Ok-new.ensures.parts.1);
       closes =
-          closing_act p ls None s (sym c.is_needless.ensures ∙ c.if-is_needless.false) c.in-Ok.ensures.streams.listed
+          closing_act p ls None s (sym c.is_needless.ensures ∙ c.if-is_needless.false)
+          c.in-Ok.ensures.streams.listed
           none;
       streams = subst IsStreams (sym draft) c.in-Ok.ensures.streams;
       draft = draft;

@@ -7,5 +7,7 @@ use Rattle.st_text.proofs.lines.send_line.Goals as goal
 pub returns : goal.returns
 returns g c =
     let words = g.L.TextLine.words c.args.line in
-    finishes g.S.ByteSink.puts g.S.ByteSink.failed (ended_line words) _ _ c.flush.result (line_some words)
-    (rw c.new-buffer.ensures at c.in_ok-write_line.ensures) c.flush.ensures.goes c.flush.ensures.empty
+    finishes g.S.ByteSink.puts g.S.ByteSink.failed (ended_line words) _ _ c.flush.result
+    (line_some words)
+    (rw c.new-buffer.ensures at c.in_ok-write_line.ensures) c.flush.ensures.goes
+    c.flush.ensures.empty

@@ -7,7 +7,8 @@ use Rattle.st_text.proofs.lines.write_line.Goals as goal
 pub returns-in_err-make_room : goal.returns-in_err-make_room
 returns-in_err-make_room g c =
     on_err _ _ _ _ c.from_residual.ensures.0
-    (part_longer g.S.ByteSink.puts g.S.ByteSink.failed [] (ended_line (g.L.TextLine.words c.args.line)) _
+    (part_longer g.S.ByteSink.puts g.S.ByteSink.failed []
+    (ended_line (g.L.TextLine.words c.args.line)) _
     c.in_err-make_room.ensures.goes)
 
 pub returns : goal.returns

@@ -1,6 +1,7 @@
--- Each call's bytes are added to those before; at the source's end the feed's answer is that of them all.
-use Rattle.std.proofs.Common.{◌≡◌, ◌<◌, ◌≤◌, ◌+◌, ◌∙◌, [], ◌++◌, List, ℕ, Some, None, take, drop, length, refl, sym}
-use Rattle.std.proofs.Common.{subst, arith}
+-- Each call's bytes are added to those before; at the source's end the feed's answer is that of
+-- them all.
+use Rattle.std.proofs.Common.{◌≡◌, ◌<◌, ◌≤◌, ◌+◌, ◌∙◌, [], ◌++◌, List, ℕ, Some, None, take, drop}
+use Rattle.std.proofs.Common.{length, refl, sym, subst, arith}
 use Rattle.std.proofs.lemmas.List.{length-append, length-take, length-drop, take-append-le}
 use Rattle.st_core.specs.Device.{NoCall, OneMore}
 use Rattle.st_text.specs.declared.fault.ReadFault.TheVariants as faults
@@ -39,7 +40,8 @@ loop-feed-preserved g c =
     let len : length (i.bytes ++ given) ≡ length i.bytes + c.in-Ok.n =
     omega (arith, length-append i.bytes given, length-take c.in-Ok.n piece, within) in
     let back = drop c.min-room.result c.loop-feed.buffer in
-    let same : take c.in-Ok.n (piece ++ back) ≡ given = take-append-le c.in-Ok.n piece back within in
+    let same : take c.in-Ok.n (piece ++ back) ≡ given =
+    take-append-le c.in-Ok.n piece back within in
     let feed = c.piece-answer.new.self in
     let memory : (fed_refusal c.loop-feed.feed ≡ None) → fed_refusal feed ≡ Some faults.Memory
     → Grows c.args.limits i.bytes given =
@@ -49,13 +51,23 @@ loop-feed-preserved g c =
     record {
       bytes = i.bytes ++ given;
       given = OneMore _ _ _ i.bytes given i.given c.in-Ok.ensures.given;
-      fed = subst (λ (x : List ℕ). WasFed (i.bytes ++ x) feed) same (c.piece-answer.ensures.fed i.bytes i.fed);
+      fed = subst (λ (x : List ℕ). WasFed (i.bytes ++ x) feed) same
+          (c.piece-answer.ensures.fed i.bytes i.fed);
       counted = omega (arith, len, i.counted);
       limits_are = c.piece-answer.ensures.limits ∙ i.limits_are;
-      size = omega (arith, length-append piece back, left, c.take.auto.piece, asked, c.min-room.ensures, i.size);
+      size = omega (
+        arith,
+        length-append piece back,
+        left,
+        c.take.auto.piece,
+        asked,
+        c.min-room.ensures,
+        i.size,
+      );
       mark = c.in-Ok.ensures.mark.1 ∙ sym c.in-Ok.ensures.mark.0 ∙ i.mark;
       memory =
-          growth_after c.args.limits gives _ _ _ i.bytes given (fed_refusal c.loop-feed.feed) (fed_refusal feed)
+          growth_after c.args.limits gives _ _ _ i.bytes given (fed_refusal c.loop-feed.feed)
+          (fed_refusal feed)
           i.given
           c.in-Ok.ensures.given i.memory
           memory c.piece-answer.ensures.again;
@@ -79,23 +91,27 @@ returns-in-Ok-eq0 g c =
     let failed = g.S.ByteSource.failed in
     let piece = c.take.new.piece in
     let asked = length-take c.min-room.result c.loop-feed.buffer in
-    let room : 0 < length piece = omega (arith, c.take.auto.piece, c.min-room.ensures, asked, i.size) in
+    let room : 0 < length piece =
+    omega (arith, c.take.auto.piece, c.min-room.ensures, asked, i.size) in
     let zero = c.in-Ok-eq0.field-0-test in
-    let none = subst (λ (k : ℕ). gives c.loop-feed.source (take k piece) c.take.new.self) zero e.given in
+    let none = subst (λ (k : ℕ). gives c.loop-feed.source (take k piece) c.take.new.self) zero
+    e.given in
     let small : length i.bytes ≤ c.args.limits.bytes = omega (arith, i.counted) in
     record {
       bytes = i.bytes;
       given = put_none gives i.given none;
-      answer = reads_end c.args.limits g.S.ByteSource.ended failed i.bytes _ _ c.end.result small (record {
-        end = e.end zero room;
-        small = small;
-        before = sym i.mark ∙ e.mark.0;
-        after = e.mark.1;
-        answer =
-            subst (λ (l : Limits). IsReadResultOrMemory l i.bytes c.end.result) i.limits_are
-            (c.end.ensures.answers i.bytes i.fed);
-      });
-      memory = growth_at_end c.args.limits gives _ i.bytes (fed_refusal c.loop-feed.feed) c.end.result small i.memory
+      answer = reads_end c.args.limits g.S.ByteSource.ended failed i.bytes _ _ c.end.result small
+          (record {
+            end = e.end zero room;
+            small = small;
+            before = sym i.mark ∙ e.mark.0;
+            after = e.mark.1;
+            answer =
+                subst (λ (l : Limits). IsReadResultOrMemory l i.bytes c.end.result) i.limits_are
+                (c.end.ensures.answers i.bytes i.fed);
+          });
+      memory = growth_at_end c.args.limits gives _ i.bytes (fed_refusal c.loop-feed.feed)
+          c.end.result small i.memory
           (λ fresh. subst (λ (l : Limits). IsReadResult l i.bytes c.end.result) i.limits_are
           (c.end.ensures.exact i.bytes i.fed fresh)) c.end.ensures.again;
     }
@@ -106,7 +122,8 @@ returns-then-n-left g c =
     let given : List ℕ = take c.in-Ok.n c.take.new.piece in
     let within : c.in-Ok.n ≤ length c.take.new.piece = c.in-Ok.ensures.bound in
     let asked = length-take c.min-room.result c.loop-feed.buffer in
-    let room : length c.take.new.piece ≤ c.min-room.result = omega (arith, c.take.auto.piece, asked) in
+    let room : length c.take.new.piece ≤ c.min-room.result =
+    omega (arith, c.take.auto.piece, asked) in
     record {
       bytes = i.bytes ++ given;
       given = OneMore _ _ _ i.bytes given i.given c.in-Ok.ensures.given;

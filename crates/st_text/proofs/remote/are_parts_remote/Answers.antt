@@ -5,7 +5,8 @@ use Rattle.st_text.proofs.remote.are_parts_remote.Goals as goal
 
 pub returns-then-are_streams_remote : goal.returns-then-are_streams_remote
 returns-then-are_streams_remote c =
-    sym (body_true c.args.streams.now _ (sym c.are_streams_remote.ensures ∙ c.if-are_streams_remote.true))
+    sym (body_true c.args.streams.now _
+    (sym c.are_streams_remote.ensures ∙ c.if-are_streams_remote.true))
 
 pub returns-in-None : goal.returns-in-None
 returns-in-None c =

@@ -12,7 +12,8 @@ returns-then-is_process_remote c =
     let ss = c.args.streams.now in
     sym (streams_remote ss c.pids-pid-items.ensures.streams
     ∙ ap (list_any (is_process_remote ss)) (sym c.pids-pid-items.ensures.value)
-    ∙ any_at (is_process_remote ss) c.pids-pid-items.result.now c.loop-pid.pid-index _ c.loop-pid-test.true
+    ∙ any_at (is_process_remote ss) c.pids-pid-items.result.now c.loop-pid.pid-index _
+    c.loop-pid-test.true
     (sym c.is_process_remote.ensures ∙ c.if-is_process_remote.true))
 
 pub returns : goal.returns
@@ -20,5 +21,6 @@ returns c =
     let ss = c.args.streams.now in
     sym (streams_remote ss c.pids-pid-items.ensures.streams
     ∙ ap (list_any (is_process_remote ss))
-    (sym (take_all c.loop-pid.pid-index (pids_of ss) (omega (arith, ap length c.pids-pid-items.ensures.value))))
+    (sym (take_all c.loop-pid.pid-index (pids_of ss)
+    (omega (arith, ap length c.pids-pid-items.ensures.value))))
     ∙ c.loop-pid.invariant)

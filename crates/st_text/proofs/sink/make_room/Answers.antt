@@ -10,7 +10,8 @@ pub returns-in_err-put_all-clause-goes : goal.returns-in_err-put_all-clause-goes
 returns-in_err-put_all-clause-goes g c =
     let waited = c.args.buffer.now.items in
     let piece = take piece_room waited in
-    let parts : waited ≡ piece ++ drop piece_room waited = sym (take-append-drop piece_room waited) in
+    let parts : waited ≡ piece ++ drop piece_room waited =
+    sym (take-append-drop piece_room waited) in
     let same = c.split_at.ensures.front ∙ ap (take piece_room) c.as_slice.ensures.value in
     on_err _ _ _ _ c.from_residual.ensures.0
     (front_failed g.S.ByteSink.puts g.S.ByteSink.failed _ piece (drop piece_room waited) parts same
@@ -20,7 +21,8 @@ pub returns-in_ok-put_all-clause-goes : goal.returns-in_ok-put_all-clause-goes
 returns-in_ok-put_all-clause-goes g c =
     let waited = c.args.buffer.now.items in
     let piece = take piece_room waited in
-    let parts : waited ≡ piece ++ drop piece_room waited = sym (take-append-drop piece_room waited) in
+    let parts : waited ≡ piece ++ drop piece_room waited =
+    sym (take-append-drop piece_room waited) in
     let same = c.split_at.ensures.front ∙ ap (take piece_room) c.as_slice.ensures.value in
     rw c.remove_piece.ensures.items
     (front_went g.S.ByteSink.puts g.S.ByteSink.failed _ piece (drop piece_room waited) parts same

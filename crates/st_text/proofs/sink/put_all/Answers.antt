@@ -6,7 +6,14 @@ use Rattle.st_text.proofs.sink.put_all.Goals as goal
 
 pub loop-rest-init : goal.loop-rest-init
 loop-rest-init g c =
-    record { done = []; parts = refl; put = NoCall _; mark = refl; alive = λ some. absurd (omega arith) }
+    record {
+      done = [];
+      parts = refl;
+      put = NoCall _;
+      mark = refl;
+      alive =
+          λ some. absurd (omega arith);
+    }
 
 pub loop-rest-preserved : goal.loop-rest-preserved
 loop-rest-preserved g c =

@@ -4,7 +4,8 @@ use Rattle.st_text.proofs.Puts.{HasPut}
 use Rattle.st_text.proofs.sink.put_all.Given as goal
 
 abbrev pub invariant-loop-rest : goal.invariant-loop-rest
-invariant-loop-rest g l = HasPut g.S.ByteSink.puts g.S.ByteSink.failed l.bytes l.rest l.initial.sink l.sink
+invariant-loop-rest g l =
+    HasPut g.S.ByteSink.puts g.S.ByteSink.failed l.bytes l.rest l.initial.sink l.sink
 
 abbrev pub decreases-loop-rest : goal.decreases-loop-rest
 decreases-loop-rest g l = length l.rest

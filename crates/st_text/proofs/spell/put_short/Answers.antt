@@ -20,6 +20,7 @@ returns-else-number-lt10 c =
     record {
       items =
           c.put_pair.ensures.items
-          ∙ ap (λ (t : List ℕ). old ++ t) (sym (of_two c.args.number c.if-number-lt10.false (omega arith)));
+          ∙ ap (λ (t : List ℕ). old ++ t)
+          (sym (of_two c.args.number c.if-number-lt10.false (omega arith)));
       len = omega (arith, c.put_pair.ensures.len);
     }

@@ -14,7 +14,9 @@ returns-in_err-write_line g c =
 
 pub returns : goal.returns
 returns g c =
-    then_on g.S.ByteSink.puts g.S.ByteSink.failed (ended lines.Acts) (flat_map ended (map lines.Act c.args.acts.now)) _
+    then_on g.S.ByteSink.puts g.S.ByteSink.failed (ended lines.Acts)
+    (flat_map ended (map lines.Act c.args.acts.now)) _
     _ c.write_each.result c.in_ok-write_line.ensures
-    (on_images g.S.ByteSink.puts g.S.ByteSink.failed ended lines.Act c.args.acts.now _ _ _ _ c.write_each.result
+    (on_images g.S.ByteSink.puts g.S.ByteSink.failed ended lines.Act c.args.acts.now _ _ _ _
+    c.write_each.result
     c.write_each.ensures)

@@ -15,5 +15,7 @@ returns-in_err-write_line g c =
 pub returns : goal.returns
 returns g c =
     let b = body (parts c.args.streams.now c.args.acts) in
-    then_on g.S.ByteSink.puts g.S.ByteSink.failed (ended (lines.Header (list_any is_remote b))) (flat_map ended b) _ _
-    c.write_body.result (rw c.are_parts_remote.ensures at c.in_ok-write_line.ensures) c.write_body.ensures
+    then_on g.S.ByteSink.puts g.S.ByteSink.failed (ended (lines.Header (list_any is_remote b)))
+    (flat_map ended b) _ _
+    c.write_body.result (rw c.are_parts_remote.ensures at c.in_ok-write_line.ensures)
+    c.write_body.ensures

@@ -8,5 +8,6 @@ pub returns : goal.returns
 returns g c =
     let text = spelling (parts c.args.streams.now c.args.acts) in
     finishes g.S.ByteSink.puts g.S.ByteSink.failed text _ _ c.flush.result
-    (text_some (parts c.args.streams.now c.args.acts)) (rw c.new-buffer.ensures at c.in_ok-write_lines.ensures)
+    (text_some (parts c.args.streams.now c.args.acts))
+    (rw c.new-buffer.ensures at c.in_ok-write_lines.ensures)
     c.flush.ensures.goes c.flush.ensures.empty

@@ -11,7 +11,8 @@ pub returns-in_err-write_line : goal.returns-in_err-write_line
 returns-in_err-write_line g c =
     on_err _ _ _ _ c.from_residual.ensures.0
     (part_longer g.S.ByteSink.puts g.S.ByteSink.failed (ended (lines.Process c.args.pid))
-    (flat_map ended (map lines.Event (events_of c.args.streams.now c.args.pid))) _ c.in_err-write_line.ensures)
+    (flat_map ended (map lines.Event (events_of c.args.streams.now c.args.pid))) _
+    c.in_err-write_line.ensures)
 
 pub returns : goal.returns
 returns g c =
@@ -19,5 +20,6 @@ returns g c =
     then_on g.S.ByteSink.puts g.S.ByteSink.failed (ended (lines.Process c.args.pid))
     (flat_map ended (map lines.Event es))
     _ _ c.write_each.result c.in_ok-write_line.ensures
-    (on_images g.S.ByteSink.puts g.S.ByteSink.failed ended lines.Event es _ _ _ _ c.write_each.result
+    (on_images g.S.ByteSink.puts g.S.ByteSink.failed ended lines.Event es _ _ _ _
+    c.write_each.result
     (rw c.events.ensures.value at c.write_each.ensures))

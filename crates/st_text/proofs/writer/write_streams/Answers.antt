@@ -6,7 +6,8 @@ use Rattle.st_core.specs.Run.{Stream, pids_of}
 use Rattle.st_core.specs.Streams.{events_of, IsStreams}
 use Rattle.st_text.specs.Text.{ended, process_lines}
 use Rattle.st_text.proofs.ListedPids.{by_pids, stream_at}
-use Rattle.st_text.proofs.Puts.{goes_still, flat_map-flat_map, one_more, one_failed, all_done, on_err}
+use Rattle.st_text.proofs.Puts.{goes_still, flat_map-flat_map, one_more, one_failed, all_done}
+use Rattle.st_text.proofs.Puts.{on_err}
 use Rattle.st_text.proofs.writer.write_streams.Goals as goal
 
 -- the text of a process and its events
@@ -25,18 +26,24 @@ loop-pid-init g c = goes_still g.S.ByteSink.puts g.S.ByteSink.failed
 
 pub loop-pid-preserved : goal.loop-pid-preserved
 loop-pid-preserved g c =
-    one_more g.S.ByteSink.puts g.S.ByteSink.failed (text_of c.args.streams.now) c.pids-pid-items.result.now
+    one_more g.S.ByteSink.puts g.S.ByteSink.failed (text_of c.args.streams.now)
+    c.pids-pid-items.result.now
     c.loop-pid.pid-index _ c.loop-pid-test.true c.loop-pid.invariant c.in_ok-write_process.ensures
 
 pub returns-in_err-write_process : goal.returns-in_err-write_process
 returns-in_err-write_process g c =
     on_err _ _ _ _ c.from_residual.ensures.0
-    (one_failed g.S.ByteSink.puts g.S.ByteSink.failed (text_of c.args.streams.now) c.pids-pid-items.result.now
-    c.loop-pid.pid-index _ (whole c.args.streams.now c.pids-pid-items.result.now c.pids-pid-items.ensures.value
-    c.pids-pid-items.ensures.streams) c.loop-pid-test.true c.loop-pid.invariant c.in_err-write_process.ensures)
+    (one_failed g.S.ByteSink.puts g.S.ByteSink.failed (text_of c.args.streams.now)
+    c.pids-pid-items.result.now
+    c.loop-pid.pid-index _ (whole c.args.streams.now c.pids-pid-items.result.now
+    c.pids-pid-items.ensures.value
+    c.pids-pid-items.ensures.streams) c.loop-pid-test.true c.loop-pid.invariant
+    c.in_err-write_process.ensures)
 
 pub returns : goal.returns
 returns g c =
-    all_done g.S.ByteSink.puts g.S.ByteSink.failed (text_of c.args.streams.now) c.pids-pid-items.result.now
-    c.loop-pid.pid-index (whole c.args.streams.now c.pids-pid-items.result.now c.pids-pid-items.ensures.value
+    all_done g.S.ByteSink.puts g.S.ByteSink.failed (text_of c.args.streams.now)
+    c.pids-pid-items.result.now
+    c.loop-pid.pid-index (whole c.args.streams.now c.pids-pid-items.result.now
+    c.pids-pid-items.ensures.value
     c.pids-pid-items.ensures.streams) c.loop-pid-test.false c.loop-pid.invariant

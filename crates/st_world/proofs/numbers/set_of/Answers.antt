@@ -10,5 +10,6 @@ pub loop-pid-preserved : goal.loop-pid-preserved
 loop-pid-preserved c =
     let none : Pid = record { node = 0; number = 0 } in
     c.in-Ok.ensures.keys
-    ∙ ap (λ keys. insert_key pid_eq keys (get_or c.args.pids.now c.loop-pid.pid-index none)) c.loop-pid.invariant
+    ∙ ap (λ keys. insert_key pid_eq keys (get_or c.args.pids.now c.loop-pid.pid-index none))
+    c.loop-pid.invariant
     ∙ insert_next c.args.pids.now c.loop-pid.pid-index none c.requires c.loop-pid-test.true

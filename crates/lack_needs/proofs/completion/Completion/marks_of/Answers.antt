@@ -26,7 +26,8 @@ returns-in-Some c =
     let p = c.args.pid in
     let all = ap (λ (x : Completed). all_streams x.wholes) (sym c.self.view_is)
     ∙ all_kept streams lists in
-    let marks = c.marks_at.ensures ∙ ap (λ ls. get_or ls c.in-Some.place []) c.deref.ensures.value in
+    let marks = c.marks_at.ensures ∙ ap (λ ls. get_or ls c.in-Some.place [])
+    c.deref.ensures.value in
     ap (λ ss. marked_with (events_of ss p) c.marks_at.result.now) all
     ∙ ap (marked_with (events_of streams p)) marks
     ∙ sym (marked_kept streams lists c.in-Some.place p c.pids-pids.ensures.streams.draft.rising

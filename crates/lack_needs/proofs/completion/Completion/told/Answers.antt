@@ -1,5 +1,6 @@
 -- The marks of a process are those at its place.
-use Rattle.std.proofs.Common.{ℕ, Bool, List, [], Option, option_map, slice_get, length, get_or, sym, ◌∙◌, ap}
+use Rattle.std.proofs.Common.{ℕ, Bool, List, [], Option, option_map, slice_get, length, get_or, sym}
+use Rattle.std.proofs.Common.{◌∙◌, ap}
 use Rattle.st_core.specs.Streams.{events_of}
 use Rattle.st_plan.specs.Marks.{Marked}
 use Rattle.lack_laws.specs.Needs.{marked_of}

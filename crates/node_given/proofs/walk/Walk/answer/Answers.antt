@@ -19,8 +19,10 @@ returns c = λ es kind answer known.
     ∙ ap (λ xs. xs ++ c.clock_of_answer.result ∷ []) c.new-clocks.ensures.items
     ∙ ap (λ k. k ∷ []) c.clock_of_answer.ensures in
     on_ok c.note.result
-    (λ are. subst (λ ks. IsKnown (es ++ e ∷ []) ks 0 c.last_of_answer-self.result false u) (sym items)
+    (λ are. subst (λ ks. IsKnown (es ++ e ∷ []) ks 0 c.last_of_answer-self.result false u)
+    (sym items)
     (subst (λ k. IsKnown (es ++ e ∷ []) (n ∷ []) 0 k false u) (sym last)
-    (known_answer es old.clocks.items old.lift old.last old.takes old.tokens u e known c.requires kind
+    (known_answer es old.clocks.items old.lift old.last old.takes old.tokens u e known c.requires
+    kind
     answer (subst (λ k. AreTokens (fresh k ∷ tokens es) u) last are))))
     (c.note.ensures (tokens es) known.tokens_are)

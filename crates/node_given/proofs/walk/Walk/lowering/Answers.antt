@@ -4,8 +4,7 @@ use Rattle.std.proofs.lemmas.Bool.{false≢true}
 use Rattle.st_core.specs.declared.types.Serial.{Serial}
 use Rattle.node_machine.specs.Given.{tokens}
 use Rattle.node_given.proofs.Decisions.{lowered_by_receive, lowered_by_token, lowered_count}
-use Rattle.node_given.proofs.Decisions.{lowered_ends}
-use Rattle.node_given.proofs.Decisions.{lowered_last, lowered_never}
+use Rattle.node_given.proofs.Decisions.{lowered_ends, lowered_last, lowered_never}
 use Rattle.node_given.proofs.walk.Walk.lowering.Goals as goal
 
 pub returns-then-not-self-clause-missing : goal.returns-then-not-self-clause-missing
@@ -36,7 +35,8 @@ returns-in_err-prev-clause-missing c = λ es known t low.
     let found = lowered_count es w.clocks.items w.lift w.last w.takes w.tokens known c.args.stamp
     c.count_before-clock.result c.count_before-clock.ensures.next c.count_before-clock.ensures.fits
     c.if-self-clock-2.false c.if-self-clock.false t low in
-    absurd (false≢true (c.in_err-prev.ensures.missing (tokens es) known.tokens_are t found.0 found.1))
+    absurd
+    (false≢true (c.in_err-prev.ensures.missing (tokens es) known.tokens_are t found.0 found.1))
 
 pub returns-clause-found : goal.returns-clause-found
 returns-clause-found c = λ es known.

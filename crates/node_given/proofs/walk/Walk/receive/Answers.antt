@@ -14,6 +14,8 @@ returns c = λ es kind other known.
     on_ok c.note-3.result
     (λ are. subst (λ n. IsKnown (es ++ e ∷ []) old.clocks.items n e.serial.this true u)
     (sym c.max-self.ensures)
-    (known_receive es old.clocks.items old.lift old.last old.takes old.tokens u e known c.requires kind
+    (known_receive es old.clocks.items old.lift old.last old.takes old.tokens u e known c.requires
+    kind
     other are))
-    (c.note-3.ensures _ (c.in_ok-note-2.ensures _ (c.in_ok-note.ensures (tokens es) known.tokens_are)))
+    (c.note-3.ensures _ (c.in_ok-note-2.ensures _
+    (c.in_ok-note.ensures (tokens es) known.tokens_are)))

@@ -14,7 +14,8 @@ returns-then-some_goes_on c = λ es kind known.
     let test = λ (ks : List ℕ). list_any (λ k. is_next (max k w.lift) w.last e) ks in (
       kind,
       plain_way es w.clocks.items w.lift w.last w.takes w.tokens known e
-          (ap test (sym c.deref.ensures.value) ∙ sym c.some_goes_on.ensures ∙ c.if-some_goes_on.true),
+          (ap test (sym c.deref.ensures.value) ∙ sym c.some_goes_on.ensures
+          ∙ c.if-some_goes_on.true),
     )
 
 pub returns-then-has : goal.returns-then-has
@@ -24,7 +25,8 @@ returns-then-has c = λ es kind known.
     let test = λ (ks : List ℕ). list_any (λ k. is_next (max k w.lift) w.last e) ks in (
       kind,
       put_back_needed es w.clocks.items w.lift w.last w.takes w.tokens known e
-          (ap test (sym c.deref.ensures.value) ∙ sym c.some_goes_on.ensures ∙ c.if-some_goes_on.false),
+          (ap test (sym c.deref.ensures.value) ∙ sym c.some_goes_on.ensures
+          ∙ c.if-some_goes_on.false),
       record {
         held = c.has.ensures.found (tokens es) known.tokens_are c.if-has.true;
         prev = refl;
@@ -39,7 +41,8 @@ returns-in-Some c = λ es kind known.
     let test = λ (ks : List ℕ). list_any (λ k. is_next (max k w.lift) w.last e) ks in (
       kind,
       put_back_needed es w.clocks.items w.lift w.last w.takes w.tokens known e
-          (ap test (sym c.deref.ensures.value) ∙ sym c.some_goes_on.ensures ∙ c.if-some_goes_on.false),
+          (ap test (sym c.deref.ensures.value) ∙ sym c.some_goes_on.ensures
+          ∙ c.if-some_goes_on.false),
       c.in-Some.ensures.found es known,
     )
 
@@ -50,9 +53,12 @@ returns-in-None c = λ es kind known.
     let test = λ (ks : List ℕ). list_any (λ k. is_next (max k w.lift) w.last e) ks in (
       kind,
       λ given. not_given es w.clocks.items w.lift w.last w.takes w.tokens known e
-          c.count_before-this.result c.count_before-this.ensures.next c.count_before-this.ensures.fits
+          c.count_before-this.result c.count_before-this.ensures.next
+          c.count_before-this.ensures.fits
           (put_back_needed es w.clocks.items w.lift w.last w.takes w.tokens known e
-          (ap test (sym c.deref.ensures.value) ∙ sym c.some_goes_on.ensures ∙ c.if-some_goes_on.false))
-          (λ held. false≢true (sym c.if-has.false ∙ c.has.ensures.missing (tokens es) known.tokens_are held))
+          (ap test (sym c.deref.ensures.value) ∙ sym c.some_goes_on.ensures
+          ∙ c.if-some_goes_on.false))
+          (λ held. false≢true (sym c.if-has.false ∙ c.has.ensures.missing (tokens es)
+          known.tokens_are held))
           (λ token low. false≢true (c.in-None.ensures.missing es known token low)) given,
     )

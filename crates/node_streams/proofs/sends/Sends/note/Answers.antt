@@ -24,7 +24,8 @@ returns-in-Ok c = λ told index_is are.
     let number = c.in_ok-number-in-Send.ensures.before ∙ ap (count_in table.counter) of in
     send_more told c.args.pid e table are is_send (send_from c.args.pid e c.requires is_send)
     (record { counter = c.note.new.self; places = c.insert.new.self })
-    (λ d. subst (λ (x : MessageContent). count_in c.note.new.self d ≡ count_in table.counter d + cond
+    (λ d. subst (λ (x : MessageContent). count_in c.note.new.self d
+    ≡ count_in table.counter d + cond
     (content_eq x d) 1 0) of
     (c.in_ok-number-in-Send.ensures.counted d))
     (λ q. c.in-Ok.ensures.updates.0 q

@@ -14,7 +14,8 @@ invariant_of-self c =
     let ranks = c.self.inside.ranks in
     let slots = c.self.inside.slots.items in
     let at : c.len-slot.result ≡ length slots = omega (arith, c.len-slot.ensures) in
-    let room : length slots < length ranks = omega (arith, at, c.len.ensures, c.if-slot-len.false) in
+    let room : length slots < length ranks =
+    omega (arith, at, c.len.ensures, c.if-slot-len.false) in
     let written : c.mark_live.new.self ≡ set ranks (length slots) 1 =
     c.mark_live.ensures ∙ ap (λ n. set ranks n 1) at in
     rw (written, c.in-Ok.ensures.items) (ranks-put ranks slots c.self.invariant c.args.key room)

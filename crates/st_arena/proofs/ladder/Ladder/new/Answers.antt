@@ -12,7 +12,8 @@ pub invariant_of-result : goal.invariant_of-result
 invariant_of-result g c =
     let ranks = c.in_ok-ranks.ranks in
     let items = node_keys (get c.args.nodes.now) c.args.ends in
-    let len : length items ≡ c.args.ends.len = length-keys (get c.args.nodes.now) c.args.ends.len c.args.ends.first in
+    let len : length items ≡ c.args.ends.len =
+    length-keys (get c.args.nodes.now) c.args.ends.len c.args.ends.first in
     let marks : ranks ≡ replicate (length items) 1 ++ replicate (length ranks - c.args.ends.len) 0 =
     c.in_ok-ranks.ensures.marks
     ∙ ap (λ n. replicate n 1 ++ replicate (length ranks - c.args.ends.len) 0) (sym len) in

@@ -6,26 +6,31 @@ use Rattle.st_arena.proofs.lists.Lists.find_first.Goals as goal
 
 pub first_answered-requires-clause-whole : goal.first_answered-requires-clause-whole
 first_answered-requires-clause-whole g c =
-    whole _ _ _ _ c.self.invariant.0 _ (ap (λ a. a.lists) c.self.view_is) c.args.list c.requires.in_range _
+    whole _ _ _ _ c.self.invariant.0 _ (ap (λ a. a.lists) c.self.view_is) c.args.list
+    c.requires.in_range _
     c.index.ensures
 
 pub returns-clause-absent : goal.returns-clause-absent
 returns-clause-absent g c =
     let is =
-    list_is _ _ _ _ c.self.invariant.0 _ (ap (λ a. a.lists) c.self.view_is) c.args.list c.requires.in_range _
+    list_is _ _ _ _ c.self.invariant.0 _ (ap (λ a. a.lists) c.self.view_is) c.args.list
+    c.requires.in_range _
     c.index.ensures in
     let len =
-    len_is _ _ _ _ c.self.invariant.0 _ (ap (λ a. a.lists) c.self.view_is) c.args.list c.requires.in_range _
+    len_is _ _ _ _ c.self.invariant.0 _ (ap (λ a. a.lists) c.self.view_is) c.args.list
+    c.requires.in_range _
     c.index.ensures in
     rw (← len, is) c.first_answered.ensures.absent
 
 pub returns-clause-position : goal.returns-clause-position
 returns-clause-position g c test computes =
     let is =
-    list_is _ _ _ _ c.self.invariant.0 _ (ap (λ a. a.lists) c.self.view_is) c.args.list c.requires.in_range _
+    list_is _ _ _ _ c.self.invariant.0 _ (ap (λ a. a.lists) c.self.view_is) c.args.list
+    c.requires.in_range _
     c.index.ensures in
     let len =
-    len_is _ _ _ _ c.self.invariant.0 _ (ap (λ a. a.lists) c.self.view_is) c.args.list c.requires.in_range _
+    len_is _ _ _ _ c.self.invariant.0 _ (ap (λ a. a.lists) c.self.view_is) c.args.list
+    c.requires.in_range _
     c.index.ensures in
     position-found _ test _ computes c.first_answered.result
     (rw is c.first_answered.ensures.found)

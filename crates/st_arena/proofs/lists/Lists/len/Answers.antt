@@ -5,4 +5,5 @@ use Rattle.st_arena.proofs.lists.Lists.len.Goals as goal
 
 pub returns : goal.returns
 returns g c =
-    len_is _ _ _ _ c.self.invariant.0 _ (ap (λ a. a.lists) c.self.view_is) c.args.list c.requires _ c.index.ensures
+    len_is _ _ _ _ c.self.invariant.0 _ (ap (λ a. a.lists) c.self.view_is) c.args.list c.requires _
+    c.index.ensures

@@ -9,5 +9,6 @@ pub returns : goal.returns
 returns c =
     c.count_live.ensures
     ∙ ap (λ l. count_at l 1) c.deref.ensures.value
-    ∙ sym (live-total c.self.inside.marks.items c.self.inside.counts.items c.self.inside.height c.self.invariant.0)
+    ∙ sym (live-total c.self.inside.marks.items c.self.inside.counts.items c.self.inside.height
+    c.self.invariant.0)
     ∙ ap sum c.self.view_is

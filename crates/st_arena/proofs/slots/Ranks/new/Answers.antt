@@ -12,6 +12,7 @@ invariant_of-result c =
     let len : c.args.live + (slots - c.args.live) ≡ wide height * 64 =
     omega (arith, wide_is, c.requires.within, c.size_over-size.ensures.room) in
     let counted =
-    counted-new c.in_ok-counts.counts.items height c.args.live (slots - c.args.live) c.in_ok-counts.ensures.tree
+    counted-new c.in_ok-counts.counts.items height c.args.live (slots - c.args.live)
+    c.in_ok-counts.ensures.tree
     (rw (← wide_is) c.in_ok-counts.ensures.leaves) len in
     (rw c.in_ok-marks.ensures counted, wide_is)

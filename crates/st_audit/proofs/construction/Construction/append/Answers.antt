@@ -28,13 +28,15 @@ returns-in-Reported-clause-exact g c = λ x e at there.
     let new = c.report.new.self in
     let marks = g.M.Tells.marks c.args.marks.now in
     let earlier = earlier_of streams (take n xs) in
-    let here = slice_get-get_or xs n _ c.requires.within ∙ ap (λ (x : Item). Some x) c.in-Reported.is in
+    let here = slice_get-get_or xs n _ c.requires.within
+    ∙ ap (λ (x : Item). Some x) c.in-Reported.is in
     let same : item.Reported p i ≡ x = same_Some (item.Reported p i) x (sym here ∙ at) in
     let below = told_below streams p xs n in
     let counted : IsCountedAs streams old.told.items p (event_count p earlier) =
     λ k found. c.requires.so_far.told k p found (omega (arith, c.ranges.number)) in
     subst (λ (y : Item). event_of streams y ≡ Some e
-    → Meets {T = Unit {0}} SaysNothing (item_turn streams marks old earlier (move_by y e)) old c.report.result new) same
+    → Meets {T = Unit {0}} SaysNothing (item_turn streams marks old earlier (move_by y e)) old
+    c.report.result new) same
     (λ found. subst (λ t. Meets {T = Unit {0}} SaysNothing t old c.report.result new)
     (report_turn_is streams marks earlier old c.requires.so_far p i e)
     (c.report.ensures.exact e (event_count p earlier) found given.paired counted)) there
@@ -53,8 +55,10 @@ returns-in-Reported-clause-so_far g c =
     let marks = g.M.Tells.marks c.args.marks.now in
     let earlier = earlier_of streams (take n xs) in
     let x = item.Reported p i in
-    let here = slice_get-get_or xs n _ c.requires.within ∙ ap (λ (x : Item). Some x) c.in-Reported.is in
-    let found = event_there streams x (all_at (IsThere streams) xs n x (order_there streams rising xs given.order)
+    let here = slice_get-get_or xs n _ c.requires.within
+    ∙ ap (λ (x : Item). Some x) c.in-Reported.is in
+    let found = event_there streams x
+    (all_at (IsThere streams) xs n x (order_there streams rising xs given.order)
     here) in
     let e = found.0 in
     let below = told_below streams p xs n in
@@ -63,10 +67,13 @@ returns-in-Reported-clause-so_far g c =
     let met = subst (λ t. Meets {T = Unit {0}} SaysNothing t old c.report.result new)
     (report_turn_is streams marks earlier old c.requires.so_far p i e)
     (c.report.ensures.exact e (event_count p earlier) found.1 given.paired counted) in
-    next_so_far streams marks xs n old new c.requires.so_far rising given.order given.paired.accepted x e here
-    found.1 c.report.result met (c.report.ensures.skipped e found.1) (c.report.ensures.told ∙ c.requires.so_far.listed)
+    next_so_far streams marks xs n old new c.requires.so_far rising given.order
+    given.paired.accepted x e here
+    found.1 c.report.result met (c.report.ensures.skipped e found.1)
+    (c.report.ensures.told ∙ c.requires.so_far.listed)
     (IfOk-weaker c.report.result _ (λ u. AreTold streams (move_by x e ∷ earlier) new.told.items)
-    (λ u tells. told_next streams earlier old.told.items new.told.items p i e rising c.requires.so_far.told tells)
+    (λ u tells. told_next streams earlier old.told.items new.told.items p i e rising
+    c.requires.so_far.told tells)
     c.report.ensures.tells)
 
 pub returns-in-Hidden-clause-exact : goal.returns-in-Hidden-clause-exact
@@ -80,13 +87,16 @@ returns-in-Hidden-clause-exact g c = λ x e at there.
     let new = c.send_hidden.new.self in
     let marks = g.M.Tells.marks c.args.marks.now in
     let earlier = earlier_of streams (take n xs) in
-    let here = slice_get-get_or xs n _ c.requires.within ∙ ap (λ (x : Item). Some x) c.in-Hidden.is in
+    let here = slice_get-get_or xs n _ c.requires.within
+    ∙ ap (λ (x : Item). Some x) c.in-Hidden.is in
     let same : item.Hidden p i ≡ x = same_Some (item.Hidden p i) x (sym here ∙ at) in
     subst (λ (y : Item). event_of streams y ≡ Some e
-    → Meets {T = Unit {0}} SaysNothing (item_turn streams marks old earlier (move_by y e)) old c.send_hidden.result new)
+    → Meets {T = Unit {0}} SaysNothing (item_turn streams marks old earlier (move_by y e)) old
+    c.send_hidden.result new)
     same
     (λ found. subst (λ t. Meets {T = Unit {0}} SaysNothing t old c.send_hidden.result new)
-    (hidden_turn_is streams marks earlier old c.requires.so_far p i e) (c.send_hidden.ensures.exact e found)) there
+    (hidden_turn_is streams marks earlier old c.requires.so_far p i e)
+    (c.send_hidden.ensures.exact e found)) there
 
 pub returns-in-Hidden-clause-so_far : goal.returns-in-Hidden-clause-so_far
 returns-in-Hidden-clause-so_far g c =
@@ -102,14 +112,18 @@ returns-in-Hidden-clause-so_far g c =
     let marks = g.M.Tells.marks c.args.marks.now in
     let earlier = earlier_of streams (take n xs) in
     let x = item.Hidden p i in
-    let here = slice_get-get_or xs n _ c.requires.within ∙ ap (λ (x : Item). Some x) c.in-Hidden.is in
-    let found = event_there streams x (all_at (IsThere streams) xs n x (order_there streams rising xs given.order)
+    let here = slice_get-get_or xs n _ c.requires.within
+    ∙ ap (λ (x : Item). Some x) c.in-Hidden.is in
+    let found = event_there streams x
+    (all_at (IsThere streams) xs n x (order_there streams rising xs given.order)
     here) in
     let e = found.0 in
     let met = subst (λ t. Meets {T = Unit {0}} SaysNothing t old c.send_hidden.result new)
-    (hidden_turn_is streams marks earlier old c.requires.so_far p i e) (c.send_hidden.ensures.exact e found.1) in
+    (hidden_turn_is streams marks earlier old c.requires.so_far p i e)
+    (c.send_hidden.ensures.exact e found.1) in
     let kept = sym c.send_hidden.ensures.told in
-    next_so_far streams marks xs n old new c.requires.so_far rising given.order given.paired.accepted x e here
+    next_so_far streams marks xs n old new c.requires.so_far rising given.order
+    given.paired.accepted x e here
     found.1 c.send_hidden.result met (c.send_hidden.ensures.skipped e found.1)
     (ap (λ t. length t.items) c.send_hidden.ensures.told ∙ c.requires.so_far.listed)
     (on_ok c.send_hidden.result (AreTold streams (move_by x e ∷ earlier) new.told.items)

@@ -17,7 +17,8 @@ returns-clause-so_far g c =
     record {
       counted = begins pids c.in-Ok.world c.in-Ok.ensures.zero;
       missed = refl;
-      listed = ap length zeros ∙ length-replicate (length pids) 0 ∙ ap length c.pids-pids.ensures.value
+      listed = ap length zeros ∙ length-replicate (length pids) 0
+          ∙ ap length c.pids-pids.ensures.value
           ∙ length-map streams (λ (x : Stream). x.pid);
       told = none_told streams pids c.in_ok-told.told.items zeros c.pids-pids.ensures.value;
     }
@@ -27,5 +28,6 @@ returns-clause-matched g c =
     let passes = IsPassedBy g.row.TOP c.args.streams.now in
     let zero = c.in-Ok.ensures.zero ∙ ap zero_state c.pids-pids.ensures.value in
     subst (λ s. IfSome c.args.comparison (passes c.new-2.result s)) (sym zero)
-    (subst (λ acts. IfSome c.args.comparison (passes acts (zero_state (pids_of c.args.streams.now))))
+    (subst (λ acts. IfSome c.args.comparison
+    (passes acts (zero_state (pids_of c.args.streams.now))))
     (sym c.new-2.ensures) c.requires)

@@ -8,7 +8,8 @@ use Rattle.st_audit.proofs.construction.Construction.open.Given as goal
 abbrev pub invariant-loop-pid : goal.invariant-loop-pid
 invariant-loop-pid g l =
     record {
-      so_far : (streams : List Stream) → IsSoFar streams [] l.initial.self → IsSoFar streams [] l.self;
+      so_far : (streams : List Stream) → IsSoFar streams [] l.initial.self
+          → IsSoFar streams [] l.self;
       opens : Opens l.pids l.node (drop l.pid-index l.pids) l.initial.self l.self;
       matched : IsMatched l.streams l.self;
     }

@@ -17,6 +17,7 @@ returns-clause-matched g c =
     let streams = c.args.streams.now in
     let old = c.args.self.now in
     let world = c.step.new.self in
-    subst (λ xs. IfSome c.compare.new.comparison (IsPassedBy top streams xs world)) (sym c.in-Ok.ensures.ok)
+    subst (λ xs. IfSome c.compare.new.comparison (IsPassedBy top streams xs world))
+    (sym c.in-Ok.ensures.ok)
     (c.in-Ok-compare.ensures top old.acts old.world world (sym c.len-number.ensures) c.requires
     c.in-Ok-step.ensures.step)

@@ -1,4 +1,5 @@
--- The places so far lead from the event back to the one that comes next, whose count is less than theirs.
+-- The places so far lead from the event back to the one that comes next, whose count is less than
+-- theirs.
 use Rattle.std.proofs.Common.{ℕ, ◌++◌, List}
 use Rattle.st_core.specs.declared.types.Pid.{Pid}
 use Rattle.st_chain.specs.Causes.{place_at, far, IsBackFrom}

@@ -1,4 +1,5 @@
--- The actor is listed, since its act has a step. It reports another event; or each part of what is kept moves with it.
+-- The actor is listed, since its act has a step. It reports another event; or each part of what is
+-- kept moves with it.
 use Rattle.std.proofs.Common.{ℕ, List, ◌++◌, Option, sym, ◌∙◌, ap, arith}
 use Rattle.std.proofs.lemmas.Bool.{false≢true}
 use Rattle.std.proofs.lemmas.Option.{slice_get_within}
@@ -12,8 +13,10 @@ use Rattle.st_check.proofs.comparison.Comparison.advance.Goals as goal
 pub returns-in_default : goal.returns-in_default
 returns-in_default c = λ top acts old new number passed steps.
     let kept = c.args.self.now in
-    absurd (listed_at top c.args.streams.now acts c.args.number c.args.act.now old kept.counts.items kept.tags.lists
-    kept.pairs number passed (outcome_to c.args.outcome.now new) steps c.actor-me.result c.actor-me.ensures
+    absurd (listed_at top c.args.streams.now acts c.args.number c.args.act.now old kept.counts.items
+    kept.tags.lists
+    kept.pairs number passed (outcome_to c.args.outcome.now new) steps c.actor-me.result
+    c.actor-me.ensures
     c.in_default.ensures.missing)
 
 pub count-requires : goal.count-requires
@@ -26,9 +29,12 @@ count-requires c =
 pub returns-then-not-count : goal.returns-then-not-count
 returns-then-not-count c = λ top acts old new number passed steps.
     let kept = c.args.self.now in
-    differs_at top c.args.streams.now acts c.args.number c.args.act.now old kept.counts.items kept.tags.lists
-    kept.pairs number passed (outcome_to c.args.outcome.now new) steps c.actor-me.result c.in-Some.place
-    c.events.result.now c.events.ensures.streams.draft.rising c.actor-me.ensures c.in-Some.ensures.found
+    differs_at top c.args.streams.now acts c.args.number c.args.act.now old kept.counts.items
+    kept.tags.lists
+    kept.pairs number passed (outcome_to c.args.outcome.now new) steps c.actor-me.result
+    c.in-Some.place
+    c.events.result.now c.events.ensures.streams.draft.rising c.actor-me.ensures
+    c.in-Some.ensures.found
     c.events.ensures.value
     (λ next. false≢true (sym c.if-not-count.true ∙ c.count.ensures.next.1 next))
 
@@ -36,14 +42,18 @@ pub returns : goal.returns
 returns c = λ top acts old new number passed steps.
     let kept = c.args.self.now in
     let counted = c.if-not-count.ensures in
-    passed_at top c.args.streams.now acts c.args.number c.args.act.now old kept.counts.items kept.tags.lists
-    kept.pairs number passed (outcome_to c.args.outcome.now new) steps c.actor-me.result c.in-Some.place
-    c.events.result.now c.events.ensures.streams.draft.rising c.actor-me.ensures c.in-Some.ensures.found
+    passed_at top c.args.streams.now acts c.args.number c.args.act.now old kept.counts.items
+    kept.tags.lists
+    kept.pairs number passed (outcome_to c.args.outcome.now new) steps c.actor-me.result
+    c.in-Some.place
+    c.events.result.now c.events.ensures.streams.draft.rising c.actor-me.ensures
+    c.in-Some.ensures.found
     c.events.ensures.value
     c.count.new.self.counts.items c.retag.new.tags.lists c.pair.new.pairs c.in_ok-sent.sent
     (c.count.ensures.next.0 c.if-not-count.false)
     (c.count.ensures.counts c.if-not-count.false)
     (λ t had. c.in_ok-sent.ensures.tags t (ap (λ (x : Arena ℕ). x.lists) counted.tags ∙ had))
     (λ t had. c.in_ok-sent.ensures.pair t (ap (λ (x : Arena ℕ). x.lists) counted.tags ∙ had))
-    (c.in_ok-pair.ensures ∙ ap (λ (xs : List (ℕ × ℕ)). xs ++ pair_to c.args.number c.and.result) counted.pairs
+    (c.in_ok-pair.ensures ∙ ap (λ (xs : List (ℕ × ℕ)). xs ++ pair_to c.args.number c.and.result)
+    counted.pairs
     ∙ ap (λ (x : Option ℕ). kept.pairs ++ pair_to c.args.number x) c.and.ensures)

@@ -9,7 +9,8 @@ returns-in-Some c = λ top acts s passed.
     let kept = c.args.self in
     let left = c.in-Some.ensures.found in
     left_verdict top c.args.streams.now acts s kept.counts.items kept.tags.lists kept.pairs
-    c.first_left.ensures.streams.draft.rising passed left.place c.in-Some.pid left.is_there left.left
+    c.first_left.ensures.streams.draft.rising passed left.place c.in-Some.pid left.is_there
+    left.left
     (λ j q below at. left.before j q below at)
 
 pub returns-in-None : goal.returns-in-None

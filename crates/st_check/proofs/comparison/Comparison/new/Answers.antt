@@ -8,6 +8,9 @@ use Rattle.st_check.proofs.comparison.Comparison.new.Goals as goal
 pub returns : goal.returns
 returns c = λ top.
     let pids = c.pids-pids.ensures.value in
-    passed_start top c.args.streams.now c.pids-pids.result.now (zero_state (pids_of c.args.streams.now))
-    c.in_ok-counts.counts.items c.in_ok-tags.tags.lists c.new-2.result pids (ap zero_state (sym pids))
-    (c.in_ok-counts.ensures.items_if_clones_equal (λ y same. same)) c.in_ok-tags.ensures.empty c.new-2.ensures
+    passed_start top c.args.streams.now c.pids-pids.result.now
+    (zero_state (pids_of c.args.streams.now))
+    c.in_ok-counts.counts.items c.in_ok-tags.tags.lists c.new-2.result pids
+    (ap zero_state (sym pids))
+    (c.in_ok-counts.ensures.items_if_clones_equal (λ y same. same)) c.in_ok-tags.ensures.empty
+    c.new-2.ensures

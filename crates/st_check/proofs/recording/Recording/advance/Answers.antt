@@ -1,4 +1,5 @@
--- The world steps exactly if the definition does, and the report is added to the stream of its actor.
+-- The world steps exactly if the definition does, and the report is added to the stream of its
+-- actor.
 use Rattle.std.proofs.Common.{◌≡◌, sym, ◌∙◌, ap}
 use Rattle.st_core.specs.declared.types.Pid.{Pid}
 use Rattle.st_core.specs.Run.{pids_of}
@@ -13,7 +14,8 @@ returns-in-Err-Unknown g c =
     c.args.keeps_replies c.args.self.now.world c.args.self.now.streams c.args.self.now.replies
     c.requires.within c.requires.recorded
     (no_step_but c.in-Err-Unknown.ensures.no_step
-    (λ memory. let other : fault.Unknown ≡ fault.Memory = sym c.in-Err-Unknown.field-0-is ∙ memory in cc))
+    (λ memory. let other : fault.Unknown ≡ fault.Memory =
+    sym c.in-Err-Unknown.field-0-is ∙ memory in cc))
 
 pub returns-in-Err-ClockFull : goal.returns-in-Err-ClockFull
 returns-in-Err-ClockFull g c =
@@ -21,7 +23,8 @@ returns-in-Err-ClockFull g c =
     c.args.keeps_replies c.args.self.now.world c.args.self.now.streams c.args.self.now.replies
     c.requires.within c.requires.recorded
     (no_step_but c.in-Err-ClockFull.ensures.no_step
-    (λ memory. let other : fault.ClockFull ≡ fault.Memory = sym c.in-Err-ClockFull.field-0-is ∙ memory in cc))
+    (λ memory. let other : fault.ClockFull ≡ fault.Memory =
+    sym c.in-Err-ClockFull.field-0-is ∙ memory in cc))
 
 pub record-requires-clause-listed : goal.record-requires-clause-listed
 record-requires-clause-listed g c =
@@ -43,4 +46,5 @@ returns g c =
     recorded_at g.row.TOP (pids_of c.args.self.now.streams) c.args.acts.now c.args.number _
     c.args.keeps_replies c.args.self.now.world c.args.self.now.streams c.args.self.now.replies
     c.requires.within c.requires.recorded _ c.in-Ok.ensures.step
-    c.actor.result c.record.new.streams c.keep.new.replies c.actor.ensures c.in_ok-record.ensures c.in_ok-keep.ensures
+    c.actor.result c.record.new.streams c.keep.new.replies c.actor.ensures c.in_ok-record.ensures
+    c.in_ok-keep.ensures

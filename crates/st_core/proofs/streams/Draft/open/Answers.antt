@@ -1,13 +1,15 @@
 -- A pid above the last of pids that rise is above them all, so both lists may grow by it.
 use Rattle.std.proofs.Common.{sym, ◌∙◌, []}
 use Rattle.std.proofs.lemmas.Bool.{false≢true}
-use Rattle.st_core.proofs.Collections.{ComesLast-collected, ComesLast-pids, collected-push, IsCollected-push}
+use Rattle.st_core.proofs.Collections.{ComesLast-collected, ComesLast-pids, collected-push}
+use Rattle.st_core.proofs.Collections.{IsCollected-push}
 use Rattle.st_core.proofs.streams.Draft.open.Goals as goal
 
 pub returns-then-not-comes_last-clause-fault : goal.returns-then-not-comes_last-clause-fault
 returns-then-not-comes_last-clause-fault c all =
     let below = ComesLast-pids _ _ _ c.self.invariant.even (rw c.self.view_is all) in
-    false≢true (sym c.if-not-comes_last.true ∙ c.comes_last.ensures.1 (rw c.deref.ensures.value below))
+    false≢true (sym c.if-not-comes_last.true
+    ∙ c.comes_last.ensures.1 (rw c.deref.ensures.value below))
 
 pub returns-in_default-clause-fault : goal.returns-in_default-clause-fault
 returns-in_default-clause-fault c =

@@ -5,7 +5,8 @@ use Rattle.st_core.proofs.streams.Draft.pids.Goals as goal
 
 pub returns-clause-value : goal.returns-clause-value
 returns-clause-value c =
-    rw (c.as_slice.ensures.value, ← c.self.view_is) (sym (pids_of-collected _ _ c.self.invariant.even))
+    rw (c.as_slice.ensures.value, ← c.self.view_is)
+    (sym (pids_of-collected _ _ c.self.invariant.even))
 
 pub returns-clause-draft : goal.returns-clause-draft
 returns-clause-draft c = rw (← c.self.view_is) (draft_from_collected _ _ _ c.self.invariant)

@@ -10,12 +10,15 @@ pub invariant_of-self : goal.invariant_of-self
 invariant_of-self c =
     let inside = c.self.inside in
     let kept = c.keep_call-brief in
-    let spare : 0 < inside.reserved = subst (λ n. 0 < n) (ap (λ (log : CallList). log.spare) (sym c.self.view_is))
+    let spare : 0 < inside.reserved =
+    subst (λ n. 0 < n) (ap (λ (log : CallList). log.spare) (sym c.self.view_is))
     c.requires in
     let fewer : inside.reserved ≡ (inside.reserved - 1) + 1 = omega (arith, spare) in
     rw (c.push_reserved.ensures.capacity, kept.ensures.capacity)
-    (calls_kept inside.briefs.items c.push_reserved.new.self.items inside.whole.items kept.new.whole.items kept.result
-    (c.args.act.now, c.args.reply.now) _ _ inside.reserved (inside.reserved - 1) c.self.invariant kept.ensures.whole
+    (calls_kept inside.briefs.items c.push_reserved.new.self.items inside.whole.items
+    kept.new.whole.items kept.result
+    (c.args.act.now, c.args.reply.now) _ _ inside.reserved (inside.reserved - 1) c.self.invariant
+    kept.ensures.whole
     kept.ensures.placed c.push_reserved.ensures.items fewer)
 
 pub returns-clause-calls : goal.returns-clause-calls
@@ -23,6 +26,7 @@ returns-clause-calls c =
     let inside = c.self.inside in
     let kept = c.keep_call-brief in
     let call : Act × Reply = (c.args.act.now, c.args.reply.now) in
-    calls_pushed inside.briefs.items c.push_reserved.new.self.items inside.whole.items kept.new.whole.items kept.result
+    calls_pushed inside.briefs.items c.push_reserved.new.self.items inside.whole.items
+    kept.new.whole.items kept.result
     call c.self.invariant.placed kept.ensures.whole kept.ensures.says c.push_reserved.ensures.items
     ∙ ap (λ (log : CallList). log.calls ++ call ∷ []) c.self.view_is

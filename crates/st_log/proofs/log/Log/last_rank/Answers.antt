@@ -10,7 +10,8 @@ pub returns-in-Some : goal.returns-in-Some
 returns-in-Some c =
     let row = c.in-Some.row.now in
     let inside = c.self.inside in
-    let last = subst (λ (rows : List LogRow). Some row ≡ slice_get rows (length rows - 1)) c.deref.ensures.value
+    let last = subst (λ (rows : List LogRow). Some row ≡ slice_get rows (length rows - 1))
+    c.deref.ensures.value
     c.in-Some.ensures.value in
     last_rank-rows 0 inside.rows.items inside.calls.calls inside.traced.items inside.apart.items row
     last

@@ -8,7 +8,8 @@ pub keep_content-content-requires : goal.keep_content-content-requires
 keep_content-content-requires c =
     let inside = c.self.inside in
     let log = c.self.invariant in
-    let spare : 0 < inside.reserved = subst (λ n. 0 < n) (ap (λ (log : Logged). log.spare) (sym c.self.view_is))
+    let spare : 0 < inside.reserved =
+    subst (λ n. 0 < n) (ap (λ (log : Logged). log.spare) (sym c.self.view_is))
     c.requires in
     record {
       call_room = omega (arith, spare, log.calls_fit);
@@ -22,13 +23,17 @@ pub invariant_of-self : goal.invariant_of-self
 invariant_of-self c =
     let inside = c.self.inside in
     let kept = c.keep_content-content in
-    let spare : 0 < inside.reserved = subst (λ n. 0 < n) (ap (λ (log : Logged). log.spare) (sym c.self.view_is))
+    let spare : 0 < inside.reserved =
+    subst (λ n. 0 < n) (ap (λ (log : Logged). log.spare) (sym c.self.view_is))
     c.requires in
     let fewer : inside.reserved ≡ (inside.reserved - 1) + 1 = omega (arith, spare) in
     rw (c.push_reserved.ensures.capacity, kept.ensures.capacity, kept.ensures.traced_capacity)
-    (log_pushed inside.rows.items c.push_reserved.new.self.items inside.calls kept.new.calls inside.traced.items
-    kept.new.traced.items inside.apart.items kept.new.apart.items kept.result c.args.entry.now _ _ _ inside.reserved
-    (inside.reserved - 1) c.self.invariant kept.ensures.calls kept.ensures.spare kept.ensures.traced kept.ensures.apart
+    (log_pushed inside.rows.items c.push_reserved.new.self.items inside.calls kept.new.calls
+    inside.traced.items
+    kept.new.traced.items inside.apart.items kept.new.apart.items kept.result c.args.entry.now _ _ _
+    inside.reserved
+    (inside.reserved - 1) c.self.invariant kept.ensures.calls kept.ensures.spare kept.ensures.traced
+    kept.ensures.apart
     kept.ensures.placed c.push_reserved.ensures.items fewer)
 
 pub returns-clause-entries : goal.returns-clause-entries
@@ -36,8 +41,10 @@ returns-clause-entries c =
     let inside = c.self.inside in
     let kept = c.keep_content-content in
     let e = c.args.entry.now in
-    entries_pushed inside.rows.items c.push_reserved.new.self.items inside.calls.calls kept.new.calls.calls
+    entries_pushed inside.rows.items c.push_reserved.new.self.items inside.calls.calls
+    kept.new.calls.calls
     inside.traced.items kept.new.traced.items inside.apart.items kept.new.apart.items kept.result e
-    c.self.invariant.placed kept.ensures.calls kept.ensures.traced kept.ensures.apart kept.ensures.says
+    c.self.invariant.placed kept.ensures.calls kept.ensures.traced kept.ensures.apart
+    kept.ensures.says
     c.push_reserved.ensures.items
     ∙ ap (λ (log : Logged). log.entries ++ e ∷ []) c.self.view_is

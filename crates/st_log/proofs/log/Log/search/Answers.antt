@@ -16,10 +16,14 @@ returns-clause-position c =
     let r = c.binary_search_by_key.result in
     let found = c.binary_search_by_key.ensures in
     let rows = c.self.inside.rows.items in
-    let bound = subst (λ (xs : List LogRow). IsSearchInRange r (length xs)) c.deref.ensures.value found.bound in
-    let position = subst (λ (xs : List LogRow). IsBinarySearchResult (λ (x : LogRow). nat_cmp x.rank n) xs r)
+    let bound = subst (λ (xs : List LogRow). IsSearchInRange r (length xs)) c.deref.ensures.value
+    found.bound in
+    let position = subst (λ (xs : List LogRow).
+    IsBinarySearchResult (λ (x : LogRow). nat_cmp x.rank n) xs r)
     c.deref.ensures.value
     (found.position (λ (x : LogRow). x.rank) (answers_always _ _ _ (λ f a r h i. search rules))) in
-    subst (λ (log : Logged). IsBinarySearchResult (λ (e : Entry). nat_cmp e.rank n) log.entries r) c.self.view_is
-    (search_keys (row_entry c.self.inside.calls.calls c.self.inside.traced.items c.self.inside.apart.items)
+    subst (λ (log : Logged). IsBinarySearchResult (λ (e : Entry). nat_cmp e.rank n) log.entries r)
+    c.self.view_is
+    (search_keys (row_entry c.self.inside.calls.calls c.self.inside.traced.items
+    c.self.inside.apart.items)
     (λ (e : Entry). nat_cmp e.rank n) rows r bound position)

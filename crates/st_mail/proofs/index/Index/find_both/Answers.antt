@@ -19,7 +19,8 @@ pub rank-requires : goal.rank-requires
 rank-requires c =
     let index = c.args.self.now in
     let has = c.requires.index.is.has_slots in
-    in_ranks index c.requires.index.is.slots has pid_count_cmp is_of_both index.pairs has.pairs c.requires.kept
+    in_ranks index c.requires.index.is.slots has pid_count_cmp is_of_both index.pairs has.pairs
+    c.requires.kept
     (c.args.from, c.args.value) 0 c.in_ok-slot.slot
     (subst (λ (o : Option ℕ). IsFirst
     (has_key pid_count_cmp index.pairs (c.args.from, c.args.value)) 0 o) c.in_ok-slot.was

@@ -12,7 +12,8 @@ returns-in_err-slot c queue is =
     let index = c.args.self.now in
     c.from_residual.ensures
     ∙ ap (option_map (λ s. sum (take s index.ranks))) (sym c.in_err-slot.was)
-    ∙ place_first index is.slots is.has_slots pid_cmp is_from index.senders is.has_slots.senders c.requires.kept
+    ∙ place_first index is.slots is.has_slots pid_cmp is_from index.senders is.has_slots.senders
+    c.requires.kept
     c.args.from queue is.items
     c.first.result c.first.ensures
 
@@ -22,13 +23,15 @@ rank-requires c =
     let has = c.requires.index.is.has_slots in
     in_ranks index c.requires.index.is.slots has pid_cmp is_from index.senders has.senders
     c.requires.kept c.args.from 0 c.in_ok-slot.slot
-    (subst (λ (o : Option ℕ). IsFirst (has_key pid_cmp index.senders c.args.from) 0 o) c.in_ok-slot.was c.first.ensures)
+    (subst (λ (o : Option ℕ). IsFirst (has_key pid_cmp index.senders c.args.from) 0 o)
+    c.in_ok-slot.was c.first.ensures)
 
 pub returns : goal.returns
 returns c queue is =
     let index = c.args.self.now in
     ap (λ n. Some n) c.rank.ensures
     ∙ ap (option_map (λ s. sum (take s index.ranks))) (sym c.in_ok-slot.was)
-    ∙ place_first index is.slots is.has_slots pid_cmp is_from index.senders is.has_slots.senders c.requires.kept
+    ∙ place_first index is.slots is.has_slots pid_cmp is_from index.senders is.has_slots.senders
+    c.requires.kept
     c.args.from queue is.items
     c.first.result c.first.ensures

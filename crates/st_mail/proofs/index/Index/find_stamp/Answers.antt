@@ -10,7 +10,8 @@ pub returns-in_err-behind : goal.returns-in_err-behind
 returns-in_err-behind c queue is =
     let index = c.args.self.now in
     c.from_residual.ensures
-    ∙ place_none index is.slots is.has_slots pid_count_cmp bears_key index.stamps is.has_slots.stamps c.requires.kept
+    ∙ place_none index is.slots is.has_slots pid_count_cmp bears_key index.stamps
+    is.has_slots.stamps c.requires.kept
     (c.args.from, c.args.this) queue is.items c.args.start c.in_err-behind.ensures.absent
 
 pub returns-in_err-slot : goal.returns-in_err-slot
@@ -18,7 +19,8 @@ returns-in_err-slot c queue is =
     let index = c.args.self.now in
     c.from_residual-in_err-slot.ensures
     ∙ ap (option_map (λ s. sum (take s index.ranks))) (sym c.in_err-slot.was)
-    ∙ place_from index is.slots is.has_slots pid_count_cmp bears_key index.stamps is.has_slots.stamps c.requires.kept
+    ∙ place_from index is.slots is.has_slots pid_count_cmp bears_key index.stamps
+    is.has_slots.stamps c.requires.kept
     (c.args.from, c.args.this) queue is.items c.in_ok-behind.behind c.args.start c.first.result
     c.in_ok-behind.ensures.live c.in_ok-behind.ensures.rank c.first.ensures
 
@@ -38,6 +40,7 @@ returns c queue is =
     let index = c.args.self.now in
     ap (λ n. Some n) c.rank.ensures
     ∙ ap (option_map (λ s. sum (take s index.ranks))) (sym c.in_ok-slot.was)
-    ∙ place_from index is.slots is.has_slots pid_count_cmp bears_key index.stamps is.has_slots.stamps c.requires.kept
+    ∙ place_from index is.slots is.has_slots pid_count_cmp bears_key index.stamps
+    is.has_slots.stamps c.requires.kept
     (c.args.from, c.args.this) queue is.items c.in_ok-behind.behind c.args.start c.first.result
     c.in_ok-behind.ensures.live c.in_ok-behind.ensures.rank c.first.ensures

@@ -12,7 +12,8 @@ returns-in_err-slot c queue is =
     let index = c.args.self.now in
     c.from_residual.ensures
     ∙ ap (option_map (λ s. sum (take s index.ranks))) (sym c.in_err-slot.was)
-    ∙ place_first index is.slots is.has_slots nat_cmp is_of_value index.values is.has_slots.values c.requires.kept
+    ∙ place_first index is.slots is.has_slots nat_cmp is_of_value index.values is.has_slots.values
+    c.requires.kept
     c.args.value queue is.items
     c.first.result c.first.ensures
 
@@ -22,13 +23,15 @@ rank-requires c =
     let has = c.requires.index.is.has_slots in
     in_ranks index c.requires.index.is.slots has nat_cmp is_of_value index.values has.values
     c.requires.kept c.args.value 0 c.in_ok-slot.slot
-    (subst (λ (o : Option ℕ). IsFirst (has_key nat_cmp index.values c.args.value) 0 o) c.in_ok-slot.was c.first.ensures)
+    (subst (λ (o : Option ℕ). IsFirst (has_key nat_cmp index.values c.args.value) 0 o)
+    c.in_ok-slot.was c.first.ensures)
 
 pub returns : goal.returns
 returns c queue is =
     let index = c.args.self.now in
     ap (λ n. Some n) c.rank.ensures
     ∙ ap (option_map (λ s. sum (take s index.ranks))) (sym c.in_ok-slot.was)
-    ∙ place_first index is.slots is.has_slots nat_cmp is_of_value index.values is.has_slots.values c.requires.kept
+    ∙ place_first index is.slots is.has_slots nat_cmp is_of_value index.values is.has_slots.values
+    c.requires.kept
     c.args.value queue is.items
     c.first.result c.first.ensures

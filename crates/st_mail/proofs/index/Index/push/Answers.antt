@@ -1,5 +1,6 @@
 -- The message has the next slot, and each set of keys gets its own.
-use Rattle.std.proofs.Common.{◌≡◌, ◌+◌, ℕ, Some, List, [], ◌∷◌, ◌++◌, length, set, refl, ap, ◌∙◌, arith}
+use Rattle.std.proofs.Common.{◌≡◌, ◌+◌, ℕ, Some, List, [], ◌∷◌, ◌++◌, length, set, refl, ap, ◌∙◌}
+use Rattle.std.proofs.Common.{arith}
 use Rattle.std.proofs.lemmas.List.{length_push}
 use Rattle.std.specs.Ordering.{nat_cmp, is_eq}
 use Rattle.st_core.specs.Pid.{pid_cmp}
@@ -22,7 +23,8 @@ returns-clause-pushed c queue is =
     let has = is.has_slots in
     let m = c.args.message.now in
     let one_more : length (slots ++ Some m ∷ []) ≡ length slots + 1 = length_push slots (Some m) in
-    let with_one = ranks-put old.ranks slots has.ranks m (omega (arith, has.used, c.requires.room)) in
+    let with_one = ranks-put old.ranks slots has.ranks m
+    (omega (arith, has.used, c.requires.room)) in
     let written : c.mark_live.new.self ≡ set old.ranks (length slots) 1 =
     c.mark_live.ensures ∙ ap (λ (n : ℕ). set old.ranks n 1) has.used in
     record {
@@ -34,13 +36,16 @@ returns-clause-pushed c queue is =
         values =
             keyed-push nat_cmp is_of_value slots m (λ k. is_eq (nat_cmp m.value k)) (value_key m)
             old.values c.insert.new.self
-            old.used has.used c.in_ok-insert.ensures.inserted c.in_ok-insert.ensures.kept has.values;
+            old.used has.used c.in_ok-insert.ensures.inserted c.in_ok-insert.ensures.kept
+            has.values;
         senders =
             keyed-push pid_cmp is_from slots m (λ p. is_eq (pid_cmp m.from p)) (from_key m)
             old.senders c.insert-2.new.self
-            old.used has.used c.in_ok-insert-2.ensures.inserted c.in_ok-insert-2.ensures.kept has.senders;
+            old.used has.used c.in_ok-insert-2.ensures.inserted c.in_ok-insert-2.ensures.kept
+            has.senders;
         pairs =
-            keyed-push pid_count_cmp is_of_both slots m (λ k. is_eq (pid_count_cmp (m.from, m.value) k)) (both_key m)
+            keyed-push pid_count_cmp is_of_both slots m
+            (λ k. is_eq (pid_count_cmp (m.from, m.value) k)) (both_key m)
             old.pairs c.insert-3.new.self old.used has.used c.in_ok-insert-3.ensures.inserted
             c.in_ok-insert-3.ensures.kept has.pairs;
         stamps =

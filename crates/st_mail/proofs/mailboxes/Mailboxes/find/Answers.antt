@@ -44,5 +44,6 @@ returns-in-Both c =
     let from = c.in-Both.from in
     let value = c.in-Both.value in
     c.find_both.ensures
-    ∙ picked (want.Both from value) (λ (m : Message). pid_eq m.from from && m.value == value) queue (λ k m. refl)
+    ∙ picked (want.Both from value) (λ (m : Message). pid_eq m.from from && m.value == value) queue
+    (λ k m. refl)
     ∙ ap (λ (w : Want). place_picked w queue) (sym c.in-Both.is)

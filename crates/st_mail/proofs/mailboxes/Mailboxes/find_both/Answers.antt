@@ -6,10 +6,12 @@ use Rattle.st_mail.proofs.Boxes.{in_stored, found}
 use Rattle.st_mail.proofs.mailboxes.Mailboxes.find_both.Goals as goal
 
 pub find_both-requires : goal.find_both-requires
-find_both-requires c = in_stored _ _ c.self.invariant _ (ap (λ m. m.boxes) c.self.view_is) c.args.mailbox c.requires
+find_both-requires c = in_stored _ _ c.self.invariant _ (ap (λ m. m.boxes) c.self.view_is)
+    c.args.mailbox c.requires
 
 pub returns : goal.returns
 returns c =
     c.find_both.ensures
-    ∙ found _ _ c.self.invariant _ (ap (λ m. m.boxes) c.self.view_is) c.args.mailbox c.requires _ refl
+    ∙ found _ _ c.self.invariant _ (ap (λ m. m.boxes) c.self.view_is) c.args.mailbox c.requires _
+    refl
     (λ (m : Message). pid_eq m.from c.args.from && m.value == c.args.value) (λ m. refl)

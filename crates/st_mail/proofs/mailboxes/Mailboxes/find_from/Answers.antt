@@ -6,10 +6,12 @@ use Rattle.st_mail.proofs.Boxes.{in_stored, found}
 use Rattle.st_mail.proofs.mailboxes.Mailboxes.find_from.Goals as goal
 
 pub find_from-requires : goal.find_from-requires
-find_from-requires c = in_stored _ _ c.self.invariant _ (ap (λ m. m.boxes) c.self.view_is) c.args.mailbox c.requires
+find_from-requires c = in_stored _ _ c.self.invariant _ (ap (λ m. m.boxes) c.self.view_is)
+    c.args.mailbox c.requires
 
 pub returns : goal.returns
 returns c =
     c.find_from.ensures
-    ∙ found _ _ c.self.invariant _ (ap (λ m. m.boxes) c.self.view_is) c.args.mailbox c.requires _ refl
+    ∙ found _ _ c.self.invariant _ (ap (λ m. m.boxes) c.self.view_is) c.args.mailbox c.requires _
+    refl
     (λ (m : Message). pid_eq m.from c.args.from) (λ m. refl)

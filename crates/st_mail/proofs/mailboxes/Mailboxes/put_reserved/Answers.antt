@@ -6,16 +6,19 @@ use Rattle.st_mail.proofs.mailboxes.Mailboxes.put_reserved.Goals as goal
 
 pub push_reserved-requires-clause-in_range : goal.push_reserved-requires-clause-in_range
 push_reserved-requires-clause-in_range c =
-    in_stored _ _ c.self.invariant _ (ap (λ m. m.boxes) c.self.view_is) c.args.mailbox c.requires.within
+    in_stored _ _ c.self.invariant _ (ap (λ m. m.boxes) c.self.view_is) c.args.mailbox
+    c.requires.within
 
 pub invariant_of-self : goal.invariant_of-self
 invariant_of-self c =
     rw c.push_reserved.ensures.pushed
-    (pushed_fronts _ _ c.self.invariant _ (ap (λ m. m.boxes) c.self.view_is) c.args.mailbox c.requires.within _ refl
+    (pushed_fronts _ _ c.self.invariant _ (ap (λ m. m.boxes) c.self.view_is) c.args.mailbox
+    c.requires.within _ refl
     c.args.message)
 
 pub returns-clause-boxes : goal.returns-clause-boxes
 returns-clause-boxes c =
     ap (fronts_wiped c.self.inside.wiped.items) c.push_reserved.ensures.pushed
-    ∙ pushed _ _ c.self.invariant _ (ap (λ m. m.boxes) c.self.view_is) c.args.mailbox c.requires.within _ refl
+    ∙ pushed _ _ c.self.invariant _ (ap (λ m. m.boxes) c.self.view_is) c.args.mailbox
+    c.requires.within _ refl
     c.args.message

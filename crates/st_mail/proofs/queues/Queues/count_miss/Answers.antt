@@ -19,5 +19,6 @@ invariant_of-self c =
     let finds =
     finder_of c.self.inside.finders.items stored c.self.invariant stored refl c.args.queue within
     c.index_mut.result.now (sym c.index_mut.ensures.value) in
-    kept_found c.self.inside.finders.items stored c.self.invariant c.args.queue c.count_walk.new.self
+    kept_found c.self.inside.finders.items stored c.self.invariant c.args.queue
+    c.count_walk.new.self
     (c.count_walk.ensures finds)

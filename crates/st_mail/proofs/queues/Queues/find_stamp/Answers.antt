@@ -13,22 +13,28 @@ returns-in_err-place c =
     let stamp = λ (m : Message). bears_stamp c.args.from c.args.this m.token in
     let start = c.args.start in
     let list = list_at c.self.inside.lists c.args.queue in
-    let walked = YieldsList-from_first (λ m. m.now) (λ ms. ms) list (c.skip-kept.ensures.source ∙ c.walk.ensures) in
+    let walked = YieldsList-from_first (λ m. m.now) (λ ms. ms) list
+    (c.skip-kept.ensures.source ∙ c.walk.ensures) in
     let found : c.position.result ≡ position stamp (drop start list) =
     position_from_yields_List stamp _ _ c.position.result c.position.ensures.ran
-    (YieldsList-from_skip start walked c.skip-kept.ensures.count) (λ m b q k. search (rules, tests)) in
+    (YieldsList-from_skip start walked c.skip-kept.ensures.count)
+    (λ m b q k. search (rules, tests)) in
     c.from_residual.ensures
     ∙ ap (option_map (λ k. start + k)) (sym (c.in_err-place.was) ∙ found)
-    ∙ ap (λ a. option_map (λ k. start + k) (position stamp (drop start (list_at a c.args.queue)))) c.self.view_is
+    ∙ ap (λ a. option_map (λ k. start + k) (position stamp (drop start (list_at a c.args.queue))))
+    c.self.view_is
 
 pub returns : goal.returns
 returns c =
     let stamp = λ (m : Message). bears_stamp c.args.from c.args.this m.token in
     let start = c.args.start in
     let list = list_at c.self.inside.lists c.args.queue in
-    let walked = YieldsList-from_first (λ m. m.now) (λ ms. ms) list (c.skip-kept.ensures.source ∙ c.walk.ensures) in
+    let walked = YieldsList-from_first (λ m. m.now) (λ ms. ms) list
+    (c.skip-kept.ensures.source ∙ c.walk.ensures) in
     let found : c.position.result ≡ position stamp (drop start list) =
     position_from_yields_List stamp _ _ c.position.result c.position.ensures.ran
-    (YieldsList-from_skip start walked c.skip-kept.ensures.count) (λ m b q k. search (rules, tests)) in
+    (YieldsList-from_skip start walked c.skip-kept.ensures.count)
+    (λ m b q k. search (rules, tests)) in
     ap (option_map (λ k. start + k)) (sym (c.in_ok-place.was) ∙ found)
-    ∙ ap (λ a. option_map (λ k. start + k) (position stamp (drop start (list_at a c.args.queue)))) c.self.view_is
+    ∙ ap (λ a. option_map (λ k. start + k) (position stamp (drop start (list_at a c.args.queue))))
+    c.self.view_is

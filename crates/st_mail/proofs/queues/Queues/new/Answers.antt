@@ -10,10 +10,12 @@ pub loop-preserved : goal.loop-preserved
 loop-preserved c =
     let next : c.loop.counter + 1 ≡ suc c.loop.counter = omega arith in
     let more =
-    found_more c.loop.finders.items c.loop.counter c.new-in-loop.result c.loop.invariant (c.new-in-loop.ensures []) in
+    found_more c.loop.finders.items c.loop.counter c.new-in-loop.result c.loop.invariant
+    (c.new-in-loop.ensures []) in
     rw (c.in_ok-push.ensures.items, next) more
 
 pub invariant_of-result : goal.invariant_of-result
 invariant_of-result c =
-    let all : c.loop.counter ≡ c.args.count = omega (arith, c.loop-test.false, c.loop.auto.counter-end) in
+    let all : c.loop.counter ≡ c.args.count =
+    omega (arith, c.loop-test.false, c.loop.auto.counter-end) in
     rw (c.in_ok-lists.ensures.empty, ← all) c.loop.invariant

@@ -33,6 +33,8 @@ invariant_of-self c =
     ≡ queue_in stored c.args.queue ++ c.args.message ∷ [] =
     ap (λ (ls : List (List Message)). queue_in ls c.args.queue) c.push_reserved.ensures.pushed
     ∙ get_or-set_same stored c.args.queue _ [] within in
-    written_found c.self.inside.finders.items stored c.self.invariant stored refl c.args.queue within c.push.new.self
-    (queue_in stored c.args.queue ++ c.args.message ∷ []) c.push_reserved.new.self.lists c.push_reserved.ensures.pushed
+    written_found c.self.inside.finders.items stored c.self.invariant stored refl c.args.queue
+    within c.push.new.self
+    (queue_in stored c.args.queue ++ c.args.message ∷ []) c.push_reserved.new.self.lists
+    c.push_reserved.ensures.pushed
     (c.push.ensures (queue_in stored c.args.queue) finds there)

@@ -34,6 +34,7 @@ invariant_of-self-2 c =
     let there : queue_in c.take_at.new.self.lists c.args.queue ≡ remove list c.args.place =
     ap (λ (ls : List (List Message)). queue_in ls c.args.queue) taken
     ∙ get_or-set_same stored c.args.queue _ [] within in
-    written_found c.self.inside.finders.items stored c.self.invariant stored refl c.args.queue within c.remove.new.self
+    written_found c.self.inside.finders.items stored c.self.invariant stored refl c.args.queue
+    within c.remove.new.self
     (remove list c.args.place) c.take_at.new.self.lists taken
     (c.remove.ensures list finds (sym c.in_ok-message.ensures.value) there)

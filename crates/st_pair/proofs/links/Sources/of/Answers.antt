@@ -12,7 +12,8 @@ loop-pid-preserved c =
     let events = c.events-events.ensures.value in
     let within = c.loop-pid-test.true in
     record {
-      links = c.in_ok-push.ensures.items ∙ gathered (links_back streams) streams _ _ _ _ _ _ rising are within events
+      links = c.in_ok-push.ensures.items ∙ gathered (links_back streams) streams _ _ _ _ _ _ rising
+          are within events
           c.in_ok-of_events.ensures.links c.loop-pid.invariant.links;
       sent = c.in_ok-of_events.ensures.sent ∙ c.loop-pid.invariant.sent;
     }

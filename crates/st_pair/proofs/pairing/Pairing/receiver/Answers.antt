@@ -9,5 +9,6 @@ returns-in-None c = λ streams made. ap (option_and_then receiver_in) c.in-None.
     ∙ receiver_read streams _ c.args.pid c.args.index made
 
 pub returns-in-Some : goal.returns-in-Some
-returns-in-Some c = λ streams made. c.receiver.ensures ∙ ap (option_and_then receiver_in) c.in-Some.ensures
+returns-in-Some c = λ streams made. c.receiver.ensures ∙ ap (option_and_then receiver_in)
+    c.in-Some.ensures
     ∙ receiver_read streams _ c.args.pid c.args.index made

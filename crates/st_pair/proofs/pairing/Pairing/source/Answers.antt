@@ -9,5 +9,6 @@ returns-in-None c = λ streams made. ap (option_and_then source_in) c.in-None.en
     ∙ source_read streams _ c.args.pid c.args.index made
 
 pub returns-in-Some : goal.returns-in-Some
-returns-in-Some c = λ streams made. c.source.ensures ∙ ap (option_and_then source_in) c.in-Some.ensures
+returns-in-Some c = λ streams made. c.source.ensures ∙ ap (option_and_then source_in)
+    c.in-Some.ensures
     ∙ source_read streams _ c.args.pid c.args.index made

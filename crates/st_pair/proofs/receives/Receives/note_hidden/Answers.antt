@@ -15,7 +15,8 @@ returns-in-Ok-None-clause-first c =
 
 pub returns-in-Ok-None-clause-noted : goal.returns-in-Ok-None-clause-noted
 returns-in-Ok-None-clause-noted c = λ same.
-    noted_hidden c.args.streams.now c.args.self.now.shown.items (get key_eq c.args.self.now.hidden) _ c.args.key
+    noted_hidden c.args.streams.now c.args.self.now.shown.items (get key_eq c.args.self.now.hidden)
+    _ c.args.key
     c.args.place c.requires c.in-Ok-None.ensures.updates.0
     (inl (sym c.in-Ok-None.ensures.old ∙ c.in-Ok-None.field-0-is))
 
@@ -28,6 +29,7 @@ returns-in-Ok-Some-clause-first c =
 
 pub returns-in-Ok-Some-clause-noted : goal.returns-in-Ok-Some-clause-noted
 returns-in-Ok-Some-clause-noted c = λ same.
-    noted_hidden c.args.streams.now c.args.self.now.shown.items (get key_eq c.args.self.now.hidden) _ c.args.key
+    noted_hidden c.args.streams.now c.args.self.now.shown.items (get key_eq c.args.self.now.hidden)
+    _ c.args.key
     c.args.place c.requires c.in-Ok-Some.ensures.updates.0
     (inr (sym c.in-Ok-Some.ensures.old ∙ c.in-Ok-Some.field-0-is ∙ ap Some same))

@@ -1,5 +1,6 @@
 -- The first receive from an event is noted there, under no other key than its own.
-use Rattle.std.proofs.Common.{◌≡◌, ◌<◌, [], ap, get_or, length, List, None, Some, subst, sym, slice_set, ◌∙◌, rules}
+use Rattle.std.proofs.Common.{◌≡◌, ◌<◌, [], ap, get_or, length, List, None, Some, subst, sym}
+use Rattle.std.proofs.Common.{slice_set, ◌∙◌, rules}
 use Rattle.std.proofs.lemmas.List.{get_or_default}
 use Rattle.indexmap.specs.IndexMap.{get}
 use Rattle.st_pair.specs.Places.{or_else}
@@ -10,7 +11,8 @@ use Rattle.st_pair.proofs.receives.Receives.note_shown.Goals as goal
 pub returns-in-Some-clause-first : goal.returns-in-Some-clause-first
 returns-in-Some-clause-first c =
     let lists = c.args.self.now.shown.items in
-    let marked = mark_read c.args.streams.now lists c.args.key c.args.mark.process c.args.mark.index c.requires.rising
+    let marked = mark_read c.args.streams.now lists c.args.key c.args.mark.process c.args.mark.index
+    c.requires.rising
     c.requires.process c.requires.index ∙ c.requires.first in
     let hidden = get key_eq c.args.self.now.hidden c.args.key in
     sym (ap (λ o. or_else (given o hidden) (Some c.args.place)) marked
@@ -19,7 +21,8 @@ returns-in-Some-clause-first c =
 pub returns-in-Some-clause-noted : goal.returns-in-Some-clause-noted
 returns-in-Some-clause-noted c = λ same.
     let lists = c.args.self.now.shown.items in
-    let marked = mark_read c.args.streams.now lists c.args.key c.args.mark.process c.args.mark.index c.requires.rising
+    let marked = mark_read c.args.streams.now lists c.args.key c.args.mark.process c.args.mark.index
+    c.requires.rising
     c.requires.process c.requires.index ∙ c.requires.first in
     let hidden = get key_eq c.args.self.now.hidden c.args.key in
     noted_again (place_for c.args.streams.now c.args.self.now) c.args.key c.args.place
@@ -28,7 +31,8 @@ returns-in-Some-clause-noted c = λ same.
 pub returns-in-None-clause-first : goal.returns-in-None-clause-first
 returns-in-None-clause-first c =
     let lists = c.args.self.now.shown.items in
-    let marked = mark_read c.args.streams.now lists c.args.key c.args.mark.process c.args.mark.index c.requires.rising
+    let marked = mark_read c.args.streams.now lists c.args.key c.args.mark.process c.args.mark.index
+    c.requires.rising
     c.requires.process c.requires.index ∙ c.requires.first in
     let hidden = get key_eq c.args.self.now.hidden c.args.key in
     sym (ap (λ o. or_else (given o hidden) (Some c.args.place)) marked
@@ -36,7 +40,8 @@ returns-in-None-clause-first c =
 
 pub index_mut-requires : goal.index_mut-requires
 index_mut-requires c =
-    let bounds = mark_within c.args.self.now.shown.items c.args.mark.process c.args.mark.index c.args.mark.first
+    let bounds = mark_within c.args.self.now.shown.items c.args.mark.process c.args.mark.index
+    c.args.mark.first
     c.requires.first in
     let within : c.args.mark.process < length c.args.self.now.shown.items = bounds.0 in
     search rules
@@ -47,7 +52,8 @@ put-requires c =
     let n = c.args.mark.process in
     let bounds = mark_within lists n c.args.mark.index c.args.mark.first c.requires.first in
     let marks = c.index_mut.result.now in
-    let same : marks ≡ get_or lists n [] = c.index_mut.ensures.value ∙ get_or_default lists n marks [] bounds.0 in
+    let same : marks ≡ get_or lists n [] =
+    c.index_mut.ensures.value ∙ get_or_default lists n marks [] bounds.0 in
     subst (λ (l : List Mark). c.args.mark.index < length l) (sym same) bounds.1
 
 pub returns-in-None-clause-noted : goal.returns-in-None-clause-noted
@@ -59,8 +65,11 @@ returns-in-None-clause-noted c = λ first k.
     let free = c.requires.first ∙ ap Some c.in-None.is in
     let bounds = mark_within lists n i None free in
     let marks = c.index_mut.result.now in
-    let same : marks ≡ get_or lists n [] = c.index_mut.ensures.value ∙ get_or_default lists n marks [] bounds.0 in
+    let same : marks ≡ get_or lists n [] =
+    c.index_mut.ensures.value ∙ get_or_default lists n marks [] bounds.0 in
     let put = c.put.ensures ∙ ap (λ (l : List Mark). slice_set l i (Some c.args.place)) same in
-    ap (λ (l : List Mark). given (mark_of c.args.streams.now (slice_set lists n l) k) (hidden k)) put
-    ∙ noted_at c.args.streams.now lists hidden c.args.key n i c.args.place c.requires.rising c.requires.process
+    ap (λ (l : List Mark). given (mark_of c.args.streams.now (slice_set lists n l) k) (hidden k))
+    put
+    ∙ noted_at c.args.streams.now lists hidden c.args.key n i c.args.place c.requires.rising
+    c.requires.process
     c.requires.index free k

@@ -13,7 +13,8 @@ use Rattle.st_pair.proofs.receives.Receives.of.Goals as goal
 pub note_receives-requires-clause-links : goal.note_receives-requires-clause-links
 note_receives-requires-clause-links c =
     let streams = c.args.streams.now in
-    let made = made_at streams c.pids-pids.result.now c.loop-place.place _ _ c.pids-pids.ensures.streams.draft.rising
+    let made = made_at streams c.pids-pids.result.now c.loop-place.place _ _
+    c.pids-pids.ensures.streams.draft.rising
     c.pids-pids.ensures.value c.loop-place-test.true c.events.ensures.value in
     c.as_slice-own.ensures ∙ c.index-links-place.is
     ∙ read_made (links_back streams) streams c.loop-place.place _ _ c.args.links.now c.requires made
@@ -25,13 +26,17 @@ returns-in_err-note_receives-clause-fault c =
     let are = c.pids-pids.ensures.value in
     let within = c.loop-place-test.true in
     let events = c.events.ensures.value in
-    let all = all_with streams rising _ _ _ _ (place_for streams c.loop-place.receives) are within events
+    let all = all_with streams rising _ _ _ _ (place_for streams c.loop-place.receives) are within
+    events
     c.loop-place.invariant.table in
     let given = c.in_err-note_receives.ensures.fault _ all in
-    let here : IfErr c.from_residual.result (IsFirstFault (first_from (repeated streams) _ 0 c.events.result.now)) =
+    let here : IfErr c.from_residual.result
+    (IsFirstFault (first_from (repeated streams) _ 0 c.events.result.now)) =
     search (given, rules) in
-    err_along c.from_residual.result _ _ (λ g h. sym (first-given (repeated streams) streams rising _ _ _ g are
-    within (sym h ∙ ap (first_from (repeated streams) _ 0) events) c.loop-place.invariant.once)) here
+    err_along c.from_residual.result _ _
+    (λ g h. sym (first-given (repeated streams) streams rising _ _ _ g are
+    within (sym h ∙ ap (first_from (repeated streams) _ 0) events) c.loop-place.invariant.once))
+    here
 
 pub loop-place-preserved : goal.loop-place-preserved
 loop-place-preserved c =
@@ -40,12 +45,14 @@ loop-place-preserved c =
     let are = c.pids-pids.ensures.value in
     let within = c.loop-place-test.true in
     let events = c.events.ensures.value in
-    let all = all_with streams rising _ _ _ _ (place_for streams c.loop-place.receives) are within events
+    let all = all_with streams rising _ _ _ _ (place_for streams c.loop-place.receives) are within
+    events
     c.loop-place.invariant.table in
     record {
       table = λ k. table-passed (receive_rule k) streams rising _ _ _ _ _ _ are within events
           (c.in_ok-note_receives.ensures.noted k) (c.loop-place.invariant.table k);
       once = first-passed (repeated streams) streams rising _ _ _ are within
-          (sym (c.in_ok-note_receives.ensures.once _ all) ∙ ap (first_from (repeated streams) _ 0) events)
+          (sym (c.in_ok-note_receives.ensures.once _ all) ∙ ap (first_from (repeated streams) _ 0)
+          events)
           c.loop-place.invariant.once;
     }

@@ -8,7 +8,8 @@ use Rattle.st_pair.proofs.receives.Receives.of.Given as goal
 
 abbrev pub invariant-loop-place : goal.invariant-loop-place
 invariant-loop-place l = record {
-  table : (k : Key) → or_else (place_for l.streams l.receives k) (first (receive_rule k) (drop l.place l.streams))
+  table : (k : Key) → or_else (place_for l.streams l.receives k)
+      (first (receive_rule k) (drop l.place l.streams))
       ≡ first (receive_rule k) l.streams;
   once : first (repeated l.streams) l.streams ≡ first (repeated l.streams) (drop l.place l.streams);
 }

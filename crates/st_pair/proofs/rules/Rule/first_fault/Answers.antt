@@ -5,10 +5,12 @@ use Rattle.st_pair.proofs.rules.Rule.first_fault.Goals as goal
 
 pub returns-in-Some : goal.returns-in-Some
 returns-in-Some c = first-given
-    (fault_at c.args.self.now c.args.streams.now) _ c.pids-pid-items.ensures.streams.draft.rising _ _ _ _
+    (fault_at c.args.self.now c.args.streams.now) _ c.pids-pid-items.ensures.streams.draft.rising _
+    _ _ _
     c.pids-pid-items.ensures.value c.loop-pid-test.true c.in-Some.ensures c.loop-pid.invariant
 
 pub loop-pid-preserved : goal.loop-pid-preserved
 loop-pid-preserved c = first-passed
-    (fault_at c.args.self.now c.args.streams.now) _ c.pids-pid-items.ensures.streams.draft.rising _ _ _
+    (fault_at c.args.self.now c.args.streams.now) _ c.pids-pid-items.ensures.streams.draft.rising _
+    _ _
     c.pids-pid-items.ensures.value c.loop-pid-test.true c.in_default.ensures c.loop-pid.invariant

@@ -8,4 +8,8 @@ use Rattle.st_pair.proofs.rules.Rule.first_fault_in.Goals as goal
 pub loop-i-preserved : goal.loop-i-preserved
 loop-i-preserved c =
     let at = at_get_or c.events-events.result.now c.loop-i.i blank c.loop-i-test.true in
-    record { rest = grind (arith, common_steps); last = grind (arith, common_steps, at, c.match-event.branch) }
+    record {
+      rest = grind (arith, common_steps);
+      last =
+          grind (arith, common_steps, at, c.match-event.branch);
+    }

@@ -1,4 +1,5 @@
--- The rule gives nothing at the events that were taken, and the last send or print among them is known.
+-- The rule gives nothing at the events that were taken, and the last send or print among them is
+-- known.
 use Rattle.std.proofs.Common.{◌≡◌, drop}
 use Rattle.st_pair.specs.Places.{first_from}
 use Rattle.st_pair.specs.Rules.{count_before, fault_at}

@@ -26,7 +26,9 @@ returns c =
     (YieldsList-from_vec {s = zip_second pairs} scripts
     (ap (λ it. it.rest.items) second ∙ made.0)
     (ap (λ it. it.rest.len) second ∙ made.1 ∙ c.args.scripts.ok.0)))
-    c.loop-seat.yielded c.loop-seat.seat-iterator c.loop-seat.yielded_by c.next.result c.next.new.self
+    c.loop-seat.yielded c.loop-seat.seat-iterator c.loop-seat.yielded_by c.next.result
+    c.next.new.self
     c.in-None.is c.next.ensures.steps in
-    c.loop-seat.invariant ∙ ap (λ ps. map (λ x. (x.0.pid, x.1)) ps) (sym (map-id c.loop-seat.yielded) ∙ all.0)
+    c.loop-seat.invariant ∙ ap (λ ps. map (λ x. (x.0.pid, x.1)) ps)
+    (sym (map-id c.loop-seat.yielded) ∙ all.0)
     ∙ zip_map (λ s. s.pid) seats scripts

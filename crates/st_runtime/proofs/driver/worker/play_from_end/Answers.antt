@@ -26,9 +26,12 @@ loop-act-preserved g c =
     let made = c.in_default-act.ensures.ok in (
       c.in_default-act.ensures.pid ∙ same.0,
       ap (λ xs. called_acts c.act.new.seat.mine ++ reverse xs) c.shrink_if_half_empty.ensures
-          ∙ ap (λ cs. called_acts cs ++ reverse rest) made ∙ made_next mine a c.in_default-act.field-0 rest _ split,
-      subst (All (IsOwn pids p)) (sym (ap called_acts made ∙ acts_push mine a c.in_default-act.field-0))
-          (All-push (IsOwn pids p) (called_acts mine) a same.2 (subst (λ q. IsOwn pids q a) same.0 own)),
+          ∙ ap (λ cs. called_acts cs ++ reverse rest) made
+          ∙ made_next mine a c.in_default-act.field-0 rest _ split,
+      subst (All (IsOwn pids p))
+          (sym (ap called_acts made ∙ acts_push mine a c.in_default-act.field-0))
+          (All-push (IsOwn pids p) (called_acts mine) a same.2
+          (subst (λ q. IsOwn pids q a) same.0 own)),
     )
 
 pub returns-in-Err : goal.returns-in-Err
@@ -45,7 +48,8 @@ returns-in-Err g c =
     c.pop.ensures.items ∙ ap (λ o. rest ++ option_to_list o) c.in-Some.is in
     let split : called_acts mine ++ reverse (rest ++ a ∷ []) ≡ script =
     ap (λ xs. called_acts mine ++ reverse xs) (sym popped) ∙ same.1 in
-    let refusal = refusal_of pids p c.loop-act.seat.pid a c.act.result f c.in-Err.is same.0 c.act.ensures.not_yours
+    let refusal = refusal_of pids p c.loop-act.seat.pid a c.act.result f c.in-Err.is same.0
+    c.act.ensures.not_yours
     c.act.ensures.unknown c.act.ensures.clock in
     let kept = c.in-Err.ensures.err in record {
       pid = ap (λ (s : Calls). s.pid) kept ∙ same.0;

@@ -1,4 +1,5 @@
--- The script is what the seat holds and then what is left, and the seat is still the process's and holds its own acts.
+-- The script is what the seat holds and then what is left, and the seat is still the process's and
+-- holds its own acts.
 use Rattle.std.proofs.Common.{◌≡◌, ◌++◌, reverse, vec_len}
 use Rattle.std.specs.Prelude.{All}
 use Rattle.st_runtime.specs.Driven.{IsOwn}

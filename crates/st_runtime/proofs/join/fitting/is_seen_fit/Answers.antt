@@ -16,7 +16,8 @@ returns g c sure =
     let asked = c.all.ensures in
     let whole : n - 0 ≡ n = omega arith in
     let places : asked.0 ≡ range_with_len 0 n
-    = asked.1 ∙ (λ i. nat_range (same i).start (same i).end) ∙ (λ i. nat_range (ends.0 i) (ends.1 i))
+    = asked.1 ∙ (λ i. nat_range (same i).start (same i).end)
+    ∙ (λ i. nat_range (ends.0 i) (ends.1 i))
     ∙ ap (range_with_len 0) whole in
     let each = on_true c.all.result _ _ sure asked.2 in
     all_fit pieces (fits_each pieces n asked.0 places (λ i d below. each i d below refl))

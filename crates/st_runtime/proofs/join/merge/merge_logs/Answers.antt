@@ -18,8 +18,10 @@ returns-clause-merged g c =
     IfOk-weaker c.drop_ranks.result _ _ (λ refs are whole. subst (IsMerged ps) (sym are)
     (sorted_merged ps sorted c.requires
     (λ p i. (All-In Kept ps p c.in_ok-all.ensures.kept i).rises)
-    (subst (λ (es : List Entry). IsPermutation es sorted) c.in_ok-all.ensures.items c.sort_by_key.ensures.permutation)
-    (IsNonDecreasingBy-from_sort_by_key (λ (e : Entry). e.rank) sorted c.in_ok-sort_by_key.ensures.sorted
+    (subst (λ (es : List Entry). IsPermutation es sorted) c.in_ok-all.ensures.items
+    c.sort_by_key.ensures.permutation)
+    (IsNonDecreasingBy-from_sort_by_key (λ (e : Entry). e.rank) sorted
+    c.in_ok-sort_by_key.ensures.sorted
     (λ a r f h. search rules))
     (subst (λ (es : List Entry). IsStableBy by_rank es sorted) c.in_ok-all.ensures.items
     (c.sort_by_key.ensures.stable (λ e. e.rank) (answers_always _ _ _ (λ f a r h i. search rules))))

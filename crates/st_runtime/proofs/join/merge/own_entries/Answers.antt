@@ -17,7 +17,8 @@ loop-process-preserved g c =
     ∙ (λ j. c.loop-process.invariant.0 j ++ own_of (c.pid.ensures j) (c.log.ensures.value j)) in
     let more : take (i + 1) ps ≡ take i ps ++ p ∷ [] = take_more ps i p c.loop-process-test.true
     ∙ ap (λ q. take i ps ++ q ∷ []) (sym c.process-item.is) in (
-      pushed ∙ flat_map_more (λ (x : Control). own_of x.process.pid x.log) [] (take i ps) p ∙ ap flat_of (sym more),
+      pushed ∙ flat_map_more (λ (x : Control). own_of x.process.pid x.log) [] (take i ps) p
+          ∙ ap flat_of (sym more),
       All-more Fact ps i p c.loop-process-test.true c.loop-process.invariant.1
           (subst Fact c.process-item.is c.log.ensures.kept),
     )

@@ -7,4 +7,5 @@ use Rattle.st_runtime.proofs.join.merge.own_entries.Given as goal
 
 abbrev pub invariant-loop-process : goal.invariant-loop-process
 invariant-loop-process g l = (l.all.items ≡ flat_of (take l.process-index l.processes))
-    × All (λ (x : Control). IsFromLog g.row.TOP g.row.RANKS x.process x.log) (take l.process-index l.processes)
+    × All (λ (x : Control). IsFromLog g.row.TOP g.row.RANKS x.process x.log)
+    (take l.process-index l.processes)

@@ -18,5 +18,7 @@ loop-place-preserved g c =
     (c.is_on_node.ensures c.if-not-is_on_node.false)
 
 pub returns : goal.returns
-returns g c sure = All-past (λ (e : Entry). IsOnNodeIfWide c.args.processes.now c.args.pid e.act) c.loop-place.place
-    c.args.log.now.entries (omega (arith, c.loop-place-test.false, c.len-place-end.ensures)) c.loop-place.invariant
+returns g c sure = All-past (λ (e : Entry). IsOnNodeIfWide c.args.processes.now c.args.pid e.act)
+    c.loop-place.place
+    c.args.log.now.entries (omega (arith, c.loop-place-test.false, c.len-place-end.ensures))
+    c.loop-place.invariant

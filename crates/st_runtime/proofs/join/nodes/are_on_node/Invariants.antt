@@ -1,4 +1,5 @@
--- Each entry that was taken is one whose actor is there, on the node, if its act is one of a whole node.
+-- Each entry that was taken is one whose actor is there, on the node, if its act is one of a whole
+-- node.
 use Rattle.std.proofs.Common.{take}
 use Rattle.std.specs.Prelude.{All}
 use Rattle.st_log.specs.declared.entry.Entry.{Entry}

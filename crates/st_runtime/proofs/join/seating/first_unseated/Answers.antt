@@ -4,5 +4,6 @@ use Rattle.st_runtime.proofs.join.seating.first_unseated.Goals as goal
 
 pub returns : goal.returns
 returns g c =
-    first_of_both (record { processes = c.args.processes.now; seats = c.args.seats.now }) c.least_of_seats.result
+    first_of_both (record { processes = c.args.processes.now; seats = c.args.seats.now })
+    c.least_of_seats.result
     c.least_of_seats.ensures.logs c.least_of_seats.ensures.seats

@@ -1,4 +1,5 @@
--- The calls are the log's exactly if those that are left are the calls of the entries that are left.
+-- The calls are the log's exactly if those that are left are the calls of the entries that are
+-- left.
 use Rattle.std.proofs.Common.{◌≡◌, ◌≤◌, ◌↔◌, drop, length}
 use Rattle.st_runtime.specs.Pieces.{calls_of}
 use Rattle.st_runtime.proofs.join.seating.holds_calls.Given as goal

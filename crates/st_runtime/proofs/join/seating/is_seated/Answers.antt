@@ -14,8 +14,10 @@ returns-in-Some g c =
     let at = c.in-Some.ensures.some in
     let found = control_at xs c.in-Some.place x p at.0 at.1 c.index-processes-place.is in
     let told = one_told xs x p c.requires (Contains-In x xs found.0) found.1 in
-    let log = ap (λ es. record { pid = p; mine = calls_of p es } ∷ []) c.log.ensures.value in
-    (λ yes. c.has_only_seat.ensures.0 yes ∙ log ∙ sym told, λ is. c.has_only_seat.ensures.1 (is ∙ told ∙ sym log))
+    let log = ap (λ es. record { pid = p; mine = calls_of p es } ∷ []) c.log.ensures.value in (
+      λ yes. c.has_only_seat.ensures.0 yes ∙ log ∙ sym told,
+      λ is. c.has_only_seat.ensures.1 (is ∙ told ∙ sym log),
+    )
 
 pub returns-in-None : goal.returns-in-None
 returns-in-None g c =

@@ -6,7 +6,8 @@ use Rattle.st_runtime.specs.Pcb.{Control}
 use Rattle.st_runtime.specs.Pieces.{Parts, IsSeated}
 use Rattle.st_runtime.proofs.Seated.{least_seated, least_unseated}
 use Rattle.st_runtime.proofs.join.seating.least_of_logs.Goals as goal
-use Rattle.st_runtime.proofs.join.seating.least_of_logs.Goals.{then-not-is_seated, else-not-is_seated}
+use Rattle.st_runtime.proofs.join.seating.least_of_logs.Goals.{then-not-is_seated}
+use Rattle.st_runtime.proofs.join.seating.least_of_logs.Goals.{else-not-is_seated}
 
 pub loop-process-preserved : goal.loop-process-preserved
 loop-process-preserved g c =
@@ -20,7 +21,8 @@ loop-process-preserved g c =
     let Seated : Pid → Type 0 = λ p. IsSeated pieces p in
     elim c.if-not-is_seated.branch [
       | then-not-is_seated w ↦
-          let is = w.least-is ∙ w.lesser-least.ensures ∙ ap (lesser least) w.pid-then-not-is_seated.ensures in
+          let is = w.least-is ∙ w.lesser-least.ensures
+          ∙ ap (lesser least) w.pid-then-not-is_seated.ensures in
           let no : Seated x.process.pid → ⊥ = λ seated.
           let yes = c.is_seated.ensures.1 (subst Seated (sym c.pid.ensures) seated) in
           let not_so = w.if-not-is_seated.true in cc in
@@ -28,7 +30,8 @@ loop-process-preserved g c =
           (least_unseated of pieces xs i x least c.loop-process-test.true c.process-item.is no
           c.loop-process.invariant)
       | else-not-is_seated w ↦
-          let seated = subst Seated c.pid.ensures (c.is_seated.ensures.0 w.if-not-is_seated.false) in
+          let seated = subst Seated c.pid.ensures
+          (c.is_seated.ensures.0 w.if-not-is_seated.false) in
           subst Least (sym w.least-is)
           (least_seated of pieces xs i x least c.loop-process-test.true c.process-item.is seated
           c.loop-process.invariant)

@@ -6,5 +6,6 @@ use Rattle.st_runtime.proofs.join.seating.least_of_logs.Given as goal
 
 abbrev pub invariant-loop-process : goal.invariant-loop-process
 invariant-loop-process g l =
-    IsLeastUnseated (λ (x : Control). x.process.pid) (record { processes = l.processes; seats = l.seats })
+    IsLeastUnseated (λ (x : Control). x.process.pid)
+    (record { processes = l.processes; seats = l.seats })
     (take l.process-index l.processes) l.least

@@ -7,7 +7,8 @@ use Rattle.st_runtime.specs.Pieces.{Parts, IsSeated}
 use Rattle.st_runtime.specs.Seat.{Calls}
 use Rattle.st_runtime.proofs.Seated.{least_less, least_seated, least_unseated}
 use Rattle.st_runtime.proofs.join.seating.least_of_seats.Goals as goal
-use Rattle.st_runtime.proofs.join.seating.least_of_seats.Goals.{then-not-is_seated, else-not-is_seated}
+use Rattle.st_runtime.proofs.join.seating.least_of_seats.Goals.{then-not-is_seated}
+use Rattle.st_runtime.proofs.join.seating.least_of_seats.Goals.{else-not-is_seated}
 
 pub loop-seat-preserved : goal.loop-seat-preserved
 loop-seat-preserved g c =
@@ -25,18 +26,22 @@ loop-seat-preserved g c =
     let was = c.loop-seat.invariant in
     elim c.if-not-is_seated.branch [
       | then-not-is_seated w ↦
-          let is = w.least-is ∙ w.lesser-least.ensures ∙ ap (lesser least) w.pid-then-not-is_seated.ensures in
+          let is = w.least-is ∙ w.lesser-least.ensures
+          ∙ ap (lesser least) w.pid-then-not-is_seated.ensures in
           let no : Seated s.pid → ⊥ = λ seated.
           let yes = c.is_seated.ensures.1 (subst Seated (sym c.pid.ensures) seated) in
           let not_so = w.if-not-is_seated.true in cc in
           subst Least (sym is) (
             least_less of_log pieces xs least s.pid no was.0,
-            least_unseated of_seat pieces seats i s least c.loop-seat-test.true c.seat-item.is no was.1,
+            least_unseated of_seat pieces seats i s least c.loop-seat-test.true c.seat-item.is no
+                was.1,
           )
       | else-not-is_seated w ↦
-          let seated = subst Seated c.pid.ensures (c.is_seated.ensures.0 w.if-not-is_seated.false) in
+          let seated = subst Seated c.pid.ensures
+          (c.is_seated.ensures.0 w.if-not-is_seated.false) in
           subst Least (sym w.least-is) (
             was.0,
-            least_seated of_seat pieces seats i s least c.loop-seat-test.true c.seat-item.is seated was.1,
+            least_seated of_seat pieces seats i s least c.loop-seat-test.true c.seat-item.is seated
+                was.1,
           )
     ]

@@ -7,7 +7,8 @@ use Rattle.st_runtime.proofs.join.seating.least_of_seats.Given as goal
 
 abbrev pub invariant-loop-seat : goal.invariant-loop-seat
 invariant-loop-seat g l =
-    IsLeastUnseated (λ (x : Control). x.process.pid) (record { processes = l.processes; seats = l.seats })
+    IsLeastUnseated (λ (x : Control). x.process.pid)
+    (record { processes = l.processes; seats = l.seats })
     l.processes l.least
     × IsLeastUnseated (λ (s : Calls). s.pid) (record { processes = l.processes; seats = l.seats })
     (take l.seat-index l.seats) l.least

@@ -20,10 +20,12 @@ returns-in-Some g c =
       control = x;
       among = found.0;
       pid = found.1;
-      has = subst (λ log. Contains log e) c.log.ensures.value (on_true c.has_entry.result _ _ yes c.has_entry.ensures);
+      has = subst (λ log. Contains log e) c.log.ensures.value
+          (on_true c.has_entry.result _ _ yes c.has_entry.ensures);
     })
     (λ no has. on_false c.has_entry.result _ _ no c.has_entry.ensures
-    (subst (λ log. Contains log e) (sym c.log.ensures.value) (has_at_one xs x p e c.requires found.0 found.1 has)))
+    (subst (λ log. Contains log e) (sym c.log.ensures.value)
+    (has_at_one xs x p e c.requires found.0 found.1 has)))
 
 pub returns-in-None : goal.returns-in-None
 returns-in-None g c = λ has. not_among c.args.processes.now c.args.pid c.args.entry.now

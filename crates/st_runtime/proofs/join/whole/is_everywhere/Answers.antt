@@ -14,7 +14,8 @@ has_if_touched-requires g c =
       (
         c.requires.wide,
         λ same. has_at_one xs x c.args.here c.args.entry.now c.requires.held.rising
-            (c.loop-process.process-index, c.loop-process-test.true, sym c.process-item.is) same c.requires.held.here,
+            (c.loop-process.process-index, c.loop-process-test.true, sym c.process-item.is) same
+            c.requires.held.here,
       ),
     )
 
@@ -23,7 +24,8 @@ loop-process-preserved g c =
     let xs = c.args.processes.now in
     let e = c.args.entry.now in
     let x = c.process-item.result in
-    All-more (HasIfTouched e) xs c.loop-process.process-index x c.loop-process-test.true c.loop-process.invariant
+    All-more (HasIfTouched e) xs c.loop-process.process-index x c.loop-process-test.true
+    c.loop-process.invariant
     (subst (HasIfTouched e) c.process-item.is c.if-not-has_if_touched.ensures)
 
 pub returns : goal.returns

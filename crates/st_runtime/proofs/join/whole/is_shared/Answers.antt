@@ -23,8 +23,10 @@ returns-then-eq g c =
     let e = c.args.entry.now in
     let At : Pid → Type 0 = λ p. HasAt xs p e in
     match_test c.eq.result _ _
-    (λ yes. whole_of_two xs e c.requires.held.rising (sym c.is_wide.ensures ∙ c.if-is_wide.false) c.requires.made
-    (subst At (sym (pid_eq-true _ _ (sym c.eq.ensures ∙ c.if-eq.true)) ∙ c.receiver_of-receiver.ensures)
+    (λ yes. whole_of_two xs e c.requires.held.rising (sym c.is_wide.ensures ∙ c.if-is_wide.false)
+    c.requires.made
+    (subst At (sym (pid_eq-true _ _ (sym c.eq.ensures ∙ c.if-eq.true))
+    ∙ c.receiver_of-receiver.ensures)
     c.requires.held.here))
     (λ no. cc)
 
@@ -34,7 +36,8 @@ returns-else-eq g c =
     let e = c.args.entry.now in
     let At : Pid → Type 0 = λ p. HasAt xs p e in
     match_test c.has_at.result _ _
-    (λ yes. whole_of_two xs e c.requires.held.rising (sym c.is_wide.ensures ∙ c.if-is_wide.false) c.requires.made
+    (λ yes. whole_of_two xs e c.requires.held.rising (sym c.is_wide.ensures ∙ c.if-is_wide.false)
+    c.requires.made
     (subst At c.receiver_of-receiver.ensures (on_true c.has_at.result _ _ yes c.has_at.ensures)))
     (λ no whole. on_false c.has_at.result _ _ no c.has_at.ensures
     (subst At (sym c.receiver_of-receiver.ensures) (whole_receiver xs e whole)))

@@ -1,4 +1,5 @@
--- Who the act touches is the actor alone, its node, or the actor and the receiver, and each of these is asked.
+-- Who the act touches is the actor alone, its node, or the actor and the receiver, and each of
+-- these is asked.
 use Rattle.st_runtime.proofs.PartLemmas.{match_test}
 use Rattle.st_runtime.proofs.Legal.{on_false}
 use Rattle.st_runtime.proofs.Wholeness.{whole_actor}

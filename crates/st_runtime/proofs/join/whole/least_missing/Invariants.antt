@@ -6,4 +6,5 @@ use Rattle.st_runtime.specs.Pieces.{IsWholeEntry}
 use Rattle.st_runtime.proofs.join.whole.least_missing.Given as goal
 
 abbrev pub invariant-loop-k : goal.invariant-loop-k
-invariant-loop-k g l = All (λ (x : Control). All (IsWholeEntry l.processes) x.log) (take l.k l.processes)
+invariant-loop-k g l = All (λ (x : Control). All (IsWholeEntry l.processes) x.log)
+    (take l.k l.processes)

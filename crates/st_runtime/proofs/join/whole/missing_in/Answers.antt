@@ -14,7 +14,8 @@ loop-place-preserved g c =
     let log = c.args.log.now.entries in
     let i = c.loop-place.place in
     let within : i < length log = omega (arith, c.loop-place-test.true, c.len-place-end.ensures) in
-    All-more Whole log i c.at.result within c.loop-place.invariant (subst Whole c.at.ensures c.if-not-is_whole.ensures)
+    All-more Whole log i c.at.result within c.loop-place.invariant
+    (subst Whole c.at.ensures c.if-not-is_whole.ensures)
 
 pub returns : goal.returns
 returns g c = All-past (IsWholeEntry c.args.processes.now) c.loop-place.place c.args.log.now.entries

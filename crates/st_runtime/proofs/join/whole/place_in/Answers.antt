@@ -19,7 +19,8 @@ returns-clause-variant g c =
     let bound = c.binary_search_by_key-found.ensures.bound in
     let by_key = c.binary_search_by_key-found.ensures.position (λ (x : Control). x.process.pid)
     (answers_always _ _ _ (λ f a r h i. search rules)) in
-    let position = search_keys (λ (x : Control). x.process.pid) (λ q. pid_cmp q p) xs r bound by_key in
+    let position = search_keys (λ (x : Control). x.process.pid) (λ q. pid_cmp q p) xs r bound
+    by_key in
     rw c.ok.ensures.value (place_tells (pids_in xs) p (result_ok r) (pids_found xs p r bound by_key)
     (missing_from_search (pids_in xs) p r c.requires position))
 

@@ -1,4 +1,5 @@
--- Each entry is looked for by itself; the places of the ones before it are only where the search begins.
+-- Each entry is looked for by itself; the places of the ones before it are only where the search
+-- begins.
 use Rattle.std.proofs.lemmas.List.Elements.{All-more}
 use Rattle.std.proofs.Common.{◌<◌, length, arith}
 use Rattle.st_runtime.specs.Joining.{IsSharedUnlessWide}
@@ -16,5 +17,6 @@ loop-place-preserved g c =
     (c.is_settled.ensures c.if-not-is_settled.false)
 
 pub returns : goal.returns
-returns g c sure = All-past (IsSharedUnlessWide c.args.processes.now c.args.here) c.loop-place.place c.args.log.now.entries
+returns g c sure = All-past (IsSharedUnlessWide c.args.processes.now c.args.here) c.loop-place.place
+    c.args.log.now.entries
     (omega (arith, c.loop-place-test.false, c.len-place-end.ensures)) c.loop-place.invariant

@@ -12,7 +12,8 @@ returns-in-Send-clause-step g c =
     let x = c.args.self.now in
     let me = x.process.pid in
     let same : a ≡ Send me me c.in-Send.value =
-    alone_send a c.in-Send.field-0 c.in-Send.field-1 me c.in-Send.value c.in-Send.is c.requires.alone c.requires.me in
+    alone_send a c.in-Send.field-0 c.in-Send.field-1 me c.in-Send.value c.in-Send.is
+    c.requires.alone c.requires.me in
     subst (λ (b : Act). IsLentStep g.row.TOP g.row.RANKS b (x ∷ []) (c.send_to_itself.new.self ∷ [])
     c.send_to_itself.result) (sym same) c.send_to_itself.ensures.step
 
@@ -21,6 +22,8 @@ returns-in-Receive-clause-step g c =
     let a = c.args.act.now in
     let x = c.args.self.now in
     let same : a ≡ Receive x.process.pid c.in-Receive.want =
-    alone_receive a c.in-Receive.field-0 x.process.pid c.in-Receive.want c.in-Receive.is c.requires.me in
-    subst (λ (b : Act). IsLentStep g.row.TOP g.row.RANKS b (x ∷ []) (c.receive.new.self ∷ []) c.receive.result)
+    alone_receive a c.in-Receive.field-0 x.process.pid c.in-Receive.want c.in-Receive.is
+    c.requires.me in
+    subst (λ (b : Act). IsLentStep g.row.TOP g.row.RANKS b (x ∷ []) (c.receive.new.self ∷ [])
+    c.receive.result)
     (sym same) c.receive.ensures.step

@@ -1,4 +1,5 @@
--- The entry of a reset or a tracer change is legal for each process of the node by the machine's change of it.
+-- The entry of a reset or a tracer change is legal for each process of the node by the machine's
+-- change of it.
 use Rattle.std.proofs.Common.{◌≡◌, ◌-◌, sym, ap, subst, arith}
 use Rattle.st_core.specs.State.{Process}
 use Rattle.st_core.specs.Step.{reached}
@@ -26,9 +27,11 @@ invariant_of-self g c =
     let after = reached e.act None r in
     let view = c.self.view_is in
     let asked = c.requires.entry in
-    let told = wide_part g.row.TOP c.args.self.now.process e.rank e.act e.reply asked.wide asked.node asked.reply in
+    let told = wide_part g.row.TOP c.args.self.now.process e.rank e.act e.reply asked.wide
+    asked.node asked.reply in
     let inside : IsPart g.row.TOP r plain after =
-    subst (λ y. IsPart g.row.TOP y plain (reached e.act None y)) (ap (λ (x : Control). x.process) (sym view)) told in
+    subst (λ y. IsPart g.row.TOP y plain (reached e.act None y))
+    (ap (λ (x : Control). x.process) (sym view)) told in
     let bare : plain ≡ e = λ i. record {
       rank = e.rank;
       act = e.act;
@@ -44,7 +47,8 @@ invariant_of-self g c =
       within = c.requires.entry.within;
     } in
     rw c.push_reserved.ensures.entries
-    (inside_push g.row.TOP g.row.RANKS p l boxes log e m boxes' c.self.invariant c.reach.ensures.one_box
+    (inside_push g.row.TOP g.row.RANKS p l boxes log e m boxes' c.self.invariant
+    c.reach.ensures.one_box
     c.reach.ensures.fit part next)
 
 pub returns : goal.returns

@@ -21,13 +21,17 @@ invariant_of-self-2 g c =
     let told = c.in-Ok.told in
     let n = c.in_ok-rank.rank in
     let e = entry_of n a told None in
-    let mine : actor a ≡ p = c.requires.me ∙ ap (λ (x : Control). x.process.pid) (sym c.self.view_is) in
+    let mine : actor a ≡ p =
+    c.requires.me ∙ ap (λ (x : Control). x.process.pid) (sym c.self.view_is) in
     let rank = c.in_ok-rank.ensures.rank in
-    let next : IsNext g.row.RANKS log n = record { above = omega (arith, rank.0); within = rank.1 } in
-    let own = inner_part g.row.TOP a p l m queue n told c.requires.inner mine (c.in-Ok.ensures.acted queue) in
+    let next : IsNext g.row.RANKS log n =
+    record { above = omega (arith, rank.0); within = rank.1 } in
+    let own = inner_part g.row.TOP a p l m queue n told c.requires.inner mine
+    (c.in-Ok.ensures.acted queue) in
     let part = own_is_part g.row.TOP (process_of p l queue) e (process_of p m queue) mine own in
     rw (c.push_reserved.ensures.entries, c.in_ok-rank.ensures.entries)
-    (inside_push g.row.TOP g.row.RANKS p l boxes log e m boxes c.self.invariant c.self.invariant.one_box
+    (inside_push g.row.TOP g.row.RANKS p l boxes log e m boxes c.self.invariant
+    c.self.invariant.one_box
     c.self.invariant.fit part next)
 
 pub returns-clause-step : goal.returns-clause-step
@@ -37,12 +41,14 @@ returns-clause-step g c =
     let a = c.args.act.now in
     let n = c.in_ok-rank.rank in
     let e = entry_of n a c.in-Ok.told None in
-    let mine : actor a ≡ p = c.requires.me ∙ ap (λ (x : Control). x.process.pid) (sym c.self.view_is) in
+    let mine : actor a ≡ p =
+    c.requires.me ∙ ap (λ (x : Control). x.process.pid) (sym c.self.view_is) in
     rw (← c.self.view_is) (alone_stepped g.row.TOP g.row.RANKS a c.in-Ok.told.reply _ _ n
     (inner_alone a c.requires.inner) mine c.in_ok-rank.ensures.rank.0 c.in_ok-rank.ensures.rank.1
     (record {
       entry = e;
-      part = inner_part g.row.TOP a p c.self.inside.local c.inner.new.local queue n c.in-Ok.told c.requires.inner mine
+      part = inner_part g.row.TOP a p c.self.inside.local c.inner.new.local queue n c.in-Ok.told
+          c.requires.inner mine
           (c.in-Ok.ensures.acted queue);
       act = refl;
       reply = refl;

@@ -20,13 +20,16 @@ invariant_of-self-2 g c =
     let n = c.in_ok-rank.rank in
     let e = entry_of n (Receive p c.args.want.now) one.result None in
     let rank = c.in_ok-rank.ensures.rank in
-    let next : IsNext g.row.RANKS log n = record { above = omega (arith, rank.0); within = rank.1 } in
-    let own = receive_part g.row.TOP p c.args.want.now l m (queue_in boxes 0) (queue_in boxes' 0) n one.result
+    let next : IsNext g.row.RANKS log n =
+    record { above = omega (arith, rank.0); within = rank.1 } in
+    let own = receive_part g.row.TOP p c.args.want.now l m (queue_in boxes 0) (queue_in boxes' 0) n
+    one.result
     one.ensures.acted in
     let before = process_of p l (queue_in boxes 0) in
     let part = own_is_part g.row.TOP before e (process_of p m (queue_in boxes' 0)) refl own in
     rw (c.push_reserved.ensures.entries, c.in_ok-rank.ensures.entries)
-    (inside_push g.row.TOP g.row.RANKS p l boxes log e m boxes' c.self.invariant one.ensures.one_box one.ensures.fit
+    (inside_push g.row.TOP g.row.RANKS p l boxes log e m boxes' c.self.invariant one.ensures.one_box
+    one.ensures.fit
     part next)
 
 pub returns-clause-step : goal.returns-clause-step
@@ -37,7 +40,8 @@ returns-clause-step g c =
     let one = c.receive_one-told in
     let n = c.in_ok-rank.rank in
     let e = entry_of n (Receive p c.args.want.now) one.result None in
-    rw (← c.self.view_is) (alone_stepped g.row.TOP g.row.RANKS (Receive p c.args.want.now) one.result.reply _ _ n refl
+    rw (← c.self.view_is) (alone_stepped g.row.TOP g.row.RANKS (Receive p c.args.want.now)
+    one.result.reply _ _ n refl
     refl c.in_ok-rank.ensures.rank.0 c.in_ok-rank.ensures.rank.1
     (record {
       entry = e;

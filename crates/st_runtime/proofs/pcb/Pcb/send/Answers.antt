@@ -1,4 +1,5 @@
--- The sender's part answered what it stamped, and the message that the receiver got carries that token.
+-- The sender's part answered what it stamped, and the message that the receiver got carries that
+-- token.
 use Rattle.std.proofs.Common.{◌≡◌, false, ap, sym, ◌∙◌, arith, ◌++◌, ◌∷◌, [], refl}
 use Rattle.st_core.specs.Pid.{pid_eq}
 use Rattle.st_mail.specs.Actor.{process_of}
@@ -7,8 +8,8 @@ use Rattle.st_runtime.specs.Pcb.{Control}
 use Rattle.st_core.specs.declared.types.Act.TheVariants.{Send}
 use Rattle.st_runtime.proofs.LentLemmas.{between_rank, between_steps, finds_step}
 use Rattle.st_runtime.proofs.LogLemmas.{IsNext}
-use Rattle.st_runtime.proofs.SendLemmas.{IsSent, IsPut, mail, sent_entry, sender_part, sender_inside}
-use Rattle.st_runtime.proofs.SendLemmas.{receiver_part, receiver_inside}
+use Rattle.st_runtime.proofs.SendLemmas.{IsSent, IsPut, mail, sent_entry, sender_part}
+use Rattle.st_runtime.proofs.SendLemmas.{sender_inside, receiver_part, receiver_inside}
 use Rattle.st_runtime.proofs.StepLemmas.{apart_eq, stepped_between}
 use Rattle.st_runtime.proofs.pcb.Pcb.send.Goals as goal
 
@@ -33,9 +34,11 @@ invariant_of-from-2 g c =
       stamped = c.in-Ok.ensures.stamped;
     } in
     let rank = c.in_ok-rank.ensures.rank in
-    let next : IsNext g.row.RANKS log n = record { above = omega (arith, rank.0); within = rank.1 } in
+    let next : IsNext g.row.RANKS log n =
+    record { above = omega (arith, rank.0); within = rank.1 } in
     rw (c.push_reserved.ensures.entries, c.in_ok-rank.ensures.a_entries)
-    (sender_inside g.row.TOP g.row.RANKS p q v l m c.from.inside.queue.boxes log n told t c.from.invariant apart
+    (sender_inside g.row.TOP g.row.RANKS p q v l m c.from.inside.queue.boxes log n told t
+    c.from.invariant apart
     sent next)
 
 pub invariant_of-to-2 : goal.invariant_of-to-2
@@ -65,9 +68,11 @@ invariant_of-to-2 g c =
       put = c.in-Ok-put.ensures.ok;
     } in
     let rank = c.in_ok-rank.ensures.rank in
-    let next : IsNext g.row.RANKS log n = record { above = omega (arith, rank.0); within = rank.1 } in
+    let next : IsNext g.row.RANKS log n =
+    record { above = omega (arith, rank.0); within = rank.1 } in
     rw (c.push_reserved-2.ensures.entries, c.in_ok-rank.ensures.b_entries)
-    (receiver_inside g.row.TOP g.row.RANKS p q v l m c.to.inside.local boxes boxes' log n told t c.to.invariant apart
+    (receiver_inside g.row.TOP g.row.RANKS p q v l m c.to.inside.local boxes boxes' log n told t
+    c.to.invariant apart
     sent put next)
 
 pub returns-clause-step : goal.returns-clause-step
@@ -109,14 +114,18 @@ returns-clause-step g c =
     } in
     rw (← c.from.view_is, ← c.to.view_is) (
       finds_step g.row.TOP g.row.RANKS (Send p q v) (x ∷ y ∷ []) _ n
-          (between_steps g.row.TOP x y v _ apart (sent.acts (queue_in c.from.inside.queue.boxes 0))) (between_rank x y)
+          (between_steps g.row.TOP x y v _ apart (sent.acts (queue_in c.from.inside.queue.boxes 0)))
+          (between_rank x y)
           rank.0 rank.1,
       stepped_between g.row.TOP v _ _ _ _ e apart refl
-          (sender_part g.row.TOP p q v l m (queue_in c.from.inside.queue.boxes 0) n told t apart sent)
+          (sender_part g.row.TOP p q v l m (queue_in c.from.inside.queue.boxes 0) n told t apart
+          sent)
           (receiver_part g.row.TOP p q v l m c.to.inside.local boxes boxes' n told t sent put)
           (record {
             rank = c.in_ok-rank.ensures.rank.0;
-            from = c.push_reserved.ensures.entries ∙ ap (λ xs. xs ++ e ∷ []) c.in_ok-rank.ensures.a_entries;
-            to = c.push_reserved-2.ensures.entries ∙ ap (λ xs. xs ++ e ∷ []) c.in_ok-rank.ensures.b_entries;
+            from = c.push_reserved.ensures.entries
+                ∙ ap (λ xs. xs ++ e ∷ []) c.in_ok-rank.ensures.a_entries;
+            to = c.push_reserved-2.ensures.entries
+                ∙ ap (λ xs. xs ++ e ∷ []) c.in_ok-rank.ensures.b_entries;
           }),
     )

@@ -4,7 +4,8 @@ use Rattle.st_core.specs.declared.types.Act.TheVariants.{Send}
 use Rattle.st_core.proofs.ForCallers.{pid_eq-same}
 use Rattle.st_runtime.proofs.LentLemmas.{alone_stepped}
 use Rattle.st_runtime.proofs.LogLemmas.{IsNext}
-use Rattle.st_runtime.proofs.SendLemmas.{IsSent, IsPut, mail, sent_entry, itself_part, itself_inside}
+use Rattle.st_runtime.proofs.SendLemmas.{IsSent, IsPut, mail, sent_entry, itself_part}
+use Rattle.st_runtime.proofs.SendLemmas.{itself_inside}
 use Rattle.st_runtime.proofs.pcb.Pcb.send_to_itself.Goals as goal
 
 pub invariant_of-self-2 : goal.invariant_of-self-2
@@ -30,9 +31,11 @@ invariant_of-self-2 g c =
       put = c.in-Ok-put.ensures.ok;
     } in
     let rank = c.in_ok-rank.ensures.rank in
-    let next : IsNext g.row.RANKS log n = record { above = omega (arith, rank.0); within = rank.1 } in
+    let next : IsNext g.row.RANKS log n =
+    record { above = omega (arith, rank.0); within = rank.1 } in
     rw (c.push_reserved.ensures.entries, c.in_ok-rank.ensures.entries)
-    (itself_inside g.row.TOP g.row.RANKS p v l m boxes boxes' log n told t c.self.invariant sent put next)
+    (itself_inside g.row.TOP g.row.RANKS p v l m boxes boxes' log n told t c.self.invariant sent put
+    next)
 
 pub returns-clause-step : goal.returns-clause-step
 returns-clause-step g c =
@@ -56,7 +59,8 @@ returns-clause-step g c =
       put = c.in-Ok-put.ensures.ok;
     } in
     let e = sent_entry n p p v told t in
-    rw (← c.self.view_is) (alone_stepped g.row.TOP g.row.RANKS (Send p p v) told.reply _ _ n (pid_eq-same p) refl
+    rw (← c.self.view_is) (alone_stepped g.row.TOP g.row.RANKS (Send p p v) told.reply _ _ n
+    (pid_eq-same p) refl
     c.in_ok-rank.ensures.rank.0 c.in_ok-rank.ensures.rank.1
     (record {
       entry = e;

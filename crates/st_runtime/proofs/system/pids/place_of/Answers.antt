@@ -17,4 +17,5 @@ pub returns-clause-some : goal.returns-clause-some
 returns-clause-some c =
     let answer = c.binary_search in
     rw c.ok.ensures.value
-    (found_from_search c.args.pids.now c.args.pid answer.result answer.ensures.bound answer.ensures.position)
+    (found_from_search c.args.pids.now c.args.pid answer.result answer.ensures.bound
+    answer.ensures.position)

@@ -8,5 +8,6 @@ use Rattle.st_text.proofs.bundle.Bundle.new.Goals as goal
 pub invariant_of-result : goal.invariant_of-result
 invariant_of-result c =
     record {
-      listed = none_unlisted (is_listed (pids_of c.args.streams)) (acts_or_none c.args.acts) (sym c.in-None.ensures);
+      listed = none_unlisted (is_listed (pids_of c.args.streams)) (acts_or_none c.args.acts)
+          (sym c.in-None.ensures);
     }

@@ -11,7 +11,8 @@ returns-in_default c = λ bytes plain h.
     record {
       holds = tt;
       growth =
-          λ _. inl (ends_within c.args.limits s.out s.fault bytes s.long s.tail.items s.builder c.requires.going
+          λ _. inl (ends_within c.args.limits s.out s.fault bytes s.long s.tail.items s.builder
+          c.requires.going
           c.requires.good
           short (c.requires.begun short) h);
     }
@@ -20,5 +21,6 @@ pub returns : goal.returns
 returns c = λ bytes plain h.
     let s = c.args.self.now in
     let t =
-    c.pass_line.ensures bytes c.args.rest.now s.long s.tail.items plain (c.in-Ok.ensures.said (cut bytes).1) h in
+    c.pass_line.ensures bytes c.args.rest.now s.long s.tail.items plain
+    (c.in-Ok.ensures.said (cut bytes).1) h in
     record { holds = t.holds; growth = λ out. inr (t.growth out) }

@@ -7,9 +7,11 @@ returns-in-Goes c = λ bytes rest long kept plain says h.
     let s = c.args.self.now in
     record {
       holds =
-          line_goes c.args.limits s.out s.fault bytes rest long s.long kept s.tail.items s.builder c.pass_on.new.builder
+          line_goes c.args.limits s.out s.fault bytes rest long s.long kept s.tail.items s.builder
+          c.pass_on.new.builder
           c.args.said.now
-          c.requires.going c.requires.good c.requires.short plain c.requires.empty says c.in-Goes.ensures h;
+          c.requires.going c.requires.good c.requires.short plain c.requires.empty says
+          c.in-Goes.ensures h;
       growth = not_out s.out c.requires.going;
     }
 
@@ -30,7 +32,8 @@ returns-in-Halts c = λ bytes rest long kept plain says h.
     let s = c.args.self.now in
     record {
       holds = tt;
-      growth = λ _. line_halts c.args.limits s.out s.fault bytes rest long kept s.builder c.pass_on.new.builder
+      growth = λ _. line_halts c.args.limits s.out s.fault bytes rest long kept s.builder
+          c.pass_on.new.builder
           c.args.said.now
           c.requires.going c.requires.good plain says c.in-Halts.ensures h;
     }

@@ -3,13 +3,15 @@ use Rattle.std.proofs.Common.{◌≡◌, ◌∙◌, ◌++◌, ◌∷◌, [], Lis
 use Rattle.std.proofs.lemmas.List.{append-nil}
 use Rattle.st_text.specs.Parts.Cutter.{HasNoNewline}
 use Rattle.st_text.specs.Parts.CutterState.{HasTaken}
-use Rattle.st_text.proofs.CutterSteps.{holds_over, not_out, plain_front, plain_all, at_newline, grows_by, grows_at_end}
-use Rattle.st_text.proofs.CutterSteps.{line_whole}
+use Rattle.st_text.proofs.CutterSteps.{holds_over, not_out, plain_front, plain_all, at_newline}
+use Rattle.st_text.proofs.CutterSteps.{grows_by, grows_at_end, line_whole}
 use Rattle.st_text.proofs.cutter.Cutter.pass_piece.Goals as goal
 
 -- done and the rest are the piece
-whole : (bytes done rest piece : List ℕ) → piece ≡ done ++ rest → (bytes ++ done) ++ rest ≡ bytes ++ piece
-whole bytes done rest piece e = append_assoc bytes done rest ∙ ap (λ (x : List ℕ). bytes ++ x) (sym e)
+whole : (bytes done rest piece : List ℕ) → piece ≡ done ++ rest
+    → (bytes ++ done) ++ rest ≡ bytes ++ piece
+whole bytes done rest piece e =
+    append_assoc bytes done rest ∙ ap (λ (x : List ℕ). bytes ++ x) (sym e)
 
 pub loop-rest-init : goal.loop-rest-init
 loop-rest-init c =
@@ -28,14 +30,16 @@ pub returns-in_default : goal.returns-in_default
 returns-in_default c = λ bytes h.
     let i = c.loop-rest.invariant in
     let rest = c.loop-rest.rest.now in
-    let k = c.keep.ensures.holds c.args.limits (bytes ++ i.done) (plain_all rest c.in_default.ensures)
+    let k = c.keep.ensures.holds c.args.limits (bytes ++ i.done)
+    (plain_all rest c.in_default.ensures)
     (i.comes bytes h).holds in
     record {
       holds =
           subst (λ (t : List ℕ). HasTaken c.args.limits t c.keep.new.self)
           (whole bytes i.done rest c.args.piece.now i.parts)
           k.holds;
-      growth = λ out going. grows_at_end c.args.limits bytes c.args.piece.now i.done rest i.parts (k.growth out);
+      growth = λ out going. grows_at_end c.args.limits bytes c.args.piece.now i.done rest i.parts
+          (k.growth out);
     }
 
 pub loop-rest-preserved : goal.loop-rest-preserved
@@ -51,7 +55,8 @@ loop-rest-preserved c =
     rw (c.split_at-in-loop-rest.ensures.back, c.split_at.ensures.back, front) at in
     let plain : HasNoNewline line =
     subst HasNoNewline (sym front) (plain_front rest c.in-Some.i c.in-Some.ensures.0.before) in
-    let all : piece ≡ i.done ++ ((line ++ 10 ∷ []) ++ more) = i.parts ∙ ap (λ (x : List ℕ). i.done ++ x) parts in
+    let all : piece ≡ i.done ++ ((line ++ 10 ∷ []) ++ more) =
+    i.parts ∙ ap (λ (x : List ℕ). i.done ++ x) parts in
     record {
       done = i.done ++ (line ++ 10 ∷ []);
       parts = all ∙ sym (append_assoc i.done (line ++ 10 ∷ []) more);
@@ -63,7 +68,8 @@ loop-rest-preserved c =
                 subst (λ (t : List ℕ). HasTaken c.args.limits t c.end_line.new.self)
                 (append_assoc bytes i.done (line ++ 10 ∷ []))
                 e.holds;
-            growth = λ out going. grows_by c.args.limits bytes piece i.done line more all (i.whole bytes)
+            growth = λ out going. grows_by c.args.limits bytes piece i.done line more all
+                (i.whole bytes)
                 (e.growth out);
           };
     }
@@ -75,10 +81,12 @@ returns c = λ bytes h.
     let rest = c.loop-rest.rest.now in
     let over = sym c.is_over.ensures ∙ c.loop-rest-test.false in
     let t = i.comes bytes h in
-    let held = holds_over c.args.limits s.out s.fault (bytes ++ i.done) rest s.long s.tail.items s.builder over
+    let held = holds_over c.args.limits s.out s.fault (bytes ++ i.done) rest s.long s.tail.items
+    s.builder over
     t.holds in
     record {
-      holds = subst (λ (t : List ℕ). HasTaken c.args.limits t s) (whole bytes i.done rest c.args.piece.now i.parts)
+      holds = subst (λ (t : List ℕ). HasTaken c.args.limits t s)
+          (whole bytes i.done rest c.args.piece.now i.parts)
           held;
       growth = t.growth;
     }

@@ -5,7 +5,8 @@ use Rattle.st_text.specs.declared.limits.Limits.{Limits}
 use Rattle.st_text.specs.Fed.{FedAs, AreBytesCounted}
 use Rattle.st_text.proofs.feed.Feed.piece.Goals as goal
 
-counted : (limits : Limits) (large out : Bool) (bytes : List ℕ) (count : ℕ) (cutter : Cutter) → large ≡ false
+counted : (limits : Limits) (large out : Bool) (bytes : List ℕ) (count : ℕ) (cutter : Cutter)
+    → large ≡ false
     → out ≡ false
     → FedAs limits large out bytes count cutter → AreBytesCounted limits bytes count cutter
 counted limits true out bytes count cutter el eo fed = absurd cc
@@ -15,5 +16,6 @@ counted limits false false bytes count cutter el eo fed = fed
 pub returns-then-self-3-clause-memory : goal.returns-then-self-3-clause-memory
 returns-then-self-3-clause-memory c = λ bytes fed going ran.
     let s = c.args.self.now in
-    let was = counted s.limits s.large s.cutter.out bytes s.count s.cutter c.if-self.false c.if-self-2.false fed in
+    let was = counted s.limits s.large s.cutter.out bytes s.count s.cutter c.if-self.false
+    c.if-self-2.false fed in
     (c.pass_piece.ensures bytes was.holds).growth c.if-self-3.true c.if-self-2.false

@@ -1,12 +1,13 @@
 -- Each process is the first of a node of its own, or is on the node of the one before it.
-use Rattle.std.proofs.Common.{◌≡◌, ℕ, ◌+◌, ◌-◌, ◌<◌, [], ◌∷◌, ◌++◌, false, length, get_or, inl, inr, refl}
-use Rattle.std.proofs.Common.{◌∙◌, ap, subst, arith}
+use Rattle.std.proofs.Common.{◌≡◌, ℕ, ◌+◌, ◌-◌, ◌<◌, [], ◌∷◌, ◌++◌, false, length, get_or, inl, inr}
+use Rattle.std.proofs.Common.{refl, ◌∙◌, ap, subst, arith}
 use Rattle.std.proofs.lemmas.List.{get_or_append_left, get_or_default, get_or_push, length_push}
 use Rattle.std.proofs.lemmas.Bool.{cases_eq}
 use Rattle.st_core.specs.declared.types.Pid.{Pid}
 use Rattle.st_core.specs.Pid.{node_of}
 use Rattle.st_world.specs.Rows.{IsNodeRange}
-use Rattle.st_world.proofs.Making.{upto, more_same, more_new, made_by_node, made_groups, made_listed}
+use Rattle.st_world.proofs.Making.{upto, more_same, more_new, made_by_node, made_groups}
+use Rattle.st_world.proofs.Making.{made_listed}
 use Rattle.st_world.proofs.nodes.Nodes.new.Goals.{then-number-after+in_ok-push, else-number-after}
 use Rattle.st_world.proofs.nodes.Nodes.new.Goals as goal
 
@@ -37,20 +38,24 @@ loop-number-preserved c =
             subst (λ (p : Pid). IsNodeRange (node_of p) c.args.pids.now start end)
             (get_or_default c.args.pids.now n none d (omega arith)) range))
         | else-number-after w ↦
-            let len : length c.if-number-after.nodes.items ≡ length c.loop-number.nodes.items = rw w.nodes-is refl in
-            let less : n < c.loop-number.after = omega (arith, w.if-number-after.false, now.made.to) in
+            let len : length c.if-number-after.nodes.items ≡ length c.loop-number.nodes.items =
+            rw w.nodes-is refl in
+            let less : n < c.loop-number.after =
+            omega (arith, w.if-number-after.false, now.made.to) in
             let some : 0 < n = elim (cases_eq c.loop-number.number 0) [
               | inl e ↦ absurd (omega (arith, now.made.none e, less))
               | inr other ↦ omega (arith, other)
             ] in
             rw (c.in_ok-push-2.ensures.items, w.nodes-is, w.after-is)
-            (more_same c.args.pids.now n c.loop-number.after ps c.loop-number.nodes.items now.made (omega arith) k less
+            (more_same c.args.pids.now n c.loop-number.after ps c.loop-number.nodes.items now.made
+            (omega arith) k less
             (omega (arith, count, len, now.made.within 0 (omega (arith, some)))))
       ];
       slots_len = ap length c.in_ok-push-3.ensures.items ∙ length_push c.loop-number.slots.items n ∙
           ap (λ m. m + 1) now.slots_len;
       slots = rw c.in_ok-push-3.ensures.items
-          (upto (λ slot. get_or (c.loop-number.slots.items ++ c.loop-number.number ∷ []) slot 0 ≡ slot) n
+          (upto (λ slot. get_or (c.loop-number.slots.items ++ c.loop-number.number ∷ []) slot 0
+          ≡ slot) n
           (λ slot below. get_or_append_left c.loop-number.slots.items (c.loop-number.number ∷ []) 0
           slot (omega (arith, now.slots_len))
           ∙ now.slots slot below)
@@ -62,7 +67,8 @@ invariant_of-result c =
     let pids = c.args.pids.now in
     let last : c.loop-number.number ≡ length c.args.pids.now = omega arith in
     let now = rw last at c.loop-number.invariant in
-    made_groups pids c.loop-number.after c.loop-number.places.items c.loop-number.nodes.items c.loop-number.slots.items
+    made_groups pids c.loop-number.after c.loop-number.places.items c.loop-number.nodes.items
+    c.loop-number.slots.items
     now.made now.slots_len now.slots
 
 pub returns-clause-by_node : goal.returns-clause-by_node

@@ -1,8 +1,10 @@
--- A full list has each process of its node. In another the process goes to the next slot, which is of no other node.
+-- A full list has each process of its node. In another the process goes to the next slot, which is
+-- of no other node.
 use Rattle.std.proofs.Common.{◌<◌, length, refl}
 use Rattle.st_world.specs.declared.node.Node.{Node}
 use Rattle.st_world.specs.Nodes.{Groups}
-use Rattle.st_world.proofs.Groups.{one_more, tracers_kept, groups_put, listed_put, listed_kept, listed_full}
+use Rattle.st_world.proofs.Groups.{one_more, tracers_kept, groups_put, listed_put, listed_kept}
+use Rattle.st_world.proofs.Groups.{listed_full}
 use Rattle.st_world.proofs.nodes.Nodes.touch.Goals as goal
 
 pub invariant_of-self : goal.invariant_of-self
@@ -13,8 +15,10 @@ invariant_of-self c =
       nodes = c.self.inside.nodes.items;
       slots = c.self.inside.slots.items;
     } in
-    let h : c.args.number < length c.self.inside.places.items = rw (← c.self.view_is) at c.requires in
-    groups_put g c.args.number c.index.result.now c.index_mut-node.result.now c.self.invariant h c.index.ensures
+    let h : c.args.number < length c.self.inside.places.items =
+    rw (← c.self.view_is) at c.requires in
+    groups_put g c.args.number c.index.result.now c.index_mut-node.result.now c.self.invariant h
+    c.index.ensures
     c.index_mut-node.ensures.value c.if-node.true
 
 pub returns-then-node-clause-tracers : goal.returns-then-node-clause-tracers
@@ -25,7 +29,8 @@ returns-then-node-clause-tracers c =
       nodes = c.self.inside.nodes.items;
       slots = c.self.inside.slots.items;
     } in
-    let h : c.args.number < length c.self.inside.places.items = rw (← c.self.view_is) at c.requires in
+    let h : c.args.number < length c.self.inside.places.items =
+    rw (← c.self.view_is) at c.requires in
     let n : Node = c.index_mut-node.result.now in
     rw (← c.self.view_is)
     (tracers_kept g c.args.number c.index.result.now n c.self.invariant h c.index.ensures
@@ -39,8 +44,10 @@ returns-then-node-clause-listed c =
       nodes = c.self.inside.nodes.items;
       slots = c.self.inside.slots.items;
     } in
-    let h : c.args.number < length c.self.inside.places.items = rw (← c.self.view_is) at c.requires in
-    listed_put g c.args.number c.index.result.now c.index_mut-node.result.now c.self.invariant h c.index.ensures
+    let h : c.args.number < length c.self.inside.places.items =
+    rw (← c.self.view_is) at c.requires in
+    listed_put g c.args.number c.index.result.now c.index_mut-node.result.now c.self.invariant h
+    c.index.ensures
     c.index_mut-node.ensures.value c.if-node.true
 
 pub returns-then-node-clause-others : goal.returns-then-node-clause-others
@@ -51,9 +58,11 @@ returns-then-node-clause-others c =
       nodes = c.self.inside.nodes.items;
       slots = c.self.inside.slots.items;
     } in
-    let h : c.args.number < length c.self.inside.places.items = rw (← c.self.view_is) at c.requires in
+    let h : c.args.number < length c.self.inside.places.items =
+    rw (← c.self.view_is) at c.requires in
     rw (← c.self.view_is)
-    (listed_kept g c.args.number c.index.result.now c.index_mut-node.result.now c.self.invariant h c.index.ensures
+    (listed_kept g c.args.number c.index.result.now c.index_mut-node.result.now c.self.invariant h
+    c.index.ensures
     c.index_mut-node.ensures.value c.if-node.true)
 
 pub returns-else-node-clause-listed : goal.returns-else-node-clause-listed
@@ -64,6 +73,8 @@ returns-else-node-clause-listed c =
       nodes = c.self.inside.nodes.items;
       slots = c.self.inside.slots.items;
     } in
-    let h : c.args.number < length c.self.inside.places.items = rw (← c.self.view_is) at c.requires in
-    listed_full g c.args.number c.index.result.now c.index_mut-node.result.now c.self.invariant h c.index.ensures
+    let h : c.args.number < length c.self.inside.places.items =
+    rw (← c.self.view_is) at c.requires in
+    listed_full g c.args.number c.index.result.now c.index_mut-node.result.now c.self.invariant h
+    c.index.ensures
     c.index_mut-node.ensures.value c.if-node.false

@@ -13,7 +13,8 @@ abbrev pub invariant-loop-slot : goal.invariant-loop-slot
 invariant-loop-slot g l = record {
   locals_len : length l.locals ≡ length l.self.places;
   queues_len : length l.queues.boxes ≡ length l.self.places;
-  left : (i : ℕ) → i < length l.self.places → get_or l.self.places i 0 ≡ get_or l.self.places l.number 0
+  left : (i : ℕ) → i < length l.self.places
+      → get_or l.self.places i 0 ≡ get_or l.self.places l.number 0
       → IsCleanOrListed l.self l.fn.locals l.fn.queues.boxes i
       → IsClean l.locals l.queues.boxes i ⊎ IsListedFrom l.slot l.self.slots l.node i;
   others : (i : ℕ) → IsClean l.fn.locals l.fn.queues.boxes i → IsClean l.locals l.queues.boxes i;

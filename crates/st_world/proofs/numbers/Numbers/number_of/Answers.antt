@@ -9,4 +9,5 @@ returns-then-eq c =
     let same = pid_eq-true c.in-Some.found.now c.args.pid (sym c.eq.ensures ∙ c.if-eq.true) in
     let at : slice_get c.self.inside.pids.keys c.guess-guess.result ≡ Some c.args.pid =
     sym c.in-Some.ensures.key ∙ ap Some same in
-    rw (← c.self.view_is) (number_at c.self.inside.pids.keys c.guess-guess.result c.args.pid c.self.invariant at)
+    rw (← c.self.view_is) (number_at c.self.inside.pids.keys c.guess-guess.result c.args.pid
+    c.self.invariant at)

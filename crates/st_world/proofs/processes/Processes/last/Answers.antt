@@ -7,11 +7,13 @@ use Rattle.st_world.proofs.processes.Processes.last.Goals as goal
 pub returns-in_default-clause-value : goal.returns-in_default-clause-value
 returns-in_default-clause-value g c =
     ap (option_map (λ (r : Process). r.local.last))
-    (sym (read_nothing c.self.invariant c.self.view_is c.args.pid (sym c.number_of.ensures ∙ c.in_default.is)))
+    (sym (read_nothing c.self.invariant c.self.view_is c.args.pid
+    (sym c.number_of.ensures ∙ c.in_default.is)))
 
 pub returns-clause-value : goal.returns-clause-value
 returns-clause-value g c =
-    let read = read_kept c.self.invariant c.self.view_is c.args.pid c.in-Some.number c.index.result.now
+    let read = read_kept c.self.invariant c.self.view_is c.args.pid c.in-Some.number
+    c.index.result.now
     (sym c.number_of.ensures ∙ c.in-Some.is) c.index.ensures in
     ap Some c.last.ensures.value ∙ ap (option_map (λ (r : Process). r.local.last)) (sym read)
 

@@ -13,7 +13,8 @@ invariant_of-result g c =
     let pids = c.args.pids.now in
     let nodes = c.in-Ok-new-2.nodes in
     let own = c.in-Ok-new-2.ensures in
-    let marks = flagged_zero (tracers nodes) nodes.places (length pids) own.by_node.len own.untraced in
+    let marks = flagged_zero (tracers nodes) nodes.places (length pids) own.by_node.len
+    own.untraced in
     rw (c.in-Ok.ensures, c.in-Ok-zeros.ensures, c.in-Ok-new.ensures.empty) (record {
       rows = rw marks (record {
         aligned = record {
@@ -33,5 +34,7 @@ returns-clause-zero g c =
     let pids = c.args.pids.now in
     let nodes = c.in-Ok-new-2.nodes in
     let own = c.in-Ok-new-2.ensures in
-    let marks = flagged_zero (tracers nodes) nodes.places (length pids) own.by_node.len own.untraced in
-    rw (c.in-Ok.ensures, c.in-Ok-zeros.ensures, c.in-Ok-new.ensures.empty) (rw marks (zero_rows c.args.pids.now))
+    let marks = flagged_zero (tracers nodes) nodes.places (length pids) own.by_node.len
+    own.untraced in
+    rw (c.in-Ok.ensures, c.in-Ok-zeros.ensures, c.in-Ok-new.ensures.empty)
+    (rw marks (zero_rows c.args.pids.now))

@@ -8,14 +8,17 @@ use Rattle.st_world.proofs.processes.Processes.place_of.Goals as goal
 pub returns-in_default-clause-value : goal.returns-in_default-clause-value
 returns-in_default-clause-value g c =
     ap (option_and_then (λ (r : Process). position (λ m. bears_stamp c.args.from c.args.this m.token) r.queue))
-    (sym (read_nothing c.self.invariant c.self.view_is c.args.pid (sym c.number_of.ensures ∙ c.in_default.is)))
+    (sym (read_nothing c.self.invariant c.self.view_is c.args.pid
+    (sym c.number_of.ensures ∙ c.in_default.is)))
 
 pub returns-clause-value : goal.returns-clause-value
 returns-clause-value g c =
     let read = read_queue c.self.invariant c.self.view_is c.args.pid c.in-Some.number
     (sym c.number_of.ensures ∙ c.in-Some.is) in
     c.place_of.ensures
-    ∙ ap (option_and_then (λ (r : Process). position (λ m. bears_stamp c.args.from c.args.this m.token) r.queue))
+    ∙ ap
+    (option_and_then (λ (r : Process).
+    position (λ m. bears_stamp c.args.from c.args.this m.token) r.queue))
     (sym read)
 
 pub returns-in_default-clause-stamped : goal.returns-in_default-clause-stamped

@@ -1,4 +1,5 @@
--- As for `place_of`; and that the stamp occurs once in the process's queue is said of the queue of its number.
+-- As for `place_of`; and that the stamp occurs once in the process's queue is said of the queue of
+-- its number.
 use Rattle.std.proofs.Common.{Option, IfSome, option_and_then, position, sym, ◌∙◌, ap, subst}
 use Rattle.st_core.specs.State.{Process}
 use Rattle.st_arena.specs.Calls.{PassesOnce}
@@ -9,14 +10,17 @@ use Rattle.st_world.proofs.processes.Processes.place_of_one.Goals as goal
 pub returns-in_default-clause-value : goal.returns-in_default-clause-value
 returns-in_default-clause-value g c =
     ap (option_and_then (λ (r : Process). position (λ m. bears_stamp c.args.from c.args.this m.token) r.queue))
-    (sym (read_nothing c.self.invariant c.self.view_is c.args.pid (sym c.number_of.ensures ∙ c.in_default.is)))
+    (sym (read_nothing c.self.invariant c.self.view_is c.args.pid
+    (sym c.number_of.ensures ∙ c.in_default.is)))
 
 pub returns-clause-value : goal.returns-clause-value
 returns-clause-value g c =
     let read = read_queue c.self.invariant c.self.view_is c.args.pid c.in-Some.number
     (sym c.number_of.ensures ∙ c.in-Some.is) in
     c.place_of_one.ensures
-    ∙ ap (option_and_then (λ (r : Process). position (λ m. bears_stamp c.args.from c.args.this m.token) r.queue))
+    ∙ ap
+    (option_and_then (λ (r : Process).
+    position (λ m. bears_stamp c.args.from c.args.this m.token) r.queue))
     (sym read)
 
 pub returns-in_default-clause-stamped : goal.returns-in_default-clause-stamped

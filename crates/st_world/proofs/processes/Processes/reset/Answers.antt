@@ -16,7 +16,8 @@ use Rattle.st_world.proofs.processes.Processes.reset.Goals as goal
 
 pub returns-in_default : goal.returns-in_default
 returns-in_default g c =
-    let gone = read_nothing c.self.invariant c.self.view_is c.args.me (sym c.number_of.ensures ∙ c.in_default.is) in
+    let gone = read_nothing c.self.invariant c.self.view_is c.args.me
+    (sym c.number_of.ensures ∙ c.in_default.is) in
     refused_unknown g.row.TOP c.args.self.now (act.Reset c.args.me) (inl gone)
 
 pub invariant_of-self : goal.invariant_of-self
@@ -30,17 +31,21 @@ invariant_of-self g c =
     let ls2 = c.wipe.new.locals in
     let bs2 = c.wipe.new.queues.boxes in
     let own = rw c.deref_mut.ensures.value at c.wipe.ensures in
-    let pid = own_pid g.row.TOP ps c.self.inside.nodes raw bs c.self.invariant c.args.me i at c.clear.new.self
+    let pid = own_pid g.row.TOP ps c.self.inside.nodes raw bs c.self.invariant c.args.me i at
+    c.clear.new.self
     c.clear.ensures.places in
     let state = own.rows.state ps c.args.me c.self.invariant.by_node pid c.self.invariant.listed in
     let items : (with_items c.self.inside.locals c.wipe.new.locals).items ≡ c.wipe.new.locals =
-    with_items_is c.self.inside.locals c.wipe.new.locals (c.wipe.auto.locals ∙ c.deref_mut.ensures.len) in
+    with_items_is c.self.inside.locals c.wipe.new.locals
+    (c.wipe.auto.locals ∙ c.deref_mut.ensures.len) in
     let locals_len = c.wipe.auto.locals ∙ ap length c.deref_mut.ensures.value in
     let queues_len = own.queues_len ∙ c.self.invariant.by_node.len in
     subst (λ x. AreKept g.row.TOP ps c.clear.new.self x bs2) (sym items)
-    (reset_kept g.row.TOP ps c.self.inside.nodes raw bs c.self.invariant c.args.me i at c.clear.new.self
+    (reset_kept g.row.TOP ps c.self.inside.nodes raw bs c.self.invariant c.args.me i at
+    c.clear.new.self
     c.clear.ensures.places c.clear.ensures.tracers ls2 bs2 locals_len queues_len state
-    (reset_listed g.row.TOP ps c.self.inside.nodes raw bs c.self.invariant c.args.me i at c.clear.new.self
+    (reset_listed g.row.TOP ps c.self.inside.nodes raw bs c.self.invariant c.args.me i at
+    c.clear.new.self
     c.clear.ensures.places ls2 bs2 own.rows.node own.rows.others c.clear.ensures.others))
 
 pub returns : goal.returns
@@ -54,20 +59,24 @@ returns g c =
     let ls2 = c.wipe.new.locals in
     let bs2 = c.wipe.new.queues.boxes in
     let own = rw c.deref_mut.ensures.value at c.wipe.ensures in
-    let pid = own_pid g.row.TOP ps c.self.inside.nodes raw bs c.self.invariant c.args.me i at c.clear.new.self
+    let pid = own_pid g.row.TOP ps c.self.inside.nodes raw bs c.self.invariant c.args.me i at
+    c.clear.new.self
     c.clear.ensures.places in
     let state = own.rows.state ps c.args.me c.self.invariant.by_node pid c.self.invariant.listed in
     let items : (with_items c.self.inside.locals c.wipe.new.locals).items ≡ c.wipe.new.locals =
-    with_items_is c.self.inside.locals c.wipe.new.locals (c.wipe.auto.locals ∙ c.deref_mut.ensures.len) in
+    with_items_is c.self.inside.locals c.wipe.new.locals
+    (c.wipe.auto.locals ∙ c.deref_mut.ensures.len) in
     let locals_len = c.wipe.auto.locals ∙ ap length c.deref_mut.ensures.value in
     let queues_len = own.queues_len ∙ c.self.invariant.by_node.len in
     let ls = flagged (are_traced c.self.inside.nodes) c.self.inside.locals.items in
     let step =
-    reset_step g.row.TOP ps c.self.inside.nodes raw bs c.self.invariant c.args.me i at c.clear.new.self
+    reset_step g.row.TOP ps c.self.inside.nodes raw bs c.self.invariant c.args.me i at
+    c.clear.new.self
     c.clear.ensures.places c.clear.ensures.tracers ls2 bs2 locals_len queues_len state in
     let whole = rw (← items) at step in
     let after : State =
-    state_of ps (flagged (are_traced c.clear.new.self) (with_items c.self.inside.locals c.wipe.new.locals).items) bs2 in
+    state_of ps (flagged (are_traced c.clear.new.self)
+    (with_items c.self.inside.locals c.wipe.new.locals).items) bs2 in
     rw (← c.self.view_is) (rw c.answer.ensures
     (answered g.row.TOP (state_of ps ls bs) (act.Reset c.args.me) (told_of reply.Done) after
     c.self.invariant.rows.sound whole))

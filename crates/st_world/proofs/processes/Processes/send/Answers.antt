@@ -1,5 +1,7 @@
--- A send writes what its actor keeps at the actor's number, and its message, with the stamped token, at the receiver's.
-use Rattle.std.proofs.Common.{◌≡◌, ◌≢◌, ℕ, List, Some, inl, inr, get_or, set, length, [], ◌++◌, ◌∷◌, refl, sym, ◌∙◌, ap}
+-- A send writes what its actor keeps at the actor's number, and its message, with the stamped
+-- token, at the receiver's.
+use Rattle.std.proofs.Common.{◌≡◌, ◌≢◌, ℕ, List, Some, inl, inr, get_or, set, length, [], ◌++◌, ◌∷◌}
+use Rattle.std.proofs.Common.{refl, sym, ◌∙◌, ap}
 use Rattle.std.proofs.lemmas.List.{get_or-set_other, length-set}
 use Rattle.st_core.specs.declared.types.Act.TheVariants as act
 use Rattle.st_core.specs.declared.types.Kind.TheVariants as kind
@@ -11,15 +13,18 @@ use Rattle.st_mail.specs.declared.outcome.Outcome.{Outcome as Told}
 use Rattle.st_world.specs.Nodes.{are_traced, flagged}
 use Rattle.st_world.specs.Rows.{state_of}
 use Rattle.st_world.specs.World.{outcome_to}
-use Rattle.st_world.proofs.Acting.{started, touched, read_at, read_mark, ready_rows, act_rows, ready_kept, sent_kept}
-use Rattle.st_world.proofs.Answering.{refused_unknown, refused_full, refused_memory, answered, rows_after}
+use Rattle.st_world.proofs.Acting.{started, touched, read_at, read_mark, ready_rows, act_rows}
+use Rattle.st_world.proofs.Acting.{ready_kept, sent_kept}
+use Rattle.st_world.proofs.Answering.{refused_unknown, refused_full, refused_memory, answered}
+use Rattle.st_world.proofs.Answering.{rows_after}
 use Rattle.st_world.proofs.Reading.{read_nothing}
 use Rattle.st_world.proofs.Steps.{is_there, full_send, step_send, mail, told_of_send}
 use Rattle.st_world.proofs.processes.Processes.send.Goals as goal
 
 pub returns-in_default : goal.returns-in_default
 returns-in_default g c =
-    let gone = read_nothing c.self.invariant c.self.view_is c.args.me (sym c.number_of.ensures ∙ c.in_default.is) in
+    let gone = read_nothing c.self.invariant c.self.view_is c.args.me
+    (sym c.number_of.ensures ∙ c.in_default.is) in
     refused_unknown g.row.TOP c.args.self.now (act.Send c.args.me c.args.to c.args.value) (inl gone)
 
 pub returns-in_default-number_of : goal.returns-in_default-number_of
@@ -53,12 +58,15 @@ returns-in_default-stamp g c =
     let i = c.in-Some.from_number in
     let x = c.index.result.now in
     let none =
-    full_send g.row.TOP ps ls bs aligned c.args.me c.args.to c.args.value i x from (read_at s x c.index.ensures)
+    full_send g.row.TOP ps ls bs aligned c.args.me c.args.to c.args.value i x from
+    (read_at s x c.index.ensures)
     (sym c.in_default-stamp.ensures.stamp) in
-    let after : State = state_of ps (flagged (are_traced c.touch.new.self) (set raw i c.ready.new.local)) bs in
+    let after : State = state_of ps
+    (flagged (are_traced c.touch.new.self) (set raw i c.ready.new.local)) bs in
     let same = ap (λ (y : List LocalState). state_of ps y bs) (ready_rows s) in
     rw (← c.self.view_is)
-    (refused_full g.row.TOP (state_of ps ls bs) (act.Send c.args.me c.args.to c.args.value) after same
+    (refused_full g.row.TOP (state_of ps ls bs) (act.Send c.args.me c.args.to c.args.value) after
+    same
     (is_there g.row.TOP ps ls bs aligned c.args.me i from)
     (is_there g.row.TOP ps ls bs aligned c.args.to c.in-Some-number_of.to_number to) none)
 
@@ -87,7 +95,8 @@ returns-in_default-put g c =
     let x = c.index.result.now in
     let steps =
     step_send g.row.TOP ps ls bs c.self.invariant.rows.aligned c.args.me c.args.to c.args.value i
-    c.in-Some-number_of.to_number x c.in-Ok.local from to (read_at s x c.index.ensures) (sym c.in-Ok.ensures.stamp) in
+    c.in-Some-number_of.to_number x c.in-Ok.local from to (read_at s x c.index.ensures)
+    (sym c.in-Ok.ensures.stamp) in
     let marked = flagged (are_traced c.touch.new.self) (set raw i c.ready.new.local) in
     let same =
     ap (λ (y : List (List Message)). state_of ps marked y) c.in_default-put.ensures.err
@@ -116,13 +125,17 @@ invariant_of-self-2 g c =
     let more : List Message = queue_in bs j ++ mail c.args.me c.args.value l2 ∷ [] in
     let put : bs2 ≡ set bs j more = rw c.token-token.ensures at c.in-Ok-put.ensures.ok in
     let whole =
-    step_send g.row.TOP ps ls bs c.self.invariant.rows.aligned c.args.me c.args.to c.args.value i j x l2 from to
+    step_send g.row.TOP ps ls bs c.self.invariant.rows.aligned c.args.me c.args.to c.args.value i j
+    x l2 from to
     (read_at s x c.index.ensures) (sym c.in-Ok.ensures.stamp)
-    ∙ ap (λ (y : List (List Message)). Some (outcome_to told (state_of ps (set ls i l2) y))) (sym put) in
+    ∙ ap (λ (y : List (List Message)). Some (outcome_to told (state_of ps (set ls i l2) y)))
+    (sym put) in
     let other : (n : ℕ) → n ≢ j → get_or bs2 n [] ≡ get_or bs n [] =
-    λ n apart. ap (λ (y : List (List Message)). get_or y n []) put ∙ get_or-set_other bs j n more [] apart in
+    λ n apart. ap (λ (y : List (List Message)). get_or y n []) put ∙ get_or-set_other bs j n more []
+    apart in
     sent_kept s l2 bs2 j also.listed (c.in-Ok.ensures.traced ∙ read_mark s x c.index.ensures)
-    (rows_after g.row.TOP ps ls (set ls i l2) bs bs2 (act.Send c.args.me c.args.to c.args.value) told
+    (rows_after g.row.TOP ps ls (set ls i l2) bs bs2 (act.Send c.args.me c.args.to c.args.value)
+    told
     c.self.invariant.rows (length-set ls i l2) (ap length put ∙ length-set bs j more) whole)
     other
 
@@ -147,16 +160,19 @@ returns g c =
     let put : bs2 ≡ set bs j (queue_in bs j ++ mail c.args.me c.args.value l2 ∷ []) =
     rw c.token-token.ensures at c.in-Ok-put.ensures.ok in
     let whole =
-    step_send g.row.TOP ps ls bs c.self.invariant.rows.aligned c.args.me c.args.to c.args.value i j x l2 from to
+    step_send g.row.TOP ps ls bs c.self.invariant.rows.aligned c.args.me c.args.to c.args.value i j
+    x l2 from to
     (read_at s x c.index.ensures) (sym c.in-Ok.ensures.stamp)
-    ∙ ap (λ (y : List (List Message)). Some (outcome_to told (state_of ps (set ls i l2) y))) (sym put) in
+    ∙ ap (λ (y : List (List Message)). Some (outcome_to told (state_of ps (set ls i l2) y)))
+    (sym put) in
     let event : c.event.result ≡ told.report =
     c.event.ensures
     ∙ ap (λ b. report b kind.Send c.token-token.result (Some c.args.to) c.args.value)
     (c.traced.ensures ∙ c.in-Ok.ensures.traced)
     ∙ ap (λ t. report x.traced kind.Send t (Some c.args.to) c.args.value) c.token-token.ensures in
     let after : State =
-    state_of ps (flagged (are_traced c.touch.new.self) (set (set raw i c.ready.new.local) i l2)) bs2 in
+    state_of ps (flagged (are_traced c.touch.new.self) (set (set raw i c.ready.new.local) i l2))
+    bs2 in
     rw (← c.self.view_is) (rw event
     (answered g.row.TOP (state_of ps ls bs) (act.Send c.args.me c.args.to c.args.value) told after
     c.self.invariant.rows.sound

@@ -1,4 +1,5 @@
--- A tracer change of the node is that of the state, since the mark of each of its processes is the node's.
+-- A tracer change of the node is that of the state, since the mark of each of its processes is the
+-- node's.
 use Rattle.std.proofs.Common.{◌≡◌, Some, inl, position, sym, ◌∙◌}
 use Rattle.st_core.specs.declared.types.Act.TheVariants as act
 use Rattle.st_core.specs.declared.types.Reply.TheVariants as reply
@@ -13,7 +14,8 @@ use Rattle.st_world.proofs.processes.Processes.trace.Goals as goal
 
 pub returns-in_default : goal.returns-in_default
 returns-in_default g c =
-    let gone = read_nothing c.self.invariant c.self.view_is c.args.me (sym c.number_of.ensures ∙ c.in_default.is) in
+    let gone = read_nothing c.self.invariant c.self.view_is c.args.me
+    (sym c.number_of.ensures ∙ c.in_default.is) in
     refused_unknown g.row.TOP c.args.self.now (act.Tracer c.args.me c.args.on) (inl gone)
 
 pub invariant_of-self : goal.invariant_of-self
@@ -24,7 +26,8 @@ invariant_of-self g c =
     let i = c.in-Some.number in
     let at : position (λ p. pid_eq p c.args.me) c.self.inside.pids ≡ Some c.in-Some.number =
     sym c.number_of.ensures ∙ c.in-Some.is in
-    trace_kept g.row.TOP ps c.self.inside.nodes raw bs c.self.invariant c.args.me i at c.trace-was.new.self
+    trace_kept g.row.TOP ps c.self.inside.nodes raw bs c.self.invariant c.args.me i at
+    c.trace-was.new.self
     c.trace-was.ensures.places c.args.on c.trace-was.ensures.here c.trace-was.ensures.elsewhere
     c.trace-was.result c.trace-was.ensures.was c.trace-was.ensures.listed
 
@@ -38,7 +41,8 @@ returns g c =
     sym c.number_of.ensures ∙ c.in-Some.is in
     let ls = flagged (are_traced c.self.inside.nodes) c.self.inside.locals.items in
     let step =
-    trace_step g.row.TOP ps c.self.inside.nodes raw bs c.self.invariant c.args.me i at c.trace-was.new.self
+    trace_step g.row.TOP ps c.self.inside.nodes raw bs c.self.invariant c.args.me i at
+    c.trace-was.new.self
     c.trace-was.ensures.places c.args.on c.trace-was.ensures.here c.trace-was.ensures.elsewhere
     c.trace-was.result c.trace-was.ensures.was in
     let after : State = state_of ps (flagged (are_traced c.trace-was.new.self) raw) bs in

@@ -22,16 +22,19 @@ returns-in-Ok-join_promised g c =
     let left = c.in-Ok-join_promised.left in
     let joined = c.in-Ok-join_promised.ensures in
     let began = c.into_iter-job-iterator.ensures.into_iter_gives in
-    let all = YieldsList-end (YieldsList-from_vec {s = c.into_iter-job-iterator.result} jobs began.0 (omega arith))
+    let all = YieldsList-end
+    (YieldsList-from_vec {s = c.into_iter-job-iterator.result} jobs began.0 (omega arith))
     c.loop-job.yielded c.loop-job.job-iterator c.loop-job.yielded_by c.next.result c.next.new.self
     c.in-None.is c.next.ensures.steps in
     let given = sym (map-id c.loop-job.yielded) ∙ all.0 in
-    let of_jobs = all_left (λ h. h.promise.system.value) (λ h. h.promise.job.value) c.captures.system.now
+    let of_jobs = all_left (λ h. h.promise.system.value) (λ h. h.promise.job.value)
+    c.captures.system.now
     workers.items jobs left.items (sym left.ok.0 ∙ joined.len ∙ workers.ok.0)
     (rw (← given) c.loop-job.invariant)
     (λ i d below. let k = (joined.each i d (omega arith)).1 in (k.handle, k.handle_is, k.kept)) in
     record {
-      ok = ended_worked c.captures.system.now jobs left.items (λ v. v.items) c.all_ended.result of_jobs
+      ok = ended_worked c.captures.system.now jobs left.items (λ v. v.items) c.all_ended.result
+          of_jobs
           c.all_ended.ensures.ok;
       err = c.all_ended.ensures.err;
     }

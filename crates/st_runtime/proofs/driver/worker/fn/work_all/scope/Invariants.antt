@@ -5,5 +5,6 @@ use Rattle.st_runtime.proofs.driver.worker.fn.work_all.scope.Given as goal
 
 abbrev pub invariant-loop-job : goal.invariant-loop-job
 invariant-loop-job g l =
-    AllZip (λ job worker. (worker.promise.job.value ≡ job) × (worker.promise.system.value ≡ l.system.now))
+    AllZip (λ job worker. (worker.promise.job.value ≡ job)
+    × (worker.promise.system.value ≡ l.system.now))
     l.yielded l.workers.items
