@@ -1,5 +1,5 @@
--- What a reason of each rank says of the events of a piece, so that a walk over them that has
--- passed no such event has found the first.
+-- Reasons of each rank as facts on the events of a piece: a walk that has passed no event with such
+-- a fact finds the first one.
 use Rattle.std.proofs.Common.{◌≡◌, ℕ, ◌<◌, ◌≤◌, ◌+◌, zero, suc, Bool, true, false, List, [], ◌∷◌}
 use Rattle.std.proofs.Common.{length, Option, Some, None}
 use Rattle.std.proofs.Common.{inl, inr, slice_get, refl, sym, ◌∙◌, ap, subst, arith}

@@ -35,7 +35,7 @@ pub(crate) struct Ask {
     pub label: Label,
     /// The stamp's prev.
     pub count: u64,
-    /// What it got.
+    /// The message that it got.
     pub message: GivenMessage,
 }
 

@@ -22,7 +22,7 @@ use st_pair::Pairing;
 use std::alloc::{AllocError, Global};
 use std::mem::replace;
 
-/// What is added to streams.
+/// The events and processes that are added to streams.
 #[derive(Drop)]
 pub(crate) struct Parts {
     /// The hidden sends, by sender and count.

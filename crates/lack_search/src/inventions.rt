@@ -79,7 +79,7 @@ fn prev_before(left: Left, count: u64, next: Option<&Event>) -> u64
 struct Inventor<'a> {
     /// The sends that have no prev yet.
     inventions: &'a [Invention],
-    /// What is before leaves.
+    /// The counters after the events so far.
     left: Left,
     /// The prevs of all sends so far.
     prevs: Vec<u64>,

@@ -40,8 +40,8 @@ enum Choice {
     AnyLabel,
 }
 
-/// What a stamp and a message must have in common: the receiver, the count, and the label where it
-/// counts, else no label.
+/// A key of a stamp and of the messages that it can get: the receiver, the count, and the label if
+/// it has to be the stamp's, else no label.
 #[derive(Clone, Copy, PartialEq, Eq, PartialOrd, Ord)]
 struct MessageKey {
     to: Pid,
@@ -61,14 +61,14 @@ impl Choice {
         MessageKey { to, count, label }
     }
 
-    /// What this stamp asks for.
+    /// The key of the messages that a stamp can get.
     fn key_of_ask(self, ask: &Ask) -> MessageKey
         ensures { result ≡ key_of self ask.now.process ask.now.count ask.now.label }
     {
         self.key(ask.process, ask.count, ask.label)
     }
 
-    /// What this message has.
+    /// The key of a message.
     fn key_of_message(self, message: &LostMessage) -> MessageKey
         ensures { result ≡ key_of self message.now.to message.now.count message.now.label }
     {

@@ -1,5 +1,5 @@
-//! What the walk asks of a stretch: the receives between two neighbouring reported stamps of a
-//! process.
+//! Stretches, and what the walk asks of one: a stretch has the receives between two neighbouring
+//! reported stamps of a process.
 //!
 //! The gaps of a stretch are the places among its receives, counted from 0: gap 0 comes before all
 //! of them, and gap g right after the g-th.

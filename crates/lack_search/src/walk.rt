@@ -34,7 +34,7 @@ struct StretchSend {
     gap: usize,
 }
 
-/// What comes behind a send in its stretch.
+/// The event after a send in its stretch.
 #[derive(Clone, Copy, PartialEq, Eq)]
 enum Next {
     /// Nothing, at the end of a process.
@@ -72,8 +72,8 @@ impl Next {
         if prev == send.prev {
             return limit;
         }
-        // What comes next costs nothing right behind a receive of its prev: then the send is before
-        // that receive.
+        // Puts the send before a receive of the next stamp's prev, if one can stand there: the stamp
+        // then costs nothing.
         let received = match ground.last_after(prev, limit) {
             Some(gap) if self.may_stand_at(gap, limit) => Some(gap.saturating_sub(1)),
             _ => None,

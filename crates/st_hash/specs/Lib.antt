@@ -1,2 +1,2 @@
--- The definitions: what a table's hashers begin with.
+-- The definitions: how the hashers of a table begin.
 pub mod Tables

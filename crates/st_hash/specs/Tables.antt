@@ -1,4 +1,4 @@
--- What the hashers of one table have in common.
+-- The hashers of one table, which begin alike.
 use Rattle.std.specs.Prelude.{◌≡◌, ℕ, List}
 use Rattle.std.specs.declared.hash.DefaultHasher.{DefaultHasher}
 use Rattle.std.specs.Hash.DefaultHasher as sip
