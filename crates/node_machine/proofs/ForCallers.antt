@@ -21,3 +21,8 @@ pub use Rattle.node_machine.proofs.Tokens.{last_by_receive, last_by_stamp}
 pub use Rattle.node_machine.proofs.Tokens.{last_push, takes_parts, takes_true, tokens_more}
 pub use Rattle.node_machine.proofs.Tokens.{tokens_new, tokens_parts}
 pub use Rattle.node_machine.proofs.Ways.{carried_held, lasts_held}
+-- ---- queues and reports, by the step
+pub use Rattle.node_machine.proofs.Steps.{node_process_after, node_run_parts, node_step_parts}
+pub use Rattle.node_machine.proofs.Steps.{NodeStepped}
+pub use Rattle.node_machine.proofs.Queues.{alike_in, LastsFit, lasts_fit_then, queue_step}
+pub use Rattle.node_machine.proofs.Queues.{report_own, takes_alike, zero_alike, zero_lasts_fit}

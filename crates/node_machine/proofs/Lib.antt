@@ -15,6 +15,7 @@ pub mod Lasts
 pub mod NeedsAnyway
 pub mod Carried
 pub mod Follows
+pub mod Queues
 pub mod Example
 -- what proofs of the crates above may cite
 pub mod ForCallers
