@@ -6,3 +6,7 @@ pub mod Unsents
 pub mod Turns
 pub mod Frees
 pub mod Orders
+pub mod SentOrders
+pub mod InRuns
+pub mod FullSends
+pub mod Example

@@ -15,7 +15,7 @@ use Rattle.node_streams.specs.Messages.{send_of}
 use Rattle.node_streams.specs.Order.{CanGo, HaveOrder, IsTurnOrder, next_event, turns}
 use Rattle.node_streams.proofs.Counting.{turns_more}
 
-past_end : {A : Type 0} (xs : List A) (i : ℕ) → slice_get xs i ≡ None → length xs ≤ i
+pub past_end : {A : Type 0} (xs : List A) (i : ℕ) → slice_get xs i ≡ None → length xs ≤ i
 past_end [] i at = omega arith
 past_end (x ∷ xs) zero at = absurd (cc)
 past_end (x ∷ xs) (suc i) at = let rest = past_end xs i at in omega arith

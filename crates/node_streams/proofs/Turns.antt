@@ -62,7 +62,7 @@ among_more (x ∷ ps) p q = elim (pid_eq x q) as (λ b. (b || is_among (ps ++ p 
 abbrev pub events_among : List Stream → List Pid → Pid → List Event
 events_among streams ps q = cond (is_among ps q) (events_of streams q) []
 
-abbrev events_in : Option Stream → List Event
+abbrev pub events_in : Option Stream → List Event
 events_in found = elim found [ None ↦ [] | Some s ↦ s.events ]
 
 -- a process that isn't listed has no events

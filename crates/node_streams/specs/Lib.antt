@@ -1,5 +1,8 @@
--- The definitions: which send each receive took, and an order of all events.
+-- The definitions: which send each receive took, an order of all events, and the runs that have
+-- both, with examples.
 pub mod Messages
 pub mod Order
+pub mod Runs
+pub mod Example
 -- For the parts alone: what the tables and the walk keep.
 pub mod Tables

@@ -1,9 +1,13 @@
 //! The judge of streams as a whole.
 
-ghost use Rattle.std.specs.Prelude.{◌≡◌, ◌≢◌, [], IfOk};
+ghost use Rattle.std.specs.Prelude.{◌≡◌, ◌≢◌, List, [], IfOk};
 ghost use Rattle.st_core.specs.Run.{pids_of};
+ghost use Rattle.st_core.specs.Step.{Outcome};
+ghost use Rattle.st_core.specs.declared.types.Pid.{Pid as PidValue};
+ghost use Rattle.node_machine.specs.Node.{NodeAct};
 ghost use Rattle.node_streams.specs.Messages.{unsent_among};
 ghost use Rattle.node_streams.specs.Order.{HaveOrder};
+ghost use Rattle.node_streams.specs.Runs.{AreStreamsOf};
 
 use crate::order::cycle;
 use crate::receives::unsent;
@@ -24,13 +28,18 @@ pub struct Judgement {
     pub cycle: Vec<(Pid, u64)>,
 }
 
-/// Pairs each receive with its send, and looks for an order of all events. Fails only if memory
-/// runs out.
+/// Pairs each receive with its send, and looks for an order of all events. If a receive is unsent or
+/// there is a cycle, a standard node has no run with these streams in which each token that reached
+/// a listed process was sent by one, which reported that. Fails only if memory runs out.
 pub fn judge(alloc: Global, streams: &Streams) -> Result<Judgement, AllocError>
     ensures unsent { IfOk result (λ j. j.unsent.items
         ≡ unsent_among streams.now (pids_of streams.now)) }
     ensures ordered { IfOk result (λ j. j.cycle.items ≡ [] → HaveOrder streams.now) }
     ensures cyclic { IfOk result (λ j. j.cycle.items ≢ [] → ¬ (HaveOrder streams.now)) }
+    ensures unsent_final { IfOk result (λ j. j.unsent.items ≢ [] → (pids : List PidValue)
+        (acts : List NodeAct) (os : List Outcome) → ¬ (AreStreamsOf streams.now pids acts os)) }
+    ensures cycle_final { IfOk result (λ j. j.cycle.items ≢ [] → (pids : List PidValue)
+        (acts : List NodeAct) (os : List Outcome) → ¬ (AreStreamsOf streams.now pids acts os)) }
 {
     let sends = Sends::of(alloc, streams)?;
     Ok(Judgement {

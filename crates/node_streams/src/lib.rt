@@ -5,6 +5,7 @@
 mod content;
 mod counter;
 mod judgement;
+pub mod laws;
 mod order;
 mod receives;
 mod sends;
