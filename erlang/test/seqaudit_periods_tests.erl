@@ -305,6 +305,11 @@ begun(There, Name, Gemshowal, Test) ->
                   Status
           end,
     try Test(There, filename:join(Folder, Name), Says, End)
+    catch
+        Class:Reason:Stack ->
+            {ok, Lines} = file:read_file(Said),
+            io:format(user, "watch said:~n~ts", [Lines]),
+            erlang:raise(Class, Reason, Stack)
     after
         %% A command that a test didn't end would watch the node of the next one.
         Kill()
