@@ -88,7 +88,7 @@ in_session() ->
 %% The test's process traces calls, and is told of one of its own.
 told(What) ->
     called(ordered, What),
-    receive {trace, _, call, {?MODULE, ordered, [What]}} -> ok after 5_000 -> error({not_told, What}) end.
+    receive {trace, _, call, {?MODULE, ordered, [What]}} -> ok after 60_000 -> error({not_told, What}) end.
 
 has_sessions() -> code:ensure_loaded(trace) =:= {module, trace}.
 

@@ -24,7 +24,7 @@ run(Seed, #{nodes := Nodes, flags := Flags, late := Late}, Name) ->
     Late andalso (ok = seqaudit_trace:start(#{name => Name, nodes => Nodes})),
     ok = play_all(lists:nthtail(Half, Steps), Numbered, Servers),
     [Pid ! finish || Pid <- Pids],
-    [receive {finished, Pid} -> ok after 20_000 -> error(unfinished) end || Pid <- Pids],
+    [receive {finished, Pid} -> ok after 60_000 -> error(unfinished) end || Pid <- Pids],
     [ok = seqaudit_truth_servers:wait(Server) || Server <- Servers, _ <- [1, 2]],
     {ok, _} = seqaudit_trace:stop(),
     [ok = seqaudit_truth_servers:stop(Server) || Server <- Servers],
@@ -93,7 +93,7 @@ log(Kind, Number) ->
 %% Each player gets its steps of a part, and does them without a message of anybody else in between.
 play_all(Steps, Numbered, Servers) ->
     [Pid ! {steps, [Step || {Who, Step} <- Steps, Who =:= N], Numbered, Servers} || {N, Pid} <- maps:to_list(Numbered)],
-    [receive {played, Pid} -> ok after 20_000 -> error({stuck, Pid}) end || Pid <- maps:values(Numbered)],
+    [receive {played, Pid} -> ok after 60_000 -> error({stuck, Pid}) end || Pid <- maps:values(Numbered)],
     ok.
 
 %% The deeds of the players, in one order: messages are received after their sends, in any order.

@@ -9,7 +9,7 @@
 
 -define(KINDS, [at_once, later, delegated, kept, pool, postponing]).
 %% How long a client of a busy machine waits.
--define(PATIENCE_MS, 15_000).
+-define(PATIENCE_MS, 60_000).
 %% After so long a server replies to those that wait.
 -define(LATER_MS, 5).
 
@@ -27,7 +27,7 @@ start(Which) ->
 stop({_, Server}) -> gen_server:stop(Server).
 
 %% Returns when the server has done what it was told before.
-wait({_, Server}) -> gen_server:call(Server, wait).
+wait({_, Server}) -> gen_server:call(Server, wait, ?PATIENCE_MS).
 
 %% The ways in which a client uses its token.
 ask({pool, Pool}) ->
