@@ -405,43 +405,46 @@ ttb(There) ->
     {ok, Terms} = file:read_file(Name ++ ".terms"),
     {_, _} = binary:match(Terms, <<"\tseqaudit_test_shop\t">>).
 
-%% A text is read in time that grows as it does: 40,000 events in some seconds. A reader that looks at all that
-%% follows, once for each process, takes more than a minute.
+%% A text is read in time that grows as it does: 40,000 events in some seconds of the processor. A reader that looks at
+%% all that follows, once for each process, takes more than a minute.
 long_text_test_() ->
     {timeout, 180, fun() ->
         File = seqaudit_audits:file("long.txt"),
         Line = fun(K) -> io_lib:format("~0p~n",
                                        [{seq_trace, 1, {send, {K, K + 1}, self(), self(), {from, self(), K}}}]) end,
         ok = file:write_file(File, [Line(K) || K <- lists:seq(1, 40_000)]),
-        {Microseconds, {ok, #{events := 40_000}}} = timer:tc(fun() ->
-            seqaudit_convert:from_files([File], seqaudit_audits:file("long_text"))
-        end),
-        true = Microseconds < 30_000_000
+        {Before, _} = statistics(runtime),
+        {ok, #{events := 40_000}} = seqaudit_convert:from_files([File], seqaudit_audits:file("long_text")),
+        {After, _} = statistics(runtime),
+        true = After - Before < 30_000
     end}.
 
-%% 1,000,000 events convert in 600 MB by the system's count, on a node of its own. On a machine with
-%% nothing else to do they do so in 10 s, so LONG=1 demands that; a busy one has a minute.
+%% 1,000,000 events convert in 600 MB by the system's count, on a node of its own, and in 120 s of the processor, some
+%% four times what a quiet machine takes. With nothing else to do it's 10 s of the clock: LONG=1 demands that.
 million_events_test_() ->
     {timeout, 300, fun() ->
         {Calls, Bytes} = {250_000, 600_000_000},
-        Seconds = case os:getenv("LONG") of false -> 60; _ -> 10 end,
         File = seqaudit_audits:file("many.trace"),
         ok = many_calls(File, Calls),
         seqaudit_test_nodes:with_second("a million events", fun(There) ->
-            {Microseconds, Peak} = converted_there(There, File, 4 * Calls),
-            io:format(user, "~b events: ~b ms, ~b MB~n", [4 * Calls, Microseconds div 1_000, Peak div 1_000_000]),
+            {Microseconds, Processor, Peak} = converted_there(There, File, 4 * Calls),
+            io:format(user, "~b events: ~b ms, ~b ms of the processor, ~b MB~n",
+                      [4 * Calls, Microseconds div 1_000, Processor, Peak div 1_000_000]),
             true = Peak < Bytes,
-            true = Microseconds < Seconds * 1_000_000
+            true = Processor < 120_000,
+            true = os:getenv("LONG") =:= false orelse Microseconds < 10_000_000
         end)
     end}.
 
-%% How long it took, and the greatest memory of the node.
+%% How long it took by the clock and of the processor, and the greatest memory of the node.
 converted_there(There, File, Count) ->
     true = erpc:call(There, code, add_patha, [filename:dirname(code:which(seqaudit_convert))]),
     Name = seqaudit_audits:file("many_events"),
+    {Before, _} = erpc:call(There, erlang, statistics, [runtime]),
     {Microseconds, {ok, #{events := Count}}} =
         erpc:call(There, timer, tc, [seqaudit_convert, from_files, [[File], Name]]),
-    {Microseconds, seqaudit_test_nodes:peak(There)}.
+    {After, _} = erpc:call(There, erlang, statistics, [runtime]),
+    {Microseconds, After - Before, seqaudit_test_nodes:peak(There)}.
 
 many_calls(File, Calls) ->
     Pids = list_to_tuple([pid('many@h', N) || N <- lists:seq(100, 149)]),
